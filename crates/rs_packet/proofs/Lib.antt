@@ -1,0 +1,10 @@
+pub mod Numbers
+pub mod PropertyLoop
+pub mod Fields
+pub mod PropertyLaws
+pub mod AskedLoop
+pub mod FilterLoop
+pub mod PacketLaws
+pub mod AnswerLaws
+pub mod WritingLemmas
+pub mod Rows

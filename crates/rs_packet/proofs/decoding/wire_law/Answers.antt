@@ -1,0 +1,5 @@
+use Rattle.rs_packet.proofs.AnswerLaws.{spelled_once, reply_once}
+use Rattle.rs_packet.proofs.decoding.wire_law.Goals as goal
+
+pub returns : goal.returns
+returns c = record { packets = spelled_once; replies = reply_once }

@@ -1,0 +1,11 @@
+use Rattle.std.proofs.Common.{◌≡◌, Ok, refl, length, drop, ◌-◌, arith, length-drop}
+use Rattle.rs_packet.specs.Reading.{varint_at, digits_at, within}
+use Rattle.rs_packet.specs.Reading.{IsEnd}
+use Rattle.rs_packet.proofs.Numbers.{digits_rest}
+use Rattle.rs_packet.proofs.reading.varint_of.Goals as goal
+
+pub returns-clause-number : goal.returns-clause-number
+unfolding varint_at
+returns-clause-number c =
+    let end = digits_rest 4 c.as_slice-bytes.result.now (c.in-Ok.n, c.in-Ok.behind.now) c.in-Ok.ensures.number in
+    rw (c.advance.ensures, ← c.as_slice-bytes.ensures, end.same, c.in-Ok.ensures.number) refl

@@ -1,0 +1,250 @@
+-- The packets that a client sends, as bytes: sections 2 and 3.
+use Rattle.std.specs.Prelude.{◌≡◌, ℕ, ◌+◌, ◌*◌, ◌<◌, ◌≤◌, ◌^◌, Bool, true, false, if◌then◌else◌, List, [], ◌∷◌, ◌++◌, length, take, Option, Some, None, Result, ◌⊎◌}
+use Rattle.std.specs.List.{flat_map}
+use Rattle.rs_topic.specs.declared.text.TopicFault.{TopicFault}
+use Rattle.rs_packet.specs.declared.property.Property.{Property}
+use Rattle.rs_packet.specs.declared.property.Place.{Place}
+use Rattle.rs_packet.specs.declared.property.Place.TheVariants as place
+use Rattle.rs_packet.specs.declared.packet.Qos.{Qos}
+use Rattle.rs_packet.specs.declared.packet.Qos.TheVariants.{AtMostOnce, AtLeastOnce, ExactlyOnce}
+use Rattle.rs_packet.specs.declared.packet.RetainHandling.{RetainHandling}
+use Rattle.rs_packet.specs.declared.packet.RetainHandling.TheVariants.{Always, IfNew, Never}
+use Rattle.rs_packet.specs.declared.packet.Options.{Options}
+use Rattle.rs_packet.specs.declared.packet.Kind.{Kind}
+use Rattle.rs_packet.specs.declared.packet.Kind.TheVariants as kind
+use Rattle.rs_packet.specs.declared.packet.Publish.{Publish}
+use Rattle.rs_packet.specs.declared.packet.Acknowledgement.{Acknowledgement}
+use Rattle.rs_packet.specs.declared.packet.Connect.{Connect}
+use Rattle.rs_packet.specs.declared.packet.Flags.{Flags}
+use Rattle.rs_packet.specs.declared.packet.Packet.{Packet}
+use Rattle.rs_packet.specs.declared.packet.Packet.TheVariants as packet
+use Rattle.rs_packet.specs.declared.packet.Decoded.{Decoded}
+use Rattle.rs_packet.specs.declared.packet.Decoded.TheVariants.{Whole, More}
+use Rattle.rs_topic.specs.Texts.{IsText}
+use Rattle.rs_topic.specs.Topics.{name_of, filter_of}
+use Rattle.rs_packet.specs.Values.{FoundValue, PropertiesValue, SubscribeValue, UnsubscribeValue, Asked}
+use Rattle.rs_packet.specs.Properties.{varint, two, counted, IsShort, AreProperties, properties, gathered, nothing}
+
+abbrev pub bit : Bool → ℕ
+bit true = 1
+bit false = 0
+
+-- 4.3
+abbrev pub level : Qos → ℕ
+level AtMostOnce = 0
+level AtLeastOnce = 1
+level ExactlyOnce = 2
+
+-- ---- 2.1.1: a packet is its type and flags, its length, and its body
+
+-- tables 2-1 and 2-2, and 3.3.1 for the flags of PUBLISH
+abbrev pub head : Kind → ℕ
+head kind.Connect = 0x10
+head (kind.Publish duplicate qos retain) = 0x30 + 8 * bit duplicate + 2 * level qos + bit retain
+head kind.Puback = 0x40
+head kind.Pubrec = 0x50
+head kind.Pubrel = 0x62
+head kind.Pubcomp = 0x70
+head kind.Subscribe = 0x82
+head kind.Unsubscribe = 0xA2
+head kind.Pingreq = 0xC0
+head kind.Disconnect = 0xE0
+
+abbrev pub frame : ℕ → List ℕ → List ℕ
+frame first body = first ∷ varint (length body) ++ body
+
+-- 2.2.1: a packet identifier is not 0
+abbrev pub IsId : ℕ → Type 0
+IsId n = (0 < n) × (n < 2 ^ 16)
+
+-- ---- 3.3: PUBLISH
+
+-- 3.3.2.2: there is an identifier where QoS is 1 or 2
+abbrev pub IdFits : Qos → Option ℕ → Type 0
+IdFits AtMostOnce None = Unit {0}
+IdFits AtMostOnce (Some n) = ⊥
+IdFits AtLeastOnce None = ⊥
+IdFits AtLeastOnce (Some n) = IsId n
+IdFits ExactlyOnce None = ⊥
+IdFits ExactlyOnce (Some n) = IsId n
+
+abbrev pub id_bytes : Option ℕ → List ℕ
+id_bytes None = []
+id_bytes (Some n) = two n
+
+-- the properties that a message keeps
+abbrev pub kept : FoundValue → PropertiesValue
+kept f = record { format = f.format; content_type = f.content_type; response_topic = f.response_topic; correlation = f.correlation; user = f.user }
+
+abbrev pub publication : Bool → Qos → Bool → List ℕ → Option ℕ → FoundValue → List ℕ → Publish
+publication duplicate qos retain topic id f payload = record {
+  duplicate = duplicate;
+  qos = qos;
+  retain = retain;
+  topic = name_of topic;
+  id = id;
+  expiry = f.expiry;
+  alias = f.alias;
+  properties = kept f;
+  payload = payload;
+}
+
+pub record SpellsPublish (duplicate : Bool) (qos : Qos) (retain : Bool) (body : List ℕ) (p : Publish) : Type 0 where
+  pub topic : List ℕ
+  pub id : Option ℕ
+  pub ps : List Property
+  pub payload : List ℕ
+  pub is_text : IsText topic
+  pub has_id : IdFits qos id
+  pub are_properties : AreProperties place.Publish ps
+  pub fields : body ≡ counted topic ++ (id_bytes id ++ (properties ps ++ payload))
+  pub value : p ≡ publication duplicate qos retain topic id (gathered nothing ps) payload
+
+-- ---- 3.4 to 3.7: PUBACK, PUBREC, PUBREL, PUBCOMP
+
+-- 3.4.2.1: an absent code is 0, and absent properties are none
+pub data SpellsCode (where_ : Place) : List ℕ → ℕ → Type 0 where
+  no_code : SpellsCode where_ [] 0
+  no_properties : {code : ℕ} → code < 256 → SpellsCode where_ (code ∷ []) code
+  with_properties : {code : ℕ} {ps : List Property} → code < 256 → AreProperties where_ ps → SpellsCode where_ (code ∷ properties ps) code
+
+pub record SpellsAcknowledgement (body : List ℕ) (a : Acknowledgement) : Type 0 where
+  pub rest : List ℕ
+  pub is_id : IsId a.id
+  pub fields : body ≡ two a.id ++ rest
+  pub code : SpellsCode place.Acknowledgement rest a.code
+
+-- ---- 3.8: SUBSCRIBE
+
+abbrev pub handling : RetainHandling → ℕ
+handling Always = 0
+handling IfNew = 1
+handling Never = 2
+
+-- 3.8.3.1
+abbrev pub options_byte : Options → ℕ
+options_byte o = level o.qos + 4 * bit o.no_local + 8 * bit o.retain_as_published + 16 * handling o.retain_handling
+
+-- texts with their options
+abbrev pub AreFilters : List (List ℕ × Options) → Type 0
+AreFilters [] = Unit {0}
+AreFilters (f ∷ fs) = IsText f.0 × AreFilters fs
+
+abbrev pub filter_bytes : List ℕ × Options → List ℕ
+filter_bytes f = counted f.0 ++ options_byte f.1 ∷ []
+
+abbrev pub asked : List (List ℕ × Options) → List Asked
+asked [] = []
+asked (f ∷ fs) = (filter_of f.0, f.1) ∷ asked fs
+
+pub record SpellsSubscribe (body : List ℕ) (s : SubscribeValue) : Type 0 where
+  pub ps : List Property
+  pub filters : List (List ℕ × Options)
+  pub is_id : IsId s.id
+  pub are_properties : AreProperties place.Subscribe ps
+  pub are_filters : AreFilters filters
+  pub some : 0 < length filters
+  pub fields : body ≡ two s.id ++ (properties ps ++ flat_map filter_bytes filters)
+  pub value : s ≡ record { id = s.id; subscription = (gathered nothing ps).subscription; filters = asked filters }
+
+-- ---- 3.10: UNSUBSCRIBE
+
+abbrev pub AreTexts : List (List ℕ) → Type 0
+AreTexts [] = Unit {0}
+AreTexts (t ∷ ts) = IsText t × AreTexts ts
+
+abbrev pub filters_of : List (List ℕ) → List (Result (List ℕ) TopicFault)
+filters_of [] = []
+filters_of (t ∷ ts) = filter_of t ∷ filters_of ts
+
+pub record SpellsUnsubscribe (body : List ℕ) (u : UnsubscribeValue) : Type 0 where
+  pub ps : List Property
+  pub filters : List (List ℕ)
+  pub is_id : IsId u.id
+  pub are_properties : AreProperties place.Unsubscribe ps
+  pub are_texts : AreTexts filters
+  pub some : 0 < length filters
+  pub fields : body ≡ two u.id ++ (properties ps ++ flat_map counted filters)
+  pub value : u ≡ record { id = u.id; filters = filters_of filters }
+
+-- ---- 3.1: CONNECT
+
+-- 3.1.2.1, 3.1.2.2: the name "MQTT", and version 5
+abbrev pub protocol : List ℕ
+protocol = 0 ∷ 4 ∷ 77 ∷ 81 ∷ 84 ∷ 84 ∷ 5 ∷ []
+
+-- 3.1.2.3
+abbrev pub flags_byte : Flags → ℕ
+flags_byte f = 128 * bit f.user_name + 64 * bit f.password + 32 * bit f.will_retain + 8 * level f.will_qos + 4 * bit f.will + 2 * bit f.clean_start
+
+-- 3.1.2.6, 3.1.2.7: with no will its flags are 0
+abbrev pub FlagsFit : Flags → Type 0
+FlagsFit f = f.will ≡ false → (f.will_retain ≡ false) × (f.will_qos ≡ AtMostOnce)
+
+-- 3.1.3.5, 3.1.3.6: a field that a flag announces
+pub data SpellsIf (P : List ℕ → Type 0) : Bool → List ℕ → Type 0 where
+  absent : SpellsIf P false []
+  present : {field : List ℕ} → P field → SpellsIf P true (counted field)
+
+-- 3.1.3: the client identifier, the user name and the password. Where there is a will, nothing of it is read
+pub data SpellsPayload : Flags → List ℕ → Option (List ℕ) → Type 0 where
+  with_will : {f : Flags} {payload : List ℕ} → f.will ≡ true → SpellsPayload f payload None
+  with_client : {f : Flags} {client name password : List ℕ} → f.will ≡ false → IsText client → SpellsIf IsText f.user_name name → SpellsIf IsShort f.password password
+      → SpellsPayload f (counted client ++ (name ++ password)) (Some client)
+
+-- 3.1.2.11.10: authentication data stand with a method
+abbrev pub MethodFits : FoundValue → Type 0
+MethodFits f = f.authentication ≡ true → (t : List ℕ) × (f.method ≡ Some t)
+
+pub record SpellsConnect (body : List ℕ) (c : Connect) : Type 0 where
+  pub flags : Flags
+  pub ps : List Property
+  pub payload : List ℕ
+  pub flags_fit : FlagsFit flags
+  pub keep_alive : c.keep_alive < 2 ^ 16
+  pub are_properties : AreProperties place.Connect ps
+  pub method : MethodFits (gathered nothing ps)
+  pub has_payload : SpellsPayload flags payload c.client
+  pub fields : body ≡ protocol ++ (flags_byte flags ∷ (two c.keep_alive ++ (properties ps ++ payload)))
+  pub value : let f = gathered nothing ps in c ≡ record {
+    clean_start = flags.clean_start;
+    will = flags.will;
+    keep_alive = c.keep_alive;
+    session_expiry = f.session_expiry;
+    method = f.method;
+    receive_maximum = f.receive_maximum;
+    packet_maximum = f.packet_maximum;
+    client = c.client;
+  }
+
+-- ---- all of them
+
+pub data SpellsBody : Kind → List ℕ → Packet → Type 0 where
+  connect : {body : List ℕ} {c : Connect} → SpellsConnect body c → SpellsBody kind.Connect body (packet.Connect c)
+  -- 3.3.1.1: a packet of QoS 0 is no duplicate
+  publish : {duplicate retain : Bool} {qos : Qos} {body : List ℕ} {p : Publish} → (qos ≡ AtMostOnce → duplicate ≡ false) → SpellsPublish duplicate qos retain body p
+      → SpellsBody (kind.Publish duplicate qos retain) body (packet.Publish p)
+  puback : {body : List ℕ} {a : Acknowledgement} → SpellsAcknowledgement body a → SpellsBody kind.Puback body (packet.Puback a)
+  pubrec : {body : List ℕ} {a : Acknowledgement} → SpellsAcknowledgement body a → SpellsBody kind.Pubrec body (packet.Pubrec a)
+  pubrel : {body : List ℕ} {a : Acknowledgement} → SpellsAcknowledgement body a → SpellsBody kind.Pubrel body (packet.Pubrel a)
+  pubcomp : {body : List ℕ} {a : Acknowledgement} → SpellsAcknowledgement body a → SpellsBody kind.Pubcomp body (packet.Pubcomp a)
+  subscribe : {body : List ℕ} {s : SubscribeValue} → SpellsSubscribe body s → SpellsBody kind.Subscribe body (packet.Subscribe s)
+  unsubscribe : {body : List ℕ} {u : UnsubscribeValue} → SpellsUnsubscribe body u → SpellsBody kind.Unsubscribe body (packet.Unsubscribe u)
+  pingreq : SpellsBody kind.Pingreq [] packet.Pingreq
+  disconnect : {body : List ℕ} {code : ℕ} → SpellsCode place.Disconnect body code → SpellsBody kind.Disconnect body (packet.Disconnect code)
+
+-- the longest packet that the server reads
+abbrev pub largest : ℕ
+largest = 262144
+
+pub record Spells (bytes : List ℕ) (p : Packet) : Type 0 where
+  pub first : Kind
+  pub body : List ℕ
+  pub fields : bytes ≡ frame (head first) body
+  pub small : length bytes ≤ largest
+  pub says : SpellsBody first body p
+
+-- what was decoded stands at the front
+abbrev pub IsAtFront : List ℕ → Decoded → Type 0
+IsAtFront bytes (Whole p n) = (n ≤ length bytes) × Spells (take n bytes) p
+IsAtFront bytes More = Unit {0}

@@ -1,0 +1,6 @@
+pub mod Values
+pub mod Properties
+pub mod Reading
+pub mod Grammar
+pub mod PacketReading
+pub mod Replies

@@ -1,0 +1,243 @@
+-- Which answer the bytes of a packet get: the first fault, from left to right.
+use Rattle.std.specs.Prelude.{◌≡◌, ℕ, zero, suc, ◌+◌, ◌-◌, ◌*◌, ◌/◌, ◌%◌, ◌<◌, ◌≤◌, ◌^◌, Bool, true, false, ◌&&◌, ◌||◌, not, nat_lt, nat_eq, ◌==◌, if◌then◌else◌, List, [], ◌∷◌, ◌++◌, length, take, drop, Option, Some, None, Result, Ok, Err, is_none}
+use Rattle.std.specs.List.{list_any, find}
+use Rattle.std.specs.Str.{bytes_eq}
+use Rattle.std.specs.Int.{w16}
+use Rattle.rs_packet.specs.declared.fault.PacketFault.{PacketFault}
+use Rattle.rs_packet.specs.declared.fault.PacketFault.TheVariants.{Malformed, Protocol, TooLarge, Version, NoMemory}
+use Rattle.rs_packet.specs.declared.reading.Cut.{Cut}
+use Rattle.rs_packet.specs.declared.reading.Cut.TheVariants.{Short, Bad}
+use Rattle.rs_packet.specs.declared.property.Place.{Place}
+use Rattle.rs_packet.specs.declared.property.Place.TheVariants as place
+use Rattle.rs_packet.specs.declared.packet.Qos.{Qos}
+use Rattle.rs_packet.specs.declared.packet.Qos.TheVariants.{AtMostOnce, AtLeastOnce, ExactlyOnce}
+use Rattle.rs_packet.specs.declared.packet.RetainHandling.{RetainHandling}
+use Rattle.rs_packet.specs.declared.packet.RetainHandling.TheVariants.{Always, IfNew, Never}
+use Rattle.rs_packet.specs.declared.packet.Options.{Options}
+use Rattle.rs_packet.specs.declared.packet.Kind.{Kind}
+use Rattle.rs_packet.specs.declared.packet.Kind.TheVariants as kind
+use Rattle.rs_packet.specs.declared.packet.Publish.{Publish}
+use Rattle.rs_packet.specs.declared.packet.Acknowledgement.{Acknowledgement}
+use Rattle.rs_packet.specs.declared.packet.Connect.{Connect}
+use Rattle.rs_packet.specs.declared.packet.Flags.{Flags}
+use Rattle.rs_packet.specs.declared.packet.Packet.{Packet}
+use Rattle.rs_packet.specs.declared.packet.Packet.TheVariants as packet
+use Rattle.rs_packet.specs.declared.packet.Decoded.{Decoded}
+use Rattle.rs_packet.specs.declared.packet.Decoded.TheVariants.{Whole, More}
+use Rattle.rs_topic.specs.Topics.{name_of, filter_of}
+use Rattle.rs_packet.specs.Values.{FoundValue, SubscribeValue, UnsubscribeValue, Asked, Filter}
+use Rattle.rs_packet.specs.Grammar.{head, level, bit, publication, largest}
+pub use Rattle.rs_packet.specs.Reading.{◌>>=◌, Fails, Gives, GivesNumber}
+use Rattle.rs_packet.specs.Reading.{digits_at, byte_at, number_at, binary_at, text_at, wanting, found_at}
+
+-- ---- the first byte
+
+abbrev pub kinds : List Kind
+kinds =
+    kind.Connect
+    ∷ kind.Publish false AtMostOnce false ∷ kind.Publish false AtMostOnce true
+    ∷ kind.Publish false AtLeastOnce false ∷ kind.Publish false AtLeastOnce true
+    ∷ kind.Publish false ExactlyOnce false ∷ kind.Publish false ExactlyOnce true
+    ∷ kind.Publish true AtLeastOnce false ∷ kind.Publish true AtLeastOnce true
+    ∷ kind.Publish true ExactlyOnce false ∷ kind.Publish true ExactlyOnce true
+    ∷ kind.Puback ∷ kind.Pubrec ∷ kind.Pubrel ∷ kind.Pubcomp ∷ kind.Subscribe ∷ kind.Unsubscribe ∷ kind.Pingreq ∷ kind.Disconnect ∷ []
+
+-- the first bytes of CONNACK, SUBACK, UNSUBACK, PINGRESP and AUTH, which no client sends here
+abbrev pub others : List ℕ
+others = 0x20 ∷ 0x90 ∷ 0xB0 ∷ 0xD0 ∷ 0xF0 ∷ []
+
+abbrev pub kind_or : Option Kind → ℕ → Result Kind PacketFault
+kind_or (Some k) first = Ok k
+kind_or None first = if list_any (nat_eq first) others then Err Protocol else Err Malformed
+
+unfoldable pub kind_of : ℕ → Result Kind PacketFault
+kind_of first = kind_or (find (λ k. head k == first) kinds) first
+
+-- ---- the bodies
+
+unfoldable pub id_at : List ℕ → Result (ℕ × List ℕ) PacketFault
+id_at bytes = number_at w16 bytes >>= λ n. wanting (nat_lt 0 n.0) (n.0, n.1)
+
+abbrev pub id_for : Qos → List ℕ → Result (Option ℕ × List ℕ) PacketFault
+id_for AtMostOnce bytes = Ok (None, bytes)
+id_for AtLeastOnce bytes = id_at bytes >>= λ n. Ok (Some n.0, n.1)
+id_for ExactlyOnce bytes = id_at bytes >>= λ n. Ok (Some n.0, n.1)
+
+unfoldable pub publish_at : Bool → Qos → Bool → List ℕ → Result Publish PacketFault
+publish_at duplicate qos retain body = do
+  topic ← text_at body
+  id ← id_for qos topic.1
+  f ← found_at place.Publish id.1
+  Ok (publication duplicate qos retain topic.0 id.0 f.0 f.1)
+
+-- nothing may be left
+abbrev pub ended : {A : Type 0} → A → List ℕ → Result A PacketFault
+ended x [] = Ok x
+ended x (b ∷ bytes) = Err Malformed
+
+unfoldable pub code_at : Place → List ℕ → Result ℕ PacketFault
+code_at where_ [] = Ok 0
+code_at where_ (code ∷ []) = Ok code
+code_at where_ (code ∷ b ∷ bytes) = do
+  f ← found_at where_ (b ∷ bytes)
+  ended code f.1
+
+unfoldable pub acknowledgement_at : List ℕ → Result Acknowledgement PacketFault
+acknowledgement_at body = do
+  id ← id_at body
+  code ← code_at place.Acknowledgement id.1
+  Ok (record { id = id.0; code = code })
+
+abbrev pub qos_of : ℕ → Qos
+qos_of n = if n == 0 then AtMostOnce else (if n == 1 then AtLeastOnce else ExactlyOnce)
+
+abbrev pub handling_of : ℕ → RetainHandling
+handling_of n = if n == 0 then Always else (if n == 1 then IfNew else Never)
+
+unfoldable pub options_of : ℕ → Result Options PacketFault
+options_of b =
+    if not (nat_lt b 64) then Err Malformed
+    else (if b % 4 == 3 then Err Protocol
+    else (if b / 16 == 3 then Err Protocol
+    else Ok (record { qos = qos_of (b % 4); no_local = b / 4 % 2 == 1; retain_as_published = b / 8 % 2 == 1; retain_handling = handling_of (b / 16) })))
+
+unfoldable pub asked_at : List ℕ → Result (Asked × List ℕ) PacketFault
+asked_at bytes = do
+  t ← text_at bytes
+  b ← byte_at t.1
+  o ← options_of b.0
+  Ok ((filter_of t.0, o), b.1)
+
+-- all of the bytes, of which there are at most n
+unfoldable pub asked_in : ℕ → List ℕ → Result (List Asked) PacketFault
+asked_in n [] = Ok []
+asked_in zero (b ∷ bytes) = Ok []
+asked_in (suc n) (b ∷ bytes) = do
+  a ← asked_at (b ∷ bytes)
+  more ← asked_in n a.1
+  Ok (a.0 ∷ more)
+
+-- one at least
+abbrev pub some_asked : List ℕ → Result (List Asked) PacketFault
+some_asked bytes = if length bytes == 0 then Err Protocol else asked_in (length bytes) bytes
+
+unfoldable pub subscribe_at : List ℕ → Result SubscribeValue PacketFault
+subscribe_at body = do
+  id ← id_at body
+  f ← found_at place.Subscribe id.1
+  filters ← some_asked f.1
+  Ok (record { id = id.0; subscription = f.0.subscription; filters = filters })
+
+unfoldable pub filter_at : List ℕ → Result (Filter × List ℕ) PacketFault
+filter_at bytes = text_at bytes >>= λ t. Ok (filter_of t.0, t.1)
+
+-- filters with no options, all of the bytes, of which there are at most n
+unfoldable pub filters_in : ℕ → List ℕ → Result (List Filter) PacketFault
+filters_in n [] = Ok []
+filters_in zero (b ∷ bytes) = Ok []
+filters_in (suc n) (b ∷ bytes) = do
+  a ← filter_at (b ∷ bytes)
+  more ← filters_in n a.1
+  Ok (a.0 ∷ more)
+
+abbrev pub some_filters : List ℕ → Result (List Filter) PacketFault
+some_filters bytes = if length bytes == 0 then Err Protocol else filters_in (length bytes) bytes
+
+unfoldable pub unsubscribe_at : List ℕ → Result UnsubscribeValue PacketFault
+unsubscribe_at body = do
+  id ← id_at body
+  f ← found_at place.Unsubscribe id.1
+  filters ← some_filters f.1
+  Ok (record { id = id.0; filters = filters })
+
+-- "MQTT"
+abbrev pub mqtt : List ℕ
+mqtt = 77 ∷ 81 ∷ 84 ∷ 84 ∷ []
+
+unfoldable pub flags_of : ℕ → Result Flags PacketFault
+flags_of b =
+    if b % 2 == 1 then Err Malformed
+    else (if b / 8 % 4 == 3 then Err Malformed
+    else (if (b / 4 % 2 == 0) && not (b / 8 % 8 == 0) then Err Malformed
+    else Ok (record {
+      user_name = b / 128 == 1;
+      password = b / 64 % 2 == 1;
+      will_retain = b / 32 % 2 == 1;
+      will_qos = qos_of (b / 8 % 4);
+      will = b / 4 % 2 == 1;
+      clean_start = b / 2 % 2 == 1;
+    })))
+
+-- a field that a flag announces, passed over
+abbrev pub past_text : Bool → List ℕ → Result (List ℕ) PacketFault
+past_text false bytes = Ok bytes
+past_text true bytes = text_at bytes >>= λ t. Ok t.1
+
+abbrev pub past_binary : Bool → List ℕ → Result (List ℕ) PacketFault
+past_binary false bytes = Ok bytes
+past_binary true bytes = binary_at bytes >>= λ t. Ok t.1
+
+-- the client identifier, unless a will ends the reading
+unfoldable pub client_at : Flags → List ℕ → Result (Option (List ℕ)) PacketFault
+client_at f bytes =
+    if f.will then Ok None
+    else (text_at bytes >>= λ client. past_text f.user_name client.1 >>= λ name. past_binary f.password name >>= λ rest. ended (Some client.0) rest)
+
+-- nothing behind another name or another version is read
+unfoldable pub version_at : List ℕ → Result (List ℕ) PacketFault
+version_at body = do
+  name ← text_at body
+  version ← (if bytes_eq name.0 mqtt then byte_at name.1 else Err Version)
+  if version.0 == 5 then Ok version.1 else Err Version
+
+unfoldable pub connect_at : List ℕ → Result Connect PacketFault
+connect_at body = do
+  rest ← version_at body
+  b ← byte_at rest
+  flags ← flags_of b.0
+  keep_alive ← number_at w16 b.1
+  f ← found_at place.Connect keep_alive.1
+  found ← (if f.0.authentication && is_none f.0.method then Err Protocol else Ok f.0)
+  client ← client_at flags f.1
+  Ok (record {
+    clean_start = flags.clean_start;
+    will = flags.will;
+    keep_alive = keep_alive.0;
+    session_expiry = found.session_expiry;
+    method = found.method;
+    receive_maximum = found.receive_maximum;
+    packet_maximum = found.packet_maximum;
+    client = client;
+  })
+
+unfoldable pub packet_at : Kind → List ℕ → Result Packet PacketFault
+packet_at kind.Connect body = connect_at body >>= λ c. Ok (packet.Connect c)
+packet_at (kind.Publish duplicate qos retain) body = publish_at duplicate qos retain body >>= λ p. Ok (packet.Publish p)
+packet_at kind.Puback body = acknowledgement_at body >>= λ a. Ok (packet.Puback a)
+packet_at kind.Pubrec body = acknowledgement_at body >>= λ a. Ok (packet.Pubrec a)
+packet_at kind.Pubrel body = acknowledgement_at body >>= λ a. Ok (packet.Pubrel a)
+packet_at kind.Pubcomp body = acknowledgement_at body >>= λ a. Ok (packet.Pubcomp a)
+packet_at kind.Subscribe body = subscribe_at body >>= λ s. Ok (packet.Subscribe s)
+packet_at kind.Unsubscribe body = unsubscribe_at body >>= λ u. Ok (packet.Unsubscribe u)
+packet_at kind.Pingreq body = ended packet.Pingreq body
+packet_at kind.Disconnect body = code_at place.Disconnect body >>= λ code. Ok (packet.Disconnect code)
+
+-- ---- the whole
+
+-- a packet whose length is n, with these bytes behind the length, and so many before
+abbrev pub body_at : Kind → ℕ → ℕ → List ℕ → Result Decoded PacketFault
+body_at k before n rest =
+    if nat_lt largest (before + n) then Err TooLarge
+    else (if nat_lt (length rest) n then Ok More
+    else (packet_at k (take n rest) >>= λ p. Ok (Whole p (before + n))))
+
+abbrev pub sized : Kind → List ℕ → Result (ℕ × List ℕ) Cut → Result Decoded PacketFault
+sized k bytes (Err Short) = Ok More
+sized k bytes (Err Bad) = Err Malformed
+sized k bytes (Ok n) = body_at k (suc (length bytes) - length n.1) n.0 n.1
+
+unfoldable pub answer : List ℕ → Result Decoded PacketFault
+answer [] = Ok More
+answer (first ∷ bytes) = do
+  k ← kind_of first
+  sized k bytes (digits_at 4 bytes)

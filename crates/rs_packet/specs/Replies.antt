@@ -1,0 +1,75 @@
+-- The replies of the server: one spelling each. Sections 3.2 to 3.14.
+use Rattle.std.specs.Prelude.{◌≡◌, ℕ, ◌+◌, ◌*◌, ◌<◌, ◌^◌, List, [], ◌∷◌, ◌++◌, length, map, Option, Some, None, IfSome, Bool, true, false, ◌==◌, if◌then◌else◌}
+use Rattle.std.specs.List.{flat_map}
+use Rattle.rs_packet.specs.declared.property.Property.{Property}
+use Rattle.rs_packet.specs.declared.property.Property.TheVariants as property
+use Rattle.rs_packet.specs.declared.reply.Publication.{Publication}
+use Rattle.rs_packet.specs.declared.reply.Reply.{Reply}
+use Rattle.rs_packet.specs.declared.reply.Reply.TheVariants as reply
+use Rattle.rs_packet.specs.Values.{PropertiesValue, CodesValue}
+use Rattle.rs_packet.specs.Properties.{two, counted, properties, spelled, varint_end}
+use Rattle.rs_packet.specs.Grammar.{frame, level, id_bytes, largest}
+
+abbrev pub optional : {A : Type 0} → (A → Property) → Option A → List Property
+optional make None = []
+optional make (Some x) = make x ∷ []
+
+abbrev pub user_property : List ℕ × List ℕ → Property
+user_property pair = property.User pair.0 pair.1
+
+-- the properties of a message, in rising order of identifier
+abbrev pub replayed : Option ℕ → PropertiesValue → List Property
+replayed expiry p =
+    optional property.Format p.format ++ (optional property.Expiry expiry ++ (optional property.ContentTypeIs p.content_type
+    ++ (optional property.ResponseTopicIs p.response_topic ++ (optional property.Correlation p.correlation ++ map user_property p.user))))
+
+-- 3.4.2.1: a code of 0 is left out
+abbrev pub acknowledging : ℕ → ℕ → List ℕ
+acknowledging id code = if code == 0 then two id else two id ++ code ∷ []
+
+abbrev pub first_byte : Reply → ℕ
+first_byte (reply.Refused code) = 0x20
+first_byte (reply.Publish p) = 0x31 + 2 * level p.qos
+first_byte (reply.Puback id code) = 0x40
+first_byte (reply.Pubrec id code) = 0x50
+first_byte (reply.Pubrel id code) = 0x62
+first_byte (reply.Pubcomp id code) = 0x70
+first_byte (reply.Suback codes) = 0x90
+first_byte (reply.Unsuback codes) = 0xB0
+first_byte reply.Pingresp = 0xD0
+first_byte (reply.Disconnect code) = 0xE0
+
+abbrev pub publication_body : Publication → List ℕ
+publication_body p = counted p.topic ++ (id_bytes p.id ++ (properties (replayed p.expiry p.properties) ++ p.payload))
+
+abbrev pub codes_body : CodesValue → List ℕ
+codes_body c = two c.id ++ 0 ∷ c.codes
+
+abbrev pub reply_body : Reply → List ℕ
+reply_body (reply.Refused code) = 0 ∷ code ∷ 0 ∷ []
+reply_body (reply.Publish p) = publication_body p
+reply_body (reply.Puback id code) = acknowledging id code
+reply_body (reply.Pubrec id code) = acknowledging id code
+reply_body (reply.Pubrel id code) = acknowledging id code
+reply_body (reply.Pubcomp id code) = acknowledging id code
+reply_body (reply.Suback codes) = codes_body codes
+reply_body (reply.Unsuback codes) = codes_body codes
+reply_body reply.Pingresp = []
+reply_body (reply.Disconnect code) = code ∷ []
+
+-- the one spelling of a reply
+abbrev pub reply_bytes : Reply → List ℕ
+reply_bytes r = frame (first_byte r) (reply_body r)
+
+-- what has a spelling
+abbrev pub HasSpelling : Reply → Type 0
+HasSpelling r = length (reply_body r) < varint_end
+
+pub record SpellsReply (bytes : List ℕ) (r : Reply) : Type 0 where
+  pub fields : bytes ≡ reply_bytes r
+  pub small : HasSpelling r
+
+-- correlation data are a binary
+abbrev pub IsWritable : Reply → Type 0
+IsWritable (reply.Publish p) = IfSome p.properties.correlation (λ b. length b < 2 ^ 16)
+IsWritable _ = Unit {0}

@@ -1,0 +1,48 @@
+-- What contracts see of the types that hold vectors: the same fields, with lists.
+use Rattle.std.specs.Prelude.{ℕ, List, Bool, Option, Result}
+use Rattle.rs_topic.specs.declared.text.TopicFault.{TopicFault}
+use Rattle.rs_packet.specs.declared.packet.Qos.{Qos}
+use Rattle.rs_packet.specs.declared.packet.Options.{Options}
+
+pub record FoundValue : Type 0 where
+  pub format : Option ℕ
+  pub expiry : Option ℕ
+  pub content_type : Option (List ℕ)
+  pub response_topic : Option (List ℕ)
+  pub correlation : Option (List ℕ)
+  pub subscription : Option ℕ
+  pub session_expiry : Option ℕ
+  pub method : Option (List ℕ)
+  pub authentication : Bool
+  pub receive_maximum : Option ℕ
+  pub alias : Option ℕ
+  pub user : List (List ℕ × List ℕ)
+  pub packet_maximum : Option ℕ
+
+pub record PropertiesValue : Type 0 where
+  pub format : Option ℕ
+  pub content_type : Option (List ℕ)
+  pub response_topic : Option (List ℕ)
+  pub correlation : Option (List ℕ)
+  pub user : List (List ℕ × List ℕ)
+
+-- a filter, or its fault
+abbrev pub Filter : Type 0
+Filter = Result (List ℕ) TopicFault
+
+-- an item of SUBSCRIBE: the filter or its fault, and the options
+abbrev pub Asked : Type 0
+Asked = Filter × Options
+
+pub record SubscribeValue : Type 0 where
+  pub id : ℕ
+  pub subscription : Option ℕ
+  pub filters : List Asked
+
+pub record UnsubscribeValue : Type 0 where
+  pub id : ℕ
+  pub filters : List Filter
+
+pub record CodesValue : Type 0 where
+  pub id : ℕ
+  pub codes : List ℕ

@@ -1,0 +1,433 @@
+//! Reading the packets of a client.
+
+ghost use Rattle.std.specs.Prelude.{◌≡◌, ◌<◌, ◌≤◌, ◌-◌, ◌^◌, ◌++◌, length, take, slice_index, List, ℕ, Ok, IfOk, OnOk};
+ghost use Rattle.rs_packet.specs.declared.packet.Packet.{Packet};
+ghost use Rattle.rs_packet.specs.declared.reply.Reply.{Reply};
+ghost use Rattle.rs_packet.specs.Replies.{SpellsReply};
+ghost use Rattle.rs_packet.specs.Grammar.{IsAtFront, Spells};
+ghost use Rattle.rs_packet.specs.PacketReading.{Gives, id_at, id_for, publish_at, ended, code_at, acknowledgement_at, options_of, asked_at, asked_in, some_asked, subscribe_at, filter_at, filters_in, unsubscribe_at, flags_of, mqtt, version_at, past_text, past_binary, client_at, connect_at, packet_at, body_at, answer};
+ghost use Rattle.rs_packet.specs.Reading.{IsEnd};
+ghost use Rattle.std.specs.Str.{bytes_eq};
+
+use crate::fault::PacketFault;
+use crate::packet::{
+    Acknowledgement, Connect, Decoded, Flags, Kind, Options, Packet, PacketId, Publish, Qos,
+    RetainHandling, Subscribe, Unsubscribe,
+};
+use crate::property::{Found, Place, Properties};
+use crate::reading::{Cut, binary_of, byte_of, digits, found_of, text_of, two_of};
+use rs_topic::{Text, TopicFault, TopicFilter, TopicName};
+use bytes::Bytes;
+use std::alloc::Global;
+
+#[tactic(auto, unfolding(crate::specs::PacketReading::id_at))]
+fn id_of(rest: &mut Bytes) -> Result<PacketId, PacketFault>
+    ensures read { Gives (λ n. (n, rest.new)) result (id_at rest.old) }
+{
+    let number = two_of(rest)?;
+    match PacketId::new(number) {
+        Some(id) => Ok(id),
+        None => Err(PacketFault::Protocol),
+    }
+}
+
+fn id_if(rest: &mut Bytes, qos: Qos) -> Result<Option<PacketId>, PacketFault>
+    ensures read { Gives (λ n. (n, rest.new)) result (id_for qos rest.old) }
+{
+    match qos {
+        Qos::AtMostOnce => Ok(None),
+        Qos::AtLeastOnce => Ok(Some(id_of(rest)?)),
+        Qos::ExactlyOnce => Ok(Some(id_of(rest)?)),
+    }
+}
+
+#[tactic(auto, unfolding(crate::specs::PacketReading::publish_at))]
+fn publish_of(
+    alloc: Global,
+    body: Bytes,
+    duplicate: bool,
+    qos: Qos,
+    retain: bool,
+) -> Result<Publish, PacketFault>
+    ensures { Gives (λ p. p) result (publish_at duplicate qos retain body) }
+{
+    let mut rest = body;
+    let topic = text_of(&mut rest)?;
+    let id = id_if(&mut rest, qos)?;
+    let found = found_of(alloc, &mut rest, Place::Publish)?;
+    let Found {
+        format,
+        expiry,
+        content_type,
+        response_topic,
+        correlation,
+        alias,
+        user,
+        ..
+    } = found;
+    Ok(Publish {
+        duplicate,
+        qos,
+        retain,
+        topic: TopicName::of(topic),
+        id,
+        expiry,
+        alias,
+        properties: Properties {
+            format,
+            content_type,
+            response_topic,
+            correlation,
+            user,
+        },
+        payload: rest,
+    })
+}
+
+#[tactic(auto, unfolding(crate::specs::PacketReading::code_at))]
+fn code_of(alloc: Global, body: Bytes, place: Place) -> Result<u8, PacketFault>
+    ensures { Gives (λ n. n) result (code_at place body) }
+{
+    let mut rest = body;
+    if rest.is_empty() {
+        return Ok(0);
+    }
+    let code = byte_of(&mut rest)?;
+    if rest.is_empty() {
+        return Ok(code);
+    }
+    let _found = found_of(alloc, &mut rest, place)?;
+    if !rest.is_empty() {
+        return Err(PacketFault::Malformed);
+    }
+    Ok(code)
+}
+
+#[tactic(auto, unfolding(crate::specs::PacketReading::acknowledgement_at))]
+fn acknowledgement_of(alloc: Global, body: Bytes) -> Result<Acknowledgement, PacketFault>
+    ensures { Gives (λ a. a) result (acknowledgement_at body) }
+{
+    let mut rest = body;
+    let id = id_of(&mut rest)?;
+    let code = code_of(alloc, rest, Place::Acknowledgement)?;
+    Ok(Acknowledgement { id, code })
+}
+
+#[tactic(auto, unfolding(crate::specs::PacketReading::options_of))]
+fn options(byte: u8) -> Result<Options, PacketFault>
+    ensures { Gives (λ o. o) result (options_of byte) }
+{
+    if byte >= 64 {
+        return Err(PacketFault::Malformed);
+    }
+    let qos = match byte % 4 {
+        0 => Qos::AtMostOnce,
+        1 => Qos::AtLeastOnce,
+        2 => Qos::ExactlyOnce,
+        _ => return Err(PacketFault::Protocol),
+    };
+    let retain_handling = match byte / 16 {
+        0 => RetainHandling::Always,
+        1 => RetainHandling::IfNew,
+        2 => RetainHandling::Never,
+        _ => return Err(PacketFault::Protocol),
+    };
+    Ok(Options {
+        qos,
+        no_local: byte / 4 % 2 == 1,
+        retain_as_published: byte / 8 % 2 == 1,
+        retain_handling,
+    })
+}
+
+#[tactic(auto, unfolding(crate::specs::PacketReading::asked_at))]
+fn asked_of(rest: &mut Bytes) -> Result<(Result<TopicFilter, TopicFault>, Options), PacketFault>
+    ensures read { Gives (λ a. (a, rest.new)) result (asked_at rest.old) }
+    ensures shorter { OnOk result (length rest.new < length rest.old) }
+{
+    let text = text_of(rest)?;
+    let byte = byte_of(rest)?;
+    let options = options(byte)?;
+    Ok((TopicFilter::of(text), options))
+}
+
+fn all_asked(
+    alloc: Global,
+    body: Bytes,
+) -> Result<Vec<(Result<TopicFilter, TopicFault>, Options)>, PacketFault>
+    ensures { Gives (λ v. v.items) result (asked_in (length body) body) }
+{
+    let mut all = Vec::new(alloc);
+    let mut rest = body;
+    'next: while !rest.is_empty() {
+        let asked = asked_of(&mut rest)?;
+        all.push(asked)?;
+    }
+    Ok(all)
+}
+
+#[tactic(auto, unfolding(crate::specs::PacketReading::subscribe_at))]
+fn subscribe_of(alloc: Global, body: Bytes) -> Result<Subscribe, PacketFault>
+    ensures { Gives (λ s. s) result (subscribe_at body) }
+{
+    let mut rest = body;
+    let id = id_of(&mut rest)?;
+    let found = found_of(alloc, &mut rest, Place::Subscribe)?;
+    if rest.is_empty() {
+        return Err(PacketFault::Protocol);
+    }
+    let subscription = found.subscription;
+    let filters = all_asked(alloc, rest)?;
+    Ok(Subscribe {
+        id,
+        subscription,
+        filters,
+    })
+}
+
+#[tactic(auto, unfolding(crate::specs::PacketReading::filter_at))]
+fn filter_of_text(rest: &mut Bytes) -> Result<Result<TopicFilter, TopicFault>, PacketFault>
+    ensures read { Gives (λ a. (a, rest.new)) result (filter_at rest.old) }
+    ensures shorter { OnOk result (length rest.new < length rest.old) }
+{
+    let text = text_of(rest)?;
+    Ok(TopicFilter::of(text))
+}
+
+fn all_filters(
+    alloc: Global,
+    body: Bytes,
+) -> Result<Vec<Result<TopicFilter, TopicFault>>, PacketFault>
+    ensures { Gives (λ v. v.items) result (filters_in (length body) body) }
+{
+    let mut all = Vec::new(alloc);
+    let mut rest = body;
+    'next: while !rest.is_empty() {
+        let filter = filter_of_text(&mut rest)?;
+        all.push(filter)?;
+    }
+    Ok(all)
+}
+
+#[tactic(auto, unfolding(crate::specs::PacketReading::unsubscribe_at))]
+fn unsubscribe_of(alloc: Global, body: Bytes) -> Result<Unsubscribe, PacketFault>
+    ensures { Gives (λ u. u) result (unsubscribe_at body) }
+{
+    let mut rest = body;
+    let id = id_of(&mut rest)?;
+    let _found = found_of(alloc, &mut rest, Place::Unsubscribe)?;
+    if rest.is_empty() {
+        return Err(PacketFault::Protocol);
+    }
+    let filters = all_filters(alloc, rest)?;
+    Ok(Unsubscribe { id, filters })
+}
+
+#[tactic(auto, unfolding(crate::specs::PacketReading::flags_of))]
+fn flags(byte: u8) -> Result<Flags, PacketFault>
+    ensures { Gives (λ f. f) result (flags_of byte) }
+{
+    if byte % 2 == 1 {
+        return Err(PacketFault::Malformed);
+    }
+    if byte / 8 % 4 == 3 {
+        return Err(PacketFault::Malformed);
+    }
+    if byte / 4 % 2 == 0 && byte / 8 % 8 != 0 {
+        return Err(PacketFault::Malformed);
+    }
+    let will_qos = match byte / 8 % 4 {
+        0 => Qos::AtMostOnce,
+        1 => Qos::AtLeastOnce,
+        _ => Qos::ExactlyOnce,
+    };
+    Ok(Flags {
+        user_name: byte / 128 == 1,
+        password: byte / 64 % 2 == 1,
+        will_retain: byte / 32 % 2 == 1,
+        will_qos,
+        will: byte / 4 % 2 == 1,
+        clean_start: byte / 2 % 2 == 1,
+    })
+}
+
+fn is_mqtt(name: &[u8]) -> bool
+    ensures { result ≡ bytes_eq name.now mqtt }
+{
+    name == b"MQTT".as_slice()
+}
+
+#[tactic(auto, unfolding(crate::specs::PacketReading::version_at))]
+fn version_of(rest: &mut Bytes) -> Result<(), PacketFault>
+    ensures { Gives (λ _. rest.new) result (version_at rest.old) }
+{
+    let name = text_of(rest)?;
+    if !is_mqtt(name.as_bytes()) {
+        return Err(PacketFault::Version);
+    }
+    let version = byte_of(rest)?;
+    if version != 5 {
+        return Err(PacketFault::Version);
+    }
+    Ok(())
+}
+
+fn pass_text(rest: &mut Bytes, present: bool) -> Result<(), PacketFault>
+    ensures { Gives (λ _. rest.new) result (past_text present rest.old) }
+{
+    if present {
+        let _text = text_of(rest)?;
+    }
+    Ok(())
+}
+
+fn pass_binary(rest: &mut Bytes, present: bool) -> Result<(), PacketFault>
+    ensures { Gives (λ _. rest.new) result (past_binary present rest.old) }
+{
+    if present {
+        let _bytes = binary_of(rest)?;
+    }
+    Ok(())
+}
+
+#[tactic(auto, unfolding(crate::specs::PacketReading::client_at))]
+fn client_of(body: Bytes, flags: Flags) -> Result<Option<Text>, PacketFault>
+    ensures { Gives (λ c. c) result (client_at flags body) }
+{
+    let mut rest = body;
+    if flags.will {
+        return Ok(None);
+    }
+    let client = text_of(&mut rest)?;
+    pass_text(&mut rest, flags.user_name)?;
+    pass_binary(&mut rest, flags.password)?;
+    if !rest.is_empty() {
+        return Err(PacketFault::Malformed);
+    }
+    Ok(Some(client))
+}
+
+#[tactic(auto, unfolding(crate::specs::PacketReading::connect_at))]
+fn connect_of(alloc: Global, body: Bytes) -> Result<Connect, PacketFault>
+    ensures { Gives (λ c. c) result (connect_at body) }
+{
+    let mut rest = body;
+    version_of(&mut rest)?;
+    let byte = byte_of(&mut rest)?;
+    let flags = flags(byte)?;
+    let keep_alive = two_of(&mut rest)?;
+    let found = found_of(alloc, &mut rest, Place::Connect)?;
+    let Found {
+        session_expiry,
+        method,
+        authentication,
+        receive_maximum,
+        packet_maximum,
+        ..
+    } = found;
+    if authentication && method.is_none() {
+        return Err(PacketFault::Protocol);
+    }
+    let client = client_of(rest, flags)?;
+    Ok(Connect {
+        clean_start: flags.clean_start,
+        will: flags.will,
+        keep_alive,
+        session_expiry,
+        method,
+        receive_maximum,
+        packet_maximum,
+        client,
+    })
+}
+
+#[tactic(auto, unfolding(crate::specs::PacketReading::packet_at))]
+fn packet_of(alloc: Global, kind: Kind, body: Bytes) -> Result<Packet, PacketFault>
+    ensures { Gives (λ p. p) result (packet_at kind body) }
+{
+    match kind {
+        Kind::Connect => Ok(Packet::Connect(connect_of(alloc, body)?)),
+        Kind::Publish(duplicate, qos, retain) => Ok(Packet::Publish(publish_of(
+            alloc, body, duplicate, qos, retain,
+        )?)),
+        Kind::Puback => Ok(Packet::Puback(acknowledgement_of(alloc, body)?)),
+        Kind::Pubrec => Ok(Packet::Pubrec(acknowledgement_of(alloc, body)?)),
+        Kind::Pubrel => Ok(Packet::Pubrel(acknowledgement_of(alloc, body)?)),
+        Kind::Pubcomp => Ok(Packet::Pubcomp(acknowledgement_of(alloc, body)?)),
+        Kind::Subscribe => Ok(Packet::Subscribe(subscribe_of(alloc, body)?)),
+        Kind::Unsubscribe => Ok(Packet::Unsubscribe(unsubscribe_of(alloc, body)?)),
+        Kind::Pingreq => {
+            if body.is_empty() {
+                Ok(Packet::Pingreq)
+            } else {
+                Err(PacketFault::Malformed)
+            }
+        }
+        Kind::Disconnect => Ok(Packet::Disconnect(code_of(alloc, body, Place::Disconnect)?)),
+    }
+}
+
+/// The packet whose body has `len` bytes, which `rest` begins with.
+fn whole_of(
+    alloc: Global,
+    kind: Kind,
+    bytes: &Bytes,
+    rest: &[u8],
+    len: u32,
+) -> Result<Decoded, PacketFault>
+    requires end { IsEnd rest.now bytes.now }
+    requires small { len < 2 ^ 28 }
+    ensures { Gives (λ d. d) result (body_at kind (length bytes.now - length rest.now) len rest.now) }
+{
+    let len = len as usize;
+    let start = bytes.len() - rest.len();
+    let size = start + len;
+    if size > 262144 {
+        return Err(PacketFault::TooLarge);
+    }
+    if rest.len() < len {
+        return Ok(Decoded::More);
+    }
+    let body = bytes.slice(start..size)?;
+    let packet = packet_of(alloc, kind, body)?;
+    Ok(Decoded::Whole(packet, size))
+}
+
+#[tactic(auto, unfolding(crate::specs::PacketReading::answer))]
+fn decoded(alloc: Global, bytes: &Bytes) -> Result<Decoded, PacketFault>
+    ensures { Gives (λ d. d) result (answer bytes.now) }
+{
+    let [first, behind @ ..] = bytes.as_slice() else {
+        return Ok(Decoded::More);
+    };
+    let kind = Kind::of(*first)?;
+    match digits(behind) {
+        Ok((len, rest)) => whole_of(alloc, kind, bytes, rest, len),
+        Err(Cut::Short) => Ok(Decoded::More),
+        Err(Cut::Bad) => Err(PacketFault::Malformed),
+    }
+}
+
+/// Does nothing, and says that bytes are below 256.
+fn note_octets(bytes: &[u8])
+    ensures { (i : ℕ) → slice_index bytes.now i < 256 }
+{}
+
+/// The packet at the front of the bytes.
+pub fn decode(alloc: Global, bytes: &Bytes) -> Result<Decoded, PacketFault>
+    // What is read stands at the front.
+    ensures found { IfOk result (λ d. IsAtFront bytes.now d) }
+    // What stands at the front is read, unless memory runs out.
+    ensures only { (p : Packet) (n : ℕ) → n ≤ length bytes.now → Spells (take n bytes.now) p → Gives (λ d. d) result (Ok (Decoded.Whole p n)) }
+    // Which fault it is, and when more is wanted.
+    ensures exact { Gives (λ d. d) result (answer bytes.now) }
+{
+    note_octets(bytes.as_slice());
+    decoded(alloc, bytes)
+}
+
+/// No spelling of a packet begins another.
+pub fn wire_law()
+    ensures packets { (a b x y : List ℕ) (p q : Packet) → Spells a p → Spells b q → a ++ x ≡ b ++ y → (a ≡ b) × (x ≡ y) }
+    ensures replies { (a b x y : List ℕ) (r s : Reply) → SpellsReply a r → SpellsReply b s → a ++ x ≡ b ++ y → (a ≡ b) × (x ≡ y) }
+{}

@@ -1,0 +1,235 @@
+//! The packets that a client sends.
+
+use crate::fault::PacketFault;
+use crate::property::Properties;
+use rs_topic::{Text, TopicFault, TopicFilter, TopicName};
+use bytes::Bytes;
+use std::marker::Model;
+
+/// A packet identifier, which is not 0.
+#[derive(Clone, Copy)]
+pub struct PacketId {
+    number: u16,
+}
+
+impl Model for PacketId {
+    ghost use Rattle.std.specs.Prelude.{ℕ, ◌<◌};
+
+    ghost Value = { ℕ };
+
+    ghost view = { λ p. p.number };
+
+    ghost invariant = { λ p. 0 < p.number };
+
+    ghost inverse = { λ n. record { number = n } };
+}
+
+impl PacketId {
+    ghost use Rattle.std.specs.Prelude.{◌≡◌, ◌<◌, ◌==◌, if◌then◌else◌, Some, None};
+
+    pub fn new(number: u16) -> Option<PacketId>
+        ensures { result ≡ (if number == 0 then None else Some number) }
+    {
+        if number == 0 {
+            return None;
+        }
+        Some(PacketId { number })
+    }
+
+    pub fn get(self) -> u16
+        ensures value { result ≡ self }
+        ensures some { 0 < result }
+    {
+        self.number
+    }
+}
+
+/// The quality of service.
+#[derive(Clone, Copy, Debug, PartialEq, Eq)]
+pub enum Qos {
+    AtMostOnce,
+    AtLeastOnce,
+    ExactlyOnce,
+}
+
+impl Qos {
+    ghost use Rattle.std.specs.Prelude.{◌≡◌, ◌<◌};
+    ghost use Rattle.rs_packet.specs.Grammar.{level};
+
+    pub fn level(self) -> u8
+        ensures value { result ≡ level self }
+        ensures small { result < 3 }
+    {
+        match self {
+            Qos::AtMostOnce => 0,
+            Qos::AtLeastOnce => 1,
+            Qos::ExactlyOnce => 2,
+        }
+    }
+}
+
+/// Whether retained messages are sent at a SUBSCRIBE.
+#[derive(Clone, Copy, Debug, PartialEq, Eq)]
+pub enum RetainHandling {
+    Always,
+    IfNew,
+    Never,
+}
+
+/// The options of a filter.
+#[derive(Clone, Copy)]
+pub struct Options {
+    pub qos: Qos,
+    pub no_local: bool,
+    pub retain_as_published: bool,
+    pub retain_handling: RetainHandling,
+}
+
+/// What the first byte of a packet says.
+#[derive(Clone, Copy)]
+pub enum Kind {
+    Connect,
+    Publish(bool, Qos, bool),
+    Puback,
+    Pubrec,
+    Pubrel,
+    Pubcomp,
+    Subscribe,
+    Unsubscribe,
+    Pingreq,
+    Disconnect,
+}
+
+impl Kind {
+    ghost use Rattle.std.specs.Prelude.{◌≡◌};
+    ghost use Rattle.rs_packet.specs.PacketReading.{Gives, kind_of};
+
+    /// What a client's packet begins with, or the fault.
+    #[tactic(auto, unfolding(crate::specs::PacketReading::kind_of))]
+    pub fn of(head: u8) -> Result<Kind, PacketFault>
+        ensures { result ≡ kind_of head }
+    {
+        match head {
+            0x10 => Ok(Kind::Connect),
+            0x30 => Ok(Kind::Publish(false, Qos::AtMostOnce, false)),
+            0x31 => Ok(Kind::Publish(false, Qos::AtMostOnce, true)),
+            0x32 => Ok(Kind::Publish(false, Qos::AtLeastOnce, false)),
+            0x33 => Ok(Kind::Publish(false, Qos::AtLeastOnce, true)),
+            0x34 => Ok(Kind::Publish(false, Qos::ExactlyOnce, false)),
+            0x35 => Ok(Kind::Publish(false, Qos::ExactlyOnce, true)),
+            0x3A => Ok(Kind::Publish(true, Qos::AtLeastOnce, false)),
+            0x3B => Ok(Kind::Publish(true, Qos::AtLeastOnce, true)),
+            0x3C => Ok(Kind::Publish(true, Qos::ExactlyOnce, false)),
+            0x3D => Ok(Kind::Publish(true, Qos::ExactlyOnce, true)),
+            0x40 => Ok(Kind::Puback),
+            0x50 => Ok(Kind::Pubrec),
+            0x62 => Ok(Kind::Pubrel),
+            0x70 => Ok(Kind::Pubcomp),
+            0x82 => Ok(Kind::Subscribe),
+            0xA2 => Ok(Kind::Unsubscribe),
+            0xC0 => Ok(Kind::Pingreq),
+            0xE0 => Ok(Kind::Disconnect),
+            0x20 | 0x90 | 0xB0 | 0xD0 | 0xF0 => Err(PacketFault::Protocol),
+            _ => Err(PacketFault::Malformed),
+        }
+    }
+}
+
+/// A publication.
+#[derive(Drop)]
+pub struct Publish {
+    pub duplicate: bool,
+    pub qos: Qos,
+    pub retain: bool,
+    pub topic: Result<TopicName, TopicFault>,
+    pub id: Option<PacketId>,
+    pub expiry: Option<u32>,
+    pub alias: Option<u16>,
+    pub properties: Properties,
+    pub payload: Bytes,
+}
+
+/// A PUBACK, PUBREC, PUBREL or PUBCOMP.
+#[derive(Clone, Copy)]
+pub struct Acknowledgement {
+    pub id: PacketId,
+    pub code: u8,
+}
+
+#[derive(Drop)]
+pub struct Subscribe {
+    pub id: PacketId,
+    pub subscription: Option<u32>,
+    pub filters: Vec<(Result<TopicFilter, TopicFault>, Options)>,
+}
+
+impl Model for Subscribe {
+    ghost use Rattle.rs_packet.specs.Values.{SubscribeValue};
+
+    ghost Value = { SubscribeValue };
+
+    ghost view = { λ s. record { id = s.id; subscription = s.subscription; filters = s.filters.items } };
+}
+
+#[derive(Drop)]
+pub struct Unsubscribe {
+    pub id: PacketId,
+    pub filters: Vec<Result<TopicFilter, TopicFault>>,
+}
+
+impl Model for Unsubscribe {
+    ghost use Rattle.rs_packet.specs.Values.{UnsubscribeValue};
+
+    ghost Value = { UnsubscribeValue };
+
+    ghost view = { λ s. record { id = s.id; filters = s.filters.items } };
+}
+
+/// The flags of a CONNECT.
+#[derive(Clone, Copy)]
+pub struct Flags {
+    pub user_name: bool,
+    pub password: bool,
+    pub will_retain: bool,
+    pub will_qos: Qos,
+    pub will: bool,
+    pub clean_start: bool,
+}
+
+/// The first packet of a client.
+#[derive(Drop)]
+pub struct Connect {
+    pub clean_start: bool,
+    pub will: bool,
+    pub keep_alive: u16,
+    pub session_expiry: Option<u32>,
+    pub method: Option<Text>,
+    pub receive_maximum: Option<u16>,
+    pub packet_maximum: Option<u32>,
+    /// None where the Will flag ends the reading before it.
+    pub client: Option<Text>,
+}
+
+/// What a client sends.
+#[derive(Drop)]
+pub enum Packet {
+    Connect(Connect),
+    Publish(Publish),
+    Puback(Acknowledgement),
+    Pubrec(Acknowledgement),
+    Pubrel(Acknowledgement),
+    Pubcomp(Acknowledgement),
+    Subscribe(Subscribe),
+    Unsubscribe(Unsubscribe),
+    Pingreq,
+    Disconnect(u8),
+}
+
+/// What stands at the front of some bytes.
+#[derive(Drop)]
+pub enum Decoded {
+    /// A packet, and how many bytes it takes.
+    Whole(Packet, usize),
+    /// Less than a packet.
+    More,
+}

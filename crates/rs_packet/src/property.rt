@@ -1,0 +1,313 @@
+//! The properties of packets.
+
+ghost use Rattle.std.specs.Prelude.{◌≡◌, ◌<◌, OnOk};
+
+use rs_topic::Text;
+use bytes::Bytes;
+use std::alloc::{AllocError, Global};
+use std::marker::Model;
+
+/// Which property it is.
+#[derive(Clone, Copy, Debug, PartialEq, Eq)]
+pub enum Identifier {
+    PayloadFormat,
+    MessageExpiry,
+    ContentType,
+    ResponseTopic,
+    CorrelationData,
+    SubscriptionIdentifier,
+    SessionExpiry,
+    AuthenticationMethod,
+    AuthenticationData,
+    ProblemInformation,
+    ResponseInformation,
+    ServerReference,
+    ReasonString,
+    ReceiveMaximum,
+    TopicAliasMaximum,
+    TopicAlias,
+    UserProperty,
+    MaximumPacketSize,
+}
+
+/// A property that a client may send, with its value.
+#[derive(Drop)]
+pub enum Property {
+    Format(u8),
+    Expiry(u32),
+    ContentTypeIs(Text),
+    ResponseTopicIs(Text),
+    Correlation(Bytes),
+    Subscription(u32),
+    SessionExpiryIs(u32),
+    Method(Text),
+    Authentication(Bytes),
+    WantsProblem(u8),
+    WantsResponse(u8),
+    Reason(Text),
+    ReceiveMaximumIs(u16),
+    AliasMaximumIs(u16),
+    Alias(u16),
+    User(Text, Text),
+    PacketMaximum(u32),
+}
+
+/// The packet that properties stand in.
+#[derive(Clone, Copy, Debug, PartialEq, Eq)]
+pub enum Place {
+    Connect,
+    Publish,
+    Acknowledgement,
+    Subscribe,
+    Unsubscribe,
+    Disconnect,
+}
+
+/// What the properties of a packet say.
+#[derive(Drop)]
+pub struct Found {
+    pub format: Option<u8>,
+    pub expiry: Option<u32>,
+    pub content_type: Option<Text>,
+    pub response_topic: Option<Text>,
+    pub correlation: Option<Bytes>,
+    pub subscription: Option<u32>,
+    pub session_expiry: Option<u32>,
+    pub method: Option<Text>,
+    pub authentication: bool,
+    pub receive_maximum: Option<u16>,
+    pub alias: Option<u16>,
+    pub user: Vec<(Text, Text)>,
+    pub packet_maximum: Option<u32>,
+}
+
+impl Model for Found {
+    ghost use Rattle.rs_packet.specs.Values.{FoundValue};
+
+    ghost Value = { FoundValue };
+
+    ghost view = { λ f. record {
+      format = f.format;
+      expiry = f.expiry;
+      content_type = f.content_type;
+      response_topic = f.response_topic;
+      correlation = f.correlation;
+      subscription = f.subscription;
+      session_expiry = f.session_expiry;
+      method = f.method;
+      authentication = f.authentication;
+      receive_maximum = f.receive_maximum;
+      alias = f.alias;
+      user = f.user.items;
+      packet_maximum = f.packet_maximum;
+    } };
+}
+
+/// The properties that a message keeps.
+#[derive(Drop)]
+pub struct Properties {
+    pub format: Option<u8>,
+    pub content_type: Option<Text>,
+    pub response_topic: Option<Text>,
+    pub correlation: Option<Bytes>,
+    pub user: Vec<(Text, Text)>,
+}
+
+impl Model for Properties {
+    ghost use Rattle.rs_packet.specs.Values.{PropertiesValue};
+
+    ghost Value = { PropertiesValue };
+
+    ghost view = { λ p. record {
+      format = p.format;
+      content_type = p.content_type;
+      response_topic = p.response_topic;
+      correlation = p.correlation;
+      user = p.user.items;
+    } };
+}
+
+impl Identifier {
+    ghost use Rattle.rs_packet.specs.Properties.{number, may_stand, may_repeat};
+    ghost use Rattle.rs_packet.specs.Reading.{identifier_of};
+
+    #[tactic(auto, unfolding(crate::specs::Reading::identifier_of))]
+    pub fn of(number: u32) -> Option<Identifier>
+        ensures { result ≡ identifier_of number }
+    {
+        match number {
+            0x01 => Some(Identifier::PayloadFormat),
+            0x02 => Some(Identifier::MessageExpiry),
+            0x03 => Some(Identifier::ContentType),
+            0x08 => Some(Identifier::ResponseTopic),
+            0x09 => Some(Identifier::CorrelationData),
+            0x0B => Some(Identifier::SubscriptionIdentifier),
+            0x11 => Some(Identifier::SessionExpiry),
+            0x15 => Some(Identifier::AuthenticationMethod),
+            0x16 => Some(Identifier::AuthenticationData),
+            0x17 => Some(Identifier::ProblemInformation),
+            0x19 => Some(Identifier::ResponseInformation),
+            0x1C => Some(Identifier::ServerReference),
+            0x1F => Some(Identifier::ReasonString),
+            0x21 => Some(Identifier::ReceiveMaximum),
+            0x22 => Some(Identifier::TopicAliasMaximum),
+            0x23 => Some(Identifier::TopicAlias),
+            0x26 => Some(Identifier::UserProperty),
+            0x27 => Some(Identifier::MaximumPacketSize),
+            _ => None,
+        }
+    }
+
+    pub fn number(self) -> u8
+        ensures value { result ≡ number self }
+        ensures small { result < 40 }
+    {
+        match self {
+            Identifier::PayloadFormat => 0x01,
+            Identifier::MessageExpiry => 0x02,
+            Identifier::ContentType => 0x03,
+            Identifier::ResponseTopic => 0x08,
+            Identifier::CorrelationData => 0x09,
+            Identifier::SubscriptionIdentifier => 0x0B,
+            Identifier::SessionExpiry => 0x11,
+            Identifier::AuthenticationMethod => 0x15,
+            Identifier::AuthenticationData => 0x16,
+            Identifier::ProblemInformation => 0x17,
+            Identifier::ResponseInformation => 0x19,
+            Identifier::ServerReference => 0x1C,
+            Identifier::ReasonString => 0x1F,
+            Identifier::ReceiveMaximum => 0x21,
+            Identifier::TopicAliasMaximum => 0x22,
+            Identifier::TopicAlias => 0x23,
+            Identifier::UserProperty => 0x26,
+            Identifier::MaximumPacketSize => 0x27,
+        }
+    }
+
+    /// Only a user property may stand twice.
+    pub fn may_repeat(self) -> bool
+        ensures { result ≡ may_repeat self }
+    {
+        matches!(self, Identifier::UserProperty)
+    }
+
+    /// Whether a client may send it in this packet.
+    pub fn may_stand(self, place: Place) -> bool
+        ensures { result ≡ may_stand place self }
+    {
+        match place {
+            Place::Connect => matches!(
+                self,
+                Identifier::SessionExpiry
+                    | Identifier::AuthenticationMethod
+                    | Identifier::AuthenticationData
+                    | Identifier::ProblemInformation
+                    | Identifier::ResponseInformation
+                    | Identifier::ReceiveMaximum
+                    | Identifier::TopicAliasMaximum
+                    | Identifier::MaximumPacketSize
+                    | Identifier::UserProperty
+            ),
+            Place::Publish => matches!(
+                self,
+                Identifier::PayloadFormat
+                    | Identifier::MessageExpiry
+                    | Identifier::ContentType
+                    | Identifier::ResponseTopic
+                    | Identifier::CorrelationData
+                    | Identifier::TopicAlias
+                    | Identifier::UserProperty
+            ),
+            Place::Acknowledgement => matches!(
+                self,
+                Identifier::ReasonString | Identifier::UserProperty
+            ),
+            Place::Subscribe => matches!(
+                self,
+                Identifier::SubscriptionIdentifier | Identifier::UserProperty
+            ),
+            Place::Unsubscribe => matches!(self, Identifier::UserProperty),
+            Place::Disconnect => matches!(
+                self,
+                Identifier::SessionExpiry | Identifier::ReasonString | Identifier::UserProperty
+            ),
+        }
+    }
+}
+
+impl Property {
+    ghost use Rattle.rs_packet.specs.Properties.{identifier};
+
+    pub fn identifier(&self) -> Identifier
+        ensures { result ≡ identifier self.now }
+    {
+        match self {
+            Property::Format(_) => Identifier::PayloadFormat,
+            Property::Expiry(_) => Identifier::MessageExpiry,
+            Property::ContentTypeIs(_) => Identifier::ContentType,
+            Property::ResponseTopicIs(_) => Identifier::ResponseTopic,
+            Property::Correlation(_) => Identifier::CorrelationData,
+            Property::Subscription(_) => Identifier::SubscriptionIdentifier,
+            Property::SessionExpiryIs(_) => Identifier::SessionExpiry,
+            Property::Method(_) => Identifier::AuthenticationMethod,
+            Property::Authentication(_) => Identifier::AuthenticationData,
+            Property::WantsProblem(_) => Identifier::ProblemInformation,
+            Property::WantsResponse(_) => Identifier::ResponseInformation,
+            Property::Reason(_) => Identifier::ReasonString,
+            Property::ReceiveMaximumIs(_) => Identifier::ReceiveMaximum,
+            Property::AliasMaximumIs(_) => Identifier::TopicAliasMaximum,
+            Property::Alias(_) => Identifier::TopicAlias,
+            Property::PacketMaximum(_) => Identifier::MaximumPacketSize,
+            Property::User(_, _) => Identifier::UserProperty,
+        }
+    }
+}
+
+impl Found {
+    ghost use Rattle.rs_packet.specs.Properties.{put, nothing};
+
+    pub fn new(alloc: Global) -> Found
+        ensures { result ≡ nothing }
+    {
+        Found {
+            format: None,
+            expiry: None,
+            content_type: None,
+            response_topic: None,
+            correlation: None,
+            subscription: None,
+            session_expiry: None,
+            method: None,
+            authentication: false,
+            receive_maximum: None,
+            alias: None,
+            user: Vec::new(alloc),
+            packet_maximum: None,
+        }
+    }
+
+    pub fn put(&mut self, property: Property) -> Result<(), AllocError>
+        ensures { OnOk result (self.new ≡ put self.old property) }
+    {
+        match property {
+            Property::Format(n) => self.format = Some(n),
+            Property::Expiry(n) => self.expiry = Some(n),
+            Property::ContentTypeIs(t) => self.content_type = Some(t),
+            Property::ResponseTopicIs(t) => self.response_topic = Some(t),
+            Property::Correlation(b) => self.correlation = Some(b),
+            Property::Subscription(n) => self.subscription = Some(n),
+            Property::SessionExpiryIs(n) => self.session_expiry = Some(n),
+            Property::Method(t) => self.method = Some(t),
+            Property::Authentication(_b) => self.authentication = true,
+            Property::ReceiveMaximumIs(n) => self.receive_maximum = Some(n),
+            Property::Alias(n) => self.alias = Some(n),
+            Property::User(k, v) => self.user.push((k, v))?,
+            Property::PacketMaximum(n) => self.packet_maximum = Some(n),
+            Property::WantsProblem(_n) => {}
+            Property::WantsResponse(_n) => {}
+            Property::Reason(_t) => {}
+            Property::AliasMaximumIs(_n) => {}
+        }
+        Ok(())
+    }
+}
