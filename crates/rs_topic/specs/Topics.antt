@@ -2,6 +2,9 @@
 use Rattle.std.specs.Prelude.{◌≡◌, ◌≢◌, ℕ, ◌+◌, ◌<◌, ◌≤◌, Bool, true, false, ◌&&◌, ◌||◌, not, nat_lt, nat_eq, ◌==◌, if◌then◌else◌, List, [], ◌∷◌, ◌++◌, length, Option, Some, None, Result, Ok, Err, All, Contains, IsTrue}
 use Rattle.std.specs.List.{list_any, list_all, starts_with, slice_split, join_with_byte}
 use Rattle.std.specs.Str.{bytes_eq}
+use Rattle.std.specs.Cmp.Lexicographic.{slice_cmp}
+use Rattle.std.specs.Ordering.{nat_cmp}
+use Rattle.std.specs.declared.cmp.Ordering.{Ordering}
 use Rattle.rs_topic.specs.declared.text.TopicFault.{TopicFault}
 use Rattle.rs_topic.specs.declared.text.LevelSoFar.{LevelSoFar}
 use Rattle.rs_topic.specs.declared.text.LevelSoFar.TheVariants as so
@@ -118,3 +121,10 @@ pub data ComesBefore {X : Type 0} (Less : X → X → Type 0) : List X → List 
 
 abbrev pub IsReplayedBefore : List ℕ → List ℕ → Type 0
 IsReplayedBefore a b = ComesBefore (ComesBefore (λ c d. c < d)) (levels a) (levels b)
+
+-- the same as a comparison
+abbrev pub path_cmp : List (List ℕ) → List (List ℕ) → Ordering
+path_cmp = slice_cmp (slice_cmp nat_cmp)
+
+abbrev pub topic_cmp : List ℕ → List ℕ → Ordering
+topic_cmp a b = path_cmp (levels a) (levels b)

@@ -1,0 +1,53 @@
+-- Retained messages: sections 3.3.1.3 and 3.3.2.3.3 of OASIS MQTT Version 5.0.
+use Rattle.std.specs.Prelude.{◌≡◌, ◌≢◌, ℕ, ◌+◌, ◌-◌, ◌<◌, ◌≤◌, Bool, true, false, nat_le, if◌then◌else◌, List, [], ◌∷◌, length, Option, Some, None}
+use Rattle.rs_packet.specs.declared.packet.Qos.{Qos}
+use Rattle.rs_packet.specs.Values.{PropertiesValue}
+use Rattle.rs_packet.specs.Properties.{properties}
+use Rattle.rs_packet.specs.Replies.{replayed}
+use Rattle.rs_message.specs.Values.{MessageValue}
+use Rattle.rs_message.specs.declared.message.Remaining.{Remaining}
+use Rattle.rs_message.specs.declared.message.Remaining.TheVariants.{Forever, Left, Expired}
+use Rattle.rs_message.specs.declared.entry.Operation.{Operation}
+use Rattle.rs_message.specs.declared.entry.Operation.TheVariants.{Set, Clear}
+
+-- how many bytes a payload and its properties take in a PUBLISH
+abbrev pub kept_len : List ℕ → Option ℕ → PropertiesValue → ℕ
+kept_len payload expiry kept = length payload + length (properties (replayed expiry kept))
+
+-- the payload and the properties of a message that is kept
+pub record IsKept (m : MessageValue) : Type 0 where
+  pub some : m.payload ≢ []
+  pub fits : kept_len m.payload m.expiry m.properties ≤ 262144
+
+-- ---- 3.3.2.3.3: expiry
+
+-- the seconds since a message came, 0 where the clock stands before that
+abbrev pub waited : MessageValue → ℕ → ℕ
+waited m now = now - m.received
+
+abbrev pub left_of : Option ℕ → ℕ → Remaining
+left_of None waited = Forever
+left_of (Some expiry) waited = if nat_le expiry waited then Expired else Left (expiry - waited)
+
+abbrev pub remaining_of : MessageValue → ℕ → Remaining
+remaining_of m now = left_of m.expiry (waited m now)
+
+abbrev pub is_over : Remaining → Bool
+is_over Forever = false
+is_over (Left seconds) = false
+is_over Expired = true
+
+abbrev pub is_expired : ℕ → MessageValue → Bool
+is_expired now m = is_over (remaining_of m now)
+
+-- ---- 3.3.1.3: what a PUBLISH does to its topic's retained message
+
+-- a payload sets it, an empty one clears it
+abbrev pub change_of : List ℕ → MessageValue → List ℕ → Operation
+change_of topic m [] = Clear topic
+change_of topic m (byte ∷ bytes) = Set topic m
+
+-- without RETAIN nothing changes
+abbrev pub operation_of : Bool → List ℕ → MessageValue → Option Operation
+operation_of false topic m = None
+operation_of true topic m = Some (change_of topic m m.payload)

@@ -1,0 +1,104 @@
+//! The entries of the store's history.
+
+ghost use Rattle.std.specs.Prelude.{◌≡◌, ◌+◌, ◌<◌, ◌≤◌, ◌&&◌, nat_lt, nat_le, if◌then◌else◌, Some, None, length};
+ghost use Rattle.rs_message.specs.Messages.{kept_len, operation_of};
+
+use crate::message::Message;
+use bytes::Bytes;
+use rs_packet::{Properties, Qos};
+use rs_topic::TopicName;
+use std::marker::Model;
+
+/// Where an entry came from: a place, 1 to 64, and a serial, which rises at that place from 1.
+#[derive(Clone, Copy)]
+pub struct Origin {
+    place: u8,
+    serial: u64,
+}
+
+impl Model for Origin {
+    ghost use Rattle.std.specs.Prelude.{ℕ, ◌<◌, ◌≤◌};
+    ghost use Rattle.rs_message.specs.Values.{OriginValue};
+
+    ghost Value = { OriginValue };
+
+    ghost view = { λ o. record { place = o.place; serial = o.serial } };
+
+    ghost invariant = { λ o. (0 < o.place) × (o.place ≤ 64) × (0 < o.serial) };
+
+    ghost inverse = { λ v. record { place = v.place; serial = v.serial } };
+}
+
+impl Origin {
+    /// None where the place is not 1 to 64, or the serial is 0.
+    pub fn new(place: u8, serial: u64) -> Option<Origin>
+        ensures { result ≡ (if nat_lt 0 place && nat_le place 64 && nat_lt 0 serial then Some (record { place = place; serial = serial }) else None) }
+    {
+        if 0 < place && place <= 64 && 0 < serial {
+            return Some(Origin { place, serial });
+        }
+        None
+    }
+
+    pub fn place(self) -> u8
+        ensures value { result ≡ self.place }
+        ensures some { 0 < result }
+        ensures small { result ≤ 64 }
+    {
+        self.place
+    }
+
+    pub fn serial(self) -> u64
+        ensures value { result ≡ self.serial }
+        ensures some { 0 < result }
+    {
+        self.serial
+    }
+}
+
+/// A change of a topic's retained message: section 3.3.1.3.
+#[derive(Drop)]
+pub enum Operation {
+    Set(TopicName, Message),
+    Clear(TopicName),
+}
+
+impl Operation {
+    /// What a PUBLISH does: with a payload its message is kept, with an empty one the topic is cleared,
+    /// without RETAIN nothing changes. `received` is the moment of the packet, in seconds.
+    pub fn of(
+        retain: bool,
+        topic: TopicName,
+        payload: Bytes,
+        qos: Qos,
+        received: u64,
+        expiry: Option<u32>,
+        properties: Properties,
+    ) -> Option<Operation>
+        requires { kept_len payload expiry properties ≤ 262144 }
+        ensures { result ≡ operation_of retain topic (record { payload = payload; qos = qos; received = received; expiry = expiry; properties = properties }) }
+    {
+        if !retain {
+            return None;
+        }
+        if payload.is_empty() {
+            return Some(Operation::Clear(topic));
+        }
+        let message = Message::new(payload, qos, received, expiry, properties);
+        Some(Operation::Set(topic, message))
+    }
+}
+
+/// One change of the store, and where it came from.
+#[derive(Drop)]
+pub struct Entry {
+    pub origin: Origin,
+    pub operation: Operation,
+}
+
+/// A topic and its retained message.
+#[derive(Drop)]
+pub struct Found {
+    pub topic: TopicName,
+    pub message: Message,
+}

@@ -1,0 +1,2 @@
+//! The store of retained messages.
+#![tactic(auto)]
