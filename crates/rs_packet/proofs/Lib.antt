@@ -6,5 +6,6 @@ pub mod AskedLoop
 pub mod FilterLoop
 pub mod PacketLaws
 pub mod AnswerLaws
+pub mod Fronts
 pub mod WritingLemmas
 pub mod Rows

@@ -10,9 +10,10 @@ use Rattle.std.proofs.lemmas.List.{append_assoc, append-nil, length-append, map-
 use Rattle.std.proofs.lemmas.List.Concat.{flat_map-append}
 use Rattle.rs_packet.specs.declared.property.Property.TheVariants as property
 use Rattle.rs_packet.specs.Values.{PropertiesValue}
+use Rattle.rs_packet.specs.declared.reply.Accepted.{Accepted}
 use Rattle.rs_packet.specs.declared.reply.Publication.{Publication}
 use Rattle.rs_packet.specs.Grammar.{id_bytes, frame}
-use Rattle.rs_packet.specs.Replies.{optional, user_property, replayed, publication_body}
+use Rattle.rs_packet.specs.Replies.{optional, user_property, replayed, publication_body, expiry_told, client_told, limits_told, accepting, accepted_body}
 use Rattle.rs_packet.specs.Properties.{low_first, varint, spelled, counted}
 
 pub varint_1 : (n : ℕ) → n < 128 → varint n ≡ n ∷ []
@@ -111,3 +112,17 @@ section_small p h = omega (arith, h, length_body p)
 
 pub length_frame : (first : ℕ) (body : List ℕ) → length (frame first body) ≡ 1 + length (varint (length body)) + length body
 length_frame first body = omega (arith, length-append (varint (length body)) body)
+
+-- ---- an accepting CONNACK, by its parts
+
+expiry_told_len : (told : Bool) → length (expiry_told told) ≡ cond told 5 0
+expiry_told_len true = refl
+expiry_told_len false = refl
+
+pub length_accepting : (a : Accepted) → length (accepting a) ≡ cond a.session_expiry_zero 5 0 + length (client_told a.assigned_client) + 12
+length_accepting a =
+    let limits : length limits_told ≡ 12 = refl in
+    omega (arith, limits, expiry_told_len a.session_expiry_zero, length-append (expiry_told a.session_expiry_zero) (client_told a.assigned_client ++ limits_told), length-append (client_told a.assigned_client) limits_told)
+
+pub length_accepted : (a : Accepted) → length (accepted_body a) ≡ 2 + length (varint (length (accepting a))) + length (accepting a)
+length_accepted a = omega (arith, length-append (varint (length (accepting a))) (accepting a))

@@ -4,3 +4,4 @@ pub mod Reading
 pub mod Grammar
 pub mod PacketReading
 pub mod Replies
+pub mod Fronts

@@ -3,11 +3,12 @@ use Rattle.std.specs.Prelude.{◌≡◌, ℕ, ◌+◌, ◌*◌, ◌<◌, ◌^◌
 use Rattle.std.specs.List.{flat_map}
 use Rattle.rs_packet.specs.declared.property.Property.{Property}
 use Rattle.rs_packet.specs.declared.property.Property.TheVariants as property
+use Rattle.rs_packet.specs.declared.reply.Accepted.{Accepted}
 use Rattle.rs_packet.specs.declared.reply.Publication.{Publication}
 use Rattle.rs_packet.specs.declared.reply.Reply.{Reply}
 use Rattle.rs_packet.specs.declared.reply.Reply.TheVariants as reply
 use Rattle.rs_packet.specs.Values.{PropertiesValue, CodesValue}
-use Rattle.rs_packet.specs.Properties.{two, counted, properties, spelled, varint_end}
+use Rattle.rs_packet.specs.Properties.{two, four, varint, counted, properties, spelled, varint_end}
 use Rattle.rs_packet.specs.Grammar.{frame, level, id_bytes, largest}
 
 abbrev pub optional : {A : Type 0} → (A → Property) → Option A → List Property
@@ -23,11 +24,38 @@ replayed expiry p =
     optional property.Format p.format ++ (optional property.Expiry expiry ++ (optional property.ContentTypeIs p.content_type
     ++ (optional property.ResponseTopicIs p.response_topic ++ (optional property.Correlation p.correlation ++ map user_property p.user))))
 
+-- 3.2.2.3.3: what the server takes before it has answered
+abbrev pub receive_maximum : ℕ
+receive_maximum = 16
+
+-- 3.2.2.3.2: an interval of 0, told where the client asked for another
+abbrev pub expiry_told : Bool → List ℕ
+expiry_told false = []
+expiry_told true = 0x11 ∷ four 0
+
+-- 3.2.2.3.7
+abbrev pub client_told : Option (List ℕ) → List ℕ
+client_told None = []
+client_told (Some client) = 0x12 ∷ counted client
+
+-- 3.2.2.3.3, 3.2.2.3.6, 3.2.2.3.12, 3.2.2.3.13: the two maxima; neither subscription identifiers nor shared subscriptions
+abbrev pub limits_told : List ℕ
+limits_told = 0x21 ∷ two receive_maximum ++ (0x27 ∷ four largest ++ (0x29 ∷ 0 ∷ 0x2A ∷ 0 ∷ []))
+
+-- 3.2.2.3: the properties of an accepting CONNACK, in rising order of identifier
+abbrev pub accepting : Accepted → List ℕ
+accepting a = expiry_told a.session_expiry_zero ++ (client_told a.assigned_client ++ limits_told)
+
+-- 3.2.2: no session is present, and the code is 0
+abbrev pub accepted_body : Accepted → List ℕ
+accepted_body a = 0 ∷ 0 ∷ (varint (length (accepting a)) ++ accepting a)
+
 -- 3.4.2.1: a code of 0 is left out
 abbrev pub acknowledging : ℕ → ℕ → List ℕ
 acknowledging id code = if code == 0 then two id else two id ++ code ∷ []
 
 abbrev pub first_byte : Reply → ℕ
+first_byte (reply.Accepted a) = 0x20
 first_byte (reply.Refused code) = 0x20
 first_byte (reply.Publish p) = 0x31 + 2 * level p.qos
 first_byte (reply.Puback id code) = 0x40
@@ -46,6 +74,7 @@ abbrev pub codes_body : CodesValue → List ℕ
 codes_body c = two c.id ++ 0 ∷ c.codes
 
 abbrev pub reply_body : Reply → List ℕ
+reply_body (reply.Accepted a) = accepted_body a
 reply_body (reply.Refused code) = 0 ∷ code ∷ 0 ∷ []
 reply_body (reply.Publish p) = publication_body p
 reply_body (reply.Puback id code) = acknowledging id code

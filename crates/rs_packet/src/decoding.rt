@@ -6,6 +6,9 @@ ghost use Rattle.rs_packet.specs.declared.reply.Reply.{Reply};
 ghost use Rattle.rs_packet.specs.Replies.{SpellsReply};
 ghost use Rattle.rs_packet.specs.Grammar.{IsAtFront, Spells};
 ghost use Rattle.rs_packet.specs.PacketReading.{Gives, id_at, id_for, publish_at, ended, code_at, acknowledgement_at, options_of, asked_at, asked_in, some_asked, subscribe_at, filter_at, filters_in, unsubscribe_at, flags_of, mqtt, version_at, past_text, past_binary, client_at, connect_at, packet_at, body_at, answer};
+ghost use Rattle.rs_packet.specs.declared.fault.PacketFault.{PacketFault};
+ghost use Rattle.rs_packet.specs.declared.fault.PacketFault.TheVariants.{NoMemory};
+ghost use Rattle.rs_packet.specs.Fronts.{IsMore, IsFaulty};
 ghost use Rattle.rs_packet.specs.Reading.{IsEnd};
 ghost use Rattle.std.specs.Str.{bytes_eq};
 
@@ -16,8 +19,8 @@ use crate::packet::{
 };
 use crate::property::{Found, Place, Properties};
 use crate::reading::{Cut, binary_of, byte_of, digits, found_of, text_of, two_of};
-use rs_topic::{Text, TopicFault, TopicFilter, TopicName};
 use bytes::Bytes;
+use rs_topic::{Text, TopicFault, TopicFilter, TopicName};
 use std::alloc::Global;
 
 #[tactic(auto, unfolding(crate::specs::PacketReading::id_at))]
@@ -409,7 +412,7 @@ fn decoded(alloc: Global, bytes: &Bytes) -> Result<Decoded, PacketFault>
 }
 
 /// Does nothing, and says that bytes are below 256.
-fn note_octets(bytes: &[u8])
+pub fn note_octets(bytes: &[u8])
     ensures { (i : ℕ) → slice_index bytes.now i < 256 }
 {}
 
@@ -430,4 +433,13 @@ pub fn decode(alloc: Global, bytes: &Bytes) -> Result<Decoded, PacketFault>
 pub fn wire_law()
     ensures packets { (a b x y : List ℕ) (p q : Packet) → Spells a p → Spells b q → a ++ x ≡ b ++ y → (a ≡ b) × (x ≡ y) }
     ensures replies { (a b x y : List ℕ) (r s : Reply) → SpellsReply a r → SpellsReply b s → a ++ x ≡ b ++ y → (a ≡ b) × (x ≡ y) }
+{}
+
+/// A packet has one spelling, which no fault and no `More` stands for.
+pub fn one_reading()
+    ensures one_spelling { (a b x y : List ℕ) (p q : Packet) → Spells a p → Spells b q → a ++ x ≡ b ++ y → (a ≡ b) × (p ≡ q) }
+    ensures no_fault { (a x : List ℕ) (p : Packet) (f : PacketFault) → Spells a p → IsFaulty (a ++ x) f → f ≡ NoMemory }
+    ensures not_more { (a x : List ℕ) (p : Packet) → Spells a p → IsMore (a ++ x) → ⊥ }
+    // What was called faulty stays so, whatever follows.
+    ensures stays { (f : PacketFault) (bytes more : List ℕ) → IsFaulty bytes f → IsFaulty (bytes ++ more) f }
 {}

@@ -2,8 +2,8 @@
 
 use crate::fault::PacketFault;
 use crate::property::Properties;
-use rs_topic::{Text, TopicFault, TopicFilter, TopicName};
 use bytes::Bytes;
+use rs_topic::{Text, TopicFault, TopicFilter, TopicName};
 use std::marker::Model;
 
 /// A packet identifier, which is not 0.

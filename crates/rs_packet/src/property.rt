@@ -2,8 +2,8 @@
 
 ghost use Rattle.std.specs.Prelude.{◌≡◌, ◌<◌, OnOk};
 
-use rs_topic::Text;
 use bytes::Bytes;
+use rs_topic::Text;
 use std::alloc::{AllocError, Global};
 use std::marker::Model;
 

@@ -7,8 +7,8 @@ ghost use Rattle.rs_packet.specs.Reading.{Gives, GivesNumber, digits_at, varint_
 
 use crate::fault::PacketFault;
 use crate::property::{Found, Identifier, Place, Property};
-use rs_topic::Text;
 use bytes::{Buf, Bytes};
+use rs_topic::Text;
 use std::alloc::Global;
 
 /// Why a number has no form here.

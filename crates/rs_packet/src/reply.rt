@@ -2,9 +2,25 @@
 
 use crate::packet::{PacketId, Qos};
 use crate::property::Properties;
-use rs_topic::TopicName;
 use bytes::Bytes;
+use rs_topic::{Text, TopicName};
 use std::marker::Model;
+
+/// The Receive Maximum of the server (3.2.2.3.3): how many PUBLISH packets of QoS 1 and 2 a client
+/// may leave unanswered.
+pub const RECEIVE_MAXIMUM: u16 = 16;
+
+/// The Maximum Packet Size of the server (3.2.2.3.6), in bytes: no longer packet is read.
+pub const PACKET_MAXIMUM: u32 = 262_144;
+
+/// A CONNACK that accepts (3.2). Session Present is 0, since no session outlives its connection.
+#[derive(Drop)]
+pub struct Accepted {
+    /// The client asked for a Session Expiry Interval that is not 0, and is told 0 (3.2.2.3.2).
+    pub session_expiry_zero: bool,
+    /// The identifier that a client gets which sent an empty one (3.2.2.3.7).
+    pub assigned_client: Option<Text>,
+}
 
 /// A retained message on its way to a subscriber.
 #[derive(Drop)]
@@ -35,6 +51,9 @@ impl Model for Codes {
 /// What the server sends.
 #[derive(Drop)]
 pub enum Reply {
+    /// A CONNACK with the reason code 0x00.
+    Accepted(Accepted),
+    /// A CONNACK with this reason code, which is 0x80 or more.
     Refused(u8),
     Publish(Publication),
     Puback(PacketId, u8),

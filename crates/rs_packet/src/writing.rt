@@ -4,13 +4,13 @@ ghost use Rattle.std.specs.Prelude.{◌≡◌, ◌+◌, ◌*◌, ◌<◌, ◌≤
 ghost use Rattle.std.specs.List.{flat_map};
 ghost use Rattle.rs_packet.specs.Properties.{varint, two, four, counted, spelled, properties};
 ghost use Rattle.rs_packet.specs.Grammar.{frame, id_bytes, level};
-ghost use Rattle.rs_packet.specs.Replies.{codes_body, publication_body, acknowledging, reply_body, reply_bytes, HasSpelling, IsWritable, optional, user_property, replayed};
+ghost use Rattle.rs_packet.specs.Replies.{codes_body, publication_body, acknowledging, reply_body, reply_bytes, HasSpelling, IsWritable, optional, user_property, replayed, expiry_told, client_told, limits_told, accepting, accepted_body};
 
 use crate::packet::PacketId;
 use crate::property::{Properties, Property};
-use crate::reply::{Codes, Publication, Reply};
-use rs_topic::Text;
+use crate::reply::{Accepted, Codes, PACKET_MAXIMUM, Publication, RECEIVE_MAXIMUM, Reply};
 use bytes::Bytes;
+use rs_topic::Text;
 use std::alloc::{AllocError, Global};
 
 #[tactic(auto, unfolding(crate::specs::Properties::low_first))]
@@ -269,6 +269,79 @@ fn put_publication(out: &mut Vec<u8>, p: &Publication) -> Result<(), AllocError>
     Ok(())
 }
 
+fn put_expiry_told(out: &mut Vec<u8>, told: bool) -> Result<(), AllocError>
+    ensures { OnOk result (out.new.items ≡ out.old.items ++ expiry_told told) }
+{
+    if told {
+        out.extend_from_slice(&[0x11, 0, 0, 0, 0])?;
+    }
+    Ok(())
+}
+
+fn put_client_told(out: &mut Vec<u8>, client: &Option<Text>) -> Result<(), AllocError>
+    ensures { OnOk result (out.new.items ≡ out.old.items ++ client_told client.now) }
+{
+    if let Some(client) = client {
+        out.push(0x12)?;
+        put_counted(out, client.as_bytes())?;
+    }
+    Ok(())
+}
+
+fn put_limits_told(out: &mut Vec<u8>) -> Result<(), AllocError>
+    ensures { OnOk result (out.new.items ≡ out.old.items ++ limits_told) }
+{
+    out.push(0x21)?;
+    put_two(out, RECEIVE_MAXIMUM)?;
+    out.push(0x27)?;
+    out.extend_from_slice(&PACKET_MAXIMUM.to_be_bytes())?;
+    out.extend_from_slice(&[0x29, 0, 0x2A, 0])?;
+    Ok(())
+}
+
+fn client_told_len(client: &Option<Text>) -> usize
+    ensures value { result ≡ length (client_told client.now) }
+    ensures small { result < 2 ^ 17 }
+{
+    match client {
+        Some(client) => 3 + client.as_bytes().len(),
+        None => 0,
+    }
+}
+
+/// How many bytes the properties of an accepting CONNACK take.
+#[tactic(auto, using(crate::proofs::WritingLemmas::length_accepting))]
+fn accepting_len(a: &Accepted) -> usize
+    ensures value { result ≡ length (accepting a.now) }
+    ensures small { result < 2 ^ 18 }
+{
+    let expiry = if a.session_expiry_zero { 5 } else { 0 };
+    expiry + client_told_len(&a.assigned_client) + 12
+}
+
+/// How many bytes the body of an accepting CONNACK takes.
+#[tactic(auto, using(crate::proofs::WritingLemmas::length_accepted))]
+fn accepted_len(a: &Accepted) -> usize
+    ensures value { result ≡ length (accepted_body a.now) }
+    ensures small { result < 2 ^ 28 }
+{
+    let section = accepting_len(a);
+    2 + varint_len(section) + section
+}
+
+/// A CONNACK that accepts.
+fn put_accepted(out: &mut Vec<u8>, a: &Accepted) -> Result<(), AllocError>
+    ensures { OnOk result (out.new.items ≡ out.old.items ++ frame 0x20 (accepted_body a.now)) }
+{
+    out.push(0x20)?;
+    put_varint(out, accepted_len(a))?;
+    out.extend_from_slice(&[0, 0])?;
+    put_varint(out, accepting_len(a))?;
+    put_expiry_told(out, a.session_expiry_zero)?;
+    put_client_told(out, &a.assigned_client)?;
+    put_limits_told(out)
+}
+
 /// A packet with a short body.
 fn put_small(out: &mut Vec<u8>, first: u8, body: &[u8]) -> Result<(), AllocError>
     requires { length body.now < 128 }
@@ -304,6 +377,7 @@ fn put(out: &mut Vec<u8>, reply: &Reply) -> Result<(), AllocError>
     ensures { OnOk result (out.new.items ≡ out.old.items ++ reply_bytes reply.now) }
 {
     match reply {
+        Reply::Accepted(a) => put_accepted(out, a)?,
         Reply::Refused(code) => put_small(out, 0x20, &[0, *code, 0])?,
         Reply::Publish(p) => put_publication(out, p)?,
         Reply::Puback(id, code) => put_acknowledgement(out, 0x40, *id, *code)?,
@@ -325,6 +399,7 @@ fn reply_len(reply: &Reply) -> usize
     ensures small { result < 2 ^ 28 }
 {
     match reply {
+        Reply::Accepted(a) => accepted_len(a),
         Reply::Refused(_code) => 3,
         Reply::Publish(p) => body_len(p).0,
         Reply::Puback(_id, code) => acknowledgement_len(*code),

@@ -1,10 +1,11 @@
 //! Texts, topic names and topic filters.
 
-ghost use Rattle.std.specs.Prelude.{◌≡◌, ◌<◌, ◌^◌, length, Some, None, if◌then◌else◌, count_by, ◌==◌};
+ghost use Rattle.std.specs.Prelude.{◌≡◌, ◌<◌, ◌^◌, length, Some, None, if◌then◌else◌, count_by, ◌==◌, IfOk};
 ghost use Rattle.rs_topic.specs.Texts.{reads_as_text};
 ghost use Rattle.rs_topic.specs.Topics.{level_step, scan, slash};
 
 use bytes::Bytes;
+use std::alloc::AllocError;
 use std::marker::Model;
 
 #[tactic(auto, using(crate::proofs::TextLemmas::utf8_test))]
@@ -51,6 +52,15 @@ impl Text {
         } else {
             None
         }
+    }
+
+    /// An equal text, which shares the bytes.
+    pub fn copy(&self) -> Result<Text, AllocError>
+        ensures { IfOk result (λ t. t ≡ self.now) }
+    {
+        Ok(Text {
+            bytes: self.bytes.clone()?,
+        })
     }
 
     pub fn is_empty(&self) -> bool

@@ -1,0 +1,28 @@
+-- What a session knows of the store behind its gate.
+use Rattle.std.specs.Prelude.{◌≡◌, ℕ, ◌+◌, ◌<◌, ◌≤◌, List, ◌++◌, Contains}
+use Rattle.rs_message.specs.declared.entry.Entry.{Entry}
+use Rattle.rs_message.specs.declared.entry.Operation.{Operation}
+
+-- a place, and the last serial that it used
+pub record Mark : Type 0 where
+  pub place : ℕ
+  pub serial : ℕ
+
+-- the list begins with the front
+abbrev pub BeginsWith : List Entry → List Entry → Type 0
+BeginsWith list front = (more : List Entry) × (list ≡ front ++ more)
+
+-- for each list that was stood for there is now one that begins with it, and P holds of the two
+abbrev pub Grows : (List Entry → Type 0) → (List Entry → Type 0) → (List Entry → List Entry → Type 0) → Type 0
+Grows before after P = (seen : List Entry) → before seen → (list : List Entry) × after list × BeginsWith list seen × P seen list
+
+-- the place stays, and at most one serial is used
+pub record Uses (old new : Mark) : Type 0 where
+  pub place : new.place ≡ old.place
+  pub no_lower : old.serial ≤ new.serial
+  pub no_higher : new.serial ≤ old.serial + 1
+
+-- the list has an entry with this operation, under the new mark's serial, which was not used before
+pub record IsSubmitted (operation : Operation) (old new : Mark) (list : List Entry) : Type 0 where
+  pub entry : Contains list (record { origin = record { place = new.place; serial = new.serial }; operation = operation })
+  pub serial : old.serial < new.serial

@@ -1,0 +1,7 @@
+pub mod Values
+pub mod Gate
+pub mod State
+pub mod Reasons
+pub mod Table
+pub mod Steps
+pub mod Run

@@ -1,0 +1,56 @@
+-- A session over a list of inputs.
+use Rattle.std.specs.Prelude.{◌≡◌, ℕ, ◌+◌, Option, Some, None, List, [], ◌∷◌, length}
+use Rattle.rs_packet.specs.declared.reply.Reply.{Reply}
+use Rattle.rs_message.specs.declared.entry.Entry.{Entry}
+use Rattle.rs_session.specs.declared.phase.Input.{Input}
+use Rattle.rs_session.specs.Gate.{Mark, BeginsWith}
+use Rattle.rs_session.specs.State.{State, closing_of, IsGiven}
+use Rattle.rs_session.specs.Table.{Case, Row}
+
+-- where a run stands: the session, the gate's list, and its mark
+pub record Point : Type 0 where
+  pub state : State
+  pub seen : List Entry
+  pub mark : Mark
+
+-- one input at its moment, all that was replied to it, and where the run stands then
+pub record Turn : Type 0 where
+  pub input : Input
+  pub now : ℕ
+  pub replies : List Reply
+  pub to : Point
+
+-- these replies are given one after the other
+abbrev pub Gives : ℕ → Option Reply → State → List Reply → Option Reply → State → Type 0
+Gives now due old [] left new = (left ≡ due) × (new ≡ old)
+Gives now due old (reply ∷ replies) left new = (later : Option Reply) × (mid : State) × IsGiven now due old (Some reply) later mid × Gives now later mid replies left new
+
+-- these, and then none
+pub record Drains (now : ℕ) (due : Option Reply) (old : State) (replies : List Reply) (new : State) : Type 0 where
+  pub left : Option Reply
+  pub last : State
+  pub given : Gives now due old replies left last
+  pub none_left : IsGiven now left last None None new
+
+-- one row of the table in a session that goes on, and then the replies that it leaves due and those that wait
+pub record IsTurn (from : Point) (turn : Turn) : Type 0 where
+  pub goes_on : closing_of from.state.phase ≡ None
+  pub case : Case
+  pub due : Option Reply
+  pub mid : State
+  pub grows : BeginsWith turn.to.seen from.seen
+  pub row : Row case turn.input turn.now from.state from.mark from.seen turn.to.seen turn.to.mark due mid
+  pub drained : Drains turn.now due mid turn.replies turn.to.state
+
+-- one turn after the other
+abbrev pub Run : Point → List Turn → Point → Type 0
+Run from [] to = to ≡ from
+Run from (turn ∷ turns) to = IsTurn from turn × Run turn.to turns to
+
+abbrev pub due_count : Option Reply → ℕ
+due_count None = 0
+due_count (Some reply) = 1
+
+-- how many replies are left at most
+abbrev pub replies_left : Option Reply → State → ℕ
+replies_left due state = due_count due + length state.waiting

@@ -1,0 +1,33 @@
+//! The store as a session sees it.
+
+ghost use Rattle.std.specs.Prelude.{◌≡◌, List, IfOk, OnOk};
+ghost use Rattle.rs_message.specs.declared.entry.Entry.{Entry};
+ghost use Rattle.rs_store.specs.History.{IsAnswer};
+ghost use Rattle.rs_session.specs.Gate.{Mark, Grows, Uses, IsSubmitted};
+
+use rs_message::{Found, Operation, SubmitFault};
+use rs_topic::TopicFilter;
+use std::alloc::AllocError;
+
+/// A session's way to the store, seen by the lists of entries that it may stand for. Each call leaves
+/// a list that begins with the one before: what a session saw or was told stays.
+pub trait Gate {
+    /// The lists that it stands for.
+    ghost stands: { Self → List Entry → Type 0 };
+
+    /// Its place, and the last serial that it used.
+    ghost mark: { Self → Mark };
+
+    /// Hands a change to the store. At `Ok` the list has it as an entry of its own.
+    fn submit(&mut self, operation: Operation) -> Result<(), SubmitFault>
+        ensures list { Grows (stands self.old) (stands self.new)
+            (λ seen list. OnOk result (IsSubmitted operation (mark self.old) (mark self.new) list)) }
+        ensures mark { Uses (mark self.old) (mark self.new) };
+
+    /// The retained messages that a filter matches and that have not expired at this moment, in the
+    /// order of replay. `now` is in seconds.
+    fn answer(&mut self, filter: &TopicFilter, now: u64) -> Result<Vec<Found>, AllocError>
+        ensures list { Grows (stands self.old) (stands self.new)
+            (λ seen list. IfOk result (λ found. IsAnswer list filter.now now found.items)) }
+        ensures mark { mark self.new ≡ mark self.old };
+}

@@ -1,0 +1,12 @@
+//! One client's session over a gate to the store.
+#![tactic(auto)]
+
+mod gate;
+mod phase;
+mod reason;
+mod session;
+mod window;
+
+pub use gate::Gate;
+pub use phase::{Closing, Input, Phase, Step};
+pub use session::Session;

@@ -1,0 +1,40 @@
+//! Where a session stands, and what it is given.
+
+use rs_packet::{Packet, PacketFault};
+
+/// How a session ended.
+#[derive(Clone, Copy, Debug, PartialEq, Eq)]
+pub enum Closing {
+    /// The client sent DISCONNECT.
+    ByClient,
+    /// A CONNACK or a DISCONNECT with this Reason Code was due. It is not sent only where the client's
+    /// Maximum Packet Size forbids it.
+    ByServer(u8),
+    /// The server ended it without a reply.
+    Dropped,
+}
+
+/// Where a session stands.
+#[derive(Clone, Copy, Debug, PartialEq, Eq)]
+pub enum Phase {
+    /// No CONNECT was accepted yet.
+    Before,
+    /// A CONNECT was accepted.
+    Open,
+    /// The session is over.
+    Ended(Closing),
+}
+
+/// Whether a session goes on.
+#[derive(Clone, Copy, Debug, PartialEq, Eq)]
+pub enum Step {
+    Go,
+    End,
+}
+
+/// What a session is given: a packet, or a fault in its place.
+#[derive(Drop)]
+pub enum Input {
+    Whole(Packet),
+    Broken(PacketFault),
+}

@@ -1,0 +1,25 @@
+//! Reason codes: section 2.4.
+
+pub const MALFORMED_PACKET: u8 = 0x81;
+
+pub const PROTOCOL_ERROR: u8 = 0x82;
+
+pub const IMPLEMENTATION_SPECIFIC_ERROR: u8 = 0x83;
+
+pub const UNSUPPORTED_PROTOCOL_VERSION: u8 = 0x84;
+
+pub const BAD_AUTHENTICATION_METHOD: u8 = 0x8C;
+
+pub const TOPIC_FILTER_INVALID: u8 = 0x8F;
+
+pub const TOPIC_NAME_INVALID: u8 = 0x90;
+
+pub const TOPIC_ALIAS_INVALID: u8 = 0x94;
+
+pub const PACKET_TOO_LARGE: u8 = 0x95;
+
+pub const QUOTA_EXCEEDED: u8 = 0x97;
+
+pub const SHARED_SUBSCRIPTIONS_NOT_SUPPORTED: u8 = 0x9E;
+
+pub const SUBSCRIPTION_IDENTIFIERS_NOT_SUPPORTED: u8 = 0xA1;

@@ -1,0 +1,141 @@
+//! The first packet.
+
+ghost use Rattle.std.specs.Prelude.{◌≡◌, ◌≤◌, ℕ, List, None, Some, IfOk};
+ghost use Rattle.rs_message.specs.declared.entry.Entry.{Entry};
+ghost use Rattle.rs_packet.specs.declared.reply.Reply.{Reply};
+ghost use Rattle.rs_session.specs.Gate.{Mark};
+ghost use Rattle.rs_session.specs.State.{state_of, ended, within};
+ghost use Rattle.rs_session.specs.Steps.{IsAccepted};
+ghost use Rattle.rs_session.specs.Table.{Answers, connack, limit_of, is_longer, assigned_for};
+
+use super::Session;
+use crate::gate::Gate;
+use crate::phase::{Closing, Input, Phase};
+use crate::reason;
+use crate::window::{Window, within};
+use rs_packet::{Accepted, Connect, Packet, PacketFault, Reply, encoded_len};
+use rs_topic::Text;
+use std::alloc::AllocError;
+
+impl<G: Gate> Session<G> {
+    /// The first packet, which has to be a CONNECT.
+    pub(super) fn greet(&mut self, packet: Packet)
+        requires due { self.old.due ≡ None }
+        requires before { self.old.phase ≡ Phase.Before }
+        ensures row { (now : ℕ) (mark : Mark) (list : List Entry) → Answers (Input.Whole packet) now (state_of self.old) mark list list mark self.new.due (state_of self.new) }
+        ensures gate { self.new.gate ≡ self.old.gate }
+    {
+        match packet {
+            Packet::Connect(c) => self.connect(c),
+            Packet::Publish(_p) => self.end(Closing::Dropped),
+            Packet::Puback(_a) => self.end(Closing::Dropped),
+            Packet::Pubrec(_a) => self.end(Closing::Dropped),
+            Packet::Pubrel(_a) => self.end(Closing::Dropped),
+            Packet::Pubcomp(_a) => self.end(Closing::Dropped),
+            Packet::Subscribe(_s) => self.end(Closing::Dropped),
+            Packet::Unsubscribe(_u) => self.end(Closing::Dropped),
+            Packet::Pingreq => self.end(Closing::Dropped),
+            Packet::Disconnect(_code) => self.end(Closing::Dropped),
+        }
+    }
+
+    /// A fault in place of the first packet. Only another version of the protocol is answered.
+    pub(super) fn turn_away(&mut self, fault: PacketFault)
+        requires due { self.old.due ≡ None }
+        requires before { self.old.phase ≡ Phase.Before }
+        ensures row { (now : ℕ) (mark : Mark) (list : List Entry) → Answers (Input.Broken fault) now (state_of self.old) mark list list mark self.new.due (state_of self.new) }
+        ensures gate { self.new.gate ≡ self.old.gate }
+    {
+        match fault {
+            PacketFault::Version => {
+                self.due = Some(Reply::Refused(reason::UNSUPPORTED_PROTOCOL_VERSION));
+                self.end(Closing::ByServer(reason::UNSUPPORTED_PROTOCOL_VERSION));
+            }
+            _ => self.end(Closing::Dropped),
+        }
+    }
+
+    fn connect(&mut self, c: Connect)
+        requires due { self.old.due ≡ None }
+        requires before { self.old.phase ≡ Phase.Before }
+        ensures row { (now : ℕ) (mark : Mark) (list : List Entry) → Answers (Input.Whole (Packet.Connect c)) now (state_of self.old) mark list list mark self.new.due (state_of self.new) }
+        ensures gate { self.new.gate ≡ self.old.gate }
+    {
+        let limit = limit_of(c.packet_maximum);
+        if c.method.is_some() {
+            self.refuse(reason::BAD_AUTHENTICATION_METHOD, limit);
+        } else if c.will {
+            self.refuse(reason::IMPLEMENTATION_SPECIFIC_ERROR, limit);
+        } else {
+            match self.connack(&c) {
+                Ok(connack) => self.accept(connack, limit),
+                Err(_) => self.refuse(reason::QUOTA_EXCEEDED, limit),
+            }
+        }
+    }
+
+    /// A CONNACK that refuses, to a client that takes it, and the end.
+    fn refuse(&mut self, code: u8, limit: u32)
+        ensures state { state_of self.new ≡ ended (state_of self.old) (Closing.ByServer code) }
+        ensures due { self.new.due ≡ within limit (Reply.Refused code) }
+        ensures gate { self.new.gate ≡ self.old.gate }
+    {
+        self.due = within(limit, Reply::Refused(code));
+        self.end(Closing::ByServer(code));
+    }
+
+    /// The CONNACK that accepts.
+    fn connack(&self, c: &Connect) -> Result<Reply, AllocError>
+        ensures { IfOk result (λ r. r ≡ connack c.now (state_of self.now)) }
+    {
+        Ok(Reply::Accepted(Accepted {
+            session_expiry_zero: is_longer(c.session_expiry),
+            assigned_client: self.assigned_for(&c.client)?,
+        }))
+    }
+
+    /// The identifier that a client is told which gave an empty one.
+    fn assigned_for(&self, client: &Option<Text>) -> Result<Option<Text>, AllocError>
+        ensures { IfOk result (λ a. a ≡ assigned_for client.now (state_of self.now).assigned) }
+    {
+        match client {
+            Some(client) if client.is_empty() => Ok(Some(self.assigned.copy()?)),
+            _ => Ok(None),
+        }
+    }
+
+    /// The session is open, unless the client would not take the CONNACK.
+    fn accept(&mut self, connack: Reply, limit: u32)
+        requires { self.old.due ≡ None }
+        ensures accepted { IsAccepted connack limit (state_of self.old) self.new.due (state_of self.new) }
+        ensures gate { self.new.gate ≡ self.old.gate }
+    {
+        if encoded_len(&connack) > limit as usize {
+            self.end(Closing::ByServer(0));
+        } else {
+            self.due = Some(connack);
+            self.phase = Phase::Open;
+            self.window = Window::new(self.alloc, limit);
+        }
+    }
+}
+
+/// The longest packet that the client takes, in bytes.
+fn limit_of(packet_maximum: Option<u32>) -> u32
+    ensures { result ≡ limit_of packet_maximum }
+{
+    match packet_maximum {
+        Some(limit) => limit,
+        None => u32::MAX,
+    }
+}
+
+/// The client asked for a session that outlives its connection.
+fn is_longer(session_expiry: Option<u32>) -> bool
+    ensures { result ≡ is_longer session_expiry }
+{
+    match session_expiry {
+        Some(seconds) => seconds > 0,
+        None => false,
+    }
+}

@@ -1,0 +1,121 @@
+//! What waits to be sent to a subscriber.
+
+ghost use Rattle.std.specs.Prelude.{◌≡◌, ℕ, ◌++◌, [], Some, None, OnOk, OnErr, if◌then◌else◌};
+ghost use Rattle.rs_message.specs.Messages.{remaining_of};
+ghost use Rattle.rs_packet.specs.declared.reply.Reply.{Reply};
+ghost use Rattle.rs_session.specs.State.{IsNext, is_sent, interval_sent, publication_at, within};
+
+use rs_message::{Found, Remaining};
+use rs_packet::{Publication, Qos, Reply, encoded_len};
+use std::alloc::{AllocError, Global};
+use std::collections::VecDeque;
+use std::marker::Model;
+
+/// Retained messages in the order in which they were queued. Each is sent at QoS 0.
+#[derive(Drop)]
+pub struct Window {
+    largest: u32,
+    waiting: VecDeque<Found>,
+}
+
+impl Model for Window {
+    ghost use Rattle.rs_session.specs.Values.{WindowValue};
+
+    ghost Value = { WindowValue };
+
+    ghost view = { λ w. record { largest = w.largest; waiting = w.waiting.items } };
+}
+
+/// The reply where the client takes so long a packet.
+pub fn within(limit: u32, reply: Reply) -> Option<Reply>
+    ensures { result ≡ within limit reply }
+{
+    if encoded_len(&reply) <= limit as usize {
+        return Some(reply);
+    }
+    None
+}
+
+impl Window {
+    /// Nothing waits. `largest` is the client's Maximum Packet Size, in bytes.
+    pub fn new(alloc: Global, largest: u32) -> Window
+        ensures { result ≡ record { largest = largest; waiting = [] } }
+    {
+        Window {
+            largest,
+            waiting: VecDeque::new(alloc),
+        }
+    }
+
+    pub fn largest(&self) -> u32
+        ensures { result ≡ self.now.largest }
+    {
+        self.largest
+    }
+
+    pub fn clear(&mut self)
+        ensures { self.new ≡ record self.old { waiting = [] } }
+    {
+        self.waiting.clear();
+    }
+
+    /// Adds the messages behind those that wait: all of them, or none where memory is refused.
+    pub fn queue(&mut self, found: Vec<Found>) -> Result<(), AllocError>
+        ensures queued { OnOk result (self.new ≡ record self.old { waiting = self.old.waiting ++ found.items }) }
+        ensures refused { OnErr result (self.new ≡ self.old) }
+    {
+        let mut found = VecDeque::from_vec(found);
+        self.waiting.append(&mut found)?;
+        Ok(())
+    }
+
+    /// The next PUBLISH at this moment. Messages that have expired, and those whose packet the client
+    /// would not take, are dropped.
+    pub fn next(&mut self, now: u64) -> Option<Reply>
+        ensures next { IsNext self.old.largest now self.old.waiting result self.new.waiting }
+        ensures largest { self.new.largest ≡ self.old.largest }
+    {
+        while let Some(found) = self.waiting.pop_front() {
+            if let Some(reply) = sent(self.largest, found, now) {
+                return Some(reply);
+            }
+        }
+        None
+    }
+}
+
+/// The PUBLISH of a retained message, unless it is dropped.
+fn sent(largest: u32, found: Found, now: u64) -> Option<Reply>
+    ensures { result ≡ (if is_sent largest now found then Some (Reply.Publish (publication_at now found)) else None) }
+{
+    let remaining = found.message.remaining(now);
+    if remaining == Remaining::Expired {
+        return None;
+    }
+    within(largest, publication(found, remaining))
+}
+
+fn seconds(remaining: Remaining) -> Option<u32>
+    ensures { result ≡ interval_sent remaining }
+{
+    match remaining {
+        Remaining::Left(seconds) => Some(seconds),
+        _ => None,
+    }
+}
+
+/// Its PUBLISH, with the time that is left as the interval.
+fn publication(found: Found, remaining: Remaining) -> Reply
+    ensures { (now : ℕ) → remaining ≡ remaining_of found.message now → result ≡ Reply.Publish (publication_at now found) }
+{
+    let Found { topic, message } = found;
+    let (payload, _qos, _received, _expiry, properties) = message.into_parts();
+    Reply::Publish(Publication {
+        topic,
+        qos: Qos::AtMostOnce,
+        id: None,
+        expiry: seconds(remaining),
+        properties,
+        payload,
+    })
+}
