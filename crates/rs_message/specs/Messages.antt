@@ -2,22 +2,17 @@
 use Rattle.std.specs.Prelude.{◌≡◌, ◌≢◌, ℕ, ◌+◌, ◌-◌, ◌<◌, ◌≤◌, Bool, true, false, nat_le, if◌then◌else◌, List, [], ◌∷◌, length, Option, Some, None}
 use Rattle.rs_packet.specs.declared.packet.Qos.{Qos}
 use Rattle.rs_packet.specs.Values.{PropertiesValue}
-use Rattle.rs_packet.specs.Properties.{properties}
-use Rattle.rs_packet.specs.Replies.{replayed}
+use Rattle.rs_packet.specs.Replies.{message_size}
 use Rattle.rs_message.specs.Values.{MessageValue}
 use Rattle.rs_message.specs.declared.message.Remaining.{Remaining}
 use Rattle.rs_message.specs.declared.message.Remaining.TheVariants.{Forever, Left, Expired}
 use Rattle.rs_message.specs.declared.entry.Operation.{Operation}
 use Rattle.rs_message.specs.declared.entry.Operation.TheVariants.{Set, Clear}
 
--- how many bytes a payload and its properties take in a PUBLISH
-abbrev pub kept_len : List ℕ → Option ℕ → PropertiesValue → ℕ
-kept_len payload expiry kept = length payload + length (properties (replayed expiry kept))
-
 -- the payload and the properties of a message that is kept
 pub record IsKept (m : MessageValue) : Type 0 where
   pub some : m.payload ≢ []
-  pub fits : kept_len m.payload m.expiry m.properties ≤ 262144
+  pub fits : message_size m.expiry m.properties m.payload ≤ 262144
 
 -- ---- 3.3.2.3.3: expiry
 

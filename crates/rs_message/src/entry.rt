@@ -1,7 +1,8 @@
 //! The entries of the store's history.
 
 ghost use Rattle.std.specs.Prelude.{◌≡◌, ◌+◌, ◌<◌, ◌≤◌, ◌&&◌, nat_lt, nat_le, if◌then◌else◌, Some, None, length};
-ghost use Rattle.rs_message.specs.Messages.{kept_len, operation_of};
+ghost use Rattle.rs_packet.specs.Replies.{message_size};
+ghost use Rattle.rs_message.specs.Messages.{operation_of};
 
 use crate::message::Message;
 use bytes::Bytes;
@@ -75,7 +76,7 @@ impl Operation {
         expiry: Option<u32>,
         properties: Properties,
     ) -> Option<Operation>
-        requires { kept_len payload expiry properties ≤ 262144 }
+        requires { message_size expiry properties payload ≤ 262144 }
         ensures { result ≡ operation_of retain topic (record { payload = payload; qos = qos; received = received; expiry = expiry; properties = properties }) }
     {
         if !retain {

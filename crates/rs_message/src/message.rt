@@ -1,7 +1,8 @@
 //! Retained messages.
 
 ghost use Rattle.std.specs.Prelude.{◌≡◌, ◌≢◌, ◌≤◌, [], Some};
-ghost use Rattle.rs_message.specs.Messages.{kept_len, left_of, remaining_of, IsKept};
+ghost use Rattle.rs_packet.specs.Replies.{message_size};
+ghost use Rattle.rs_message.specs.Messages.{left_of, remaining_of, IsKept};
 
 use bytes::Bytes;
 use rs_packet::{Properties, Qos};
@@ -62,7 +63,7 @@ impl Message {
         properties: Properties,
     ) -> Message
         requires some { payload ≢ [] }
-        requires fits { kept_len payload expiry properties ≤ 262144 }
+        requires fits { message_size expiry properties payload ≤ 262144 }
         ensures { result ≡ record { payload = payload; qos = qos; received = received; expiry = expiry; properties = properties } }
     {
         Message {

@@ -2,10 +2,10 @@ pub mod Numbers
 pub mod PropertyLoop
 pub mod Fields
 pub mod PropertyLaws
-pub mod AskedLoop
-pub mod FilterLoop
+pub mod ItemLoop
 pub mod PacketLaws
 pub mod AnswerLaws
 pub mod Fronts
 pub mod WritingLemmas
+pub mod Sizes
 pub mod Rows

@@ -29,7 +29,7 @@ use Rattle.rs_packet.specs.Values.{FoundValue, SubscribeValue, UnsubscribeValue,
 use Rattle.rs_packet.specs.Properties.{two, counted, IsShort, AreProperties, properties, gathered, nothing, varint, low_first, spelled}
 use Rattle.rs_packet.specs.Reading.{◌>>=◌, number_at, byte_at, binary_at, text_at, wanting, properties_at, found_at}
 use Rattle.rs_packet.specs.Grammar.{bit, level, handling, IsId, IdFits, id_bytes, publication, SpellsPublish, SpellsCode, SpellsAcknowledgement, options_byte, AreFilters, filter_bytes, asked, SpellsSubscribe, AreTexts, filters_of, SpellsUnsubscribe, protocol, flags_byte, FlagsFit, SpellsIf, SpellsPayload, MethodFits, SpellsConnect}
-use Rattle.rs_packet.specs.PacketReading.{id_at, id_for, publish_at, ended, code_at, acknowledgement_at, qos_of, handling_of, options_of, asked_at, asked_in, some_asked, subscribe_at, filter_at, filters_in, some_filters, unsubscribe_at, mqtt, flags_of, past_text, past_binary, client_at, version_at, connect_at}
+use Rattle.rs_packet.specs.PacketReading.{id_at, id_for, publish_at, ended, code_at, acknowledgement_at, qos_of, handling_of, options_of, asked_at, all_in, some_of, subscribe_at, filter_at, unsubscribe_at, mqtt, flags_of, past_text, past_binary, client_at, version_at, connect_at}
 use Rattle.rs_packet.proofs.Numbers.{bind_ok, ok_is, chosen, guarded}
 use Rattle.rs_packet.proofs.Fields.{IsBytes, IsBytes-rest, Takes, Takes-then, wide16, number_takes, number_again, binary_takes, binary_again, text_takes, text_again}
 use Rattle.rs_packet.proofs.PropertyLaws.{wanted, byte_takes, all_take, all_again}
@@ -286,14 +286,14 @@ unfolding asked_at
 asked_again f rest h =
     ap asked_at (append_assoc (counted f.0) (options_byte f.1 ∷ []) rest) ∙ rw (text_again f.0 (options_byte f.1 ∷ rest) h, options_again f.1) refl
 
-pub all_asked_take : (n : ℕ) (bytes : List ℕ) (all : List Asked) → IsBytes bytes → length bytes ≤ n → asked_in n bytes ≡ Ok all
+pub all_asked_take : (n : ℕ) (bytes : List ℕ) (all : List Asked) → IsBytes bytes → length bytes ≤ n → all_in asked_at n bytes ≡ Ok all
     → (fs : List (List ℕ × Options)) × AreFilters fs × (bytes ≡ flat_map filter_bytes fs) × (all ≡ asked fs)
-unfolding asked_in
+unfolding all_in
 all_asked_take n [] all fits le e = ([], tt, refl, sym (ok_is [] all e))
 all_asked_take zero (b ∷ bytes) all fits le e = absurd (omega (arith, le))
 all_asked_take (suc n) (b ∷ bytes) all fits le e =
-    let a = bind_ok (asked_at (b ∷ bytes)) (λ a. asked_in n a.1 >>= λ more. Ok (a.0 ∷ more)) all e in
-    let m = bind_ok (asked_in n a.0.1) (λ more. Ok (a.0.0 ∷ more)) all a.2 in
+    let a = bind_ok (asked_at (b ∷ bytes)) (λ a. all_in asked_at n a.1 >>= λ more. Ok (a.0 ∷ more)) all e in
+    let m = bind_ok (all_in asked_at n a.0.1) (λ more. Ok (a.0.0 ∷ more)) all a.2 in
     let t = asked_takes (b ∷ bytes) a.0 fits a.1 in
     let shorter : length a.0.1 ≤ n = omega (arith, le, simp length-append at (ap length t.1.parts)) in
     let others = all_asked_take n a.0.1 m.0 t.1.rest_fits shorter m.1 in (
@@ -303,8 +303,8 @@ all_asked_take (suc n) (b ∷ bytes) all fits le e =
       sym (ok_is (a.0.0 ∷ m.0) all m.2) ∙ (ap (λ (x : Asked). x ∷ m.0) t.3 ∙ ap (λ (xs : List Asked). (filter_of t.0.0, t.0.1) ∷ xs) others.3),
     )
 
-pub all_asked_again : (n : ℕ) (fs : List (List ℕ × Options)) → length (flat_map filter_bytes fs) ≤ n → AreFilters fs → asked_in n (flat_map filter_bytes fs) ≡ Ok (asked fs)
-unfolding asked_in
+pub all_asked_again : (n : ℕ) (fs : List (List ℕ × Options)) → length (flat_map filter_bytes fs) ≤ n → AreFilters fs → all_in asked_at n (flat_map filter_bytes fs) ≡ Ok (asked fs)
+unfolding all_in
 all_asked_again n [] le h = refl
 all_asked_again zero (f ∷ fs) le h = absurd (omega (arith, le))
 all_asked_again (suc n) (f ∷ fs) le h =
@@ -315,12 +315,12 @@ all_asked_again (suc n) (f ∷ fs) le h =
 pub subscribe_takes : (body : List ℕ) (s : SubscribeValue) → IsBytes body → subscribe_at body ≡ Ok s → SpellsSubscribe body s
 unfolding subscribe_at
 subscribe_takes body s fits e =
-    let id = bind_ok (id_at body) (λ id. found_at place.Subscribe id.1 >>= λ f. some_asked f.1 >>= λ filters. Ok (record { id = id.0; subscription = f.0.subscription; filters = filters })) s e in
-    let f = bind_ok (found_at place.Subscribe id.0.1) (λ f. some_asked f.1 >>= λ filters. Ok (record { id = id.0.0; subscription = f.0.subscription; filters = filters })) s id.2 in
-    let l = bind_ok (some_asked f.0.1) (λ filters. Ok (record { id = id.0.0; subscription = f.0.0.subscription; filters = filters })) s f.2 in
+    let id = bind_ok (id_at body) (λ id. found_at place.Subscribe id.1 >>= λ f. some_of asked_at f.1 >>= λ filters. Ok (record { id = id.0; subscription = f.0.subscription; filters = filters })) s e in
+    let f = bind_ok (found_at place.Subscribe id.0.1) (λ f. some_of asked_at f.1 >>= λ filters. Ok (record { id = id.0.0; subscription = f.0.subscription; filters = filters })) s id.2 in
+    let l = bind_ok (some_of asked_at f.0.1) (λ filters. Ok (record { id = id.0.0; subscription = f.0.0.subscription; filters = filters })) s f.2 in
     let t = id_takes body id.0 fits id.1 in
     let g = found_takes place.Subscribe id.0.1 f.0 t.0.rest_fits f.1 in
-    let some = tested (eqb (length f.0.1) 0) Protocol (asked_in (length f.0.1) f.0.1) l.0 l.1 in
+    let some = tested (eqb (length f.0.1) 0) Protocol (all_in asked_at (length f.0.1) f.0.1) l.0 l.1 in
     let fs = all_asked_take (length f.0.1) f.0.1 l.0 g.takes.rest_fits (omega arith) some.1 in
     let long : 0 < length f.0.1 = omega (arith, eqb-false _ _ some.0) in
     let count : 0 < length fs.0 = not_none fs.0 f.0.1 fs.2 long in
@@ -368,13 +368,13 @@ filter_again : (t rest : List ℕ) → IsText t → filter_at (counted t ++ rest
 unfolding filter_at
 filter_again t rest h = rw (text_again t rest h) refl
 
-filters_take : (n : ℕ) (bytes : List ℕ) (all : List Filter) → IsBytes bytes → length bytes ≤ n → filters_in n bytes ≡ Ok all → (ts : List (List ℕ)) × AreTexts ts × (bytes ≡ flat_map counted ts) × (all ≡ filters_of ts)
-unfolding filters_in
+filters_take : (n : ℕ) (bytes : List ℕ) (all : List Filter) → IsBytes bytes → length bytes ≤ n → all_in filter_at n bytes ≡ Ok all → (ts : List (List ℕ)) × AreTexts ts × (bytes ≡ flat_map counted ts) × (all ≡ filters_of ts)
+unfolding all_in
 filters_take n [] all fits le e = ([], tt, refl, sym (ok_is [] all e))
 filters_take zero (b ∷ bytes) all fits le e = absurd (omega (arith, le))
 filters_take (suc n) (b ∷ bytes) all fits le e =
-    let a = bind_ok (filter_at (b ∷ bytes)) (λ a. filters_in n a.1 >>= λ more. Ok (a.0 ∷ more)) all e in
-    let m = bind_ok (filters_in n a.0.1) (λ more. Ok (a.0.0 ∷ more)) all a.2 in
+    let a = bind_ok (filter_at (b ∷ bytes)) (λ a. all_in filter_at n a.1 >>= λ more. Ok (a.0 ∷ more)) all e in
+    let m = bind_ok (all_in filter_at n a.0.1) (λ more. Ok (a.0.0 ∷ more)) all a.2 in
     let t = filter_takes (b ∷ bytes) a.0 fits a.1 in
     let shorter : length a.0.1 ≤ n = omega (arith, le, simp length-append at (ap length t.1.parts)) in
     let others = filters_take n a.0.1 m.0 t.1.rest_fits shorter m.1 in (
@@ -384,8 +384,8 @@ filters_take (suc n) (b ∷ bytes) all fits le e =
       sym (ok_is (a.0.0 ∷ m.0) all m.2) ∙ (ap (λ (x : Filter). x ∷ m.0) t.3 ∙ ap (λ (xs : List Filter). filter_of t.0 ∷ xs) others.3),
     )
 
-filters_again : (n : ℕ) (ts : List (List ℕ)) → length (flat_map counted ts) ≤ n → AreTexts ts → filters_in n (flat_map counted ts) ≡ Ok (filters_of ts)
-unfolding filters_in
+filters_again : (n : ℕ) (ts : List (List ℕ)) → length (flat_map counted ts) ≤ n → AreTexts ts → all_in filter_at n (flat_map counted ts) ≡ Ok (filters_of ts)
+unfolding all_in
 filters_again n [] le h = refl
 filters_again zero (t ∷ ts) le h = absurd (omega (arith, le))
 filters_again (suc n) (t ∷ ts) le h =
@@ -396,12 +396,12 @@ filters_again (suc n) (t ∷ ts) le h =
 pub unsubscribe_takes : (body : List ℕ) (u : UnsubscribeValue) → IsBytes body → unsubscribe_at body ≡ Ok u → SpellsUnsubscribe body u
 unfolding unsubscribe_at
 unsubscribe_takes body u fits e =
-    let id = bind_ok (id_at body) (λ id. found_at place.Unsubscribe id.1 >>= λ f. some_filters f.1 >>= λ filters. Ok (record { id = id.0; filters = filters })) u e in
-    let f = bind_ok (found_at place.Unsubscribe id.0.1) (λ f. some_filters f.1 >>= λ filters. Ok (record { id = id.0.0; filters = filters })) u id.2 in
-    let l = bind_ok (some_filters f.0.1) (λ filters. Ok (record { id = id.0.0; filters = filters })) u f.2 in
+    let id = bind_ok (id_at body) (λ id. found_at place.Unsubscribe id.1 >>= λ f. some_of filter_at f.1 >>= λ filters. Ok (record { id = id.0; filters = filters })) u e in
+    let f = bind_ok (found_at place.Unsubscribe id.0.1) (λ f. some_of filter_at f.1 >>= λ filters. Ok (record { id = id.0.0; filters = filters })) u id.2 in
+    let l = bind_ok (some_of filter_at f.0.1) (λ filters. Ok (record { id = id.0.0; filters = filters })) u f.2 in
     let t = id_takes body id.0 fits id.1 in
     let g = found_takes place.Unsubscribe id.0.1 f.0 t.0.rest_fits f.1 in
-    let some = tested (eqb (length f.0.1) 0) Protocol (filters_in (length f.0.1) f.0.1) l.0 l.1 in
+    let some = tested (eqb (length f.0.1) 0) Protocol (all_in filter_at (length f.0.1) f.0.1) l.0 l.1 in
     let ts = filters_take (length f.0.1) f.0.1 l.0 g.takes.rest_fits (omega arith) some.1 in
     let long : 0 < length f.0.1 = omega (arith, eqb-false _ _ some.0) in
     let count : 0 < length ts.0 = not_none ts.0 f.0.1 ts.2 long in

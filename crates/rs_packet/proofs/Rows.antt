@@ -13,7 +13,7 @@ use Rattle.rs_packet.specs.declared.reply.Reply.TheVariants as reply
 use Rattle.rs_topic.specs.Topics.{name_of, filter_of, levels}
 use Rattle.rs_packet.specs.Properties.{varint, low_first, gathered, spelled}
 use Rattle.rs_packet.specs.Reading.{◌>>=◌, digits_at, varint_at, binary_at, text_at, identifier_of, value_at, property_at, properties_in, properties_at, found_at}
-use Rattle.rs_packet.specs.PacketReading.{kind_of, id_at, publish_at, code_at, acknowledgement_at, options_of, asked_at, asked_in, subscribe_at, packet_at, answer, connect_at, version_at, flags_of, client_at}
+use Rattle.rs_packet.specs.PacketReading.{kind_of, id_at, publish_at, code_at, acknowledgement_at, options_of, asked_at, all_in, subscribe_at, packet_at, answer, connect_at, version_at, flags_of, client_at}
 use Rattle.rs_packet.specs.Replies.{reply_bytes}
 
 -- no byte, and the front of a packet
@@ -86,7 +86,7 @@ unfolding answer kind_of digits_at packet_at subscribe_at found_at id_at varint_
 no_filter = refl
 
 bad_options : (answer (0x82 ∷ 7 ∷ 0 ∷ 1 ∷ 0 ∷ 0 ∷ 1 ∷ 97 ∷ 0x03 ∷ []) ≡ Err Protocol) × (answer (0x82 ∷ 7 ∷ 0 ∷ 1 ∷ 0 ∷ 0 ∷ 1 ∷ 97 ∷ 0x30 ∷ []) ≡ Err Protocol) × (answer (0x82 ∷ 7 ∷ 0 ∷ 1 ∷ 0 ∷ 0 ∷ 1 ∷ 97 ∷ 0x40 ∷ []) ≡ Err Malformed)
-unfolding answer kind_of digits_at packet_at subscribe_at found_at id_at varint_at properties_at properties_in gathered text_at binary_at asked_in asked_at options_of is_utf8 chars encode
+unfolding answer kind_of digits_at packet_at subscribe_at found_at id_at varint_at properties_at properties_in gathered text_at binary_at all_in asked_at options_of is_utf8 chars encode
 bad_options = (refl, refl, refl)
 
 -- the filter a/#
@@ -95,7 +95,7 @@ subscribe_row : answer (0x82 ∷ 9 ∷ 0 ∷ 1 ∷ 0 ∷ 0 ∷ 3 ∷ 97 ∷ 47 �
   subscription = None;
   filters = (Ok (97 ∷ 47 ∷ 35 ∷ []), record { qos = AtMostOnce; no_local = false; retain_as_published = false; retain_handling = Always }) ∷ [];
 })) 11)
-unfolding answer kind_of digits_at packet_at subscribe_at found_at id_at varint_at properties_at properties_in gathered text_at binary_at asked_in asked_at options_of filter_of is_utf8 chars encode
+unfolding answer kind_of digits_at packet_at subscribe_at found_at id_at varint_at properties_at properties_in gathered text_at binary_at all_in asked_at options_of filter_of is_utf8 chars encode
 subscribe_row = refl
 
 -- the codes 8F 8F 8F 9E; an interval of 1

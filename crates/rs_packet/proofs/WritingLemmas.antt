@@ -10,10 +10,11 @@ use Rattle.std.proofs.lemmas.List.{append_assoc, append-nil, length-append, map-
 use Rattle.std.proofs.lemmas.List.Concat.{flat_map-append}
 use Rattle.rs_packet.specs.declared.property.Property.TheVariants as property
 use Rattle.rs_packet.specs.Values.{PropertiesValue}
+use Rattle.rs_packet.specs.declared.packet.Qos.{Qos}
 use Rattle.rs_packet.specs.declared.reply.Accepted.{Accepted}
 use Rattle.rs_packet.specs.declared.reply.Publication.{Publication}
 use Rattle.rs_packet.specs.Grammar.{id_bytes, frame}
-use Rattle.rs_packet.specs.Replies.{optional, user_property, replayed, publication_body, expiry_told, client_told, limits_told, accepting, accepted_body}
+use Rattle.rs_packet.specs.Replies.{optional, user_property, replayed, message_size, publication_body, expiry_told, client_told, limits_told, accepting, accepted_body}
 use Rattle.rs_packet.specs.Properties.{low_first, varint, spelled, counted}
 
 pub varint_1 : (n : ℕ) → n < 128 → varint n ≡ n ∷ []
@@ -106,6 +107,18 @@ length_body p =
       length-append (varint (length section) ++ section) p.payload,
       length-append (varint (length section)) section,
     )
+
+-- a message of a packet's size has a PUBLISH
+pub publication_small : (topic : List ℕ) (qos : Qos) (id expiry : Option ℕ) (kept : PropertiesValue) (payload : List ℕ) → length topic < 2 ^ 16 → message_size expiry kept payload ≤ 262144
+    → length (publication_body (record { topic = topic; qos = qos; id = id; expiry = expiry; properties = kept; payload = payload })) < 268435456
+publication_small topic qos id expiry kept payload lt le =
+    let section = flat_map spelled (replayed expiry kept) in
+    let body = length_body (record { topic = topic; qos = qos; id = id; expiry = expiry; properties = kept; payload = payload }) in
+    omega (arith, lt, le, body, length-append (varint (length section)) section, few (is_some id))
+  where
+    few : (b : Bool) → cond b 2 0 ≤ 2
+    few true = omega arith
+    few false = omega arith
 
 pub section_small : (p : Publication) → length (publication_body p) < 2 ^ 28 → length (flat_map spelled (replayed p.expiry p.properties)) < 2 ^ 28
 section_small p h = omega (arith, h, length_body p)

@@ -5,3 +5,4 @@ pub mod Grammar
 pub mod PacketReading
 pub mod Replies
 pub mod Fronts
+pub mod Bounds

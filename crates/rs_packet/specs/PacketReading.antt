@@ -108,46 +108,34 @@ asked_at bytes = do
   o ← options_of b.0
   Ok ((filter_of t.0, o), b.1)
 
--- all of the bytes, of which there are at most n
-unfoldable pub asked_in : ℕ → List ℕ → Result (List Asked) PacketFault
-asked_in n [] = Ok []
-asked_in zero (b ∷ bytes) = Ok []
-asked_in (suc n) (b ∷ bytes) = do
-  a ← asked_at (b ∷ bytes)
-  more ← asked_in n a.1
+-- one after another until no byte is left, of which there are at most n
+unfoldable pub all_in : {A : Type 0} → (List ℕ → Result (A × List ℕ) PacketFault) → ℕ → List ℕ → Result (List A) PacketFault
+all_in read n [] = Ok []
+all_in read zero (b ∷ bytes) = Ok []
+all_in read (suc n) (b ∷ bytes) = do
+  a ← read (b ∷ bytes)
+  more ← all_in read n a.1
   Ok (a.0 ∷ more)
 
--- one at least
-abbrev pub some_asked : List ℕ → Result (List Asked) PacketFault
-some_asked bytes = if length bytes == 0 then Err Protocol else asked_in (length bytes) bytes
+-- 3.8.3, 3.10.3: one filter at least
+abbrev pub some_of : {A : Type 0} → (List ℕ → Result (A × List ℕ) PacketFault) → List ℕ → Result (List A) PacketFault
+some_of read bytes = if length bytes == 0 then Err Protocol else all_in read (length bytes) bytes
 
 unfoldable pub subscribe_at : List ℕ → Result SubscribeValue PacketFault
 subscribe_at body = do
   id ← id_at body
   f ← found_at place.Subscribe id.1
-  filters ← some_asked f.1
+  filters ← some_of asked_at f.1
   Ok (record { id = id.0; subscription = f.0.subscription; filters = filters })
 
 unfoldable pub filter_at : List ℕ → Result (Filter × List ℕ) PacketFault
 filter_at bytes = text_at bytes >>= λ t. Ok (filter_of t.0, t.1)
 
--- filters with no options, all of the bytes, of which there are at most n
-unfoldable pub filters_in : ℕ → List ℕ → Result (List Filter) PacketFault
-filters_in n [] = Ok []
-filters_in zero (b ∷ bytes) = Ok []
-filters_in (suc n) (b ∷ bytes) = do
-  a ← filter_at (b ∷ bytes)
-  more ← filters_in n a.1
-  Ok (a.0 ∷ more)
-
-abbrev pub some_filters : List ℕ → Result (List Filter) PacketFault
-some_filters bytes = if length bytes == 0 then Err Protocol else filters_in (length bytes) bytes
-
 unfoldable pub unsubscribe_at : List ℕ → Result UnsubscribeValue PacketFault
 unsubscribe_at body = do
   id ← id_at body
   f ← found_at place.Unsubscribe id.1
-  filters ← some_filters f.1
+  filters ← some_of filter_at f.1
   Ok (record { id = id.0; filters = filters })
 
 -- "MQTT"

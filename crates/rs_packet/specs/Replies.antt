@@ -24,6 +24,10 @@ replayed expiry p =
     optional property.Format p.format ++ (optional property.Expiry expiry ++ (optional property.ContentTypeIs p.content_type
     ++ (optional property.ResponseTopicIs p.response_topic ++ (optional property.Correlation p.correlation ++ map user_property p.user))))
 
+-- how many bytes a payload and its properties take in a PUBLISH
+abbrev pub message_size : Option ℕ → PropertiesValue → List ℕ → ℕ
+message_size expiry kept payload = length payload + length (properties (replayed expiry kept))
+
 -- 3.2.2.3.3: what the server takes before it has answered
 abbrev pub receive_maximum : ℕ
 receive_maximum = 16
@@ -97,8 +101,3 @@ HasSpelling r = length (reply_body r) < varint_end
 pub record SpellsReply (bytes : List ℕ) (r : Reply) : Type 0 where
   pub fields : bytes ≡ reply_bytes r
   pub small : HasSpelling r
-
--- correlation data are a binary
-abbrev pub IsWritable : Reply → Type 0
-IsWritable (reply.Publish p) = IfSome p.properties.correlation (λ b. length b < 2 ^ 16)
-IsWritable _ = Unit {0}

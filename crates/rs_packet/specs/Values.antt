@@ -1,4 +1,4 @@
--- What contracts see of the types that hold vectors: the same fields, with lists.
+-- What contracts see of the types that hold vectors or keep a bound: the same fields, with lists.
 use Rattle.std.specs.Prelude.{ℕ, List, Bool, Option, Result}
 use Rattle.rs_topic.specs.declared.text.TopicFault.{TopicFault}
 use Rattle.rs_packet.specs.declared.packet.Qos.{Qos}
@@ -25,6 +25,35 @@ pub record PropertiesValue : Type 0 where
   pub response_topic : Option (List ℕ)
   pub correlation : Option (List ℕ)
   pub user : List (List ℕ × List ℕ)
+
+pub record PublishValue : Type 0 where
+  pub duplicate : Bool
+  pub qos : Qos
+  pub retain : Bool
+  pub topic : Result (List ℕ) TopicFault
+  pub id : Option ℕ
+  pub expiry : Option ℕ
+  pub alias : Option ℕ
+  pub properties : PropertiesValue
+  pub payload : List ℕ
+
+pub record ConnectValue : Type 0 where
+  pub clean_start : Bool
+  pub will : Bool
+  pub keep_alive : ℕ
+  pub session_expiry : Option ℕ
+  pub method : Option (List ℕ)
+  pub receive_maximum : Option ℕ
+  pub packet_maximum : Option ℕ
+  pub client : Option (List ℕ)
+
+pub record PublicationValue : Type 0 where
+  pub topic : List ℕ
+  pub qos : Qos
+  pub id : Option ℕ
+  pub expiry : Option ℕ
+  pub properties : PropertiesValue
+  pub payload : List ℕ
 
 -- a filter, or its fault
 abbrev pub Filter : Type 0

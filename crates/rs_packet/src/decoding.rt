@@ -4,8 +4,8 @@ ghost use Rattle.std.specs.Prelude.{◌≡◌, ◌<◌, ◌≤◌, ◌-◌, ◌^
 ghost use Rattle.rs_packet.specs.declared.packet.Packet.{Packet};
 ghost use Rattle.rs_packet.specs.declared.reply.Reply.{Reply};
 ghost use Rattle.rs_packet.specs.Replies.{SpellsReply};
-ghost use Rattle.rs_packet.specs.Grammar.{IsAtFront, Spells};
-ghost use Rattle.rs_packet.specs.PacketReading.{Gives, id_at, id_for, publish_at, ended, code_at, acknowledgement_at, options_of, asked_at, asked_in, some_asked, subscribe_at, filter_at, filters_in, unsubscribe_at, flags_of, mqtt, version_at, past_text, past_binary, client_at, connect_at, packet_at, body_at, answer};
+ghost use Rattle.rs_packet.specs.Grammar.{IdFits, IsAtFront, Spells};
+ghost use Rattle.rs_packet.specs.PacketReading.{Gives, id_at, id_for, publish_at, ended, code_at, acknowledgement_at, options_of, asked_at, all_in, some_of, subscribe_at, filter_at, unsubscribe_at, flags_of, mqtt, version_at, past_text, past_binary, client_at, connect_at, packet_at, body_at, answer};
 ghost use Rattle.rs_packet.specs.declared.fault.PacketFault.{PacketFault};
 ghost use Rattle.rs_packet.specs.declared.fault.PacketFault.TheVariants.{NoMemory};
 ghost use Rattle.rs_packet.specs.Fronts.{IsMore, IsFaulty};
@@ -18,7 +18,7 @@ use crate::packet::{
     RetainHandling, Subscribe, Unsubscribe,
 };
 use crate::property::{Found, Place, Properties};
-use crate::reading::{Cut, binary_of, byte_of, digits, found_of, text_of, two_of};
+use crate::reading::{Cut, binary_of, byte_of, digits, found_of, note_octets, text_of, two_of};
 use bytes::Bytes;
 use rs_topic::{Text, TopicFault, TopicFilter, TopicName};
 use std::alloc::Global;
@@ -26,6 +26,7 @@ use std::alloc::Global;
 #[tactic(auto, unfolding(crate::specs::PacketReading::id_at))]
 fn id_of(rest: &mut Bytes) -> Result<PacketId, PacketFault>
     ensures read { Gives (λ n. (n, rest.new)) result (id_at rest.old) }
+    ensures shorter { length rest.new ≤ length rest.old }
 {
     let number = two_of(rest)?;
     match PacketId::new(number) {
@@ -36,6 +37,8 @@ fn id_of(rest: &mut Bytes) -> Result<PacketId, PacketFault>
 
 fn id_if(rest: &mut Bytes, qos: Qos) -> Result<Option<PacketId>, PacketFault>
     ensures read { Gives (λ n. (n, rest.new)) result (id_for qos rest.old) }
+    ensures fits { IfOk result (λ id. IdFits qos id) }
+    ensures shorter { length rest.new ≤ length rest.old }
 {
     match qos {
         Qos::AtMostOnce => Ok(None),
@@ -52,6 +55,7 @@ fn publish_of(
     qos: Qos,
     retain: bool,
 ) -> Result<Publish, PacketFault>
+    requires { length body ≤ 262144 }
     ensures { Gives (λ p. p) result (publish_at duplicate qos retain body) }
 {
     let mut rest = body;
@@ -158,7 +162,9 @@ fn all_asked(
     alloc: Global,
     body: Bytes,
 ) -> Result<Vec<(Result<TopicFilter, TopicFault>, Options)>, PacketFault>
-    ensures { Gives (λ v. v.items) result (asked_in (length body) body) }
+    ensures read { Gives (λ v. v.items) result (all_in asked_at (length body) body) }
+    ensures few { IfOk result (λ v. length v.items ≤ length body) }
+    ensures some { IfOk result (λ v. 0 < length body → 0 < length v.items) }
 {
     let mut all = Vec::new(alloc);
     let mut rest = body;
@@ -171,6 +177,7 @@ fn all_asked(
 
 #[tactic(auto, unfolding(crate::specs::PacketReading::subscribe_at))]
 fn subscribe_of(alloc: Global, body: Bytes) -> Result<Subscribe, PacketFault>
+    requires { length body ≤ 262144 }
     ensures { Gives (λ s. s) result (subscribe_at body) }
 {
     let mut rest = body;
@@ -201,7 +208,9 @@ fn all_filters(
     alloc: Global,
     body: Bytes,
 ) -> Result<Vec<Result<TopicFilter, TopicFault>>, PacketFault>
-    ensures { Gives (λ v. v.items) result (filters_in (length body) body) }
+    ensures read { Gives (λ v. v.items) result (all_in filter_at (length body) body) }
+    ensures few { IfOk result (λ v. length v.items ≤ length body) }
+    ensures some { IfOk result (λ v. 0 < length body → 0 < length v.items) }
 {
     let mut all = Vec::new(alloc);
     let mut rest = body;
@@ -214,6 +223,7 @@ fn all_filters(
 
 #[tactic(auto, unfolding(crate::specs::PacketReading::unsubscribe_at))]
 fn unsubscribe_of(alloc: Global, body: Bytes) -> Result<Unsubscribe, PacketFault>
+    requires { length body ≤ 262144 }
     ensures { Gives (λ u. u) result (unsubscribe_at body) }
 {
     let mut rest = body;
@@ -346,6 +356,7 @@ fn connect_of(alloc: Global, body: Bytes) -> Result<Connect, PacketFault>
 
 #[tactic(auto, unfolding(crate::specs::PacketReading::packet_at))]
 fn packet_of(alloc: Global, kind: Kind, body: Bytes) -> Result<Packet, PacketFault>
+    requires { length body ≤ 262144 }
     ensures { Gives (λ p. p) result (packet_at kind body) }
 {
     match kind {
@@ -410,11 +421,6 @@ fn decoded(alloc: Global, bytes: &Bytes) -> Result<Decoded, PacketFault>
         Err(Cut::Bad) => Err(PacketFault::Malformed),
     }
 }
-
-/// Does nothing, and says that bytes are below 256.
-pub fn note_octets(bytes: &[u8])
-    ensures { (i : ℕ) → slice_index bytes.now i < 256 }
-{}
 
 /// The packet at the front of the bytes.
 pub fn decode(alloc: Global, bytes: &Bytes) -> Result<Decoded, PacketFault>

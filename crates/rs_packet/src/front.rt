@@ -6,9 +6,8 @@ ghost use Rattle.rs_packet.specs.declared.packet.Decoded.{Decoded};
 ghost use Rattle.rs_packet.specs.PacketReading.{answer};
 ghost use Rattle.rs_packet.specs.Fronts.{IsMore};
 
-use crate::decoding::note_octets;
 use crate::packet::Kind;
-use crate::reading::{Cut, digits};
+use crate::reading::{Cut, digits, note_octets};
 
 /// How many bytes to hold before decoding the packet at the front, by its first five bytes at most
 /// (2.1.1, 2.1.4): the size of the packet once its length is there, one more than are held until

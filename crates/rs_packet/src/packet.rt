@@ -149,6 +149,38 @@ pub struct Publish {
     pub payload: Bytes,
 }
 
+impl Model for Publish {
+    ghost use Rattle.rs_packet.specs.Values.{PublishValue};
+
+    ghost Value = { PublishValue };
+
+    ghost use Rattle.rs_packet.specs.Bounds.{IsPublish};
+
+    ghost view = { λ p. record {
+      duplicate = p.duplicate;
+      qos = p.qos;
+      retain = p.retain;
+      topic = p.topic;
+      id = p.id;
+      expiry = p.expiry;
+      alias = p.alias;
+      properties = p.properties;
+      payload = p.payload;
+    } };
+
+    ghost invariant = { λ p. IsPublish (record {
+      duplicate = p.duplicate;
+      qos = p.qos;
+      retain = p.retain;
+      topic = p.topic;
+      id = p.id;
+      expiry = p.expiry;
+      alias = p.alias;
+      properties = p.properties;
+      payload = p.payload;
+    }) };
+}
+
 /// A PUBACK, PUBREC, PUBREL or PUBCOMP.
 #[derive(Clone, Copy)]
 pub struct Acknowledgement {
@@ -168,7 +200,11 @@ impl Model for Subscribe {
 
     ghost Value = { SubscribeValue };
 
+    ghost use Rattle.rs_packet.specs.Bounds.{IsSubscribe};
+
     ghost view = { λ s. record { id = s.id; subscription = s.subscription; filters = s.filters.items } };
+
+    ghost invariant = { λ s. IsSubscribe (record { id = s.id; subscription = s.subscription; filters = s.filters.items }) };
 }
 
 #[derive(Drop)]
@@ -182,7 +218,11 @@ impl Model for Unsubscribe {
 
     ghost Value = { UnsubscribeValue };
 
-    ghost view = { λ s. record { id = s.id; filters = s.filters.items } };
+    ghost use Rattle.rs_packet.specs.Bounds.{IsUnsubscribe};
+
+    ghost view = { λ u. record { id = u.id; filters = u.filters.items } };
+
+    ghost invariant = { λ u. IsUnsubscribe (record { id = u.id; filters = u.filters.items }) };
 }
 
 /// The flags of a CONNECT.
@@ -208,6 +248,36 @@ pub struct Connect {
     pub packet_maximum: Option<u32>,
     /// None where the Will flag ends the reading before it.
     pub client: Option<Text>,
+}
+
+impl Model for Connect {
+    ghost use Rattle.rs_packet.specs.Values.{ConnectValue};
+
+    ghost Value = { ConnectValue };
+
+    ghost use Rattle.rs_packet.specs.Bounds.{IsConnect};
+
+    ghost view = { λ c. record {
+      clean_start = c.clean_start;
+      will = c.will;
+      keep_alive = c.keep_alive;
+      session_expiry = c.session_expiry;
+      method = c.method;
+      receive_maximum = c.receive_maximum;
+      packet_maximum = c.packet_maximum;
+      client = c.client;
+    } };
+
+    ghost invariant = { λ c. IsConnect (record {
+      clean_start = c.clean_start;
+      will = c.will;
+      keep_alive = c.keep_alive;
+      session_expiry = c.session_expiry;
+      method = c.method;
+      receive_maximum = c.receive_maximum;
+      packet_maximum = c.packet_maximum;
+      client = c.client;
+    }) };
 }
 
 /// What a client sends.

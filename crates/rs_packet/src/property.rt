@@ -118,6 +118,8 @@ impl Model for Properties {
 
     ghost Value = { PropertiesValue };
 
+    ghost use Rattle.rs_packet.specs.Bounds.{AreKept};
+
     ghost view = { λ p. record {
       format = p.format;
       content_type = p.content_type;
@@ -125,6 +127,14 @@ impl Model for Properties {
       correlation = p.correlation;
       user = p.user.items;
     } };
+
+    ghost invariant = { λ p. AreKept (record {
+      format = p.format;
+      content_type = p.content_type;
+      response_topic = p.response_topic;
+      correlation = p.correlation;
+      user = p.user.items;
+    }) };
 }
 
 impl Identifier {

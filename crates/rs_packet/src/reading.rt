@@ -1,7 +1,10 @@
 //! Reading fields from the front of some bytes.
 
-ghost use Rattle.std.specs.Prelude.{◌≡◌, ◌<◌, ◌≤◌, ◌^◌, length, IfOk, OnOk, OnErr, Option, false, Bool};
-ghost use Rattle.rs_packet.specs.Properties.{nothing, none_yet};
+ghost use Rattle.std.specs.Prelude.{◌≡◌, ◌<◌, ◌≤◌, ◌+◌, ◌^◌, ℕ, length, slice_index, IfOk, OnOk, OnErr, Option, false, Bool};
+ghost use Rattle.rs_packet.specs.Properties.{nothing, none_yet, properties};
+ghost use Rattle.rs_packet.specs.Grammar.{kept};
+ghost use Rattle.rs_packet.specs.Replies.{replayed};
+ghost use Rattle.rs_packet.specs.Bounds.{IsFound};
 ghost use Rattle.std.specs.Int.{w16, w32};
 ghost use Rattle.rs_packet.specs.Reading.{Gives, GivesNumber, digits_at, varint_at, byte_at, number_at, part_at, binary_at, text_at, judged, value_at, property_at, properties_in, gather_on, found_at};
 
@@ -284,12 +287,27 @@ fn found_in(alloc: Global, section: Bytes, place: Place) -> Result<Found, Packet
     Ok(found)
 }
 
-/// What the properties at the front say.
+/// Does nothing, and says that bytes are below 256.
+pub fn note_octets(bytes: &[u8])
+    ensures { (i : ℕ) → slice_index bytes.now i < 256 }
+{}
+
 #[tactic(auto, unfolding(crate::specs::Reading::found_at, crate::specs::Reading::properties_at))]
-pub fn found_of(alloc: Global, rest: &mut Bytes, place: Place) -> Result<Found, PacketFault>
+fn section_of(alloc: Global, rest: &mut Bytes, place: Place) -> Result<Found, PacketFault>
     ensures { Gives (λ f. (f, rest.new)) result (found_at place rest.old) }
 {
     let len = varint_of(rest)?;
     let section = part_of(rest, len as usize)?;
     found_in(alloc, section, place)
+}
+
+/// What the properties at the front say.
+pub fn found_of(alloc: Global, rest: &mut Bytes, place: Place) -> Result<Found, PacketFault>
+    ensures read { Gives (λ f. (f, rest.new)) result (found_at place rest.old) }
+    ensures fits { IfOk result (λ f. IsFound f) }
+    // What a message keeps of them takes no more bytes than they do.
+    ensures size { IfOk result (λ f. length (properties (replayed f.expiry (kept f))) + length rest.new ≤ length rest.old) }
+{
+    note_octets(rest.as_slice());
+    section_of(alloc, rest, place)
 }

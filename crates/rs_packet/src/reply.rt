@@ -33,6 +33,65 @@ pub struct Publication {
     pub payload: Bytes,
 }
 
+impl Model for Publication {
+    ghost use Rattle.rs_packet.specs.Values.{PublicationValue};
+
+    ghost Value = { PublicationValue };
+
+    ghost use Rattle.rs_packet.specs.Bounds.{IsPublication};
+
+    ghost view = { λ p. record {
+      topic = p.topic;
+      qos = p.qos;
+      id = p.id;
+      expiry = p.expiry;
+      properties = p.properties;
+      payload = p.payload;
+    } };
+
+    ghost invariant = { λ p. IsPublication (record {
+      topic = p.topic;
+      qos = p.qos;
+      id = p.id;
+      expiry = p.expiry;
+      properties = p.properties;
+      payload = p.payload;
+    }) };
+}
+
+impl Publication {
+    ghost use Rattle.std.specs.Prelude.{◌≡◌, ◌≤◌, ◌+◌, length};
+    ghost use Rattle.rs_packet.specs.Values.{PublicationValue};
+    ghost use Rattle.rs_packet.specs.Grammar.{IdFits};
+    ghost use Rattle.rs_packet.specs.Replies.{message_size};
+
+    /// A PUBLISH (3.3) with an identifier where QoS is 1 or 2, whose payload and properties take at
+    /// most 262,144 bytes.
+    #[tactic(auto, using(crate::proofs::WritingLemmas::publication_small))]
+    pub fn new(
+        topic: TopicName,
+        qos: Qos,
+        id: Option<PacketId>,
+        expiry: Option<u32>,
+        properties: Properties,
+        payload: Bytes,
+    ) -> Publication
+        requires id_fits { IdFits qos id }
+        requires message_fits { message_size expiry properties payload ≤ 262144 }
+        ensures { result ≡ record { topic = topic; qos = qos; id = id; expiry = expiry; properties = properties; payload = payload } }
+    {
+        let _topic = topic.as_bytes();
+        Publication {
+            topic,
+            qos,
+            id,
+            expiry,
+            properties,
+            payload,
+        }
+    }
+}
+
 /// One code for each filter.
 #[derive(Drop)]
 pub struct Codes {
@@ -45,7 +104,24 @@ impl Model for Codes {
 
     ghost Value = { CodesValue };
 
+    ghost use Rattle.rs_packet.specs.Bounds.{AreCodes};
+
     ghost view = { λ c. record { id = c.id; codes = c.codes.items } };
+
+    ghost invariant = { λ c. AreCodes (record { id = c.id; codes = c.codes.items }) };
+}
+
+impl Codes {
+    ghost use Rattle.std.specs.Prelude.{◌≡◌, ◌≤◌, length};
+    ghost use Rattle.rs_packet.specs.Values.{CodesValue};
+
+    /// A SUBACK (3.9) or an UNSUBACK (3.11) with at most 262,144 codes.
+    pub fn new(id: PacketId, codes: Vec<u8>) -> Codes
+        requires { length codes.items ≤ 262144 }
+        ensures { result ≡ record { id = id; codes = codes.items } }
+    {
+        Codes { id, codes }
+    }
 }
 
 /// What the server sends.

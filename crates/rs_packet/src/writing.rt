@@ -4,7 +4,7 @@ ghost use Rattle.std.specs.Prelude.{◌≡◌, ◌+◌, ◌*◌, ◌<◌, ◌≤
 ghost use Rattle.std.specs.List.{flat_map};
 ghost use Rattle.rs_packet.specs.Properties.{varint, two, four, counted, spelled, properties};
 ghost use Rattle.rs_packet.specs.Grammar.{frame, id_bytes, level};
-ghost use Rattle.rs_packet.specs.Replies.{codes_body, publication_body, acknowledging, reply_body, reply_bytes, HasSpelling, IsWritable, optional, user_property, replayed, expiry_told, client_told, limits_told, accepting, accepted_body};
+ghost use Rattle.rs_packet.specs.Replies.{codes_body, publication_body, acknowledging, reply_body, reply_bytes, HasSpelling, SpellsReply, optional, user_property, replayed, expiry_told, client_told, limits_told, accepting, accepted_body};
 
 use crate::packet::PacketId;
 use crate::property::{Properties, Property};
@@ -74,7 +74,6 @@ fn put_counted(out: &mut Vec<u8>, bytes: &[u8]) -> Result<(), AllocError>
 
 /// A SUBACK or an UNSUBACK.
 fn put_codes(out: &mut Vec<u8>, first: u8, codes: &Codes) -> Result<(), AllocError>
-    requires { length (codes_body codes.now) < 2 ^ 28 }
     ensures { OnOk result (out.new.items ≡ out.old.items ++ frame first (codes_body codes.now)) }
 {
     out.push(first)?;
@@ -155,7 +154,6 @@ fn put_user(out: &mut Vec<u8>, user: &[(Text, Text)]) -> Result<(), AllocError>
 
 #[tactic(auto, using(crate::proofs::WritingLemmas::replayed_parts))]
 fn put_section(out: &mut Vec<u8>, expiry: Option<u32>, kept: &Properties) -> Result<(), AllocError>
-    requires { IfSome kept.now.correlation (λ b. length b < 2 ^ 16) }
     ensures { OnOk result (out.new.items ≡ out.old.items ++ flat_map spelled (replayed expiry kept.now)) }
 {
     put_format(out, kept.format)?;
@@ -219,8 +217,7 @@ fn correlation_len(correlation: &Option<Bytes>) -> usize
 /// How many bytes the properties of a PUBLISH take.
 #[tactic(auto, using(crate::proofs::WritingLemmas::length_replayed))]
 fn section_len(expiry: Option<u32>, kept: &Properties) -> usize
-    requires short { IfSome kept.now.correlation (λ b. length b < 2 ^ 16) }
-    requires small { length (flat_map spelled (replayed expiry kept.now)) < 2 ^ 28 }
+    requires { length (flat_map spelled (replayed expiry kept.now)) < 2 ^ 28 }
     ensures { result ≡ length (flat_map spelled (replayed expiry kept.now)) }
 {
     let format = if kept.format.is_some() { 2 } else { 0 };
@@ -232,10 +229,10 @@ fn section_len(expiry: Option<u32>, kept: &Properties) -> usize
 /// How many bytes the body of a PUBLISH takes, and how many of them its properties.
 #[tactic(auto, using(crate::proofs::WritingLemmas::length_body, crate::proofs::WritingLemmas::section_small))]
 fn body_len(p: &Publication) -> (usize, usize)
-    requires short { IfSome p.now.properties.correlation (λ b. length b < 2 ^ 16) }
-    requires small { length (publication_body p.now) < 2 ^ 28 }
     ensures section { result.1 ≡ length (flat_map spelled (replayed p.now.expiry p.now.properties)) }
     ensures body { result.0 ≡ length (publication_body p.now) }
+    ensures small { result.0 < 2 ^ 28 }
+    ensures section_small { result.1 < 2 ^ 28 }
 {
     let section = section_len(p.expiry, &p.properties);
     let id = if p.id.is_some() { 2 } else { 0 };
@@ -254,8 +251,6 @@ fn put_id(out: &mut Vec<u8>, id: Option<PacketId>) -> Result<(), AllocError>
 
 /// A PUBLISH.
 fn put_publication(out: &mut Vec<u8>, p: &Publication) -> Result<(), AllocError>
-    requires short { IfSome p.now.properties.correlation (λ b. length b < 2 ^ 16) }
-    requires small { length (publication_body p.now) < 2 ^ 28 }
     ensures { OnOk result (out.new.items ≡ out.old.items ++ frame (0x31 + 2 * level p.now.qos) (publication_body p.now)) }
 {
     let (len, section) = body_len(p);
@@ -372,8 +367,6 @@ fn put_acknowledgement(
 }
 
 fn put(out: &mut Vec<u8>, reply: &Reply) -> Result<(), AllocError>
-    requires short { IsWritable reply.now }
-    requires small { HasSpelling reply.now }
     ensures { OnOk result (out.new.items ≡ out.old.items ++ reply_bytes reply.now) }
 {
     match reply {
@@ -393,8 +386,6 @@ fn put(out: &mut Vec<u8>, reply: &Reply) -> Result<(), AllocError>
 }
 
 fn reply_len(reply: &Reply) -> usize
-    requires short { IsWritable reply.now }
-    requires small { HasSpelling reply.now }
     ensures value { result ≡ length (reply_body reply.now) }
     ensures small { result < 2 ^ 28 }
 {
@@ -414,27 +405,27 @@ fn reply_len(reply: &Reply) -> usize
 }
 
 fn acknowledgement_len(code: u8) -> usize
-    ensures { (id : ℕ) → result ≡ length (acknowledging id code) }
+    ensures value { (id : ℕ) → result ≡ length (acknowledging id code) }
+    ensures small { result ≤ 3 }
 {
     if code == 0 { 2 } else { 3 }
 }
 
-/// How many bytes a reply takes.
+/// How many bytes a reply takes, 5 more than its body at most (2.1.4).
 #[tactic(auto, using(crate::proofs::WritingLemmas::length_frame))]
 pub fn encoded_len(reply: &Reply) -> usize
-    requires short { IsWritable reply.now }
-    requires small { HasSpelling reply.now }
-    ensures { result ≡ length (reply_bytes reply.now) }
+    ensures value { result ≡ length (reply_bytes reply.now) }
+    ensures small { HasSpelling reply.now }
 {
     let len = reply_len(reply);
     1 + varint_len(len) + len
 }
 
-/// The one spelling of a reply.
+/// The one spelling of a reply, which is refused only where memory is.
 pub fn encode(alloc: Global, reply: &Reply) -> Result<Bytes, AllocError>
-    requires short { IsWritable reply.now }
-    requires small { HasSpelling reply.now }
-    ensures { IfOk result (λ b. b ≡ reply_bytes reply.now) }
+    ensures bytes { IfOk result (λ b. b ≡ reply_bytes reply.now) }
+    // It is read again by the reply grammar, whatever follows.
+    ensures spelled { IfOk result (λ b. SpellsReply b reply.now) }
 {
     let mut out = Vec::with_capacity(alloc, encoded_len(reply))?;
     put(&mut out, reply)?;

@@ -2,11 +2,13 @@
 #![tactic(auto)]
 
 mod gate;
+mod law;
 mod phase;
 mod reason;
 mod session;
 mod window;
 
 pub use gate::Gate;
+pub use law::lists_grow;
 pub use phase::{Closing, Input, Phase, Step};
 pub use session::Session;

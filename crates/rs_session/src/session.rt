@@ -57,11 +57,7 @@ impl<G: Gate> Session<G> {
             (G.mark (gate_of self.new)) (due_of self.new) (state_of self.new)) }
         ensures step { result ≡ step_of (state_of self.new).phase }
     {
-        match self.phase {
-            Phase::Before => self.greet(packet),
-            Phase::Open => self.take(packet, now),
-            Phase::Ended(_) => {}
-        }
+        self.hear(packet, now);
         self.step()
     }
 
@@ -73,11 +69,7 @@ impl<G: Gate> Session<G> {
             (G.mark (gate_of self.new)) (due_of self.new) (state_of self.new)) }
         ensures step { result ≡ step_of (state_of self.new).phase }
     {
-        match self.phase {
-            Phase::Before => self.turn_away(fault),
-            Phase::Open => self.close(fault_reason(fault)),
-            Phase::Ended(_) => {}
-        }
+        self.miss(fault);
         self.step()
     }
 
@@ -169,11 +161,37 @@ impl<G: Gate> Session<G> {
         self.due = within(self.window.largest(), reply);
     }
 
+    fn hear(&mut self, packet: Packet, now: u64)
+        requires { self.old.due ≡ None }
+        ensures { Grows (G.stands self.old.gate) (G.stands self.new.gate) (λ seen list.
+            Answers (Input.Whole packet) now (state_of self.old) (G.mark self.old.gate) seen list
+            (G.mark self.new.gate) self.new.due (state_of self.new)) }
+    {
+        match self.phase {
+            Phase::Before => self.greet(packet),
+            Phase::Open => self.take(packet, now),
+            Phase::Ended(_) => {}
+        }
+    }
+
+    fn miss(&mut self, fault: PacketFault)
+        requires { self.old.due ≡ None }
+        ensures { (now : ℕ) → Grows (G.stands self.old.gate) (G.stands self.new.gate) (λ seen list.
+            Answers (Input.Broken fault) now (state_of self.old) (G.mark self.old.gate) seen list
+            (G.mark self.new.gate) self.new.due (state_of self.new)) }
+    {
+        match self.phase {
+            Phase::Before => self.turn_away(fault),
+            Phase::Open => self.close(fault_reason(fault)),
+            Phase::Ended(_) => {}
+        }
+    }
+
     /// A packet of an open session.
     fn take(&mut self, packet: Packet, now: u64)
         requires due { self.old.due ≡ None }
         requires open { self.old.phase ≡ Phase.Open }
-        ensures row { Grows (G.stands self.old.gate) (G.stands self.new.gate) (λ seen list.
+        ensures { Grows (G.stands self.old.gate) (G.stands self.new.gate) (λ seen list.
             Answers (Input.Whole packet) now (state_of self.old) (G.mark self.old.gate) seen list
             (G.mark self.new.gate) self.new.due (state_of self.new)) }
     {

@@ -1,9 +1,9 @@
 //! What waits to be sent to a subscriber.
 
-ghost use Rattle.std.specs.Prelude.{◌≡◌, ℕ, ◌++◌, [], Some, None, OnOk, OnErr, if◌then◌else◌};
-ghost use Rattle.rs_message.specs.Messages.{remaining_of};
+ghost use Rattle.std.specs.Prelude.{◌≡◌, ◌++◌, [], Some, None, is_some, OnOk, OnErr, if◌then◌else◌};
+ghost use Rattle.rs_message.specs.Messages.{is_expired};
 ghost use Rattle.rs_packet.specs.declared.reply.Reply.{Reply};
-ghost use Rattle.rs_session.specs.State.{IsNext, is_sent, interval_sent, publication_at, within};
+ghost use Rattle.rs_session.specs.State.{IsNext, is_sent, publication_at, within};
 
 use rs_message::{Found, Remaining};
 use rs_packet::{Publication, Qos, Reply, encoded_len};
@@ -88,34 +88,36 @@ impl Window {
 fn sent(largest: u32, found: Found, now: u64) -> Option<Reply>
     ensures { result ≡ (if is_sent largest now found then Some (Reply.Publish (publication_at now found)) else None) }
 {
-    let remaining = found.message.remaining(now);
-    if remaining == Remaining::Expired {
-        return None;
+    match publication(found, now) {
+        Some(reply) => within(largest, reply),
+        None => None,
     }
-    within(largest, publication(found, remaining))
 }
 
-fn seconds(remaining: Remaining) -> Option<u32>
-    ensures { result ≡ interval_sent remaining }
+/// Its PUBLISH, with the time that is left as the interval. None where it has expired.
+fn publication(found: Found, now: u64) -> Option<Reply>
+    ensures { result ≡ (if is_expired now found.message then None else Some (Reply.Publish (publication_at now found))) }
 {
-    match remaining {
-        Remaining::Left(seconds) => Some(seconds),
-        _ => None,
+    match found.message.remaining(now) {
+        Remaining::Expired => None,
+        Remaining::Forever => Some(publish(found, None)),
+        Remaining::Left(seconds) => Some(publish(found, Some(seconds))),
     }
 }
 
-/// Its PUBLISH, with the time that is left as the interval.
-fn publication(found: Found, remaining: Remaining) -> Reply
-    ensures { (now : ℕ) → remaining ≡ remaining_of found.message now → result ≡ Reply.Publish (publication_at now found) }
+/// The PUBLISH of a retained message with this interval.
+fn publish(found: Found, expiry: Option<u32>) -> Reply
+    requires { is_some expiry ≡ is_some found.message.expiry }
+    ensures { result ≡ Reply.Publish (record { topic = found.topic; qos = Qos.AtMostOnce; id = None; expiry = expiry; properties = found.message.properties; payload = found.message.payload }) }
 {
     let Found { topic, message } = found;
     let (payload, _qos, _received, _expiry, properties) = message.into_parts();
-    Reply::Publish(Publication {
+    Reply::Publish(Publication::new(
         topic,
-        qos: Qos::AtMostOnce,
-        id: None,
-        expiry: seconds(remaining),
+        Qos::AtMostOnce,
+        None,
+        expiry,
         properties,
         payload,
-    })
+    ))
 }

@@ -1,11 +1,11 @@
 //! The first packet.
 
-ghost use Rattle.std.specs.Prelude.{◌≡◌, ◌≤◌, ℕ, List, None, Some, IfOk};
+ghost use Rattle.std.specs.Prelude.{◌≡◌, ◌≤◌, ℕ, List, None, Some, IfOk, is_some};
 ghost use Rattle.rs_message.specs.declared.entry.Entry.{Entry};
 ghost use Rattle.rs_packet.specs.declared.reply.Reply.{Reply};
 ghost use Rattle.rs_session.specs.Gate.{Mark};
 ghost use Rattle.rs_session.specs.State.{state_of, ended, within};
-ghost use Rattle.rs_session.specs.Steps.{IsAccepted};
+ghost use Rattle.rs_session.specs.Steps.{IsAccepted, connect_refusal};
 ghost use Rattle.rs_session.specs.Table.{Answers, connack, limit_of, is_longer, assigned_for};
 
 use super::Session;
@@ -26,7 +26,7 @@ impl<G: Gate> Session<G> {
         ensures gate { self.new.gate ≡ self.old.gate }
     {
         match packet {
-            Packet::Connect(c) => self.connect(c),
+            Packet::Connect(c) => self.connect(&c),
             Packet::Publish(_p) => self.end(Closing::Dropped),
             Packet::Puback(_a) => self.end(Closing::Dropped),
             Packet::Pubrec(_a) => self.end(Closing::Dropped),
@@ -51,26 +51,27 @@ impl<G: Gate> Session<G> {
                 self.due = Some(Reply::Refused(reason::UNSUPPORTED_PROTOCOL_VERSION));
                 self.end(Closing::ByServer(reason::UNSUPPORTED_PROTOCOL_VERSION));
             }
-            _ => self.end(Closing::Dropped),
+            PacketFault::Malformed => self.end(Closing::Dropped),
+            PacketFault::Protocol => self.end(Closing::Dropped),
+            PacketFault::TooLarge => self.end(Closing::Dropped),
+            PacketFault::NoMemory => self.end(Closing::Dropped),
         }
     }
 
-    fn connect(&mut self, c: Connect)
+    fn connect(&mut self, c: &Connect)
         requires due { self.old.due ≡ None }
         requires before { self.old.phase ≡ Phase.Before }
-        ensures row { (now : ℕ) (mark : Mark) (list : List Entry) → Answers (Input.Whole (Packet.Connect c)) now (state_of self.old) mark list list mark self.new.due (state_of self.new) }
+        ensures row { (now : ℕ) (mark : Mark) (list : List Entry) → Answers (Input.Whole (Packet.Connect c.now)) now (state_of self.old) mark list list mark self.new.due (state_of self.new) }
         ensures gate { self.new.gate ≡ self.old.gate }
     {
-        let limit = limit_of(c.packet_maximum);
-        if c.method.is_some() {
-            self.refuse(reason::BAD_AUTHENTICATION_METHOD, limit);
-        } else if c.will {
-            self.refuse(reason::IMPLEMENTATION_SPECIFIC_ERROR, limit);
-        } else {
-            match self.connack(&c) {
-                Ok(connack) => self.accept(connack, limit),
-                Err(_) => self.refuse(reason::QUOTA_EXCEEDED, limit),
-            }
+        let limit = limit_of(c);
+        if let Some(code) = refusal(c) {
+            self.refuse(code, limit);
+            return;
+        }
+        match self.connack(c) {
+            Ok(connack) => self.accept(connack, limit),
+            Err(_) => self.refuse(reason::QUOTA_EXCEEDED, limit),
         }
     }
 
@@ -121,13 +122,26 @@ impl<G: Gate> Session<G> {
 }
 
 /// The longest packet that the client takes, in bytes.
-fn limit_of(packet_maximum: Option<u32>) -> u32
-    ensures { result ≡ limit_of packet_maximum }
+fn limit_of(c: &Connect) -> u32
+    ensures { result ≡ limit_of c.now.packet_maximum }
 {
-    match packet_maximum {
+    match c.packet_maximum {
         Some(limit) => limit,
         None => u32::MAX,
     }
+}
+
+/// The Reason Code of a CONNECT that asks for what is not served.
+fn refusal(c: &Connect) -> Option<u8>
+    ensures { result ≡ connect_refusal (is_some c.now.method) c.now.will }
+{
+    if c.method.is_some() {
+        return Some(reason::BAD_AUTHENTICATION_METHOD);
+    }
+    if c.will {
+        return Some(reason::IMPLEMENTATION_SPECIFIC_ERROR);
+    }
+    None
 }
 
 /// The client asked for a session that outlives its connection.

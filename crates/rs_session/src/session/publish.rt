@@ -4,7 +4,7 @@ ghost use Rattle.std.specs.Prelude.{◌≡◌, ◌≢◌, ℕ, List, None, Some,
 ghost use Rattle.rs_message.specs.declared.entry.Operation.{Operation};
 ghost use Rattle.rs_session.specs.Gate.{Grows, Uses};
 ghost use Rattle.rs_session.specs.State.{state_of};
-ghost use Rattle.rs_session.specs.Steps.{IsSettled, IsTopicRefused};
+ghost use Rattle.rs_session.specs.Steps.{IsSettled, publish_refusal, qos_refusal, change_on};
 ghost use Rattle.rs_session.specs.Table.{Answers};
 
 use super::Session;
@@ -19,56 +19,16 @@ impl<G: Gate> Session<G> {
     pub(super) fn publish(&mut self, p: Publish, now: u64)
         requires due { self.old.due ≡ None }
         requires open { self.old.phase ≡ Phase.Open }
-        ensures row { Grows (G.stands self.old.gate) (G.stands self.new.gate) (λ seen list.
+        ensures { Grows (G.stands self.old.gate) (G.stands self.new.gate) (λ seen list.
             Answers (Input.Whole (Packet.Publish p)) now (state_of self.old) (G.mark self.old.gate) seen list
             (G.mark self.new.gate) self.new.due (state_of self.new)) }
     {
-        let Publish {
-            duplicate: _,
-            qos,
-            retain,
-            topic,
-            id: _,
-            expiry,
-            alias,
-            properties,
-            payload,
-        } = p;
-        if alias.is_some() {
-            self.close(reason::TOPIC_ALIAS_INVALID);
+        if let Some(code) = refusal(&p) {
+            self.close(code);
             return;
         }
-        match topic {
-            Err(fault) => self.refuse_topic(fault, qos),
-            Ok(topic) => {
-                if qos != Qos::AtMostOnce {
-                    self.close(reason::IMPLEMENTATION_SPECIFIC_ERROR);
-                    return;
-                }
-                if let Some(operation) =
-                    Operation::of(retain, topic, payload, qos, now, expiry, properties)
-                {
-                    self.submit(operation);
-                }
-            }
-        }
-    }
-
-    /// A topic that is no topic name ends the session. Where memory was refused for it, a PUBLISH of
-    /// QoS 0 is dropped.
-    fn refuse_topic(&mut self, fault: TopicFault, qos: Qos)
-        requires { self.old.due ≡ None }
-        ensures topic { IsTopicRefused fault qos (state_of self.old) self.new.due (state_of self.new) }
-        ensures gate { self.new.gate ≡ self.old.gate }
-    {
-        match fault {
-            TopicFault::NoMemory => {
-                if qos != Qos::AtMostOnce {
-                    self.close(reason::IMPLEMENTATION_SPECIFIC_ERROR);
-                }
-            }
-            TopicFault::Empty => self.close(reason::PROTOCOL_ERROR),
-            _ => self.close(reason::TOPIC_NAME_INVALID),
+        if let Some(operation) = change_on(p, now) {
+            self.submit(operation);
         }
     }
 
@@ -88,4 +48,50 @@ impl<G: Gate> Session<G> {
             }
         }
     }
+}
+
+/// The Reason Code of a PUBLISH that ends the session.
+fn refusal(p: &Publish) -> Option<u8>
+    ensures { result ≡ publish_refusal p.now.alias p.now.topic p.now.qos }
+{
+    if p.alias.is_some() {
+        return Some(reason::TOPIC_ALIAS_INVALID);
+    }
+    match &p.topic {
+        Ok(_topic) => qos_refusal(p.qos),
+        Err(TopicFault::NoMemory) => qos_refusal(p.qos),
+        Err(TopicFault::Empty) => Some(reason::PROTOCOL_ERROR),
+        Err(_fault) => Some(reason::TOPIC_NAME_INVALID),
+    }
+}
+
+/// QoS 1 and 2 are not served yet.
+fn qos_refusal(qos: Qos) -> Option<u8>
+    ensures { result ≡ qos_refusal qos }
+{
+    match qos {
+        Qos::AtMostOnce => None,
+        Qos::AtLeastOnce | Qos::ExactlyOnce => Some(reason::IMPLEMENTATION_SPECIFIC_ERROR),
+    }
+}
+
+/// What a PUBLISH hands to the store.
+fn change_on(p: Publish, now: u64) -> Option<Operation>
+    ensures { result ≡ change_on p p.topic now }
+{
+    let Publish {
+        duplicate: _,
+        qos,
+        retain,
+        topic,
+        id: _,
+        expiry,
+        alias: _,
+        properties,
+        payload,
+    } = p;
+    let Ok(topic) = topic else {
+        return None;
+    };
+    Operation::of(retain, topic, payload, qos, now, expiry, properties)
 }

@@ -1,9 +1,11 @@
 //! SUBSCRIBE.
 
-ghost use Rattle.std.specs.Prelude.{◌≡◌, ◌≤◌, ℕ, List, None, Some, length};
+ghost use Rattle.std.specs.Prelude.{◌≡◌, ◌≤◌, ℕ, List, None, Some, length, is_some};
+ghost use Rattle.std.specs.List.{list_any};
 ghost use Rattle.rs_message.specs.declared.entry.Entry.{Entry};
 ghost use Rattle.rs_session.specs.Gate.{Grows};
 ghost use Rattle.rs_session.specs.State.{state_of};
+ghost use Rattle.rs_session.specs.Steps.{subscribe_refusal};
 ghost use Rattle.rs_session.specs.Table.{Answers, IsGranted, IsReplayed, filter_code, is_shared, is_shared_local};
 
 use super::Session;
@@ -17,16 +19,12 @@ impl<G: Gate> Session<G> {
     pub(super) fn subscribe(&mut self, s: Subscribe, now: u64)
         requires due { self.old.due ≡ None }
         requires open { self.old.phase ≡ Phase.Open }
-        ensures row { Grows (G.stands self.old.gate) (G.stands self.new.gate) (λ seen list.
+        ensures { Grows (G.stands self.old.gate) (G.stands self.new.gate) (λ seen list.
             Answers (Input.Whole (Packet.Subscribe s)) now (state_of self.old) (G.mark self.old.gate) seen list
             (G.mark self.new.gate) self.new.due (state_of self.new)) }
     {
-        if s.filters.iter().any(is_shared_local) {
-            self.close(reason::PROTOCOL_ERROR);
-            return;
-        }
-        if s.subscription.is_some() {
-            self.close(reason::SUBSCRIPTION_IDENTIFIERS_NOT_SUPPORTED);
+        if let Some(code) = refusal(&s) {
+            self.close(code);
             return;
         }
         let Ok(mut codes) = Vec::with_capacity(self.alloc, s.filters.len()) else {
@@ -37,7 +35,7 @@ impl<G: Gate> Session<G> {
             let code = self.grant(asked, now);
             codes.push_reserved(code);
         }
-        self.reply(Reply::Suback(Codes { id: s.id, codes }));
+        self.reply(Reply::Suback(Codes::new(s.id, codes)));
     }
 
     /// One filter. The code says whether its answer waits behind the others.
@@ -73,6 +71,25 @@ impl<G: Gate> Session<G> {
             Err(_) => reason::QUOTA_EXCEEDED,
         }
     }
+}
+
+/// The Reason Code of a SUBSCRIBE that ends the session.
+fn refusal(s: &Subscribe) -> Option<u8>
+    ensures { result ≡ subscribe_refusal (list_any is_shared_local s.now.filters) (is_some s.now.subscription) }
+{
+    if any_shared_local(s.filters.as_slice()) {
+        return Some(reason::PROTOCOL_ERROR);
+    }
+    if s.subscription.is_some() {
+        return Some(reason::SUBSCRIPTION_IDENTIFIERS_NOT_SUPPORTED);
+    }
+    None
+}
+
+fn any_shared_local(filters: &[(Result<TopicFilter, TopicFault>, Options)]) -> bool
+    ensures { result ≡ list_any is_shared_local filters.now }
+{
+    filters.iter().any(is_shared_local)
 }
 
 /// A shared subscription with No Local, which is a Protocol Error: section 3.8.3.1.

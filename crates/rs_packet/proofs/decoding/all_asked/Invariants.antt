@@ -1,10 +1,10 @@
-use Rattle.std.proofs.Common.{◌≡◌, ℕ, ◌≤◌, length}
-use Rattle.rs_packet.specs.PacketReading.{asked_in}
-use Rattle.rs_packet.proofs.AskedLoop.{IsOnTheWay}
+use Rattle.std.proofs.Common.{length}
+use Rattle.rs_packet.specs.PacketReading.{asked_at}
+use Rattle.rs_packet.proofs.ItemLoop.{IsOnTheWay}
 use Rattle.rs_packet.proofs.decoding.all_asked.Given as goal
 
 abbrev pub invariant-next : goal.invariant-next
-invariant-next l = IsOnTheWay l.all.items l.rest (asked_in (length l.fn.body) l.fn.body)
+invariant-next l = IsOnTheWay asked_at l.fn.body l.all.items l.rest
 
 abbrev pub decreases-next : goal.decreases-next
 decreases-next l = length l.rest

@@ -1,28 +1,27 @@
-use Rattle.std.proofs.Common.{◌≡◌, length, refl, sym, ap, ◌∙◌, arith}
 use Rattle.std.proofs.lemmas.Result.{err_from_is_err_and}
-use Rattle.rs_packet.specs.PacketReading.{filters_in}
+use Rattle.rs_packet.specs.PacketReading.{filter_at}
 use Rattle.rs_packet.proofs.PropertyLoop.{some_left, none_left}
-use Rattle.rs_packet.proofs.FilterLoop.{begins, more, fails, done}
+use Rattle.rs_packet.proofs.ItemLoop.{begins, more, fails, done}
 use Rattle.rs_packet.proofs.decoding.all_filters.Goals as goal
 
 pub next-init : goal.next-init
-next-init c = rw c.new-all.ensures.items (begins c.args.body)
+next-init c = rw c.new-all.ensures.items (begins filter_at c.args.body)
 
 pub next-smaller : goal.next-smaller
 next-smaller c = c.in_ok-filter.ensures.shorter
 
 pub next-preserved : goal.next-preserved
 next-preserved c =
-    more c.next.all.items c.next.rest (filters_in (length c.args.body) c.args.body) c.in_ok-filter.filter c.filter_of_text.new.rest c.push.new.self.items
+    more filter_at c.args.body c.next.all.items c.next.rest c.in_ok-filter.filter c.filter_of_text.new.rest c.push.new.self.items
     c.next.invariant (some_left c.next.rest c.is_empty.result c.is_empty.ensures c.next-test.true) c.in_ok-filter.ensures.read c.in_ok-filter.ensures.shorter c.in_ok-push.ensures.items
 
 pub returns : goal.returns
 returns c =
-    done c.next.all.items c.next.rest (filters_in (length c.args.body) c.args.body) c.next.invariant
-    (none_left c.next.rest c.is_empty.result c.is_empty.ensures c.next-test.false)
+    let all = done filter_at c.args.body c.next.all.items c.next.rest c.next.invariant (none_left c.next.rest c.is_empty.result c.is_empty.ensures c.next-test.false) in
+    record { read = all.is; few = all.few; some = all.some }
 
-pub returns-in_err-filter : goal.returns-in_err-filter
-returns-in_err-filter c =
+pub returns-in_err-filter-clause-read : goal.returns-in_err-filter-clause-read
+returns-in_err-filter-clause-read c =
     let p = err_from_is_err_and c.from_residual.result c.from_residual.ensures.1 in
-    rw (p.1, p.2) (fails c.next.all.items c.next.rest (filters_in (length c.args.body) c.args.body) c.in_err-filter.field-0.0
+    rw (p.1, p.2) (fails filter_at c.args.body c.next.all.items c.next.rest c.in_err-filter.field-0.0
     c.next.invariant (some_left c.next.rest c.is_empty.result c.is_empty.ensures c.next-test.true) c.in_err-filter.ensures.read)
