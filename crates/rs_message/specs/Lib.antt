@@ -1,2 +1,4 @@
-pub mod Values
+pub mod Bare
+pub mod Codes
 pub mod Messages
+pub mod Values

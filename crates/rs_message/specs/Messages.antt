@@ -2,6 +2,7 @@
 use Rattle.std.specs.Prelude.{◌≡◌, ◌≢◌, ℕ, ◌+◌, ◌-◌, ◌<◌, ◌≤◌, Bool, true, false, nat_le, if◌then◌else◌, List, [], ◌∷◌, length, Option, Some, None}
 use Rattle.rs_packet.specs.declared.packet.Qos.{Qos}
 use Rattle.rs_packet.specs.Values.{PropertiesValue}
+use Rattle.rs_packet.specs.Grammar.{largest}
 use Rattle.rs_packet.specs.Replies.{message_size}
 use Rattle.rs_message.specs.Values.{MessageValue}
 use Rattle.rs_message.specs.declared.message.Remaining.{Remaining}
@@ -9,10 +10,10 @@ use Rattle.rs_message.specs.declared.message.Remaining.TheVariants.{Forever, Lef
 use Rattle.rs_message.specs.declared.entry.Operation.{Operation}
 use Rattle.rs_message.specs.declared.entry.Operation.TheVariants.{Set, Clear}
 
--- the payload and the properties of a message that is kept
+-- a message that is kept has a payload, which with its properties takes no more bytes than a packet has
 pub record IsKept (m : MessageValue) : Type 0 where
   pub some : m.payload ≢ []
-  pub fits : message_size m.expiry m.properties m.payload ≤ 262144
+  pub fits : message_size m.expiry m.properties m.payload ≤ largest
 
 -- ---- 3.3.2.3.3: expiry
 

@@ -1,6 +1,7 @@
 //! The entries of the store's history.
 
-ghost use Rattle.std.specs.Prelude.{◌≡◌, ◌+◌, ◌<◌, ◌≤◌, ◌&&◌, nat_lt, nat_le, if◌then◌else◌, Some, None, length};
+ghost use Rattle.std.specs.Prelude.{◌≡◌, ◌+◌, ◌<◌, ◌≤◌, ◌&&◌, nat_lt, nat_le, if◌then◌else◌, Some, None, IfOk, length};
+ghost use Rattle.rs_packet.specs.Grammar.{largest};
 ghost use Rattle.rs_packet.specs.Replies.{message_size};
 ghost use Rattle.rs_message.specs.Messages.{operation_of};
 
@@ -8,6 +9,7 @@ use crate::message::Message;
 use bytes::Bytes;
 use rs_packet::{Properties, Qos};
 use rs_topic::TopicName;
+use std::alloc::AllocError;
 use std::marker::Model;
 
 /// Where an entry came from: a place, 1 to 64, and a serial, which rises at that place from 1.
@@ -65,6 +67,16 @@ pub enum Operation {
 }
 
 impl Operation {
+    /// An equal operation, which shares the bytes.
+    pub fn copy(&self) -> Result<Operation, AllocError>
+        ensures { IfOk result (λ o. o ≡ self.now) }
+    {
+        match self {
+            Operation::Set(topic, message) => Ok(Operation::Set(topic.copy()?, message.copy()?)),
+            Operation::Clear(topic) => Ok(Operation::Clear(topic.copy()?)),
+        }
+    }
+
     /// What a PUBLISH does: with a payload its message is kept, with an empty one the topic is cleared,
     /// without RETAIN nothing changes. `received` is the moment of the packet, in seconds.
     pub fn of(
@@ -76,7 +88,7 @@ impl Operation {
         expiry: Option<u32>,
         properties: Properties,
     ) -> Option<Operation>
-        requires { message_size expiry properties payload ≤ 262144 }
+        requires { message_size expiry properties payload ≤ largest }
         ensures { result ≡ operation_of retain topic (record { payload = payload; qos = qos; received = received; expiry = expiry; properties = properties }) }
     {
         if !retain {
@@ -95,6 +107,18 @@ impl Operation {
 pub struct Entry {
     pub origin: Origin,
     pub operation: Operation,
+}
+
+impl Entry {
+    /// An equal entry, which shares the bytes.
+    pub fn copy(&self) -> Result<Entry, AllocError>
+        ensures { IfOk result (λ e. e ≡ self.now) }
+    {
+        Ok(Entry {
+            origin: self.origin,
+            operation: self.operation.copy()?,
+        })
+    }
 }
 
 /// A topic and its retained message.

@@ -8,8 +8,9 @@
 mod entry;
 mod fault;
 mod message;
+#[cfg(test)]
+mod tests;
 
 pub use entry::{Entry, Found, Operation, Origin};
 pub use fault::SubmitFault;
 pub use message::{Message, Remaining};
-

@@ -1,11 +1,13 @@
 //! Retained messages.
 
-ghost use Rattle.std.specs.Prelude.{◌≡◌, ◌≢◌, ◌≤◌, [], Some};
+ghost use Rattle.std.specs.Prelude.{◌≡◌, ◌≢◌, ◌≤◌, [], Some, IfOk};
+ghost use Rattle.rs_packet.specs.Grammar.{largest};
 ghost use Rattle.rs_packet.specs.Replies.{message_size};
 ghost use Rattle.rs_message.specs.Messages.{left_of, remaining_of, IsKept};
 
 use bytes::Bytes;
 use rs_packet::{Properties, Qos};
+use std::alloc::AllocError;
 use std::marker::Model;
 
 /// A retained message. Its payload is not empty, and payload and properties take at most 262,144
@@ -54,7 +56,8 @@ fn left_of(expiry: u32, waited: u64) -> Remaining
 }
 
 impl Message {
-    /// A message that was received at a moment, in seconds.
+    /// A message that was received at a moment, in seconds. Its payload is not empty, and payload and properties take at most
+    /// 262,144 bytes in a PUBLISH.
     pub fn new(
         payload: Bytes,
         qos: Qos,
@@ -63,7 +66,7 @@ impl Message {
         properties: Properties,
     ) -> Message
         requires some { payload ≢ [] }
-        requires fits { message_size expiry properties payload ≤ 262144 }
+        requires fits { message_size expiry properties payload ≤ largest }
         ensures { result ≡ record { payload = payload; qos = qos; received = received; expiry = expiry; properties = properties } }
     {
         Message {
@@ -75,7 +78,43 @@ impl Message {
         }
     }
 
-    /// How long it still has at a moment.
+    /// The payload, which is not empty.
+    pub fn payload(&self) -> &Bytes
+        ensures value { result.now ≡ self.now.payload }
+        ensures kept { IsKept self.now }
+    {
+        &self.payload
+    }
+
+    /// The quality of service that it was published with.
+    pub fn qos(&self) -> Qos
+        ensures { result ≡ self.now.qos }
+    {
+        self.qos
+    }
+
+    /// The moment when it came, in seconds.
+    pub fn received(&self) -> u64
+        ensures { result ≡ self.now.received }
+    {
+        self.received
+    }
+
+    /// The Message Expiry Interval that it came with, in seconds (3.3.2.3.3).
+    pub fn expiry(&self) -> Option<u32>
+        ensures { result ≡ self.now.expiry }
+    {
+        self.expiry
+    }
+
+    /// The other properties that it keeps.
+    pub fn properties(&self) -> &Properties
+        ensures { result.now ≡ self.now.properties }
+    {
+        &self.properties
+    }
+
+    /// How long it still has at a moment, in seconds (3.3.2.3.3).
     pub fn remaining(&self, now: u64) -> Remaining
         ensures { result ≡ remaining_of self.now now }
     {
@@ -83,6 +122,19 @@ impl Message {
             Some(expiry) => left_of(expiry, now.saturating_sub(self.received)),
             None => Remaining::Forever,
         }
+    }
+
+    /// An equal message, which shares the payload and the texts.
+    pub fn copy(&self) -> Result<Message, AllocError>
+        ensures { IfOk result (λ m. m ≡ self.now) }
+    {
+        Ok(Message {
+            payload: self.payload.clone()?,
+            qos: self.qos,
+            received: self.received,
+            expiry: self.expiry,
+            properties: self.properties.copy()?,
+        })
     }
 
     /// Its fields.

@@ -25,7 +25,7 @@ use Rattle.rs_packet.specs.Grammar.{head, frame, largest, Spells, SpellsBody, Is
 use Rattle.rs_packet.specs.PacketReading.{Gives, kinds, others, kind_or, kind_of, connect_at, publish_at, acknowledgement_at, subscribe_at, unsubscribe_at, code_at, packet_at, body_at, sized, answer}
 use Rattle.rs_packet.proofs.Numbers.{bind_ok, ok_is, chosen}
 use Rattle.rs_packet.proofs.Fields.{IsBytes, IsBytes-take, IsBytes-rest, digits_takes, digits_again, varint_again}
-use Rattle.rs_packet.proofs.PropertyLaws.{find_passes}
+use Rattle.rs_packet.proofs.Identifiers.{find_passes}
 
 -- ---- no spelling begins another
 

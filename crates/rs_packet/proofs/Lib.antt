@@ -1,6 +1,7 @@
 pub mod Numbers
 pub mod PropertyLoop
 pub mod Fields
+pub mod Identifiers
 pub mod PropertyLaws
 pub mod ItemLoop
 pub mod PacketLaws
@@ -8,4 +9,5 @@ pub mod AnswerLaws
 pub mod Fronts
 pub mod WritingLemmas
 pub mod Sizes
+pub mod Equalities
 pub mod Rows

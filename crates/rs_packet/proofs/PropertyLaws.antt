@@ -13,9 +13,10 @@ use Rattle.rs_packet.specs.declared.property.Property.TheVariants as property
 use Rattle.rs_packet.specs.declared.property.Place.{Place}
 use Rattle.rs_topic.specs.Texts.{IsText}
 use Rattle.rs_topic.specs.Topics.{is_plain}
-use Rattle.rs_packet.specs.Properties.{varint, varint_end, low_first, number, identifier, value, spelled, may_stand, may_repeat, IsInRange, IsNew, AreNew, AreAllowed, AreProperties, properties, none_yet, counted, IsShort}
+use Rattle.rs_packet.specs.Properties.{varint, varint_end, low_first, number, identifier, value, spelled, may_stand, may_repeat, IsInRange, AreAllowed, AreProperties, properties, none_yet, counted, IsShort}
 use Rattle.rs_packet.specs.Reading.{◌>>=◌, varint_at, byte_at, number_at, part_at, binary_at, text_at, wanting, identifiers, identifier_of, misplaced, judged, value_at, property_at, properties_in, properties_at}
-use Rattle.rs_packet.proofs.Numbers.{bind_ok, ok_is, chosen}
+use Rattle.rs_packet.proofs.Numbers.{bind_ok, ok_is}
+use Rattle.rs_packet.proofs.Identifiers.{identifier_of_is, identifier_again, one_byte, number_small, AreNew, once_when_new, new_when_once}
 use Rattle.rs_packet.proofs.Fields.{IsBytes, IsBytes-rest, Takes, Takes-then, Takes-next, wide16, wide32, number_takes, number_again, part_takes, part_again, binary_takes, binary_again, text_takes, text_again, varint_takes, varint_again}
 
 pub wanted : {A : Type 0} (b : Bool) (x y : A) → wanting b x ≡ Ok y → (b ≡ true) × (x ≡ y)
@@ -92,84 +93,6 @@ value_again (property.User k v) rest h = ap (value_at id.UserProperty) (append_a
 value_again (property.PacketMaximum n) rest h = rw (number_again w32 (2 ^ 32) wide32 n rest h.1, lt-ltb 0 n h.0) refl
 
 -- ---- identifiers
-
-some_is : {A : Type 0} (x y : A) → ◌≡◌ {A = Option A} (Some x) (Some y) → x ≡ y
-some_is x y e = cc
-
-pub find_passes : {A : Type 0} (test : A → Bool) (xs : List A) (x : A) → find test xs ≡ Some x → test x ≡ true
-find_passes test [] x e = absurd cc
-find_passes {A} test (y ∷ ys) x e =
-    elim (chosen (test y) (Some y) (find test ys) (Some x) e) [
-      | inl h ↦ let same : y ≡ x = some_is y x h.1 in subst (λ (z : A). test z ≡ true) same h.0
-      | inr h ↦ find_passes test ys x h.1
-    ]
-
-pub identifier_of_is : (n : ℕ) (i : Identifier) → identifier_of n ≡ Some i → number i ≡ n
-unfolding identifier_of
-identifier_of_is n i e = eqb-true _ _ (find_passes (λ j. eqb (number j) n) identifiers i e)
-
-pub identifier_again : (i : Identifier) → identifier_of (number i) ≡ Some i
-unfolding identifier_of
-identifier_again id.PayloadFormat = refl
-identifier_again id.MessageExpiry = refl
-identifier_again id.ContentType = refl
-identifier_again id.ResponseTopic = refl
-identifier_again id.CorrelationData = refl
-identifier_again id.SubscriptionIdentifier = refl
-identifier_again id.SessionExpiry = refl
-identifier_again id.AuthenticationMethod = refl
-identifier_again id.AuthenticationData = refl
-identifier_again id.ProblemInformation = refl
-identifier_again id.ResponseInformation = refl
-identifier_again id.ServerReference = refl
-identifier_again id.ReasonString = refl
-identifier_again id.ReceiveMaximum = refl
-identifier_again id.TopicAliasMaximum = refl
-identifier_again id.TopicAlias = refl
-identifier_again id.UserProperty = refl
-identifier_again id.MaximumPacketSize = refl
-
--- an identifier takes one byte
-pub one_byte : (i : Identifier) → varint (number i) ≡ number i ∷ []
-unfolding low_first
-one_byte id.PayloadFormat = refl
-one_byte id.MessageExpiry = refl
-one_byte id.ContentType = refl
-one_byte id.ResponseTopic = refl
-one_byte id.CorrelationData = refl
-one_byte id.SubscriptionIdentifier = refl
-one_byte id.SessionExpiry = refl
-one_byte id.AuthenticationMethod = refl
-one_byte id.AuthenticationData = refl
-one_byte id.ProblemInformation = refl
-one_byte id.ResponseInformation = refl
-one_byte id.ServerReference = refl
-one_byte id.ReasonString = refl
-one_byte id.ReceiveMaximum = refl
-one_byte id.TopicAliasMaximum = refl
-one_byte id.TopicAlias = refl
-one_byte id.UserProperty = refl
-one_byte id.MaximumPacketSize = refl
-
-pub number_small : (i : Identifier) → number i < varint_end
-number_small id.PayloadFormat = omega arith
-number_small id.MessageExpiry = omega arith
-number_small id.ContentType = omega arith
-number_small id.ResponseTopic = omega arith
-number_small id.CorrelationData = omega arith
-number_small id.SubscriptionIdentifier = omega arith
-number_small id.SessionExpiry = omega arith
-number_small id.AuthenticationMethod = omega arith
-number_small id.AuthenticationData = omega arith
-number_small id.ProblemInformation = omega arith
-number_small id.ResponseInformation = omega arith
-number_small id.ServerReference = omega arith
-number_small id.ReasonString = omega arith
-number_small id.ReceiveMaximum = omega arith
-number_small id.TopicAliasMaximum = omega arith
-number_small id.TopicAlias = omega arith
-number_small id.UserProperty = omega arith
-number_small id.MaximumPacketSize = omega arith
 
 -- what is judged right is what was read, may stand and is new
 pub record IsJudged (where_ : Place) (before : List Bool) (i : Identifier) : Type 0 where
@@ -257,11 +180,11 @@ all_take where_ bytes x fits e =
     let same : varint n.0.0 ++ s.0.0 ≡ properties ps.0 = section_is n.0.0 s.0.0 ps.0 len in_.0 in
     let made : List Property × List ℕ = (ps.0, s.0.1) in
     subst (λ (y : List Property × List ℕ). Takes bytes (properties y.0) y.1 × AreProperties where_ y.0) (ok_is made x ps.2)
-    (subst (λ (front : List ℕ). Takes bytes front s.0.1) same both, record { allowed = in_.1; new = in_.2; short = omega (arith, len, t.1) })
+    (subst (λ (front : List ℕ). Takes bytes front s.0.1) same both, record { allowed = in_.1; once = (once_when_new none_yet ps.0 refl in_.2).1; short = omega (arith, len, t.1) })
 
 pub all_again : (where_ : Place) (ps : List Property) (rest : List ℕ) → AreProperties where_ ps → properties_at where_ (properties ps ++ rest) ≡ Ok (ps, rest)
 unfolding properties_at
 all_again where_ ps rest h =
     let text = flat_map spelled ps in
     let regrouped : properties ps ++ rest ≡ varint (length text) ++ (text ++ rest) = append_assoc (varint (length text)) text rest in
-    ap (properties_at where_) regrouped ∙ rw (varint_again (length text) (text ++ rest) h.short, part_again text rest, properties_again (length text) where_ none_yet ps (omega arith) h.allowed h.new) refl
+    ap (properties_at where_) regrouped ∙ rw (varint_again (length text) (text ++ rest) h.short, part_again text rest, properties_again (length text) where_ none_yet ps (omega arith) h.allowed (new_when_once ps h.once)) refl

@@ -1,3 +1,4 @@
+pub mod Faults
 pub mod Values
 pub mod Properties
 pub mod Reading
@@ -6,3 +7,4 @@ pub mod PacketReading
 pub mod Replies
 pub mod Fronts
 pub mod Bounds
+pub mod Equality

@@ -127,8 +127,6 @@ IsInRange (property.PacketMaximum n) = (0 < n) × (n < 2 ^ 32)
 abbrev pub spelled : Property → List ℕ
 spelled p = number (identifier p) ∷ value p
 
--- ---- the properties of a packet
-
 -- table 2-4: which packet a client's property may stand in
 abbrev pub may_stand : Place → Identifier → Bool
 may_stand place.Connect id.SessionExpiry = true
@@ -162,25 +160,30 @@ abbrev pub may_repeat : Identifier → Bool
 may_repeat id.UserProperty = true
 may_repeat _ = false
 
--- whether each identifier has stood before
+-- whether each identifier has stood before, by its number
 abbrev pub none_yet : List Bool
 none_yet = replicate 40 false
 
-abbrev pub IsNew : List Bool → Property → Type 0
-IsNew before p = (may_repeat (identifier p) || not (slice_index_or before (number (identifier p)) false)) ≡ true
+-- ---- the properties of a packet, in any order
 
--- in any order, each at most once but the user property
-abbrev pub AreNew : List Bool → List Property → Type 0
-AreNew before [] = Unit {0}
-AreNew before (p ∷ ps) = IsNew before p × AreNew (slice_set before (number (identifier p)) true) ps
+-- a property beside others of the packet: of one identifier only where they are user properties
+abbrev pub MayStandBeside : Property → List Property → Type 0
+MayStandBeside p [] = Unit {0}
+MayStandBeside p (q ∷ qs) = (identifier p ≡ identifier q → identifier p ≡ id.UserProperty) × MayStandBeside p qs
 
+-- 2.2.2.2, 3.1.2.11.8: no two properties of one identifier, but user properties
+abbrev pub AreOnce : List Property → Type 0
+AreOnce [] = Unit {0}
+AreOnce (p ∷ ps) = MayStandBeside p ps × AreOnce ps
+
+-- each may stand in the packet, with a value in its range
 abbrev pub AreAllowed : Place → List Property → Type 0
 AreAllowed where_ [] = Unit {0}
 AreAllowed where_ (p ∷ ps) = (may_stand where_ (identifier p) ≡ true) × IsInRange p × AreAllowed where_ ps
 
 pub record AreProperties (where_ : Place) (ps : List Property) : Type 0 where
   pub allowed : AreAllowed where_ ps
-  pub new : AreNew none_yet ps
+  pub once : AreOnce ps
   pub short : length (flat_map spelled ps) < varint_end
 
 -- 2.2.2.1: their length in bytes, and the properties

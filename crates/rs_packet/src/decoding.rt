@@ -19,6 +19,7 @@ use crate::packet::{
 };
 use crate::property::{Found, Place, Properties};
 use crate::reading::{Cut, binary_of, byte_of, digits, found_of, note_octets, text_of, two_of};
+use crate::reply::PACKET_MAXIMUM;
 use bytes::Bytes;
 use rs_topic::{Text, TopicFault, TopicFilter, TopicName};
 use std::alloc::Global;
@@ -396,7 +397,7 @@ fn whole_of(
     let len = len as usize;
     let start = bytes.len() - rest.len();
     let size = start + len;
-    if size > 262144 {
+    if size > PACKET_MAXIMUM as usize {
         return Err(PacketFault::TooLarge);
     }
     if rest.len() < len {
@@ -422,7 +423,9 @@ fn decoded(alloc: Global, bytes: &Bytes) -> Result<Decoded, PacketFault>
     }
 }
 
-/// The packet at the front of the bytes.
+/// The packet at the front of the bytes and its size, or `More` where they are less than a packet. The
+/// first fault from left to right is answered (4.13), or `NoMemory` in place of any answer. Nothing
+/// of a body is read before all of it is there, and no payload or text is copied.
 pub fn decode(alloc: Global, bytes: &Bytes) -> Result<Decoded, PacketFault>
     // What is read stands at the front.
     ensures found { IfOk result (λ d. IsAtFront bytes.now d) }
@@ -435,7 +438,7 @@ pub fn decode(alloc: Global, bytes: &Bytes) -> Result<Decoded, PacketFault>
     decoded(alloc, bytes)
 }
 
-/// No spelling of a packet begins another.
+/// No spelling of a packet begins another, and no spelling of a reply begins another (2.1).
 pub fn wire_law()
     ensures packets { (a b x y : List ℕ) (p q : Packet) → Spells a p → Spells b q → a ++ x ≡ b ++ y → (a ≡ b) × (x ≡ y) }
     ensures replies { (a b x y : List ℕ) (r s : Reply) → SpellsReply a r → SpellsReply b s → a ++ x ≡ b ++ y → (a ≡ b) × (x ≡ y) }

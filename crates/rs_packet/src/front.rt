@@ -8,6 +8,7 @@ ghost use Rattle.rs_packet.specs.Fronts.{IsMore};
 
 use crate::packet::Kind;
 use crate::reading::{Cut, digits, note_octets};
+use crate::reply::PACKET_MAXIMUM;
 
 /// How many bytes to hold before decoding the packet at the front, by its first five bytes at most
 /// (2.1.1, 2.1.4): the size of the packet once its length is there, one more than are held until
@@ -31,7 +32,11 @@ pub fn front_len(bytes: &[u8]) -> usize
         Ok(_kind) => match digits(behind) {
             Ok((len, rest)) => {
                 let size = bytes.len() - rest.len() + len as usize;
-                if size > 262144 { bytes.len() } else { size }
+                if size > PACKET_MAXIMUM as usize {
+                    bytes.len()
+                } else {
+                    size
+                }
             }
             Err(Cut::Short) => bytes.len() + 1,
             Err(Cut::Bad) => bytes.len(),

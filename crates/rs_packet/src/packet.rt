@@ -6,7 +6,7 @@ use bytes::Bytes;
 use rs_topic::{Text, TopicFault, TopicFilter, TopicName};
 use std::marker::Model;
 
-/// A packet identifier, which is not 0.
+/// A packet identifier, from 1 to 65,535 (2.2.1).
 #[derive(Clone, Copy)]
 pub struct PacketId {
     number: u16,
@@ -27,6 +27,7 @@ impl Model for PacketId {
 impl PacketId {
     ghost use Rattle.std.specs.Prelude.{◌≡◌, ◌<◌, ◌==◌, if◌then◌else◌, Some, None};
 
+    /// None where the number is 0.
     pub fn new(number: u16) -> Option<PacketId>
         ensures { result ≡ (if number == 0 then None else Some number) }
     {
@@ -36,6 +37,7 @@ impl PacketId {
         Some(PacketId { number })
     }
 
+    /// The number.
     pub fn get(self) -> u16
         ensures value { result ≡ self }
         ensures some { 0 < result }
@@ -44,7 +46,7 @@ impl PacketId {
     }
 }
 
-/// The quality of service.
+/// The quality of service (4.3).
 #[derive(Clone, Copy, Debug, PartialEq, Eq)]
 pub enum Qos {
     AtMostOnce,
@@ -56,6 +58,7 @@ impl Qos {
     ghost use Rattle.std.specs.Prelude.{◌≡◌, ◌<◌};
     ghost use Rattle.rs_packet.specs.Grammar.{level};
 
+    /// 0, 1 or 2, as a packet has it.
     pub fn level(self) -> u8
         ensures value { result ≡ level self }
         ensures small { result < 3 }
@@ -68,7 +71,7 @@ impl Qos {
     }
 }
 
-/// Whether retained messages are sent at a SUBSCRIBE.
+/// Whether retained messages are sent at a SUBSCRIBE (3.8.3.1).
 #[derive(Clone, Copy, Debug, PartialEq, Eq)]
 pub enum RetainHandling {
     Always,
@@ -76,7 +79,7 @@ pub enum RetainHandling {
     Never,
 }
 
-/// The options of a filter.
+/// The options of a filter (3.8.3.1).
 #[derive(Clone, Copy)]
 pub struct Options {
     pub qos: Qos,
@@ -85,7 +88,7 @@ pub struct Options {
     pub retain_handling: RetainHandling,
 }
 
-/// What the first byte of a packet says.
+/// What the first byte of a packet says (2.1.2, 2.1.3); a PUBLISH has DUP, QoS and RETAIN in it.
 #[derive(Clone, Copy)]
 pub enum Kind {
     Connect,
@@ -135,14 +138,18 @@ impl Kind {
     }
 }
 
-/// A publication.
+/// A PUBLISH (3.3). An identifier stands where QoS is 1 or 2, and the payload and the properties that a
+/// message keeps, spelled as in a PUBLISH, take at most 262,144 bytes; both are known where it is
+/// taken apart.
 #[derive(Drop)]
 pub struct Publish {
     pub duplicate: bool,
     pub qos: Qos,
     pub retain: bool,
+    /// The name, or why the text is none.
     pub topic: Result<TopicName, TopicFault>,
     pub id: Option<PacketId>,
+    /// In seconds (3.3.2.3.3).
     pub expiry: Option<u32>,
     pub alias: Option<u16>,
     pub properties: Properties,
@@ -181,16 +188,18 @@ impl Model for Publish {
     }) };
 }
 
-/// A PUBACK, PUBREC, PUBREL or PUBCOMP.
+/// A PUBACK, PUBREC, PUBREL or PUBCOMP (3.4 to 3.7); an absent code is 0.
 #[derive(Clone, Copy)]
 pub struct Acknowledgement {
     pub id: PacketId,
     pub code: u8,
 }
 
+/// A SUBSCRIBE (3.8) with 1 to 262,144 filters, in order.
 #[derive(Drop)]
 pub struct Subscribe {
     pub id: PacketId,
+    /// The Subscription Identifier (3.8.2.1.2).
     pub subscription: Option<u32>,
     pub filters: Vec<(Result<TopicFilter, TopicFault>, Options)>,
 }
@@ -207,6 +216,7 @@ impl Model for Subscribe {
     ghost invariant = { λ s. IsSubscribe (record { id = s.id; subscription = s.subscription; filters = s.filters.items }) };
 }
 
+/// An UNSUBSCRIBE (3.10) with 1 to 262,144 filters, in order.
 #[derive(Drop)]
 pub struct Unsubscribe {
     pub id: PacketId,
@@ -225,7 +235,7 @@ impl Model for Unsubscribe {
     ghost invariant = { λ u. IsUnsubscribe (record { id = u.id; filters = u.filters.items }) };
 }
 
-/// The flags of a CONNECT.
+/// The flags of a CONNECT (3.1.2.3).
 #[derive(Clone, Copy)]
 pub struct Flags {
     pub user_name: bool,
@@ -236,17 +246,21 @@ pub struct Flags {
     pub clean_start: bool,
 }
 
-/// The first packet of a client.
+/// A CONNECT (3.1), the first packet of a client. Neither maximum is 0.
 #[derive(Drop)]
 pub struct Connect {
     pub clean_start: bool,
     pub will: bool,
+    /// In seconds (3.1.2.10).
     pub keep_alive: u16,
+    /// In seconds (3.1.2.11.2).
     pub session_expiry: Option<u32>,
+    /// The Authentication Method (3.1.2.11.9).
     pub method: Option<Text>,
     pub receive_maximum: Option<u16>,
+    /// In bytes (3.1.2.11.4).
     pub packet_maximum: Option<u32>,
-    /// None where the Will flag ends the reading before it.
+    /// The client identifier; None where the Will flag ends the reading before it.
     pub client: Option<Text>,
 }
 
@@ -280,7 +294,7 @@ impl Model for Connect {
     }) };
 }
 
-/// What a client sends.
+/// What a client sends (2.1.2); `Disconnect` has its reason code.
 #[derive(Drop)]
 pub enum Packet {
     Connect(Connect),

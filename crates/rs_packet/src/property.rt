@@ -1,14 +1,14 @@
 //! The properties of packets.
 
-ghost use Rattle.std.specs.Prelude.{◌≡◌, ◌<◌, OnOk};
+ghost use Rattle.std.specs.Prelude.{◌≡◌, ◌<◌, IfOk, OnOk};
 
 use bytes::Bytes;
 use rs_topic::Text;
 use std::alloc::{AllocError, Global};
 use std::marker::Model;
 
-/// Which property it is.
-#[derive(Clone, Copy, Debug, PartialEq, Eq)]
+/// Which property it is (2.2.2.2).
+#[derive(Clone, Copy)]
 pub enum Identifier {
     PayloadFormat,
     MessageExpiry,
@@ -53,7 +53,7 @@ pub enum Property {
 }
 
 /// The packet that properties stand in.
-#[derive(Clone, Copy, Debug, PartialEq, Eq)]
+#[derive(Clone, Copy)]
 pub enum Place {
     Connect,
     Publish,
@@ -63,7 +63,7 @@ pub enum Place {
     Disconnect,
 }
 
-/// What the properties of a packet say.
+/// What the properties of a packet say, whichever it is.
 #[derive(Drop)]
 pub struct Found {
     pub format: Option<u8>,
@@ -103,7 +103,8 @@ impl Model for Found {
     } };
 }
 
-/// The properties that a message keeps.
+/// The properties that a message keeps (3.3.2.3). The correlation data take less than 65,536 bytes, and the
+/// user properties stand in the order received.
 #[derive(Drop)]
 pub struct Properties {
     pub format: Option<u8>,
@@ -137,10 +138,77 @@ impl Model for Properties {
     }) };
 }
 
+impl Properties {
+    /// An equal value, which shares the bytes of its texts and of its correlation data.
+    pub fn copy(&self) -> Result<Properties, AllocError>
+        ensures { IfOk result (λ p. p ≡ self.now) }
+    {
+        Ok(Properties {
+            format: self.format,
+            content_type: copy_text(&self.content_type)?,
+            response_topic: copy_text(&self.response_topic)?,
+            correlation: copy_bytes(&self.correlation)?,
+            user: copy_pairs(&self.user)?,
+        })
+    }
+}
+
+impl PartialEq for Properties {
+    ghost use Rattle.std.specs.Cmp.{partial_equiv_from_equiv};
+    ghost use Rattle.rs_packet.specs.Equality.{properties_eq, properties_eq_equiv};
+
+    ghost eq = { properties_eq };
+
+    ghost laws = { partial_equiv_from_equiv properties_eq_equiv };
+
+    fn eq(&self, other: &Properties) -> bool {
+        self.format == other.format
+            && self.content_type == other.content_type
+            && self.response_topic == other.response_topic
+            && self.correlation == other.correlation
+            && self.user == other.user
+    }
+}
+
+impl Eq for Properties {
+    ghost use Rattle.rs_packet.specs.Equality.{properties_eq_equiv};
+
+    ghost laws = { properties_eq_equiv };
+}
+
+fn copy_text(text: &Option<Text>) -> Result<Option<Text>, AllocError>
+    ensures { IfOk result (λ t. t ≡ text.now) }
+{
+    match text {
+        Some(text) => Ok(Some(text.copy()?)),
+        None => Ok(None),
+    }
+}
+
+fn copy_bytes(bytes: &Option<Bytes>) -> Result<Option<Bytes>, AllocError>
+    ensures { IfOk result (λ b. b ≡ bytes.now) }
+{
+    match bytes {
+        Some(bytes) => Ok(Some(bytes.clone()?)),
+        None => Ok(None),
+    }
+}
+
+fn copy_pairs(pairs: &Vec<(Text, Text)>) -> Result<Vec<(Text, Text)>, AllocError>
+    ensures { IfOk result (λ copied. copied.items ≡ pairs.now.items) }
+{
+    let mut copied = Vec::with_capacity(*pairs.allocator(), pairs.len())?;
+    for pair in pairs {
+        copied.push((pair.0.copy()?, pair.1.copy()?))?;
+    }
+    Ok(copied)
+}
+
 impl Identifier {
     ghost use Rattle.rs_packet.specs.Properties.{number, may_stand, may_repeat};
     ghost use Rattle.rs_packet.specs.Reading.{identifier_of};
 
+    /// The identifier with this number (2.2.2.2).
     #[tactic(auto, unfolding(crate::specs::Reading::identifier_of))]
     pub fn of(number: u32) -> Option<Identifier>
         ensures { result ≡ identifier_of number }
@@ -168,6 +236,7 @@ impl Identifier {
         }
     }
 
+    /// Its number (2.2.2.2).
     pub fn number(self) -> u8
         ensures value { result ≡ number self }
         ensures small { result < 40 }
@@ -248,6 +317,7 @@ impl Identifier {
 impl Property {
     ghost use Rattle.rs_packet.specs.Properties.{identifier};
 
+    /// Which property it is.
     pub fn identifier(&self) -> Identifier
         ensures { result ≡ identifier self.now }
     {
@@ -276,6 +346,7 @@ impl Property {
 impl Found {
     ghost use Rattle.rs_packet.specs.Properties.{put, nothing};
 
+    /// Of no property.
     pub fn new(alloc: Global) -> Found
         ensures { result ≡ nothing }
     {
@@ -296,6 +367,7 @@ impl Found {
         }
     }
 
+    /// Adds what a property says.
     pub fn put(&mut self, property: Property) -> Result<(), AllocError>
         ensures { OnOk result (self.new ≡ put self.old property) }
     {

@@ -15,7 +15,7 @@ use rs_topic::Text;
 use std::alloc::Global;
 
 /// Why a number has no form here.
-#[derive(Clone, Copy, Debug, PartialEq, Eq)]
+#[derive(Clone, Copy)]
 pub enum Cut {
     /// It goes on past the end.
     Short,

@@ -22,12 +22,14 @@ pub struct Accepted {
     pub assigned_client: Option<Text>,
 }
 
-/// A retained message on its way to a subscriber.
+/// A PUBLISH (3.3) with a retained message for a subscriber. An identifier stands where QoS is 1 or 2, and
+/// the body is short enough for a length (2.1.4).
 #[derive(Drop)]
 pub struct Publication {
     pub topic: TopicName,
     pub qos: Qos,
     pub id: Option<PacketId>,
+    /// The seconds left (3.3.2.3.3).
     pub expiry: Option<u32>,
     pub properties: Properties,
     pub payload: Bytes,
@@ -92,7 +94,7 @@ impl Publication {
     }
 }
 
-/// One code for each filter.
+/// A SUBACK (3.9) or an UNSUBACK (3.11): one reason code for each filter, in order.
 #[derive(Drop)]
 pub struct Codes {
     pub id: PacketId,
@@ -124,7 +126,7 @@ impl Codes {
     }
 }
 
-/// What the server sends.
+/// What the server sends. Each reply has one spelling; an acknowledgement has its reason code.
 #[derive(Drop)]
 pub enum Reply {
     /// A CONNACK with the reason code 0x00.
@@ -139,5 +141,6 @@ pub enum Reply {
     Suback(Codes),
     Unsuback(Codes),
     Pingresp,
+    /// With its reason code (3.14).
     Disconnect(u8),
 }

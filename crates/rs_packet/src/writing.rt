@@ -183,22 +183,15 @@ fn user_len(user: &[(Text, Text)]) -> usize
     len
 }
 
-fn content_type_len(text: &Option<Text>) -> usize
-    ensures value { result ≡ length (flat_map spelled (optional Property.ContentTypeIs text.now)) }
+/// How many bytes a property takes whose value is a text.
+fn text_len(text: &Option<Text>) -> usize
+    ensures content_type { result ≡ length (flat_map spelled (optional Property.ContentTypeIs text.now)) }
+    ensures response_topic { result ≡ length (flat_map spelled (optional Property.ResponseTopicIs text.now)) }
+    ensures client { result ≡ length (client_told text.now) }
     ensures small { result < 2 ^ 17 }
 {
     match text {
-        Some(t) => 3 + t.as_bytes().len(),
-        None => 0,
-    }
-}
-
-fn response_topic_len(text: &Option<Text>) -> usize
-    ensures value { result ≡ length (flat_map spelled (optional Property.ResponseTopicIs text.now)) }
-    ensures small { result < 2 ^ 17 }
-{
-    match text {
-        Some(t) => 3 + t.as_bytes().len(),
+        Some(text) => 3 + text.as_bytes().len(),
         None => 0,
     }
 }
@@ -222,7 +215,7 @@ fn section_len(expiry: Option<u32>, kept: &Properties) -> usize
 {
     let format = if kept.format.is_some() { 2 } else { 0 };
     let expiry = if expiry.is_some() { 5 } else { 0 };
-    let texts = content_type_len(&kept.content_type) + response_topic_len(&kept.response_topic);
+    let texts = text_len(&kept.content_type) + text_len(&kept.response_topic);
     format + expiry + texts + correlation_len(&kept.correlation) + user_len(&kept.user)
 }
 
@@ -294,16 +287,6 @@ fn put_limits_told(out: &mut Vec<u8>) -> Result<(), AllocError>
     Ok(())
 }
 
-fn client_told_len(client: &Option<Text>) -> usize
-    ensures value { result ≡ length (client_told client.now) }
-    ensures small { result < 2 ^ 17 }
-{
-    match client {
-        Some(client) => 3 + client.as_bytes().len(),
-        None => 0,
-    }
-}
-
 /// How many bytes the properties of an accepting CONNACK take.
 #[tactic(auto, using(crate::proofs::WritingLemmas::length_accepting))]
 fn accepting_len(a: &Accepted) -> usize
@@ -311,7 +294,7 @@ fn accepting_len(a: &Accepted) -> usize
     ensures small { result < 2 ^ 18 }
 {
     let expiry = if a.session_expiry_zero { 5 } else { 0 };
-    expiry + client_told_len(&a.assigned_client) + 12
+    expiry + text_len(&a.assigned_client) + 12
 }
 
 /// How many bytes the body of an accepting CONNACK takes.

@@ -5,3 +5,4 @@ pub mod Reasons
 pub mod Table
 pub mod Steps
 pub mod Run
+pub mod Local

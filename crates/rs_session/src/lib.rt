@@ -3,6 +3,7 @@
 
 mod gate;
 mod law;
+mod local;
 mod phase;
 mod reason;
 mod session;
@@ -10,5 +11,6 @@ mod window;
 
 pub use gate::Gate;
 pub use law::lists_grow;
+pub use local::LocalGate;
 pub use phase::{Closing, Input, Phase, Step};
 pub use session::Session;

@@ -1,2 +1,6 @@
+pub mod Joined
+pub mod LevelLemmas
+pub mod Matched
+pub mod Ordered
+pub mod Readings
 pub mod TextLemmas
-pub mod TopicLemmas

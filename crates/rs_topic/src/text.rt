@@ -1,28 +1,92 @@
-//! Texts, topic names and topic filters.
+//! Texts, and why bytes are no text, no topic name or no topic filter.
 
-ghost use Rattle.std.specs.Prelude.{◌≡◌, ◌<◌, ◌^◌, length, Some, None, if◌then◌else◌, count_by, ◌==◌, IfOk};
-ghost use Rattle.rs_topic.specs.Texts.{reads_as_text};
-ghost use Rattle.rs_topic.specs.Topics.{level_step, scan, slash};
+ghost use Rattle.std.specs.Prelude.{◌≡◌, ◌<◌, ◌^◌, length, Some, None, if◌then◌else◌, ◌==◌, IfOk, MatchResult};
+ghost use Rattle.std.specs.Str.{is_utf8};
+ghost use Rattle.rs_topic.specs.Texts.{IsText, reads_as_text};
+ghost use Rattle.rs_topic.specs.Topics.{is_plain, first_fault, text_faults, read_text, code_of};
+ghost use Rattle.rs_topic.specs.Meanings.{IsReadAs, Reads};
+ghost use Rattle.rs_topic.specs.declared.text.TopicFault.TheVariants.{NoMemory};
 
 use bytes::Bytes;
-use std::alloc::AllocError;
+use std::alloc::{AllocError, Global};
 use std::marker::Model;
+use thiserror::Error;
 
-#[tactic(auto, using(crate::proofs::TextLemmas::utf8_test))]
-fn is_text(text: &[u8]) -> bool
-    ensures { result ≡ reads_as_text text.now }
-{
-    simdutf8::is_utf8(text) && !text.contains(&0)
+/// Why bytes are no text, no topic name or no topic filter.
+#[derive(Clone, Copy, Debug, PartialEq, Eq, Error)]
+pub enum TopicFault {
+    /// There is no byte.
+    #[error("a topic is empty: give at least one character")]
+    Empty,
+    /// There are more than 65,535 bytes.
+    #[error("a text has more than 65,535 bytes: shorten it")]
+    TooLong,
+    /// The bytes are not UTF-8.
+    #[error("a text is not UTF-8: encode it as UTF-8")]
+    NotUtf8,
+    /// U+0000 stands inside.
+    #[error("a text contains the character U+0000: leave it out")]
+    HasNul,
+    /// A topic name contains `+` or `#`.
+    #[error("a topic name contains the wildcard `+` or `#`: publish to one topic at a time")]
+    HasWildcard,
+    /// In a topic filter `+` is not a whole level, or `#` not the whole last level.
+    #[error("a wildcard is misplaced: `+` has to fill a level of a topic filter, and `#` its last level")]
+    BadWildcard,
+    /// There are more than 128 levels.
+    #[error("a topic has more than 128 levels: use fewer slashes")]
+    TooManyLevels,
+    /// A topic filter begins with `$share/`.
+    #[error("shared subscriptions are not supported: leave out `$share/` and the share name")]
+    Shared,
+    /// A copy was refused for want of memory.
+    #[error("there is no memory for a copy of the text: try again later")]
+    NoMemory,
 }
 
-fn slash_count(text: &[u8]) -> usize
-    ensures { result ≡ count_by (λ c. c == slash) text.now }
-{
-    text.iter().filter(|b| **b == b'/').count()
+impl TopicFault {
+    /// The number of the fault, 1 to 9.
+    pub fn code(&self) -> u8
+        ensures { result ≡ code_of self.now }
+    {
+        match self {
+            TopicFault::Empty => 1,
+            TopicFault::TooLong => 2,
+            TopicFault::NotUtf8 => 3,
+            TopicFault::HasNul => 4,
+            TopicFault::HasWildcard => 5,
+            TopicFault::BadWildcard => 6,
+            TopicFault::TooManyLevels => 7,
+            TopicFault::Shared => 8,
+            TopicFault::NoMemory => 9,
+        }
+    }
 }
 
-/// UTF-8 without U+0000, of at most 65,535 bytes.
-#[derive(Drop)]
+fn is_utf8_text(bytes: &[u8]) -> bool
+    ensures { result ≡ is_utf8 bytes.now }
+{
+    simdutf8::is_utf8(bytes)
+}
+
+/// Why these bytes are no text (1.5.4).
+pub(crate) fn text_fault(bytes: &[u8]) -> Option<TopicFault>
+    ensures { result ≡ first_fault text_faults bytes.now }
+{
+    if bytes.len() > 65_535 {
+        return Some(TopicFault::TooLong);
+    }
+    if !is_utf8_text(bytes) {
+        return Some(TopicFault::NotUtf8);
+    }
+    if bytes.contains(&0) {
+        return Some(TopicFault::HasNul);
+    }
+    None
+}
+
+/// UTF-8 without U+0000, of at most 65,535 bytes (1.5.4). Texts are compared byte by byte.
+#[derive(Debug, Drop)]
 pub struct Text {
     bytes: Bytes,
 }
@@ -39,18 +103,39 @@ impl Model for Text {
 }
 
 impl Text {
-    ghost use Rattle.rs_topic.specs.Topics.{is_plain, levels};
-
     /// The text of these bytes, which are not copied.
     #[tactic(auto, using(crate::proofs::TextLemmas::is_text_when_read))]
     pub fn of(bytes: Bytes) -> Option<Text>
         requires { length bytes < 2 ^ 16 }
         ensures { result ≡ (if reads_as_text bytes then Some bytes else None) }
     {
-        if is_text(bytes.as_slice()) {
+        if is_utf8_text(bytes.as_slice()) && !bytes.as_slice().contains(&0) {
             Some(Text { bytes })
         } else {
             None
+        }
+    }
+
+    /// The text of a copy of these bytes. The faults are tried in the order `TooLong`, `NotUtf8`, `HasNul`, `NoMemory`, and only
+    /// the last takes memory.
+    #[tactic(auto, using(crate::proofs::Readings::text_copied_for, crate::proofs::Readings::text_read_is))]
+    pub fn read(alloc: Global, bytes: &[u8]) -> Result<Text, TopicFault>
+        ensures exact { IsReadAs (read_text bytes.now) result }
+        ensures meaning { Reads IsText text_faults bytes.now result }
+    {
+        match text_fault(bytes) {
+            Some(fault) => Err(fault),
+            None => Text::copied(alloc, bytes),
+        }
+    }
+
+    pub(crate) fn copied(alloc: Global, bytes: &[u8]) -> Result<Text, TopicFault>
+        requires { IsText bytes.now }
+        ensures { MatchResult result (λ t. t ≡ bytes.now) (λ fault. fault ≡ NoMemory) }
+    {
+        match Bytes::copy_from_slice(alloc, bytes) {
+            Ok(bytes) => Ok(Text { bytes }),
+            Err(_) => Err(TopicFault::NoMemory),
         }
     }
 
@@ -63,21 +148,14 @@ impl Text {
         })
     }
 
+    /// It has no byte.
     pub fn is_empty(&self) -> bool
         ensures { result ≡ (length self.now == 0) }
     {
         self.bytes.is_empty()
     }
 
-    /// How many levels it has.
-    #[tactic(auto, using(crate::proofs::TopicLemmas::length_levels))]
-    pub fn level_count(&self) -> usize
-        ensures { result ≡ length (levels self.now) }
-    {
-        slash_count(self.bytes.as_slice()) + 1
-    }
-
-    /// It holds no wildcard.
+    /// It contains no wildcard character, `+` or `#`.
     pub fn is_plain(&self) -> bool
         ensures { result ≡ is_plain self.now }
     {
@@ -85,152 +163,33 @@ impl Text {
         !(bytes.contains(&b'+') || bytes.contains(&b'#'))
     }
 
+    /// The bytes.
     pub fn as_bytes(&self) -> &[u8]
         ensures bytes { result.now ≡ self.now }
         ensures short { length result.now < 2 ^ 16 }
+        ensures valid { IsText self.now }
     {
         self.bytes.as_slice()
     }
 }
 
-/// Why a text is no topic name or no topic filter.
-#[derive(Clone, Copy, Debug, PartialEq, Eq)]
-pub enum TopicFault {
-    Empty,
-    TooLong,
-    NotUtf8,
-    HasNul,
-    HasWildcard,
-    BadWildcard,
-    TooManyLevels,
-    Shared,
-    NoMemory,
-}
+impl PartialEq for Text {
+    ghost use Rattle.std.specs.Prelude.{nat_eq};
+    ghost use Rattle.std.specs.Cmp.Lexicographic.{pointwise};
+    ghost use Rattle.std.proofs.lemmas.Cmp.{nat_list_eq_equiv};
+    ghost use Rattle.std.specs.Cmp.{partial_equiv_from_equiv};
 
-/// A text that names one topic.
-#[derive(Drop)]
-pub struct TopicName {
-    text: Text,
-}
+    ghost eq = { pointwise nat_eq };
 
-impl Model for TopicName {
-    ghost use Rattle.std.specs.Prelude.{List, ℕ};
+    ghost laws = { partial_equiv_from_equiv nat_list_eq_equiv };
 
-    ghost Value = { List ℕ };
-
-    ghost view = { λ t. t.text };
-}
-
-impl TopicName {
-    ghost use Rattle.rs_topic.specs.Topics.{name_of};
-
-    pub fn as_bytes(&self) -> &[u8]
-        ensures bytes { result.now ≡ self.now }
-        ensures short { length result.now < 2 ^ 16 }
-    {
-        self.text.as_bytes()
-    }
-
-    /// The name that a text is, which is not copied.
-    #[tactic(auto, unfolding(crate::specs::Topics::name_of))]
-    pub fn of(text: Text) -> Result<TopicName, TopicFault>
-        ensures { result ≡ name_of text }
-    {
-        if text.is_empty() {
-            return Err(TopicFault::Empty);
-        }
-        if !text.is_plain() {
-            return Err(TopicFault::HasWildcard);
-        }
-        if text.level_count() > 128 {
-            return Err(TopicFault::TooManyLevels);
-        }
-        Ok(TopicName { text })
+    fn eq(&self, other: &Text) -> bool {
+        self.bytes == other.bytes
     }
 }
 
-/// A text that names topics by wildcards.
-#[derive(Drop)]
-pub struct TopicFilter {
-    text: Text,
-}
+impl Eq for Text {
+    ghost use Rattle.std.proofs.lemmas.Cmp.{nat_list_eq_equiv};
 
-impl Model for TopicFilter {
-    ghost use Rattle.std.specs.Prelude.{List, ℕ};
-
-    ghost Value = { List ℕ };
-
-    ghost view = { λ t. t.text };
-}
-
-/// What of a level has been read.
-#[derive(Clone, Copy, Debug, PartialEq, Eq)]
-pub enum LevelSoFar {
-    Empty,
-    Plain,
-    Plus,
-    Hash,
-}
-
-fn step(state: LevelSoFar, byte: u8) -> Option<LevelSoFar>
-    ensures { result ≡ level_step state byte }
-{
-    match state {
-        LevelSoFar::Empty => match byte {
-            b'/' => Some(LevelSoFar::Empty),
-            b'+' => Some(LevelSoFar::Plus),
-            b'#' => Some(LevelSoFar::Hash),
-            _ => Some(LevelSoFar::Plain),
-        },
-        LevelSoFar::Plain => match byte {
-            b'/' => Some(LevelSoFar::Empty),
-            b'+' => None,
-            b'#' => None,
-            _ => Some(LevelSoFar::Plain),
-        },
-        LevelSoFar::Plus => match byte {
-            b'/' => Some(LevelSoFar::Empty),
-            _ => None,
-        },
-        LevelSoFar::Hash => None,
-    }
-}
-
-/// Each wildcard fills its level, and a hash the last one.
-fn wildcards_fit(text: &[u8]) -> bool
-    ensures { result ≡ scan LevelSoFar.Empty text.now }
-{
-    let mut state = LevelSoFar::Empty;
-    for byte in text {
-        match step(state, *byte) {
-            Some(next) => state = next,
-            None => return false,
-        }
-    }
-    true
-}
-
-impl TopicFilter {
-    ghost use Rattle.rs_topic.specs.Topics.{filter_of};
-
-    /// The filter that a text is, which is not copied.
-    #[tactic(auto, unfolding(crate::specs::Topics::filter_of))]
-    pub fn of(text: Text) -> Result<TopicFilter, TopicFault>
-        ensures { result ≡ filter_of text }
-    {
-        let bytes = text.as_bytes();
-        if bytes.is_empty() {
-            return Err(TopicFault::Empty);
-        }
-        if bytes.starts_with(b"$share/") {
-            return Err(TopicFault::Shared);
-        }
-        if !wildcards_fit(bytes) {
-            return Err(TopicFault::BadWildcard);
-        }
-        if text.level_count() > 128 {
-            return Err(TopicFault::TooManyLevels);
-        }
-        Ok(TopicFilter { text })
-    }
+    ghost laws = { nat_list_eq_equiv };
 }

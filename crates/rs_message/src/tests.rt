@@ -1,0 +1,210 @@
+//! Worked examples, and each public call once with ample memory.
+
+ghost use Rattle.std.specs.Prelude.{◌≡◌, ◌≢◌, ◌≤◌, [], length};
+ghost use Rattle.rs_message.specs.Bare.{no_properties};
+
+use crate::{Entry, Message, Operation, Origin, Remaining, SubmitFault};
+use bytes::Bytes;
+use rs_packet::{Properties, Qos};
+use rs_topic::TopicName;
+use std::alloc::{AllocError, Global};
+use std::test::Fail;
+
+fn bare(alloc: Global) -> Properties
+    ensures { result ≡ no_properties }
+{
+    Properties {
+        format: None,
+        content_type: None,
+        response_topic: None,
+        correlation: None,
+        user: Vec::new(alloc),
+    }
+}
+
+#[tactic(auto, using(crate::proofs::Sizes::small_message))]
+fn received_at_100(alloc: Global, payload: &'static [u8], expiry: Option<u32>) -> Message
+    requires some { payload.now ≢ [] }
+    requires small { length payload.now ≤ 1000 }
+{
+    Message::new(
+        Bytes::from_static(payload),
+        Qos::AtLeastOnce,
+        100,
+        expiry,
+        bare(alloc),
+    )
+}
+
+#[test]
+fn interval_of_10(rt: HostRuntime) -> Result<(), Fail> {
+    let message = received_at_100(rt.alloc(), b"x", Some(10));
+    assert_eq!(rt; message.remaining(100), Remaining::Left(10));
+    assert_eq!(rt; message.remaining(109), Remaining::Left(1));
+    assert_eq!(rt; message.remaining(110), Remaining::Expired);
+    assert_eq!(rt; message.remaining(99), Remaining::Left(10));
+    assert_eq!(rt; message.remaining(u64::MAX), Remaining::Expired);
+    Ok(())
+}
+
+#[test]
+fn interval_of_0_and_none(rt: HostRuntime) -> Result<(), Fail> {
+    let at_once = received_at_100(rt.alloc(), b"x", Some(0));
+    assert_eq!(rt; at_once.remaining(0), Remaining::Expired);
+    assert_eq!(rt; at_once.remaining(100), Remaining::Expired);
+    let for_ever = received_at_100(rt.alloc(), b"x", None);
+    assert_eq!(rt; for_ever.remaining(u64::MAX), Remaining::Forever);
+    Ok(())
+}
+
+#[test]
+fn origins(rt: HostRuntime) -> Result<(), Fail> {
+    assert!(rt; Origin::new(0, 1).is_none());
+    assert!(rt; Origin::new(1, 0).is_none());
+    assert!(rt; Origin::new(65, 1).is_none());
+    let origin = Origin::new(64, u64::MAX).ok_or("64 is a place")?;
+    assert_eq!(rt; origin.place(), 64);
+    assert_eq!(rt; origin.serial(), u64::MAX);
+    Ok(())
+}
+
+#[tactic(auto, using(crate::proofs::Sizes::small_message))]
+fn published(
+    alloc: Global,
+    retain: bool,
+    payload: &'static [u8],
+    expiry: Option<u32>,
+) -> Result<Option<Operation>, Fail>
+    requires { length payload.now ≤ 1000 }
+{
+    let topic = TopicName::read(alloc, b"a/b")?;
+    Ok(Operation::of(
+        retain,
+        topic,
+        Bytes::from_static(payload),
+        Qos::ExactlyOnce,
+        7,
+        expiry,
+        bare(alloc),
+    ))
+}
+
+fn clears(operation: &Option<Operation>) -> bool {
+    match operation {
+        Some(Operation::Clear(topic)) => topic.as_bytes() == b"a/b".as_slice(),
+        _ => false,
+    }
+}
+
+fn is_x(message: &Message) -> bool {
+    message.payload().as_slice() == b"x".as_slice()
+        && message.qos() == Qos::ExactlyOnce
+        && message.received() == 7
+        && message.expiry() == Some(9)
+        && message.properties().user.is_empty()
+}
+
+fn sets(operation: &Option<Operation>) -> bool {
+    match operation {
+        Some(Operation::Set(topic, message)) => {
+            topic.as_bytes() == b"a/b".as_slice() && is_x(message)
+        }
+        _ => false,
+    }
+}
+
+#[test]
+fn without_retain(rt: HostRuntime) -> Result<(), Fail> {
+    assert!(rt; published(rt.alloc(), false, b"x", None)?.is_none());
+    assert!(rt; published(rt.alloc(), false, b"", None)?.is_none());
+    Ok(())
+}
+
+#[test]
+fn an_empty_payload_clears(rt: HostRuntime) -> Result<(), Fail> {
+    let operation = published(rt.alloc(), true, b"", Some(9))?;
+    assert!(rt; clears(&operation));
+    Ok(())
+}
+
+fn copy_of(operation: &Option<Operation>) -> Result<Option<Operation>, AllocError> {
+    match operation {
+        Some(operation) => Ok(Some(operation.copy()?)),
+        None => Ok(None),
+    }
+}
+
+#[test]
+fn a_payload_is_kept(rt: HostRuntime) -> Result<(), Fail> {
+    let operation = published(rt.alloc(), true, b"x", Some(9))?;
+    assert!(rt; sets(&operation));
+    let copy = copy_of(&operation)?;
+    assert!(rt; sets(&copy));
+    Ok(())
+}
+
+fn entry(origin: Origin, topic: TopicName) -> Entry {
+    Entry {
+        origin,
+        operation: Operation::Clear(topic),
+    }
+}
+
+#[test]
+fn an_entry_is_copied(rt: HostRuntime) -> Result<(), Fail> {
+    let origin = Origin::new(1, 1).ok_or("1 is a place")?;
+    let entry = entry(origin, TopicName::read(rt.alloc(), b"a/b")?);
+    let copy = entry.copy()?;
+    assert_eq!(rt; copy.origin.serial(), 1);
+    assert!(rt; matches!(copy.operation, Operation::Clear(_)));
+    Ok(())
+}
+
+#[test]
+fn parts(rt: HostRuntime) -> Result<(), Fail> {
+    let message = received_at_100(rt.alloc(), b"x", Some(10));
+    let copy = message.copy()?;
+    let (payload, qos, received, expiry, _properties) = copy.into_parts();
+    assert_eq!(rt; payload.as_slice(), b"x".as_slice());
+    assert_eq!(rt; qos, Qos::AtLeastOnce);
+    assert_eq!(rt; received, 100);
+    assert_eq!(rt; expiry, Some(10));
+    Ok(())
+}
+
+#[test]
+fn codes(rt: HostRuntime) -> Result<(), Fail> {
+    let rows: [(SubmitFault, u8, &str); 5] = [
+        (
+            SubmitFault::Full,
+            40,
+            "the store holds as many topics as it may; clear a topic or raise the limit",
+        ),
+        (
+            SubmitFault::NoMemory,
+            41,
+            "memory was refused, and nothing was stored; free memory and try again",
+        ),
+        (
+            SubmitFault::Open,
+            42,
+            "the store gave no receipt; the change may still be made, once",
+        ),
+        (
+            SubmitFault::Strange,
+            43,
+            "the store answered for another change; send this one again",
+        ),
+        (
+            SubmitFault::Closed,
+            44,
+            "the store takes no more changes; start it again",
+        ),
+    ];
+    for (fault, code, text) in rows {
+        assert_eq!(rt; fault.code(), code);
+        let shown = format!(in rt.alloc(); "{fault}")?;
+        assert_eq!(rt; shown.as_str(), text);
+    }
+    Ok(())
+}

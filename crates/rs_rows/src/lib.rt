@@ -1,0 +1,12 @@
+//! Worked examples: whole connections over memory, byte for byte.
+//!
+//! Each example is served in one piece, cut in two at each byte, and byte by byte; what is written and
+//! how the connection ends must be the same each time.
+#![tactic(auto)]
+
+#[cfg(test)]
+mod examples;
+#[cfg(test)]
+mod pieces;
+#[cfg(test)]
+mod tests;

@@ -1,0 +1,43 @@
+//! A reader that gives its bytes in pieces.
+
+use std::io;
+use std::io::Read;
+
+/// Gives the bytes before `cut` in one read and the others in another, or one byte a read where `cut`
+/// is 0.
+#[derive(Drop)]
+pub struct Pieces {
+    bytes: Vec<u8>,
+    at: usize,
+    cut: usize,
+}
+
+impl Pieces {
+    pub fn new(bytes: Vec<u8>, cut: usize) -> Pieces {
+        Pieces { bytes, at: 0, cut }
+    }
+
+    /// Where the piece that begins at `at` ends.
+    fn end(&self) -> usize {
+        if self.cut == 0 {
+            return self.at.saturating_add(1);
+        }
+        if self.at < self.cut {
+            return self.cut;
+        }
+        self.bytes.len()
+    }
+}
+
+impl Read for Pieces {
+    fn read(&mut self, buf: &mut [u8]) -> io::Result<usize> {
+        let end = self.end().min(self.bytes.len());
+        let mut n = 0;
+        while n < buf.len() && self.at < end {
+            buf[n] = self.bytes[self.at];
+            self.at += 1;
+            n += 1;
+        }
+        Ok(n)
+    }
+}

@@ -1,0 +1,23 @@
+-- What a gate with a catalogue of its own stands for.
+use Rattle.std.specs.Prelude.{◌≡◌, ◌≢◌, ℕ, ◌+◌, ◌-◌, ◌^◌, ◌⊎◌, List, slice_index}
+use Rattle.rs_message.specs.declared.entry.Entry.{Entry}
+use Rattle.rs_message.specs.declared.entry.Operation.{Operation}
+use Rattle.rs_store.specs.declared.content.Content.{Content}
+use Rattle.rs_store.specs.Contents.{HasRoom}
+use Rattle.rs_session.specs.declared.local.LocalGate.{LocalGate}
+use Rattle.rs_session.specs.Gate.{Mark}
+
+abbrev pub catalogue_of : {C : Type 0} → LocalGate C → C
+catalogue_of gate = gate.catalogue
+
+-- it serves as place 1
+abbrev pub local_mark : Content → Mark
+local_mark c = record { place = 1; serial = slice_index c.serials 1 }
+
+-- the next entry of place 1
+abbrev pub next_entry : Content → Operation → Entry
+next_entry c operation = record { origin = record { place = 1; serial = slice_index c.serials 1 + 1 }; operation = operation }
+
+-- no serial is left, or the store has no room for the entry
+abbrev pub IsFull : Content → Operation → Type 0
+IsFull c operation = (slice_index c.serials 1 ≡ 2 ^ 64 - 1) ⊎ (HasRoom c (next_entry c operation) → ⊥)

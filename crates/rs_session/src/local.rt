@@ -1,0 +1,80 @@
+//! A gate with a catalogue of its own.
+
+ghost use Rattle.std.specs.Prelude.{◌≡◌, ◌↔◌, [], List, IfOk, IfErr, OnErr, OnOk, Err, ◌⊎◌};
+ghost use Rattle.rs_store.specs.Contents.{empty};
+ghost use Rattle.rs_store.specs.History.{IsAnswer, Stands};
+ghost use Rattle.rs_session.specs.Gate.{Grows, Uses, IsSubmitted};
+ghost use Rattle.rs_session.specs.Local.{catalogue_of, local_mark, IsFull};
+
+use crate::gate::Gate;
+use rs_message::{Entry, Found, Operation, Origin, SubmitFault};
+use rs_store::{Catalogue, Refusal, TopicLimit, add};
+use rs_topic::TopicFilter;
+use std::alloc::{AllocError, Global};
+
+/// The place that it serves as.
+const PLACE: u8 = 1;
+
+/// The store of a single connection: a catalogue, served as place 1 with serials from 1. It stands for
+/// each list of entries that its catalogue stands for.
+#[derive(Drop)]
+pub struct LocalGate<C> {
+    catalogue: C,
+}
+
+impl<C: Catalogue> LocalGate<C> {
+    /// A gate to an empty store of at most so many topics.
+    pub fn new(alloc: Global, limit: TopicLimit) -> Result<LocalGate<C>, AllocError>
+        ensures content { IfOk result (λ gate. C.content (catalogue_of gate) ≡ empty limit) }
+        ensures list { IfOk result (λ gate. Stands (C.content (catalogue_of gate)) []) }
+    {
+        Ok(LocalGate {
+            catalogue: C::new(alloc, limit)?,
+        })
+    }
+
+    /// Its catalogue.
+    pub fn catalogue(&self) -> &C
+        ensures { result.now ≡ catalogue_of self.now }
+    {
+        &self.catalogue
+    }
+}
+
+impl<C: Catalogue> Gate for LocalGate<C> {
+    ghost use Rattle.rs_store.specs.History.{Stands};
+    ghost use Rattle.rs_session.specs.Local.{catalogue_of, local_mark};
+
+    ghost stands = { λ gate list. Stands (C.content (catalogue_of gate)) list };
+
+    ghost mark = { λ gate. local_mark (C.content (catalogue_of gate)) };
+
+    /// `Full` where no serial is left or the store has no room, `NoMemory` where memory is refused.
+    /// Refused, the store is as before.
+    fn submit(&mut self, operation: Operation) -> Result<(), SubmitFault>
+        ensures list { Grows (Stands (C.content (catalogue_of self.old))) (Stands (C.content (catalogue_of self.new)))
+            (λ seen list. OnOk result (IsSubmitted operation (local_mark (C.content (catalogue_of self.old))) (local_mark (C.content (catalogue_of self.new))) list)) }
+        ensures mark { Uses (local_mark (C.content (catalogue_of self.old))) (local_mark (C.content (catalogue_of self.new))) }
+        ensures full { (result ≡ Err SubmitFault.Full) ↔ IsFull (C.content (catalogue_of self.old)) operation }
+        ensures faults { IfErr result (λ fault. (fault ≡ SubmitFault.Full) ⊎ (fault ≡ SubmitFault.NoMemory)) }
+        ensures refused { OnErr result (C.content (catalogue_of self.new) ≡ C.content (catalogue_of self.old)) }
+    {
+        let last = self.catalogue.last_serial(PLACE);
+        if last == u64::MAX {
+            return Err(SubmitFault::Full);
+        }
+        let Some(origin) = Origin::new(PLACE, last + 1) else {
+            return Err(SubmitFault::Full);
+        };
+        match add(&mut self.catalogue, Entry { origin, operation }) {
+            Ok(()) => Ok(()),
+            Err(Refusal::Full) => Err(SubmitFault::Full),
+            Err(Refusal::Stale) => Err(SubmitFault::Full),
+            Err(Refusal::NoMemory) => Err(SubmitFault::NoMemory),
+        }
+    }
+
+    fn answer(&mut self, filter: &TopicFilter, now: u64) -> Result<Vec<Found>, AllocError> {
+        self.catalogue.answer(filter, now)
+    }
+}

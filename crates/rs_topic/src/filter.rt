@@ -1,0 +1,178 @@
+//! Topic filters (4.7.1, 4.7.3).
+
+ghost use Rattle.std.specs.Prelude.{◌≡◌, ◌<◌, ◌^◌, length, ◌↔◌, IsTrue, IfOk};
+ghost use Rattle.rs_topic.specs.Topics.{filter_faults, filter_faults_of_text, filter_of, first_fault, level_fits, levels, read_filter, wildcards_fit};
+ghost use Rattle.rs_topic.specs.Matching.{Matches};
+ghost use Rattle.rs_topic.specs.Meanings.{IsReadAs, IsTopicFilter, Reads};
+
+use crate::level::{Levels, level_count};
+use crate::matching::{begins_wild, begins_with_dollar, fits, is_hash, is_plus};
+use crate::name::TopicName;
+use crate::text::{Text, TopicFault, text_fault};
+use std::alloc::{AllocError, Global};
+use std::hash::{Hash, Hasher};
+use std::marker::Model;
+
+/// A wildcard in this level fills it, and a hash stands in the last level (4.7.1.2, 4.7.1.3).
+fn level_fits(level: &[u8], is_last: bool) -> bool
+    ensures { result ≡ level_fits level.now is_last }
+{
+    (!level.contains(&b'+') || is_plus(level))
+        && (!level.contains(&b'#') || (is_hash(level) && is_last))
+}
+
+fn wildcards_fit(mut rest: Levels<'_>) -> bool
+    ensures { result ≡ wildcards_fit rest.entry }
+{
+    while let Some(level) = rest.next() {
+        if !level_fits(level, rest.is_empty()) {
+            return false;
+        }
+    }
+    true
+}
+
+/// Why a text is no topic filter.
+fn filter_fault(text: &[u8]) -> Option<TopicFault>
+    ensures { result ≡ first_fault filter_faults_of_text text.now }
+{
+    if text.is_empty() {
+        return Some(TopicFault::Empty);
+    }
+    if text.starts_with(b"$share/") {
+        return Some(TopicFault::Shared);
+    }
+    if !wildcards_fit(Levels::of(text)) {
+        return Some(TopicFault::BadWildcard);
+    }
+    if level_count(text) > 128 {
+        return Some(TopicFault::TooManyLevels);
+    }
+    None
+}
+
+/// Why bytes are no topic filter.
+#[tactic(auto, using(crate::proofs::Readings::filter_faults_split))]
+fn fault_of(bytes: &[u8]) -> Option<TopicFault>
+    ensures { result ≡ first_fault filter_faults bytes.now }
+{
+    text_fault(bytes).or_else(|| filter_fault(bytes))
+}
+
+/// A text that selects topics: not empty, of at most 128 levels, in which `+` fills a level and `#` the last level, and which
+/// does not begin with `$share/` (4.7.1, 4.7.3, 4.8.2). Filters are compared, and hashed, by their bytes.
+#[derive(Debug, Drop)]
+pub struct TopicFilter {
+    text: Text,
+}
+
+impl Model for TopicFilter {
+    ghost use Rattle.std.specs.Prelude.{List, ℕ};
+    ghost use Rattle.rs_topic.specs.Meanings.{IsTopicFilter};
+
+    ghost Value = { List ℕ };
+
+    ghost view = { λ t. t.text };
+
+    ghost invariant = { λ t. IsTopicFilter t.text };
+}
+
+impl TopicFilter {
+    /// The filter that a text is. The bytes are not copied. The faults are tried in the order `Empty`, `Shared`, `BadWildcard`,
+    /// `TooManyLevels`.
+    #[tactic(auto, using(crate::proofs::Readings::filter_of_none, crate::proofs::Readings::filter_is))]
+    pub fn of(text: Text) -> Result<TopicFilter, TopicFault>
+        ensures { result ≡ filter_of text }
+    {
+        match filter_fault(text.as_bytes()) {
+            Some(fault) => Err(fault),
+            None => Ok(TopicFilter { text }),
+        }
+    }
+
+    /// The filter of a copy of these bytes. The faults are tried in the order `Empty`, `TooLong`, `NotUtf8`, `HasNul`, `Shared`,
+    /// `BadWildcard`, `TooManyLevels`, `NoMemory`, and only the last takes memory.
+    #[tactic(auto, using(crate::proofs::Readings::filter_found, crate::proofs::Readings::filter_found_for, crate::proofs::Readings::filter_denied, crate::proofs::Readings::filter_denied_for, crate::proofs::Readings::filter_read_is))]
+    pub fn read(alloc: Global, bytes: &[u8]) -> Result<TopicFilter, TopicFault>
+        ensures exact { IsReadAs (read_filter bytes.now) result }
+        ensures meaning { Reads IsTopicFilter filter_faults bytes.now result }
+    {
+        match fault_of(bytes) {
+            Some(fault) => Err(fault),
+            None => Ok(TopicFilter {
+                text: Text::copied(alloc, bytes)?,
+            }),
+        }
+    }
+
+    /// The filter selects this topic: its levels fit those of the name, and its first level is no wildcard where the name begins
+    /// with `$` (4.7.1, 4.7.2).
+    pub fn matches(&self, name: &TopicName) -> bool
+        ensures { IsTrue result ↔ Matches self.now name.now }
+    {
+        if begins_wild(self.levels()) && begins_with_dollar(name.as_bytes()) {
+            return false;
+        }
+        fits(self.levels(), name.levels())
+    }
+
+    /// An equal filter, which shares the bytes.
+    pub fn copy(&self) -> Result<TopicFilter, AllocError>
+        ensures { IfOk result (λ t. t ≡ self.now) }
+    {
+        Ok(TopicFilter {
+            text: self.text.copy()?,
+        })
+    }
+
+    /// The bytes.
+    pub fn as_bytes(&self) -> &[u8]
+        ensures bytes { result.now ≡ self.now }
+        ensures short { length result.now < 2 ^ 16 }
+        ensures valid { IsTopicFilter self.now }
+    {
+        self.text.as_bytes()
+    }
+
+    /// The levels in their order, at least one and at most 128. Each may be empty.
+    pub fn levels(&self) -> Levels<'_>
+        ensures { result ≡ levels self.now }
+    {
+        Levels::of(self.text.as_bytes())
+    }
+}
+
+impl PartialEq for TopicFilter {
+    ghost use Rattle.std.specs.Prelude.{nat_eq};
+    ghost use Rattle.std.specs.Cmp.Lexicographic.{pointwise};
+    ghost use Rattle.std.proofs.lemmas.Cmp.{nat_list_eq_equiv};
+    ghost use Rattle.std.specs.Cmp.{partial_equiv_from_equiv};
+
+    ghost eq = { pointwise nat_eq };
+
+    ghost laws = { partial_equiv_from_equiv nat_list_eq_equiv };
+
+    fn eq(&self, other: &TopicFilter) -> bool {
+        self.text == other.text
+    }
+}
+
+impl Eq for TopicFilter {
+    ghost use Rattle.std.proofs.lemmas.Cmp.{nat_list_eq_equiv};
+
+    ghost laws = { nat_list_eq_equiv };
+}
+
+impl Hash for TopicFilter {
+    ghost use Rattle.std.specs.Hash as fed;
+    ghost use Rattle.std.specs.Cmp.Rules.{hashing};
+    ghost use Rattle.std.proofs.Common.{rules};
+
+    ghost hash_input = { fed.slice fed.u8 };
+
+    ghost respects_eq = { Prim.search (hashing, rules) };
+
+    fn hash<H: Hasher>(&self, state: &mut H) {
+        self.as_bytes().hash(state);
+    }
+}

@@ -1,0 +1,392 @@
+//! Worked examples, and each public call once with ample memory.
+
+use crate::{Text, TopicFault, TopicFilter, TopicName, level_law, order_law, reading_law};
+use std::alloc::{AllocError, Global};
+use std::cmp::Ordering;
+use std::hash::{DefaultHasher, Hash, Hasher};
+use std::test::Fail;
+
+struct Match {
+    filter: &'static [u8],
+    name: &'static [u8],
+    wanted: bool,
+}
+
+static MATCHES: [Match; 17] = [
+    Match {
+        filter: b"sport/#",
+        name: b"sport",
+        wanted: true,
+    },
+    Match {
+        filter: b"sport/#",
+        name: b"sport/",
+        wanted: true,
+    },
+    Match {
+        filter: b"sport/#",
+        name: b"sport/tennis/player1",
+        wanted: true,
+    },
+    Match {
+        filter: b"sport/#",
+        name: b"sports",
+        wanted: false,
+    },
+    Match {
+        filter: b"sport/+",
+        name: b"sport/",
+        wanted: true,
+    },
+    Match {
+        filter: b"sport/+",
+        name: b"sport",
+        wanted: false,
+    },
+    Match {
+        filter: b"sport/+",
+        name: b"sport/a/b",
+        wanted: false,
+    },
+    Match {
+        filter: b"#",
+        name: b"$SYS/x",
+        wanted: false,
+    },
+    Match {
+        filter: b"+/x",
+        name: b"$SYS/x",
+        wanted: false,
+    },
+    Match {
+        filter: b"$SYS/#",
+        name: b"$SYS/x",
+        wanted: true,
+    },
+    Match {
+        filter: b"a/+",
+        name: b"a/$x",
+        wanted: true,
+    },
+    Match {
+        filter: b"+/+",
+        name: b"/finance",
+        wanted: true,
+    },
+    Match {
+        filter: b"/+",
+        name: b"/finance",
+        wanted: true,
+    },
+    Match {
+        filter: b"+",
+        name: b"/finance",
+        wanted: false,
+    },
+    Match {
+        filter: b"$share",
+        name: b"$share",
+        wanted: true,
+    },
+    Match {
+        filter: b"#",
+        name: b"a/b",
+        wanted: true,
+    },
+    Match {
+        filter: b"a/b",
+        name: b"a/B",
+        wanted: false,
+    },
+];
+
+#[test]
+fn filters_match_names(rt: HostRuntime) -> Result<(), Fail> {
+    for row in MATCHES.iter() {
+        let filter = TopicFilter::read(rt.alloc(), row.filter)?;
+        let name = TopicName::read(rt.alloc(), row.name)?;
+        assert_eq!(rt; filter.matches(&name), row.wanted);
+    }
+    Ok(())
+}
+
+struct Reading {
+    bytes: &'static [u8],
+    text: Option<TopicFault>,
+    name: Option<TopicFault>,
+    filter: Option<TopicFault>,
+}
+
+static READINGS: [Reading; 13] = [
+    Reading {
+        bytes: b"",
+        text: None,
+        name: Some(TopicFault::Empty),
+        filter: Some(TopicFault::Empty),
+    },
+    Reading {
+        bytes: b"a\xff+\x00",
+        text: Some(TopicFault::NotUtf8),
+        name: Some(TopicFault::NotUtf8),
+        filter: Some(TopicFault::NotUtf8),
+    },
+    Reading {
+        bytes: b"a\x00+",
+        text: Some(TopicFault::HasNul),
+        name: Some(TopicFault::HasNul),
+        filter: Some(TopicFault::HasNul),
+    },
+    Reading {
+        bytes: b"a#",
+        text: None,
+        name: Some(TopicFault::HasWildcard),
+        filter: Some(TopicFault::BadWildcard),
+    },
+    Reading {
+        bytes: b"a/#/b",
+        text: None,
+        name: Some(TopicFault::HasWildcard),
+        filter: Some(TopicFault::BadWildcard),
+    },
+    Reading {
+        bytes: b"a+/b",
+        text: None,
+        name: Some(TopicFault::HasWildcard),
+        filter: Some(TopicFault::BadWildcard),
+    },
+    Reading {
+        bytes: b"##",
+        text: None,
+        name: Some(TopicFault::HasWildcard),
+        filter: Some(TopicFault::BadWildcard),
+    },
+    Reading {
+        bytes: b"+/a/#",
+        text: None,
+        name: Some(TopicFault::HasWildcard),
+        filter: None,
+    },
+    Reading {
+        bytes: b"$share/g/a",
+        text: None,
+        name: None,
+        filter: Some(TopicFault::Shared),
+    },
+    Reading {
+        bytes: b"$share/a#",
+        text: None,
+        name: Some(TopicFault::HasWildcard),
+        filter: Some(TopicFault::Shared),
+    },
+    Reading {
+        bytes: b"$share",
+        text: None,
+        name: None,
+        filter: None,
+    },
+    Reading {
+        bytes: b"/",
+        text: None,
+        name: None,
+        filter: None,
+    },
+    Reading {
+        bytes: b"caf\xc3\xa9 au lait",
+        text: None,
+        name: None,
+        filter: None,
+    },
+];
+
+#[test]
+fn the_first_fault_is_answered(rt: HostRuntime) {
+    for row in READINGS.iter() {
+        assert_eq!(rt; Text::read(rt.alloc(), row.bytes).err(), row.text);
+        assert_eq!(rt; TopicName::read(rt.alloc(), row.bytes).err(), row.name);
+        assert_eq!(rt; TopicFilter::read(rt.alloc(), row.bytes).err(), row.filter);
+    }
+}
+
+/// So many bytes, all the same.
+fn repeated(alloc: Global, byte: u8, count: usize) -> Result<Vec<u8>, AllocError> {
+    let mut bytes = Vec::new(alloc);
+    for _ in 0..count {
+        bytes.push(byte)?;
+    }
+    Ok(bytes)
+}
+
+#[test]
+fn limits_are_kept(rt: HostRuntime) -> Result<(), Fail> {
+    let long = repeated(rt.alloc(), b'x', 65_536)?;
+    assert_eq!(rt;
+        Text::read(rt.alloc(), &long).err(),
+        Some(TopicFault::TooLong)
+    );
+    assert_eq!(rt;
+        TopicName::read(rt.alloc(), &long).err(),
+        Some(TopicFault::TooLong)
+    );
+    assert_eq!(rt;
+        TopicFilter::read(rt.alloc(), &long).err(),
+        Some(TopicFault::TooLong)
+    );
+    let longest = repeated(rt.alloc(), b'x', 65_535)?;
+    assert_eq!(rt; TopicName::read(rt.alloc(), &longest).err(), None);
+    assert_eq!(rt; TopicFilter::read(rt.alloc(), &longest).err(), None);
+    let levels_129 = repeated(rt.alloc(), b'/', 128)?;
+    assert_eq!(rt;
+        TopicName::read(rt.alloc(), &levels_129).err(),
+        Some(TopicFault::TooManyLevels)
+    );
+    assert_eq!(rt;
+        TopicFilter::read(rt.alloc(), &levels_129).err(),
+        Some(TopicFault::TooManyLevels)
+    );
+    let levels_128 = repeated(rt.alloc(), b'/', 127)?;
+    assert_eq!(rt; TopicName::read(rt.alloc(), &levels_128).err(), None);
+    assert_eq!(rt; TopicFilter::read(rt.alloc(), &levels_128).err(), None);
+    Ok(())
+}
+
+struct Shown {
+    fault: TopicFault,
+    code: u8,
+    text: &'static str,
+}
+
+static SHOWN: [Shown; 9] = [
+    Shown {
+        fault: TopicFault::Empty,
+        code: 1,
+        text: "a topic is empty: give at least one character",
+    },
+    Shown {
+        fault: TopicFault::TooLong,
+        code: 2,
+        text: "a text has more than 65,535 bytes: shorten it",
+    },
+    Shown {
+        fault: TopicFault::NotUtf8,
+        code: 3,
+        text: "a text is not UTF-8: encode it as UTF-8",
+    },
+    Shown {
+        fault: TopicFault::HasNul,
+        code: 4,
+        text: "a text contains the character U+0000: leave it out",
+    },
+    Shown {
+        fault: TopicFault::HasWildcard,
+        code: 5,
+        text: "a topic name contains the wildcard `+` or `#`: publish to one topic at a time",
+    },
+    Shown {
+        fault: TopicFault::BadWildcard,
+        code: 6,
+        text: "a wildcard is misplaced: `+` has to fill a level of a topic filter, and `#` its last level",
+    },
+    Shown {
+        fault: TopicFault::TooManyLevels,
+        code: 7,
+        text: "a topic has more than 128 levels: use fewer slashes",
+    },
+    Shown {
+        fault: TopicFault::Shared,
+        code: 8,
+        text: "shared subscriptions are not supported: leave out `$share/` and the share name",
+    },
+    Shown {
+        fault: TopicFault::NoMemory,
+        code: 9,
+        text: "there is no memory for a copy of the text: try again later",
+    },
+];
+
+#[test]
+fn faults_have_codes_and_texts(rt: HostRuntime) -> Result<(), Fail> {
+    for row in SHOWN.iter() {
+        assert_eq!(rt; row.fault.code(), row.code);
+        let shown = format!(in rt.alloc(); "{}", row.fault)?;
+        assert_eq!(rt; shown.as_str(), row.text);
+    }
+    Ok(())
+}
+
+static RISING: [&[u8]; 8] = [b"/", b"$s", b"a", b"a/", b"a/b", b"a.b", b"aa", b"b"];
+
+#[test]
+fn names_are_ordered_as_replayed(rt: HostRuntime) -> Result<(), Fail> {
+    let mut last = TopicName::read(rt.alloc(), b"/")?;
+    for bytes in RISING[1..].iter() {
+        let name = TopicName::read(rt.alloc(), bytes)?;
+        assert_eq!(rt; last.cmp(&name), Ordering::Less);
+        assert_eq!(rt; name.cmp(&last), Ordering::Greater);
+        assert!(rt; last < name && last != name);
+        last = name;
+    }
+    level_law();
+    order_law();
+    reading_law();
+    Ok(())
+}
+
+static LEVELS: [&[u8]; 4] = [b"", b"a", b"", b"b"];
+
+#[test]
+fn levels_come_in_order(rt: HostRuntime) -> Result<(), Fail> {
+    let name = TopicName::read(rt.alloc(), b"/a//b")?;
+    for (level, wanted) in name.levels().zip(LEVELS.iter()) {
+        assert_eq!(rt; level, *wanted);
+    }
+    assert_eq!(rt; name.levels().count(), 4);
+    let filter = TopicFilter::read(rt.alloc(), b"+/#")?;
+    assert_eq!(rt; filter.levels().count(), 2);
+    Ok(())
+}
+
+fn hash_of(filter: &TopicFilter) -> u64 {
+    let mut hasher = DefaultHasher::new();
+    filter.hash(&mut hasher);
+    hasher.finish()
+}
+
+#[test]
+fn texts_and_names_are_copied(rt: HostRuntime) -> Result<(), Fail> {
+    let text = Text::read(rt.alloc(), b"a/b")?;
+    let copy = text.copy()?;
+    assert!(rt; copy == text && copy.is_plain() && !copy.is_empty());
+    assert_eq!(rt; copy.as_bytes(), b"a/b".as_slice());
+    let name = TopicName::of(text)?;
+    let copy = name.copy()?;
+    assert!(rt; copy == name);
+    assert_eq!(rt; copy.as_bytes(), b"a/b".as_slice());
+    Ok(())
+}
+
+#[test]
+fn filters_are_copied_and_hashed(rt: HostRuntime) -> Result<(), Fail> {
+    let filter = TopicFilter::read(rt.alloc(), b"a/+")?;
+    let copy = filter.copy()?;
+    assert!(rt; copy == filter);
+    assert_eq!(rt; copy.as_bytes(), b"a/+".as_slice());
+    let other = TopicFilter::of(Text::read(rt.alloc(), b"a/+")?)?;
+    assert!(rt; other == filter);
+    assert_eq!(rt; hash_of(&other), hash_of(&filter));
+    let other = TopicFilter::read(rt.alloc(), b"a/#")?;
+    assert!(rt; other != filter);
+    Ok(())
+}
+
+/// Where memory is refused the answer is NoMemory; a fault of the bytes is found first.
+#[test]
+fn want_of_memory_is_answered(rt: HostRuntime) {
+    let name = TopicName::read(rt.alloc(), b"a/b").err();
+    assert!(rt; name.is_none() || name == Some(TopicFault::NoMemory));
+    let filter = TopicFilter::read(rt.alloc(), b"a/+").err();
+    assert!(rt; filter.is_none() || filter == Some(TopicFault::NoMemory));
+    assert_eq!(rt;
+        TopicName::read(rt.alloc(), b"a/+").err(),
+        Some(TopicFault::HasWildcard)
+    );
+}
