@@ -1,3 +1,4 @@
+pub mod Submitting
 pub mod Rows
 pub mod Runs
 pub mod Waiting

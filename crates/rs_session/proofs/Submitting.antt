@@ -1,0 +1,31 @@
+-- Lemmas on the gate with a catalogue of its own.
+use Rattle.std.proofs.Common.{◌≡◌, ℕ, ◌+◌, ◌<◌, ◌≤◌, Bool, true, false, if◌then◌else◌, List, [], ◌∷◌, ◌++◌, length, get_or, set, refl, sym, ap, subst, ◌∙◌, Option, Some, None, arith, slice_index, append-nil}
+use Rattle.std.proofs.lemmas.List.{get_or-set_same}
+use Rattle.std.proofs.lemmas.List.Elements.{Contains-append_right}
+use Rattle.std.specs.Prelude.{Contains, slice_set}
+use Rattle.rs_message.specs.Values.{OriginValue}
+use Rattle.rs_message.specs.declared.entry.Entry.{Entry}
+use Rattle.rs_message.specs.declared.entry.Operation.{Operation}
+use Rattle.rs_store.specs.declared.content.Content.{Content}
+use Rattle.rs_store.specs.Contents.{followed}
+use Rattle.rs_store.specs.History.{Stands}
+use Rattle.rs_session.specs.Gate.{BeginsWith, IsSubmitted}
+use Rattle.rs_session.specs.Local.{local_mark}
+
+pub origin_is : (b : Bool) (o v : OriginValue) → Some o ≡ (if b then Some v else None) → o ≡ v
+origin_is true o v e = cc
+origin_is false o v e = absurd (cc)
+
+-- the entry stands at the end of the list, with the serial that is now the last
+pub submitted : (old new : Content) (origin : OriginValue) (operation : Operation) (last : ℕ) (seen : List Entry) → Stands old seen → last ≡ slice_index old.serials 1 → origin ≡ record { place = 1; serial = last + 1 }
+    → new ≡ followed old (record { origin = origin; operation = operation }) → Stands new (seen ++ record { origin = origin; operation = operation } ∷ [])
+    → (list : List Entry) × Stands new list × BeginsWith list seen × IsSubmitted operation (local_mark old) (local_mark new) list
+submitted old new origin operation last seen s l o n stands =
+    let e : Entry = record { origin = origin; operation = operation } in
+    let at : Entry → Content = λ (x : Entry). followed old x in
+    let is : e ≡ record { origin = record { place = 1; serial = last + 1 }; operation = operation } = ap (λ (v : OriginValue). let x : Entry = record { origin = v; operation = operation } in x) o in
+    let serial : slice_index new.serials 1 ≡ last + 1 =
+        ap (λ (c : Content). slice_index c.serials 1) n ∙ (ap (λ (x : Entry). slice_index (at x).serials 1) is ∙ get_or-set_same old.serials 1 (last + 1) 0 (omega (arith, s.wide))) in
+    let named : e ≡ record { origin = record { place = 1; serial = slice_index new.serials 1 }; operation = operation } =
+        is ∙ ap (λ (k : ℕ). let x : Entry = record { origin = record { place = 1; serial = k }; operation = operation } in x) (sym serial) in
+    (seen ++ e ∷ [], stands, (e ∷ [], refl), record { entry = subst (Contains (seen ++ e ∷ [])) named (Contains-append_right seen (e ∷ []) e (0, omega arith, refl)); serial = omega (arith, serial, l) })
