@@ -1,0 +1,6 @@
+pub mod Identifiers
+pub mod HexDigits
+pub mod Fronts
+pub mod Said
+pub mod Talked
+pub mod Hearing

@@ -1,0 +1,22 @@
+-- The conversation so far, no reply being left.
+use Rattle.std.proofs.Common.{◌≡◌, List, ℕ, None}
+use Rattle.std.specs.Io.KnownBytes.{Consumes, Appends}
+use Rattle.rs_message.specs.declared.entry.Entry.{Entry}
+use Rattle.rs_session.specs.State.{state_of, due_of, gate_of, closing_of}
+use Rattle.rs_server.specs.Clock.{Told}
+use Rattle.rs_server.specs.Counts.{inner_of, failures_of}
+use Rattle.rs_server.specs.Talk.{Conversation, start, assigned_of}
+use Rattle.rs_server.proofs.connection.serve.Given as goal
+
+abbrev pub invariant-turns : goal.invariant-turns
+invariant-turns g l =
+    record {
+      talk : (seen : List Entry) → g.G.Gate.stands l.fn.gate seen → Conversation (start (assigned_of l.fn.place l.fn.number) seen (g.G.Gate.mark l.fn.gate)) (g.G.Gate.stands (gate_of l.session)) (g.G.Gate.mark (gate_of l.session)) (state_of l.session)
+          (Consumes (g.R.Read.remaining (inner_of l.initial.reader)) (g.R.Read.remaining (inner_of l.reader))) l.held.items
+          (Told (g.C.Clock.moments l.initial.clock) (g.C.Clock.moments l.clock))
+          (Appends (g.W.Write.contents (inner_of l.initial.writer)) (g.W.Write.contents (inner_of l.writer)));
+      none_due : due_of l.session ≡ None;
+      goes_on : closing_of (state_of l.session).phase ≡ None;
+      reader : failures_of l.reader ≡ failures_of l.initial.reader;
+      writer : failures_of l.writer ≡ failures_of l.initial.writer;
+    }

@@ -1,0 +1,5 @@
+pub mod Clock
+pub mod Counts
+pub mod HexLines
+pub mod Writing
+pub mod Talk

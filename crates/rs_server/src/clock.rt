@@ -1,0 +1,45 @@
+//! What tells the moments.
+
+ghost use Rattle.std.specs.Prelude.{◌≡◌, ℕ, Option, None, Some};
+ghost use Rattle.rs_server.specs.Clock.{Tells, moment_at};
+
+use std::collections::VecDeque;
+
+/// A clock, by the moments that it will tell, where they are known.
+pub trait Clock {
+    ghost moments: { Self → Option (ℕ → ℕ) } = { λ _. None };
+
+    fn now(&mut self) -> u64
+        ensures { Tells (moments self.old) (moments self.new) result };
+}
+
+/// Moments that are known. The last one is told again and again.
+#[derive(Drop)]
+pub struct Moments {
+    first: u64,
+    rest: VecDeque<u64>,
+}
+
+impl Moments {
+    pub fn new(first: u64, rest: Vec<u64>) -> Moments
+        ensures first { result.first ≡ first }
+        ensures rest { result.rest.items ≡ rest.items }
+    {
+        Moments {
+            first,
+            rest: VecDeque::from_vec(rest),
+        }
+    }
+}
+
+impl Clock for Moments {
+    ghost moments = { λ clock. Some (moment_at clock.first clock.rest.items) };
+
+    fn now(&mut self) -> u64 {
+        let told = self.first;
+        if let Some(next) = self.rest.pop_front() {
+            self.first = next;
+        }
+        told
+    }
+}

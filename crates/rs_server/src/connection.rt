@@ -1,0 +1,214 @@
+//! One connection.
+
+ghost use Rattle.std.specs.Prelude.{◌≡◌, ◌<◌, ◌-◌, ◌^◌, ◌++◌, ℕ, Option, List, None, Some, IfOk};
+ghost use Rattle.std.specs.Io.KnownBytes.{Consumes, Appends, IsAtEnd};
+ghost use Rattle.rs_message.specs.declared.entry.Entry.{Entry};
+ghost use Rattle.rs_packet.specs.Grammar.{IsAtFront};
+ghost use Rattle.rs_packet.specs.PacketReading.{Gives, answer};
+ghost use Rattle.rs_session.specs.State.{state_of, due_of, gate_of, closing_of, State};
+ghost use Rattle.rs_session.specs.Run.{Point};
+ghost use Rattle.rs_server.specs.Clock.{Told};
+ghost use Rattle.rs_server.specs.Counts.{inner_of, failures_of};
+ghost use Rattle.rs_server.specs.Writing.{IsWriteCause, Says};
+ghost use Rattle.rs_server.specs.Talk.{IsFront, Took, Conversation, Closes, Ends, Causes, IsReadCause, IsEnd, assigned_of, start, point_at, served_as};
+
+use crate::assigned::assigned_client;
+use crate::clock::Clock;
+use crate::counted::Counted;
+use crate::say::{ServeFault, say_all};
+use bytes::{Bytes, BytesMut};
+use rs_packet::{Decoded, PacketFault, decode, front_len};
+use rs_session::{Closing, Gate, Input, Session};
+use std::alloc::Global;
+use std::io::{Read, Write};
+use std::sync::Wait;
+
+/// How a connection ended.
+#[derive(Clone, Copy, Debug, PartialEq, Eq)]
+pub enum Served {
+    /// The client sent DISCONNECT after an accepted CONNECT.
+    ClientClosed,
+    /// The input ended between two packets.
+    EndOfInput,
+    /// The input ended inside a packet.
+    CutInput,
+    /// A DISCONNECT or a CONNACK with this Reason Code was due. It was not sent only where the client's
+    /// Maximum Packet Size forbids it.
+    ServerClosed(u8),
+    /// The server ended the connection without such a reply.
+    Dropped,
+}
+
+/// The room for one read, in bytes.
+const READ_ROOM: usize = 65536;
+
+/// Serves one connection: reads packets and writes the session's replies, each of which is flushed, until
+/// the session or the input ends.
+///
+/// `number` counts the connections at `place` from 1; both name a client that gives no identifier. The
+/// clock is asked once for each packet, and once for a fault. The gate comes back in every case.
+pub fn serve<H: Wait, R: Read, W: Write, G: Gate, C: Clock>(
+    rt: &H,
+    alloc: Global,
+    reader: &mut Counted<R>,
+    writer: &mut Counted<W>,
+    gate: G,
+    number: u64,
+    place: u8,
+    clock: &mut C,
+) -> (Result<Served, ServeFault>, G)
+    requires reader_room { failures_of reader.old < 2 ^ 64 - 1 }
+    requires writer_room { failures_of writer.old < 2 ^ 64 - 1 }
+
+    // What was written are the replies of a session over the packets that the bytes read spell.
+    ensures talk { (seen : List Entry) → G.stands gate seen → (state : State) × (held : List ℕ)
+        × Conversation (start (assigned_of place number) seen (G.mark gate)) (G.stands result.1) (G.mark result.1) state
+        (Consumes (R.remaining (inner_of reader.old)) (R.remaining (inner_of reader.new))) held
+        (Told (C.moments clock.old) (C.moments clock.new))
+        (Says result.0 (W.contents (inner_of writer.old)) (W.contents (inner_of writer.new)))
+        × Ends result.0 state held (IsAtEnd (R.remaining (inner_of reader.new))) }
+
+    // A fault names what failed.
+    ensures cause { Causes result.0 (failures_of reader.old) (failures_of reader.new)
+        (failures_of writer.old) (failures_of writer.new) }
+{
+    let Ok(assigned) = assigned_client(alloc, place, number) else {
+        return (Err(ServeFault::NoMemory), gate);
+    };
+    let mut session = Session::new(alloc, gate, assigned);
+    let mut held = BytesMut::new(alloc);
+    'turns: for _ in rt.forever() {
+        match turn(alloc, reader, writer, &mut session, &mut held, clock) {
+            Ok(None) => {}
+            Ok(Some(served)) => return (Ok(served), session.into_gate()),
+            Err(fault) => return (Err(fault), session.into_gate()),
+        }
+    }
+    unreachable!()
+}
+
+/// One input and all that is replied to it, or one read.
+fn turn<R: Read, W: Write, G: Gate, C: Clock>(
+    alloc: Global,
+    reader: &mut Counted<R>,
+    writer: &mut Counted<W>,
+    session: &mut Session<G>,
+    held: &mut BytesMut,
+    clock: &mut C,
+) -> Result<Option<Served>, ServeFault>
+    requires reader_room { failures_of reader.old < 2 ^ 64 - 1 }
+    requires writer_room { failures_of writer.old < 2 ^ 64 - 1 }
+    requires none_due { due_of session.old ≡ None }
+    requires goes_on { closing_of (state_of session.old).phase ≡ None }
+
+    // What was so before goes on.
+    ensures talk { (from : Point) (read wrote : Option (List ℕ)) (told : Option (ℕ → ℕ))
+        → Conversation from (G.stands (gate_of session.old)) (G.mark (gate_of session.old)) (state_of session.old)
+        (Consumes read (R.remaining (inner_of reader.old))) held.old.items
+        (Told told (C.moments clock.old))
+        (Appends wrote (W.contents (inner_of writer.old)))
+        → Conversation from (G.stands (gate_of session.new)) (G.mark (gate_of session.new)) (state_of session.new)
+        (Consumes read (R.remaining (inner_of reader.new))) held.new.items
+        (Told told (C.moments clock.new))
+        (Says result wrote (W.contents (inner_of writer.new))) }
+    ensures closes { Closes result (state_of session.new) held.new.items (IsAtEnd (R.remaining (inner_of reader.new))) }
+    ensures due { due_of session.new ≡ None }
+    ensures cause { Causes result (failures_of reader.old) (failures_of reader.new)
+        (failures_of writer.old) (failures_of writer.new) }
+{
+    let Some(input) = next_input(alloc, held) else {
+        return read_more(reader, held);
+    };
+    let now = clock.now();
+    match hear(alloc, session, writer, input, now) {
+        Ok(()) => Ok(outcome(session.closing())),
+        Err(fault) => Err(fault),
+    }
+}
+
+/// The input at the front, which is taken off. None where less than a packet is held.
+fn next_input(alloc: Global, held: &mut BytesMut) -> Option<Input>
+    ensures { IsFront held.old.items result held.new.items }
+{
+    let size = front_len(held.as_slice());
+    if held.len() < size {
+        return None;
+    }
+    match decode_copy(alloc, &held.as_slice()[..size]) {
+        Ok(Decoded::Whole(packet, used)) => {
+            held.advance(used);
+            Some(Input::Whole(packet))
+        }
+        Ok(Decoded::More) => None,
+        Err(fault) => Some(Input::Broken(fault)),
+    }
+}
+
+/// The packet, in bytes of its own, so that a message that is kept holds no more than its packet.
+fn decode_copy(alloc: Global, packet: &[u8]) -> Result<Decoded, PacketFault>
+    ensures found { IfOk result (λ d. IsAtFront packet.now d) }
+    ensures exact { Gives (λ d. d) result (answer packet.now) }
+{
+    let bytes = Bytes::copy_from_slice(alloc, packet)?;
+    decode(alloc, &bytes)
+}
+
+/// One read behind what is held.
+fn read_more<R: Read>(
+    reader: &mut Counted<R>,
+    held: &mut BytesMut,
+) -> Result<Option<Served>, ServeFault>
+    requires { failures_of reader.old < 2 ^ 64 - 1 }
+    ensures bytes { (more : List ℕ) × (held.new.items ≡ held.old.items ++ more)
+        × Consumes (R.remaining (inner_of reader.old)) (R.remaining (inner_of reader.new)) more }
+    ensures end { IsEnd result held.old.items held.new.items (IsAtEnd (R.remaining (inner_of reader.new))) }
+    ensures cause { IsReadCause result (failures_of reader.old) (failures_of reader.new) }
+{
+    if held.reserve(READ_ROOM).is_err() {
+        return Err(ServeFault::NoMemory);
+    }
+    let Ok(n) = reader.read_into(held) else {
+        return Err(ServeFault::Read);
+    };
+    if n > 0 {
+        return Ok(None);
+    }
+    if held.is_empty() {
+        return Ok(Some(Served::EndOfInput));
+    }
+    Ok(Some(Served::CutInput))
+}
+
+/// One turn of the session: an input at its moment, and all that is replied to it.
+fn hear<G: Gate, W: Write>(
+    alloc: Global,
+    session: &mut Session<G>,
+    writer: &mut Counted<W>,
+    input: Input,
+    now: u64,
+) -> Result<(), ServeFault>
+    requires writer_room { failures_of writer.old < 2 ^ 64 - 1 }
+    requires none_due { due_of session.old ≡ None }
+    requires goes_on { closing_of (state_of session.old).phase ≡ None }
+    ensures turn { (seen : List Entry) → G.stands (gate_of session.old) seen
+        → Took (point_at (state_of session.old) seen (G.mark (gate_of session.old))) input now
+        (G.stands (gate_of session.new)) (G.mark (gate_of session.new)) (state_of session.new)
+        (Says result (W.contents (inner_of writer.old)) (W.contents (inner_of writer.new))) }
+    ensures due { due_of session.new ≡ None }
+    ensures cause { IsWriteCause result (failures_of writer.old) (failures_of writer.new) }
+{
+    // Whether it goes on is asked once its last reply is written.
+    let _step = session.on_input(input, now);
+    say_all(alloc, session, writer, now)
+}
+
+/// How a session that ended so was served.
+fn outcome(closing: Option<Closing>) -> Option<Served>
+    ensures { result ≡ served_as closing }
+{
+    match closing? {
+        Closing::ByClient => Some(Served::ClientClosed),
+        Closing::ByServer(code) => Some(Served::ServerClosed(code)),
+        Closing::Dropped => Some(Served::Dropped),
+    }
+}

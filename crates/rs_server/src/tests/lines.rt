@@ -1,0 +1,75 @@
+use super::gate::FullStore;
+use crate::connection::Served;
+use crate::hex_lines::{HexFault, read_hex};
+use crate::piping::{PipeFault, pipe};
+use std::alloc::Global;
+use std::sync::Wait;
+use std::test::Fail;
+
+#[test]
+fn digits_are_read(rt: HostRuntime) -> Result<(), Fail> {
+    let read = [
+        (b"".as_slice(), [].as_slice()),
+        (b"   ".as_slice(), [].as_slice()),
+        (b"00".as_slice(), [0].as_slice()),
+        (b"aF fA".as_slice(), [0xAF, 0xFA].as_slice()),
+        (b" 1 2 3 4 ".as_slice(), [0x12, 0x34].as_slice()),
+    ];
+    for (line, bytes) in read {
+        let found = read_hex(rt.alloc(), line)?;
+        assert_eq!(rt; found.as_slice(), bytes);
+    }
+    for line in [b"0".as_slice(), b"0g", b"0\t0", b"00\r", b"\xC3\xA9", b"000"] {
+        let found = read_hex(rt.alloc(), line).err();
+        assert!(rt; found == Some(HexFault::NotHex));
+    }
+    Ok(())
+}
+
+fn piped<H: Wait>(
+    rt: &H,
+    alloc: Global,
+    input: &[u8],
+    output: &mut Vec<u8>,
+) -> Result<Served, PipeFault> {
+    pipe(rt, alloc, input, output, FullStore, true, 0).0
+}
+
+#[test]
+fn lines_in_and_out(rt: HostRuntime) -> Result<(), Fail> {
+    let alloc = rt.alloc();
+    let mut output = Vec::new(alloc);
+    let input = b"10 0E 00 04 4D 51 54 54 05 02 00 3C 00 00 01\n\n  \n61 C000 C0\n00\nE000 zz".as_slice();
+    let served = piped(&rt, alloc, input, &mut output);
+    assert!(rt; served == Err(PipeFault::NotHex(6)));
+    assert_eq!(rt; output.as_slice(), b"200f00000c210010270004000029002a00\nd000\nd000\n".as_slice());
+
+    let mut output = Vec::new(alloc);
+    let input = b"100E00044D5154540502003C00000161E000\nzz\n".as_slice();
+    let served = piped(&rt, alloc, input, &mut output);
+    assert!(rt; served == Ok(Served::ClientClosed));
+    assert_eq!(rt; output.as_slice(), b"200f00000c210010270004000029002a00\n".as_slice());
+    Ok(())
+}
+
+// A client that gives no identifier is told one.
+#[test]
+fn the_identifier_is_assigned(rt: HostRuntime) {
+    let alloc = rt.alloc();
+    let mut output = Vec::new(alloc);
+    let input = b"10 0D 00 04 4D 51 54 54 05 02 00 3C 00 00 00".as_slice();
+    let served = piped(&rt, alloc, input, &mut output);
+    assert!(rt; served == Ok(Served::EndOfInput));
+    let told = b"20170000141200057273312d31210010270004000029002a00\n".as_slice();
+    assert_eq!(rt; output.as_slice(), told);
+}
+
+#[test]
+fn bytes_as_they_are(rt: HostRuntime) {
+    let alloc = rt.alloc();
+    let mut output = Vec::new(alloc);
+    let input = b"\x10\x0D\x00\x04MQTT\x04\x02\x00\x3C\x00\x01a".as_slice();
+    let (served, _gate) = pipe(&rt, alloc, input, &mut output, FullStore, false, 0);
+    assert!(rt; served == Ok(Served::ServerClosed(0x84)));
+    assert_eq!(rt; output.as_slice(), b"\x20\x03\x00\x84\x00".as_slice());
+}

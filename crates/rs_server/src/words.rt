@@ -1,0 +1,121 @@
+//! The command line.
+
+use clap::error::ErrorKind;
+use clap::{Arg, ArgAction, ArgMatches, Command, value_parser};
+use std::alloc::{AllocError, Global};
+use thiserror::Error;
+
+/// What the command line asks for.
+#[derive(Clone, Copy, Debug, PartialEq, Eq)]
+pub enum Run {
+    /// One connection from standard input to standard output.
+    Pipe {
+        /// Whether bytes are lines of hex digits.
+        hex: bool,
+        /// The moment of every packet, in seconds.
+        at: u64,
+    },
+}
+
+/// Why a command line asks for nothing.
+#[derive(Debug, Drop, Error)]
+pub enum WordsFault {
+    /// Help was asked for: its text.
+    #[error("{0}")]
+    Help(String),
+    /// The words are refused: the text that says why.
+    #[error("{0}")]
+    Refused(String),
+    /// Memory was refused.
+    #[error("out of memory")]
+    NoMemory,
+}
+
+impl WordsFault {
+    /// The exit status: 0 for help, 2 for words that are refused, 1 for want of memory.
+    pub fn status(&self) -> u8 {
+        match self {
+            WordsFault::Help(_) => 0,
+            WordsFault::Refused(_) => 2,
+            WordsFault::NoMemory => 1,
+        }
+    }
+}
+
+const ABOUT: &str = "Keeps the retained message of each MQTT 5 topic and answers subscriptions from it";
+
+const PIPE_ABOUT: &str = "Serve one MQTT 5 connection from standard input to standard output";
+
+const PIPE_HELP: &str = "\
+Serves one MQTT 5 connection: packets of the client come from standard input, and the replies go to
+standard output. It ends when the client disconnects, at a fault, or at the end of the input. Nothing
+is kept between two runs.
+
+With --hex both are text: each line of the input is an even number of hex digits (spaces and empty
+lines are ignored), and each reply is one line of hex digits.";
+
+const HEX_HELP: &str = "Read and write lines of hex digits in place of raw bytes";
+
+const AT_HELP: &str = "The time of every packet, in whole seconds, by which retained messages expire";
+
+/// What the words behind the program's name ask for.
+pub fn read_words(alloc: Global, words: &[String]) -> Result<Run, WordsFault> {
+    let Ok(command) = command(alloc) else {
+        return Err(WordsFault::NoMemory);
+    };
+    match command.try_get_matches_from(words) {
+        Ok(matches) => run_of(&matches),
+        Err(error) => Err(fault_of(alloc, error)),
+    }
+}
+
+fn command<'a>(alloc: Global) -> Result<Command<'a>, AllocError> {
+    Command::new(alloc, "rstored")
+        .about(ABOUT)
+        .no_binary_name(true)
+        .subcommand_required(true)
+        .disable_help_subcommand(true)
+        .subcommand(pipe_command(alloc)?)
+}
+
+fn pipe_command<'a>(alloc: Global) -> Result<Command<'a>, AllocError> {
+    let hex = Arg::new(alloc, "hex")
+        .long("hex")
+        .action(ArgAction::SetTrue)
+        .help(HEX_HELP);
+    let at = Arg::new(alloc, "at")
+        .long("at")
+        .value_name("SECONDS")
+        .value_parser(value_parser!(u64))
+        .required(true)
+        .help(AT_HELP);
+    Command::new(alloc, "pipe")
+        .about(PIPE_ABOUT)
+        .long_about(PIPE_HELP)
+        .arg(hex)?
+        .arg(at)
+}
+
+fn run_of(matches: &ArgMatches<'_>) -> Result<Run, WordsFault> {
+    let Some((_, found)) = matches.subcommand() else {
+        return Err(WordsFault::NoMemory);
+    };
+    let Some(at) = found.get_one::<u64>("at") else {
+        return Err(WordsFault::NoMemory);
+    };
+    Ok(Run::Pipe {
+        hex: found.get_flag("hex"),
+        at,
+    })
+}
+
+fn fault_of(alloc: Global, error: clap::Error) -> WordsFault {
+    if error.kind() == ErrorKind::OutOfMemory {
+        return WordsFault::NoMemory;
+    }
+    match format!(in alloc; "{error}") {
+        Ok(text) if error.use_stderr() => WordsFault::Refused(text),
+        Ok(text) => WordsFault::Help(text),
+        Err(_) => WordsFault::NoMemory,
+    }
+}
