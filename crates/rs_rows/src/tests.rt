@@ -5,33 +5,36 @@ use crate::pieces::Pieces;
 use rs_server::{Counted, Moments, Served, read_hex, serve};
 use rs_session::LocalGate;
 use rs_store::{Catalogue, MapCatalogue, TopicLimit};
+use std::alloc::Global;
+use std::process::Abort;
+use std::sync::Wait;
 use std::test::Fail;
 
 type Store = LocalGate<MapCatalogue>;
 
-fn store(rt: &HostRuntime, limit: u32) -> Result<Store, Fail> {
+fn store(alloc: Global, limit: u32) -> Result<Store, Fail> {
     let limit = TopicLimit::new(limit).ok_or("the limit")?;
-    Ok(LocalGate::new(rt.alloc(), limit)?)
+    Ok(LocalGate::new(alloc, limit)?)
 }
 
-fn bytes(rt: &HostRuntime, hex: &[&str]) -> Result<Vec<u8>, Fail> {
-    let mut all = Vec::new(rt.alloc());
+fn bytes(alloc: Global, hex: &[&str]) -> Result<Vec<u8>, Fail> {
+    let mut all = Vec::new(alloc);
     for part in hex {
-        let part = read_hex(rt.alloc(), part.as_bytes())?;
+        let part = read_hex(alloc, part.as_bytes())?;
         all.extend_from_slice(part.as_slice())?;
     }
     Ok(all)
 }
 
 /// What is written on one connection over the store, and how it ends.
-fn talk(
-    rt: &HostRuntime,
+fn talk<H: Wait>(
+    rt: &H,
+    alloc: Global,
     store: Store,
     at: [u64; 3],
     input: &[u8],
     cut: usize,
 ) -> Result<(Vec<u8>, Served, Store), Fail> {
-    let alloc = rt.alloc();
     let [first, second, third] = at;
     let rest = [second, third].to_vec(alloc)?;
     let mut reader = Counted::new(Pieces::new(input.to_vec(alloc)?, cut));
@@ -51,8 +54,9 @@ fn talk(
 }
 
 /// One connection over an empty store, cut at each byte and byte by byte.
-fn check(
-    rt: &HostRuntime,
+fn check<H: Abort + Wait>(
+    rt: &H,
+    alloc: Global,
     name: &str,
     at: [u64; 3],
     input: &[u8],
@@ -60,7 +64,7 @@ fn check(
     ended: Served,
 ) -> Result<(), Fail> {
     for cut in 0..=input.len() {
-        let (written, served, _store) = talk(rt, store(rt, 10000)?, at, input, cut)?;
+        let (written, served, _store) = talk(rt, alloc, store(alloc, 10000)?, at, input, cut)?;
         assert_eq!(rt; written.as_slice(), output, "{name}, cut at {cut}");
         assert_eq!(rt; served, ended, "{name}, cut at {cut}");
     }
@@ -69,40 +73,43 @@ fn check(
 
 #[test]
 fn connected(rt: HostRuntime) -> Result<(), Fail> {
+    let alloc = rt.alloc();
     for (name, at, input, output, ended) in CONNECTED {
-        let input = bytes(&rt, &[CONNECT, input])?;
-        let output = bytes(&rt, &[CONNACK, output])?;
-        check(&rt, name, at, input.as_slice(), output.as_slice(), ended)?;
+        let input = bytes(alloc, &[CONNECT, input])?;
+        let output = bytes(alloc, &[CONNACK, output])?;
+        check(&rt, alloc, name, at, input.as_slice(), output.as_slice(), ended)?;
     }
     Ok(())
 }
 
 #[test]
 fn first(rt: HostRuntime) -> Result<(), Fail> {
+    let alloc = rt.alloc();
     for (name, input, output, ended) in FIRST {
-        let input = bytes(&rt, &[input])?;
-        let output = bytes(&rt, &[output])?;
-        check(&rt, name, [0; 3], input.as_slice(), output.as_slice(), ended)?;
+        let input = bytes(alloc, &[input])?;
+        let output = bytes(alloc, &[output])?;
+        check(&rt, alloc, name, [0; 3], input.as_slice(), output.as_slice(), ended)?;
     }
     Ok(())
 }
 
 /// What the second of two connections over one store gets, cut at each byte and byte by byte.
-fn check_second(
-    rt: &HostRuntime,
+fn check_second<H: Abort + Wait>(
+    rt: &H,
+    alloc: Global,
     name: &str,
     before: &str,
     input: &[&str],
     output: &[&str],
 ) -> Result<(), Fail> {
-    let before = bytes(rt, &[CONNECT, before, "E000"])?;
-    let input = bytes(rt, input)?;
-    let output = bytes(rt, output)?;
+    let before = bytes(alloc, &[CONNECT, before, "E000"])?;
+    let input = bytes(alloc, input)?;
+    let output = bytes(alloc, output)?;
     for cut in 0..=input.len() {
         let (_written, first, kept) =
-            talk(rt, store(rt, 10000)?, [0; 3], before.as_slice(), cut)?;
+            talk(rt, alloc, store(alloc, 10000)?, [0; 3], before.as_slice(), cut)?;
         assert_eq!(rt; first, Served::ClientClosed, "{name}, cut at {cut}");
-        let (written, second, _kept) = talk(rt, kept, [0; 3], input.as_slice(), cut)?;
+        let (written, second, _kept) = talk(rt, alloc, kept, [0; 3], input.as_slice(), cut)?;
         assert_eq!(rt; written.as_slice(), output.as_slice(), "{name}, cut at {cut}");
         assert_eq!(rt; second, Served::EndOfInput, "{name}, cut at {cut}");
     }
@@ -111,8 +118,10 @@ fn check_second(
 
 #[test]
 fn second(rt: HostRuntime) -> Result<(), Fail> {
+    let alloc = rt.alloc();
     check_second(
         &rt,
+        alloc,
         "second connection",
         "310700 03612F62 0078",
         &[CONNECT, "8209 0001 00 0003612F23 00"],
@@ -122,23 +131,26 @@ fn second(rt: HostRuntime) -> Result<(), Fail> {
 
 #[test]
 fn client_packet_size(rt: HostRuntime) -> Result<(), Fail> {
+    let alloc = rt.alloc();
     let connect = "101300044D5154540502003C052700000014000161";
     let subscribe = "8207 0001 00 000123 00";
     let a = "310500 0161 0031";
     let c = "310500 0163 0033";
     let long = "311300 0162 00 626262626262626262626262626262";
     let fits = "311200 0162 00 6262626262626262626262626262";
-    let before = bytes_text(&rt, &[a, long, c])?;
+    let before = bytes_text(alloc, &[a, long, c])?;
     check_second(
         &rt,
+        alloc,
         "client packet size: one byte too long",
         before.as_str(),
         &[connect, subscribe],
         &[CONNACK, "9004 0001 00 00", a, c],
     )?;
-    let before = bytes_text(&rt, &[a, fits, c])?;
+    let before = bytes_text(alloc, &[a, fits, c])?;
     check_second(
         &rt,
+        alloc,
         "client packet size: as long as it may be",
         before.as_str(),
         &[connect, subscribe],
@@ -146,8 +158,8 @@ fn client_packet_size(rt: HostRuntime) -> Result<(), Fail> {
     )
 }
 
-fn bytes_text(rt: &HostRuntime, parts: &[&str]) -> Result<String, Fail> {
-    let mut all = String::new(rt.alloc());
+fn bytes_text(alloc: Global, parts: &[&str]) -> Result<String, Fail> {
+    let mut all = String::new(alloc);
     for part in parts {
         all.push_str(part)?;
     }
@@ -156,8 +168,9 @@ fn bytes_text(rt: &HostRuntime, parts: &[&str]) -> Result<String, Fail> {
 
 #[test]
 fn full_store(rt: HostRuntime) -> Result<(), Fail> {
+    let alloc = rt.alloc();
     let input = bytes(
-        &rt,
+        alloc,
         &[
             CONNECT,
             "310500 0161 0031",
@@ -165,8 +178,8 @@ fn full_store(rt: HostRuntime) -> Result<(), Fail> {
             "8207 0001 00 000123 00",
         ],
     )?;
-    let output = bytes(&rt, &[CONNACK, "9004 0001 00 00", "310500 0161 0031"])?;
-    let (written, _served, kept) = talk(&rt, store(&rt, 1)?, [0; 3], input.as_slice(), 0)?;
+    let output = bytes(alloc, &[CONNACK, "9004 0001 00 00", "310500 0161 0031"])?;
+    let (written, _served, kept) = talk(&rt, alloc, store(alloc, 1)?, [0; 3], input.as_slice(), 0)?;
     assert_eq!(rt; written.as_slice(), output.as_slice());
     assert_eq!(rt; kept.catalogue().count(), 1);
     assert_eq!(rt; kept.catalogue().version(), 1);
