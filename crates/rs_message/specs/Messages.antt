@@ -1,7 +1,5 @@
 -- Retained messages: sections 3.3.1.3 and 3.3.2.3.3 of OASIS MQTT Version 5.0.
-use Rattle.std.specs.Prelude.{◌≡◌, ◌≢◌, ℕ, ◌+◌, ◌-◌, ◌<◌, ◌≤◌, Bool, true, false, nat_le, if◌then◌else◌, List, [], ◌∷◌, length, Option, Some, None}
-use Rattle.rs_packet.specs.declared.packet.Qos.{Qos}
-use Rattle.rs_packet.specs.Values.{PropertiesValue}
+use Rattle.std.specs.Prelude.{◌≢◌, ℕ, ◌-◌, ◌≤◌, Bool, true, false, nat_le, if◌then◌else◌, List, [], ◌∷◌, Option, Some, None}
 use Rattle.rs_packet.specs.Grammar.{largest}
 use Rattle.rs_packet.specs.Replies.{message_size}
 use Rattle.rs_message.specs.Values.{MessageValue}

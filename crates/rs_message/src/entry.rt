@@ -13,7 +13,7 @@ use std::alloc::AllocError;
 use std::marker::Model;
 
 /// Where an entry came from: a place, 1 to 64, and a serial, which rises at that place from 1.
-#[derive(Clone, Copy)]
+#[derive(Clone, Copy, PartialEq, Eq)]
 pub struct Origin {
     place: u8,
     serial: u64,
@@ -60,7 +60,7 @@ impl Origin {
 }
 
 /// A change of a topic's retained message: section 3.3.1.3.
-#[derive(Drop)]
+#[derive(Drop, PartialEq, Eq)]
 pub enum Operation {
     Set(TopicName, Message),
     Clear(TopicName),
@@ -103,7 +103,7 @@ impl Operation {
 }
 
 /// One change of the store, and where it came from.
-#[derive(Drop)]
+#[derive(Drop, PartialEq, Eq)]
 pub struct Entry {
     pub origin: Origin,
     pub operation: Operation,

@@ -152,3 +152,26 @@ impl Message {
         (payload, qos, received, expiry, properties)
     }
 }
+
+impl PartialEq for Message {
+    ghost use Rattle.std.specs.Cmp.{partial_equiv_from_equiv};
+    ghost use Rattle.rs_message.specs.Equality.{message_eq, message_eq_equiv};
+
+    ghost eq = { message_eq };
+
+    ghost laws = { partial_equiv_from_equiv message_eq_equiv };
+
+    fn eq(&self, other: &Message) -> bool {
+        self.payload == other.payload
+            && self.qos.level() == other.qos.level()
+            && self.received == other.received
+            && self.expiry == other.expiry
+            && self.properties == other.properties
+    }
+}
+
+impl Eq for Message {
+    ghost use Rattle.rs_message.specs.Equality.{message_eq_equiv};
+
+    ghost laws = { message_eq_equiv };
+}

@@ -140,6 +140,7 @@ fn a_payload_is_kept(rt: HostRuntime) -> Result<(), Fail> {
     assert!(rt; sets(&operation));
     let copy = copy_of(&operation)?;
     assert!(rt; sets(&copy));
+    assert!(rt; copy == operation);
     Ok(())
 }
 
@@ -156,7 +157,7 @@ fn an_entry_is_copied(rt: HostRuntime) -> Result<(), Fail> {
     let entry = entry(origin, TopicName::read(rt.alloc(), b"a/b")?);
     let copy = entry.copy()?;
     assert_eq!(rt; copy.origin.serial(), 1);
-    assert!(rt; matches!(copy.operation, Operation::Clear(_)));
+    assert!(rt; copy == entry);
     Ok(())
 }
 
@@ -164,6 +165,8 @@ fn an_entry_is_copied(rt: HostRuntime) -> Result<(), Fail> {
 fn parts(rt: HostRuntime) -> Result<(), Fail> {
     let message = received_at_100(rt.alloc(), b"x", Some(10));
     let copy = message.copy()?;
+    assert!(rt; copy == message);
+    assert!(rt; copy != received_at_100(rt.alloc(), b"x", Some(11)));
     let (payload, qos, received, expiry, _properties) = copy.into_parts();
     assert_eq!(rt; payload.as_slice(), b"x".as_slice());
     assert_eq!(rt; qos, Qos::AtLeastOnce);

@@ -32,12 +32,12 @@ impl Pieces {
 impl Read for Pieces {
     fn read(&mut self, buf: &mut [u8]) -> io::Result<usize> {
         let end = self.end().min(self.bytes.len());
-        let mut n = 0;
-        while n < buf.len() && self.at < end {
-            buf[n] = self.bytes[self.at];
-            self.at += 1;
-            n += 1;
-        }
+        let Some(piece) = self.bytes.as_slice().get(self.at..end) else {
+            return Ok(0);
+        };
+        let n = piece.len().min(buf.len());
+        buf[..n].copy_from_slice(&piece[..n]);
+        self.at = self.at.saturating_add(n);
         Ok(n)
     }
 }

@@ -1,3 +1,4 @@
+pub mod Clocks
 pub mod Identifiers
 pub mod HexDigits
 pub mod Fronts

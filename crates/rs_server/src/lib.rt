@@ -8,7 +8,9 @@ mod counted;
 mod hex_lines;
 mod hex_stream;
 mod law;
+mod memory;
 mod piping;
+mod program;
 mod say;
 mod words;
 
@@ -18,7 +20,9 @@ pub use counted::Counted;
 pub use hex_lines::{HexFault, read_hex};
 pub use hex_stream::{HexReader, HexWriter};
 pub use law::one_hearing;
+pub use memory::serve_bytes;
 pub use piping::{PipeFault, pipe};
+pub use program::{local_gate, run};
 pub use say::ServeFault;
 pub use words::{Run, WordsFault, read_words};
 

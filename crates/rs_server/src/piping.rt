@@ -1,5 +1,8 @@
 //! One connection from an input to an output.
 
+ghost use Rattle.std.specs.Prelude.{◌≡◌};
+ghost use Rattle.rs_server.specs.Statuses.{pipe_fault, pipe_status};
+
 use crate::clock::Moments;
 use crate::connection::{Served, serve};
 use crate::counted::Counted;
@@ -30,7 +33,9 @@ pub enum PipeFault {
 
 impl PipeFault {
     /// The exit status: 2 for a line that is not hex, and 1 for the others.
-    pub fn status(&self) -> u8 {
+    pub fn status(&self) -> u8
+        ensures { result ≡ pipe_status self.now }
+    {
         match self {
             PipeFault::NotHex(_) => 2,
             _ => 1,
@@ -64,7 +69,9 @@ pub fn pipe<H: Wait, R: Read + Drop, W: Write + Drop, G: Gate>(
 }
 
 /// The fault, where a line that is not hex made the reader fail, or none did.
-fn fault_at(fault: ServeFault, not_hex: Option<u64>) -> PipeFault {
+fn fault_at(fault: ServeFault, not_hex: Option<u64>) -> PipeFault
+    ensures { result ≡ pipe_fault fault not_hex }
+{
     match (fault, not_hex) {
         (ServeFault::Read, Some(line)) => PipeFault::NotHex(line),
         (ServeFault::Read, None) => PipeFault::Read,

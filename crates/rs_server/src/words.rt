@@ -1,5 +1,8 @@
 //! The command line.
 
+ghost use Rattle.std.specs.Prelude.{◌≡◌};
+ghost use Rattle.rs_server.specs.Statuses.{words_status};
+
 use clap::error::ErrorKind;
 use clap::{Arg, ArgAction, ArgMatches, Command, value_parser};
 use std::alloc::{AllocError, Global};
@@ -33,7 +36,9 @@ pub enum WordsFault {
 
 impl WordsFault {
     /// The exit status: 0 for help, 2 for words that are refused, 1 for want of memory.
-    pub fn status(&self) -> u8 {
+    pub fn status(&self) -> u8
+        ensures { result ≡ words_status self.now }
+    {
         match self {
             WordsFault::Help(_) => 0,
             WordsFault::Refused(_) => 2,
@@ -72,6 +77,7 @@ pub fn read_words(alloc: Global, words: &[String]) -> Result<Run, WordsFault> {
 fn command<'a>(alloc: Global) -> Result<Command<'a>, AllocError> {
     Command::new(alloc, "rstored")
         .about(ABOUT)
+        .bin_name("rstored")?
         .no_binary_name(true)
         .subcommand_required(true)
         .disable_help_subcommand(true)

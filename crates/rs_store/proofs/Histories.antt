@@ -1,14 +1,12 @@
 -- What one entry more changes of what is held, and of what is legal.
-use Rattle.std.proofs.Common.{◌≡◌, ◌≢◌, ◌==◌, ℕ, ◌+◌, ◌<◌, ◌≤◌, ◌^◌, ◌⊎◌, inl, inr, ⊎_elim, Bool, true, false, max, cond, List, [], ◌∷◌, ◌++◌, map, length, refl, sym, ap, subst, ◌∙◌, arith, append_assoc, length-append, fold}
-use Rattle.std.specs.Prelude.{Contains}
+use Rattle.std.proofs.Common.{◌≡◌, ◌==◌, ℕ, ◌<◌, ◌⊎◌, inl, inr, ⊎_elim, max, cond, List, [], ◌∷◌, ◌++◌, length, refl, sym, ap, subst, ◌∙◌, arith, append_assoc, length-append}
 use Rattle.std.specs.List.{AllByRecursion}
 use Rattle.std.proofs.lemmas.List.Sums.{fold-append}
 use Rattle.std.proofs.lemmas.List.{append-nil}
 use mathlib.Core.List.{IsPrefix}
 use Rattle.rs_message.specs.Values.{MessageValue}
 use Rattle.rs_message.specs.declared.entry.Entry.{Entry}
-use Rattle.rs_message.specs.declared.entry.Operation.{Operation}
-use Rattle.rs_message.specs.declared.entry.Operation.TheVariants.{Set, Clear}
+use Rattle.rs_message.specs.declared.entry.Operation.TheVariants.{Set}
 use Rattle.rs_store.specs.History.{Ends, Holds, HoldAtMost, IsLegal, MayFollow, last_serial}
 
 -- where a list with x behind it is cut before some z, either z is x, or z stands in the list

@@ -1,26 +1,23 @@
 -- The content of a catalogue against the list of entries.
-use Rattle.std.proofs.Common.{◌≡◌, ◌≢◌, ◌==◌, ℕ, ◌+◌, ◌<◌, ◌≤◌, ◌^◌, ◌⊎◌, ⊎_elim, inl, inr, Bool, true, false, not, ◌&&◌, ◌||◌, max, cond, List, [], ◌∷◌, ◌++◌, map, length, refl, sym, ap, subst, ◌∙◌, arith, length-append, get_or, set, replicate, Option, IsSome}
-use Rattle.std.specs.Prelude.{Contains, nat_eq, ◌↔◌, slice_index}
+use Rattle.std.proofs.Common.{◌≡◌, ◌≢◌, ◌==◌, ℕ, ◌<◌, ◌≤◌, ◌⊎◌, ⊎_elim, inl, inr, Bool, true, false, not, ◌&&◌, ◌||◌, max, List, [], ◌∷◌, ◌++◌, map, length, refl, sym, ap, subst, ◌∙◌, arith, length-append, get_or, set, replicate}
+use Rattle.std.specs.Prelude.{Contains, slice_index}
 use Rattle.std.specs.List.{All, AllByRecursion, IsDistinct, list_any, filter}
-use Rattle.std.specs.List.Sorted.{IsStrictlySortedBy}
-use Rattle.std.specs.Map.{keys_of, lookup, remove_entry}
+use Rattle.std.specs.Map.{keys_of, remove_entry}
 use Rattle.std.specs.BTreeMap.{insert_entry, is_at}
 use Rattle.std.specs.Ordering.{eq_by_cmp}
 use Rattle.std.specs.Str.{bytes_eq}
-use Rattle.std.specs.Cmp.{Equal-is}
-use Rattle.std.specs.declared.cmp.Ordering.TheVariants.{Less, Equal, Greater}
+use Rattle.std.specs.declared.cmp.Ordering.TheVariants.{Equal}
 use Rattle.std.proofs.lemmas.Cmp.{nat_list_eq_equiv, tied_itself}
 use Rattle.std.proofs.lemmas.Bool.{cases_lt}
 use Rattle.std.proofs.lemmas.Bool.Decides.{nat_tests}
 use Rattle.std.proofs.lemmas.List.{get_or-set_same, get_or-set_other, get_or-replicate, get_or_past, length-set, length-replicate}
-use Rattle.std.proofs.lemmas.List.Elements.{recursion_from_All, All-weaker, All-map, All-contains_itself, Contains-get_or}
+use Rattle.std.proofs.lemmas.List.Elements.{recursion_from_All, All-weaker, All-map, All-contains_itself}
 use Rattle.std.proofs.lemmas.Map.Keys.{IsDistinct-from_sorted}
 use Rattle.std.proofs.lemmas.Map.Entries.{length-keys_of}
 use Rattle.std.proofs.lemmas.Map.Steps.{length-le_from_keys}
 use Rattle.std.proofs.lemmas.Map.Views.{IsSome-lookup_from_Contains}
 use Rattle.std.proofs.lemmas.Slice.Eq.{bytes_eq-Decides}
 use Rattle.rs_topic.specs.Order.{topic_cmp}
-use Rattle.rs_topic.specs.Matching.{Matches}
 use Rattle.rs_topic.specs.TopicOrder.{topic_total, exact_topics, topic_matches_eq}
 use Rattle.rs_message.specs.Values.{MessageValue}
 use Rattle.rs_message.specs.Messages.{is_expired}
@@ -33,8 +30,8 @@ use Rattle.rs_store.specs.declared.content.Content.{Content}
 use Rattle.rs_store.specs.declared.fault.Refusal.{Refusal}
 use Rattle.rs_store.specs.declared.fault.Refusal.TheVariants.{Full, Stale, NoMemory}
 use Rattle.rs_store.specs.Contents.{IsNew, HasRoom, Accepts, RefusedBy, after, answer_in, empty, followed, found_of, is_answered}
-use Rattle.rs_store.specs.History.{AreHeld, Ends, HoldAtMost, Holds, IsAnswer, IsHeld, IsLatest, IsLegal, IsRoomFor, MayFollow, MayNotFollow, Stands, last_serial}
-use Rattle.rs_store.proofs.Entries.{Among, all_weaker, among, contains, key_among, firsts, seconds, sorted_none, insert_sound, insert_there, insert_kept, sorted_insert, remove_sound, remove_kept, sorted_remove, sorted_filter, filter_sound, filter_kept}
+use Rattle.rs_store.specs.History.{AreHeld, Ends, HoldAtMost, IsAnswer, IsHeld, IsLatest, IsRoomFor, MayFollow, MayNotFollow, Stands, last_serial}
+use Rattle.rs_store.proofs.Entries.{Among, all_weaker, among, contains, key_among, sorted_none, insert_sound, insert_there, insert_kept, sorted_insert, remove_sound, remove_kept, sorted_remove, sorted_filter, filter_sound, filter_kept}
 use Rattle.rs_store.proofs.Histories.{holds_none, held_before, held_by_last, held_still, legal_empty, legal_more, last_serial_more}
 use Rattle.rs_store.proofs.Matching.{Decides-matches}
 

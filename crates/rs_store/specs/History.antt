@@ -1,6 +1,6 @@
 -- What a list of entries leaves, which lists are legal, and which content stands for a list. The number of a section is that of
 -- OASIS MQTT Version 5.0.
-use Rattle.std.specs.Prelude.{◌≡◌, ◌==◌, ℕ, ◌+◌, ◌<◌, ◌≤◌, ◌^◌, Bool, true, false, max, cond, List, [], ◌∷◌, ◌++◌, length, map, fold, slice_index, Contains}
+use Rattle.std.specs.Prelude.{◌≡◌, ◌==◌, ℕ, ◌+◌, ◌<◌, ◌≤◌, ◌^◌, false, max, cond, List, [], ◌∷◌, ◌++◌, length, map, fold, slice_index, Contains}
 use Rattle.std.specs.List.{All, AllByRecursion, IsDistinct}
 use Rattle.std.specs.List.Sorted.{IsStrictlySortedBy}
 use Rattle.std.specs.Str.{bytes_eq}

@@ -1,0 +1,34 @@
+//! One connection over bytes in memory.
+
+ghost use Rattle.std.specs.Prelude.{◌≡◌, IfOk};
+ghost use Rattle.rs_server.specs.Memory.{IsServed};
+
+use crate::clock::Moments;
+use crate::connection::{Served, serve};
+use crate::counted::Counted;
+use crate::program::local_gate;
+use crate::say::ServeFault;
+use std::alloc::Global;
+use std::sync::Wait;
+
+/// How a connection of these bytes ends, and what is replied to them, over an empty store of its own. Every
+/// moment is `now`, in seconds.
+pub fn serve_bytes<H: Wait>(
+    rt: &H,
+    alloc: Global,
+    input: &[u8],
+    now: u64,
+) -> Result<(Served, Vec<u8>), ServeFault>
+    ensures { IfOk result (λ r. IsServed input.now now r.0 r.1.items) }
+{
+    let Ok(gate) = local_gate(alloc) else {
+        return Err(ServeFault::NoMemory);
+    };
+    let mut reader = Counted::new(input);
+    let mut writer = Counted::new(Vec::new(alloc));
+    let mut clock = Moments::new(now, Vec::new(alloc));
+    match serve(rt, alloc, &mut reader, &mut writer, gate, 1, 1, &mut clock).0 {
+        Ok(served) => Ok((served, writer.into_inner())),
+        Err(fault) => Err(fault),
+    }
+}
