@@ -43,6 +43,7 @@ impl Origin {
         None
     }
 
+    /// The place, 1 to 64.
     pub fn place(self) -> u8
         ensures value { result ≡ self.place }
         ensures some { 0 < result }
@@ -51,6 +52,7 @@ impl Origin {
         self.place
     }
 
+    /// The serial, which is not 0.
     pub fn serial(self) -> u64
         ensures value { result ≡ self.serial }
         ensures some { 0 < result }
@@ -62,7 +64,9 @@ impl Origin {
 /// A change of a topic's retained message: section 3.3.1.3.
 #[derive(Drop, PartialEq, Eq)]
 pub enum Operation {
+    /// The message is the topic's retained message from now on, in place of any other.
     Set(TopicName, Message),
+    /// The topic has no retained message any more.
     Clear(TopicName),
 }
 
@@ -105,7 +109,9 @@ impl Operation {
 /// One change of the store, and where it came from.
 #[derive(Drop, PartialEq, Eq)]
 pub struct Entry {
+    /// Where it came from.
     pub origin: Origin,
+    /// What it changes.
     pub operation: Operation,
 }
 
@@ -124,6 +130,8 @@ impl Entry {
 /// A topic and its retained message.
 #[derive(Drop)]
 pub struct Found {
+    /// The topic.
     pub topic: TopicName,
+    /// Its retained message.
     pub message: Message,
 }

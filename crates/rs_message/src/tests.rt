@@ -181,7 +181,7 @@ fn codes(rt: HostRuntime) -> Result<(), Fail> {
         (
             SubmitFault::Full,
             40,
-            "the store holds as many topics as it may; clear a topic or raise the limit",
+            "the store holds as many topics as it may, or has no number left; clear a topic or raise the limit",
         ),
         (
             SubmitFault::NoMemory,
@@ -196,7 +196,7 @@ fn codes(rt: HostRuntime) -> Result<(), Fail> {
         (
             SubmitFault::Strange,
             43,
-            "the store answered for another change; send this one again",
+            "the store answered for another change; whether this one was made is not known",
         ),
         (
             SubmitFault::Closed,

@@ -1,10 +1,10 @@
 //! A gate with a catalogue of its own.
 
 ghost use Rattle.std.specs.Prelude.{◌≡◌, ◌↔◌, [], List, IfOk, IfErr, OnErr, OnOk, Err, ◌⊎◌};
-ghost use Rattle.rs_store.specs.Contents.{empty};
+ghost use Rattle.rs_store.specs.Contents.{empty, followed};
 ghost use Rattle.rs_store.specs.History.{IsAnswer, Stands};
 ghost use Rattle.rs_session.specs.Gate.{Grows, Uses, IsSubmitted};
-ghost use Rattle.rs_session.specs.Local.{catalogue_of, local_mark, IsFull};
+ghost use Rattle.rs_session.specs.Local.{catalogue_of, local_mark, next_entry, IsFull};
 
 use crate::gate::Gate;
 use rs_message::{Entry, Found, Operation, Origin, SubmitFault};
@@ -23,7 +23,7 @@ pub struct LocalGate<C> {
 }
 
 impl<C: Catalogue> LocalGate<C> {
-    /// A gate to an empty store of at most so many topics.
+    /// A gate to an empty store of at most so many topics. Refused only for want of memory.
     pub fn new(alloc: Global, limit: TopicLimit) -> Result<LocalGate<C>, AllocError>
         ensures content { IfOk result (λ gate. C.content (catalogue_of gate) ≡ empty limit) }
         ensures list { IfOk result (λ gate. Stands (C.content (catalogue_of gate)) []) }
@@ -57,6 +57,7 @@ impl<C: Catalogue> Gate for LocalGate<C> {
         ensures mark { Uses (local_mark (C.content (catalogue_of self.old))) (local_mark (C.content (catalogue_of self.new))) }
         ensures full { (result ≡ Err SubmitFault.Full) ↔ IsFull (C.content (catalogue_of self.old)) operation }
         ensures faults { IfErr result (λ fault. (fault ≡ SubmitFault.Full) ⊎ (fault ≡ SubmitFault.NoMemory)) }
+        ensures done { OnOk result (C.content (catalogue_of self.new) ≡ followed (C.content (catalogue_of self.old)) (next_entry (C.content (catalogue_of self.old)) operation)) }
         ensures refused { OnErr result (C.content (catalogue_of self.new) ≡ C.content (catalogue_of self.old)) }
     {
         let last = self.catalogue.last_serial(PLACE);
@@ -74,7 +75,13 @@ impl<C: Catalogue> Gate for LocalGate<C> {
         }
     }
 
-    fn answer(&mut self, filter: &TopicFilter, now: u64) -> Result<Vec<Found>, AllocError> {
+    /// Refused only for want of memory. The store stays as it is.
+    fn answer(&mut self, filter: &TopicFilter, now: u64) -> Result<Vec<Found>, AllocError>
+        ensures list { Grows (Stands (C.content (catalogue_of self.old))) (Stands (C.content (catalogue_of self.new)))
+            (λ seen list. IfOk result (λ found. IsAnswer list filter.now now found.items)) }
+        ensures mark { local_mark (C.content (catalogue_of self.new)) ≡ local_mark (C.content (catalogue_of self.old)) }
+        ensures same { C.content (catalogue_of self.new) ≡ C.content (catalogue_of self.old) }
+    {
         self.catalogue.answer(filter, now)
     }
 }

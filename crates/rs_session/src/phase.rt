@@ -28,13 +28,17 @@ pub enum Phase {
 /// Whether a session goes on.
 #[derive(Clone, Copy, Debug, PartialEq, Eq)]
 pub enum Step {
+    /// It takes another input, once `next_reply` gave none.
     Go,
+    /// It is over: the replies that are left are one CONNACK or DISCONNECT at most.
     End,
 }
 
 /// What a session is given: a packet, or a fault in its place.
 #[derive(Drop)]
 pub enum Input {
+    /// A packet that was decoded.
     Whole(Packet),
+    /// Why there is none.
     Broken(PacketFault),
 }

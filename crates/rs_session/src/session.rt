@@ -49,7 +49,8 @@ impl<G: Gate> Session<G> {
         }
     }
 
-    /// What a packet at this moment leads to. `now` is in seconds.
+    /// What a packet at this moment leads to, where no reply of the input before is left. `now` is in
+    /// seconds. Over a session that has ended it changes nothing.
     pub fn on_packet(&mut self, packet: Packet, now: u64) -> Step
         requires { due_of self.old ≡ None }
         ensures row { Grows (G.stands (gate_of self.old)) (G.stands (gate_of self.new)) (λ seen list.
@@ -61,7 +62,8 @@ impl<G: Gate> Session<G> {
         self.step()
     }
 
-    /// What a fault in place of a packet leads to.
+    /// What a fault in place of a packet leads to, where no reply of the input before is left: a
+    /// DISCONNECT with its Reason Code (section 4.13), or before CONNECT mostly no reply.
     pub fn on_fault(&mut self, fault: PacketFault) -> Step
         requires { due_of self.old ≡ None }
         ensures row { (now : ℕ) → Grows (G.stands (gate_of self.old)) (G.stands (gate_of self.new)) (λ seen list.
@@ -73,7 +75,7 @@ impl<G: Gate> Session<G> {
         self.step()
     }
 
-    /// A packet, or a fault in its place.
+    /// What a packet, or a fault in its place, leads to: `on_packet` or `on_fault`.
     pub fn on_input(&mut self, input: Input, now: u64) -> Step
         requires { due_of self.old ≡ None }
         ensures row { Grows (G.stands (gate_of self.old)) (G.stands (gate_of self.new)) (λ seen list.

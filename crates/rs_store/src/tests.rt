@@ -178,7 +178,7 @@ fn codes(rt: HostRuntime) -> Result<(), Fail> {
         (
             Refusal::Full,
             20,
-            "the store holds as many topics as it may; clear a topic or raise the limit",
+            "the store holds as many topics as it may, or has no number left; clear a topic or raise the limit",
         ),
         (
             Refusal::Stale,
