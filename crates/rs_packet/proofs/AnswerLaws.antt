@@ -1,11 +1,11 @@
 -- Whole packets: what is answered is spelled so, and what is spelled so is answered; no spelling begins another.
-use Rattle.std.proofs.Common.{◌≡◌, ℕ, zero, suc, ◌+◌, ◌-◌, ◌*◌, ◌<◌, ◌≤◌, ◌^◌, Bool, true, false, cond, eqb, ltb, List, [], ◌∷◌, ◌++◌, length, take, drop, Option, Some, None, Result, Ok, Err, refl, sym, ap, subst, ◌∙◌, append_assoc, arith, inl, inr}
+use Rattle.std.proofs.Common.{◌≡◌, ℕ, suc, ◌+◌, ◌-◌, ◌<◌, ◌≤◌, Bool, true, false, cond, eqb, ltb, List, [], ◌∷◌, ◌++◌, length, take, drop, Option, Some, None, Result, Ok, Err, refl, sym, ap, subst, ◌∙◌, append_assoc, arith, inl, inr}
 use Rattle.std.specs.List.{find, list_any}
 use Rattle.std.specs.Prelude.{nat_eq, IfOk}
 use Rattle.std.proofs.lemmas.Bool.{eqb-true, ltb-false, le-ltb}
-use Rattle.std.proofs.lemmas.List.{append_cancel_left, append_cancel_right, length-append, length-drop, length-take-le, take-append-drop, take_at, drop_at}
+use Rattle.std.proofs.lemmas.List.{length-append, length-drop, length-take-le, take-append-drop, take_at}
 use Rattle.rs_packet.specs.declared.fault.PacketFault.{PacketFault}
-use Rattle.rs_packet.specs.declared.fault.PacketFault.TheVariants.{Malformed, Protocol, TooLarge, Version, NoMemory}
+use Rattle.rs_packet.specs.declared.fault.PacketFault.TheVariants.{Malformed, Protocol, TooLarge}
 use Rattle.rs_packet.specs.declared.reading.Cut.{Cut}
 use Rattle.rs_packet.specs.declared.reading.Cut.TheVariants.{Short, Bad}
 use Rattle.rs_packet.specs.declared.property.Place.TheVariants as place

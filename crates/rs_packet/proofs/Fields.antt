@@ -1,16 +1,15 @@
 -- A field that is read is spelled so, and what is spelled so is read.
-use Rattle.std.proofs.Common.{◌≡◌, ℕ, zero, suc, ◌+◌, ◌-◌, ◌*◌, ◌/◌, ◌%◌, ◌<◌, ◌≤◌, ◌^◌, Bool, true, false, cond, not, eqb, ltb, List, [], ◌∷◌, ◌++◌, length, get_or, take, drop, Option, Some, None, Result, Ok, Err, refl, sym, ap, subst, ◌∙◌, append_assoc, arith, inl, inr}
+use Rattle.std.proofs.Common.{◌≡◌, ℕ, zero, suc, ◌+◌, ◌-◌, ◌*◌, ◌/◌, ◌%◌, ◌<◌, ◌≤◌, ◌^◌, Bool, true, false, cond, eqb, ltb, List, [], ◌∷◌, ◌++◌, length, get_or, take, drop, Result, Ok, Err, refl, sym, ap, subst, ◌∙◌, append_assoc, arith, inl, inr}
 use Rattle.std.specs.Int.{Width, w16, w32, byte_len, from_be_bytes, to_be_bytes}
 use Rattle.std.proofs.lemmas.Bool.{cases_lt, ltb-false, ltb-true, le-ltb, lt-ltb, eqb-false, ne_eqb}
 use Rattle.std.proofs.lemmas.List.{take_at, drop_at, take-append-drop, length-append, length-take, get_or-drop, get_or-take, get_or_past}
 use Rattle.std.proofs.lemmas.Nat.{be_bytes_2, be_bytes_4, from_be_bytes-to_be_bytes_2, from_be_bytes-to_be_bytes_4}
-use Rattle.rs_packet.specs.declared.fault.PacketFault.{PacketFault}
-use Rattle.rs_packet.specs.declared.fault.PacketFault.TheVariants.{Malformed, Protocol}
+use Rattle.rs_packet.specs.declared.fault.PacketFault.TheVariants.{Malformed}
 use Rattle.rs_packet.specs.declared.reading.Cut.{Cut}
-use Rattle.rs_packet.specs.declared.reading.Cut.TheVariants.{Short, Bad}
+use Rattle.rs_packet.specs.declared.reading.Cut.TheVariants.{Bad}
 use Rattle.rs_topic.specs.Texts.{IsText, reads_as_text}
-use Rattle.rs_packet.specs.Properties.{low_first, varint, varint_end, two, four, counted, IsShort}
-use Rattle.rs_packet.specs.Reading.{◌>>=◌, digits_at, within, varint_at, byte_at, number_at, part_at, binary_at, text_at, wanting}
+use Rattle.rs_packet.specs.Properties.{low_first, varint, varint_end, counted, IsShort}
+use Rattle.rs_packet.specs.Reading.{◌>>=◌, digits_at, within, varint_at, number_at, part_at, binary_at, text_at}
 use Rattle.rs_packet.proofs.Numbers.{bind_ok, chosen, guarded, ok_is}
 use Rattle.rs_topic.proofs.TextLemmas.{is_text_when_read, reads_when_text}
 

@@ -1,7 +1,7 @@
 -- The front of a stream: a fault stays whatever follows, and a packet has one reading.
 use Rattle.std.proofs.Common.{◌≡◌, ℕ, zero, suc, ◌+◌, ◌-◌, ◌*◌, ◌<◌, ◌≤◌, Bool, true, false, cond, eqb, ltb, List, [], ◌∷◌, ◌++◌, length, get_or, take, drop, Result, Ok, Err, refl, sym, ap, subst, ◌∙◌, append_assoc, arith, inl, inr}
-use Rattle.std.proofs.lemmas.Bool.{cases_lt, ltb-true, ltb-false, lt-ltb, le-ltb}
-use Rattle.std.proofs.lemmas.List.{append-nil, nil_from_length, length-append, take-append-le, take_at, take_all, length-take-le, take-append-drop}
+use Rattle.std.proofs.lemmas.Bool.{cases_lt, ltb-false, lt-ltb, le-ltb}
+use Rattle.std.proofs.lemmas.List.{append-nil, nil_from_length, length-append, take-append-le, take_all, length-take-le}
 use Rattle.rs_packet.specs.declared.fault.PacketFault.{PacketFault}
 use Rattle.rs_packet.specs.declared.fault.PacketFault.TheVariants.{Malformed, Protocol, TooLarge, Version, NoMemory}
 use Rattle.rs_packet.specs.declared.reading.Cut.{Cut}
@@ -136,6 +136,7 @@ pub record IsFrontLen (bytes : List ℕ) (n : ℕ) : Type 0 where
   pub enough : n ≤ length bytes → answer (take n bytes) ≡ answer bytes
   pub waits : IsMore bytes → length bytes < n
   pub whole : (p : Packet) (m : ℕ) → answer bytes ≡ Ok (Whole p m) → n ≡ m
+  pub sized : (more : List ℕ) (p : Packet) (m : ℕ) → 5 ≤ length bytes → answer (bytes ++ more) ≡ Ok (Whole p m) → n ≡ m
 
 -- no byte
 pub no_byte : IsFrontLen [] 1
@@ -146,6 +147,7 @@ no_byte = record {
   enough = λ le. absurd (omega (arith, le));
   waits = λ is. omega arith;
   whole = λ p m e. absurd cc;
+  sized = λ more p m le e. absurd (omega (arith, le));
 }
 
 -- a fault, of which all bytes that are held are kept
@@ -156,6 +158,7 @@ faulty bytes f e = record {
   enough = λ le. ap answer (take_all (length bytes) bytes (omega arith));
   waits = λ is. absurd (let x : ◌≡◌ {A = Result Decoded PacketFault} (Err f) (Ok More) = sym e ∙ is in cc);
   whole = λ p m is. absurd (let x : ◌≡◌ {A = Result Decoded PacketFault} (Err f) (Ok (Whole p m)) = sym e ∙ is in cc);
+  sized = λ more p m le is. absurd (let x : ◌≡◌ {A = Result Decoded PacketFault} (Err f) (Ok (Whole p m)) = sym (err_stays bytes more f e) ∙ is in cc);
 }
 
 pub faulty_kind : (first : ℕ) (bytes : List ℕ) (f : PacketFault) → kind_of first ≡ Err f → IsFrontLen (first ∷ bytes) (suc (length bytes))
@@ -170,7 +173,24 @@ pub too_large : (first : ℕ) (bytes rest : List ℕ) (k : Kind) (n : ℕ) → k
 unfolding answer
 too_large first bytes rest k n e d lt = faulty (first ∷ bytes) TooLarge (let t : ltb largest (suc (length bytes) - length rest + n) ≡ true = lt-ltb _ _ lt in rw (e, d, t) refl)
 
--- a length that goes on
+-- a length that goes on, of fewer bytes than a length may have
+digits_short : (k : ℕ) (bytes : List ℕ) → digits_at k bytes ≡ Err Short → length bytes < k
+unfolding digits_at
+digits_short zero bytes e = absurd cc
+digits_short (suc k) [] e = omega arith
+digits_short (suc k) (b ∷ bytes) e = by (ltb b 128) (digits_at k bytes) (digits_short k bytes) e
+  where
+    ended : (t : Bool) (n : ℕ) (rest : List ℕ) → cond {A = Result (ℕ × List ℕ) Cut} t (Err Bad) (Ok (n, rest)) ≡ Err Short → ⊥
+    ended true n rest e = absurd cc
+    ended false n rest e = absurd cc
+
+    by : (t : Bool) (r : Result (ℕ × List ℕ) Cut) → (r ≡ Err Short → length bytes < k)
+        → cond {A = Result (ℕ × List ℕ) Cut} t (Ok (b, bytes)) (r >>= λ high. cond (eqb high.0 0) (Err Bad) (Ok (b - 128 + 128 * high.0, high.1))) ≡ Err Short → suc (length bytes) < suc k
+    by true r again e = absurd cc
+    by false (Ok x) again e = absurd (ended (eqb x.0 0) (b - 128 + 128 * x.0) x.1 e)
+    by false (Err Bad) again e = absurd cc
+    by false (Err Short) again e = let lt : length bytes < k = again refl in omega (arith, lt)
+
 cut_length : (first : ℕ) (bytes : List ℕ) (k : Kind) → kind_of first ≡ Ok k → digits_at 4 bytes ≡ Err Short → answer (first ∷ bytes) ≡ Ok More
 unfolding answer
 cut_length first bytes k e d = rw (e, d) refl
@@ -184,6 +204,7 @@ in_length first bytes k e d =
       enough = λ le. absurd (omega (arith, le));
       waits = λ more. omega arith;
       whole = λ p m w. absurd (let x : ◌≡◌ {A = Result Decoded PacketFault} (Ok More) (Ok (Whole p m)) = sym is ∙ w in cc);
+      sized = λ more p m le w. absurd (let lt : length bytes < 4 = digits_short 4 bytes d in omega (arith, le, lt));
     }
 
 -- a good length
@@ -244,6 +265,13 @@ in_frame first n k rest e lt small =
           elim (cases_lt (length rest) n) [
             | inl l ↦ absurd (let x : ◌≡◌ {A = Result Decoded PacketFault} (Ok More) (Ok (Whole p m)) = sym (body_waits k (suc (length (varint n))) n rest small l) ∙ sym (framed first n k rest e lt) ∙ is in cc)
             | inr le ↦ read_size (packet_at k (take n rest)) (suc (length (varint n)) + n) p m (sym (body_reads k (suc (length (varint n))) n rest small le) ∙ sym (framed first n k rest e lt) ∙ is)
+          ];
+      sized = λ more p m five is.
+          let at : body_at k (suc (length (varint n))) n (rest ++ more) ≡ Ok (Whole p m) =
+          sym (framed first n k (rest ++ more) e lt) ∙ sym (ap (λ (m : List ℕ). answer (first ∷ m)) (append_assoc (varint n) rest more)) ∙ is in
+          elim (cases_lt (length (rest ++ more)) n) [
+            | inl l ↦ absurd (let x : ◌≡◌ {A = Result Decoded PacketFault} (Ok More) (Ok (Whole p m)) = sym (body_waits k (suc (length (varint n))) n (rest ++ more) small l) ∙ at in cc)
+            | inr le ↦ read_size (packet_at k (take n (rest ++ more))) (suc (length (varint n)) + n) p m (sym (body_reads k (suc (length (varint n))) n (rest ++ more) small le) ∙ at)
           ];
     }
 

@@ -1,9 +1,8 @@
 -- Numbers of one to four digits of seven bits.
-use Rattle.std.proofs.Common.{◌≡◌, ℕ, zero, suc, ◌+◌, ◌-◌, ◌*◌, ◌/◌, ◌%◌, ◌<◌, ◌≤◌, ◌^◌, Bool, true, false, cond, eqb, ltb, List, [], ◌∷◌, ◌++◌, length, get_or, take, drop, Option, Some, None, Result, Ok, Err, refl, sym, ap, subst, ◌∙◌, append_assoc, arith, inl, inr, slice_range}
+use Rattle.std.proofs.Common.{◌≡◌, ℕ, zero, suc, ◌+◌, ◌-◌, ◌*◌, ◌≤◌, Bool, true, false, cond, eqb, ltb, List, [], ◌∷◌, length, take, drop, Result, Ok, Err, refl, sym, ap, subst, ◌∙◌, arith, inl, inr, slice_range}
 use Rattle.std.specs.Prelude.{◌⊎◌}
 use Rattle.std.proofs.lemmas.List.{take_all}
-use Rattle.rs_packet.specs.declared.reading.Cut.{Cut}
-use Rattle.rs_packet.specs.declared.reading.Cut.TheVariants.{Short, Bad}
+use Rattle.rs_packet.specs.declared.reading.Cut.TheVariants.{Bad}
 use Rattle.rs_packet.specs.Reading.{◌>>=◌, digits_at, IsEnd}
 
 -- the value of a step that did not fail

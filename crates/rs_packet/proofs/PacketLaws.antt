@@ -1,7 +1,7 @@
 -- What is read is spelled so, and what is spelled so is read: PUBLISH, SUBSCRIBE, the acknowledgements and DISCONNECT.
-use Rattle.std.proofs.Common.{◌≡◌, ℕ, zero, suc, ◌+◌, ◌-◌, ◌*◌, ◌/◌, ◌%◌, ◌<◌, ◌≤◌, ◌^◌, Bool, true, false, cond, not, eqb, ltb, List, [], ◌∷◌, ◌++◌, length, get_or, take, drop, Option, Some, None, Result, Ok, Err, refl, sym, ap, subst, ◌∙◌, append_assoc, arith, inl, inr}
-use Rattle.std.specs.List.{flat_map, list_any, find}
-use Rattle.std.specs.Prelude.{nat_eq, ◌&&◌, is_none}
+use Rattle.std.proofs.Common.{◌≡◌, ℕ, zero, suc, ◌+◌, ◌/◌, ◌%◌, ◌<◌, ◌≤◌, ◌^◌, Bool, true, false, cond, not, eqb, ltb, List, [], ◌∷◌, ◌++◌, length, Option, Some, None, Result, Ok, Err, refl, sym, ap, subst, ◌∙◌, append_assoc, arith}
+use Rattle.std.specs.List.{flat_map}
+use Rattle.std.specs.Prelude.{◌&&◌, is_none}
 use Rattle.std.specs.Str.{bytes_eq, is_utf8, chars}
 use lib.Utf8.{encode}
 use Rattle.std.specs.Bool.{Decides}
@@ -9,10 +9,10 @@ use Rattle.std.proofs.lemmas.Slice.Eq.{bytes_eq-Decides}
 use Rattle.rs_packet.specs.declared.packet.Flags.{Flags}
 use Rattle.rs_packet.specs.declared.packet.Connect.{Connect}
 use Rattle.std.specs.Int.{w16}
-use Rattle.std.proofs.lemmas.Bool.{ltb-true, lt-ltb, ltb-false, le-ltb, eqb-false, eqb-true, ne_eqb}
+use Rattle.std.proofs.lemmas.Bool.{ltb-true, lt-ltb, eqb-false, eqb-true, ne_eqb}
 use Rattle.std.proofs.lemmas.List.{length-append, append-nil}
 use Rattle.rs_packet.specs.declared.fault.PacketFault.{PacketFault}
-use Rattle.rs_packet.specs.declared.fault.PacketFault.TheVariants.{Malformed, Protocol, TooLarge, Version, NoMemory}
+use Rattle.rs_packet.specs.declared.fault.PacketFault.TheVariants.{Malformed, Protocol, Version}
 use Rattle.rs_packet.specs.declared.property.Property.{Property}
 use Rattle.rs_packet.specs.declared.property.Place.{Place}
 use Rattle.rs_packet.specs.declared.property.Place.TheVariants as place
@@ -24,13 +24,13 @@ use Rattle.rs_packet.specs.declared.packet.Options.{Options}
 use Rattle.rs_packet.specs.declared.packet.Publish.{Publish}
 use Rattle.rs_packet.specs.declared.packet.Acknowledgement.{Acknowledgement}
 use Rattle.rs_topic.specs.Texts.{IsText}
-use Rattle.rs_topic.specs.Topics.{name_of, filter_of}
+use Rattle.rs_topic.specs.Topics.{filter_of}
 use Rattle.rs_packet.specs.Values.{FoundValue, SubscribeValue, UnsubscribeValue, Asked, Filter}
-use Rattle.rs_packet.specs.Properties.{two, counted, IsShort, AreProperties, properties, gathered, nothing, varint, low_first, spelled}
+use Rattle.rs_packet.specs.Properties.{two, counted, IsShort, AreProperties, properties, gathered, nothing, low_first, spelled}
 use Rattle.rs_packet.specs.Reading.{◌>>=◌, number_at, byte_at, binary_at, text_at, wanting, properties_at, found_at}
 use Rattle.rs_packet.specs.Grammar.{bit, level, handling, IsId, IdFits, id_bytes, publication, SpellsPublish, SpellsCode, SpellsAcknowledgement, options_byte, AreFilters, filter_bytes, asked, SpellsSubscribe, AreTexts, filters_of, SpellsUnsubscribe, protocol, flags_byte, FlagsFit, SpellsIf, SpellsPayload, MethodFits, SpellsConnect}
 use Rattle.rs_packet.specs.PacketReading.{id_at, id_for, publish_at, ended, code_at, acknowledgement_at, qos_of, handling_of, options_of, asked_at, all_in, some_of, subscribe_at, filter_at, unsubscribe_at, mqtt, flags_of, past_text, past_binary, client_at, version_at, connect_at}
-use Rattle.rs_packet.proofs.Numbers.{bind_ok, ok_is, chosen, guarded}
+use Rattle.rs_packet.proofs.Numbers.{bind_ok, ok_is}
 use Rattle.rs_packet.proofs.Fields.{IsBytes, IsBytes-rest, Takes, Takes-then, wide16, number_takes, number_again, binary_takes, binary_again, text_takes, text_again}
 use Rattle.rs_packet.proofs.PropertyLaws.{wanted, byte_takes, all_take, all_again}
 

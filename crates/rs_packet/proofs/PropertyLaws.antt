@@ -1,23 +1,22 @@
 -- A property that is read is spelled so, and what is spelled so is read.
-use Rattle.std.proofs.Common.{◌≡◌, ℕ, zero, suc, ◌+◌, ◌-◌, ◌*◌, ◌<◌, ◌≤◌, ◌^◌, Bool, true, false, cond, not, eqb, ltb, ◌||◌, List, [], ◌∷◌, ◌++◌, length, get_or, take, drop, slice_index_or, slice_set, Option, Some, None, Result, Ok, Err, refl, sym, ap, subst, ◌∙◌, append_assoc, arith, inl, inr}
-use Rattle.std.specs.List.{find, flat_map}
+use Rattle.std.proofs.Common.{◌≡◌, ℕ, zero, suc, ◌<◌, ◌≤◌, ◌^◌, Bool, true, false, cond, not, ltb, ◌||◌, List, [], ◌∷◌, ◌++◌, length, slice_index_or, slice_set, Option, Some, None, Result, Ok, Err, refl, sym, ap, subst, ◌∙◌, append_assoc, arith}
+use Rattle.std.specs.List.{flat_map}
 use Rattle.std.specs.Int.{w16, w32}
-use Rattle.std.proofs.lemmas.Bool.{ltb-true, lt-ltb, eqb-true}
-use Rattle.std.proofs.lemmas.List.{length-append, append-nil}
+use Rattle.std.proofs.lemmas.Bool.{ltb-true, lt-ltb}
+use Rattle.std.proofs.lemmas.List.{length-append}
 use Rattle.rs_packet.specs.declared.fault.PacketFault.{PacketFault}
-use Rattle.rs_packet.specs.declared.fault.PacketFault.TheVariants.{Malformed, Protocol}
+use Rattle.rs_packet.specs.declared.fault.PacketFault.TheVariants.{Protocol}
 use Rattle.rs_packet.specs.declared.property.Identifier.{Identifier}
 use Rattle.rs_packet.specs.declared.property.Identifier.TheVariants as id
 use Rattle.rs_packet.specs.declared.property.Property.{Property}
 use Rattle.rs_packet.specs.declared.property.Property.TheVariants as property
 use Rattle.rs_packet.specs.declared.property.Place.{Place}
-use Rattle.rs_topic.specs.Texts.{IsText}
 use Rattle.rs_topic.specs.Topics.{is_plain}
-use Rattle.rs_packet.specs.Properties.{varint, varint_end, low_first, number, identifier, value, spelled, may_stand, may_repeat, IsInRange, AreAllowed, AreProperties, properties, none_yet, counted, IsShort}
-use Rattle.rs_packet.specs.Reading.{◌>>=◌, varint_at, byte_at, number_at, part_at, binary_at, text_at, wanting, identifiers, identifier_of, misplaced, judged, value_at, property_at, properties_in, properties_at}
+use Rattle.rs_packet.specs.Properties.{varint, varint_end, number, identifier, value, spelled, may_stand, may_repeat, IsInRange, AreAllowed, AreProperties, properties, none_yet, counted}
+use Rattle.rs_packet.specs.Reading.{◌>>=◌, varint_at, byte_at, number_at, part_at, binary_at, text_at, wanting, identifier_of, misplaced, judged, value_at, property_at, properties_in, properties_at}
 use Rattle.rs_packet.proofs.Numbers.{bind_ok, ok_is}
 use Rattle.rs_packet.proofs.Identifiers.{identifier_of_is, identifier_again, one_byte, number_small, AreNew, once_when_new, new_when_once}
-use Rattle.rs_packet.proofs.Fields.{IsBytes, IsBytes-rest, Takes, Takes-then, Takes-next, wide16, wide32, number_takes, number_again, part_takes, part_again, binary_takes, binary_again, text_takes, text_again, varint_takes, varint_again}
+use Rattle.rs_packet.proofs.Fields.{IsBytes, IsBytes-rest, Takes, Takes-then, wide16, wide32, number_takes, number_again, part_takes, part_again, binary_takes, binary_again, text_takes, text_again, varint_takes, varint_again}
 
 pub wanted : {A : Type 0} (b : Bool) (x y : A) → wanting b x ≡ Ok y → (b ≡ true) × (x ≡ y)
 wanted true x y e = (refl, ok_is x y e)

@@ -1,22 +1,22 @@
 -- What the properties of a packet say is no longer than the properties, and stays in their ranges.
-use Rattle.std.proofs.Common.{◌≡◌, ℕ, zero, suc, ◌+◌, ◌-◌, ◌*◌, ◌/◌, ◌%◌, ◌<◌, ◌≤◌, ◌^◌, Bool, true, false, cond, ltb, List, [], ◌∷◌, ◌++◌, length, Option, Some, None, Result, Ok, Err, refl, sym, ap, subst, ◌∙◌, arith, inl, inr}
-use Rattle.std.specs.Prelude.{map, is_some, IfSome, IfOk}
+use Rattle.std.proofs.Common.{◌≡◌, ℕ, zero, suc, ◌+◌, ◌/◌, ◌≤◌, Bool, true, false, cond, ltb, List, [], ◌∷◌, ◌++◌, length, Result, Ok, Err, sym, ap, subst, ◌∙◌, arith, inl, inr}
+use Rattle.std.specs.Prelude.{map, is_some, IfOk}
 use Rattle.std.specs.List.{flat_map}
 use Rattle.std.proofs.lemmas.Bool.{cases_lt, lt-ltb, le-ltb}
-use Rattle.std.proofs.lemmas.List.{append-nil, length-append, map-append}
+use Rattle.std.proofs.lemmas.List.{length-append, map-append}
 use Rattle.std.proofs.lemmas.List.Concat.{flat_map-append}
 use Rattle.rs_packet.specs.declared.fault.PacketFault.{PacketFault}
 use Rattle.rs_packet.specs.declared.property.Property.{Property}
 use Rattle.rs_packet.specs.declared.property.Property.TheVariants as property
 use Rattle.rs_packet.specs.declared.property.Place.{Place}
-use Rattle.rs_packet.specs.Values.{FoundValue, PropertiesValue}
-use Rattle.rs_packet.specs.Properties.{low_first, varint, varint_end, spelled, value, IsInRange, IsShort, AreAllowed, AreProperties, properties, nothing, put, gathered}
+use Rattle.rs_packet.specs.Values.{FoundValue}
+use Rattle.rs_packet.specs.Properties.{low_first, varint, spelled, value, IsInRange, AreAllowed, properties, nothing, put, gathered}
 use Rattle.rs_packet.specs.Grammar.{kept}
 use Rattle.rs_packet.specs.Replies.{optional, user_property, replayed}
-use Rattle.rs_packet.specs.Bounds.{MaximaFit, IsFound}
+use Rattle.rs_packet.specs.Bounds.{IsFound}
 use Rattle.rs_packet.specs.Reading.{Gives, found_at}
 use Rattle.rs_packet.proofs.Fields.{IsBytes}
-use Rattle.rs_packet.proofs.PacketLaws.{FoundIn, found_takes}
+use Rattle.rs_packet.proofs.PacketLaws.{found_takes}
 use Rattle.rs_packet.proofs.WritingLemmas.{length_replayed}
 
 -- how many bytes the properties that a message keeps take

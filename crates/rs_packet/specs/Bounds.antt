@@ -1,5 +1,5 @@
 -- What the types of packets and replies keep. The numbers of sections are those of OASIS MQTT Version 5.0.
-use Rattle.std.specs.Prelude.{ℕ, ◌+◌, ◌<◌, ◌≤◌, ◌^◌, List, length, Option, IfSome}
+use Rattle.std.specs.Prelude.{ℕ, ◌<◌, ◌≤◌, length, Option, IfSome}
 use Rattle.rs_packet.specs.Values.{PropertiesValue, FoundValue, PublishValue, ConnectValue, PublicationValue, SubscribeValue, UnsubscribeValue, CodesValue}
 use Rattle.rs_packet.specs.Properties.{IsShort, varint_end}
 use Rattle.rs_packet.specs.Grammar.{IdFits, largest}

@@ -2,7 +2,7 @@
 use Rattle.std.specs.Prelude.{◌≡◌, ℕ, List, Ok, Err}
 use Rattle.rs_packet.specs.declared.fault.PacketFault.{PacketFault}
 use Rattle.rs_packet.specs.declared.fault.PacketFault.TheVariants.{Malformed, Protocol, TooLarge, Version, NoMemory}
-use Rattle.rs_packet.specs.declared.packet.Decoded.TheVariants.{Whole, More}
+use Rattle.rs_packet.specs.declared.packet.Decoded.TheVariants.{More}
 use Rattle.rs_packet.specs.PacketReading.{answer}
 
 -- they are less than a packet, and no fault

@@ -1,10 +1,10 @@
 -- Which answer the bytes of a packet get: the first fault, from left to right.
-use Rattle.std.specs.Prelude.{◌≡◌, ℕ, zero, suc, ◌+◌, ◌-◌, ◌*◌, ◌/◌, ◌%◌, ◌<◌, ◌≤◌, ◌^◌, Bool, true, false, ◌&&◌, ◌||◌, not, nat_lt, nat_eq, ◌==◌, if◌then◌else◌, List, [], ◌∷◌, ◌++◌, length, take, drop, Option, Some, None, Result, Ok, Err, is_none}
+use Rattle.std.specs.Prelude.{ℕ, zero, suc, ◌+◌, ◌-◌, ◌/◌, ◌%◌, Bool, true, false, ◌&&◌, not, nat_lt, nat_eq, ◌==◌, if◌then◌else◌, List, [], ◌∷◌, length, take, Option, Some, None, Result, Ok, Err, is_none}
 use Rattle.std.specs.List.{list_any, find}
 use Rattle.std.specs.Str.{bytes_eq}
 use Rattle.std.specs.Int.{w16}
 use Rattle.rs_packet.specs.declared.fault.PacketFault.{PacketFault}
-use Rattle.rs_packet.specs.declared.fault.PacketFault.TheVariants.{Malformed, Protocol, TooLarge, Version, NoMemory}
+use Rattle.rs_packet.specs.declared.fault.PacketFault.TheVariants.{Malformed, Protocol, TooLarge, Version}
 use Rattle.rs_packet.specs.declared.reading.Cut.{Cut}
 use Rattle.rs_packet.specs.declared.reading.Cut.TheVariants.{Short, Bad}
 use Rattle.rs_packet.specs.declared.property.Place.{Place}
@@ -24,9 +24,9 @@ use Rattle.rs_packet.specs.declared.packet.Packet.{Packet}
 use Rattle.rs_packet.specs.declared.packet.Packet.TheVariants as packet
 use Rattle.rs_packet.specs.declared.packet.Decoded.{Decoded}
 use Rattle.rs_packet.specs.declared.packet.Decoded.TheVariants.{Whole, More}
-use Rattle.rs_topic.specs.Topics.{name_of, filter_of}
-use Rattle.rs_packet.specs.Values.{FoundValue, SubscribeValue, UnsubscribeValue, Asked, Filter}
-use Rattle.rs_packet.specs.Grammar.{head, level, bit, publication, largest}
+use Rattle.rs_topic.specs.Topics.{filter_of}
+use Rattle.rs_packet.specs.Values.{SubscribeValue, UnsubscribeValue, Asked, Filter}
+use Rattle.rs_packet.specs.Grammar.{head, publication, largest}
 pub use Rattle.rs_packet.specs.Reading.{◌>>=◌, Fails, Gives, GivesNumber}
 use Rattle.rs_packet.specs.Reading.{digits_at, byte_at, number_at, binary_at, text_at, wanting, found_at}
 
@@ -111,7 +111,7 @@ asked_at bytes = do
 -- one after another until no byte is left, of which there are at most n
 unfoldable pub all_in : {A : Type 0} → (List ℕ → Result (A × List ℕ) PacketFault) → ℕ → List ℕ → Result (List A) PacketFault
 all_in read n [] = Ok []
-all_in read zero (b ∷ bytes) = Ok []
+all_in read zero (b ∷ bytes) = Err Malformed
 all_in read (suc n) (b ∷ bytes) = do
   a ← read (b ∷ bytes)
   more ← all_in read n a.1

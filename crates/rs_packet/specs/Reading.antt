@@ -1,6 +1,6 @@
 -- Reading from left to right, and the first fault that is met.
-use Rattle.std.specs.Prelude.{◌≡◌, ℕ, zero, suc, ◌+◌, ◌-◌, ◌*◌, ◌/◌, ◌%◌, ◌<◌, ◌≤◌, ◌^◌, Bool, true, false, ◌&&◌, ◌||◌, not, nat_lt, nat_eq, ◌==◌, if◌then◌else◌, List, [], ◌∷◌, ◌++◌, length, take, drop, Option, Some, None, slice_index_or, slice_set, Result, Ok, Err}
-use Rattle.std.specs.List.{list_any, find, flat_map}
+use Rattle.std.specs.Prelude.{◌≡◌, ℕ, zero, suc, ◌+◌, ◌-◌, ◌*◌, ◌≤◌, Bool, true, false, ◌||◌, not, nat_lt, ◌==◌, if◌then◌else◌, List, [], ◌∷◌, length, take, drop, Option, Some, None, slice_index_or, slice_set, Result, Ok, Err}
+use Rattle.std.specs.List.{find}
 use Rattle.std.specs.Int.{Width, w16, w32, byte_len, from_be_bytes}
 use Rattle.rs_packet.specs.declared.fault.PacketFault.{PacketFault}
 use Rattle.rs_packet.specs.declared.fault.PacketFault.TheVariants.{Malformed, Protocol, TooLarge, Version, NoMemory}
@@ -98,7 +98,8 @@ identifiers =
 unfoldable pub identifier_of : ℕ → Option Identifier
 identifier_of n = find (λ i. number i == n) identifiers
 
--- a property in another packet than its own: 3.3.2.3.8 and 3.14.2.2.5 name a Protocol Error
+-- a property in another packet than its own is malformed (2.2.2.2), but no client may send a Subscription Identifier in a PUBLISH
+-- (3.3.4); for a Server Reference in a client's DISCONNECT the standard names no code, and this one is the project's own
 abbrev pub misplaced : Place → Identifier → PacketFault
 misplaced place.Publish id.SubscriptionIdentifier = Protocol
 misplaced place.Disconnect id.ServerReference = Protocol
@@ -141,7 +142,7 @@ property_at where_ before bytes = do
 -- all of the bytes, of which there are at most n
 unfoldable pub properties_in : ℕ → Place → List Bool → List ℕ → Result (List Property) PacketFault
 properties_in n where_ before [] = Ok []
-properties_in zero where_ before (b ∷ bytes) = Ok []
+properties_in zero where_ before (b ∷ bytes) = Err Malformed
 properties_in (suc n) where_ before (b ∷ bytes) = do
   p ← property_at where_ before (b ∷ bytes)
   ps ← properties_in n where_ (slice_set before (number (identifier p.0)) true) p.1

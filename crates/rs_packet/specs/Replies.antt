@@ -1,6 +1,5 @@
 -- The replies of the server: one spelling each. Sections 3.2 to 3.14.
-use Rattle.std.specs.Prelude.{◌≡◌, ℕ, ◌+◌, ◌*◌, ◌<◌, ◌^◌, List, [], ◌∷◌, ◌++◌, length, map, Option, Some, None, IfSome, Bool, true, false, ◌==◌, if◌then◌else◌}
-use Rattle.std.specs.List.{flat_map}
+use Rattle.std.specs.Prelude.{◌≡◌, ℕ, ◌+◌, ◌*◌, ◌<◌, List, [], ◌∷◌, ◌++◌, length, map, Option, Some, None, Bool, true, false, ◌==◌, if◌then◌else◌}
 use Rattle.rs_packet.specs.declared.property.Property.{Property}
 use Rattle.rs_packet.specs.declared.property.Property.TheVariants as property
 use Rattle.rs_packet.specs.declared.reply.Accepted.{Accepted}
@@ -8,7 +7,7 @@ use Rattle.rs_packet.specs.declared.reply.Publication.{Publication}
 use Rattle.rs_packet.specs.declared.reply.Reply.{Reply}
 use Rattle.rs_packet.specs.declared.reply.Reply.TheVariants as reply
 use Rattle.rs_packet.specs.Values.{PropertiesValue, CodesValue}
-use Rattle.rs_packet.specs.Properties.{two, four, varint, counted, properties, spelled, varint_end}
+use Rattle.rs_packet.specs.Properties.{two, four, varint, counted, properties, varint_end}
 use Rattle.rs_packet.specs.Grammar.{frame, level, id_bytes, largest}
 
 abbrev pub optional : {A : Type 0} → (A → Property) → Option A → List Property

@@ -438,15 +438,16 @@ pub fn decode(alloc: Global, bytes: &Bytes) -> Result<Decoded, PacketFault>
     decoded(alloc, bytes)
 }
 
-/// No spelling of a packet begins another, and no spelling of a reply begins another (2.1).
+/// No spelling of a packet begins another one, and no spelling of a reply begins another one (2.1).
 pub fn wire_law()
     ensures packets { (a b x y : List ℕ) (p q : Packet) → Spells a p → Spells b q → a ++ x ≡ b ++ y → (a ≡ b) × (x ≡ y) }
     ensures replies { (a b x y : List ℕ) (r s : Reply) → SpellsReply a r → SpellsReply b s → a ++ x ≡ b ++ y → (a ≡ b) × (x ≡ y) }
 {}
 
-/// A packet has one spelling, which no fault and no `More` stands for.
+/// Bytes spell at most one packet at their front, and where they spell one neither a fault (want of
+/// memory aside) nor `More` is due there.
 pub fn one_reading()
-    ensures one_spelling { (a b x y : List ℕ) (p q : Packet) → Spells a p → Spells b q → a ++ x ≡ b ++ y → (a ≡ b) × (p ≡ q) }
+    ensures one_packet { (a b x y : List ℕ) (p q : Packet) → Spells a p → Spells b q → a ++ x ≡ b ++ y → (a ≡ b) × (p ≡ q) }
     ensures no_fault { (a x : List ℕ) (p : Packet) (f : PacketFault) → Spells a p → IsFaulty (a ++ x) f → f ≡ NoMemory }
     ensures not_more { (a x : List ℕ) (p : Packet) → Spells a p → IsMore (a ++ x) → ⊥ }
     // What was called faulty stays so, whatever follows.

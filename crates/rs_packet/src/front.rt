@@ -10,11 +10,13 @@ use crate::packet::Kind;
 use crate::reading::{Cut, digits, note_octets};
 use crate::reply::PACKET_MAXIMUM;
 
-/// How many bytes to hold before decoding the packet at the front, by its first five bytes at most
-/// (2.1.1, 2.1.4): the size of the packet once its length is there, one more than are held until
-/// then, and where its first byte or its length is faulty no more than are held.
+/// How many bytes to hold before the next attempt to decode the packet at the front, by its first
+/// five bytes at most (2.1.1, 2.1.4). Until its whole length is there, that is one more than are
+/// held; from then on it is the size of the packet. Where the first byte or the length is faulty,
+/// or the packet longer than `PACKET_MAXIMUM`, it is as many as are held: `decode` names the fault.
 ///
-/// A server that decodes once it holds so many bytes decodes each packet once, and never too early.
+/// A server asks again after each read, and decodes once it holds as many as were last answered:
+/// with fewer, `decode` would only want more.
 pub fn front_len(bytes: &[u8]) -> usize
     // Fewer bytes are less than a packet, and so they stay until that many are held.
     ensures short { length bytes.now < result → IsMore bytes.now }
@@ -23,6 +25,8 @@ pub fn front_len(bytes: &[u8]) -> usize
     ensures enough { result ≤ length bytes.now → answer (take result bytes.now) ≡ answer bytes.now }
     ensures waits { IsMore bytes.now → length bytes.now < result }
     ensures whole { (p : Packet) (n : ℕ) → answer bytes.now ≡ Ok (Decoded.Whole p n) → result ≡ n }
+    // Five bytes have the whole length in them, and so tell the size of whatever packet they begin.
+    ensures sized { (more : List ℕ) (p : Packet) (n : ℕ) → 5 ≤ length bytes.now → answer (bytes.now ++ more) ≡ Ok (Decoded.Whole p n) → result ≡ n }
 {
     note_octets(bytes);
     let [first, behind @ ..] = bytes else {

@@ -1,4 +1,13 @@
-//! The packets of MQTT 5 that a client sends, read, and the replies of a server, written.
+//! The packets of MQTT 5.0 (OASIS, sections 2 and 3): those that a client sends, read, and the replies of the server, written.
+//!
+//! `decode` takes the packet at the front of some bytes, and `front_len` tells how many of them to hold before it is asked again.
+//! `encode` writes a `Reply`, and `encoded_len` tells how long it gets. Nothing is kept from one call to the next, no packet of more
+//! than `PACKET_MAXIMUM` bytes is read, and texts and payloads that were read share the bytes that they were read from.
+//!
+//! Promised by contracts: `decode` takes a packet exactly where the grammar of the standard spells one at the front, and answers
+//! the first fault from left to right where there is one; only want of memory comes in the place of these answers. A fault stays,
+//! whatever follows, and bytes spell at most one packet at their front (`one_reading`). `encode` gives the one spelling of a reply;
+//! no spelling begins another one (`wire_law`).
 #![tactic(auto)]
 
 mod decoding;
@@ -14,10 +23,10 @@ pub use decoding::{decode, one_reading, wire_law};
 pub use fault::PacketFault;
 pub use front::front_len;
 pub use packet::{
-    Acknowledgement, Connect, Decoded, Flags, Kind, Options, Packet, PacketId, Publish, Qos,
-    RetainHandling, Subscribe, Unsubscribe,
+    Acknowledgement, Connect, Decoded, Options, Packet, PacketId, Publish, Qos, RetainHandling,
+    Subscribe, Unsubscribe,
 };
-pub use property::{Found, Identifier, Place, Properties, Property};
+pub use property::Properties;
 pub use reply::{Accepted, Codes, PACKET_MAXIMUM, Publication, RECEIVE_MAXIMUM, Reply};
 pub use writing::{encode, encoded_len};
 

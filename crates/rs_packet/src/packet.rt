@@ -49,8 +49,11 @@ impl PacketId {
 /// The quality of service (4.3).
 #[derive(Clone, Copy, Debug, PartialEq, Eq)]
 pub enum Qos {
+    /// QoS 0 (4.3.1): no identifier, and no acknowledgement.
     AtMostOnce,
+    /// QoS 1 (4.3.2): acknowledged by a PUBACK.
     AtLeastOnce,
+    /// QoS 2 (4.3.3): acknowledged by a PUBREC, a PUBREL and a PUBCOMP.
     ExactlyOnce,
 }
 
@@ -74,17 +77,24 @@ impl Qos {
 /// Whether retained messages are sent at a SUBSCRIBE (3.8.3.1).
 #[derive(Clone, Copy, Debug, PartialEq, Eq)]
 pub enum RetainHandling {
+    /// 0: at each SUBSCRIBE.
     Always,
+    /// 1: only where the subscription was not there before.
     IfNew,
+    /// 2: at no SUBSCRIBE.
     Never,
 }
 
 /// The options of a filter (3.8.3.1).
 #[derive(Clone, Copy)]
 pub struct Options {
+    /// The Maximum QoS, bits 0 and 1: the best quality with which messages are sent.
     pub qos: Qos,
+    /// No Local, bit 2: the client gets none of its own messages.
     pub no_local: bool,
+    /// Retain As Published, bit 3: messages are forwarded with the RETAIN that they came with.
     pub retain_as_published: bool,
+    /// Retain Handling, bits 4 and 5.
     pub retain_handling: RetainHandling,
 }
 
@@ -143,16 +153,23 @@ impl Kind {
 /// taken apart.
 #[derive(Drop)]
 pub struct Publish {
+    /// DUP: it is sent again (3.3.1.1).
     pub duplicate: bool,
+    /// The quality with which it is sent (3.3.1.2).
     pub qos: Qos,
+    /// RETAIN: the message is to be kept for its topic (3.3.1.3).
     pub retain: bool,
-    /// The name, or why the text is none.
+    /// The name, or why the text is none (3.3.2.1).
     pub topic: Result<TopicName, TopicFault>,
+    /// The packet identifier, where QoS is 1 or 2 (3.3.2.2).
     pub id: Option<PacketId>,
-    /// In seconds (3.3.2.3.3).
+    /// The Message Expiry Interval, in seconds (3.3.2.3.3); None where the message does not expire.
     pub expiry: Option<u32>,
+    /// The Topic Alias (3.3.2.3.4) as sent, 0 too, which the standard forbids.
     pub alias: Option<u16>,
+    /// What a message keeps beside its interval (3.3.2.3).
     pub properties: Properties,
+    /// The payload (3.3.3), of any bytes.
     pub payload: Bytes,
 }
 
@@ -191,16 +208,20 @@ impl Model for Publish {
 /// A PUBACK, PUBREC, PUBREL or PUBCOMP (3.4 to 3.7); an absent code is 0.
 #[derive(Clone, Copy)]
 pub struct Acknowledgement {
+    /// The packet identifier of the PUBLISH that is acknowledged (2.2.1).
     pub id: PacketId,
+    /// The reason code as sent (3.4.2.1, 3.5.2.1, 3.6.2.1, 3.7.2.1), from 0 to 255.
     pub code: u8,
 }
 
 /// A SUBSCRIBE (3.8) with 1 to 262,144 filters, in order.
 #[derive(Drop)]
 pub struct Subscribe {
+    /// The packet identifier (3.8.2), which the SUBACK repeats.
     pub id: PacketId,
-    /// The Subscription Identifier (3.8.2.1.2).
+    /// The Subscription Identifier (3.8.2.1.2) as sent, 0 too, which the standard forbids.
     pub subscription: Option<u32>,
+    /// Each filter, or why the text is none, and its options (3.8.3).
     pub filters: Vec<(Result<TopicFilter, TopicFault>, Options)>,
 }
 
@@ -219,7 +240,9 @@ impl Model for Subscribe {
 /// An UNSUBSCRIBE (3.10) with 1 to 262,144 filters, in order.
 #[derive(Drop)]
 pub struct Unsubscribe {
+    /// The packet identifier (3.10.2), which the UNSUBACK repeats.
     pub id: PacketId,
+    /// Each filter, or why the text is none (3.10.3).
     pub filters: Vec<Result<TopicFilter, TopicFault>>,
 }
 
@@ -249,18 +272,21 @@ pub struct Flags {
 /// A CONNECT (3.1), the first packet of a client. Neither maximum is 0.
 #[derive(Drop)]
 pub struct Connect {
+    /// Clean Start: no earlier session is taken up (3.1.2.4).
     pub clean_start: bool,
+    /// The Will Flag: the payload begins a will (3.1.2.5), of which nothing is read.
     pub will: bool,
-    /// In seconds (3.1.2.10).
+    /// The Keep Alive, in seconds (3.1.2.10); 0 turns it off.
     pub keep_alive: u16,
-    /// In seconds (3.1.2.11.2).
+    /// The Session Expiry Interval, in seconds (3.1.2.11.2).
     pub session_expiry: Option<u32>,
     /// The Authentication Method (3.1.2.11.9).
     pub method: Option<Text>,
+    /// The Receive Maximum, in packets (3.1.2.11.3): 1 to 65,535.
     pub receive_maximum: Option<u16>,
-    /// In bytes (3.1.2.11.4).
+    /// The Maximum Packet Size, in bytes (3.1.2.11.4): 1 or more.
     pub packet_maximum: Option<u32>,
-    /// The client identifier; None where the Will flag ends the reading before it.
+    /// The client identifier (3.1.3.1); None where the Will Flag ends the reading before it.
     pub client: Option<Text>,
 }
 
@@ -294,18 +320,28 @@ impl Model for Connect {
     }) };
 }
 
-/// What a client sends (2.1.2); `Disconnect` has its reason code.
+/// What a client sends (2.1.2).
 #[derive(Drop)]
 pub enum Packet {
+    /// A CONNECT (3.1).
     Connect(Connect),
+    /// A PUBLISH (3.3).
     Publish(Publish),
+    /// A PUBACK (3.4).
     Puback(Acknowledgement),
+    /// A PUBREC (3.5).
     Pubrec(Acknowledgement),
+    /// A PUBREL (3.6).
     Pubrel(Acknowledgement),
+    /// A PUBCOMP (3.7).
     Pubcomp(Acknowledgement),
+    /// A SUBSCRIBE (3.8).
     Subscribe(Subscribe),
+    /// An UNSUBSCRIBE (3.10).
     Unsubscribe(Unsubscribe),
+    /// A PINGREQ (3.12).
     Pingreq,
+    /// A DISCONNECT with its reason code (3.14.2.1), 0 where it is absent.
     Disconnect(u8),
 }
 

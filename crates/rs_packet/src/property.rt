@@ -107,10 +107,15 @@ impl Model for Found {
 /// user properties stand in the order received.
 #[derive(Drop)]
 pub struct Properties {
+    /// The Payload Format Indicator (3.3.2.3.2): 0 for bytes, 1 for UTF-8.
     pub format: Option<u8>,
+    /// The Content Type (3.3.2.3.9).
     pub content_type: Option<Text>,
+    /// The Response Topic (3.3.2.3.5).
     pub response_topic: Option<Text>,
+    /// The Correlation Data (3.3.2.3.6), of 0 to 65,535 bytes.
     pub correlation: Option<Bytes>,
+    /// The User Properties (3.3.2.3.7): names and values; a name may stand more than once.
     pub user: Vec<(Text, Text)>,
 }
 
@@ -139,7 +144,8 @@ impl Model for Properties {
 }
 
 impl Properties {
-    /// An equal value, which shares the bytes of its texts and of its correlation data.
+    /// An equal value, which shares the bytes of its texts and of its correlation data; refused only for
+    /// want of memory.
     pub fn copy(&self) -> Result<Properties, AllocError>
         ensures { IfOk result (λ p. p ≡ self.now) }
     {

@@ -7,7 +7,7 @@ use rs_topic::{Text, TopicName};
 use std::marker::Model;
 
 /// The Receive Maximum of the server (3.2.2.3.3): how many PUBLISH packets of QoS 1 and 2 a client
-/// may leave unanswered.
+/// may have unacknowledged.
 pub const RECEIVE_MAXIMUM: u16 = 16;
 
 /// The Maximum Packet Size of the server (3.2.2.3.6), in bytes: no longer packet is read.
@@ -26,12 +26,17 @@ pub struct Accepted {
 /// the body is short enough for a length (2.1.4).
 #[derive(Drop)]
 pub struct Publication {
+    /// The name under which the message is retained (3.3.2.1).
     pub topic: TopicName,
+    /// The quality with which it is sent (3.3.1.2).
     pub qos: Qos,
+    /// The packet identifier, where QoS is 1 or 2 (3.3.2.2).
     pub id: Option<PacketId>,
-    /// The seconds left (3.3.2.3.3).
+    /// The seconds left (3.3.2.3.3); None where the message does not expire.
     pub expiry: Option<u32>,
+    /// The other properties of the message (3.3.2.3), sent in rising order of identifier.
     pub properties: Properties,
+    /// The payload (3.3.3), of any bytes.
     pub payload: Bytes,
 }
 
@@ -97,7 +102,9 @@ impl Publication {
 /// A SUBACK (3.9) or an UNSUBACK (3.11): one reason code for each filter, in order.
 #[derive(Drop)]
 pub struct Codes {
+    /// The packet identifier of the SUBSCRIBE or UNSUBSCRIBE that is answered (2.2.1).
     pub id: PacketId,
+    /// The reason codes (3.9.3, 3.11.3), in the order of the filters that they answer.
     pub codes: Vec<u8>,
 }
 
@@ -129,18 +136,27 @@ impl Codes {
 /// What the server sends. Each reply has one spelling; an acknowledgement has its reason code.
 #[derive(Drop)]
 pub enum Reply {
-    /// A CONNACK with the reason code 0x00.
+    /// A CONNACK with the reason code 0x00 (3.2).
     Accepted(Accepted),
-    /// A CONNACK with this reason code, which is 0x80 or more.
+    /// A CONNACK with this reason code and no properties (3.2.2.2). It refuses where the code is 0x80
+    /// or more, which is the caller's part.
     Refused(u8),
+    /// A PUBLISH with RETAIN set (3.3).
     Publish(Publication),
+    /// A PUBACK with its reason code (3.4).
     Puback(PacketId, u8),
+    /// A PUBREC with its reason code (3.5).
     Pubrec(PacketId, u8),
+    /// A PUBREL with its reason code (3.6).
     Pubrel(PacketId, u8),
+    /// A PUBCOMP with its reason code (3.7).
     Pubcomp(PacketId, u8),
+    /// A SUBACK (3.9).
     Suback(Codes),
+    /// An UNSUBACK (3.11).
     Unsuback(Codes),
+    /// A PINGRESP (3.13).
     Pingresp,
-    /// With its reason code (3.14).
+    /// A DISCONNECT with its reason code (3.14).
     Disconnect(u8),
 }

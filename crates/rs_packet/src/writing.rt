@@ -407,7 +407,7 @@ pub fn encoded_len(reply: &Reply) -> usize
 /// The one spelling of a reply, which is refused only where memory is.
 pub fn encode(alloc: Global, reply: &Reply) -> Result<Bytes, AllocError>
     ensures bytes { IfOk result (λ b. b ≡ reply_bytes reply.now) }
-    // It is read again by the reply grammar, whatever follows.
+    // No spelling of a reply begins another one.
     ensures spelled { IfOk result (λ b. SpellsReply b reply.now) }
 {
     let mut out = Vec::with_capacity(alloc, encoded_len(reply))?;

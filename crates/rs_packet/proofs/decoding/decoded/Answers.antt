@@ -1,4 +1,4 @@
-use Rattle.std.proofs.Common.{◌≡◌, refl, sym, length, List, ℕ, subst}
+use Rattle.std.proofs.Common.{List, ℕ, subst}
 use Rattle.rs_packet.proofs.Numbers.{digits_end}
 use Rattle.rs_packet.specs.Reading.{IsEnd}
 use Rattle.rs_packet.proofs.decoding.decoded.Goals as goal

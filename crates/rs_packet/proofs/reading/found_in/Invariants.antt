@@ -1,4 +1,4 @@
-use Rattle.std.proofs.Common.{◌≡◌, ℕ, ◌≤◌, length}
+use Rattle.std.proofs.Common.{length}
 use Rattle.rs_packet.specs.Properties.{nothing, none_yet}
 use Rattle.rs_packet.specs.Reading.{gather_on, properties_in}
 use Rattle.rs_packet.proofs.PropertyLoop.{IsOnTheWay}

@@ -1,6 +1,5 @@
-use Rattle.std.proofs.Common.{◌≡◌, Ok, refl, length, drop, ◌-◌, arith, length-drop}
-use Rattle.rs_packet.specs.Reading.{varint_at, digits_at, within}
-use Rattle.rs_packet.specs.Reading.{IsEnd}
+use Rattle.std.proofs.Common.{refl}
+use Rattle.rs_packet.specs.Reading.{varint_at}
 use Rattle.rs_packet.proofs.Numbers.{digits_rest}
 use Rattle.rs_packet.proofs.reading.varint_of.Goals as goal
 
