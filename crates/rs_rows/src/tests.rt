@@ -40,16 +40,7 @@ fn talk<H: Wait>(
     let mut reader = Counted::new(Pieces::new(input.to_vec(alloc)?, cut));
     let mut writer = Counted::new(Vec::new(alloc));
     let mut clock = Moments::new(first, rest);
-    let (served, store) = serve(
-        rt,
-        alloc,
-        &mut reader,
-        &mut writer,
-        store,
-        1,
-        1,
-        &mut clock,
-    );
+    let (served, store) = serve(rt, alloc, &mut reader, &mut writer, store, 1, 1, &mut clock);
     Ok((writer.into_inner(), served?, store))
 }
 
@@ -77,7 +68,15 @@ fn connected(rt: HostRuntime) -> Result<(), Fail> {
     for (name, at, input, output, ended) in CONNECTED {
         let input = bytes(alloc, &[CONNECT, input])?;
         let output = bytes(alloc, &[CONNACK, output])?;
-        check(&rt, alloc, name, at, input.as_slice(), output.as_slice(), ended)?;
+        check(
+            &rt,
+            alloc,
+            name,
+            at,
+            input.as_slice(),
+            output.as_slice(),
+            ended,
+        )?;
     }
     Ok(())
 }
@@ -88,7 +87,15 @@ fn first(rt: HostRuntime) -> Result<(), Fail> {
     for (name, input, output, ended) in FIRST {
         let input = bytes(alloc, &[input])?;
         let output = bytes(alloc, &[output])?;
-        check(&rt, alloc, name, [0; 3], input.as_slice(), output.as_slice(), ended)?;
+        check(
+            &rt,
+            alloc,
+            name,
+            [0; 3],
+            input.as_slice(),
+            output.as_slice(),
+            ended,
+        )?;
     }
     Ok(())
 }
@@ -106,11 +113,21 @@ fn check_second<H: Abort + Wait>(
     let input = bytes(alloc, input)?;
     let output = bytes(alloc, output)?;
     for cut in 0..=input.len() {
-        let (_written, first, kept) =
-            talk(rt, alloc, store(alloc, 10000)?, [0; 3], before.as_slice(), cut)?;
+        let (_written, first, kept) = talk(
+            rt,
+            alloc,
+            store(alloc, 10000)?,
+            [0; 3],
+            before.as_slice(),
+            cut,
+        )?;
         assert_eq!(rt; first, Served::ClientClosed, "{name}, cut at {cut}");
         let (written, second, _kept) = talk(rt, alloc, kept, [0; 3], input.as_slice(), cut)?;
-        assert_eq!(rt; written.as_slice(), output.as_slice(), "{name}, cut at {cut}");
+        assert_eq!(rt;
+            written.as_slice(),
+            output.as_slice(),
+            "{name}, cut at {cut}"
+        );
         assert_eq!(rt; second, Served::EndOfInput, "{name}, cut at {cut}");
     }
     Ok(())

@@ -1,5 +1,5 @@
 -- Bytes are heard in one way.
-use Rattle.std.proofs.Common.{◌≡◌, ℕ, List, [], ◌∷◌, ◌++◌, refl, sym, subst, ap, ◌∙◌, append_assoc, inl, inr, ◌⊎◌, Result, Ok, Err}
+use Rattle.std.proofs.Common.{◌≡◌, ℕ, List, [], ◌∷◌, ◌++◌, refl, sym, subst, ap, ◌∙◌, append_assoc, inl, inr, ◌⊎◌, Result, Err}
 use Rattle.std.proofs.lemmas.List.{append_cancel_left}
 use Rattle.rs_packet.specs.Grammar.{Spells}
 use Rattle.rs_packet.specs.Fronts.{IsFaulty}

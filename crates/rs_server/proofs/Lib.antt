@@ -1,7 +1,6 @@
 pub mod Clocks
 pub mod Identifiers
 pub mod HexDigits
-pub mod Fronts
 pub mod Said
 pub mod Talked
 pub mod Hearing

@@ -1,27 +1,23 @@
 -- Lemmas on conversations.
-use Rattle.std.proofs.Common.{◌≡◌, ℕ, suc, ◌<◌, ◌≤◌, ◌+◌, ◌⊎◌, inl, inr, List, [], ◌∷◌, ◌++◌, length, length-append, take, drop, map, get_or, refl, sym, subst, ap, ◌∙◌, append-nil, append_assoc, take-append-drop, Bool, true, false, Option, Some, None, Result, Ok, Err, arith}
-use Rattle.std.proofs.lemmas.List.{map-append, flat_map_more, get_or_append_left}
-use Rattle.std.proofs.KnownBytes.{Appends-trans, Consumes-trans, Appends-nil, Consumes-nil}
+use Rattle.std.proofs.Common.{◌≡◌, ℕ, suc, List, [], ◌∷◌, ◌++◌, take, drop, refl, sym, subst, ap, ◌∙◌, append-nil, append_assoc, take-append-drop, Option, Some, None, Result, Ok, Err}
+use Rattle.std.proofs.lemmas.List.{map-append, flat_map_more}
+use Rattle.std.proofs.KnownBytes.{Consumes-trans, Appends-nil, Consumes-nil}
 use Rattle.std.specs.Io.KnownBytes.{Appends, Consumes}
-use Rattle.rs_packet.specs.Grammar.{Spells}
-use Rattle.rs_packet.specs.Fronts.{IsMore, IsFaulty}
 use Rattle.rs_packet.proofs.Fronts.{fault_stays}
 use Rattle.rs_packet.specs.declared.reply.Reply.{Reply}
-use Rattle.rs_packet.specs.declared.fault.PacketFault.{PacketFault}
 use Rattle.rs_message.specs.declared.entry.Entry.{Entry}
 use Rattle.rs_session.specs.declared.phase.Input.{Input}
 use Rattle.rs_session.specs.declared.phase.Input.TheVariants.{Whole, Broken}
 use Rattle.rs_session.specs.Gate.{Mark, Grows}
 use Rattle.rs_session.specs.State.{State, fresh, closing_of}
 use Rattle.rs_session.specs.Table.{Answers}
-use Rattle.rs_session.specs.Run.{Point, Turn, IsTurn, Run, Drains}
+use Rattle.rs_session.specs.Run.{Point, Turn, Run, Drains}
 use Rattle.rs_session.proofs.Runs.{run_more}
-use Rattle.rs_server.specs.declared.connection.Served.{Served}
 use Rattle.rs_server.specs.declared.say.ServeFault.{ServeFault}
 use Rattle.rs_server.specs.declared.say.ServeFault.TheVariants.{Read, Write, NoMemory}
 use Rattle.rs_server.specs.Clock.{TellsAll, Told, Tells}
-use Rattle.rs_server.specs.Writing.{Says, AppendsFront, all_reply_bytes}
-use Rattle.rs_server.specs.Talk.{InputsOf, inputs_of, moments_of, replies_of, point_at, start, Conversation, Took, IsFront, IsReadCause}
+use Rattle.rs_server.specs.Writing.{Says, all_reply_bytes}
+use Rattle.rs_server.specs.Talk.{InputsOf, inputs_of, moments_of, point_at, start, Conversation, Took, IsFront, IsReadCause}
 use Rattle.rs_server.proofs.Said.{says_after}
 
 -- ---- the clock

@@ -5,3 +5,5 @@ pub mod Writing
 pub mod Talk
 pub mod Memory
 pub mod Statuses
+pub mod CommandLine
+pub mod HexStreams

@@ -2,7 +2,6 @@
 use Rattle.std.specs.Prelude.{◌⊎◌, ◌≡◌, ◌≢◌, ℕ, ◌<◌, ◌≤◌, Option, Some, None, List, [], ◌∷◌, ◌++◌, length, take, drop, map, Result, Ok, Err, codes}
 use Rattle.std.specs.List.{flat_map}
 use Rattle.std.specs.Fmt.{decimal}
-use Rattle.std.specs.Io.KnownBytes.{Appends}
 use Rattle.rs_packet.specs.Grammar.{Spells}
 use Rattle.rs_packet.specs.Fronts.{IsMore, IsFaulty}
 use Rattle.rs_packet.specs.declared.fault.PacketFault.TheVariants as faults

@@ -9,6 +9,7 @@ use std::collections::VecDeque;
 pub trait Clock {
     ghost moments: { Self → Option (ℕ → ℕ) } = { λ _. None };
 
+    /// The moment, in whole seconds.
     fn now(&mut self) -> u64
         ensures { Tells (moments self.old) (moments self.new) result };
 }
@@ -21,6 +22,7 @@ pub struct Moments {
 }
 
 impl Moments {
+    /// Tells `first`, and then the others in their order, in whole seconds.
     pub fn new(first: u64, rest: Vec<u64>) -> Moments
         ensures first { result.first ≡ first }
         ensures rest { result.rest.items ≡ rest.items }

@@ -47,6 +47,9 @@ const READ_ROOM: usize = 65536;
 ///
 /// `number` counts the connections at `place` from 1; both name a client that gives no identifier. The
 /// clock is asked once for each packet, and once for a fault. The gate comes back in every case.
+///
+/// It is broken off by [`ServeFault`] where the reader failed, where the writer failed or took nothing, or
+/// where memory was refused. Both counts of failures have to be below the greatest u64.
 pub fn serve<H: Wait, R: Read, W: Write, G: Gate, C: Clock>(
     rt: &H,
     alloc: Global,

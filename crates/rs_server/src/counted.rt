@@ -17,6 +17,7 @@ pub struct Counted<T> {
 }
 
 impl<T> Counted<T> {
+    /// With no failure yet.
     pub fn new(inner: T) -> Counted<T>
         ensures inner { inner_of result ≡ inner }
         ensures failures { failures_of result ≡ 0 }
@@ -24,12 +25,15 @@ impl<T> Counted<T> {
         Counted { inner, failures: 0 }
     }
 
+    /// How many calls ended in an error, or wrote nothing of a slice that is not empty. The greatest u64
+    /// stands for itself and more.
     pub fn failures(&self) -> u64
         ensures { result ≡ failures_of self.now }
     {
         self.failures
     }
 
+    /// The reader or writer.
     pub fn into_inner(self) -> T
     where
         T: Drop,

@@ -1,9 +1,10 @@
 //! A reader and a writer over lines of hex digits.
 
-ghost use Rattle.std.specs.Prelude.{◌≡◌, ◌++◌, ◌∷◌, [], ◌<◌, ◌≤◌, IfOk, IfSome, OnOk, length, take};
-ghost use Rattle.std.specs.Io.{ReadsAtMost, WritesAtMost};
+ghost use Rattle.std.specs.Prelude.{◌≡◌, ◌∷◌, [], ◌<◌, ◌≤◌, None, IfOk, IfSome, OnOk, length, take};
+ghost use Rattle.std.specs.Io.{WritesAtMost};
 ghost use Rattle.std.specs.Io.KnownBytes.{Appends};
 ghost use Rattle.hex.specs.Hex.{encode_lower};
+ghost use Rattle.rs_server.specs.HexStreams.{not_hex_of};
 
 use crate::hex_lines::{HexFault, read_hex};
 use bytes::BytesMut;
@@ -38,7 +39,10 @@ pub struct HexReader<R> {
 }
 
 impl<R: Read> HexReader<R> {
-    pub fn new(alloc: Global, input: R) -> HexReader<R> {
+    /// Reads lines from this input.
+    pub fn new(alloc: Global, input: R) -> HexReader<R>
+        ensures { not_hex_of result ≡ None }
+    {
         HexReader {
             alloc,
             input,
@@ -51,7 +55,9 @@ impl<R: Read> HexReader<R> {
     }
 
     /// The line, counted from 1, that was not hex, if a read failed for one.
-    pub fn not_hex(&self) -> Option<u64> {
+    pub fn not_hex(&self) -> Option<u64>
+        ensures { result ≡ not_hex_of self.now }
+    {
         self.not_hex
     }
 
@@ -136,6 +142,7 @@ pub struct HexWriter<W> {
 }
 
 impl<W: Write> HexWriter<W> {
+    /// Writes lines to this output.
     pub fn new(output: W) -> HexWriter<W> {
         HexWriter { output }
     }

@@ -21,7 +21,12 @@ fn words_ask_for_a_pipe(rt: HostRuntime) -> Result<(), Fail> {
     let hex = read(alloc, "pipe --hex --at 7")?.ok();
     assert!(rt; hex == Some(Run::Pipe { hex: true, at: 7 }));
     let raw = read(alloc, "pipe --at 18446744073709551615")?.ok();
-    assert!(rt; raw == Some(Run::Pipe { hex: false, at: u64::MAX }));
+    assert!(rt;
+        raw == Some(Run::Pipe {
+            hex: false,
+            at: u64::MAX
+        })
+    );
     let plus = read(alloc, "pipe --at +007")?.ok();
     assert!(rt; plus == Some(Run::Pipe { hex: false, at: 7 }));
     Ok(())

@@ -1,6 +1,10 @@
 //! The command line.
 
-ghost use Rattle.std.specs.Prelude.{◌≡◌};
+ghost use Rattle.std.specs.Prelude.{◌≡◌, IfOk, Some, map, false, List};
+ghost use Rattle.std.specs.String.{string_bytes};
+ghost use Rattle.clap.specs.Words.{Row, Text, app_of, subcommand_rows_of};
+ghost use Rattle.clap.specs.declared.builder.command.Command.TheViews.{out-Command as fields_of};
+ghost use Rattle.rs_server.specs.CommandLine.{AskFor, IsRunOf, pipe_words, rstored_words};
 ghost use Rattle.rs_server.specs.Statuses.{words_status};
 
 use clap::error::ErrorKind;
@@ -47,7 +51,8 @@ impl WordsFault {
     }
 }
 
-const ABOUT: &str = "Keeps the retained message of each MQTT 5 topic and answers subscriptions from it";
+const ABOUT: &str =
+    "Keeps the retained message of each MQTT 5 topic and answers subscriptions from it";
 
 const PIPE_ABOUT: &str = "Serve one MQTT 5 connection from standard input to standard output";
 
@@ -61,10 +66,13 @@ lines are ignored), and each reply is one line of hex digits.";
 
 const HEX_HELP: &str = "Read and write lines of hex digits in place of raw bytes";
 
-const AT_HELP: &str = "The time of every packet, in whole seconds, by which retained messages expire";
+const AT_HELP: &str =
+    "The time of every packet, in whole seconds, by which retained messages expire";
 
 /// What the words behind the program's name ask for.
-pub fn read_words(alloc: Global, words: &[String]) -> Result<Run, WordsFault> {
+pub fn read_words(alloc: Global, words: &[String]) -> Result<Run, WordsFault>
+    ensures { IfOk result (AskFor (map string_bytes words.now)) }
+{
     let Ok(command) = command(alloc) else {
         return Err(WordsFault::NoMemory);
     };
@@ -74,7 +82,9 @@ pub fn read_words(alloc: Global, words: &[String]) -> Result<Run, WordsFault> {
     }
 }
 
-fn command<'a>(alloc: Global) -> Result<Command<'a>, AllocError> {
+fn command<'a>(alloc: Global) -> Result<Command<'a>, AllocError>
+    ensures { IfOk result (λ c. app_of c ≡ rstored_words) }
+{
     Command::new(alloc, "rstored")
         .about(ABOUT)
         .bin_name("rstored")?
@@ -84,7 +94,10 @@ fn command<'a>(alloc: Global) -> Result<Command<'a>, AllocError> {
         .subcommand(pipe_command(alloc)?)
 }
 
-fn pipe_command<'a>(alloc: Global) -> Result<Command<'a>, AllocError> {
+fn pipe_command<'a>(alloc: Global) -> Result<Command<'a>, AllocError>
+    ensures shape { IfOk result (λ c. app_of c ≡ pipe_words) }
+    ensures local { IfOk result (λ c. (fields_of c).has_globals ≡ false) }
+{
     let hex = Arg::new(alloc, "hex")
         .long("hex")
         .action(ArgAction::SetTrue)
@@ -102,7 +115,10 @@ fn pipe_command<'a>(alloc: Global) -> Result<Command<'a>, AllocError> {
         .arg(at)
 }
 
-fn run_of(matches: &ArgMatches<'_>) -> Result<Run, WordsFault> {
+fn run_of(matches: &ArgMatches<'_>) -> Result<Run, WordsFault>
+    ensures { IfOk result (λ run. (name : Text) × (rows : List Row) × (subcommand_rows_of matches.now ≡ Some (name, rows)) × IsRunOf rows run) }
+{
+    // The command requires both, so neither is missing.
     let Some((_, found)) = matches.subcommand() else {
         return Err(WordsFault::NoMemory);
     };

@@ -254,7 +254,7 @@ pub subscribed_after : (s : Subscribe) (codes : List ℕ) (id : ℕ) (filters : 
 subscribed_after s codes id filters c old mid new due now mark used seen list e o u same rest d is i fs h =
     let w : new.waiting ≡ mid.waiting = ap (λ (st : State). st.waiting) same in
     let to : within mid.largest (reply.Suback c) ≡ within old.largest (reply.Suback (record { id = s.id; codes = codes })) =
-        ap (λ (n : ℕ). within n (reply.Suback c)) (ap (λ (st : State). st.largest) rest) ∙ ap (λ (x : CodesValue). within old.largest (reply.Suback x)) (is ∙ ap (λ (j : ℕ). let v : CodesValue = record { id = j; codes = codes } in v) i) in
+    ap (λ (n : ℕ). within n (reply.Suback c)) (ap (λ (st : State). st.largest) rest) ∙ ap (λ (x : CodesValue). within old.largest (reply.Suback x)) (is ∙ ap (λ (j : ℕ). let v : CodesValue = record { id = j; codes = codes } in v) i) in
     subscribed s codes old new due now mark used seen list e o u (d ∙ to)
     (subst (λ (ws : List Found). Grants now s.filters seen old.waiting codes list ws) (sym w) (subst (λ (l : List Asked). Grants now l seen old.waiting codes list mid.waiting) fs h))
     (same ∙ (rest ∙ ap (λ (ws : List Found). let st : State = record old { waiting = ws } in st) (sym w)))

@@ -25,7 +25,7 @@ submitted old new origin operation last seen s l o n stands =
     let at : Entry → Content = λ (x : Entry). followed old x in
     let is : e ≡ record { origin = record { place = 1; serial = last + 1 }; operation = operation } = ap (λ (v : OriginValue). let x : Entry = record { origin = v; operation = operation } in x) o in
     let serial : slice_index new.serials 1 ≡ last + 1 =
-        ap (λ (c : Content). slice_index c.serials 1) n ∙ (ap (λ (x : Entry). slice_index (at x).serials 1) is ∙ get_or-set_same old.serials 1 (last + 1) 0 (omega (arith, s.wide))) in
+    ap (λ (c : Content). slice_index c.serials 1) n ∙ (ap (λ (x : Entry). slice_index (at x).serials 1) is ∙ get_or-set_same old.serials 1 (last + 1) 0 (omega (arith, s.wide))) in
     let named : e ≡ record { origin = record { place = 1; serial = slice_index new.serials 1 }; operation = operation } =
-        is ∙ ap (λ (k : ℕ). let x : Entry = record { origin = record { place = 1; serial = k }; operation = operation } in x) (sym serial) in
+    is ∙ ap (λ (k : ℕ). let x : Entry = record { origin = record { place = 1; serial = k }; operation = operation } in x) (sym serial) in
     (seen ++ e ∷ [], stands, (e ∷ [], refl), record { entry = subst (Contains (seen ++ e ∷ [])) named (Contains-append_right seen (e ∷ []) e (0, omega arith, refl)); serial = omega (arith, serial, l) })

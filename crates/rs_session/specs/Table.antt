@@ -199,7 +199,6 @@ pub data Case : Type 0 where
 
 -- what a row does, from the state, the mark and the gate's list before to those after, with the reply that is then due
 abbrev pub Row : Case → Input → ℕ → State → Mark → List Entry → List Entry → Mark → Option Reply → State → Type 0
-
 -- 4.12: enhanced authentication is not there
 Row With_method input now old mark seen list used due new =
     (c : Connect) × (input ≡ Whole (packet.Connect c)) × (old.phase ≡ Before) × (is_some c.method ≡ true) × IsRefused bad_authentication_method c old mark used due new
@@ -222,7 +221,6 @@ Row Other_version input now old mark seen list used due new =
 -- 3.1: the first packet is a CONNECT
 Row Unexpected input now old mark seen list used due new =
     IsNoGreeting input × (old.phase ≡ Before) × (used ≡ mark) × (due ≡ None) × (new ≡ ended old Dropped)
-
 -- 3.1: a second CONNECT
 Row Connected_twice input now old mark seen list used due new =
     (c : Connect) × (input ≡ Whole (packet.Connect c)) × (old.phase ≡ Open) × IsClosed protocol_error old mark used due new

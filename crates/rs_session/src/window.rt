@@ -112,12 +112,5 @@ fn publish(found: Found, expiry: Option<u32>) -> Reply
 {
     let Found { topic, message } = found;
     let (payload, _qos, _received, _expiry, properties) = message.into_parts();
-    Reply::Publish(Publication::new(
-        topic,
-        Qos::AtMostOnce,
-        None,
-        expiry,
-        properties,
-        payload,
-    ))
+    Reply::Publish(Publication::new(topic, Qos::AtMostOnce, None, expiry, properties, payload))
 }

@@ -1,6 +1,7 @@
 use super::gate::FullStore;
 use crate::connection::Served;
 use crate::hex_lines::{HexFault, read_hex};
+use crate::memory::serve_bytes;
 use crate::piping::{PipeFault, pipe};
 use std::alloc::Global;
 use std::sync::Wait;
@@ -19,7 +20,14 @@ fn digits_are_read(rt: HostRuntime) -> Result<(), Fail> {
         let found = read_hex(rt.alloc(), line)?;
         assert_eq!(rt; found.as_slice(), bytes);
     }
-    for line in [b"0".as_slice(), b"0g", b"0\t0", b"00\r", b"\xC3\xA9", b"000"] {
+    for line in [
+        b"0".as_slice(),
+        b"0g",
+        b"0\t0",
+        b"00\r",
+        b"\xC3\xA9",
+        b"000",
+    ] {
         let found = read_hex(rt.alloc(), line).err();
         assert!(rt; found == Some(HexFault::NotHex));
     }
@@ -39,16 +47,23 @@ fn piped<H: Wait>(
 fn lines_in_and_out(rt: HostRuntime) -> Result<(), Fail> {
     let alloc = rt.alloc();
     let mut output = Vec::new(alloc);
-    let input = b"10 0E 00 04 4D 51 54 54 05 02 00 3C 00 00 01\n\n  \n61 C000 C0\n00\nE000 zz".as_slice();
+    let input =
+        b"10 0E 00 04 4D 51 54 54 05 02 00 3C 00 00 01\n\n  \n61 C000 C0\n00\nE000 zz".as_slice();
     let served = piped(&rt, alloc, input, &mut output);
     assert!(rt; served == Err(PipeFault::NotHex(6)));
-    assert_eq!(rt; output.as_slice(), b"200f00000c210010270004000029002a00\nd000\nd000\n".as_slice());
+    assert_eq!(rt;
+        output.as_slice(),
+        b"200f00000c210010270004000029002a00\nd000\nd000\n".as_slice()
+    );
 
     let mut output = Vec::new(alloc);
     let input = b"100E00044D5154540502003C00000161E000\nzz\n".as_slice();
     let served = piped(&rt, alloc, input, &mut output);
     assert!(rt; served == Ok(Served::ClientClosed));
-    assert_eq!(rt; output.as_slice(), b"200f00000c210010270004000029002a00\n".as_slice());
+    assert_eq!(rt;
+        output.as_slice(),
+        b"200f00000c210010270004000029002a00\n".as_slice()
+    );
     Ok(())
 }
 
@@ -72,4 +87,17 @@ fn bytes_as_they_are(rt: HostRuntime) {
     let (served, _gate) = pipe(&rt, alloc, input, &mut output, FullStore, false, 0);
     assert!(rt; served == Ok(Served::ServerClosed(0x84)));
     assert_eq!(rt; output.as_slice(), b"\x20\x03\x00\x84\x00".as_slice());
+}
+
+// CONNECT, PUBLISH, SUBSCRIBE, DISCONNECT: the retained message is replayed behind the SUBACK.
+#[test]
+fn a_message_is_replayed(rt: HostRuntime) -> Result<(), Fail> {
+    let input =
+        b"\x10\x0E\x00\x04MQTT\x05\x02\x00\x3C\x00\x00\x01a1\x07\x00\x03a/b\x00x\x82\x09\x00\x01\x00\x00\x03a/#\x00\xE0\x00".as_slice();
+    let (served, output) = serve_bytes(&rt, rt.alloc(), input, 0)?;
+    assert!(rt; served == Served::ClientClosed);
+    let replies =
+        b"\x20\x0F\x00\x00\x0C\x21\x00\x10\x27\x00\x04\x00\x00\x29\x00\x2A\x00\x90\x04\x00\x01\x00\x001\x07\x00\x03a/b\x00x".as_slice();
+    assert_eq!(rt; output.as_slice(), replies);
+    Ok(())
 }

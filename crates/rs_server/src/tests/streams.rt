@@ -122,7 +122,11 @@ fn pieces_of_any_size(rt: HostRuntime) {
         assert!(rt; all.served == Ok(Served::ClientClosed), "{step}");
         assert_eq!(rt; all.bytes.as_slice(), OUTPUT, "{step}");
         // Each reply is flushed when it is written.
-        assert_eq!(rt; all.flushed_at.as_slice(), [17, 23, 25].as_slice(), "{step}");
+        assert_eq!(rt;
+            all.flushed_at.as_slice(),
+            [17, 23, 25].as_slice(),
+            "{step}"
+        );
         assert!(rt; all.failures == (0, 0), "{step}");
     }
 }

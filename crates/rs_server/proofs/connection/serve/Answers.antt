@@ -1,4 +1,4 @@
-use Rattle.std.proofs.Common.{◌≡◌, refl, ap, ◌∙◌, sym, subst, [], Option, Ok}
+use Rattle.std.proofs.Common.{refl, ap, ◌∙◌, subst, [], Option, Ok}
 use Rattle.std.specs.Io.KnownBytes.{IsAtEnd}
 use Rattle.rs_session.specs.State.{State, closing_of, fresh, state_of}
 use Rattle.rs_server.specs.Counts.{inner_of}

@@ -1,5 +1,5 @@
 -- The conversation so far, no reply being left.
-use Rattle.std.proofs.Common.{◌≡◌, List, ℕ, None}
+use Rattle.std.proofs.Common.{◌≡◌, List, None}
 use Rattle.std.specs.Io.KnownBytes.{Consumes, Appends}
 use Rattle.rs_message.specs.declared.entry.Entry.{Entry}
 use Rattle.rs_session.specs.State.{state_of, due_of, gate_of, closing_of}

@@ -1,4 +1,4 @@
-use Rattle.std.proofs.Common.{◌≡◌, ◌∙◌, ◌++◌, ap, List, ℕ, Ok, Option}
+use Rattle.std.proofs.Common.{◌∙◌, ◌++◌, ap, List, ℕ, Ok, Option}
 use Rattle.rs_server.specs.declared.connection.Served.{Served}
 use Rattle.rs_server.proofs.Talked.{talk_turn, talk_turn_err, talk_read}
 use Rattle.rs_server.proofs.connection.turn.Goals as goal

@@ -1,6 +1,6 @@
-use Rattle.std.proofs.Common.{◌≡◌, Ok, Err, sym, subst, ap, List, ℕ, inl, inr, ◌∙◌}
+use Rattle.std.proofs.Common.{◌≡◌, Ok, sym, subst, List, ℕ, inl, inr, ◌∙◌}
 use Rattle.hex.specs.Hex.{decode_of}
-use Rattle.rs_server.specs.HexLines.{AreDigitsOf, without_spaces}
+use Rattle.rs_server.specs.HexLines.{AreDigitsOf}
 use Rattle.rs_server.proofs.HexDigits.{decode_given, decode_read}
 use Rattle.rs_server.proofs.hex_lines.read_hex.Goals as goal
 

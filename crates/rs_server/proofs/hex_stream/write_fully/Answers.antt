@@ -1,4 +1,4 @@
-use Rattle.std.proofs.Common.{◌≡◌, ◌++◌, take}
+use Rattle.std.proofs.Common.{◌++◌, take}
 use Rattle.std.proofs.KnownBytes.{Appends-trans}
 use Rattle.rs_server.proofs.Said.{moves_front}
 use Rattle.rs_server.proofs.hex_stream.write_fully.Goals as goal

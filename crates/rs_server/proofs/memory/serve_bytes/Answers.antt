@@ -1,12 +1,11 @@
-use Rattle.std.proofs.Common.{◌≡◌, ◌∙◌, ◌++◌, [], List, ℕ, ap, subst, Ok}
-use Rattle.std.specs.Prelude.{Result}
+use Rattle.std.proofs.Common.{◌∙◌, ◌++◌, [], List, ℕ, ap, subst}
 use Rattle.std.specs.declared.vec.Vec.{Vec}
 use Rattle.std.specs.declared.alloc.Global.{Global}
 use Rattle.rs_session.specs.Gate.{Mark}
 use Rattle.rs_session.specs.Local.{catalogue_of, local_mark}
 use Rattle.rs_session.specs.Run.{Run}
 use Rattle.rs_store.specs.Maps.{kept}
-use Rattle.rs_server.specs.Talk.{start, assigned_of, point_at, replies_of, Ends}
+use Rattle.rs_server.specs.Talk.{start, assigned_of, point_at, replies_of}
 use Rattle.rs_server.proofs.Clocks.{one_moment}
 use Rattle.rs_server.proofs.memory.serve_bytes.Goals as goal
 

@@ -1,4 +1,4 @@
-use Rattle.std.proofs.Common.{◌≡◌, subst, List, ℕ, ◌∙◌}
+use Rattle.std.proofs.Common.{subst, List, ℕ, ◌∙◌}
 use Rattle.rs_server.specs.Counts.{inner_of}
 use Rattle.rs_server.specs.Writing.{AppendsFront}
 use Rattle.rs_server.proofs.Said.{all_in_front}

@@ -1,5 +1,5 @@
 -- What the session gave so far was said, or a beginning of it.
-use Rattle.std.proofs.Common.{◌≡◌, ℕ, List, Some, None, Option}
+use Rattle.std.proofs.Common.{◌≡◌, List}
 use Rattle.rs_packet.specs.declared.reply.Reply.{Reply}
 use Rattle.rs_session.specs.State.{state_of, due_of, gate_of}
 use Rattle.rs_session.specs.Run.{Gives, replies_left}

@@ -17,7 +17,7 @@ pub filters-preserved : goal.filters-preserved
 filters-preserved g c =
     let items = c.deref-asked-items.result.now in
     let more : take (c.filters.asked-index + 1) items ≡ take c.filters.asked-index items ++ c.asked-item.result ∷ [] =
-        take_more items c.filters.asked-index c.asked-item.result c.filters-test.true ∙ ap (λ (a : Asked). take c.filters.asked-index items ++ a ∷ []) (sym c.asked-item.is) in
+    take_more items c.filters.asked-index c.asked-item.result c.filters-test.true ∙ ap (λ (a : Asked). take c.filters.asked-index items ++ a ∷ []) (sym c.asked-item.is) in
     record {
       granted = λ seen s.
           let (mid, stood, so_far) = c.filters.invariant.granted seen s in
@@ -34,10 +34,10 @@ returns g c = λ seen s.
     let (list, stood, granted) = c.filters.invariant.granted seen s in
     let items = c.deref-asked-items.result.now in
     let all : take c.filters.asked-index items ≡ c.args.s.filters =
-        take_all c.filters.asked-index items c.filters-test.false ∙ (c.deref-asked-items.ensures.value ∙ ap (λ (v : SubscribeValue). v.filters) c.s.view_is) in (
+    take_all c.filters.asked-index items c.filters-test.false ∙ (c.deref-asked-items.ensures.value ∙ ap (λ (v : SubscribeValue). v.filters) c.s.view_is) in (
       list,
       subst (λ gate. g.G.Gate.stands gate list) (sym c.reply.ensures.gate) stood,
       grants_grow _ _ _ _ _ _ _ granted,
       subscribed_after c.args.s c.filters.codes.items c.s.inside.id (take c.filters.asked-index items) c.new.result (state_of c.args.self.now) (state_of c.filters.self) (state_of c.reply.new.self) c.reply.new.self.due c.args.now _ _ seen list
-      (sym c.refusal.ensures ∙ c.in_default.is) c.requires.open (ap g.G.Gate.mark c.reply.ensures.gate ∙ c.filters.invariant.mark) c.reply.ensures.state c.filters.invariant.rest c.reply.ensures.due c.new.ensures (ap (λ (v : SubscribeValue). v.id) c.s.view_is) all granted,
+          (sym c.refusal.ensures ∙ c.in_default.is) c.requires.open (ap g.G.Gate.mark c.reply.ensures.gate ∙ c.filters.invariant.mark) c.reply.ensures.state c.filters.invariant.rest c.reply.ensures.due c.new.ensures (ap (λ (v : SubscribeValue). v.id) c.s.view_is) all granted,
     )
