@@ -1,5 +1,5 @@
 -- Lemmas on the rows.
-use Rattle.std.proofs.Common.{◌≡◌, ◌≢◌, ℕ, ◌≤◌, ◌<◌, List, [], ◌∷◌, ◌++◌, length, refl, sym, subst, ap, append-nil, append_assoc, Bool, true, false, Option, Some, None, is_some, Result, Ok, Err, ◌∙◌, ◌⊎◌, inl, inr}
+use Rattle.std.proofs.Common.{◌≡◌, ◌≢◌, ℕ, List, [], ◌∷◌, ◌++◌, refl, sym, subst, ap, append-nil, append_assoc, Bool, true, false, Option, Some, None, is_some, Result, Ok, Err, ◌∙◌, inl, inr}
 use Rattle.rs_topic.specs.declared.text.TopicFault.{TopicFault}
 use Rattle.rs_packet.specs.declared.fault.PacketFault.{PacketFault}
 use Rattle.rs_packet.specs.declared.fault.PacketFault.TheVariants as fault
@@ -28,8 +28,8 @@ use Rattle.rs_topic.specs.declared.text.TopicFault.TheVariants as topic_fault
 use Rattle.rs_message.specs.Values.{MessageValue}
 use Rattle.rs_message.specs.Messages.{operation_of}
 use Rattle.rs_message.specs.declared.entry.Operation.{Operation}
-use Rattle.rs_session.specs.Steps.{IsAccepted, connect_refusal, publish_refusal, topic_refusal, change_on, subscribe_refusal, IsSettled}
-use Rattle.rs_session.specs.Table.{Answers, Row, Case, IsNoGreeting, IsUnserved, fault_code, limit_of, connack, With_method, With_will, Connect_refused, Accepted, Connack_too_long, Other_version, Unexpected, Connected_twice, Faulty, Unserved, With_alias, Bad_topic, Other_qos, Topic_unread, Not_retained, Kept, Not_kept, Uncertain, Gate_closed, Over, IsClosed, IsSubmittable, IsTopicOrUnread, topic_code, change, Shared_no_local, With_subscription_identifier, Not_subscribed, Subscribed, is_shared_local, Grants, IsGranted}
+use Rattle.rs_session.specs.Steps.{IsAccepted, connect_refusal, publish_refusal, change_on, subscribe_refusal, IsSettled}
+use Rattle.rs_session.specs.Table.{Answers, IsNoGreeting, IsUnserved, fault_code, limit_of, connack, With_method, With_will, Connect_refused, Accepted, Connack_too_long, Other_version, Unexpected, Faulty, Unserved, With_alias, Bad_topic, Other_qos, Topic_unread, Not_retained, Kept, Not_kept, Uncertain, Gate_closed, Over, IsClosed, IsSubmittable, IsTopicOrUnread, topic_code, change, Shared_no_local, With_subscription_identifier, Not_subscribed, Subscribed, is_shared_local, Grants, IsGranted}
 
 -- a gate that is as it was stands for the same lists
 pub unmoved : {G : Type 0} (stands : G → List Entry → Type 0) (mark : G → Mark) (old new : G) (input : Input) (now : ℕ) (from : State) (due : Option Reply) (to : State)

@@ -1,5 +1,5 @@
 -- A session between two inputs, and what it replies from what waits.
-use Rattle.std.specs.Prelude.{◌≡◌, ℕ, ◌<◌, ◌≤◌, Bool, true, false, ◌&&◌, not, nat_le, ◌==◌, if◌then◌else◌, MatchBool, List, [], ◌∷◌, length, Option, Some, None}
+use Rattle.std.specs.Prelude.{◌≡◌, ℕ, Bool, ◌&&◌, not, nat_le, if◌then◌else◌, MatchBool, List, [], ◌∷◌, length, Option, Some, None}
 use Rattle.rs_packet.specs.declared.packet.Qos.TheVariants.{AtMostOnce}
 use Rattle.rs_packet.specs.declared.reply.Publication.{Publication}
 use Rattle.rs_packet.specs.declared.reply.Reply.{Reply}

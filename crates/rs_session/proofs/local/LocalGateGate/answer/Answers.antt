@@ -1,4 +1,4 @@
-use Rattle.std.proofs.Common.{◌≡◌, [], subst, sym, append-nil}
+use Rattle.std.proofs.Common.{[], subst, sym, append-nil}
 use Rattle.std.proofs.lemmas.Result.{IfOk-weaker}
 use Rattle.rs_store.specs.History.{IsAnswer}
 use Rattle.rs_store.proofs.Standing.{stands_answer}

@@ -1,4 +1,3 @@
-use Rattle.std.proofs.Common.{◌≡◌, sym}
 use Rattle.rs_session.proofs.Submitting.{origin_is, submitted}
 use Rattle.rs_session.proofs.local.LocalGateGate.submit.Goals as goal
 

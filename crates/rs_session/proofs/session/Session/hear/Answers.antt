@@ -1,4 +1,4 @@
-use Rattle.std.proofs.Common.{◌∙◌, ◌≡◌, sym, refl, ap}
+use Rattle.std.proofs.Common.{refl}
 use Rattle.rs_session.proofs.Rows.{unmoved, over}
 use Rattle.rs_session.proofs.session.Session.hear.Goals as goal
 

@@ -1,4 +1,4 @@
-use Rattle.std.proofs.Common.{◌∙◌, ◌≡◌, sym, refl, ap}
+use Rattle.std.proofs.Common.{◌∙◌, sym, refl}
 use Rattle.rs_session.proofs.Rows.{unmoved, publish_refused, submitted, unchanged}
 use Rattle.rs_session.proofs.session.Session.publish.Goals as goal
 

@@ -1,5 +1,5 @@
 -- The filters so far were answered, each by its own list.
-use Rattle.std.proofs.Common.{◌≡◌, ◌≤◌, ℕ, List, length, take, vec_len, vec_capacity}
+use Rattle.std.proofs.Common.{◌≡◌, ◌≤◌, List, length, take, vec_len, vec_capacity}
 use Rattle.rs_message.specs.declared.entry.Entry.{Entry}
 use Rattle.rs_session.specs.State.{state_of}
 use Rattle.rs_session.specs.Table.{Grants}

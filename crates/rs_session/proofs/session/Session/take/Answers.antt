@@ -1,4 +1,4 @@
-use Rattle.std.proofs.Common.{◌∙◌, ◌≡◌, sym, refl, ap, subst, List, ℕ}
+use Rattle.std.proofs.Common.{◌∙◌, sym, refl, ap, subst}
 use Rattle.rs_packet.specs.declared.packet.Packet.{Packet}
 use Rattle.rs_session.specs.declared.phase.Input.TheVariants.{Whole}
 use Rattle.rs_session.specs.State.{state_of}
