@@ -1,7 +1,7 @@
 -- The size of a message that keeps no property but its interval.
 use Rattle.std.proofs.Common.{ℕ, ◌+◌, ◌/◌, ◌%◌, ◌≤◌, Bool, true, false, cond, suc, zero, List, [], ◌∷◌, length, arith, length-append, Option, Some, None}
 use Rattle.std.specs.Prelude.{nat_lt}
-use Rattle.rs_packet.specs.Properties.{low_first, varint}
+use Rattle.rs_field.specs.Properties.{low_first, varint}
 use Rattle.rs_packet.specs.Grammar.{largest}
 use Rattle.rs_packet.specs.Replies.{message_size}
 use Rattle.rs_message.specs.Bare.{no_properties}

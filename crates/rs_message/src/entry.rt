@@ -71,7 +71,7 @@ pub enum Operation {
 }
 
 impl Operation {
-    /// An equal operation, which shares the bytes.
+    /// An equal operation, which shares the bytes. Refused only for want of memory.
     pub fn copy(&self) -> Result<Operation, AllocError>
         ensures { IfOk result (λ o. o ≡ self.now) }
     {
@@ -81,8 +81,9 @@ impl Operation {
         }
     }
 
-    /// What a PUBLISH does: with a payload its message is kept, with an empty one the topic is cleared,
-    /// without RETAIN nothing changes. `received` is the moment of the packet, in seconds.
+    /// What a PUBLISH does (3.3.1.3): with a payload its message is kept, with an empty one the topic is cleared,
+    /// without RETAIN nothing changes. `received` is the moment of the packet, in seconds. The topic, the payload and the
+    /// properties are moved into it, so it takes no memory, and holds just the bytes that they share.
     pub fn of(
         retain: bool,
         topic: TopicName,
@@ -116,7 +117,7 @@ pub struct Entry {
 }
 
 impl Entry {
-    /// An equal entry, which shares the bytes.
+    /// An equal entry, which shares the bytes. Refused only for want of memory.
     pub fn copy(&self) -> Result<Entry, AllocError>
         ensures { IfOk result (λ e. e ≡ self.now) }
     {

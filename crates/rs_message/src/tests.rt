@@ -144,20 +144,43 @@ fn a_payload_is_kept(rt: HostRuntime) -> Result<(), Fail> {
     Ok(())
 }
 
-fn entry(origin: Origin, topic: TopicName) -> Entry {
-    Entry {
-        origin,
-        operation: Operation::Clear(topic),
-    }
+fn cleared(alloc: Global, place: u8, serial: u64) -> Result<Entry, Fail> {
+    let origin = Origin::new(place, serial).ok_or("no place or no serial")?;
+    let operation = Operation::Clear(TopicName::read(alloc, b"a/b")?);
+    Ok(Entry { origin, operation })
+}
+
+/// A Set of a/b at place 1.
+fn entry_of_set(alloc: Global) -> Result<Entry, Fail> {
+    let origin = Origin::new(1, 1).ok_or("1 is a place")?;
+    let topic = TopicName::read(alloc, b"a/b")?;
+    let operation = Operation::Set(topic, received_at_100(alloc, b"x", Some(10)));
+    Ok(Entry { origin, operation })
+}
+
+fn is_copied(entry: &Entry) -> Result<bool, AllocError> {
+    let copy = entry.copy()?;
+    Ok(copy == *entry)
+}
+
+fn is_cleared(entry: &Entry, alloc: Global, place: u8, serial: u64) -> Result<bool, Fail> {
+    let other = cleared(alloc, place, serial)?;
+    Ok(*entry == other)
 }
 
 #[test]
-fn an_entry_is_copied(rt: HostRuntime) -> Result<(), Fail> {
-    let origin = Origin::new(1, 1).ok_or("1 is a place")?;
-    let entry = entry(origin, TopicName::read(rt.alloc(), b"a/b")?);
-    let copy = entry.copy()?;
-    assert_eq!(rt; copy.origin.serial(), 1);
-    assert!(rt; copy == entry);
+fn a_clear_is_copied(rt: HostRuntime) -> Result<(), Fail> {
+    let entry = cleared(rt.alloc(), 1, 1)?;
+    assert!(rt; is_copied(&entry)?);
+    assert!(rt; !is_cleared(&entry, rt.alloc(), 1, 2)?);
+    Ok(())
+}
+
+#[test]
+fn a_set_is_copied(rt: HostRuntime) -> Result<(), Fail> {
+    let entry = entry_of_set(rt.alloc())?;
+    assert!(rt; is_copied(&entry)?);
+    assert!(rt; !is_cleared(&entry, rt.alloc(), 1, 1)?);
     Ok(())
 }
 

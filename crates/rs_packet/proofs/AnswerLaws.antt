@@ -4,11 +4,11 @@ use Rattle.std.specs.List.{find, list_any}
 use Rattle.std.specs.Prelude.{nat_eq, IfOk}
 use Rattle.std.proofs.lemmas.Bool.{eqb-true, ltb-false, le-ltb}
 use Rattle.std.proofs.lemmas.List.{length-append, length-drop, length-take-le, take-append-drop, take_at}
-use Rattle.rs_packet.specs.declared.fault.PacketFault.{PacketFault}
-use Rattle.rs_packet.specs.declared.fault.PacketFault.TheVariants.{Malformed, Protocol, TooLarge}
-use Rattle.rs_packet.specs.declared.reading.Cut.{Cut}
-use Rattle.rs_packet.specs.declared.reading.Cut.TheVariants.{Short, Bad}
-use Rattle.rs_packet.specs.declared.property.Place.TheVariants as place
+use Rattle.rs_field.specs.declared.fault.PacketFault.{PacketFault}
+use Rattle.rs_field.specs.declared.fault.PacketFault.TheVariants.{Malformed, Protocol, TooLarge}
+use Rattle.rs_field.specs.declared.reading.Cut.{Cut}
+use Rattle.rs_field.specs.declared.reading.Cut.TheVariants.{Short, Bad}
+use Rattle.rs_field.specs.declared.property.Place.TheVariants as place
 use Rattle.rs_packet.specs.declared.packet.Packet.TheVariants as packet
 use Rattle.rs_packet.specs.declared.packet.Decoded.{Decoded}
 use Rattle.rs_packet.specs.declared.packet.Decoded.TheVariants.{Whole, More}
@@ -19,23 +19,23 @@ use Rattle.rs_packet.specs.declared.packet.Kind.TheVariants as kind
 use Rattle.rs_packet.specs.declared.packet.Packet.{Packet}
 use Rattle.rs_packet.specs.declared.reply.Reply.{Reply}
 use Rattle.rs_packet.specs.Replies.{SpellsReply, first_byte, reply_body}
-use Rattle.rs_packet.specs.Properties.{varint, varint_end}
-use Rattle.rs_packet.specs.Reading.{◌>>=◌, digits_at, varint_at}
+use Rattle.rs_field.specs.Properties.{varint, varint_end}
+use Rattle.rs_field.specs.Reading.{◌>>=◌, digits_at, varint_at}
 use Rattle.rs_packet.specs.Grammar.{head, frame, largest, Spells, SpellsBody, IsAtFront}
 use Rattle.rs_packet.specs.PacketReading.{Gives, kinds, others, kind_or, kind_of, connect_at, publish_at, acknowledgement_at, subscribe_at, unsubscribe_at, code_at, packet_at, body_at, sized, answer}
-use Rattle.rs_packet.proofs.Numbers.{bind_ok, ok_is, chosen}
-use Rattle.rs_packet.proofs.Fields.{IsBytes, IsBytes-take, IsBytes-rest, digits_takes, digits_again, varint_again}
-use Rattle.rs_packet.proofs.Identifiers.{find_passes}
+use Rattle.rs_field.proofs.Numbers.{bind_ok, ok_is, chosen}
+use Rattle.rs_field.proofs.Fields.{IsBytes, IsBytes-take, IsBytes-rest, digits_takes, digits_again, varint_again}
+use Rattle.rs_field.proofs.Identifiers.{find_passes}
 
 -- ---- no spelling begins another
 
-pair_is : {A B E : Type 0} (a c : A) (b d : B) → ◌≡◌ {A = Result (A × B) E} (Ok (a, b)) (Ok (c, d)) → (a ≡ c) × (b ≡ d)
+pub pair_is : {A B E : Type 0} (a c : A) (b d : B) → ◌≡◌ {A = Result (A × B) E} (Ok (a, b)) (Ok (c, d)) → (a ≡ c) × (b ≡ d)
 pair_is {A} {B} a c b d e = let same : ◌≡◌ {A = A × B} (a, b) (c, d) = ok_is (a, b) (c, d) e in (ap (λ (p : A × B). p.0) same, ap (λ (p : A × B). p.1) same)
 
 cons_is : (f g : ℕ) (xs ys : List ℕ) → f ∷ xs ≡ g ∷ ys → (f ≡ g) × (xs ≡ ys)
 cons_is f g xs ys e = (cc, cc)
 
-same_front : (a b x y : List ℕ) → length a ≡ length b → a ++ x ≡ b ++ y → (a ≡ b) × (x ≡ y)
+pub same_front : (a b x y : List ℕ) → length a ≡ length b → a ++ x ≡ b ++ y → (a ≡ b) × (x ≡ y)
 same_front [] [] x y l e = (refl, e)
 same_front [] (c ∷ b) x y l e = absurd (omega (arith, l))
 same_front (c ∷ a) [] x y l e = absurd (omega (arith, l))
@@ -48,15 +48,20 @@ same_front (c ∷ a) (d ∷ b) x y l e =
     both : (c d : ℕ) (a b : List ℕ) → c ≡ d → a ≡ b → c ∷ a ≡ d ∷ b
     both c d a b p q = rw (p, q) refl
 
--- of two frames at the front of the same bytes, the bodies are one
-pub frame_once : (f g : ℕ) (a b x y : List ℕ) → length a < varint_end → length b < varint_end → frame f a ++ x ≡ frame g b ++ y → (frame f a ≡ frame g b) × (x ≡ y)
-frame_once f g a b x y la lb e =
+-- of two frames at the front of the same bytes, the first bytes are one, and the bodies
+pub frame_parts : (f g : ℕ) (a b x y : List ℕ) → length a < varint_end → length b < varint_end → frame f a ++ x ≡ frame g b ++ y → (f ≡ g) × (a ≡ b) × (x ≡ y)
+frame_parts f g a b x y la lb e =
     let h = cons_is f g ((varint (length a) ++ a) ++ x) ((varint (length b) ++ b) ++ y) e in
     let tails : varint (length a) ++ (a ++ x) ≡ varint (length b) ++ (b ++ y) = sym (append_assoc (varint (length a)) a x) ∙ h.1 ∙ append_assoc (varint (length b)) b y in
     let read = sym (varint_again (length a) (a ++ x) la) ∙ ap varint_at tails ∙ varint_again (length b) (b ++ y) lb in
     let same = pair_is (length a) (length b) (a ++ x) (b ++ y) read in
     let bodies = same_front a b x y same.0 same.1 in
-    (frames f g a b h.0 bodies.0, bodies.1)
+    (h.0, bodies.0, bodies.1)
+
+pub frame_once : (f g : ℕ) (a b x y : List ℕ) → length a < varint_end → length b < varint_end → frame f a ++ x ≡ frame g b ++ y → (frame f a ≡ frame g b) × (x ≡ y)
+frame_once f g a b x y la lb e =
+    let h = frame_parts f g a b x y la lb e in
+    (frames f g a b h.0 h.1, h.2)
   where
     frames : (f g : ℕ) (a b : List ℕ) → f ≡ g → a ≡ b → frame f a ≡ frame g b
     frames f g a b p q = rw (p, q) refl

@@ -2,22 +2,22 @@
 use Rattle.std.proofs.Common.{◌≡◌, ℕ, zero, suc, ◌+◌, ◌-◌, ◌*◌, ◌<◌, ◌≤◌, Bool, true, false, cond, eqb, ltb, List, [], ◌∷◌, ◌++◌, length, get_or, take, drop, Result, Ok, Err, refl, sym, ap, subst, ◌∙◌, append_assoc, arith, inl, inr}
 use Rattle.std.proofs.lemmas.Bool.{cases_lt, ltb-false, lt-ltb, le-ltb}
 use Rattle.std.proofs.lemmas.List.{append-nil, nil_from_length, length-append, take-append-le, take_all, length-take-le}
-use Rattle.rs_packet.specs.declared.fault.PacketFault.{PacketFault}
-use Rattle.rs_packet.specs.declared.fault.PacketFault.TheVariants.{Malformed, Protocol, TooLarge, Version, NoMemory}
-use Rattle.rs_packet.specs.declared.reading.Cut.{Cut}
-use Rattle.rs_packet.specs.declared.reading.Cut.TheVariants.{Short, Bad}
+use Rattle.rs_field.specs.declared.fault.PacketFault.{PacketFault}
+use Rattle.rs_field.specs.declared.fault.PacketFault.TheVariants.{Malformed, Protocol, TooLarge, Version, NoMemory}
+use Rattle.rs_field.specs.declared.reading.Cut.{Cut}
+use Rattle.rs_field.specs.declared.reading.Cut.TheVariants.{Short, Bad}
 use Rattle.rs_packet.specs.declared.packet.Decoded.{Decoded}
 use Rattle.rs_packet.specs.declared.packet.Decoded.TheVariants.{Whole, More}
 use Rattle.rs_packet.specs.declared.packet.Kind.{Kind}
 use Rattle.rs_packet.specs.declared.packet.Packet.{Packet}
-use Rattle.rs_packet.specs.Reading.{◌>>=◌, digits_at, IsEnd}
+use Rattle.rs_field.specs.Reading.{◌>>=◌, digits_at, IsEnd}
 use Rattle.rs_packet.specs.Grammar.{largest, Spells}
 use Rattle.rs_packet.specs.PacketReading.{kind_of, packet_at, body_at, sized, answer}
 use Rattle.rs_packet.specs.Fronts.{IsMore, IsFaulty}
 use Rattle.bytes.proofs.Ranges.{take-append_past}
-use Rattle.rs_packet.specs.Properties.{varint, varint_end}
-use Rattle.rs_packet.proofs.Numbers.{digits_rest}
-use Rattle.rs_packet.proofs.Fields.{IsBytes, IsBytes-rest, digits_takes, digits_again}
+use Rattle.rs_field.specs.Properties.{varint, varint_end}
+use Rattle.rs_field.proofs.Numbers.{digits_rest}
+use Rattle.rs_field.proofs.Fields.{IsBytes, IsBytes-rest, digits_takes, digits_again}
 use Rattle.rs_packet.proofs.AnswerLaws.{answer_again, spelled_once}
 
 -- ---- a packet has one reading

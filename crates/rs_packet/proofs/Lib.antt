@@ -1,13 +1,8 @@
-pub mod Numbers
-pub mod PropertyLoop
-pub mod Fields
-pub mod Identifiers
-pub mod PropertyLaws
 pub mod ItemLoop
 pub mod PacketLaws
 pub mod AnswerLaws
 pub mod Fronts
 pub mod WritingLemmas
-pub mod Sizes
-pub mod Equalities
+pub mod KeptLaws
+pub mod ReplyLaws
 pub mod Rows

@@ -1,7 +1,7 @@
 -- What is read is spelled so, and what is spelled so is read: PUBLISH, SUBSCRIBE, the acknowledgements and DISCONNECT.
 use Rattle.std.proofs.Common.{◌≡◌, ℕ, zero, suc, ◌+◌, ◌/◌, ◌%◌, ◌<◌, ◌≤◌, ◌^◌, Bool, true, false, cond, not, eqb, ltb, List, [], ◌∷◌, ◌++◌, length, Option, Some, None, Result, Ok, Err, refl, sym, ap, subst, ◌∙◌, append_assoc, arith}
 use Rattle.std.specs.List.{flat_map}
-use Rattle.std.specs.Prelude.{◌&&◌, is_none}
+use Rattle.std.specs.Prelude.{◌&&◌, is_none, map}
 use Rattle.std.specs.Str.{bytes_eq, is_utf8, chars}
 use lib.Utf8.{encode}
 use Rattle.std.specs.Bool.{Decides}
@@ -11,11 +11,10 @@ use Rattle.rs_packet.specs.declared.packet.Connect.{Connect}
 use Rattle.std.specs.Int.{w16}
 use Rattle.std.proofs.lemmas.Bool.{ltb-true, lt-ltb, eqb-false, eqb-true, ne_eqb}
 use Rattle.std.proofs.lemmas.List.{length-append, append-nil}
-use Rattle.rs_packet.specs.declared.fault.PacketFault.{PacketFault}
-use Rattle.rs_packet.specs.declared.fault.PacketFault.TheVariants.{Malformed, Protocol, Version}
-use Rattle.rs_packet.specs.declared.property.Property.{Property}
-use Rattle.rs_packet.specs.declared.property.Place.{Place}
-use Rattle.rs_packet.specs.declared.property.Place.TheVariants as place
+use Rattle.rs_field.specs.declared.fault.PacketFault.{PacketFault}
+use Rattle.rs_field.specs.declared.fault.PacketFault.TheVariants.{Malformed, Protocol, Version}
+use Rattle.rs_field.specs.declared.property.Place.{Place}
+use Rattle.rs_field.specs.declared.property.Place.TheVariants as place
 use Rattle.rs_packet.specs.declared.packet.Qos.{Qos}
 use Rattle.rs_packet.specs.declared.packet.Qos.TheVariants.{AtMostOnce, AtLeastOnce, ExactlyOnce}
 use Rattle.rs_packet.specs.declared.packet.RetainHandling.{RetainHandling}
@@ -25,34 +24,15 @@ use Rattle.rs_packet.specs.declared.packet.Publish.{Publish}
 use Rattle.rs_packet.specs.declared.packet.Acknowledgement.{Acknowledgement}
 use Rattle.rs_topic.specs.Texts.{IsText}
 use Rattle.rs_topic.specs.Topics.{filter_of}
-use Rattle.rs_packet.specs.Values.{FoundValue, SubscribeValue, UnsubscribeValue, Asked, Filter}
-use Rattle.rs_packet.specs.Properties.{two, counted, IsShort, AreProperties, properties, gathered, nothing, low_first, spelled}
-use Rattle.rs_packet.specs.Reading.{◌>>=◌, number_at, byte_at, binary_at, text_at, wanting, properties_at, found_at}
-use Rattle.rs_packet.specs.Grammar.{bit, level, handling, IsId, IdFits, id_bytes, publication, SpellsPublish, SpellsCode, SpellsAcknowledgement, options_byte, AreFilters, filter_bytes, asked, SpellsSubscribe, AreTexts, filters_of, SpellsUnsubscribe, protocol, flags_byte, FlagsFit, SpellsIf, SpellsPayload, MethodFits, SpellsConnect}
+use Rattle.rs_field.specs.Values.{FoundValue}
+use Rattle.rs_packet.specs.Values.{SubscribeValue, UnsubscribeValue, Asked, Filter}
+use Rattle.rs_field.specs.Properties.{two, counted, IsShort, properties, gathered, nothing, low_first, spelled}
+use Rattle.rs_field.specs.Reading.{◌>>=◌, number_at, byte_at, binary_at, text_at, wanting, found_at}
+use Rattle.rs_packet.specs.Grammar.{bit, level, handling, IsId, IdFits, id_bytes, publication, SpellsPublish, SpellsCode, SpellsAcknowledgement, options_byte, AreTexts, text_of, filter_bytes, asked_of, SpellsSubscribe, SpellsUnsubscribe, protocol, flags_byte, FlagsFit, SpellsIf, SpellsPayload, MethodFits, SpellsConnect}
 use Rattle.rs_packet.specs.PacketReading.{id_at, id_for, publish_at, ended, code_at, acknowledgement_at, qos_of, handling_of, options_of, asked_at, all_in, some_of, subscribe_at, filter_at, unsubscribe_at, mqtt, flags_of, past_text, past_binary, client_at, version_at, connect_at}
-use Rattle.rs_packet.proofs.Numbers.{bind_ok, ok_is}
-use Rattle.rs_packet.proofs.Fields.{IsBytes, IsBytes-rest, Takes, Takes-then, wide16, number_takes, number_again, binary_takes, binary_again, text_takes, text_again}
-use Rattle.rs_packet.proofs.PropertyLaws.{wanted, byte_takes, all_take, all_again}
-
--- ---- the properties, by what they say
-
-pub record FoundIn (where_ : Place) (bytes : List ℕ) (x : FoundValue × List ℕ) : Type 0 where
-  pub ps : List Property
-  pub takes : Takes bytes (properties ps) x.1
-  pub are : AreProperties where_ ps
-  pub says : x.0 ≡ gathered nothing ps
-
-pub found_takes : (where_ : Place) (bytes : List ℕ) (x : FoundValue × List ℕ) → IsBytes bytes → found_at where_ bytes ≡ Ok x → FoundIn where_ bytes x
-unfolding found_at
-found_takes where_ bytes x fits e =
-    let b = bind_ok (properties_at where_ bytes) (λ ps. Ok (gathered nothing ps.0, ps.1)) x e in
-    let t = all_take where_ bytes b.0 fits b.1 in
-    let made : FoundValue × List ℕ = (gathered nothing b.0.0, b.0.1) in
-    subst (FoundIn where_ bytes) (ok_is made x b.2) (record { ps = b.0.0; takes = t.0; are = t.1; says = refl })
-
-pub found_again : (where_ : Place) (ps : List Property) (rest : List ℕ) → AreProperties where_ ps → found_at where_ (properties ps ++ rest) ≡ Ok (gathered nothing ps, rest)
-unfolding found_at
-found_again where_ ps rest h = rw (all_again where_ ps rest h) refl
+use Rattle.rs_field.proofs.Numbers.{bind_ok, ok_is}
+use Rattle.rs_field.proofs.Fields.{IsBytes, IsBytes-rest, Takes, Takes-then, wide16, number_takes, number_again, binary_takes, binary_again, text_takes, text_again}
+use Rattle.rs_field.proofs.PropertyLaws.{wanted, byte_takes, found_takes, found_again}
 
 -- ---- packet identifiers
 
@@ -287,7 +267,7 @@ asked_again f rest h =
     ap asked_at (append_assoc (counted f.0) (options_byte f.1 ∷ []) rest) ∙ rw (text_again f.0 (options_byte f.1 ∷ rest) h, options_again f.1) refl
 
 pub all_asked_take : (n : ℕ) (bytes : List ℕ) (all : List Asked) → IsBytes bytes → length bytes ≤ n → all_in asked_at n bytes ≡ Ok all
-    → (fs : List (List ℕ × Options)) × AreFilters fs × (bytes ≡ flat_map filter_bytes fs) × (all ≡ asked fs)
+    → (fs : List (List ℕ × Options)) × AreTexts (map text_of fs) × (bytes ≡ flat_map filter_bytes fs) × (all ≡ map asked_of fs)
 unfolding all_in
 all_asked_take n [] all fits le e = ([], tt, refl, sym (ok_is [] all e))
 all_asked_take zero (b ∷ bytes) all fits le e = absurd (omega (arith, le))
@@ -303,7 +283,7 @@ all_asked_take (suc n) (b ∷ bytes) all fits le e =
       sym (ok_is (a.0.0 ∷ m.0) all m.2) ∙ (ap (λ (x : Asked). x ∷ m.0) t.3 ∙ ap (λ (xs : List Asked). (filter_of t.0.0, t.0.1) ∷ xs) others.3),
     )
 
-pub all_asked_again : (n : ℕ) (fs : List (List ℕ × Options)) → length (flat_map filter_bytes fs) ≤ n → AreFilters fs → all_in asked_at n (flat_map filter_bytes fs) ≡ Ok (asked fs)
+pub all_asked_again : (n : ℕ) (fs : List (List ℕ × Options)) → length (flat_map filter_bytes fs) ≤ n → AreTexts (map text_of fs) → all_in asked_at n (flat_map filter_bytes fs) ≡ Ok (map asked_of fs)
 unfolding all_in
 all_asked_again n [] le h = refl
 all_asked_again zero (f ∷ fs) le h = absurd (omega (arith, le))
@@ -326,9 +306,9 @@ subscribe_takes body s fits e =
     let count : 0 < length fs.0 = not_none fs.0 f.0.1 fs.2 long in
     let fields : body ≡ two id.0.0 ++ (properties g.ps ++ flat_map filter_bytes fs.0) = t.0.parts ∙ ap (λ (r : List ℕ). two id.0.0 ++ r) (g.takes.parts ∙ ap (λ (r : List ℕ). properties g.ps ++ r) fs.2) in
     let made : SubscribeValue = record { id = id.0.0; subscription = f.0.0.subscription; filters = l.0 } in
-    let is : made ≡ record { id = id.0.0; subscription = (gathered nothing g.ps).subscription; filters = asked fs.0 } = same id.0.0 f.0.0 (gathered nothing g.ps) l.0 (asked fs.0) g.says fs.3 in
+    let is : made ≡ record { id = id.0.0; subscription = (gathered nothing g.ps).subscription; filters = map asked_of fs.0 } = same id.0.0 f.0.0 (gathered nothing g.ps) l.0 (map asked_of fs.0) g.says fs.3 in
     subst (SpellsSubscribe body) (ok_is made s l.2)
-    (record { ps = g.ps; filters = fs.0; is_id = t.1; are_properties = g.are; are_filters = fs.1; some = count; fields = fields; value = is })
+    (record { ps = g.ps; filters = fs.0; is_id = t.1; are_properties = g.are; are_texts = fs.1; some = count; fields = fields; value = is })
   where
     tested : {A : Type 0} (t : Bool) (d : PacketFault) (x : Result A PacketFault) (y : A) → cond t (Err d) x ≡ Ok y → (t ≡ false) × (x ≡ Ok y)
     tested true d x y e = absurd cc
@@ -347,7 +327,7 @@ subscribe_again body s h =
     let text = flat_map filter_bytes h.filters in
     let some : eqb (length text) 0 ≡ false = ne_eqb _ _ (λ z. none h.filters h.some z) in
     ap subscribe_at h.fields
-    ∙ (rw (id_again s.id (properties h.ps ++ text) h.is_id, found_again place.Subscribe h.ps text h.are_properties, some, all_asked_again (length text) h.filters (omega arith) h.are_filters)
+    ∙ (rw (id_again s.id (properties h.ps ++ text) h.is_id, found_again place.Subscribe h.ps text h.are_properties, some, all_asked_again (length text) h.filters (omega arith) h.are_texts)
     (ap (λ (v : SubscribeValue). Ok v) (sym h.value)))
   where
     none : (fs : List (List ℕ × Options)) → 0 < length fs → length (flat_map filter_bytes fs) ≡ 0 → ⊥
@@ -368,7 +348,7 @@ filter_again : (t rest : List ℕ) → IsText t → filter_at (counted t ++ rest
 unfolding filter_at
 filter_again t rest h = rw (text_again t rest h) refl
 
-filters_take : (n : ℕ) (bytes : List ℕ) (all : List Filter) → IsBytes bytes → length bytes ≤ n → all_in filter_at n bytes ≡ Ok all → (ts : List (List ℕ)) × AreTexts ts × (bytes ≡ flat_map counted ts) × (all ≡ filters_of ts)
+filters_take : (n : ℕ) (bytes : List ℕ) (all : List Filter) → IsBytes bytes → length bytes ≤ n → all_in filter_at n bytes ≡ Ok all → (ts : List (List ℕ)) × AreTexts ts × (bytes ≡ flat_map counted ts) × (all ≡ map filter_of ts)
 unfolding all_in
 filters_take n [] all fits le e = ([], tt, refl, sym (ok_is [] all e))
 filters_take zero (b ∷ bytes) all fits le e = absurd (omega (arith, le))
@@ -384,7 +364,7 @@ filters_take (suc n) (b ∷ bytes) all fits le e =
       sym (ok_is (a.0.0 ∷ m.0) all m.2) ∙ (ap (λ (x : Filter). x ∷ m.0) t.3 ∙ ap (λ (xs : List Filter). filter_of t.0 ∷ xs) others.3),
     )
 
-filters_again : (n : ℕ) (ts : List (List ℕ)) → length (flat_map counted ts) ≤ n → AreTexts ts → all_in filter_at n (flat_map counted ts) ≡ Ok (filters_of ts)
+filters_again : (n : ℕ) (ts : List (List ℕ)) → length (flat_map counted ts) ≤ n → AreTexts ts → all_in filter_at n (flat_map counted ts) ≡ Ok (map filter_of ts)
 unfolding all_in
 filters_again n [] le h = refl
 filters_again zero (t ∷ ts) le h = absurd (omega (arith, le))
@@ -407,7 +387,7 @@ unsubscribe_takes body u fits e =
     let count : 0 < length ts.0 = not_none ts.0 f.0.1 ts.2 long in
     let fields : body ≡ two id.0.0 ++ (properties g.ps ++ flat_map counted ts.0) = t.0.parts ∙ ap (λ (r : List ℕ). two id.0.0 ++ r) (g.takes.parts ∙ ap (λ (r : List ℕ). properties g.ps ++ r) ts.2) in
     let made : UnsubscribeValue = record { id = id.0.0; filters = l.0 } in
-    let is : made ≡ record { id = id.0.0; filters = filters_of ts.0 } = ap (λ (xs : List Filter). let v : UnsubscribeValue = record { id = id.0.0; filters = xs } in v) ts.3 in
+    let is : made ≡ record { id = id.0.0; filters = map filter_of ts.0 } = ap (λ (xs : List Filter). let v : UnsubscribeValue = record { id = id.0.0; filters = xs } in v) ts.3 in
     subst (SpellsUnsubscribe body) (ok_is made u l.2) (record { ps = g.ps; filters = ts.0; is_id = t.1; are_properties = g.are; are_texts = ts.1; some = count; fields = fields; value = is })
   where
     tested : {A : Type 0} (t : Bool) (d : PacketFault) (x : Result A PacketFault) (y : A) → cond t (Err d) x ≡ Ok y → (t ≡ false) × (x ≡ Ok y)

@@ -2,15 +2,15 @@
 use Rattle.std.proofs.Common.{◌≡◌, [], ◌∷◌, Ok, Err, Some, None, true, false, refl}
 use Rattle.std.specs.Str.{is_utf8, chars}
 use lib.Utf8.{encode}
-use Rattle.rs_packet.specs.declared.fault.PacketFault.TheVariants.{Malformed, Protocol, TooLarge, Version}
+use Rattle.rs_field.specs.declared.fault.PacketFault.TheVariants.{Malformed, Protocol, TooLarge, Version}
 use Rattle.rs_packet.specs.declared.packet.Qos.TheVariants.{AtMostOnce}
 use Rattle.rs_packet.specs.declared.packet.RetainHandling.TheVariants.{Always}
 use Rattle.rs_packet.specs.declared.packet.Packet.TheVariants as packet
 use Rattle.rs_packet.specs.declared.packet.Decoded.TheVariants.{Whole, More}
 use Rattle.rs_packet.specs.declared.reply.Reply.TheVariants as reply
 use Rattle.rs_topic.specs.Topics.{name_of, filter_of, levels}
-use Rattle.rs_packet.specs.Properties.{low_first, gathered}
-use Rattle.rs_packet.specs.Reading.{digits_at, varint_at, binary_at, text_at, identifier_of, value_at, property_at, properties_in, properties_at, found_at}
+use Rattle.rs_field.specs.Properties.{low_first, gathered}
+use Rattle.rs_field.specs.Reading.{digits_at, varint_at, binary_at, text_at, identifier_of, value_at, property_at, properties_in, properties_at, found_at}
 use Rattle.rs_packet.specs.PacketReading.{kind_of, id_at, publish_at, options_of, asked_at, all_in, subscribe_at, packet_at, answer, connect_at, version_at, flags_of, client_at}
 use Rattle.rs_packet.specs.Replies.{reply_bytes}
 
@@ -105,6 +105,7 @@ replayed_row : reply_bytes (reply.Publish (record {
   topic = 97 ∷ 47 ∷ 98 ∷ [];
   qos = AtMostOnce;
   id = None;
+  subscription = None;
   expiry = Some 1;
   properties = record { format = None; content_type = None; response_topic = None; correlation = None; user = [] };
   payload = 120 ∷ [];
@@ -114,9 +115,9 @@ unfolding low_first
 replayed_row = refl
 
 -- what accepts a client: with no more to tell, with an identifier assigned, with an expiry taken back
-accepted_rows : (reply_bytes (reply.Accepted (record { session_expiry_zero = false; assigned_client = None })) ≡ 0x20 ∷ 0x0F ∷ 0x00 ∷ 0x00 ∷ 0x0C ∷ 0x21 ∷ 0x00 ∷ 0x10 ∷ 0x27 ∷ 0x00 ∷ 0x04 ∷ 0x00 ∷ 0x00 ∷ 0x29 ∷ 0x00 ∷ 0x2A ∷ 0x00 ∷ [])
-    × (reply_bytes (reply.Accepted (record { session_expiry_zero = false; assigned_client = Some (0x72 ∷ 0x73 ∷ 0x31 ∷ 0x2D ∷ 0x31 ∷ []) })) ≡ 0x20 ∷ 0x17 ∷ 0x00 ∷ 0x00 ∷ 0x14 ∷ 0x12 ∷ 0x00 ∷ 0x05 ∷ 0x72 ∷ 0x73 ∷ 0x31 ∷ 0x2D ∷ 0x31 ∷ 0x21 ∷ 0x00 ∷ 0x10 ∷ 0x27 ∷ 0x00 ∷ 0x04 ∷ 0x00 ∷ 0x00 ∷ 0x29 ∷ 0x00 ∷ 0x2A ∷ 0x00 ∷ [])
-    × (reply_bytes (reply.Accepted (record { session_expiry_zero = true; assigned_client = None })) ≡ 0x20 ∷ 0x14 ∷ 0x00 ∷ 0x00 ∷ 0x11 ∷ 0x11 ∷ 0x00 ∷ 0x00 ∷ 0x00 ∷ 0x00 ∷ 0x21 ∷ 0x00 ∷ 0x10 ∷ 0x27 ∷ 0x00 ∷ 0x04 ∷ 0x00 ∷ 0x00 ∷ 0x29 ∷ 0x00 ∷ 0x2A ∷ 0x00 ∷ [])
+accepted_rows : (reply_bytes (reply.Accepted (record { session_expiry_zero = false; assigned_client = None })) ≡ 0x20 ∷ 0x0D ∷ 0x00 ∷ 0x00 ∷ 0x0A ∷ 0x21 ∷ 0x00 ∷ 0x10 ∷ 0x27 ∷ 0x00 ∷ 0x04 ∷ 0x00 ∷ 0x00 ∷ 0x2A ∷ 0x00 ∷ [])
+    × (reply_bytes (reply.Accepted (record { session_expiry_zero = false; assigned_client = Some (0x72 ∷ 0x73 ∷ 0x31 ∷ 0x2D ∷ 0x31 ∷ []) })) ≡ 0x20 ∷ 0x15 ∷ 0x00 ∷ 0x00 ∷ 0x12 ∷ 0x12 ∷ 0x00 ∷ 0x05 ∷ 0x72 ∷ 0x73 ∷ 0x31 ∷ 0x2D ∷ 0x31 ∷ 0x21 ∷ 0x00 ∷ 0x10 ∷ 0x27 ∷ 0x00 ∷ 0x04 ∷ 0x00 ∷ 0x00 ∷ 0x2A ∷ 0x00 ∷ [])
+    × (reply_bytes (reply.Accepted (record { session_expiry_zero = true; assigned_client = None })) ≡ 0x20 ∷ 0x12 ∷ 0x00 ∷ 0x00 ∷ 0x0F ∷ 0x11 ∷ 0x00 ∷ 0x00 ∷ 0x00 ∷ 0x00 ∷ 0x21 ∷ 0x00 ∷ 0x10 ∷ 0x27 ∷ 0x00 ∷ 0x04 ∷ 0x00 ∷ 0x00 ∷ 0x2A ∷ 0x00 ∷ [])
 unfolding low_first
 accepted_rows = (refl, refl, refl)
 

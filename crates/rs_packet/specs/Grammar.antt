@@ -1,10 +1,9 @@
 -- The packets that a client sends, as bytes: sections 2 and 3.
-use Rattle.std.specs.Prelude.{◌≡◌, ℕ, ◌+◌, ◌*◌, ◌<◌, ◌≤◌, ◌^◌, Bool, true, false, List, [], ◌∷◌, ◌++◌, length, take, Option, Some, None, Result}
+use Rattle.std.specs.Prelude.{◌≡◌, ℕ, ◌+◌, ◌*◌, ◌<◌, ◌≤◌, ◌^◌, Bool, true, false, List, [], ◌∷◌, ◌++◌, length, map, take, Option, Some, None}
 use Rattle.std.specs.List.{flat_map}
-use Rattle.rs_topic.specs.declared.text.TopicFault.{TopicFault}
-use Rattle.rs_packet.specs.declared.property.Property.{Property}
-use Rattle.rs_packet.specs.declared.property.Place.{Place}
-use Rattle.rs_packet.specs.declared.property.Place.TheVariants as place
+use Rattle.rs_field.specs.declared.property.Property.{Property}
+use Rattle.rs_field.specs.declared.property.Place.{Place}
+use Rattle.rs_field.specs.declared.property.Place.TheVariants as place
 use Rattle.rs_packet.specs.declared.packet.Qos.{Qos}
 use Rattle.rs_packet.specs.declared.packet.Qos.TheVariants.{AtMostOnce, AtLeastOnce, ExactlyOnce}
 use Rattle.rs_packet.specs.declared.packet.RetainHandling.{RetainHandling}
@@ -22,8 +21,10 @@ use Rattle.rs_packet.specs.declared.packet.Decoded.{Decoded}
 use Rattle.rs_packet.specs.declared.packet.Decoded.TheVariants.{Whole, More}
 use Rattle.rs_topic.specs.Texts.{IsText}
 use Rattle.rs_topic.specs.Topics.{name_of, filter_of}
-use Rattle.rs_packet.specs.Values.{FoundValue, PropertiesValue, SubscribeValue, UnsubscribeValue, Asked}
-use Rattle.rs_packet.specs.Properties.{varint, two, counted, IsShort, AreProperties, properties, gathered, nothing}
+use Rattle.rs_field.specs.Values.{FoundValue}
+use Rattle.rs_field.specs.Kept.{kept}
+use Rattle.rs_packet.specs.Values.{SubscribeValue, UnsubscribeValue, Asked}
+use Rattle.rs_field.specs.Properties.{varint, two, counted, IsShort, AreProperties, properties, gathered, nothing}
 
 abbrev pub bit : Bool → ℕ
 bit true = 1
@@ -71,10 +72,6 @@ IdFits ExactlyOnce (Some n) = IsId n
 abbrev pub id_bytes : Option ℕ → List ℕ
 id_bytes None = []
 id_bytes (Some n) = two n
-
--- the properties that a message keeps
-abbrev pub kept : FoundValue → PropertiesValue
-kept f = record { format = f.format; content_type = f.content_type; response_topic = f.response_topic; correlation = f.correlation; user = f.user }
 
 abbrev pub publication : Bool → Qos → Bool → List ℕ → Option ℕ → FoundValue → List ℕ → Publish
 publication duplicate qos retain topic id f payload = record {
@@ -125,37 +122,31 @@ handling Never = 2
 abbrev pub options_byte : Options → ℕ
 options_byte o = level o.qos + 4 * bit o.no_local + 8 * bit o.retain_as_published + 16 * handling o.retain_handling
 
--- texts with their options
-abbrev pub AreFilters : List (List ℕ × Options) → Type 0
-AreFilters [] = Unit {0}
-AreFilters (f ∷ fs) = IsText f.0 × AreFilters fs
+-- 3.8.3, 3.10.3: each filter is a UTF-8 encoded string
+abbrev pub AreTexts : List (List ℕ) → Type 0
+AreTexts [] = Unit {0}
+AreTexts (t ∷ ts) = IsText t × AreTexts ts
+
+abbrev pub text_of : List ℕ × Options → List ℕ
+text_of f = f.0
 
 abbrev pub filter_bytes : List ℕ × Options → List ℕ
 filter_bytes f = counted f.0 ++ options_byte f.1 ∷ []
 
-abbrev pub asked : List (List ℕ × Options) → List Asked
-asked [] = []
-asked (f ∷ fs) = (filter_of f.0, f.1) ∷ asked fs
+abbrev pub asked_of : List ℕ × Options → Asked
+asked_of f = (filter_of f.0, f.1)
 
 pub record SpellsSubscribe (body : List ℕ) (s : SubscribeValue) : Type 0 where
   pub ps : List Property
   pub filters : List (List ℕ × Options)
   pub is_id : IsId s.id
   pub are_properties : AreProperties place.Subscribe ps
-  pub are_filters : AreFilters filters
+  pub are_texts : AreTexts (map text_of filters)
   pub some : 0 < length filters
   pub fields : body ≡ two s.id ++ (properties ps ++ flat_map filter_bytes filters)
-  pub value : s ≡ record { id = s.id; subscription = (gathered nothing ps).subscription; filters = asked filters }
+  pub value : s ≡ record { id = s.id; subscription = (gathered nothing ps).subscription; filters = map asked_of filters }
 
 -- ---- 3.10: UNSUBSCRIBE
-
-abbrev pub AreTexts : List (List ℕ) → Type 0
-AreTexts [] = Unit {0}
-AreTexts (t ∷ ts) = IsText t × AreTexts ts
-
-abbrev pub filters_of : List (List ℕ) → List (Result (List ℕ) TopicFault)
-filters_of [] = []
-filters_of (t ∷ ts) = filter_of t ∷ filters_of ts
 
 pub record SpellsUnsubscribe (body : List ℕ) (u : UnsubscribeValue) : Type 0 where
   pub ps : List Property
@@ -165,7 +156,7 @@ pub record SpellsUnsubscribe (body : List ℕ) (u : UnsubscribeValue) : Type 0 w
   pub are_texts : AreTexts filters
   pub some : 0 < length filters
   pub fields : body ≡ two u.id ++ (properties ps ++ flat_map counted filters)
-  pub value : u ≡ record { id = u.id; filters = filters_of filters }
+  pub value : u ≡ record { id = u.id; filters = map filter_of filters }
 
 -- ---- 3.1: CONNECT
 

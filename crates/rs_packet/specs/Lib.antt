@@ -1,10 +1,6 @@
-pub mod Faults
 pub mod Values
-pub mod Properties
-pub mod Reading
 pub mod Grammar
 pub mod PacketReading
 pub mod Replies
 pub mod Fronts
 pub mod Bounds
-pub mod Equality

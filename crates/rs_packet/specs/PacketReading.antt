@@ -3,12 +3,12 @@ use Rattle.std.specs.Prelude.{ℕ, zero, suc, ◌+◌, ◌-◌, ◌/◌, ◌%◌
 use Rattle.std.specs.List.{list_any, find}
 use Rattle.std.specs.Str.{bytes_eq}
 use Rattle.std.specs.Int.{w16}
-use Rattle.rs_packet.specs.declared.fault.PacketFault.{PacketFault}
-use Rattle.rs_packet.specs.declared.fault.PacketFault.TheVariants.{Malformed, Protocol, TooLarge, Version}
-use Rattle.rs_packet.specs.declared.reading.Cut.{Cut}
-use Rattle.rs_packet.specs.declared.reading.Cut.TheVariants.{Short, Bad}
-use Rattle.rs_packet.specs.declared.property.Place.{Place}
-use Rattle.rs_packet.specs.declared.property.Place.TheVariants as place
+use Rattle.rs_field.specs.declared.fault.PacketFault.{PacketFault}
+use Rattle.rs_field.specs.declared.fault.PacketFault.TheVariants.{Malformed, Protocol, TooLarge, Version}
+use Rattle.rs_field.specs.declared.reading.Cut.{Cut}
+use Rattle.rs_field.specs.declared.reading.Cut.TheVariants.{Short, Bad}
+use Rattle.rs_field.specs.declared.property.Place.{Place}
+use Rattle.rs_field.specs.declared.property.Place.TheVariants as place
 use Rattle.rs_packet.specs.declared.packet.Qos.{Qos}
 use Rattle.rs_packet.specs.declared.packet.Qos.TheVariants.{AtMostOnce, AtLeastOnce, ExactlyOnce}
 use Rattle.rs_packet.specs.declared.packet.RetainHandling.{RetainHandling}
@@ -27,8 +27,8 @@ use Rattle.rs_packet.specs.declared.packet.Decoded.TheVariants.{Whole, More}
 use Rattle.rs_topic.specs.Topics.{filter_of}
 use Rattle.rs_packet.specs.Values.{SubscribeValue, UnsubscribeValue, Asked, Filter}
 use Rattle.rs_packet.specs.Grammar.{head, publication, largest}
-pub use Rattle.rs_packet.specs.Reading.{◌>>=◌, Fails, Gives, GivesNumber}
-use Rattle.rs_packet.specs.Reading.{digits_at, byte_at, number_at, binary_at, text_at, wanting, found_at}
+pub use Rattle.rs_field.specs.Reading.{◌>>=◌, Fails, Gives, GivesNumber}
+use Rattle.rs_field.specs.Reading.{digits_at, byte_at, number_at, binary_at, text_at, wanting, found_at}
 
 -- ---- the first byte
 

@@ -1,31 +1,22 @@
 -- The replies of the server: one spelling each. Sections 3.2 to 3.14.
-use Rattle.std.specs.Prelude.{◌≡◌, ℕ, ◌+◌, ◌*◌, ◌<◌, List, [], ◌∷◌, ◌++◌, length, map, Option, Some, None, Bool, true, false, ◌==◌, if◌then◌else◌}
-use Rattle.rs_packet.specs.declared.property.Property.{Property}
-use Rattle.rs_packet.specs.declared.property.Property.TheVariants as property
+use Rattle.std.specs.Prelude.{◌≡◌, ℕ, ◌+◌, ◌*◌, ◌<◌, ◌^◌, List, [], ◌∷◌, ◌++◌, length, Option, Some, None, IfSome, Bool, true, false, ◌==◌, if◌then◌else◌}
+use Rattle.std.specs.List.{All}
 use Rattle.rs_packet.specs.declared.reply.Accepted.{Accepted}
 use Rattle.rs_packet.specs.declared.reply.Publication.{Publication}
 use Rattle.rs_packet.specs.declared.reply.Reply.{Reply}
 use Rattle.rs_packet.specs.declared.reply.Reply.TheVariants as reply
-use Rattle.rs_packet.specs.Values.{PropertiesValue, CodesValue}
-use Rattle.rs_packet.specs.Properties.{two, four, varint, counted, properties, varint_end}
-use Rattle.rs_packet.specs.Grammar.{frame, level, id_bytes, largest}
+use Rattle.rs_field.specs.Values.{PropertiesValue}
+use Rattle.rs_field.specs.Kept.{replayed}
+use Rattle.rs_packet.specs.Values.{CodesValue}
+use Rattle.rs_field.specs.Properties.{two, four, varint, counted, properties, varint_end, IsShort, IsSubscriptionId}
+use Rattle.rs_packet.specs.Grammar.{IdFits, frame, level, id_bytes, largest}
 
-abbrev pub optional : {A : Type 0} → (A → Property) → Option A → List Property
-optional make None = []
-optional make (Some x) = make x ∷ []
+-- how many bytes a payload of this length and the properties of its message take in a PUBLISH without a Subscription Identifier
+abbrev pub message_len : Option ℕ → PropertiesValue → ℕ → ℕ
+message_len expiry kept payload = payload + length (properties (replayed expiry None kept))
 
-abbrev pub user_property : List ℕ × List ℕ → Property
-user_property pair = property.User pair.0 pair.1
-
--- the properties of a message, in rising order of identifier
-abbrev pub replayed : Option ℕ → PropertiesValue → List Property
-replayed expiry p =
-    optional property.Format p.format ++ (optional property.Expiry expiry ++ (optional property.ContentTypeIs p.content_type
-    ++ (optional property.ResponseTopicIs p.response_topic ++ (optional property.Correlation p.correlation ++ map user_property p.user))))
-
--- how many bytes a payload and its properties take in a PUBLISH
 abbrev pub message_size : Option ℕ → PropertiesValue → List ℕ → ℕ
-message_size expiry kept payload = length payload + length (properties (replayed expiry kept))
+message_size expiry kept payload = message_len expiry kept (length payload)
 
 -- 3.2.2.3.3: what the server takes before it has answered
 abbrev pub receive_maximum : ℕ
@@ -41,9 +32,9 @@ abbrev pub client_told : Option (List ℕ) → List ℕ
 client_told None = []
 client_told (Some client) = 0x12 ∷ counted client
 
--- 3.2.2.3.3, 3.2.2.3.6, 3.2.2.3.12, 3.2.2.3.13: the two maxima; neither subscription identifiers nor shared subscriptions
+-- 3.2.2.3.3, 3.2.2.3.6, 3.2.2.3.13: the two maxima; no shared subscriptions
 abbrev pub limits_told : List ℕ
-limits_told = 0x21 ∷ two receive_maximum ++ (0x27 ∷ four largest ++ (0x29 ∷ 0 ∷ 0x2A ∷ 0 ∷ []))
+limits_told = 0x21 ∷ two receive_maximum ++ (0x27 ∷ four largest ++ (0x2A ∷ 0 ∷ []))
 
 -- 3.2.2.3: the properties of an accepting CONNACK, in rising order of identifier
 abbrev pub accepting : Accepted → List ℕ
@@ -71,7 +62,7 @@ first_byte reply.Pingresp = 0xD0
 first_byte (reply.Disconnect code) = 0xE0
 
 abbrev pub publication_body : Publication → List ℕ
-publication_body p = counted p.topic ++ (id_bytes p.id ++ (properties (replayed p.expiry p.properties) ++ p.payload))
+publication_body p = counted p.topic ++ (id_bytes p.id ++ (properties (replayed p.expiry p.subscription p.properties) ++ p.payload))
 
 abbrev pub codes_body : CodesValue → List ℕ
 codes_body c = two c.id ++ 0 ∷ c.codes
@@ -93,6 +84,37 @@ reply_body (reply.Disconnect code) = code ∷ []
 abbrev pub reply_bytes : Reply → List ℕ
 reply_bytes r = frame (first_byte r) (reply_body r)
 
+-- ---- what the types keep
+
+-- the properties of a PUBLISH have their forms (1.5.3, 1.5.4, 1.5.6, 3.8.2.1.2)
+pub record SectionFits (expiry subscription : Option ℕ) (p : PropertiesValue) : Type 0 where
+  pub expiry_fits : IfSome expiry (λ n. n < 2 ^ 32)
+  pub content_type_fits : IfSome p.content_type IsShort
+  pub response_topic_fits : IfSome p.response_topic IsShort
+  pub correlation_fits : IfSome p.correlation IsShort
+  pub subscription_fits : IfSome subscription IsSubscriptionId
+  pub user_fits : All (λ pair. IsShort pair.0 × IsShort pair.1) p.user
+
+-- 3.3.2: and so have its topic and its identifier
+pub record PublishFits (p : Publication) : Type 0 where
+  pub topic_fits : IsShort p.topic
+  pub id_fits : IdFits p.qos p.id
+  pub section_fits : SectionFits p.expiry p.subscription p.properties
+
+-- the fields of a reply have their forms
+abbrev pub ReplyFits : Reply → Type 0
+ReplyFits (reply.Accepted a) = IfSome a.assigned_client IsShort
+ReplyFits (reply.Refused code) = Unit {0}
+ReplyFits (reply.Publish p) = PublishFits p
+ReplyFits (reply.Puback id code) = id < 2 ^ 16
+ReplyFits (reply.Pubrec id code) = id < 2 ^ 16
+ReplyFits (reply.Pubrel id code) = id < 2 ^ 16
+ReplyFits (reply.Pubcomp id code) = id < 2 ^ 16
+ReplyFits (reply.Suback codes) = codes.id < 2 ^ 16
+ReplyFits (reply.Unsuback codes) = codes.id < 2 ^ 16
+ReplyFits reply.Pingresp = Unit {0}
+ReplyFits (reply.Disconnect code) = Unit {0}
+
 -- what has a spelling
 abbrev pub HasSpelling : Reply → Type 0
 HasSpelling r = length (reply_body r) < varint_end
@@ -100,3 +122,4 @@ HasSpelling r = length (reply_body r) < varint_end
 pub record SpellsReply (bytes : List ℕ) (r : Reply) : Type 0 where
   pub fields : bytes ≡ reply_bytes r
   pub small : HasSpelling r
+  pub fits : ReplyFits r

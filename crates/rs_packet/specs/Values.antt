@@ -3,28 +3,7 @@ use Rattle.std.specs.Prelude.{ℕ, List, Bool, Option, Result}
 use Rattle.rs_topic.specs.declared.text.TopicFault.{TopicFault}
 use Rattle.rs_packet.specs.declared.packet.Qos.{Qos}
 use Rattle.rs_packet.specs.declared.packet.Options.{Options}
-
-pub record FoundValue : Type 0 where
-  pub format : Option ℕ
-  pub expiry : Option ℕ
-  pub content_type : Option (List ℕ)
-  pub response_topic : Option (List ℕ)
-  pub correlation : Option (List ℕ)
-  pub subscription : Option ℕ
-  pub session_expiry : Option ℕ
-  pub method : Option (List ℕ)
-  pub authentication : Bool
-  pub receive_maximum : Option ℕ
-  pub alias : Option ℕ
-  pub user : List (List ℕ × List ℕ)
-  pub packet_maximum : Option ℕ
-
-pub record PropertiesValue : Type 0 where
-  pub format : Option ℕ
-  pub content_type : Option (List ℕ)
-  pub response_topic : Option (List ℕ)
-  pub correlation : Option (List ℕ)
-  pub user : List (List ℕ × List ℕ)
+use Rattle.rs_field.specs.Values.{PropertiesValue}
 
 pub record PublishValue : Type 0 where
   pub duplicate : Bool
@@ -51,6 +30,7 @@ pub record PublicationValue : Type 0 where
   pub topic : List ℕ
   pub qos : Qos
   pub id : Option ℕ
+  pub subscription : Option ℕ
   pub expiry : Option ℕ
   pub properties : PropertiesValue
   pub payload : List ℕ

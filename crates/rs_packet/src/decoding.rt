@@ -5,23 +5,25 @@ ghost use Rattle.rs_packet.specs.declared.packet.Packet.{Packet};
 ghost use Rattle.rs_packet.specs.declared.reply.Reply.{Reply};
 ghost use Rattle.rs_packet.specs.Replies.{SpellsReply};
 ghost use Rattle.rs_packet.specs.Grammar.{IdFits, IsAtFront, Spells};
-ghost use Rattle.rs_packet.specs.PacketReading.{Gives, id_at, id_for, publish_at, ended, code_at, acknowledgement_at, options_of, asked_at, all_in, some_of, subscribe_at, filter_at, unsubscribe_at, flags_of, mqtt, version_at, past_text, past_binary, client_at, connect_at, packet_at, body_at, answer};
-ghost use Rattle.rs_packet.specs.declared.fault.PacketFault.{PacketFault};
-ghost use Rattle.rs_packet.specs.declared.fault.PacketFault.TheVariants.{NoMemory};
+ghost use Rattle.rs_packet.specs.PacketReading.{Gives, id_at, id_for, publish_at, ended, code_at, acknowledgement_at, subscribe_at, unsubscribe_at, flags_of, mqtt, version_at, past_text, past_binary, client_at, connect_at, packet_at, body_at, answer};
+ghost use Rattle.rs_field.specs.declared.fault.PacketFault.{PacketFault};
+ghost use Rattle.rs_field.specs.declared.fault.PacketFault.TheVariants.{NoMemory};
 ghost use Rattle.rs_packet.specs.Fronts.{IsMore, IsFaulty};
-ghost use Rattle.rs_packet.specs.Reading.{IsEnd};
+ghost use Rattle.rs_field.specs.Reading.{IsEnd};
 ghost use Rattle.std.specs.Str.{bytes_eq};
 
-use crate::fault::PacketFault;
+use crate::filters::all_items;
 use crate::packet::{
-    Acknowledgement, Connect, Decoded, Flags, Kind, Options, Packet, PacketId, Publish, Qos,
-    RetainHandling, Subscribe, Unsubscribe,
+    Acknowledgement, Connect, Decoded, Flags, Kind, Packet, PacketId, Publish, Qos, Subscribe,
+    Unsubscribe,
 };
-use crate::property::{Found, Place, Properties};
-use crate::reading::{Cut, binary_of, byte_of, digits, found_of, note_octets, text_of, two_of};
 use crate::reply::PACKET_MAXIMUM;
 use bytes::Bytes;
-use rs_topic::{Text, TopicFault, TopicFilter, TopicName};
+use rs_field::{
+    Cut, Found, PacketFault, Place, Properties, binary_of, byte_of, digits, found_of, note_octets,
+    text_of, two_of,
+};
+use rs_topic::{Text, TopicName};
 use std::alloc::Global;
 
 #[tactic(auto, unfolding(crate::specs::PacketReading::id_at))]
@@ -121,61 +123,6 @@ fn acknowledgement_of(alloc: Global, body: Bytes) -> Result<Acknowledgement, Pac
     Ok(Acknowledgement { id, code })
 }
 
-#[tactic(auto, unfolding(crate::specs::PacketReading::options_of))]
-fn options(byte: u8) -> Result<Options, PacketFault>
-    ensures { Gives (λ o. o) result (options_of byte) }
-{
-    if byte >= 64 {
-        return Err(PacketFault::Malformed);
-    }
-    let qos = match byte % 4 {
-        0 => Qos::AtMostOnce,
-        1 => Qos::AtLeastOnce,
-        2 => Qos::ExactlyOnce,
-        _ => return Err(PacketFault::Protocol),
-    };
-    let retain_handling = match byte / 16 {
-        0 => RetainHandling::Always,
-        1 => RetainHandling::IfNew,
-        2 => RetainHandling::Never,
-        _ => return Err(PacketFault::Protocol),
-    };
-    Ok(Options {
-        qos,
-        no_local: byte / 4 % 2 == 1,
-        retain_as_published: byte / 8 % 2 == 1,
-        retain_handling,
-    })
-}
-
-#[tactic(auto, unfolding(crate::specs::PacketReading::asked_at))]
-fn asked_of(rest: &mut Bytes) -> Result<(Result<TopicFilter, TopicFault>, Options), PacketFault>
-    ensures read { Gives (λ a. (a, rest.new)) result (asked_at rest.old) }
-    ensures shorter { OnOk result (length rest.new < length rest.old) }
-{
-    let text = text_of(rest)?;
-    let byte = byte_of(rest)?;
-    let options = options(byte)?;
-    Ok((TopicFilter::of(text), options))
-}
-
-fn all_asked(
-    alloc: Global,
-    body: Bytes,
-) -> Result<Vec<(Result<TopicFilter, TopicFault>, Options)>, PacketFault>
-    ensures read { Gives (λ v. v.items) result (all_in asked_at (length body) body) }
-    ensures few { IfOk result (λ v. length v.items ≤ length body) }
-    ensures some { IfOk result (λ v. 0 < length body → 0 < length v.items) }
-{
-    let mut all = Vec::new(alloc);
-    let mut rest = body;
-    'next: while !rest.is_empty() {
-        let asked = asked_of(&mut rest)?;
-        all.push(asked)?;
-    }
-    Ok(all)
-}
-
 #[tactic(auto, unfolding(crate::specs::PacketReading::subscribe_at))]
 fn subscribe_of(alloc: Global, body: Bytes) -> Result<Subscribe, PacketFault>
     requires { length body ≤ 262144 }
@@ -188,38 +135,12 @@ fn subscribe_of(alloc: Global, body: Bytes) -> Result<Subscribe, PacketFault>
         return Err(PacketFault::Protocol);
     }
     let subscription = found.subscription;
-    let filters = all_asked(alloc, rest)?;
+    let filters = all_items(alloc, rest)?;
     Ok(Subscribe {
         id,
         subscription,
         filters,
     })
-}
-
-#[tactic(auto, unfolding(crate::specs::PacketReading::filter_at))]
-fn filter_of_text(rest: &mut Bytes) -> Result<Result<TopicFilter, TopicFault>, PacketFault>
-    ensures read { Gives (λ a. (a, rest.new)) result (filter_at rest.old) }
-    ensures shorter { OnOk result (length rest.new < length rest.old) }
-{
-    let text = text_of(rest)?;
-    Ok(TopicFilter::of(text))
-}
-
-fn all_filters(
-    alloc: Global,
-    body: Bytes,
-) -> Result<Vec<Result<TopicFilter, TopicFault>>, PacketFault>
-    ensures read { Gives (λ v. v.items) result (all_in filter_at (length body) body) }
-    ensures few { IfOk result (λ v. length v.items ≤ length body) }
-    ensures some { IfOk result (λ v. 0 < length body → 0 < length v.items) }
-{
-    let mut all = Vec::new(alloc);
-    let mut rest = body;
-    'next: while !rest.is_empty() {
-        let filter = filter_of_text(&mut rest)?;
-        all.push(filter)?;
-    }
-    Ok(all)
 }
 
 #[tactic(auto, unfolding(crate::specs::PacketReading::unsubscribe_at))]
@@ -233,7 +154,7 @@ fn unsubscribe_of(alloc: Global, body: Bytes) -> Result<Unsubscribe, PacketFault
     if rest.is_empty() {
         return Err(PacketFault::Protocol);
     }
-    let filters = all_filters(alloc, rest)?;
+    let filters = all_items(alloc, rest)?;
     Ok(Unsubscribe { id, filters })
 }
 
@@ -438,10 +359,12 @@ pub fn decode(alloc: Global, bytes: &Bytes) -> Result<Decoded, PacketFault>
     decoded(alloc, bytes)
 }
 
-/// No spelling of a packet begins another one, and no spelling of a reply begins another one (2.1).
+/// No spelling of a packet begins another one, no spelling of a reply begins another one (2.1), and a
+/// spelling is of one reply.
 pub fn wire_law()
     ensures packets { (a b x y : List ℕ) (p q : Packet) → Spells a p → Spells b q → a ++ x ≡ b ++ y → (a ≡ b) × (x ≡ y) }
     ensures replies { (a b x y : List ℕ) (r s : Reply) → SpellsReply a r → SpellsReply b s → a ++ x ≡ b ++ y → (a ≡ b) × (x ≡ y) }
+    ensures one_reply { (a b x y : List ℕ) (r s : Reply) → SpellsReply a r → SpellsReply b s → a ++ x ≡ b ++ y → r ≡ s }
 {}
 
 /// Bytes spell at most one packet at their front, and where they spell one neither a fault (want of

@@ -7,8 +7,8 @@ ghost use Rattle.rs_packet.specs.PacketReading.{answer};
 ghost use Rattle.rs_packet.specs.Fronts.{IsMore};
 
 use crate::packet::Kind;
-use crate::reading::{Cut, digits, note_octets};
 use crate::reply::PACKET_MAXIMUM;
+use rs_field::{Cut, digits, note_octets};
 
 /// How many bytes to hold before the next attempt to decode the packet at the front, by its first
 /// five bytes at most (2.1.1, 2.1.4). Until its whole length is there, that is one more than are

@@ -7,28 +7,26 @@
 //! Promised by contracts: `decode` takes a packet exactly where the grammar of the standard spells one at the front, and answers
 //! the first fault from left to right where there is one; only want of memory comes in the place of these answers. A fault stays,
 //! whatever follows, and bytes spell at most one packet at their front (`one_reading`). `encode` gives the one spelling of a reply;
-//! no spelling begins another one (`wire_law`).
+//! no spelling begins another one, and none is of two replies (`wire_law`). `publish_len` tells the length of a PUBLISH before it
+//! is made.
 #![tactic(auto)]
 
 mod decoding;
-mod fault;
+mod filters;
 mod front;
 mod packet;
-mod property;
-mod reading;
 mod reply;
 mod writing;
 
 pub use decoding::{decode, one_reading, wire_law};
-pub use fault::PacketFault;
 pub use front::front_len;
 pub use packet::{
     Acknowledgement, Connect, Decoded, Options, Packet, PacketId, Publish, Qos, RetainHandling,
     Subscribe, Unsubscribe,
 };
-pub use property::Properties;
 pub use reply::{Accepted, Codes, PACKET_MAXIMUM, Publication, RECEIVE_MAXIMUM, Reply};
-pub use writing::{encode, encoded_len};
+pub use rs_field::{PacketFault, Properties, SubscriptionId};
+pub use writing::{encode, encoded_len, publish_len};
 
 #[cfg(test)]
 mod tests;

@@ -1,8 +1,7 @@
 //! The packets that a client sends.
 
-use crate::fault::PacketFault;
-use crate::property::Properties;
 use bytes::Bytes;
+use rs_field::{PacketFault, Properties, SubscriptionId};
 use rs_topic::{Text, TopicFault, TopicFilter, TopicName};
 use std::marker::Model;
 
@@ -25,7 +24,7 @@ impl Model for PacketId {
 }
 
 impl PacketId {
-    ghost use Rattle.std.specs.Prelude.{◌≡◌, ◌<◌, ◌==◌, if◌then◌else◌, Some, None};
+    ghost use Rattle.std.specs.Prelude.{◌≡◌, ◌<◌, ◌^◌, ◌==◌, if◌then◌else◌, Some, None};
 
     /// None where the number is 0.
     pub fn new(number: u16) -> Option<PacketId>
@@ -41,6 +40,7 @@ impl PacketId {
     pub fn get(self) -> u16
         ensures value { result ≡ self }
         ensures some { 0 < result }
+        ensures fits { self < 2 ^ 16 }
     {
         self.number
     }
@@ -219,8 +219,8 @@ pub struct Acknowledgement {
 pub struct Subscribe {
     /// The packet identifier (3.8.2), which the SUBACK repeats.
     pub id: PacketId,
-    /// The Subscription Identifier (3.8.2.1.2) as sent, 0 too, which the standard forbids.
-    pub subscription: Option<u32>,
+    /// The Subscription Identifier (3.8.2.1.2), of all the filters.
+    pub subscription: Option<SubscriptionId>,
     /// Each filter, or why the text is none, and its options (3.8.3).
     pub filters: Vec<(Result<TopicFilter, TopicFault>, Options)>,
 }

@@ -1,8 +1,8 @@
 //! What the server sends.
 
 use crate::packet::{PacketId, Qos};
-use crate::property::Properties;
 use bytes::Bytes;
+use rs_field::{Properties, SubscriptionId, in_range};
 use rs_topic::{Text, TopicName};
 use std::marker::Model;
 
@@ -32,6 +32,8 @@ pub struct Publication {
     pub qos: Qos,
     /// The packet identifier, where QoS is 1 or 2 (3.3.2.2).
     pub id: Option<PacketId>,
+    /// The Subscription Identifier of the subscription that it answers (3.3.2.3.8), where that has one.
+    pub subscription: Option<SubscriptionId>,
     /// The seconds left (3.3.2.3.3); None where the message does not expire.
     pub expiry: Option<u32>,
     /// The other properties of the message (3.3.2.3), sent in rising order of identifier.
@@ -51,6 +53,7 @@ impl Model for Publication {
       topic = p.topic;
       qos = p.qos;
       id = p.id;
+      subscription = p.subscription;
       expiry = p.expiry;
       properties = p.properties;
       payload = p.payload;
@@ -60,6 +63,7 @@ impl Model for Publication {
       topic = p.topic;
       qos = p.qos;
       id = p.id;
+      subscription = p.subscription;
       expiry = p.expiry;
       properties = p.properties;
       payload = p.payload;
@@ -72,26 +76,29 @@ impl Publication {
     ghost use Rattle.rs_packet.specs.Grammar.{IdFits};
     ghost use Rattle.rs_packet.specs.Replies.{message_size};
 
-    /// A PUBLISH (3.3) with an identifier where QoS is 1 or 2, whose payload and properties take at
-    /// most 262,144 bytes.
+    /// A PUBLISH (3.3) with an identifier where QoS is 1 or 2, whose payload and properties, without
+    /// the Subscription Identifier, take at most 262,144 bytes.
     #[tactic(auto, using(crate::proofs::WritingLemmas::publication_small))]
     pub fn new(
         topic: TopicName,
         qos: Qos,
         id: Option<PacketId>,
+        subscription: Option<SubscriptionId>,
         expiry: Option<u32>,
         properties: Properties,
         payload: Bytes,
     ) -> Publication
         requires id_fits { IdFits qos id }
         requires message_fits { message_size expiry properties payload ≤ 262144 }
-        ensures { result ≡ record { topic = topic; qos = qos; id = id; expiry = expiry; properties = properties; payload = payload } }
+        ensures { result ≡ record { topic = topic; qos = qos; id = id; subscription = subscription; expiry = expiry; properties = properties; payload = payload } }
     {
+        let subscription = in_range(subscription);
         let _topic = topic.as_bytes();
         Publication {
             topic,
             qos,
             id,
+            subscription,
             expiry,
             properties,
             payload,

@@ -1,19 +1,20 @@
 //! Writing the replies.
 
-ghost use Rattle.std.specs.Prelude.{◌≡◌, ◌+◌, ◌*◌, ◌<◌, ◌≤◌, ◌^◌, ◌++◌, [], ◌∷◌, length, map, take, ℕ, OnOk, IfOk, IfSome};
-ghost use Rattle.std.specs.List.{flat_map};
-ghost use Rattle.rs_packet.specs.Properties.{varint, two, four, counted, spelled, properties};
-ghost use Rattle.rs_packet.specs.Grammar.{frame, id_bytes, level};
-ghost use Rattle.rs_packet.specs.Replies.{codes_body, publication_body, acknowledging, reply_body, reply_bytes, HasSpelling, SpellsReply, optional, user_property, replayed, expiry_told, client_told, limits_told, accepting, accepted_body};
+ghost use Rattle.std.specs.Prelude.{◌≡◌, ◌+◌, ◌*◌, ◌<◌, ◌≤◌, ◌^◌, ◌++◌, [], ◌∷◌, length, map, take, ℕ, List, Option, OnOk, IfOk, IfSome, if◌then◌else◌};
+ghost use Rattle.std.specs.List.{All, flat_map};
+ghost use Rattle.rs_field.specs.Properties.{varint, two, four, counted, spelled, properties, IsShort, IsSubscriptionId};
+ghost use Rattle.rs_packet.specs.Grammar.{IdFits, frame, id_bytes, level};
+ghost use Rattle.rs_field.specs.Kept.{optional, user_property, replayed};
+ghost use Rattle.rs_packet.specs.Replies.{codes_body, publication_body, acknowledging, reply_body, reply_bytes, HasSpelling, SectionFits, PublishFits, ReplyFits, SpellsReply, message_len, expiry_told, client_told, limits_told, accepting, accepted_body};
 
-use crate::packet::PacketId;
-use crate::property::{Properties, Property};
+use crate::packet::{PacketId, Qos};
 use crate::reply::{Accepted, Codes, PACKET_MAXIMUM, Publication, RECEIVE_MAXIMUM, Reply};
 use bytes::Bytes;
-use rs_topic::Text;
+use rs_field::{Properties, Property, SubscriptionId};
+use rs_topic::{Text, TopicName};
 use std::alloc::{AllocError, Global};
 
-#[tactic(auto, unfolding(crate::specs::Properties::low_first))]
+#[tactic(auto, unfolding(rs_field::specs::Forms::low_first))]
 fn varint_len(n: usize) -> usize
     requires { n < 2 ^ 28 }
     ensures value { result ≡ length (varint n) }
@@ -152,15 +153,34 @@ fn put_user(out: &mut Vec<u8>, user: &[(Text, Text)]) -> Result<(), AllocError>
     Ok(())
 }
 
-#[tactic(auto, using(crate::proofs::WritingLemmas::replayed_parts))]
-fn put_section(out: &mut Vec<u8>, expiry: Option<u32>, kept: &Properties) -> Result<(), AllocError>
-    ensures { OnOk result (out.new.items ≡ out.old.items ++ flat_map spelled (replayed expiry kept.now)) }
+fn put_subscription(
+    out: &mut Vec<u8>,
+    subscription: Option<SubscriptionId>,
+) -> Result<(), AllocError>
+    ensures { OnOk result (out.new.items ≡ out.old.items ++ flat_map spelled (optional Property.Subscription subscription)) }
+{
+    if let Some(id) = subscription {
+        out.push(0x0B)?;
+        put_varint(out, id.get() as usize)?;
+    }
+    Ok(())
+}
+
+#[tactic(auto, using(rs_field::proofs::Replayed::replayed_parts))]
+fn put_section(
+    out: &mut Vec<u8>,
+    expiry: Option<u32>,
+    subscription: Option<SubscriptionId>,
+    kept: &Properties,
+) -> Result<(), AllocError>
+    ensures { OnOk result (out.new.items ≡ out.old.items ++ flat_map spelled (replayed expiry subscription kept.now)) }
 {
     put_format(out, kept.format)?;
     put_expiry(out, expiry)?;
     put_content_type(out, &kept.content_type)?;
     put_response_topic(out, &kept.response_topic)?;
     put_correlation(out, &kept.correlation)?;
+    put_subscription(out, subscription)?;
     put_user(out, &kept.user)?;
     Ok(())
 }
@@ -168,13 +188,15 @@ fn put_section(out: &mut Vec<u8>, expiry: Option<u32>, kept: &Properties) -> Res
 fn pair_len(pair: &(Text, Text)) -> usize
     ensures value { result ≡ length (spelled (user_property pair.now)) }
     ensures small { result < 2 ^ 18 }
+    ensures fits { IsShort pair.now.0 × IsShort pair.now.1 }
 {
     5 + pair.0.as_bytes().len() + pair.1.as_bytes().len()
 }
 
 fn user_len(user: &[(Text, Text)]) -> usize
     requires { length (flat_map spelled (map user_property user.now)) < 2 ^ 28 }
-    ensures { result ≡ length (flat_map spelled (map user_property user.now)) }
+    ensures value { result ≡ length (flat_map spelled (map user_property user.now)) }
+    ensures fits { All (λ pair. IsShort pair.0 × IsShort pair.1) user.now }
 {
     let mut len: usize = 0;
     for pair in user {
@@ -189,9 +211,32 @@ fn text_len(text: &Option<Text>) -> usize
     ensures response_topic { result ≡ length (flat_map spelled (optional Property.ResponseTopicIs text.now)) }
     ensures client { result ≡ length (client_told text.now) }
     ensures small { result < 2 ^ 17 }
+    ensures fits { IfSome text.now IsShort }
 {
     match text {
         Some(text) => 3 + text.as_bytes().len(),
+        None => 0,
+    }
+}
+
+fn expiry_len(expiry: Option<u32>) -> usize
+    ensures value { result ≡ length (flat_map spelled (optional Property.Expiry expiry)) }
+    ensures small { result ≤ 5 }
+    ensures fits { IfSome expiry (λ n. n < 2 ^ 32) }
+{
+    match expiry {
+        Some(_n) => 5,
+        None => 0,
+    }
+}
+
+fn subscription_len(subscription: Option<SubscriptionId>) -> usize
+    ensures value { result ≡ length (flat_map spelled (optional Property.Subscription subscription)) }
+    ensures small { result ≤ 5 }
+    ensures fits { IfSome subscription IsSubscriptionId }
+{
+    match subscription {
+        Some(id) => 1 + varint_len(id.get() as usize),
         None => 0,
     }
 }
@@ -208,28 +253,45 @@ fn correlation_len(correlation: &Option<Bytes>) -> usize
 }
 
 /// How many bytes the properties of a PUBLISH take.
-#[tactic(auto, using(crate::proofs::WritingLemmas::length_replayed))]
-fn section_len(expiry: Option<u32>, kept: &Properties) -> usize
-    requires { length (flat_map spelled (replayed expiry kept.now)) < 2 ^ 28 }
-    ensures { result ≡ length (flat_map spelled (replayed expiry kept.now)) }
+#[tactic(auto, using(rs_field::proofs::Replayed::length_replayed))]
+fn section_len(
+    expiry: Option<u32>,
+    subscription: Option<SubscriptionId>,
+    kept: &Properties,
+) -> usize
+    requires { length (flat_map spelled (replayed expiry subscription kept.now)) < 2 ^ 28 }
+    ensures value { result ≡ length (flat_map spelled (replayed expiry subscription kept.now)) }
+    ensures fits { SectionFits expiry subscription kept.now }
 {
     let format = if kept.format.is_some() { 2 } else { 0 };
-    let expiry = if expiry.is_some() { 5 } else { 0 };
+    let expiry = expiry_len(expiry);
     let texts = text_len(&kept.content_type) + text_len(&kept.response_topic);
-    format + expiry + texts + correlation_len(&kept.correlation) + user_len(&kept.user)
+    let correlation = correlation_len(&kept.correlation) + subscription_len(subscription);
+    format + expiry + texts + correlation + user_len(&kept.user)
+}
+
+/// How many bytes the body of a PUBLISH takes, by the length of its properties and of its payload.
+fn around_len(topic: &TopicName, with_id: bool, section: usize, payload: usize) -> usize
+    requires section_fits { section < 2 ^ 28 }
+    requires payload_fits { payload < 2 ^ 28 }
+    ensures value { result ≡ 2 + length topic.now + (if with_id then 2 else 0) + length (varint section) + section + payload }
+    ensures topic_fits { length topic.now < 2 ^ 16 }
+{
+    let id = if with_id { 2 } else { 0 };
+    2 + topic.as_bytes().len() + id + varint_len(section) + section + payload
 }
 
 /// How many bytes the body of a PUBLISH takes, and how many of them its properties.
 #[tactic(auto, using(crate::proofs::WritingLemmas::length_body, crate::proofs::WritingLemmas::section_small))]
 fn body_len(p: &Publication) -> (usize, usize)
-    ensures section { result.1 ≡ length (flat_map spelled (replayed p.now.expiry p.now.properties)) }
+    ensures section { result.1 ≡ length (flat_map spelled (replayed p.now.expiry p.now.subscription p.now.properties)) }
     ensures body { result.0 ≡ length (publication_body p.now) }
     ensures small { result.0 < 2 ^ 28 }
     ensures section_small { result.1 < 2 ^ 28 }
+    ensures fits { PublishFits p.now }
 {
-    let section = section_len(p.expiry, &p.properties);
-    let id = if p.id.is_some() { 2 } else { 0 };
-    let len = 2 + p.topic.as_bytes().len() + id + varint_len(section) + section + p.payload.len();
+    let section = section_len(p.expiry, p.subscription, &p.properties);
+    let len = around_len(&p.topic, p.id.is_some(), section, p.payload.len());
     (len, section)
 }
 
@@ -252,7 +314,7 @@ fn put_publication(out: &mut Vec<u8>, p: &Publication) -> Result<(), AllocError>
     put_counted(out, p.topic.as_bytes())?;
     put_id(out, p.id)?;
     put_varint(out, section)?;
-    put_section(out, p.expiry, &p.properties)?;
+    put_section(out, p.expiry, p.subscription, &p.properties)?;
     out.extend_from_slice(p.payload.as_slice())?;
     Ok(())
 }
@@ -283,7 +345,7 @@ fn put_limits_told(out: &mut Vec<u8>) -> Result<(), AllocError>
     put_two(out, RECEIVE_MAXIMUM)?;
     out.push(0x27)?;
     out.extend_from_slice(&PACKET_MAXIMUM.to_be_bytes())?;
-    out.extend_from_slice(&[0x29, 0, 0x2A, 0])?;
+    out.extend_from_slice(&[0x2A, 0])?;
     Ok(())
 }
 
@@ -292,9 +354,10 @@ fn put_limits_told(out: &mut Vec<u8>) -> Result<(), AllocError>
 fn accepting_len(a: &Accepted) -> usize
     ensures value { result ≡ length (accepting a.now) }
     ensures small { result < 2 ^ 18 }
+    ensures fits { IfSome a.now.assigned_client IsShort }
 {
     let expiry = if a.session_expiry_zero { 5 } else { 0 };
-    expiry + text_len(&a.assigned_client) + 12
+    expiry + text_len(&a.assigned_client) + 10
 }
 
 /// How many bytes the body of an accepting CONNACK takes.
@@ -302,6 +365,7 @@ fn accepting_len(a: &Accepted) -> usize
 fn accepted_len(a: &Accepted) -> usize
     ensures value { result ≡ length (accepted_body a.now) }
     ensures small { result < 2 ^ 28 }
+    ensures fits { IfSome a.now.assigned_client IsShort }
 {
     let section = accepting_len(a);
     2 + varint_len(section) + section
@@ -371,27 +435,39 @@ fn put(out: &mut Vec<u8>, reply: &Reply) -> Result<(), AllocError>
 fn reply_len(reply: &Reply) -> usize
     ensures value { result ≡ length (reply_body reply.now) }
     ensures small { result < 2 ^ 28 }
+    ensures fits { ReplyFits reply.now }
 {
     match reply {
         Reply::Accepted(a) => accepted_len(a),
         Reply::Refused(_code) => 3,
         Reply::Publish(p) => body_len(p).0,
-        Reply::Puback(_id, code) => acknowledgement_len(*code),
-        Reply::Pubrec(_id, code) => acknowledgement_len(*code),
-        Reply::Pubrel(_id, code) => acknowledgement_len(*code),
-        Reply::Pubcomp(_id, code) => acknowledgement_len(*code),
-        Reply::Suback(codes) => 3 + codes.codes.len(),
-        Reply::Unsuback(codes) => 3 + codes.codes.len(),
+        Reply::Puback(id, code) => acknowledgement_len(*id, *code),
+        Reply::Pubrec(id, code) => acknowledgement_len(*id, *code),
+        Reply::Pubrel(id, code) => acknowledgement_len(*id, *code),
+        Reply::Pubcomp(id, code) => acknowledgement_len(*id, *code),
+        Reply::Suback(codes) => codes_len(codes),
+        Reply::Unsuback(codes) => codes_len(codes),
         Reply::Pingresp => 0,
         Reply::Disconnect(_code) => 1,
     }
 }
 
-fn acknowledgement_len(code: u8) -> usize
-    ensures value { (id : ℕ) → result ≡ length (acknowledging id code) }
+fn acknowledgement_len(id: PacketId, code: u8) -> usize
+    ensures value { result ≡ length (acknowledging id code) }
     ensures small { result ≤ 3 }
+    ensures fits { id < 2 ^ 16 }
 {
+    let _number = id.get();
     if code == 0 { 2 } else { 3 }
+}
+
+fn codes_len(codes: &Codes) -> usize
+    ensures value { result ≡ length (codes_body codes.now) }
+    ensures small { result < 2 ^ 28 }
+    ensures fits { codes.now.id < 2 ^ 16 }
+{
+    let _number = codes.id.get();
+    3 + codes.codes.len()
 }
 
 /// How many bytes a reply takes, 5 more than its body at most (2.1.4).
@@ -399,15 +475,37 @@ fn acknowledgement_len(code: u8) -> usize
 pub fn encoded_len(reply: &Reply) -> usize
     ensures value { result ≡ length (reply_bytes reply.now) }
     ensures small { HasSpelling reply.now }
+    ensures fits { ReplyFits reply.now }
 {
     let len = reply_len(reply);
+    1 + varint_len(len) + len
+}
+
+/// How many bytes a PUBLISH takes: `encoded_len` of each with this topic, payload length, properties,
+/// quality, interval and Subscription Identifier, and a packet identifier where QoS is 1 or 2 (3.3).
+/// Payload and properties, without the Subscription Identifier, take at most 262,144 bytes, as in
+/// `Publication::new`. Nothing is allocated.
+pub fn publish_len(
+    topic: &TopicName,
+    payload: usize,
+    properties: &Properties,
+    qos: Qos,
+    expiry: Option<u32>,
+    subscription: Option<SubscriptionId>,
+) -> usize
+    requires { message_len expiry properties.now payload ≤ 262144 }
+    ensures value { (id : Option ℕ) (bytes : List ℕ) → IdFits qos id → length bytes ≡ payload → result ≡ length (reply_bytes (Reply.Publish (record { topic = topic.now; qos = qos; id = id; subscription = subscription; expiry = expiry; properties = properties.now; payload = bytes }))) }
+    ensures small { result < 2 ^ 19 }
+{
+    let section = section_len(expiry, subscription, properties);
+    let len = around_len(topic, qos.level() > 0, section, payload);
     1 + varint_len(len) + len
 }
 
 /// The one spelling of a reply, which is refused only where memory is.
 pub fn encode(alloc: Global, reply: &Reply) -> Result<Bytes, AllocError>
     ensures bytes { IfOk result (λ b. b ≡ reply_bytes reply.now) }
-    // No spelling of a reply begins another one.
+    // No spelling of a reply begins another one, and no two replies have one spelling (`wire_law`).
     ensures spelled { IfOk result (λ b. SpellsReply b reply.now) }
 {
     let mut out = Vec::with_capacity(alloc, encoded_len(reply))?;

@@ -5,12 +5,18 @@ use rs_server::Served;
 /// A CONNECT of the client `a` that accepts all defaults.
 pub const CONNECT: &str = "100E00044D5154540502003C00000161";
 
-/// The CONNACK to it.
-pub const CONNACK: &str = "200F00000C210010270004000029002A00";
+/// The same with a Receive Maximum of 1.
+pub const RECEIVE_MAXIMUM_1: &str = "101100044D5154540502003C03210001000161";
+
+/// The same with a Maximum Packet Size of 20.
+pub const MAXIMUM_PACKET_SIZE_20: &str = "101300044D5154540502003C052700000014000161";
+
+/// The CONNACK to each of them.
+pub const CONNACK: &str = "200D00000A21001027000400002A00";
 
 /// What one connection over an empty store sends, after a CONNECT; the moments of its packets; what it
 /// gets after the CONNACK; and how it ends.
-pub const CONNECTED: [(&str, [u64; 3], &str, &str, Served); 28] = [
+pub const CONNECTED: [(&str, [u64; 3], &str, &str, Served); 52] = [
     ("accept", [0, 0, 0], "", "", Served::EndOfInput),
     (
         "first run",
@@ -161,25 +167,11 @@ pub const CONNECTED: [(&str, [u64; 3], &str, &str, Served); 28] = [
         Served::ServerClosed(0x82),
     ),
     (
-        "a subscription identifier",
+        "the subscription identifier 0",
         [0, 0, 0],
-        "820B 0001 020B01 0003612F23 00",
-        "E001A1",
-        Served::ServerClosed(0xA1),
-    ),
-    (
-        "retain handling that is not served yet",
-        [0, 0, 0],
-        "310700 03612F62 0078 8209 0001 00 0003612F23 10 8209 0002 00 0003612F23 20",
-        "9004 0001 00 83 9004 0002 00 83",
-        Served::EndOfInput,
-    ),
-    (
-        "a PUBLISH of QoS 1",
-        [0, 0, 0],
-        "330700 0161 0001 0031",
-        "E00183",
-        Served::ServerClosed(0x83),
+        "820B 0001 020B00 0003612F23 00",
+        "E00182",
+        Served::ServerClosed(0x82),
     ),
     (
         "granted QoS",
@@ -195,10 +187,192 @@ pub const CONNECTED: [(&str, [u64; 3], &str, &str, Served); 28] = [
         "E00195",
         Served::ServerClosed(0x95),
     ),
+    (
+        "retain handling",
+        [0, 0, 0],
+        "3107 0003612F62 00 78 8209 0001 00 0003612F23 10 8209 0002 00 0003612F23 10 8209 0003 00 0003612F23 00 8209 0004 00 0003612F23 20",
+        "9004 0001 00 00 3107 0003612F62 00 78 9004 0002 00 00 9004 0003 00 00 3107 0003612F62 00 78 9004 0004 00 00",
+        Served::EndOfInput,
+    ),
+    (
+        "QoS 1 and 2 published without RETAIN",
+        [0, 0, 0],
+        "3207 000161 0001 00 31 3407 000161 0002 00 31 8207 0001 00 000123 00",
+        "4002 0001 5002 0002 9004 0001 00 00",
+        Served::EndOfInput,
+    ),
+    (
+        "published at QoS 2, granted 1",
+        [0, 0, 0],
+        "3507 000161 0001 00 31 8207 0001 00 000123 01",
+        "5002 0001 9004 0001 00 01 3307 000161 0001 00 31",
+        Served::EndOfInput,
+    ),
+    (
+        "published at QoS 1, granted 2",
+        [0, 0, 0],
+        "3307 000161 0001 00 31 8207 0001 00 000123 02",
+        "4002 0001 9004 0001 00 02 3307 000161 0001 00 31",
+        Served::EndOfInput,
+    ),
+    (
+        "unsubscribe",
+        [0, 0, 0],
+        "8209 0001 00 0003612F23 00 A208 0002 00 0003612F23 A208 0003 00 0003612F23",
+        "9004 0001 00 00 B004 0002 00 00 B004 0003 00 11",
+        Served::EndOfInput,
+    ),
+    (
+        "unsubscribe: a shared filter and a bad one",
+        [0, 0, 0],
+        "A213 0001 00 000A2473686172652F672F61 00026123",
+        "B005 0001 00 11 8F",
+        Served::EndOfInput,
+    ),
+    (
+        "PUBREL of an unknown identifier",
+        [0, 0, 0],
+        "6202 0007",
+        "7003 0007 92",
+        Served::EndOfInput,
+    ),
+    (
+        "retain handling 1 after UNSUBSCRIBE",
+        [0, 0, 0],
+        "3107 0003612F62 00 78 8209 0001 00 0003612F23 10 A208 0002 00 0003612F23 8209 0003 00 0003612F23 10",
+        "9004 0001 00 00 3107 0003612F62 00 78 B004 0002 00 00 9004 0003 00 00 3107 0003612F62 00 78",
+        Served::EndOfInput,
+    ),
+    (
+        "No Local and Retain As Published",
+        [0, 0, 0],
+        "3107 0003612F62 00 78 8209 0001 00 0003612F23 0C",
+        "9004 0001 00 00 3107 0003612F62 00 78",
+        Served::EndOfInput,
+    ),
+    (
+        "an identifier that is held: nothing is kept",
+        [0, 0, 0],
+        "3507 000161 0005 00 31 3507 000161 0005 00 32 8207 0001 00 000123 00",
+        "5002 0005 5002 0005 9004 0001 00 00 3105 000161 00 31",
+        Served::EndOfInput,
+    ),
+    (
+        "an identifier that was released: the message is kept",
+        [0, 0, 0],
+        "3507 000161 0005 00 31 6202 0005 3507 000161 0005 00 32 8207 0001 00 000123 00",
+        "5002 0005 7002 0005 5002 0005 9004 0001 00 00 3105 000161 00 32",
+        Served::EndOfInput,
+    ),
+    (
+        "acknowledgements of unknown identifiers",
+        [0, 0, 0],
+        "4002 0007 7002 0007 5003 0007 97 5002 0007",
+        "6203 0007 92",
+        Served::EndOfInput,
+    ),
+    (
+        "the subscription identifier 1",
+        [0, 0, 0],
+        "3107 0003612F62 00 78 820B 0001 020B01 0003612F23 00",
+        "9004 0001 00 00 3109 0003612F62 020B01 78",
+        Served::EndOfInput,
+    ),
+    (
+        "the subscription identifier 300",
+        [0, 0, 0],
+        "3107 0003612F62 00 78 820C 0001 030BAC02 0003612F23 00",
+        "9004 0001 00 00 310A 0003612F62 030BAC02 78",
+        Served::EndOfInput,
+    ),
+    (
+        "the subscription identifier between other properties",
+        [0, 0, 0],
+        "3110 000161 0B 03000174 26000161000131 78 8209 0001 020B01 000123 00",
+        "9004 0001 00 00 3112 000161 0D 03000174 0B01 26000161000131 78",
+        Served::EndOfInput,
+    ),
+    (
+        "the subscription identifier of the last SUBSCRIBE",
+        [0, 0, 0],
+        "3107 0003612F62 00 78 820B 0001 020B01 0003612F23 20 8209 0002 00 0003612F23 00",
+        "9004 0001 00 00 9004 0002 00 00 3107 0003612F62 00 78",
+        Served::EndOfInput,
+    ),
+    (
+        "reserved flags of SUBSCRIBE",
+        [0, 0, 0],
+        "80",
+        "E00181",
+        Served::ServerClosed(0x81),
+    ),
+    (
+        "a packet of a server",
+        [0, 0, 0],
+        "90",
+        "E00182",
+        Served::ServerClosed(0x82),
+    ),
+    (
+        "a packet that is as large as it may be, cut",
+        [0, 0, 0],
+        "31FCFF0F",
+        "",
+        Served::CutInput,
+    ),
+    (
+        "a PUBLISH with the identifier 0",
+        [0, 0, 0],
+        "3307 000161 0000 00 31",
+        "E00182",
+        Served::ServerClosed(0x82),
+    ),
+    (
+        "a SUBSCRIBE without a filter",
+        [0, 0, 0],
+        "8203 0001 00",
+        "E00182",
+        Served::ServerClosed(0x82),
+    ),
+    (
+        "the maximum QoS 3",
+        [0, 0, 0],
+        "8207 0001 00 000161 03",
+        "E00182",
+        Served::ServerClosed(0x82),
+    ),
+    (
+        "the Retain Handling 3",
+        [0, 0, 0],
+        "8207 0001 00 000161 30",
+        "E00182",
+        Served::ServerClosed(0x82),
+    ),
+    (
+        "a reserved subscription option",
+        [0, 0, 0],
+        "8207 0001 00 000161 40",
+        "E00181",
+        Served::ServerClosed(0x81),
+    ),
+    (
+        "a topic that is not UTF-8",
+        [0, 0, 0],
+        "3107 0003EDA080 00 78",
+        "E00181",
+        Served::ServerClosed(0x81),
+    ),
+    (
+        "a topic with U+0000",
+        [0, 0, 0],
+        "3105 000100 00 78",
+        "E00181",
+        Served::ServerClosed(0x81),
+    ),
 ];
 
 /// What a connection sends from its first byte, what it gets, and how it ends.
-pub const FIRST: [(&str, &str, &str, Served); 10] = [
+pub const FIRST: [(&str, &str, &str, Served); 12] = [
     ("no input", "", "", Served::EndOfInput),
     (
         "cut input",
@@ -212,17 +386,23 @@ pub const FIRST: [(&str, &str, &str, Served); 10] = [
         "",
         Served::Dropped,
     ),
+    (
+        "malformed length before CONNECT: longer than needed",
+        "C08000",
+        "",
+        Served::Dropped,
+    ),
     ("ping before CONNECT", "C000", "", Served::Dropped),
     (
         "assigned identifier",
         "100D00044D5154540502003C000000",
-        "20170000141200057273312D31210010270004000029002A00",
+        "20150000121200057273312D3121001027000400002A00",
         Served::EndOfInput,
     ),
     (
         "session expiry",
         "101300044D5154540502003C05110000003C000161",
-        "2014000011 1100000000 210010270004000029002A00",
+        "201200000F 1100000000 21001027000400002A00",
         Served::EndOfInput,
     ),
     (
@@ -244,9 +424,217 @@ pub const FIRST: [(&str, &str, &str, Served); 10] = [
         Served::ServerClosed(0x8C),
     ),
     (
+        "a CONNACK as long as it may be",
+        "101300044D5154540502003C05 270000000F 000161",
+        "200D00000A21001027000400002A00",
+        Served::EndOfInput,
+    ),
+    (
         "a CONNACK that is too long",
-        "101300044D5154540502003C05 2700000010 000161",
+        "101300044D5154540502003C05 270000000E 000161",
         "",
         Served::ServerClosed(0),
+    ),
+];
+
+/// What an earlier connection publishes over the same store; the CONNECT of the second, what it sends
+/// then, what it gets after the CONNACK, and how it ends.
+pub const SECOND: [(&str, &str, &str, &str, &str, Served); 11] = [
+    (
+        "a second connection",
+        "3107 0003612F62 00 78",
+        CONNECT,
+        "8209 0001 00 0003612F23 00",
+        "9004 0001 00 00 3107 0003612F62 00 78",
+        Served::EndOfInput,
+    ),
+    (
+        "quota at QoS 2",
+        "3507 000161 0001 00 31 3507 000162 0002 00 32 3507 000163 0003 00 33",
+        RECEIVE_MAXIMUM_1,
+        "8207 0001 00 000123 02 5002 0001 7002 0001 5003 0001 97",
+        "9004 0001 00 02 3507 000161 0001 00 31 6202 0001 3507 000162 0001 00 32 3507 000163 0001 00 33",
+        Served::EndOfInput,
+    ),
+    (
+        "quota at QoS 2: no more before PUBCOMP",
+        "3507 000161 0001 00 31 3507 000162 0002 00 32 3507 000163 0003 00 33",
+        RECEIVE_MAXIMUM_1,
+        "8207 0001 00 000123 02 5002 0001",
+        "9004 0001 00 02 3507 000161 0001 00 31 6202 0001",
+        Served::EndOfInput,
+    ),
+    (
+        "PUBACK of QoS 2",
+        "3507 000161 0001 00 31 3507 000162 0002 00 32 3507 000163 0003 00 33",
+        RECEIVE_MAXIMUM_1,
+        "8207 0001 00 000123 02 4002 0001",
+        "9004 0001 00 02 3507 000161 0001 00 31 E00182",
+        Served::ServerClosed(0x82),
+    ),
+    (
+        "PUBCOMP before PUBREC",
+        "3507 000161 0001 00 31 3507 000162 0002 00 32 3507 000163 0003 00 33",
+        RECEIVE_MAXIMUM_1,
+        "8207 0001 00 000123 02 7002 0001",
+        "9004 0001 00 02 3507 000161 0001 00 31 E00182",
+        Served::ServerClosed(0x82),
+    ),
+    (
+        "quota at QoS 1",
+        "3307 000161 0001 00 31",
+        RECEIVE_MAXIMUM_1,
+        "8207 0001 00 000123 01 4002 0001 4002 0001 4002 0007 820B 0002 00 000161 01 000161 01 5002 0009",
+        "9004 0001 00 01 3307 000161 0001 00 31 9005 0002 00 01 01 3307 000161 0001 00 31 6203 0009 92",
+        Served::EndOfInput,
+    ),
+    (
+        "PUBREC of QoS 1",
+        "3307 000161 0001 00 31",
+        RECEIVE_MAXIMUM_1,
+        "8207 0001 00 000123 01 5002 0001",
+        "9004 0001 00 01 3307 000161 0001 00 31 E00182",
+        Served::ServerClosed(0x82),
+    ),
+    (
+        "a message that waits is sent after UNSUBSCRIBE",
+        "3507 000161 0001 00 31 3507 000162 0002 00 32 3507 000163 0003 00 33",
+        RECEIVE_MAXIMUM_1,
+        "8207 0001 00 000123 01 A206 0002 00 000123 4002 0001",
+        "9004 0001 00 01 3307 000161 0001 00 31 B004 0002 00 00 3307 000162 0001 00 32",
+        Served::EndOfInput,
+    ),
+    (
+        "client packet size: one byte too long",
+        "3105 000161 00 31 3113 000162 00 626262626262626262626262626262 3105 000163 00 33",
+        MAXIMUM_PACKET_SIZE_20,
+        "8207 0001 00 000123 00",
+        "9004 0001 00 00 3105 000161 00 31 3105 000163 00 33",
+        Served::EndOfInput,
+    ),
+    (
+        "client packet size: as long as it may be",
+        "3105 000161 00 31 3112 000162 00 6262626262626262626262626262 3105 000163 00 33",
+        MAXIMUM_PACKET_SIZE_20,
+        "8207 0001 00 000123 00",
+        "9004 0001 00 00 3105 000161 00 31 3112 000162 00 6262626262626262626262626262 3105 000163 00 33",
+        Served::EndOfInput,
+    ),
+    (
+        "client packet size: the subscription identifier counts",
+        "3105 000161 00 31 3112 000162 00 6262626262626262626262626262 3105 000163 00 33",
+        MAXIMUM_PACKET_SIZE_20,
+        "8209 0001 020B01 000123 00",
+        "9004 0001 00 00 3107 000161 020B01 31 3107 000163 020B01 33",
+        Served::EndOfInput,
+    ),
+];
+
+/// What one connection over an empty store of so many topics sends after a CONNECT, and gets after the
+/// CONNACK; the store's version then, and how many topics it holds.
+pub const STORED: [(&str, u32, &str, &str, u64, u32); 4] = [
+    (
+        "full: nothing is answered at QoS 0",
+        1,
+        "3105 000161 00 31 3105 000162 00 32 8207 0001 00 000123 00",
+        "9004 0001 00 00 3105 000161 00 31",
+        1,
+        1,
+    ),
+    (
+        "full: the reason code at QoS 1",
+        2,
+        "3307 000161 0001 00 31 3307 000162 0002 00 32 3307 000163 0003 00 33 3307 000161 0004 00 34 3306 000164 0005 00",
+        "4002 0001 4002 0002 4003 0003 97 4002 0004 4002 0005",
+        4,
+        2,
+    ),
+    (
+        "full: the reason code at QoS 2",
+        1,
+        "3507 000161 0001 00 31 3507 000162 0002 00 32 6202 0002",
+        "5002 0001 5003 0002 97 7003 0002 92",
+        1,
+        1,
+    ),
+    (
+        "QoS 2 published twice",
+        10000,
+        "3507 000161 0005 00 31 3D07 000161 0005 00 31 6202 0005 6202 0005",
+        "5002 0005 5002 0005 7002 0005 7003 0005 92",
+        1,
+        1,
+    ),
+];
+
+/// A packet with a text of so many levels: its first bytes, a level, how many, and its last bytes; what
+/// is sent then, what is got after the CONNACK, whether the packet follows there, and how it ends.
+pub const LEVELS: [(&str, &str, &str, u32, &str, &str, &str, bool, Served); 4] = [
+    (
+        "a topic of 128 levels",
+        "31 8302 00FF",
+        "61",
+        128,
+        "00 78",
+        "8207 0001 00 000123 00",
+        "9004 0001 00 00",
+        true,
+        Served::EndOfInput,
+    ),
+    (
+        "a topic of 129 levels",
+        "31 8502 0101",
+        "61",
+        129,
+        "00 78",
+        "",
+        "E00190",
+        false,
+        Served::ServerClosed(0x90),
+    ),
+    (
+        "a filter of 128 levels",
+        "82 8502 0001 00 00FF",
+        "2B",
+        128,
+        "00",
+        "",
+        "9004 0001 00 00",
+        false,
+        Served::EndOfInput,
+    ),
+    (
+        "a filter of 129 levels",
+        "82 8702 0001 00 0101",
+        "2B",
+        129,
+        "00",
+        "",
+        "9004 0001 00 8F",
+        false,
+        Served::EndOfInput,
+    ),
+];
+
+/// What is sent after sixteen PUBLISH packets of QoS 2 with the identifiers 1 to 16, and got after their
+/// PUBREC packets; and how it ends.
+pub const HELD: [(&str, &str, &str, Served); 3] = [
+    (
+        "a seventeenth identifier",
+        "3406 000161 0011 00",
+        "E00193",
+        Served::ServerClosed(0x93),
+    ),
+    (
+        "an identifier that is held",
+        "3C06 000161 0001 00",
+        "5002 0001",
+        Served::EndOfInput,
+    ),
+    (
+        "a seventeenth identifier after one was released",
+        "6202 0001 3406 000161 0011 00",
+        "7002 0001 5002 0011",
+        Served::EndOfInput,
     ),
 ];

@@ -1,6 +1,6 @@
 //! The examples, served.
 
-use crate::examples::{CONNACK, CONNECT, CONNECTED, FIRST};
+use crate::examples::{CONNACK, CONNECT, CONNECTED, FIRST, SECOND, STORED};
 use crate::pieces::Pieces;
 use rs_server::{Counted, Moments, Served, read_hex, serve};
 use rs_session::LocalGate;
@@ -9,6 +9,8 @@ use std::alloc::Global;
 use std::process::Abort;
 use std::sync::Wait;
 use std::test::Fail;
+
+mod many;
 
 type Store = LocalGate<MapCatalogue>;
 
@@ -100,35 +102,34 @@ fn first(rt: HostRuntime) -> Result<(), Fail> {
     Ok(())
 }
 
-/// What the second of two connections over one store gets, cut at each byte and byte by byte.
+/// The store after a connection of a client that ends it with DISCONNECT.
+fn after<H: Abort + Wait>(
+    rt: &H,
+    alloc: Global,
+    name: &str,
+    input: &[u8],
+    cut: usize,
+) -> Result<Store, Fail> {
+    let (_written, served, kept) = talk(rt, alloc, store(alloc, 65536)?, [0; 3], input, cut)?;
+    assert_eq!(rt; served, Served::ClientClosed, "{name}, cut at {cut}");
+    Ok(kept)
+}
+
+/// What the second of two connections over one store gets, both cut at each byte and byte by byte.
 fn check_second<H: Abort + Wait>(
     rt: &H,
     alloc: Global,
     name: &str,
-    before: &str,
-    input: &[&str],
-    output: &[&str],
+    before: &[u8],
+    input: &[u8],
+    output: &[u8],
+    ended: Served,
 ) -> Result<(), Fail> {
-    let before = bytes(alloc, &[CONNECT, before, "E000"])?;
-    let input = bytes(alloc, input)?;
-    let output = bytes(alloc, output)?;
     for cut in 0..=input.len() {
-        let (_written, first, kept) = talk(
-            rt,
-            alloc,
-            store(alloc, 10000)?,
-            [0; 3],
-            before.as_slice(),
-            cut,
-        )?;
-        assert_eq!(rt; first, Served::ClientClosed, "{name}, cut at {cut}");
-        let (written, second, _kept) = talk(rt, alloc, kept, [0; 3], input.as_slice(), cut)?;
-        assert_eq!(rt;
-            written.as_slice(),
-            output.as_slice(),
-            "{name}, cut at {cut}"
-        );
-        assert_eq!(rt; second, Served::EndOfInput, "{name}, cut at {cut}");
+        let kept = after(rt, alloc, name, before, cut)?;
+        let (written, served, _kept) = talk(rt, alloc, kept, [0; 3], input, cut)?;
+        assert_eq!(rt; written.as_slice(), output, "{name}, cut at {cut}");
+        assert_eq!(rt; served, ended, "{name}, cut at {cut}");
     }
     Ok(())
 }
@@ -136,69 +137,59 @@ fn check_second<H: Abort + Wait>(
 #[test]
 fn second(rt: HostRuntime) -> Result<(), Fail> {
     let alloc = rt.alloc();
-    check_second(
-        &rt,
-        alloc,
-        "second connection",
-        "310700 03612F62 0078",
-        &[CONNECT, "8209 0001 00 0003612F23 00"],
-        &[CONNACK, "9004 0001 00 00 310700 03612F62 0078"],
-    )
-}
-
-#[test]
-fn client_packet_size(rt: HostRuntime) -> Result<(), Fail> {
-    let alloc = rt.alloc();
-    let connect = "101300044D5154540502003C052700000014000161";
-    let subscribe = "8207 0001 00 000123 00";
-    let a = "310500 0161 0031";
-    let c = "310500 0163 0033";
-    let long = "311300 0162 00 626262626262626262626262626262";
-    let fits = "311200 0162 00 6262626262626262626262626262";
-    let before = bytes_text(alloc, &[a, long, c])?;
-    check_second(
-        &rt,
-        alloc,
-        "client packet size: one byte too long",
-        before.as_str(),
-        &[connect, subscribe],
-        &[CONNACK, "9004 0001 00 00", a, c],
-    )?;
-    let before = bytes_text(alloc, &[a, fits, c])?;
-    check_second(
-        &rt,
-        alloc,
-        "client packet size: as long as it may be",
-        before.as_str(),
-        &[connect, subscribe],
-        &[CONNACK, "9004 0001 00 00", a, fits, c],
-    )
-}
-
-fn bytes_text(alloc: Global, parts: &[&str]) -> Result<String, Fail> {
-    let mut all = String::new(alloc);
-    for part in parts {
-        all.push_str(part)?;
+    for (name, before, connect, input, output, ended) in SECOND {
+        let before = bytes(alloc, &[CONNECT, before, "E000"])?;
+        let input = bytes(alloc, &[connect, input])?;
+        let output = bytes(alloc, &[CONNACK, output])?;
+        check_second(
+            &rt,
+            alloc,
+            name,
+            before.as_slice(),
+            input.as_slice(),
+            output.as_slice(),
+            ended,
+        )?;
     }
-    Ok(all)
+    Ok(())
+}
+
+/// What one connection gets, and what the store has after it, cut at each byte and byte by byte.
+fn check_stored<H: Abort + Wait>(
+    rt: &H,
+    alloc: Global,
+    name: &str,
+    limit: u32,
+    input: &[u8],
+    output: &[u8],
+    version: u64,
+    count: u32,
+) -> Result<(), Fail> {
+    for cut in 0..=input.len() {
+        let (written, _served, kept) = talk(rt, alloc, store(alloc, limit)?, [0; 3], input, cut)?;
+        assert_eq!(rt; written.as_slice(), output, "{name}, cut at {cut}");
+        assert_eq!(rt; kept.catalogue().version(), version, "{name}, cut at {cut}");
+        assert_eq!(rt; kept.catalogue().count(), count, "{name}, cut at {cut}");
+    }
+    Ok(())
 }
 
 #[test]
-fn full_store(rt: HostRuntime) -> Result<(), Fail> {
+fn stored(rt: HostRuntime) -> Result<(), Fail> {
     let alloc = rt.alloc();
-    let input = bytes(
-        alloc,
-        &[
-            CONNECT,
-            "310500 0161 0031",
-            "310500 0162 0032",
-            "8207 0001 00 000123 00",
-        ],
-    )?;
-    let output = bytes(alloc, &[CONNACK, "9004 0001 00 00", "310500 0161 0031"])?;
-    let (written, _served, kept) = talk(&rt, alloc, store(alloc, 1)?, [0; 3], input.as_slice(), 0)?;
-    assert_eq!(rt; written.as_slice(), output.as_slice());
-    assert_eq!(rt; kept.catalogue().count(), 1);
-    assert_eq!(rt; kept.catalogue().version(), 1);
+    for (name, limit, input, output, version, count) in STORED {
+        let input = bytes(alloc, &[CONNECT, input])?;
+        let output = bytes(alloc, &[CONNACK, output])?;
+        check_stored(
+            &rt,
+            alloc,
+            name,
+            limit,
+            input.as_slice(),
+            output.as_slice(),
+            version,
+            count,
+        )?;
+    }
     Ok(())
 }

@@ -8,6 +8,5 @@ all_told : (now : ℕ) (f g : ℕ → ℕ) (ms : List ℕ) → ((k : ℕ) → f 
 all_told now f g [] h p = All-nil (λ m. m ≡ now)
 all_told now f g (m ∷ ms) h p = All-cons (λ m. m ≡ now) m ms (p.0 ∙ h 0) (all_told now (λ k. f (suc k)) g ms (λ k. h (suc k)) p.1)
 
-pub one_moment : (now first : ℕ) (rest : List ℕ) (g : ℕ → ℕ) (ms : List ℕ) → first ≡ now → rest ≡ [] → TellsAll (moment_at first rest) ms g → All (λ m. m ≡ now) ms
-one_moment now first rest g ms e n p =
-    all_told now (moment_at first rest) g ms (λ k. ap (λ (l : List ℕ). moment_at first l k) n ∙ e) p
+pub one_moment : (now : ℕ) (f g : ℕ → ℕ) (rest ms : List ℕ) → ((k : ℕ) → f k ≡ moment_at now rest k) → rest ≡ [] → TellsAll f ms g → All (λ m. m ≡ now) ms
+one_moment now f g rest ms h e p = all_told now f g ms (λ k. h k ∙ ap (λ (l : List ℕ). moment_at now l k) e) p

@@ -9,7 +9,7 @@ use Rattle.std.proofs.lemmas.List.Folds.{list_any-append}
 use Rattle.std.proofs.lemmas.Str.{IsAscii-append, IsUtf8-from_ascii, is_utf8-from_IsUtf8}
 use Rattle.std.proofs.lemmas.Str.Ascii.{IsAscii-nil, IsAscii-cons}
 use Rattle.rs_topic.specs.Texts.{reads_as_text}
-use Rattle.rs_server.specs.Talk.{assigned_of}
+use Rattle.rs_server.specs.Conversation.{assigned_of}
 
 abbrev has_nul : List ℕ → Bool
 has_nul bytes = list_any (λ b. b == 0) bytes

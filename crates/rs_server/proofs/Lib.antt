@@ -1,6 +1,8 @@
 pub mod Clocks
 pub mod Identifiers
 pub mod HexDigits
-pub mod Said
-pub mod Talked
-pub mod Hearing
+pub mod Written
+pub mod Conversations
+pub mod Inputs
+pub mod Submits
+pub mod OwnStores

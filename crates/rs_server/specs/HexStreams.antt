@@ -1,7 +1,16 @@
--- What a reader of hex lines shows.
+-- What a reader and a writer of hex lines show.
 use Rattle.std.specs.Prelude.{ℕ, Option}
 use Rattle.rs_server.specs.declared.hex_stream.HexReader.{HexReader}
+use Rattle.rs_server.specs.declared.hex_stream.HexWriter.{HexWriter}
+
+-- where the lines come from
+abbrev pub input_of : {R : Type 0} → HexReader R → R
+input_of it = it.input
 
 -- the line that made a read fail
 abbrev pub not_hex_of : {R : Type 0} → HexReader R → Option ℕ
 not_hex_of it = it.not_hex
+
+-- where the lines go
+abbrev pub output_of : {W : Type 0} → HexWriter W → W
+output_of it = it.output

@@ -1,12 +1,22 @@
 -- One connection over bytes in memory.
 use Rattle.std.specs.Prelude.{◌≡◌, ℕ, List, [], ◌++◌}
 use Rattle.std.specs.List.{All}
-use Rattle.rs_session.specs.Run.{Point, Turn, Run}
+use Rattle.rs_message.specs.declared.entry.Entry.{Entry}
+use Rattle.rs_store.specs.History.{IsLegal, last_serial}
+use Rattle.rs_session.specs.Gate.{Mark}
+use Rattle.rs_session.specs.Run.{Point, Turn, Run, AreOfGate}
 use Rattle.rs_server.specs.declared.connection.Served.{Served}
-use Rattle.rs_server.specs.Talk.{InputsOf, inputs_of, moments_of, replies_of, assigned_of, start, ClosesAs}
+use Rattle.rs_server.specs.Conversation.{InputsOf, inputs_of, moments_of, replies_of, assigned_of, start, ClosesAs}
+
+-- The list is legal for 10,000 topics, its entries are of place 1, and the last serial is the mark's.
+pub record IsOfMark (mark : Mark) (list : List Entry) : Type 0 where
+  pub legal : IsLegal 10000 list
+  pub places : All (λ (e : Entry). e.origin.place ≡ 1) list
+  pub serial : last_serial 1 list ≡ mark.serial
 
 -- From an empty store, as connection 1 at place 1, a session was run over the packets at the front of the
--- input, each at this moment. The output are its replies, and it ended so.
+-- input, each at this moment. The output are its replies, and it ended so. The list at each turn has no entry
+-- of a later one.
 pub record IsServed (input : List ℕ) (now : ℕ) (served : Served) (output : List ℕ) : Type 0 where
   pub turns : List Turn
   pub to : Point
@@ -19,3 +29,5 @@ pub record IsServed (input : List ℕ) (now : ℕ) (served : Served) (output : L
   pub moments : All (λ moment. moment ≡ now) (moments_of turns)
   pub replies : output ≡ replies_of turns
   pub closes : ClosesAs served to.state held (rest ≡ [])
+  pub each : AreOfGate IsOfMark turns
+  pub last : IsOfMark to.mark to.seen

@@ -4,8 +4,8 @@ use Rattle.std.specs.List.{flat_map}
 use Rattle.std.specs.Io.KnownBytes.{Appends}
 use Rattle.rs_packet.specs.Replies.{reply_bytes}
 use Rattle.rs_packet.specs.declared.reply.Reply.{Reply}
-use Rattle.rs_server.specs.declared.say.ServeFault.{ServeFault}
-use Rattle.rs_server.specs.declared.say.ServeFault.TheVariants.{Read, Write, NoMemory}
+use Rattle.rs_server.specs.declared.writing.ServeFault.{ServeFault}
+use Rattle.rs_server.specs.declared.writing.ServeFault.TheVariants.{Read, Write, NoMemory}
 
 -- the replies' bytes, one after the other
 abbrev pub all_reply_bytes : List Reply → List ℕ
@@ -16,11 +16,11 @@ abbrev pub AppendsFront : Option (List ℕ) → Option (List ℕ) → List ℕ �
 AppendsFront old new bytes = (front : List ℕ) × (back : List ℕ) × (bytes ≡ front ++ back) × Appends old new front
 
 -- All of the bytes were written, or a beginning of them before the writer or memory failed.
-abbrev pub Says : {T : Type 0} → Result T ServeFault → Option (List ℕ) → Option (List ℕ) → List ℕ → Type 0
-Says (Ok x) old new bytes = Appends old new bytes
-Says (Err Read) old new bytes = Appends old new bytes
-Says (Err Write) old new bytes = AppendsFront old new bytes
-Says (Err NoMemory) old new bytes = AppendsFront old new bytes
+abbrev pub Writes : {T : Type 0} → Result T ServeFault → Option (List ℕ) → Option (List ℕ) → List ℕ → Type 0
+Writes (Ok x) old new bytes = Appends old new bytes
+Writes (Err Read) old new bytes = Appends old new bytes
+Writes (Err Write) old new bytes = AppendsFront old new bytes
+Writes (Err NoMemory) old new bytes = AppendsFront old new bytes
 
 -- A writer's failures rise only at the fault that says so, and it is told of no other.
 abbrev pub IsWriteCause : {T : Type 0} → Result T ServeFault → ℕ → ℕ → Type 0

@@ -2,6 +2,7 @@
 
 ghost use Rattle.std.specs.Prelude.{◌≡◌, ℕ, Option, None, Some};
 ghost use Rattle.rs_server.specs.Clock.{Tells, moment_at};
+ghost use Rattle.rs_server.specs.Moments.{told_by};
 
 use std::collections::VecDeque;
 
@@ -24,8 +25,7 @@ pub struct Moments {
 impl Moments {
     /// Tells `first`, and then the others in their order, in whole seconds.
     pub fn new(first: u64, rest: Vec<u64>) -> Moments
-        ensures first { result.first ≡ first }
-        ensures rest { result.rest.items ≡ rest.items }
+        ensures { (k : ℕ) → told_by result k ≡ moment_at first rest.items k }
     {
         Moments {
             first,
@@ -35,7 +35,7 @@ impl Moments {
 }
 
 impl Clock for Moments {
-    ghost moments = { λ clock. Some (moment_at clock.first clock.rest.items) };
+    ghost moments = { λ clock. Some (told_by clock) };
 
     fn now(&mut self) -> u64 {
         let told = self.first;

@@ -5,17 +5,18 @@ ghost use Rattle.std.specs.Io.KnownBytes.{Consumes, Appends, IsAtEnd};
 ghost use Rattle.rs_message.specs.declared.entry.Entry.{Entry};
 ghost use Rattle.rs_packet.specs.Grammar.{IsAtFront};
 ghost use Rattle.rs_packet.specs.PacketReading.{Gives, answer};
+ghost use Rattle.rs_session.specs.Gate.{StandsAt};
 ghost use Rattle.rs_session.specs.State.{state_of, due_of, gate_of, closing_of, State};
 ghost use Rattle.rs_session.specs.Run.{Point};
 ghost use Rattle.rs_server.specs.Clock.{Told};
 ghost use Rattle.rs_server.specs.Counts.{inner_of, failures_of};
-ghost use Rattle.rs_server.specs.Writing.{IsWriteCause, Says};
-ghost use Rattle.rs_server.specs.Talk.{IsFront, Took, Conversation, Closes, Ends, Causes, IsReadCause, IsEnd, assigned_of, start, point_at, served_as};
+ghost use Rattle.rs_server.specs.Writing.{IsWriteCause, Writes};
+ghost use Rattle.rs_server.specs.Conversation.{IsFront, TakesTurn, Closes, Causes, Conversation, IsConnection, IsReadCause, IsEnd, assigned_of, start, point_at, served_as};
 
 use crate::assigned::assigned_client;
 use crate::clock::Clock;
 use crate::counted::Counted;
-use crate::say::{ServeFault, say_all};
+use crate::writing::{ServeFault, write_replies};
 use bytes::{Bytes, BytesMut};
 use rs_packet::{Decoded, PacketFault, decode, front_len};
 use rs_session::{Closing, Gate, Input, Session};
@@ -64,12 +65,11 @@ pub fn serve<H: Wait, R: Read, W: Write, G: Gate, C: Clock>(
     requires writer_room { failures_of writer.old < 2 ^ 64 - 1 }
 
     // What was written are the replies of a session over the packets that the bytes read spell.
-    ensures talk { (seen : List Entry) → G.stands gate seen → (state : State) × (held : List ℕ)
-        × Conversation (start (assigned_of place number) seen (G.mark gate)) (G.stands result.1) (G.mark result.1) state
-        (Consumes (R.remaining (inner_of reader.old)) (R.remaining (inner_of reader.new))) held
+    ensures conversation { (seen : List Entry) → G.stands gate seen
+        → IsConnection (start (assigned_of place number) seen (G.mark gate)) (StandsAt G.stands G.mark) (G.stands result.1) (G.mark result.1)
         (Told (C.moments clock.old) (C.moments clock.new))
-        (Says result.0 (W.contents (inner_of writer.old)) (W.contents (inner_of writer.new)))
-        × Ends result.0 state held (IsAtEnd (R.remaining (inner_of reader.new))) }
+        (R.remaining (inner_of reader.old)) (R.remaining (inner_of reader.new))
+        (W.contents (inner_of writer.old)) (W.contents (inner_of writer.new)) result.0 }
 
     // A fault names what failed.
     ensures cause { Causes result.0 (failures_of reader.old) (failures_of reader.new)
@@ -81,7 +81,7 @@ pub fn serve<H: Wait, R: Read, W: Write, G: Gate, C: Clock>(
     let mut session = Session::new(alloc, gate, assigned);
     let mut held = BytesMut::new(alloc);
     'turns: for _ in rt.forever() {
-        match turn(alloc, reader, writer, &mut session, &mut held, clock) {
+        match serve_once(alloc, reader, writer, &mut session, &mut held, clock) {
             Ok(None) => {}
             Ok(Some(served)) => return (Ok(served), session.into_gate()),
             Err(fault) => return (Err(fault), session.into_gate()),
@@ -91,7 +91,7 @@ pub fn serve<H: Wait, R: Read, W: Write, G: Gate, C: Clock>(
 }
 
 /// One input and all that is replied to it, or one read.
-fn turn<R: Read, W: Write, G: Gate, C: Clock>(
+fn serve_once<R: Read, W: Write, G: Gate, C: Clock>(
     alloc: Global,
     reader: &mut Counted<R>,
     writer: &mut Counted<W>,
@@ -105,15 +105,15 @@ fn turn<R: Read, W: Write, G: Gate, C: Clock>(
     requires goes_on { closing_of (state_of session.old).phase ≡ None }
 
     // What was so before goes on.
-    ensures talk { (from : Point) (read wrote : Option (List ℕ)) (told : Option (ℕ → ℕ))
-        → Conversation from (G.stands (gate_of session.old)) (G.mark (gate_of session.old)) (state_of session.old)
+    ensures conversation { (from : Point) (read wrote : Option (List ℕ)) (told : Option (ℕ → ℕ))
+        → Conversation from (StandsAt G.stands G.mark) (G.stands (gate_of session.old)) (G.mark (gate_of session.old)) (state_of session.old)
         (Consumes read (R.remaining (inner_of reader.old))) held.old.items
         (Told told (C.moments clock.old))
         (Appends wrote (W.contents (inner_of writer.old)))
-        → Conversation from (G.stands (gate_of session.new)) (G.mark (gate_of session.new)) (state_of session.new)
+        → Conversation from (StandsAt G.stands G.mark) (G.stands (gate_of session.new)) (G.mark (gate_of session.new)) (state_of session.new)
         (Consumes read (R.remaining (inner_of reader.new))) held.new.items
         (Told told (C.moments clock.new))
-        (Says result wrote (W.contents (inner_of writer.new))) }
+        (Writes result wrote (W.contents (inner_of writer.new))) }
     ensures closes { Closes result (state_of session.new) held.new.items (IsAtEnd (R.remaining (inner_of reader.new))) }
     ensures due { due_of session.new ≡ None }
     ensures cause { Causes result (failures_of reader.old) (failures_of reader.new)
@@ -123,7 +123,7 @@ fn turn<R: Read, W: Write, G: Gate, C: Clock>(
         return read_more(reader, held);
     };
     let now = clock.now();
-    match hear(alloc, session, writer, input, now) {
+    match take_turn(alloc, session, writer, input, now) {
         Ok(()) => Ok(outcome(session.closing())),
         Err(fault) => Err(fault),
     }
@@ -183,7 +183,7 @@ fn read_more<R: Read>(
 }
 
 /// One turn of the session: an input at its moment, and all that is replied to it.
-fn hear<G: Gate, W: Write>(
+fn take_turn<G: Gate, W: Write>(
     alloc: Global,
     session: &mut Session<G>,
     writer: &mut Counted<W>,
@@ -194,15 +194,15 @@ fn hear<G: Gate, W: Write>(
     requires none_due { due_of session.old ≡ None }
     requires goes_on { closing_of (state_of session.old).phase ≡ None }
     ensures turn { (seen : List Entry) → G.stands (gate_of session.old) seen
-        → Took (point_at (state_of session.old) seen (G.mark (gate_of session.old))) input now
+        → TakesTurn (point_at (state_of session.old) seen (G.mark (gate_of session.old))) input now (StandsAt G.stands G.mark)
         (G.stands (gate_of session.new)) (G.mark (gate_of session.new)) (state_of session.new)
-        (Says result (W.contents (inner_of writer.old)) (W.contents (inner_of writer.new))) }
+        (Writes result (W.contents (inner_of writer.old)) (W.contents (inner_of writer.new))) }
     ensures due { due_of session.new ≡ None }
     ensures cause { IsWriteCause result (failures_of writer.old) (failures_of writer.new) }
 {
     // Whether it goes on is asked once its last reply is written.
     let _step = session.on_input(input, now);
-    say_all(alloc, session, writer, now)
+    write_replies(alloc, session, writer, now)
 }
 
 /// How a session that ended so was served.

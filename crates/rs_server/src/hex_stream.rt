@@ -4,7 +4,7 @@ ghost use Rattle.std.specs.Prelude.{◌≡◌, ◌∷◌, [], ◌<◌, ◌≤◌
 ghost use Rattle.std.specs.Io.{WritesAtMost};
 ghost use Rattle.std.specs.Io.KnownBytes.{Appends};
 ghost use Rattle.hex.specs.Hex.{encode_lower};
-ghost use Rattle.rs_server.specs.HexStreams.{not_hex_of};
+ghost use Rattle.rs_server.specs.HexStreams.{input_of, not_hex_of, output_of};
 
 use crate::hex_lines::{HexFault, read_hex};
 use bytes::BytesMut;
@@ -41,7 +41,8 @@ pub struct HexReader<R> {
 impl<R: Read> HexReader<R> {
     /// Reads lines from this input.
     pub fn new(alloc: Global, input: R) -> HexReader<R>
-        ensures { not_hex_of result ≡ None }
+        ensures input { input_of result ≡ input }
+        ensures not_hex { not_hex_of result ≡ None }
     {
         HexReader {
             alloc,
@@ -59,6 +60,15 @@ impl<R: Read> HexReader<R> {
         ensures { result ≡ not_hex_of self.now }
     {
         self.not_hex
+    }
+
+    /// The input. What was read of it and not given is lost.
+    pub fn into_inner(self) -> R
+    where
+        R: Drop,
+        ensures { result ≡ input_of self }
+    {
+        self.input
     }
 
     /// Gives bytes that are there.
@@ -143,15 +153,26 @@ pub struct HexWriter<W> {
 
 impl<W: Write> HexWriter<W> {
     /// Writes lines to this output.
-    pub fn new(output: W) -> HexWriter<W> {
+    pub fn new(output: W) -> HexWriter<W>
+        ensures { output_of result ≡ output }
+    {
         HexWriter { output }
+    }
+
+    /// The output.
+    pub fn into_inner(self) -> W
+    where
+        W: Drop,
+        ensures { result ≡ output_of self }
+    {
+        self.output
     }
 }
 
 impl<W: Write> Write for HexWriter<W> {
     fn write(&mut self, buf: &[u8]) -> io::Result<usize>
         ensures bound { WritesAtMost result buf.now }
-        ensures digits { IfOk result (λ n. Appends (W.contents self.old.output) (W.contents self.new.output) (encode_lower (take n buf.now))) }
+        ensures digits { IfOk result (λ n. Appends (W.contents (output_of self.old)) (W.contents (output_of self.new)) (encode_lower (take n buf.now))) }
     {
         let bytes = &buf[..buf.len().min(CHUNK)];
         let mut digits = [0u8; DIGITS];
@@ -164,7 +185,7 @@ impl<W: Write> Write for HexWriter<W> {
     }
 
     fn flush(&mut self) -> io::Result<()>
-        ensures line { OnOk result (Appends (W.contents self.old.output) (W.contents self.new.output) (10 ∷ [])) }
+        ensures line { OnOk result (Appends (W.contents (output_of self.old)) (W.contents (output_of self.new)) (10 ∷ [])) }
     {
         write_fully(&mut self.output, b"\n")?;
         self.output.flush()

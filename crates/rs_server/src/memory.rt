@@ -6,8 +6,8 @@ ghost use Rattle.rs_server.specs.Memory.{IsServed};
 use crate::clock::Moments;
 use crate::connection::{Served, serve};
 use crate::counted::Counted;
-use crate::program::local_gate;
-use crate::say::ServeFault;
+use crate::own_store::OwnStore;
+use crate::writing::ServeFault;
 use std::alloc::Global;
 use std::sync::Wait;
 
@@ -21,7 +21,7 @@ pub fn serve_bytes<H: Wait>(
 ) -> Result<(Served, Vec<u8>), ServeFault>
     ensures { IfOk result (λ r. IsServed input.now now r.0 r.1.items) }
 {
-    let Ok(gate) = local_gate(alloc) else {
+    let Ok(gate) = OwnStore::new(alloc) else {
         return Err(ServeFault::NoMemory);
     };
     let mut reader = Counted::new(input);

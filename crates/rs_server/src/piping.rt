@@ -1,13 +1,17 @@
 //! One connection from an input to an output.
 
-ghost use Rattle.std.specs.Prelude.{◌≡◌};
+ghost use Rattle.std.specs.Prelude.{◌≡◌, ℕ, List, None, Option};
+ghost use Rattle.rs_message.specs.declared.entry.Entry.{Entry};
+ghost use Rattle.rs_server.specs.Conversation.{assigned_of, start};
+ghost use Rattle.rs_session.specs.Gate.{StandsAt};
+ghost use Rattle.rs_server.specs.Piping.{IsPiped, if_hex, if_raw, piped};
 ghost use Rattle.rs_server.specs.Statuses.{pipe_fault, pipe_status};
 
 use crate::clock::Moments;
 use crate::connection::{Served, serve};
 use crate::counted::Counted;
 use crate::hex_stream::{HexReader, HexWriter};
-use crate::say::ServeFault;
+use crate::writing::ServeFault;
 use rs_session::Gate;
 use std::alloc::Global;
 use std::io::{Read, Write};
@@ -43,8 +47,23 @@ impl PipeFault {
     }
 }
 
-/// Serves one connection, the first at place 1, whose every moment is `at`, in seconds. With `hex`, input
-/// and output are lines of hex digits, one line a reply.
+/// One connection over an input and an output, after its end.
+#[derive(Drop)]
+pub struct Piped<R, W, G> {
+    /// How it ended, or why it was broken off.
+    pub served: Result<Served, PipeFault>,
+    /// The input, with what was not read.
+    pub input: R,
+    /// The output.
+    pub output: W,
+    /// The gate.
+    pub gate: G,
+}
+
+/// Serves one connection, the first at place 1, whose every moment is `at`, in seconds. Without `hex`,
+/// bytes go in and out as they are. With it, input and output are lines of hex digits, one line a reply.
+///
+/// The fault is that of [`serve`], but where a line was not hex it names the line.
 pub fn pipe<H: Wait, R: Read + Drop, W: Write + Drop, G: Gate>(
     rt: &H,
     alloc: Global,
@@ -53,19 +72,78 @@ pub fn pipe<H: Wait, R: Read + Drop, W: Write + Drop, G: Gate>(
     gate: G,
     hex: bool,
     at: u64,
-) -> (Result<Served, PipeFault>, G) {
-    let mut clock = Moments::new(at, Vec::new(alloc));
+) -> Piped<R, W, G>
+    // Of the bytes that lines of hex digits stand for, only that there was a connection over some.
+    ensures { (seen : List Entry) → G.stands gate seen → (line : Option ℕ)
+        × IsPiped at (start (assigned_of 1 1) seen (G.mark gate)) (StandsAt G.stands G.mark) (G.stands result.gate) (G.mark result.gate)
+        (if_raw hex (R.remaining input)) (if_raw hex (R.remaining result.input))
+        (if_raw hex (W.contents output)) (if_raw hex (W.contents result.output))
+        (if_hex hex line) result.served }
+{
     if hex {
-        let mut reader = Counted::new(HexReader::new(alloc, input));
-        let mut writer = Counted::new(HexWriter::new(output));
-        let (served, gate) = serve(rt, alloc, &mut reader, &mut writer, gate, 1, 1, &mut clock);
-        let not_hex = reader.into_inner().not_hex();
-        return (served.map_err(|fault| fault_at(fault, not_hex)), gate);
+        pipe_lines(rt, alloc, input, output, gate, at)
+    } else {
+        pipe_bytes(rt, alloc, input, output, gate, at)
     }
+}
+
+fn pipe_bytes<H: Wait, R: Read + Drop, W: Write + Drop, G: Gate>(
+    rt: &H,
+    alloc: Global,
+    input: R,
+    output: W,
+    gate: G,
+    at: u64,
+) -> Piped<R, W, G>
+    ensures { (seen : List Entry) → G.stands gate seen
+        → IsPiped at (start (assigned_of 1 1) seen (G.mark gate)) (StandsAt G.stands G.mark) (G.stands result.gate) (G.mark result.gate)
+        (R.remaining input) (R.remaining result.input) (W.contents output) (W.contents result.output) None result.served }
+{
     let mut reader = Counted::new(input);
     let mut writer = Counted::new(output);
+    let mut clock = Moments::new(at, Vec::new(alloc));
     let (served, gate) = serve(rt, alloc, &mut reader, &mut writer, gate, 1, 1, &mut clock);
-    (served.map_err(|fault| fault_at(fault, None)), gate)
+    Piped {
+        served: answer_of(served, None),
+        input: reader.into_inner(),
+        output: writer.into_inner(),
+        gate,
+    }
+}
+
+fn pipe_lines<H: Wait, R: Read + Drop, W: Write + Drop, G: Gate>(
+    rt: &H,
+    alloc: Global,
+    input: R,
+    output: W,
+    gate: G,
+    at: u64,
+) -> Piped<R, W, G>
+    ensures { (seen : List Entry) → G.stands gate seen → (line : Option ℕ)
+        × IsPiped at (start (assigned_of 1 1) seen (G.mark gate)) (StandsAt G.stands G.mark) (G.stands result.gate) (G.mark result.gate)
+        None None None None line result.served }
+{
+    let mut reader = Counted::new(HexReader::new(alloc, input));
+    let mut writer = Counted::new(HexWriter::new(output));
+    let mut clock = Moments::new(at, Vec::new(alloc));
+    let (served, gate) = serve(rt, alloc, &mut reader, &mut writer, gate, 1, 1, &mut clock);
+    let lines = reader.into_inner();
+    Piped {
+        served: answer_of(served, lines.not_hex()),
+        input: lines.into_inner(),
+        output: writer.into_inner().into_inner(),
+        gate,
+    }
+}
+
+/// What is answered, where a line that is not hex made the reader fail, or none did.
+fn answer_of(served: Result<Served, ServeFault>, not_hex: Option<u64>) -> Result<Served, PipeFault>
+    ensures { result ≡ piped served not_hex }
+{
+    match served {
+        Ok(served) => Ok(served),
+        Err(fault) => Err(fault_at(fault, not_hex)),
+    }
 }
 
 /// The fault, where a line that is not hex made the reader fail, or none did.

@@ -1,22 +1,41 @@
 //! The program `rstored`.
 
-ghost use Rattle.std.specs.Prelude.{◌≡◌, [], IfOk};
-ghost use Rattle.rs_store.specs.History.{Stands};
-ghost use Rattle.rs_store.specs.Maps.{kept};
-ghost use Rattle.rs_session.specs.Local.{catalogue_of, local_mark};
+ghost use Rattle.std.specs.Prelude.{◌≡◌, Result};
+ghost use Rattle.rs_server.specs.Statuses.{fault_status, run_status};
+ghost use Rattle.rs_server.specs.declared.program.RunFault.{RunFault};
 
+use crate::own_store::OwnStore;
 use crate::piping::{PipeFault, pipe};
-use crate::words::{Run, WordsFault, read_words};
-use rs_session::LocalGate;
-use rs_store::{MapCatalogue, TopicLimit};
-use std::alloc::{AllocError, Global};
+use crate::words::{Run, WordsFault, read_words, refused};
+use std::alloc::Global;
 use std::env;
 use std::env::Env;
 use std::io::{ErrorKind, Read, Write};
 use std::sync::Wait;
+use thiserror::Error;
 
-/// How many topics may hold a message.
-const TOPICS: u32 = 10_000;
+/// Why the program did not serve a connection to its end.
+#[derive(Debug, Drop, Error)]
+pub enum RunFault {
+    /// The command line asks for no connection.
+    #[error("{0}")]
+    Words(WordsFault),
+    /// The connection was broken off.
+    #[error("{0}")]
+    Pipe(PipeFault),
+}
+
+impl RunFault {
+    /// The exit status: that of the fault.
+    pub fn status(&self) -> u8
+        ensures { result ≡ fault_status self.now }
+    {
+        match self {
+            RunFault::Words(fault) => fault.status(),
+            RunFault::Pipe(fault) => fault.status(),
+        }
+    }
+}
 
 /// Runs the program by its command line, over this input and output, and gives its exit status: 0 where
 /// the connection ended or help was asked for, 1 where reading, writing or memory failed, 2 where the
@@ -24,28 +43,40 @@ const TOPICS: u32 = 10_000;
 pub fn run<H, I: Read + Drop, W: Write + Drop>(rt: &H, input: I, output: W) -> u8
 where
     H: Wait + Env + AllocGlobal + Print + Eprint,
+    ensures { (outcome : Result Unit RunFault) × (result ≡ run_status outcome) }
 {
-    match asked(rt) {
-        Ok(Run::Pipe { hex, at }) => match pipe_once(rt, rt.alloc(), input, output, hex, at) {
-            Ok(()) => 0,
-            Err(fault) => {
-                let _ = eprintln!(rt; "rstored: {fault}");
-                fault.status()
-            }
-        },
+    match run_command(rt, input, output) {
+        Ok(()) => 0,
         Err(fault) => {
-            tell(rt, &fault);
+            report(rt, &fault);
             fault.status()
         }
     }
 }
 
+fn run_command<H, I: Read + Drop, W: Write + Drop>(
+    rt: &H,
+    input: I,
+    output: W,
+) -> Result<(), RunFault>
+where
+    H: Wait + Env + AllocGlobal,
+{
+    match read_command_line(rt) {
+        Ok(Run::Pipe { hex, at }) => match pipe_once(rt, rt.alloc(), input, output, hex, at) {
+            Ok(()) => Ok(()),
+            Err(fault) => Err(RunFault::Pipe(fault)),
+        },
+        Err(fault) => Err(RunFault::Words(fault)),
+    }
+}
+
 /// What the command line asks for.
-fn asked<H: Env + AllocGlobal>(rt: &H) -> Result<Run, WordsFault> {
+fn read_command_line<H: Env + AllocGlobal>(rt: &H) -> Result<Run, WordsFault> {
     let words = match env::args(rt) {
         Ok(words) => words,
         Err(error) if error.kind() == ErrorKind::OutOfMemory => return Err(WordsFault::NoMemory),
-        Err(_) => return Err(not_text(rt.alloc())),
+        Err(_) => return Err(refused(rt.alloc(), "error: the command line is not UTF-8\n")),
     };
     let Ok(words) = words.skip(1).collect::<Vec<String>>(rt.alloc()) else {
         return Err(WordsFault::NoMemory);
@@ -53,19 +84,13 @@ fn asked<H: Env + AllocGlobal>(rt: &H) -> Result<Run, WordsFault> {
     read_words(rt.alloc(), words.as_slice())
 }
 
-fn not_text(alloc: Global) -> WordsFault {
-    match String::from_str(alloc, "error: the command line is not UTF-8\n") {
-        Ok(text) => WordsFault::Refused(text),
-        Err(_) => WordsFault::NoMemory,
-    }
-}
-
 /// Help goes to standard output, and all else to standard error.
-fn tell<H: Print + Eprint>(rt: &H, fault: &WordsFault) {
+fn report<H: Print + Eprint>(rt: &H, fault: &RunFault) {
     let _ = match fault {
-        WordsFault::Help(text) => print!(rt; "{text}"),
-        WordsFault::Refused(text) => eprint!(rt; "{text}"),
-        WordsFault::NoMemory => eprintln!(rt; "rstored: out of memory"),
+        RunFault::Words(WordsFault::Help(text)) => print!(rt; "{text}"),
+        RunFault::Words(WordsFault::Refused(text)) => eprint!(rt; "{text}"),
+        RunFault::Words(WordsFault::NoMemory) => eprintln!(rt; "rstored: out of memory"),
+        RunFault::Pipe(fault) => eprintln!(rt; "rstored: {fault}"),
     };
 }
 
@@ -78,21 +103,9 @@ fn pipe_once<H: Wait, I: Read + Drop, W: Write + Drop>(
     hex: bool,
     at: u64,
 ) -> Result<(), PipeFault> {
-    let Ok(gate) = local_gate(alloc) else {
+    let Ok(gate) = OwnStore::new(alloc) else {
         return Err(PipeFault::NoMemory);
     };
-    let (served, _gate) = pipe(rt, alloc, input, output, gate, hex, at);
-    let _served = served?;
+    let _served = pipe(rt, alloc, input, output, gate, hex, at).served?;
     Ok(())
-}
-
-/// The gate to an empty store of at most 10,000 topics.
-pub fn local_gate(alloc: Global) -> Result<LocalGate<MapCatalogue>, AllocError>
-    ensures list { IfOk result (λ gate. Stands (kept (catalogue_of gate)) []) }
-    ensures mark { IfOk result (λ gate. local_mark (kept (catalogue_of gate)) ≡ record { place = 1; serial = 0 }) }
-{
-    match TopicLimit::new(TOPICS) {
-        Some(limit) => LocalGate::new(alloc, limit),
-        None => unreachable!(),
-    }
 }

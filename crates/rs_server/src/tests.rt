@@ -1,3 +1,5 @@
+mod counted;
+mod faults;
 mod gate;
 mod lines;
 mod streams;

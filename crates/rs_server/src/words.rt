@@ -1,8 +1,8 @@
 //! The command line.
 
-ghost use Rattle.std.specs.Prelude.{◌≡◌, IfOk, Some, map, false, List};
+ghost use Rattle.std.specs.Prelude.{◌≡◌, IfOk, Some, map, true, false, List};
 ghost use Rattle.std.specs.String.{string_bytes};
-ghost use Rattle.clap.specs.Words.{Row, Text, app_of, subcommand_rows_of};
+ghost use Rattle.clap.specs.Words.{Row, Text, app_of, has_subcommand, subcommand_rows_of};
 ghost use Rattle.clap.specs.declared.builder.command.Command.TheViews.{out-Command as fields_of};
 ghost use Rattle.rs_server.specs.CommandLine.{AskFor, IsRunOf, pipe_words, rstored_words};
 ghost use Rattle.rs_server.specs.Statuses.{words_status};
@@ -77,13 +77,14 @@ pub fn read_words(alloc: Global, words: &[String]) -> Result<Run, WordsFault>
         return Err(WordsFault::NoMemory);
     };
     match command.try_get_matches_from(words) {
-        Ok(matches) => run_of(&matches),
+        Ok(matches) => run_of(alloc, &matches),
         Err(error) => Err(fault_of(alloc, error)),
     }
 }
 
 fn command<'a>(alloc: Global) -> Result<Command<'a>, AllocError>
-    ensures { IfOk result (λ c. app_of c ≡ rstored_words) }
+    ensures shape { IfOk result (λ c. app_of c ≡ rstored_words) }
+    ensures local { IfOk result (λ c. (fields_of c).has_globals ≡ false) }
 {
     Command::new(alloc, "rstored")
         .about(ABOUT)
@@ -115,20 +116,29 @@ fn pipe_command<'a>(alloc: Global) -> Result<Command<'a>, AllocError>
         .arg(at)
 }
 
-fn run_of(matches: &ArgMatches<'_>) -> Result<Run, WordsFault>
+fn run_of(alloc: Global, matches: &ArgMatches<'_>) -> Result<Run, WordsFault>
+    requires { has_subcommand matches.now ≡ true }
     ensures { IfOk result (λ run. (name : Text) × (rows : List Row) × (subcommand_rows_of matches.now ≡ Some (name, rows)) × IsRunOf rows run) }
 {
-    // The command requires both, so neither is missing.
     let Some((_, found)) = matches.subcommand() else {
-        return Err(WordsFault::NoMemory);
+        unreachable!()
     };
+    // Never taken: the command requires it. What clap promises of a subcommand's values does not say so.
     let Some(at) = found.get_one::<u64>("at") else {
-        return Err(WordsFault::NoMemory);
+        return Err(refused(alloc, "error: --at SECONDS is missing\n"));
     };
     Ok(Run::Pipe {
         hex: found.get_flag("hex"),
         at,
     })
+}
+
+/// Words that are refused, with this text.
+pub(crate) fn refused(alloc: Global, text: &str) -> WordsFault {
+    match String::from_str(alloc, text) {
+        Ok(text) => WordsFault::Refused(text),
+        Err(_) => WordsFault::NoMemory,
+    }
 }
 
 fn fault_of(alloc: Global, error: clap::Error) -> WordsFault {

@@ -1,4 +1,4 @@
 pub mod Submitting
 pub mod Rows
 pub mod Runs
-pub mod Waiting
+pub mod SubscriptionLemmas

@@ -1,57 +1,78 @@
 -- Lemmas on the rows.
-use Rattle.std.proofs.Common.{◌≡◌, ◌≢◌, ℕ, List, [], ◌∷◌, ◌++◌, refl, sym, subst, ap, append-nil, append_assoc, Bool, true, false, Option, Some, None, is_some, Result, Ok, Err, ◌∙◌, inl, inr}
+use Rattle.std.proofs.Common.{◌≡◌, ◌≢◌, ℕ, ◌<◌, ◌≤◌, List, [], ◌∷◌, ◌++◌, refl, sym, subst, ap, append-nil, append_assoc, Bool, true, false, ltb, Option, Some, None, is_some, Result, Ok, Err, ◌∙◌, inl, inr}
+use Rattle.std.specs.Prelude.{option_map}
+use Rattle.std.specs.List.{list_any}
+use Rattle.std.specs.FinMap as finite
+use Rattle.std.specs.FinSet as set
+use Rattle.std.proofs.lemmas.Bool.{lt-ltb, le-ltb}
 use Rattle.rs_topic.specs.declared.text.TopicFault.{TopicFault}
-use Rattle.rs_packet.specs.declared.fault.PacketFault.{PacketFault}
-use Rattle.rs_packet.specs.declared.fault.PacketFault.TheVariants as fault
+use Rattle.rs_topic.specs.declared.text.TopicFault.TheVariants as topic_fault
+use Rattle.rs_field.specs.declared.fault.PacketFault.{PacketFault}
+use Rattle.rs_field.specs.declared.fault.PacketFault.TheVariants as fault
+use Rattle.rs_packet.specs.declared.packet.Acknowledgement.{Acknowledgement}
 use Rattle.rs_packet.specs.declared.packet.Connect.{Connect}
 use Rattle.rs_packet.specs.declared.packet.Packet.{Packet}
 use Rattle.rs_packet.specs.declared.packet.Packet.TheVariants as packet
+use Rattle.rs_packet.specs.declared.packet.Publish.{Publish}
+use Rattle.rs_packet.specs.declared.packet.Subscribe.{Subscribe}
+use Rattle.rs_packet.specs.declared.packet.Unsubscribe.{Unsubscribe}
 use Rattle.rs_packet.specs.declared.reply.Reply.{Reply}
 use Rattle.rs_packet.specs.declared.reply.Reply.TheVariants as reply
+use Rattle.rs_packet.specs.Values.{Asked, Filter, CodesValue}
 use Rattle.rs_message.specs.declared.entry.Entry.{Entry}
-use Rattle.rs_message.specs.declared.entry.Found.{Found}
-use Rattle.rs_packet.specs.Values.{Asked, CodesValue}
+use Rattle.rs_message.specs.declared.entry.Operation.{Operation}
+use Rattle.rs_message.specs.Values.{MessageValue}
+use Rattle.rs_message.specs.Messages.{operation_of}
+use Rattle.rs_window.specs.Calls as window
+use Rattle.rs_window.specs.declared.identifiers.Kind.{Kind}
+use Rattle.rs_window.specs.declared.identifiers.Kind.TheVariants as kind
+use Rattle.rs_window.specs.declared.fault.Ack.{Ack}
+use Rattle.rs_window.specs.declared.fault.WindowFault.{WindowFault}
+use Rattle.rs_window.specs.declared.fault.WindowFault.TheVariants as window_fault
+use Rattle.rs_session.specs.declared.open.Open.{Open}
+use Rattle.rs_session.specs.declared.open.Outcome.{Outcome}
+use Rattle.rs_session.specs.declared.open.Outcome.TheVariants.{Replies, Closes, Leaves}
 use Rattle.rs_session.specs.declared.phase.Closing.{Closing}
-use Rattle.rs_session.specs.declared.phase.Closing.TheVariants.{ByServer, Dropped}
-use Rattle.rs_session.specs.declared.phase.Phase.TheVariants.{Before, Open, Ended}
+use Rattle.rs_session.specs.declared.phase.Closing.TheVariants.{ByClient, ByServer, Dropped}
+use Rattle.rs_session.specs.declared.phase.Phase.TheVariants as phase
 use Rattle.rs_session.specs.declared.phase.Input.{Input}
 use Rattle.rs_session.specs.declared.phase.Input.TheVariants.{Whole, Broken}
 use Rattle.rs_session.specs.Gate.{Mark, BeginsWith, Grows, Uses}
-use Rattle.rs_session.specs.Reasons.{unsupported_protocol_version, implementation_specific_error, bad_authentication_method, quota_exceeded, protocol_error, topic_alias_invalid, subscription_identifiers_not_supported}
-use Rattle.rs_session.specs.State.{State, ended, within}
-use Rattle.std.specs.List.{list_any}
-use Rattle.rs_packet.specs.declared.packet.Subscribe.{Subscribe}
-use Rattle.rs_packet.specs.declared.packet.Publish.{Publish}
-use Rattle.rs_packet.specs.declared.packet.Qos.{Qos}
-use Rattle.rs_packet.specs.declared.packet.Qos.TheVariants.{AtMostOnce, AtLeastOnce, ExactlyOnce}
-use Rattle.rs_topic.specs.declared.text.TopicFault.TheVariants as topic_fault
-use Rattle.rs_message.specs.Values.{MessageValue}
-use Rattle.rs_message.specs.Messages.{operation_of}
-use Rattle.rs_message.specs.declared.entry.Operation.{Operation}
-use Rattle.rs_session.specs.Steps.{IsAccepted, connect_refusal, publish_refusal, change_on, subscribe_refusal, IsSettled}
-use Rattle.rs_session.specs.Table.{Answers, IsNoGreeting, IsUnserved, fault_code, limit_of, connack, With_method, With_will, Connect_refused, Accepted, Connack_too_long, Other_version, Unexpected, Faulty, Unserved, With_alias, Bad_topic, Other_qos, Topic_unread, Not_retained, Kept, Not_kept, Uncertain, Gate_closed, Over, IsClosed, IsSubmittable, IsTopicOrUnread, topic_code, change, Shared_no_local, With_subscription_identifier, Not_subscribed, Subscribed, is_shared_local, Grants, IsGranted}
+use Rattle.rs_session.specs.Reasons.{unsupported_protocol_version, implementation_specific_error, bad_authentication_method, quota_exceeded, protocol_error, packet_identifier_not_found}
+use Rattle.rs_session.specs.State.{State, opened, ended, within, state_of, due_of, gate_of, IsGiven, IsReplayed}
+use Rattle.rs_session.specs.declared.session.Session.{Session}
+use Rattle.rs_session.specs.declared.phase.Phase.{Phase}
+use Rattle.rs_window.specs.Packets.{reply_of}
+use Rattle.rs_window.specs.Values.{PublishValue}
+use Rattle.rs_session.specs.Subscriptions.{Subscriptions, is_subscribed}
+use Rattle.rs_session.specs.declared.subscriptions.Subscription.{Subscription}
+use Rattle.rs_session.proofs.SubscriptionLemmas.{remove_inserted, get_absent}
+use Rattle.rs_session.specs.Steps.{IsAccepted, connect_refusal, outcome_before, outcome_of_alias, outcome_of_topic, outcome_of_id, topic_refusal, IsSettled}
+use Rattle.rs_session.specs.Table.{Answers, LeadsTo, IsNoGreeting, fault_code, packet_limit, connack, open_for, change, topic_code, acknowledged_by, held_id, is_held, is_one_too_many, holding, IsTaken, IsTopicOrUnread, IsSubmittable, acknowledgement_of, released_by, released_code, is_shared_local, Grants, IsGranted, removal_code, removal_codes, without, without_all, due_for, state_after, With_method, With_will, Connect_refused, Accepted, Connack_too_long, Other_version, Unexpected, In_session, Over, Faulty, With_alias, Bad_topic, Sent_again, Too_many_held, Not_retained, Kept, Topic_unread, Not_kept, Uncertain, Gate_closed, Released, Wrong_acknowledgement, Acknowledged, Shared_no_local, Not_subscribed, Subscribed, Not_unsubscribed, Unsubscribed, Connected_twice, Pinged, Disconnected}
+
+pub Grows-weaker : (before after : List Entry → Type 0) (P Q : List Entry → List Entry → Type 0) → ((seen list : List Entry) → P seen list → Q seen list) → Grows before after P → Grows before after Q
+Grows-weaker before after P Q f h = λ seen s. let (list, stands, begins, p) = h seen s in (list, stands, begins, f seen list p)
 
 -- a gate that is as it was stands for the same lists
-pub unmoved : {G : Type 0} (stands : G → List Entry → Type 0) (mark : G → Mark) (old new : G) (input : Input) (now : ℕ) (from : State) (due : Option Reply) (to : State)
-    → new ≡ old → ((seen : List Entry) → Answers input now from (mark old) seen seen (mark old) due to)
-    → Grows (stands old) (stands new) (λ seen list. Answers input now from (mark old) seen list (mark new) due to)
-unmoved {G} stands mark old new input now from due to e h =
-    subst (λ (g : G). Grows (stands old) (stands g) (λ seen list. Answers input now from (mark old) seen list (mark g) due to)) (sym e)
+pub unmoved : {G : Type 0} (stands : G → List Entry → Type 0) (mark : G → Mark) (old new : G) (P : List Entry → List Entry → Mark → Type 0)
+    → new ≡ old → ((seen : List Entry) → P seen seen (mark old)) → Grows (stands old) (stands new) (λ seen list. P seen list (mark new))
+unmoved {G} stands mark old new P e h =
+    subst (λ (g : G). Grows (stands old) (stands g) (λ seen list. P seen list (mark g))) (sym e)
     (λ seen s. (seen, s, ([], sym (append-nil seen)), h seen))
 
 -- ---- before an accepted CONNECT
 
-pub unexpected : (p is : Packet) (old new : State) (due : Option Reply) → p ≡ is → IsNoGreeting (Whole is) → old.phase ≡ Before → due ≡ None → new ≡ ended old Dropped
+pub unexpected : (p is : Packet) (old new : State) (due : Option Reply) → p ≡ is → IsNoGreeting (Whole is) → old.phase ≡ phase.Before → due ≡ None → new ≡ ended old Dropped
     → (now : ℕ) (mark : Mark) (list : List Entry) → Answers (Whole p) now old mark list list mark due new
 unexpected p is old new due e greets before none end = λ now mark list.
     (Unexpected, (subst (λ (x : Packet). IsNoGreeting (Whole x)) (sym e) greets, before, refl, none, end))
 
-pub turned_away : (f is : PacketFault) (old new : State) (due : Option Reply) → f ≡ is → IsNoGreeting (Broken is) → old.phase ≡ Before → due ≡ None → new ≡ ended old Dropped
+pub unexpected_fault : (f is : PacketFault) (old new : State) (due : Option Reply) → f ≡ is → IsNoGreeting (Broken is) → old.phase ≡ phase.Before → due ≡ None → new ≡ ended old Dropped
     → (now : ℕ) (mark : Mark) (list : List Entry) → Answers (Broken f) now old mark list list mark due new
-turned_away f is old new due e greets before none end = λ now mark list.
+unexpected_fault f is old new due e greets before none end = λ now mark list.
     (Unexpected, (subst (λ (x : PacketFault). IsNoGreeting (Broken x)) (sym e) greets, before, refl, none, end))
 
-pub other_version : (f : PacketFault) (old new : State) (due : Option Reply) → f ≡ fault.Version → old.phase ≡ Before → due ≡ Some (reply.Refused unsupported_protocol_version) → new ≡ ended old (ByServer unsupported_protocol_version)
+pub other_version : (f : PacketFault) (old new : State) (due : Option Reply) → f ≡ fault.Version → old.phase ≡ phase.Before → due ≡ Some (reply.Refused unsupported_protocol_version) → new ≡ ended old (ByServer unsupported_protocol_version)
     → (now : ℕ) (mark : Mark) (list : List Entry) → Answers (Broken f) now old mark list list mark due new
 other_version f old new due e before is end = λ now mark list.
     (Other_version, (ap Broken e, before, refl, is, end))
@@ -61,26 +82,26 @@ pub connected : (c : Connect) (p : Packet) (old new : State) (due : Option Reply
     → (now : ℕ) (mark : Mark) (list : List Entry) → Answers (Whole p) now old mark list list mark due new
 connected c p old new due e h = λ now mark list. subst (λ (x : Packet). Answers (Whole x) now old mark list list mark due new) (sym e) (h now mark list)
 
-pub accepted : (c : Connect) (method will : Bool) (old new : State) (due : Option Reply) → is_some c.method ≡ method → c.will ≡ will → connect_refusal method will ≡ None → old.phase ≡ Before → IsAccepted (connack c old) (limit_of c.packet_maximum) old due new
+pub accepted : (c : Connect) (method will : Bool) (old new : State) (due : Option Reply) → is_some c.method ≡ method → c.will ≡ will → connect_refusal method will ≡ None → old.phase ≡ phase.Before → IsAccepted (connack c old) (packet_limit c.packet_maximum) (open_for c) old due new
     → (now : ℕ) (mark : Mark) (list : List Entry) → Answers (Whole (packet.Connect c)) now old mark list list mark due new
 accepted c true will old new due m w none before h = absurd (cc)
 accepted c false true old new due m w none before h = absurd (cc)
 accepted c false false old new due m w none before (inl (a, b, d)) = λ now mark list. (Accepted, (c, refl, before, m, w, a, refl, b, d))
 accepted c false false old new due m w none before (inr (a, b, d)) = λ now mark list. (Connack_too_long, (c, refl, before, m, w, a, refl, b, d))
 
-pub connect_refused : (c : Connect) (method will : Bool) (code : ℕ) (old new : State) (due : Option Reply) → is_some c.method ≡ method → c.will ≡ will → connect_refusal method will ≡ Some code → old.phase ≡ Before
-    → due ≡ within (limit_of c.packet_maximum) (reply.Refused code) → new ≡ ended old (ByServer code)
+pub connect_refused : (c : Connect) (method will : Bool) (code : ℕ) (old new : State) (due : Option Reply) → is_some c.method ≡ method → c.will ≡ will → connect_refusal method will ≡ Some code → old.phase ≡ phase.Before
+    → due ≡ within (packet_limit c.packet_maximum) (reply.Refused code) → new ≡ ended old (ByServer code)
     → (now : ℕ) (mark : Mark) (list : List Entry) → Answers (Whole (packet.Connect c)) now old mark list list mark due new
 connect_refused c true will code old new due m w is before d s = λ now mark list.
     let e : code ≡ bad_authentication_method = cc in
-    (With_method, (c, refl, before, m, record { none_used = refl; reply = d ∙ ap (λ (n : ℕ). within (limit_of c.packet_maximum) (reply.Refused n)) e; end = s ∙ ap (λ (n : ℕ). ended old (ByServer n)) e }))
+    (With_method, (c, refl, before, m, record { none_used = refl; reply = d ∙ ap (λ (n : ℕ). within (packet_limit c.packet_maximum) (reply.Refused n)) e; end = s ∙ ap (λ (n : ℕ). ended old (ByServer n)) e }))
 connect_refused c false true code old new due m w is before d s = λ now mark list.
     let e : code ≡ implementation_specific_error = cc in
-    (With_will, (c, refl, before, m, w, record { none_used = refl; reply = d ∙ ap (λ (n : ℕ). within (limit_of c.packet_maximum) (reply.Refused n)) e; end = s ∙ ap (λ (n : ℕ). ended old (ByServer n)) e }))
+    (With_will, (c, refl, before, m, w, record { none_used = refl; reply = d ∙ ap (λ (n : ℕ). within (packet_limit c.packet_maximum) (reply.Refused n)) e; end = s ∙ ap (λ (n : ℕ). ended old (ByServer n)) e }))
 connect_refused c false false code old new due m w is before d s = absurd (cc)
 
-pub connect_without_memory : (c : Connect) (method will : Bool) (old new : State) (due : Option Reply) → is_some c.method ≡ method → c.will ≡ will → connect_refusal method will ≡ None → old.phase ≡ Before
-    → due ≡ within (limit_of c.packet_maximum) (reply.Refused quota_exceeded) → new ≡ ended old (ByServer quota_exceeded)
+pub connect_without_memory : (c : Connect) (method will : Bool) (old new : State) (due : Option Reply) → is_some c.method ≡ method → c.will ≡ will → connect_refusal method will ≡ None → old.phase ≡ phase.Before
+    → due ≡ within (packet_limit c.packet_maximum) (reply.Refused quota_exceeded) → new ≡ ended old (ByServer quota_exceeded)
     → (now : ℕ) (mark : Mark) (list : List Entry) → Answers (Whole (packet.Connect c)) now old mark list list mark due new
 connect_without_memory c true will old new due m w none before d s = absurd (cc)
 connect_without_memory c false true old new due m w none before d s = absurd (cc)
@@ -89,113 +110,172 @@ connect_without_memory c false false old new due m w none before d s = λ now ma
 
 -- ---- an open session
 
-pub Grows-weaker : (before after : List Entry → Type 0) (P Q : List Entry → List Entry → Type 0) → ((seen list : List Entry) → P seen list → Q seen list) → Grows before after P → Grows before after Q
-Grows-weaker before after P Q f h = λ seen s. let (list, stands, begins, p) = h seen s in (list, stands, begins, f seen list p)
+pub over : (input : Input) (old new : State) (due : Option Reply) (now : ℕ) (mark : Mark) (list : List Entry) (closing : Closing) → old.phase ≡ phase.Ended closing → due ≡ None → new ≡ old → Answers input now old mark list list mark due new
+over input old new due now mark list closing e d s = (Over, (closing, e, refl, d, s))
 
-pub closes : (code is : ℕ) (old new : State) (mark : Mark) (due : Option Reply) → code ≡ is → due ≡ within old.largest (reply.Disconnect code) → new ≡ ended old (ByServer code) → IsClosed is old mark mark due new
-closes code is old new mark due e d s = record { none_used = refl; reply = d ∙ ap (λ (n : ℕ). within old.largest (reply.Disconnect n)) e; end = s ∙ ap (λ (n : ℕ). ended old (ByServer n)) e }
+-- what a row leads to is due, and the state after it
+pub concluded : (input : Input) (now : ℕ) (old new : State) (o left : Open) (outcome : Outcome) (limit : ℕ) (due : Option Reply) (mark used : Mark) (seen list : List Entry)
+    → old.phase ≡ phase.Open o → limit ≡ o.window.packet_maximum → LeadsTo input now o mark seen list used outcome left → due ≡ due_for limit outcome → new ≡ state_after outcome old left
+    → Answers input now old mark seen list used due new
+concluded input now old new o left outcome limit due mark used seen list p l h d s =
+    (In_session, (o, left, outcome, p, h, d ∙ ap (λ (n : ℕ). due_for n outcome) l, s))
 
-pub unserved : (p is : Packet) (old new : State) (due : Option Reply) (now : ℕ) (mark : Mark) (list : List Entry) → p ≡ is → IsUnserved is → old.phase ≡ Open
-    → due ≡ within old.largest (reply.Disconnect implementation_specific_error) → new ≡ ended old (ByServer implementation_specific_error) → Answers (Whole p) now old mark list list mark due new
-unserved p is old new due now mark list e u o d s = (Unserved, (is, ap Whole e, o, u, record { none_used = refl; reply = d; end = s }))
+pub faulty : (f : PacketFault) (o : Open) (now code : ℕ) (mark : Mark) (list : List Entry) → code ≡ fault_code f → LeadsTo (Broken f) now o mark list list mark (Closes code) o
+faulty f o now code mark list e = (Faulty, (f, refl, ap Closes e, record { none_used = refl; same = refl }))
 
-pub faulty : (f : PacketFault) (old new : State) (due : Option Reply) (now : ℕ) (mark : Mark) (list : List Entry) (code : ℕ) → old.phase ≡ Open → code ≡ fault_code f
-    → due ≡ within old.largest (reply.Disconnect code) → new ≡ ended old (ByServer code) → Answers (Broken f) now old mark list list mark due new
-faulty f old new due now mark list code o e d s = (Faulty, (f, refl, o, closes code (fault_code f) old new mark due e d s))
+-- ---- acknowledgements
 
-pub over : (input : Input) (old new : State) (due : Option Reply) (now : ℕ) (mark : Mark) (list : List Entry) (closing : Closing) → old.phase ≡ Ended closing → due ≡ None → new ≡ old → Answers input now old mark list list mark due new
-over input old new due now mark list closing e d s = (Over, (closing, e, record { none_used = refl; reply = d; same = s }))
+pub acknowledged : (p : Packet) (ack : window.Acknowledgement) (id : ℕ) (answer : Ack) (old new : Open) (outcome : Outcome) (now : ℕ) (mark : Mark) (list : List Entry)
+    → acknowledgement_of p ≡ Some (ack, id) → window.IsAcknowledged ack id old.window (Ok answer) new.window → outcome ≡ Replies (released_by ack id answer) → new ≡ record old { window = new.window }
+    → LeadsTo (Whole p) now old mark list list mark outcome new
+acknowledged p ack id answer old new outcome now mark list is h e s = (Acknowledged, (p, ack, id, answer, refl, is, h, e, refl, s))
 
-some_code : (a b : ℕ) → Some a ≡ Some b → b ≡ a
-some_code a b e = cc
+-- an acknowledgement is refused only where it is of the wrong kind
+wrong : (ack : window.Acknowledgement) (before : Option Kind) (fault : WindowFault) → Err fault ≡ window.answer_to ack before → fault ≡ window_fault.WrongKind
+wrong ack None fault e = absurd (cc)
+wrong ack (Some k) fault e = left ack (window.kind_acknowledged ack k) e
+  where
+    left : (ack : window.Acknowledgement) (after : Option Kind) → Err fault ≡ window.answer_left ack after → fault ≡ window_fault.WrongKind
+    left ack None e = absurd (cc)
+    left window.Puback (Some k) e = cc
+    left window.Pubcomp (Some k) e = cc
+    left (window.Pubrec code) (Some kind.AtLeastOnce) e = cc
+    left (window.Pubrec code) (Some kind.ExactlyOnce) e = cc
+    left (window.Pubrec code) (Some kind.Received) e = absurd (cc)
 
-bad_topic : (p : Publish) (fault : TopicFault) (code : ℕ) (old new : State) (due : Option Reply) (now : ℕ) (mark : Mark) (list : List Entry) → p.alias ≡ None → p.topic ≡ Err fault → fault ≢ topic_fault.NoMemory → Some (topic_code fault) ≡ Some code → old.phase ≡ Open
-    → due ≡ within old.largest (reply.Disconnect code) → new ≡ ended old (ByServer code) → Answers (Whole (packet.Publish p)) now old mark list list mark due new
-bad_topic p fault code old new due now mark list a t other e o d s =
-    (Bad_topic, (p, fault, refl, o, ap is_some a, t, other, closes code (topic_code fault) old new mark due (some_code _ _ e) d s))
+pub not_acknowledged : (p : Packet) (ack : window.Acknowledgement) (id : ℕ) (fault : WindowFault) (old new : Open) (now : ℕ) (mark : Mark) (list : List Entry)
+    → acknowledgement_of p ≡ Some (ack, id) → window.IsAcknowledged ack id old.window (Err fault) new.window → new ≡ old
+    → LeadsTo (Whole p) now old mark list list mark (Closes protocol_error) new
+not_acknowledged p ack id fault old new now mark list is h s =
+    (Wrong_acknowledgement, (p, ack, id, refl, is, sym h.0 ∙ ap (λ (f : WindowFault). Err f) (wrong ack _ fault h.0), refl, record { none_used = refl; same = s }))
 
-other_qos : (p : Publish) (topic : Result (List ℕ) TopicFault) (qos : Qos) (code : ℕ) (old new : State) (due : Option Reply) (now : ℕ) (mark : Mark) (list : List Entry) → p.alias ≡ None → p.topic ≡ topic → IsTopicOrUnread topic → p.qos ≡ qos → qos ≢ AtMostOnce → Some implementation_specific_error ≡ Some code → old.phase ≡ Open
-    → due ≡ within old.largest (reply.Disconnect code) → new ≡ ended old (ByServer code) → Answers (Whole (packet.Publish p)) now old mark list list mark due new
-other_qos p topic qos code old new due now mark list a t unread q other e o d s =
-    (Other_qos, (p, refl, o, ap is_some a, subst IsTopicOrUnread (sym t) unread, (λ h. other (sym q ∙ h)), closes code implementation_specific_error old new mark due (some_code _ _ e) d s))
+-- a PUBREC for an identifier that is not in use
+pub unknown_low : (code id : ℕ) → code < 128 → Replies (Some (reply.Pubrel id packet_identifier_not_found)) ≡ Replies (released_by (window.Pubrec code) id Ack.Unknown)
+unknown_low code id h = let s : ltb code 128 ≡ true = lt-ltb _ _ h in rw s refl
 
-pub publish_refused : (p : Publish) (alias : Option ℕ) (topic : Result (List ℕ) TopicFault) (qos : Qos) (code : ℕ) (old new : State) (due : Option Reply) (now : ℕ) (mark : Mark) (list : List Entry)
-    → p.alias ≡ alias → p.topic ≡ topic → p.qos ≡ qos → publish_refusal alias topic qos ≡ Some code → old.phase ≡ Open
-    → due ≡ within old.largest (reply.Disconnect code) → new ≡ ended old (ByServer code) → Answers (Whole (packet.Publish p)) now old mark list list mark due new
-publish_refused p (Some x) topic qos code old new due now mark list a t q e o d s =
-    (With_alias, (p, refl, o, ap is_some a, closes code topic_alias_invalid old new mark due (some_code _ _ e) d s))
-publish_refused p None (Ok topic) AtMostOnce code old new due now mark list a t q e o d s = absurd (cc)
-publish_refused p None (Ok topic) AtLeastOnce code old new due now mark list a t q e o d s = other_qos p _ _ code old new due now mark list a t tt q (λ h. cc) e o d s
-publish_refused p None (Ok topic) ExactlyOnce code old new due now mark list a t q e o d s = other_qos p _ _ code old new due now mark list a t tt q (λ h. cc) e o d s
-publish_refused p None (Err topic_fault.NoMemory) AtMostOnce code old new due now mark list a t q e o d s = absurd (cc)
-publish_refused p None (Err topic_fault.NoMemory) AtLeastOnce code old new due now mark list a t q e o d s = other_qos p _ _ code old new due now mark list a t refl q (λ h. cc) e o d s
-publish_refused p None (Err topic_fault.NoMemory) ExactlyOnce code old new due now mark list a t q e o d s = other_qos p _ _ code old new due now mark list a t refl q (λ h. cc) e o d s
-publish_refused p None (Err topic_fault.Empty) qos code old new due now mark list a t q e o d s = bad_topic p _ code old new due now mark list a t (λ h. cc) e o d s
-publish_refused p None (Err topic_fault.TooLong) qos code old new due now mark list a t q e o d s = bad_topic p _ code old new due now mark list a t (λ h. cc) e o d s
-publish_refused p None (Err topic_fault.NotUtf8) qos code old new due now mark list a t q e o d s = bad_topic p _ code old new due now mark list a t (λ h. cc) e o d s
-publish_refused p None (Err topic_fault.HasNul) qos code old new due now mark list a t q e o d s = bad_topic p _ code old new due now mark list a t (λ h. cc) e o d s
-publish_refused p None (Err topic_fault.HasWildcard) qos code old new due now mark list a t q e o d s = bad_topic p _ code old new due now mark list a t (λ h. cc) e o d s
-publish_refused p None (Err topic_fault.BadWildcard) qos code old new due now mark list a t q e o d s = bad_topic p _ code old new due now mark list a t (λ h. cc) e o d s
-publish_refused p None (Err topic_fault.TooManyLevels) qos code old new due now mark list a t q e o d s = bad_topic p _ code old new due now mark list a t (λ h. cc) e o d s
-publish_refused p None (Err topic_fault.Shared) qos code old new due now mark list a t q e o d s = bad_topic p _ code old new due now mark list a t (λ h. cc) e o d s
+pub unknown_high : (code id : ℕ) → 128 ≤ code → Replies None ≡ Replies (released_by (window.Pubrec code) id Ack.Unknown)
+unknown_high code id h = let s : ltb code 128 ≡ false = le-ltb _ _ h in rw s refl
 
--- a PUBLISH that is not refused has QoS 0, no alias, and a topic name or no memory for it
-unrefused : (alias : Option ℕ) (topic : Result (List ℕ) TopicFault) (qos : Qos) → publish_refusal alias topic qos ≡ None → (alias ≡ None) × (qos ≡ AtMostOnce) × IsTopicOrUnread topic
-unrefused (Some x) topic qos e = absurd (cc)
-unrefused None (Ok topic) AtMostOnce e = (refl, refl, tt)
-unrefused None (Ok topic) AtLeastOnce e = absurd (cc)
-unrefused None (Ok topic) ExactlyOnce e = absurd (cc)
-unrefused None (Err topic_fault.NoMemory) AtMostOnce e = (refl, refl, refl)
-unrefused None (Err topic_fault.NoMemory) AtLeastOnce e = absurd (cc)
-unrefused None (Err topic_fault.NoMemory) ExactlyOnce e = absurd (cc)
-unrefused None (Err topic_fault.Empty) qos e = absurd (cc)
-unrefused None (Err topic_fault.TooLong) qos e = absurd (cc)
-unrefused None (Err topic_fault.NotUtf8) qos e = absurd (cc)
-unrefused None (Err topic_fault.HasNul) qos e = absurd (cc)
-unrefused None (Err topic_fault.HasWildcard) qos e = absurd (cc)
-unrefused None (Err topic_fault.BadWildcard) qos e = absurd (cc)
-unrefused None (Err topic_fault.TooManyLevels) qos e = absurd (cc)
-unrefused None (Err topic_fault.Shared) qos e = absurd (cc)
+pub released : (a : Acknowledgement) (code : ℕ) (old new : Open) (now : ℕ) (mark : Mark) (list : List Entry) → code ≡ released_code a.id old.inbound → new ≡ record old { inbound = set.remove old.inbound a.id }
+    → LeadsTo (Whole (packet.Pubrel a)) now old mark list list mark (Replies (Some (reply.Pubcomp a.id code))) new
+released a code old new now mark list e s = (Released, (a, refl, ap (λ (n : ℕ). Replies (Some (reply.Pubcomp a.id n))) e, refl, s))
 
-settled : (p : Publish) (topic : List ℕ) (operation : Operation) (now : ℕ) (old new : State) (mark used : Mark) (due : Option Reply) (seen list : List Entry)
-    → p.alias ≡ None → p.topic ≡ Ok topic → p.qos ≡ AtMostOnce → change p topic now ≡ Some operation → old.phase ≡ Open → Uses mark used
-    → IsSettled operation old mark used list due new → Answers (Whole (packet.Publish p)) now old mark seen list used due new
-settled p topic operation now old new mark used due seen list a t q c o u h =
-    let may : IsSubmittable p topic now operation old mark used = record { open_ = o; no_alias = ap is_some a; is_topic = t; is_unanswered = q; changes = c; one_used = u } in
-    elim h as (λ h. Answers (Whole (packet.Publish p)) now old mark seen list used due new) [
-      | inl k ↦ (Kept, (p, topic, operation, refl, may, k.0, k.1.0, k.1.1))
-      | inr h ↦ elim h as (λ h. Answers (Whole (packet.Publish p)) now old mark seen list used due new) [
+-- ---- PUBLISH
+
+some_outcome : (a b : Outcome) → Some a ≡ Some b → b ≡ a
+some_outcome a b e = cc
+
+bad_topic : (p : Publish) (f : TopicFault) (outcome : Outcome) (o : Open) (now : ℕ) (mark : Mark) (list : List Entry) → is_some p.alias ≡ false → p.topic ≡ Err f → f ≢ topic_fault.NoMemory → Some (Closes (topic_code f)) ≡ Some outcome
+    → LeadsTo (Whole (packet.Publish p)) now o mark list list mark outcome o
+bad_topic p f outcome o now mark list a t other e = (Bad_topic, (p, f, refl, a, t, other, some_outcome _ _ e, record { none_used = refl; same = refl }))
+
+by_id : (p : Publish) (held many : Bool) (outcome : Outcome) (o : Open) (now : ℕ) (mark : Mark) (list : List Entry) → is_some p.alias ≡ false → IsTopicOrUnread p.topic
+    → is_held (held_id p.qos p.id) o.inbound ≡ held → is_one_too_many (held_id p.qos p.id) o.inbound ≡ many → outcome_of_id held many (acknowledged_by p.qos p.id 0) ≡ Some outcome
+    → LeadsTo (Whole (packet.Publish p)) now o mark list list mark outcome o
+by_id p true many outcome o now mark list a t h m e = (Sent_again, (p, refl, a, t, h, some_outcome _ _ e, record { none_used = refl; same = refl }))
+by_id p false true outcome o now mark list a t h m e = (Too_many_held, (p, refl, a, t, m, some_outcome _ _ e, record { none_used = refl; same = refl }))
+by_id p false false outcome o now mark list a t h m e = absurd (cc)
+
+by_topic : (p : Publish) (topic : Result (List ℕ) TopicFault) (rest : Option Outcome) (outcome : Outcome) (o : Open) (now : ℕ) (mark : Mark) (list : List Entry) → is_some p.alias ≡ false → p.topic ≡ topic
+    → (IsTopicOrUnread topic → rest ≡ Some outcome → LeadsTo (Whole (packet.Publish p)) now o mark list list mark outcome o)
+    → outcome_of_topic (topic_refusal topic) rest ≡ Some outcome → LeadsTo (Whole (packet.Publish p)) now o mark list list mark outcome o
+by_topic p (Ok topic) rest outcome o now mark list a t more e = more tt e
+by_topic p (Err topic_fault.NoMemory) rest outcome o now mark list a t more e = more refl e
+by_topic p (Err topic_fault.Empty) rest outcome o now mark list a t more e = bad_topic p _ outcome o now mark list a t (λ h. cc) e
+by_topic p (Err topic_fault.TooLong) rest outcome o now mark list a t more e = bad_topic p _ outcome o now mark list a t (λ h. cc) e
+by_topic p (Err topic_fault.NotUtf8) rest outcome o now mark list a t more e = bad_topic p _ outcome o now mark list a t (λ h. cc) e
+by_topic p (Err topic_fault.HasNul) rest outcome o now mark list a t more e = bad_topic p _ outcome o now mark list a t (λ h. cc) e
+by_topic p (Err topic_fault.HasWildcard) rest outcome o now mark list a t more e = bad_topic p _ outcome o now mark list a t (λ h. cc) e
+by_topic p (Err topic_fault.BadWildcard) rest outcome o now mark list a t more e = bad_topic p _ outcome o now mark list a t (λ h. cc) e
+by_topic p (Err topic_fault.TooManyLevels) rest outcome o now mark list a t more e = bad_topic p _ outcome o now mark list a t (λ h. cc) e
+by_topic p (Err topic_fault.Shared) rest outcome o now mark list a t more e = bad_topic p _ outcome o now mark list a t (λ h. cc) e
+
+by_alias : (p : Publish) (alias : Option ℕ) (rest : Option Outcome) (outcome : Outcome) (o : Open) (now : ℕ) (mark : Mark) (list : List Entry) → p.alias ≡ alias
+    → (is_some p.alias ≡ false → rest ≡ Some outcome → LeadsTo (Whole (packet.Publish p)) now o mark list list mark outcome o)
+    → outcome_of_alias alias rest ≡ Some outcome → LeadsTo (Whole (packet.Publish p)) now o mark list list mark outcome o
+by_alias p (Some x) rest outcome o now mark list a more e = (With_alias, (p, refl, ap is_some a, some_outcome _ _ e, record { none_used = refl; same = refl }))
+by_alias p None rest outcome o now mark list a more e = more (ap is_some a) e
+
+-- what a PUBLISH leads to before its topic is used
+pub before_use : (p : Publish) (outcome : Outcome) (o : Open) (now : ℕ) (mark : Mark) (list : List Entry) → outcome_before p o ≡ Some outcome → LeadsTo (Whole (packet.Publish p)) now o mark list list mark outcome o
+before_use p outcome o now mark list e =
+    by_alias p p.alias _ outcome o now mark list refl
+    (λ a e. by_topic p p.topic _ outcome o now mark list a refl (λ t e. by_id p _ _ outcome o now mark list a t refl refl e) e) e
+
+-- where it leads to nothing, the PUBLISH is taken
+by_no_id : (held many : Bool) (again : Option Reply) → outcome_of_id held many again ≡ None → (held ≡ false) × (many ≡ false)
+by_no_id true many again e = absurd (cc)
+by_no_id false true again e = absurd (cc)
+by_no_id false false again e = (refl, refl)
+
+by_no_topic : (code : Option ℕ) (rest : Option Outcome) → outcome_of_topic code rest ≡ None → (code ≡ None) × (rest ≡ None)
+by_no_topic (Some x) rest e = absurd (cc)
+by_no_topic None rest e = (refl, e)
+
+by_no_alias : (alias : Option ℕ) (rest : Option Outcome) → outcome_of_alias alias rest ≡ None → (is_some alias ≡ false) × (rest ≡ None)
+by_no_alias (Some x) rest e = absurd (cc)
+by_no_alias None rest e = (refl, e)
+
+unread : (topic : Result (List ℕ) TopicFault) → topic_refusal topic ≡ None → IsTopicOrUnread topic
+unread (Ok topic) e = tt
+unread (Err topic_fault.NoMemory) e = refl
+unread (Err topic_fault.Empty) e = absurd (cc)
+unread (Err topic_fault.TooLong) e = absurd (cc)
+unread (Err topic_fault.NotUtf8) e = absurd (cc)
+unread (Err topic_fault.HasNul) e = absurd (cc)
+unread (Err topic_fault.HasWildcard) e = absurd (cc)
+unread (Err topic_fault.BadWildcard) e = absurd (cc)
+unread (Err topic_fault.TooManyLevels) e = absurd (cc)
+unread (Err topic_fault.Shared) e = absurd (cc)
+
+pub taken : (p : Publish) (o : Open) → outcome_before p o ≡ None → IsTaken p o × IsTopicOrUnread p.topic
+taken p o e =
+    let a = by_no_alias p.alias _ e in
+    let t = by_no_topic (topic_refusal p.topic) _ a.1 in
+    let i = by_no_id _ _ _ t.1 in
+    (record { no_alias = a.0; not_held = i.0; has_room = i.1 }, unread p.topic t.0)
+
+pub has_room : (p : Publish) (o : Open) → outcome_before p o ≡ None → is_one_too_many (held_id p.qos p.id) o.inbound ≡ false
+has_room p o e = (taken p o e).0.has_room
+
+pub topic_unread : (p : Publish) (f : TopicFault) (outcome : Outcome) (o : Open) (now : ℕ) (mark : Mark) (list : List Entry) → outcome_before p o ≡ None → p.topic ≡ Err f → outcome ≡ Replies (acknowledged_by p.qos p.id quota_exceeded)
+    → LeadsTo (Whole (packet.Publish p)) now o mark list list mark outcome o
+topic_unread p f outcome o now mark list e t d =
+    let h = taken p o e in
+    let is : f ≡ topic_fault.NoMemory = subst IsTopicOrUnread t h.1 in
+    (Topic_unread, (p, refl, h.0, t ∙ ap (λ (x : TopicFault). Err x) is, d, record { none_used = refl; same = refl }))
+
+unretained : (retain : Bool) (topic : List ℕ) (m : MessageValue) → operation_of retain topic m ≡ None → retain ≡ false
+unretained true topic m c = absurd (cc)
+unretained false topic m c = refl
+
+pub not_retained : (p : Publish) (topic : List ℕ) (outcome : Outcome) (old new : Open) (now : ℕ) (mark : Mark) (list : List Entry) → outcome_before p old ≡ None → p.topic ≡ Ok topic → change p topic now ≡ None
+    → outcome ≡ Replies (acknowledged_by p.qos p.id 0) → new ≡ holding p old → LeadsTo (Whole (packet.Publish p)) now old mark list list mark outcome new
+not_retained p topic outcome old new now mark list e t c d s =
+    (Not_retained, (p, topic, refl, (taken p old e).0, t, unretained p.retain topic _ c, d, refl, s))
+
+settled : (p : Publish) (topic : List ℕ) (operation : Operation) (now : ℕ) (outcome : Outcome) (old new : Open) (mark used : Mark) (seen list : List Entry)
+    → IsSubmittable p topic now operation old mark used → IsSettled operation p.qos p.id old mark used list outcome new → LeadsTo (Whole (packet.Publish p)) now old mark seen list used outcome new
+settled p topic operation now outcome old new mark used seen list may h =
+    elim h as (λ h. LeadsTo (Whole (packet.Publish p)) now old mark seen list used outcome new) [
+      | inl k ↦ (Kept, (p, topic, operation, refl, may, k.0, k.1, k.2))
+      | inr h ↦ elim h as (λ h. LeadsTo (Whole (packet.Publish p)) now old mark seen list used outcome new) [
         | inl k ↦ (Not_kept, (p, topic, operation, refl, may, k.0, k.1))
-        | inr h ↦ elim h as (λ h. Answers (Whole (packet.Publish p)) now old mark seen list used due new) [
+        | inr h ↦ elim h as (λ h. LeadsTo (Whole (packet.Publish p)) now old mark seen list used outcome new) [
           | inl k ↦ (Uncertain, (p, topic, operation, refl, may, k.0, k.1))
           | inr k ↦ (Gate_closed, (p, topic, operation, refl, may, k.0, k.1))
         ]
       ]
     ]
 
-pub submitted : (p : Publish) (operation : Operation) (now : ℕ) (old new : State) (mark used : Mark) (due : Option Reply) (before after : List Entry → Type 0)
-    → (alias : Option ℕ) (topic : Result (List ℕ) TopicFault) (qos : Qos) → p.alias ≡ alias → p.topic ≡ topic → p.qos ≡ qos → publish_refusal alias topic qos ≡ None → change_on p topic now ≡ Some operation → old.phase ≡ Open → Uses mark used
-    → Grows before after (λ seen list. IsSettled operation old mark used list due new) → Grows before after (λ seen list. Answers (Whole (packet.Publish p)) now old mark seen list used due new)
-submitted p operation now old new mark used due before after alias (Err f) qos a t q none c o u h = absurd (cc)
-submitted p operation now old new mark used due before after alias (Ok topic) qos a t q none c o u h =
-    let r = unrefused alias (Ok topic) qos none in
-    Grows-weaker before after (λ seen list. IsSettled operation old mark used list due new) _ (λ seen list k. settled p topic operation now old new mark used due seen list (a ∙ r.0) t (q ∙ r.1) c o u k) h
+pub submitted : (p : Publish) (topic : List ℕ) (operation : Operation) (now : ℕ) (outcome : Outcome) (old new : Open) (mark used : Mark) (before after : List Entry → Type 0)
+    → outcome_before p old ≡ None → p.topic ≡ Ok topic → change p topic now ≡ Some operation → Uses mark used
+    → Grows before after (λ seen list. IsSettled operation p.qos p.id old mark used list outcome new) → Grows before after (λ seen list. LeadsTo (Whole (packet.Publish p)) now old mark seen list used outcome new)
+submitted p topic operation now outcome old new mark used before after e t c u h =
+    let may : IsSubmittable p topic now operation old mark used = record { taken = (taken p old e).0; is_topic = t; changes = c; one_used = u } in
+    Grows-weaker before after (λ seen list. IsSettled operation p.qos p.id old mark used list outcome new) _ (λ seen list k. settled p topic operation now outcome old new mark used seen list may k) h
 
-unretained : (retain : Bool) (topic : List ℕ) (m : MessageValue) → operation_of retain topic m ≡ None → retain ≡ false
-unretained true topic m c = absurd (cc)
-unretained false topic m c = refl
-
-pub unchanged : (p : Publish) (now : ℕ) (old : State) (mark : Mark) (due : Option Reply) (list : List Entry)
-    → (alias : Option ℕ) (topic : Result (List ℕ) TopicFault) (qos : Qos) → p.alias ≡ alias → p.topic ≡ topic → p.qos ≡ qos → publish_refusal alias topic qos ≡ None → change_on p topic now ≡ None → old.phase ≡ Open → due ≡ None
-    → Answers (Whole (packet.Publish p)) now old mark list list mark due old
-unchanged p now old mark due list alias (Ok topic) qos a t q none c o d =
-    let r = unrefused alias (Ok topic) qos none in
-    (Not_retained, (p, topic, refl, o, ap is_some (a ∙ r.0), t, q ∙ r.1, unretained p.retain topic _ c, record { none_used = refl; reply = d; same = refl }))
-unchanged p now old mark due list alias (Err f) qos a t q none c o d =
-    let r = unrefused alias (Err f) qos none in
-    (Topic_unread, (p, refl, o, ap is_some (a ∙ r.0), t ∙ ap (λ (x : TopicFault). Err x) r.2, q ∙ r.1, record { none_used = refl; reply = d; same = refl }))
-
--- ---- the filters of a SUBSCRIBE
+-- ---- the filters of a SUBSCRIBE and of an UNSUBSCRIBE
 
 pub begins_itself : (a : List Entry) → BeginsWith a a
 begins_itself a = ([], sym (append-nil a))
@@ -204,57 +284,115 @@ pub begins_trans : (a b c : List Entry) → BeginsWith b a → BeginsWith c b �
 begins_trans a b c (x, p) (y, q) = (x ++ y, q ∙ ap (λ l. l ++ y) p ∙ append_assoc a x y)
 
 -- one more filter
-pub grants_more : (now : ℕ) (filters : List Asked) (seen : List Entry) (old : List Found) (codes : List ℕ) (mid : List Entry) (between : List Found) (asked : Asked) (list : List Entry) (code : ℕ) (new : List Found)
-    → Grants now filters seen old codes mid between → BeginsWith list mid → IsGranted now asked list between code new → Grants now (filters ++ asked ∷ []) seen old (codes ++ code ∷ []) list new
-grants_more now [] seen old codes mid between asked list code new (a, b, c) begins step =
-    (code, [], list, new, ap (λ l. l ++ code ∷ []) a, subst (BeginsWith list) b begins, subst (λ (m : List Found). IsGranted now asked list m code new) c step, (refl, refl, refl))
-grants_more now (f ∷ fs) seen old codes mid between asked list code new (x, rest, m, between', e, begun, first, h) begins step =
-    (x, rest ++ code ∷ [], m, between', ap (λ l. l ++ code ∷ []) e, begun, first, grants_more now fs m between' rest mid between asked list code new h begins step)
+pub grants_more : (now : ℕ) (filters : List Asked) (identifier : Option ℕ) (seen : List Entry) (old : Open) (codes : List ℕ) (mid : List Entry) (between : Open) (asked : Asked) (list : List Entry) (code : ℕ) (new : Open)
+    → Grants now filters identifier seen old codes mid between → BeginsWith list mid → IsGranted now asked identifier list between code new → Grants now (filters ++ asked ∷ []) identifier seen old (codes ++ code ∷ []) list new
+grants_more now [] identifier seen old codes mid between asked list code new (a, b, c) begins step =
+    (code, [], list, new, ap (λ l. l ++ code ∷ []) a, subst (BeginsWith list) b begins, subst (λ (m : Open). IsGranted now asked identifier list m code new) c step, (refl, refl, refl))
+grants_more now (f ∷ fs) identifier seen old codes mid between asked list code new (x, rest, m, between', e, begun, first, h) begins step =
+    (x, rest ++ code ∷ [], m, between', ap (λ l. l ++ code ∷ []) e, begun, first, grants_more now fs identifier m between' rest mid between asked list code new h begins step)
 
-pub grants_grow : (now : ℕ) (filters : List Asked) (seen : List Entry) (old : List Found) (codes : List ℕ) (list : List Entry) (new : List Found) → Grants now filters seen old codes list new → BeginsWith list seen
-grants_grow now [] seen old codes list new (a, b, c) = subst (BeginsWith list) b (begins_itself list)
-grants_grow now (f ∷ fs) seen old codes list new (x, rest, m, between, e, begun, first, h) = begins_trans seen m list begun (grants_grow now fs m between rest list new h)
+pub grants_grow : (now : ℕ) (filters : List Asked) (identifier : Option ℕ) (seen : List Entry) (old : Open) (codes : List ℕ) (list : List Entry) (new : Open) → Grants now filters identifier seen old codes list new → BeginsWith list seen
+grants_grow now [] identifier seen old codes list new (a, b, c) = subst (BeginsWith list) b (begins_itself list)
+grants_grow now (f ∷ fs) identifier seen old codes list new (x, rest, m, between, e, begun, first, h) = begins_trans seen m list begun (grants_grow now fs identifier m between rest list new h)
 
-pub subscribe_refused : (s : Subscribe) (shared identified : Bool) (code : ℕ) (old new : State) (due : Option Reply) (now : ℕ) (mark : Mark) (list : List Entry)
-    → list_any is_shared_local s.filters ≡ shared → is_some s.subscription ≡ identified → subscribe_refusal shared identified ≡ Some code → old.phase ≡ Open
-    → due ≡ within old.largest (reply.Disconnect code) → new ≡ ended old (ByServer code) → Answers (Whole (packet.Subscribe s)) now old mark list list mark due new
-subscribe_refused s true identified code old new due now mark list a i e o d f =
-    (Shared_no_local, (s, refl, o, a, closes code protocol_error old new mark due (some_code _ _ e) d f))
-subscribe_refused s false true code old new due now mark list a i e o d f =
-    (With_subscription_identifier, (s, refl, o, a, i, closes code subscription_identifiers_not_supported old new mark due (some_code _ _ e) d f))
-subscribe_refused s false false code old new due now mark list a i e o d f = absurd (cc)
+pub shared_refused : (s : Subscribe) (o : Open) (now : ℕ) (mark : Mark) (list : List Entry) → list_any is_shared_local s.filters ≡ true → LeadsTo (Whole (packet.Subscribe s)) now o mark list list mark (Closes protocol_error) o
+shared_refused s o now mark list h = (Shared_no_local, (s, refl, h, refl, record { none_used = refl; same = refl }))
 
--- a SUBSCRIBE that is not refused
-unrefused_subscribe : (shared identified : Bool) → subscribe_refusal shared identified ≡ None → (shared ≡ false) × (identified ≡ false)
-unrefused_subscribe true identified e = absurd (cc)
-unrefused_subscribe false true e = absurd (cc)
-unrefused_subscribe false false e = (refl, refl)
+pub not_subscribed : (s : Subscribe) (o : Open) (now : ℕ) (mark : Mark) (list : List Entry) → list_any is_shared_local s.filters ≡ false → LeadsTo (Whole (packet.Subscribe s)) now o mark list list mark (Closes quota_exceeded) o
+not_subscribed s o now mark list h = (Not_subscribed, (s, refl, h, refl, record { none_used = refl; same = refl }))
 
-pub not_subscribed : (s : Subscribe) (old new : State) (due : Option Reply) (now : ℕ) (mark : Mark) (list : List Entry)
-    → subscribe_refusal (list_any is_shared_local s.filters) (is_some s.subscription) ≡ None → old.phase ≡ Open
-    → due ≡ within old.largest (reply.Disconnect quota_exceeded) → new ≡ ended old (ByServer quota_exceeded) → Answers (Whole (packet.Subscribe s)) now old mark list list mark due new
-not_subscribed s old new due now mark list e o d f =
-    let r = unrefused_subscribe _ _ e in
-    (Not_subscribed, (s, refl, o, r.0, r.1, record { none_used = refl; reply = d; end = f }))
-
-pub subscribed : (s : Subscribe) (codes : List ℕ) (old new : State) (due : Option Reply) (now : ℕ) (mark used : Mark) (seen list : List Entry)
-    → subscribe_refusal (list_any is_shared_local s.filters) (is_some s.subscription) ≡ None → old.phase ≡ Open → used ≡ mark
-    → due ≡ within old.largest (reply.Suback (record { id = s.id; codes = codes })) → Grants now s.filters seen old.waiting codes list new.waiting → new ≡ record old { waiting = new.waiting }
-    → Answers (Whole (packet.Subscribe s)) now old mark seen list used due new
-subscribed s codes old new due now mark used seen list e o u d h f =
-    let r = unrefused_subscribe _ _ e in
-    (Subscribed, (s, codes, refl, o, r.0, r.1, u, d, h, f))
+pub same_codes : (id other : ℕ) (codes more : List ℕ) → id ≡ other → codes ≡ more → (let a : CodesValue = record { id = id; codes = codes } in a) ≡ (record { id = other; codes = more })
+same_codes id other codes more e f = λ j. record { id = e j; codes = f j }
 
 -- the codes of all filters are replied
-pub subscribed_after : (s : Subscribe) (codes : List ℕ) (id : ℕ) (filters : List Asked) (c : CodesValue) (old mid new : State) (due : Option Reply) (now : ℕ) (mark used : Mark) (seen list : List Entry)
-    → subscribe_refusal (list_any is_shared_local s.filters) (is_some s.subscription) ≡ None → old.phase ≡ Open → used ≡ mark
-    → new ≡ mid → mid ≡ record old { waiting = mid.waiting } → due ≡ within mid.largest (reply.Suback c) → c ≡ record { id = id; codes = codes } → id ≡ s.id → filters ≡ s.filters
-    → Grants now filters seen old.waiting codes list mid.waiting
-    → Answers (Whole (packet.Subscribe s)) now old mark seen list used due new
-subscribed_after s codes id filters c old mid new due now mark used seen list e o u same rest d is i fs h =
-    let w : new.waiting ≡ mid.waiting = ap (λ (st : State). st.waiting) same in
-    let to : within mid.largest (reply.Suback c) ≡ within old.largest (reply.Suback (record { id = s.id; codes = codes })) =
-    ap (λ (n : ℕ). within n (reply.Suback c)) (ap (λ (st : State). st.largest) rest) ∙ ap (λ (x : CodesValue). within old.largest (reply.Suback x)) (is ∙ ap (λ (j : ℕ). let v : CodesValue = record { id = j; codes = codes } in v) i) in
-    subscribed s codes old new due now mark used seen list e o u (d ∙ to)
-    (subst (λ (ws : List Found). Grants now s.filters seen old.waiting codes list ws) (sym w) (subst (λ (l : List Asked). Grants now l seen old.waiting codes list mid.waiting) fs h))
-    (same ∙ (rest ∙ ap (λ (ws : List Found). let st : State = record old { waiting = ws } in st) (sym w)))
+pub subscribed : (s : Subscribe) (codes : List ℕ) (c : CodesValue) (old new : Open) (now : ℕ) (mark used : Mark) (seen list : List Entry)
+    → list_any is_shared_local s.filters ≡ false → used ≡ mark → c ≡ record { id = s.id; codes = codes } → Grants now s.filters s.subscription seen old codes list new
+    → LeadsTo (Whole (packet.Subscribe s)) now old mark seen list used (Replies (Some (reply.Suback c))) new
+subscribed s codes c old new now mark used seen list n u e h =
+    (Subscribed, (s, codes, refl, n, h, ap (λ (x : CodesValue). Replies (Some (reply.Suback x))) e, u))
+
+-- one more filter to be removed
+pub codes_more : (filters : List Filter) (filter : Filter) (subscriptions : Subscriptions) → removal_codes (filters ++ filter ∷ []) subscriptions ≡ removal_codes filters subscriptions ++ removal_code filter (without_all filters subscriptions) ∷ []
+codes_more [] filter subscriptions = refl
+codes_more (f ∷ fs) filter subscriptions = ap (λ (l : List ℕ). removal_code f subscriptions ∷ l) (codes_more fs filter (without f subscriptions))
+
+pub without_more : (filters : List Filter) (filter : Filter) (subscriptions : Subscriptions) → without_all (filters ++ filter ∷ []) subscriptions ≡ without filter (without_all filters subscriptions)
+without_more [] filter subscriptions = refl
+without_more (f ∷ fs) filter subscriptions = without_more fs filter (without f subscriptions)
+
+pub removed_code : (so_far all : List Filter) (filter : Filter) (first mid : Open) (codes more : List ℕ) (code : ℕ) → all ≡ so_far ++ filter ∷ [] → codes ≡ removal_codes so_far first.subscriptions
+    → mid ≡ record first { subscriptions = without_all so_far first.subscriptions } → code ≡ removal_code filter mid.subscriptions → more ≡ codes ++ code ∷ [] → more ≡ removal_codes all first.subscriptions
+removed_code so_far all filter first mid codes more code a c m k e =
+    let is : code ≡ removal_code filter (without_all so_far first.subscriptions) = k ∙ ap (λ (o : Open). removal_code filter o.subscriptions) m in
+    e ∙ (ap (λ (l : List ℕ). l ++ code ∷ []) c ∙ (ap (λ (n : ℕ). removal_codes so_far first.subscriptions ++ n ∷ []) is
+    ∙ (sym (codes_more so_far filter first.subscriptions) ∙ ap (λ (l : List Filter). removal_codes l first.subscriptions) (sym a))))
+
+pub removed_all : (so_far all : List Filter) (filter : Filter) (first mid new : Open) → all ≡ so_far ++ filter ∷ [] → mid ≡ record first { subscriptions = without_all so_far first.subscriptions }
+    → new ≡ record mid { subscriptions = without filter mid.subscriptions } → new ≡ record first { subscriptions = without_all all first.subscriptions }
+removed_all so_far all filter first mid new a m e =
+    let Set : Subscriptions → Open = λ s. record first { subscriptions = s } in
+    let Take : Open → Open = λ o. record o { subscriptions = without filter o.subscriptions } in
+    e ∙ (ap Take m ∙ (ap Set (sym (without_more so_far filter first.subscriptions)) ∙ ap (λ (l : List Filter). Set (without_all l first.subscriptions)) (sym a)))
+
+pub not_unsubscribed : (u : Unsubscribe) (o : Open) (now : ℕ) (mark : Mark) (list : List Entry) → LeadsTo (Whole (packet.Unsubscribe u)) now o mark list list mark (Closes quota_exceeded) o
+not_unsubscribed u o now mark list = (Not_unsubscribed, (u, refl, refl, record { none_used = refl; same = refl }))
+
+pub unsubscribed : (u : Unsubscribe) (c : CodesValue) (old new : Open) (now : ℕ) (mark : Mark) (list : List Entry)
+    → c ≡ record { id = u.id; codes = removal_codes u.filters old.subscriptions } → new ≡ record old { subscriptions = without_all u.filters old.subscriptions }
+    → LeadsTo (Whole (packet.Unsubscribe u)) now old mark list list mark (Replies (Some (reply.Unsuback c))) new
+unsubscribed u c old new now mark list e s =
+    (Unsubscribed, (u, refl, ap (λ (x : CodesValue). Replies (Some (reply.Unsuback x))) e, refl, s))
+
+-- a new subscription that is taken out again leaves all as before
+pub taken_out : (old mid new : Open) (filter key : List ℕ) (subscription : Subscription) (kept left : Subscriptions) → is_subscribed filter old.subscriptions ≡ false → key ≡ filter
+    → kept ≡ finite.insert old.subscriptions key subscription → mid ≡ record old { subscriptions = kept } → new ≡ mid → left ≡ finite.remove new.subscriptions filter → record new { subscriptions = left } ≡ old
+taken_out old mid new filter key subscription kept left absent k e m n l =
+    let Set : Subscriptions → Open = λ s. record old { subscriptions = s } in
+    let is : new ≡ Set (finite.insert old.subscriptions filter subscription) =
+    n ∙ (m ∙ ap Set (e ∙ ap (λ (f : List ℕ). finite.insert old.subscriptions f subscription) k)) in
+    let gone : left ≡ old.subscriptions = l ∙ (ap (λ (o : Open). finite.remove o.subscriptions filter) is ∙ remove_inserted old.subscriptions filter subscription (get_absent old.subscriptions filter absent)) in
+    ap (λ (o : Open). let p : Open = record o { subscriptions = left } in p) is ∙ ap Set gone
+
+-- ---- the other packets
+
+pub connected_twice : (p : Packet) (c : Connect) (o : Open) (now : ℕ) (mark : Mark) (list : List Entry) → p ≡ packet.Connect c → LeadsTo (Whole p) now o mark list list mark (Closes protocol_error) o
+connected_twice p c o now mark list e = (Connected_twice, (c, ap Whole e, refl, record { none_used = refl; same = refl }))
+
+pub pinged : (p : Packet) (o : Open) (now : ℕ) (mark : Mark) (list : List Entry) → p ≡ packet.Pingreq → LeadsTo (Whole p) now o mark list list mark (Replies (Some reply.Pingresp)) o
+pinged p o now mark list e = (Pinged, (ap Whole e, refl, record { none_used = refl; same = refl }))
+
+pub disconnected : (p : Packet) (code : ℕ) (o : Open) (now : ℕ) (mark : Mark) (list : List Entry) → p ≡ packet.Disconnect code → LeadsTo (Whole p) now o mark list list mark Leaves o
+disconnected p code o now mark list e = (Disconnected, (code, ap Whole e, refl, record { none_used = refl; same = refl }))
+
+-- ---- a session
+
+-- a gate that a method left as it was
+pub stays : {G : Type 0} (stands : G → List Entry → Type 0) (mark : G → Mark) (input : Input) (now : ℕ) (old mid new : Session G) → new ≡ mid → gate_of mid ≡ gate_of old
+    → ((list : List Entry) → Answers input now (state_of old) (mark (gate_of old)) list list (mark (gate_of old)) (due_of mid) (state_of mid))
+    → Grows (stands (gate_of old)) (stands (gate_of new)) (λ seen list. Answers input now (state_of old) (mark (gate_of old)) seen list (mark (gate_of new)) (due_of new) (state_of new))
+stays {G} stands mark input now old mid new e g h =
+    subst (λ (s : Session G). Grows (stands (gate_of old)) (stands (gate_of s)) (λ seen list. Answers input now (state_of old) (mark (gate_of old)) seen list (mark (gate_of s)) (due_of s) (state_of s))) (sym e)
+    (unmoved stands mark (gate_of old) (gate_of mid) (λ seen list used. Answers input now (state_of old) (mark (gate_of old)) seen list used (due_of mid) (state_of mid)) g h)
+
+-- what an outcome leaves does not depend on the phase before
+pub after_same : (outcome : Outcome) (a b : State) (o : Open) → a.assigned ≡ b.assigned → state_after outcome a o ≡ state_after outcome b o
+after_same (Replies r) a b o e = ap (λ (l : List ℕ). let s : State = record { phase = phase.Open o; assigned = l } in s) e
+after_same (Closes code) a b o e = ap (λ (l : List ℕ). let s : State = record { phase = phase.Ended (ByServer code); assigned = l } in s) e
+after_same Leaves a b o e = ap (λ (l : List ℕ). let s : State = record { phase = phase.Ended ByClient; assigned = l } in s) e
+
+-- an open session took a packet
+pub took : {G : Type 0} (stands : G → List Entry → Type 0) (mark : G → Mark) (input : Input) (now : ℕ) (old mid new : Session G) (o left : Open) (gate : G) (outcome : Outcome) (limit : ℕ)
+    → new ≡ mid → gate_of mid ≡ gate → (state_of old).phase ≡ phase.Open o → limit ≡ o.window.packet_maximum → due_of mid ≡ due_for limit outcome → state_of mid ≡ state_after outcome (state_of old) left
+    → Grows (stands (gate_of old)) (stands gate) (λ seen list. LeadsTo input now o (mark (gate_of old)) seen list (mark gate) outcome left)
+    → Grows (stands (gate_of old)) (stands (gate_of new)) (λ seen list. Answers input now (state_of old) (mark (gate_of old)) seen list (mark (gate_of new)) (due_of new) (state_of new))
+took {G} stands mark input now old mid new o left gate outcome limit e g p l d s h =
+    subst (λ (x : Session G). Grows (stands (gate_of old)) (stands (gate_of x)) (λ seen list. Answers input now (state_of old) (mark (gate_of old)) seen list (mark (gate_of x)) (due_of x) (state_of x))) (sym e)
+    (subst (λ (x : G). Grows (stands (gate_of old)) (stands x) (λ seen list. Answers input now (state_of old) (mark (gate_of old)) seen list (mark x) (due_of mid) (state_of mid))) (sym g)
+    (Grows-weaker _ _ _ _ (λ seen list k. concluded input now (state_of old) (state_of mid) o left outcome limit (due_of mid) _ _ seen list p l k d s) h))
+
+-- what waits is given next
+pub given_next : (now : ℕ) (before due : Option Reply) (old : State) (o left : Open) (p : Option PublishValue) (given : Option Reply) → before ≡ None → due ≡ None → old.phase ≡ phase.Open o
+    → window.IsNext now o.window p left.window → given ≡ option_map reply_of p → left ≡ record o { window = left.window } → IsGiven now before old given due (opened old left)
+given_next now before due old o left p given b d is h r s =
+    subst (λ (x : Option Reply). IsGiven now x old given due (opened old left)) (sym b)
+    (d, refl, subst (λ (x : Phase). IsReplayed now x given (phase.Open left)) (sym is) (left, refl, record { publish = p; next = h; reply = r; rest = s }))

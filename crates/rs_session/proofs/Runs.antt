@@ -1,13 +1,11 @@
 -- Lemmas on runs.
-use Rattle.std.proofs.Common.{◌≡◌, ℕ, ◌<◌, List, [], ◌∷◌, ◌++◌, length, refl, sym, subst, ap, ◌∙◌, append-nil, suc, Option, Some, None, Bool, true, false, arith}
-use Rattle.std.specs.Prelude.{MatchBool}
+use Rattle.std.proofs.Common.{ℕ, List, [], ◌∷◌, ◌++◌, refl, sym, subst, ap, ◌∙◌, append-nil, Option, Some}
 use Rattle.rs_packet.specs.declared.reply.Reply.{Reply}
-use Rattle.rs_packet.specs.declared.reply.Reply.TheVariants as reply
-use Rattle.rs_message.specs.declared.entry.Found.{Found}
-use Rattle.rs_session.specs.Gate.{BeginsWith}
-use Rattle.rs_session.specs.State.{State, IsGiven, IsNext, is_sent, publication_at}
+use Rattle.rs_message.specs.declared.entry.Entry.{Entry}
+use Rattle.rs_session.specs.Gate.{Mark, BeginsWith}
+use Rattle.rs_session.specs.State.{State, IsGiven}
 use Rattle.rs_session.proofs.Rows.{begins_trans}
-use Rattle.rs_session.specs.Run.{Point, Turn, Gives, IsTurn, Run, replies_left}
+use Rattle.rs_session.specs.Run.{Point, Turn, Gives, IsTurn, Run, AreOfGate}
 
 pub run_grows : (from to : Point) (turns : List Turn) → Run from turns to → BeginsWith to.seen from.seen
 run_grows from to [] e = ([], ap (λ (p : Point). p.seen) e ∙ sym (append-nil from.seen))
@@ -25,15 +23,10 @@ gives_more now due old [] left mid answer later new (p, q) h =
     (later, new, subst (λ (d : Option Reply). IsGiven now d old (Some answer) later new) p (subst (λ (s : State). IsGiven now left s (Some answer) later new) q h), (refl, refl))
 gives_more now due old (r ∷ rs) left mid answer later new (a, b, c, d) h = (a, b, c, gives_more now a b rs left mid answer later new d h)
 
-next_step : (b : Bool) (A : Type 0) (n m : ℕ) (E N : Type 0) → (E → n ≡ m) → (N → n < m) → MatchBool b (A × E) N → n < suc m
-next_step true A n m E N f g h = let e = f h.1 in omega arith
-next_step false A n m E N f g h = let e = g h in omega arith
+pub of_gate_more : (stands_at : Mark → List Entry → Type 0) (turns : List Turn) (turn : Turn) → AreOfGate stands_at turns → stands_at turn.to.mark turn.to.seen → AreOfGate stands_at (turns ++ turn ∷ [])
+of_gate_more stands_at [] turn h last = (last, tt)
+of_gate_more stands_at (t ∷ ts) turn (a, b) last = (a, of_gate_more stands_at ts turn b last)
 
-next_left : (limit now : ℕ) (fs : List Found) (answer : Reply) (rest : List Found) → IsNext limit now fs (Some answer) rest → length rest < length fs
-next_left limit now [] answer rest h = absurd (let e : None ≡ Some answer = sym h.0 in cc)
-next_left limit now (f ∷ fs) answer rest h = next_step (is_sent limit now f) (Some answer ≡ Some (reply.Publish (publication_at now f))) (length rest) (length fs) _ _ (λ e. ap length e) (next_left limit now fs answer rest) h
-
--- each reply leaves fewer
-pub given_left : (now : ℕ) (due : Option Reply) (old : State) (answer : Reply) (later : Option Reply) (new : State) → IsGiven now due old (Some answer) later new → replies_left later new < replies_left due old
-given_left now (Some first) old answer later new (p, q, r) = rw (q, r) (omega arith)
-given_left now None old answer later new (p, q, r) = rw p (let e = next_left old.largest now old.waiting answer new.waiting r in omega arith)
+pub of_gate_weaker : (P Q : Mark → List Entry → Type 0) (turns : List Turn) → ((mark : Mark) (list : List Entry) → P mark list → Q mark list) → AreOfGate P turns → AreOfGate Q turns
+of_gate_weaker P Q [] f h = tt
+of_gate_weaker P Q (t ∷ ts) f (a, b) = (f t.to.mark t.to.seen a, of_gate_weaker P Q ts f b)

@@ -26,3 +26,7 @@ pub record Uses (old new : Mark) : Type 0 where
 pub record IsSubmitted (operation : Operation) (old new : Mark) (list : List Entry) : Type 0 where
   pub entry : Contains list (record { origin = record { place = new.place; serial = new.serial }; operation = operation })
   pub serial : old.serial < new.serial
+
+-- of gates of one type: one of them stands for the list while it has the mark
+abbrev pub StandsAt : {G : Type 0} → (G → List Entry → Type 0) → (G → Mark) → Mark → List Entry → Type 0
+StandsAt {G} stands mark_of mark list = (gate : G) × stands gate list × (mark_of gate ≡ mark)

@@ -1,5 +1,5 @@
-pub mod Values
 pub mod Gate
+pub mod Subscriptions
 pub mod State
 pub mod Reasons
 pub mod Table

@@ -1,6 +1,9 @@
 -- Reason codes: section 2.4 of OASIS MQTT Version 5.0.
 use Rattle.std.specs.Prelude.{ℕ}
 
+abbrev pub no_subscription_existed : ℕ
+no_subscription_existed = 0x11
+
 abbrev pub malformed_packet : ℕ
 malformed_packet = 0x81
 
@@ -22,6 +25,12 @@ topic_filter_invalid = 0x8F
 abbrev pub topic_name_invalid : ℕ
 topic_name_invalid = 0x90
 
+abbrev pub packet_identifier_not_found : ℕ
+packet_identifier_not_found = 0x92
+
+abbrev pub receive_maximum_exceeded : ℕ
+receive_maximum_exceeded = 0x93
+
 abbrev pub topic_alias_invalid : ℕ
 topic_alias_invalid = 0x94
 
@@ -33,6 +42,3 @@ quota_exceeded = 0x97
 
 abbrev pub shared_subscriptions_not_supported : ℕ
 shared_subscriptions_not_supported = 0x9E
-
-abbrev pub subscription_identifiers_not_supported : ℕ
-subscription_identifiers_not_supported = 0xA1

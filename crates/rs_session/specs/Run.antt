@@ -4,7 +4,7 @@ use Rattle.rs_packet.specs.declared.reply.Reply.{Reply}
 use Rattle.rs_message.specs.declared.entry.Entry.{Entry}
 use Rattle.rs_session.specs.declared.phase.Input.{Input}
 use Rattle.rs_session.specs.Gate.{Mark, BeginsWith}
-use Rattle.rs_session.specs.State.{State, closing_of, IsGiven}
+use Rattle.rs_session.specs.State.{State, closing_of, waiting_of, IsGiven}
 use Rattle.rs_session.specs.Table.{Case, Row}
 
 -- where a run stands: the session, the gate's list, and its mark
@@ -47,10 +47,15 @@ abbrev pub Run : Point → List Turn → Point → Type 0
 Run from [] to = to ≡ from
 Run from (turn ∷ turns) to = IsTurn from turn × Run turn.to turns to
 
+-- the list and the mark of each turn are those of a gate
+abbrev pub AreOfGate : (Mark → List Entry → Type 0) → List Turn → Type 0
+AreOfGate stands_at [] = Unit {0}
+AreOfGate stands_at (turn ∷ turns) = stands_at turn.to.mark turn.to.seen × AreOfGate stands_at turns
+
 abbrev pub due_count : Option Reply → ℕ
 due_count None = 0
 due_count (Some reply) = 1
 
 -- how many replies are left at most
 abbrev pub replies_left : Option Reply → State → ℕ
-replies_left due state = due_count due + length state.waiting
+replies_left due state = due_count due + length (waiting_of state.phase)

@@ -1,23 +1,26 @@
--- What a session answers to each input: one row a case.
-use Rattle.std.specs.Prelude.{◌≡◌, ◌≢◌, ℕ, ◌<◌, ◌≤◌, ◌==◌, ◌⊎◌, Bool, true, false, ◌&&◌, nat_lt, if◌then◌else◌, is_some, List, [], ◌∷◌, ◌++◌, length, Option, Some, None, Result, Ok, Err}
+-- What a session answers to each input: one row a case. Sections are those of OASIS MQTT Version 5.0.
+use Rattle.std.specs.Prelude.{◌≡◌, ◌≢◌, ℕ, ◌<◌, ◌≤◌, ◌==◌, ◌⊎◌, Bool, true, false, ◌&&◌, not, nat_lt, if◌then◌else◌, is_some, MatchBool, List, [], ◌∷◌, length, Option, Some, None, option_map, Result, Ok, Err}
 use Rattle.std.specs.List.{list_any}
+use Rattle.std.specs.FinMap as finite
+use Rattle.std.specs.FinSet as set
+use Rattle.std.specs.Ordering.{nat_cmp}
 use Rattle.rs_topic.specs.declared.text.TopicFault.{TopicFault}
 use Rattle.rs_topic.specs.declared.text.TopicFault.TheVariants as topic_fault
-use Rattle.rs_packet.specs.declared.fault.PacketFault.{PacketFault}
-use Rattle.rs_packet.specs.declared.fault.PacketFault.TheVariants.{Malformed, Protocol, TooLarge, Version, NoMemory}
+use Rattle.rs_field.specs.declared.fault.PacketFault.{PacketFault}
+use Rattle.rs_field.specs.declared.fault.PacketFault.TheVariants.{Malformed, Protocol, TooLarge, Version, NoMemory}
 use Rattle.rs_packet.specs.declared.packet.Qos.{Qos}
-use Rattle.rs_packet.specs.declared.packet.Qos.TheVariants.{AtMostOnce}
+use Rattle.rs_packet.specs.declared.packet.Qos.TheVariants.{AtMostOnce, AtLeastOnce, ExactlyOnce}
 use Rattle.rs_packet.specs.declared.packet.Options.{Options}
-use Rattle.rs_packet.specs.declared.packet.RetainHandling.{RetainHandling}
-use Rattle.rs_packet.specs.declared.packet.RetainHandling.TheVariants.{Always, IfNew, Never}
+use Rattle.rs_packet.specs.declared.packet.Acknowledgement.{Acknowledgement}
 use Rattle.rs_packet.specs.declared.packet.Connect.{Connect}
 use Rattle.rs_packet.specs.declared.packet.Publish.{Publish}
 use Rattle.rs_packet.specs.declared.packet.Subscribe.{Subscribe}
+use Rattle.rs_packet.specs.declared.packet.Unsubscribe.{Unsubscribe}
 use Rattle.rs_packet.specs.declared.packet.Packet.{Packet}
 use Rattle.rs_packet.specs.declared.packet.Packet.TheVariants as packet
 use Rattle.rs_packet.specs.declared.reply.Reply.{Reply}
 use Rattle.rs_packet.specs.declared.reply.Reply.TheVariants as reply
-use Rattle.rs_packet.specs.Values.{Asked}
+use Rattle.rs_packet.specs.Values.{Asked, Filter}
 use Rattle.rs_packet.specs.Grammar.{level}
 use Rattle.rs_packet.specs.Replies.{reply_bytes}
 use Rattle.rs_message.specs.Messages.{operation_of}
@@ -25,21 +28,33 @@ use Rattle.rs_message.specs.declared.entry.Entry.{Entry}
 use Rattle.rs_message.specs.declared.entry.Found.{Found}
 use Rattle.rs_message.specs.declared.entry.Operation.{Operation}
 use Rattle.rs_store.specs.History.{IsAnswer}
+use Rattle.rs_window.specs.Calls as window
+use Rattle.rs_window.specs.declared.fault.Ack.{Ack}
+use Rattle.rs_window.specs.declared.fault.WindowFault.TheVariants.{WrongKind}
 use Rattle.rs_session.specs.Gate.{Mark, BeginsWith, Uses, IsSubmitted}
-use Rattle.rs_session.specs.Reasons.{malformed_packet, protocol_error, implementation_specific_error, unsupported_protocol_version, bad_authentication_method, topic_filter_invalid, topic_name_invalid, topic_alias_invalid, packet_too_large, quota_exceeded, shared_subscriptions_not_supported, subscription_identifiers_not_supported}
-use Rattle.rs_session.specs.State.{State, ended, no_limit, within}
+use Rattle.rs_session.specs.Reasons.{malformed_packet, protocol_error, implementation_specific_error, unsupported_protocol_version, bad_authentication_method, topic_filter_invalid, topic_name_invalid, packet_identifier_not_found, receive_maximum_exceeded, topic_alias_invalid, packet_too_large, quota_exceeded, shared_subscriptions_not_supported, no_subscription_existed}
+use Rattle.rs_session.specs.Subscriptions.{Subscriptions, is_subscribed, has_place, replays}
+use Rattle.rs_session.specs.State.{State, opened, ended, within}
+use Rattle.rs_session.specs.declared.open.Open.{Open}
+use Rattle.rs_session.specs.declared.open.Outcome.{Outcome}
+use Rattle.rs_session.specs.declared.open.Outcome.TheVariants.{Replies, Closes, Leaves}
 use Rattle.rs_session.specs.declared.phase.Closing.{Closing}
 use Rattle.rs_session.specs.declared.phase.Closing.TheVariants.{ByClient, ByServer, Dropped}
-use Rattle.rs_session.specs.declared.phase.Phase.TheVariants.{Before, Open, Ended}
+use Rattle.rs_session.specs.declared.phase.Phase.TheVariants as phase
 use Rattle.rs_session.specs.declared.phase.Input.{Input}
 use Rattle.rs_session.specs.declared.phase.Input.TheVariants.{Whole, Broken}
 
 -- ---- 3.1, 3.2: CONNECT and CONNACK
 
--- 3.1.2.11.4
-abbrev pub limit_of : Option ℕ → ℕ
-limit_of None = no_limit
-limit_of (Some limit) = limit
+-- 3.1.2.11.3: without a Receive Maximum it is the greatest number
+abbrev pub receive_limit : Option ℕ → ℕ
+receive_limit None = 65535
+receive_limit (Some limit) = limit
+
+-- 3.1.2.11.4: without a Maximum Packet Size there is no limit but the greatest number
+abbrev pub packet_limit : Option ℕ → ℕ
+packet_limit None = 4294967295
+packet_limit (Some limit) = limit
 
 -- 3.2.2.3.2: the session ends with its connection, which a client that asked for more is told
 abbrev pub is_longer : Option ℕ → Bool
@@ -54,9 +69,13 @@ assigned_for (Some client) assigned = if length client == 0 then Some assigned e
 abbrev pub connack : Connect → State → Reply
 connack c old = reply.Accepted (record { session_expiry_zero = is_longer c.session_expiry; assigned_client = assigned_for c.client old.assigned })
 
--- ---- 3.3: PUBLISH
+-- an open session at its beginning
+abbrev pub open_for : Connect → Open
+open_for c = record { subscriptions = finite.empty; inbound = set.empty; window = window.fresh (receive_limit c.receive_maximum) (packet_limit c.packet_maximum) }
 
--- what its PUBLISH would do to the topic's retained message
+-- ---- 3.3 to 3.7: PUBLISH and its acknowledgements
+
+-- what a PUBLISH would do to the topic's retained message
 abbrev pub change : Publish → List ℕ → ℕ → Option Operation
 change p topic now = operation_of p.retain topic (record { payload = p.payload; qos = p.qos; received = now; expiry = p.expiry; properties = p.properties })
 
@@ -65,13 +84,73 @@ abbrev pub topic_code : TopicFault → ℕ
 topic_code topic_fault.Empty = protocol_error
 topic_code _ = topic_name_invalid
 
--- ---- 3.8: SUBSCRIBE
+-- a name, or one for which memory was refused
+abbrev pub IsTopicOrUnread : Result (List ℕ) TopicFault → Type 0
+IsTopicOrUnread (Ok topic) = Unit {0}
+IsTopicOrUnread (Err fault) = fault ≡ topic_fault.NoMemory
 
--- 3.8.3.1: a shared subscription with No Local
-abbrev pub is_shared : Result (List ℕ) TopicFault → Bool
+-- nothing at QoS 0, a PUBACK at QoS 1, a PUBREC at QoS 2
+abbrev pub acknowledged_by : Qos → Option ℕ → ℕ → Option Reply
+acknowledged_by AtMostOnce id code = None
+acknowledged_by AtLeastOnce id code = option_map (λ n. reply.Puback n code) id
+acknowledged_by ExactlyOnce id code = option_map (λ n. reply.Pubrec n code) id
+
+-- 4.3.3: the identifier of a PUBLISH of QoS 2 is held until its PUBREL
+abbrev pub held_id : Qos → Option ℕ → Option ℕ
+held_id AtMostOnce id = None
+held_id AtLeastOnce id = None
+held_id ExactlyOnce id = id
+
+abbrev pub is_held : Option ℕ → set.FinSet nat_cmp → Bool
+is_held None held = false
+is_held (Some id) held = set.contains held id
+
+abbrev pub held_with : Option ℕ → set.FinSet nat_cmp → set.FinSet nat_cmp
+held_with None held = held
+held_with (Some id) held = set.insert held id
+
+-- 3.3.4: as many as the server's Receive Maximum are held, and this one is another
+abbrev pub is_one_too_many : Option ℕ → set.FinSet nat_cmp → Bool
+is_one_too_many None held = false
+is_one_too_many (Some id) held = not (set.contains held id) && set.len held == 16
+
+-- neither sent again, nor one too many
+pub record IsTaken (p : Publish) (o : Open) : Type 0 where
+  pub no_alias : is_some p.alias ≡ false
+  pub not_held : is_held (held_id p.qos p.id) o.inbound ≡ false
+  pub has_room : is_one_too_many (held_id p.qos p.id) o.inbound ≡ false
+
+-- its identifier is held from now on
+abbrev pub holding : Publish → Open → Open
+holding p o = record o { inbound = held_with (held_id p.qos p.id) o.inbound }
+
+-- 3.4, 3.5, 3.7: which packets acknowledge what the server sent
+abbrev pub acknowledgement_of : Packet → Option (window.Acknowledgement × ℕ)
+acknowledgement_of (packet.Puback a) = Some (window.Puback, a.id)
+acknowledgement_of (packet.Pubrec a) = Some (window.Pubrec a.code, a.id)
+acknowledgement_of (packet.Pubcomp a) = Some (window.Pubcomp, a.id)
+acknowledgement_of _ = None
+
+-- 4.3.3: a PUBREC below 0x80 is answered by a PUBREL, and no other acknowledgement is answered
+abbrev pub released_by : window.Acknowledgement → ℕ → Ack → Option Reply
+released_by window.Puback id ack = None
+released_by window.Pubcomp id ack = None
+released_by (window.Pubrec code) id Ack.Released = Some (reply.Pubrel id 0)
+released_by (window.Pubrec code) id Ack.Freed = None
+released_by (window.Pubrec code) id Ack.Unknown = if nat_lt code 0x80 then Some (reply.Pubrel id packet_identifier_not_found) else None
+
+-- 3.7.2.1: a PUBREL for an identifier that is held, or is not
+abbrev pub released_code : ℕ → set.FinSet nat_cmp → ℕ
+released_code id held = if set.contains held id then 0 else packet_identifier_not_found
+
+-- ---- 3.8, 3.9: SUBSCRIBE and SUBACK
+
+-- 4.8.2
+abbrev pub is_shared : Filter → Bool
 is_shared (Err topic_fault.Shared) = true
 is_shared _ = false
 
+-- 3.8.3.1: a shared subscription with No Local
 abbrev pub is_shared_local : Asked → Bool
 is_shared_local asked = is_shared asked.0 && asked.1.no_local
 
@@ -81,32 +160,59 @@ filter_code topic_fault.Shared = shared_subscriptions_not_supported
 filter_code topic_fault.NoMemory = quota_exceeded
 filter_code _ = topic_filter_invalid
 
--- What the list answers waits behind the rest, and the code is the QoS that was asked for. Or it is refused
--- for want of memory, which may come at any time.
-abbrev pub IsReplayed : ℕ → List ℕ → Qos → List Entry → List Found → ℕ → List Found → Type 0
-IsReplayed now filter qos list old code new = ((found : List Found) × IsAnswer list filter now found × (code ≡ level qos) × (new ≡ old ++ found)) ⊎ ((code ≡ quota_exceeded) × (new ≡ old))
+-- what waits after a replay: behind the rest, all that the list answers
+abbrev pub IsQueued : ℕ → List ℕ → Qos → Option ℕ → List Entry → Open → Open → Type 0
+IsQueued now filter qos identifier list old new =
+    (found : List Found) × IsAnswer list filter now found × window.IsQueued found qos identifier old.window (Ok tt) new.window
 
--- by its Retain Handling. Other handling than to replay is not there yet
-abbrev pub IsHandled : RetainHandling → ℕ → List ℕ → Qos → List Entry → List Found → ℕ → List Found → Type 0
-IsHandled Always now filter qos list old code new = IsReplayed now filter qos list old code new
-IsHandled IfNew now filter qos list old code new = (code ≡ implementation_specific_error) × (new ≡ old)
-IsHandled Never now filter qos list old code new = (code ≡ implementation_specific_error) × (new ≡ old)
+-- The filter has a place, and its subscription is new or replaces the one before. Where Retain Handling
+-- says so, the retained messages wait behind the rest.
+pub record IsSubscribed (now : ℕ) (filter : List ℕ) (options : Options) (identifier : Option ℕ) (list : List Entry) (old new : Open) : Type 0 where
+  pub place : has_place filter old.subscriptions ≡ true
+  pub kept : new.subscriptions ≡ finite.insert old.subscriptions filter (record { options = options; identifier = identifier })
+  pub replay : MatchBool (replays options.retain_handling (is_subscribed filter old.subscriptions)) (IsQueued now filter options.qos identifier list old new) (new.window ≡ old.window)
+  pub inbound : new.inbound ≡ old.inbound
 
-abbrev pub IsGrantedTo : Result (List ℕ) TopicFault → Options → ℕ → List Entry → List Found → ℕ → List Found → Type 0
-IsGrantedTo (Err fault) options now list old code new = (code ≡ filter_code fault) × (new ≡ old)
-IsGrantedTo (Ok filter) options now list old code new = IsHandled options.retain_handling now filter options.qos list old code new
+-- One filter: its fault, its subscription, or a refusal, after which all is as before. A refusal comes where
+-- there is no place, where too many would wait, or for want of memory, which may come at any time.
+abbrev pub IsGrantedTo : Filter → Options → Option ℕ → ℕ → List Entry → Open → ℕ → Open → Type 0
+IsGrantedTo (Err fault) options identifier now list old code new = (code ≡ filter_code fault) × (new ≡ old)
+IsGrantedTo (Ok filter) options identifier now list old code new = ((code ≡ level options.qos) × IsSubscribed now filter options identifier list old new) ⊎ ((code ≡ quota_exceeded) × (new ≡ old))
 
--- one filter, by the list that the gate stands for when it is asked
-abbrev pub IsGranted : ℕ → Asked → List Entry → List Found → ℕ → List Found → Type 0
-IsGranted now asked list old code new = IsGrantedTo asked.0 asked.1 now list old code new
+-- by the list that the gate stands for when it is asked
+abbrev pub IsGranted : ℕ → Asked → Option ℕ → List Entry → Open → ℕ → Open → Type 0
+IsGranted now asked identifier list old code new = IsGrantedTo asked.0 asked.1 identifier now list old code new
 
 -- one filter after the other, each by its own list, which begins with the one before
-abbrev pub Grants : ℕ → List Asked → List Entry → List Found → List ℕ → List Entry → List Found → Type 0
-Grants now [] seen old codes list new = (codes ≡ []) × (list ≡ seen) × (new ≡ old)
-Grants now (asked ∷ more) seen old codes list new = (code : ℕ) × (rest : List ℕ) × (mid : List Entry) × (between : List Found) × (codes ≡ code ∷ rest) × BeginsWith mid seen × IsGranted now asked mid old code between × Grants now more mid between rest list new
+abbrev pub Grants : ℕ → List Asked → Option ℕ → List Entry → Open → List ℕ → List Entry → Open → Type 0
+Grants now [] identifier seen old codes list new = (codes ≡ []) × (list ≡ seen) × (new ≡ old)
+Grants now (asked ∷ more) identifier seen old codes list new =
+    (code : ℕ) × (rest : List ℕ) × (mid : List Entry) × (between : Open) × (codes ≡ code ∷ rest) × BeginsWith mid seen × IsGranted now asked identifier mid old code between × Grants now more identifier mid between rest list new
 
--- ---- the table
+-- ---- 3.10, 3.11: UNSUBSCRIBE and UNSUBACK
 
+-- one filter
+abbrev pub removal_code : Filter → Subscriptions → ℕ
+removal_code (Err topic_fault.Shared) subscriptions = no_subscription_existed
+removal_code (Err fault) subscriptions = topic_filter_invalid
+removal_code (Ok filter) subscriptions = if is_subscribed filter subscriptions then 0 else no_subscription_existed
+
+abbrev pub without : Filter → Subscriptions → Subscriptions
+without (Err fault) subscriptions = subscriptions
+without (Ok filter) subscriptions = finite.remove subscriptions filter
+
+-- one filter after the other
+abbrev pub removal_codes : List Filter → Subscriptions → List ℕ
+removal_codes [] subscriptions = []
+removal_codes (filter ∷ more) subscriptions = removal_code filter subscriptions ∷ removal_codes more (without filter subscriptions)
+
+abbrev pub without_all : List Filter → Subscriptions → Subscriptions
+without_all [] subscriptions = subscriptions
+without_all (filter ∷ more) subscriptions = without_all more (without filter subscriptions)
+
+-- ---- an open session
+
+-- 4.13
 abbrev pub fault_code : PacketFault → ℕ
 fault_code Malformed = malformed_packet
 fault_code Protocol = protocol_error
@@ -114,45 +220,141 @@ fault_code TooLarge = packet_too_large
 fault_code Version = protocol_error
 fault_code NoMemory = quota_exceeded
 
--- 3.14: a DISCONNECT with this code, and the end
-pub record IsClosed (code : ℕ) (old : State) (mark used : Mark) (due : Option Reply) (new : State) : Type 0 where
-  pub none_used : used ≡ mark
-  pub reply : due ≡ within old.largest (reply.Disconnect code)
-  pub end : new ≡ ended old (ByServer code)
-
--- 3.2: a CONNACK that refuses, and the end. It is not sent where the client does not take so long a packet
-pub record IsRefused (code : ℕ) (c : Connect) (old : State) (mark used : Mark) (due : Option Reply) (new : State) : Type 0 where
-  pub none_used : used ≡ mark
-  pub reply : due ≡ within (limit_of c.packet_maximum) (reply.Refused code)
-  pub end : new ≡ ended old (ByServer code)
-
--- the session goes on as it was
-pub record IsAnswered (given : Option Reply) (old : State) (mark used : Mark) (due : Option Reply) (new : State) : Type 0 where
-  pub none_used : used ≡ mark
-  pub reply : due ≡ given
-  pub same : new ≡ old
+-- The names of the rows. Each row's conditions also leave out the inputs of the rows above it.
+pub data OpenCase : Type 0 where
+  Connected_twice : OpenCase
+  Faulty : OpenCase
+  With_alias : OpenCase
+  Bad_topic : OpenCase
+  Sent_again : OpenCase
+  Too_many_held : OpenCase
+  Not_retained : OpenCase
+  Kept : OpenCase
+  Topic_unread : OpenCase
+  Not_kept : OpenCase
+  Uncertain : OpenCase
+  Gate_closed : OpenCase
+  Released : OpenCase
+  Wrong_acknowledgement : OpenCase
+  Acknowledged : OpenCase
+  Shared_no_local : OpenCase
+  Not_subscribed : OpenCase
+  Subscribed : OpenCase
+  Not_unsubscribed : OpenCase
+  Unsubscribed : OpenCase
+  Pinged : OpenCase
+  Disconnected : OpenCase
 
 -- a PUBLISH that the rows before those of a submit let pass
-pub record IsSubmittable (p : Publish) (topic : List ℕ) (now : ℕ) (operation : Operation) (old : State) (mark used : Mark) : Type 0 where
-  pub open_ : old.phase ≡ Open
-  pub no_alias : is_some p.alias ≡ false
+pub record IsSubmittable (p : Publish) (topic : List ℕ) (now : ℕ) (operation : Operation) (old : Open) (mark used : Mark) : Type 0 where
+  pub taken : IsTaken p old
   pub is_topic : p.topic ≡ Ok topic
-  pub is_unanswered : p.qos ≡ AtMostOnce
   pub changes : change p topic now ≡ Some operation
   pub one_used : Uses mark used
 
-abbrev pub IsTopicOrUnread : Result (List ℕ) TopicFault → Type 0
-IsTopicOrUnread (Ok topic) = Unit {0}
-IsTopicOrUnread (Err fault) = fault ≡ topic_fault.NoMemory
+-- no serial is used
+pub record Rests (mark used : Mark) (old new : Open) : Type 0 where
+  pub none_used : used ≡ mark
+  pub same : new ≡ old
 
--- the packets that are not served yet
-abbrev pub IsUnserved : Packet → Type 0
-IsUnserved (packet.Puback a) = Unit {0}
-IsUnserved (packet.Pubrec a) = Unit {0}
-IsUnserved (packet.Pubrel a) = Unit {0}
-IsUnserved (packet.Pubcomp a) = Unit {0}
-IsUnserved (packet.Unsubscribe u) = Unit {0}
-IsUnserved _ = ⊥
+-- What a row does in an open session, from what it keeps, the mark and the gate's list before to those after,
+-- and what it leads to: a reply or none, a DISCONNECT with this code, or the end by the client.
+abbrev pub OpenRow : OpenCase → Input → ℕ → Open → Mark → List Entry → List Entry → Mark → Outcome → Open → Type 0
+-- 3.1: a second CONNECT
+OpenRow Connected_twice input now old mark seen list used outcome new =
+    (c : Connect) × (input ≡ Whole (packet.Connect c)) × (outcome ≡ Closes protocol_error) × Rests mark used old new
+OpenRow Faulty input now old mark seen list used outcome new =
+    (fault : PacketFault) × (input ≡ Broken fault) × (outcome ≡ Closes (fault_code fault)) × Rests mark used old new
+-- 3.3.2.3.4: CONNACK allowed none
+OpenRow With_alias input now old mark seen list used outcome new =
+    (p : Publish) × (input ≡ Whole (packet.Publish p)) × (is_some p.alias ≡ true) × (outcome ≡ Closes topic_alias_invalid) × Rests mark used old new
+-- 3.3.2.1
+OpenRow Bad_topic input now old mark seen list used outcome new =
+    (p : Publish) × (fault : TopicFault) × (input ≡ Whole (packet.Publish p)) × (is_some p.alias ≡ false) × (p.topic ≡ Err fault) × (fault ≢ topic_fault.NoMemory)
+    × (outcome ≡ Closes (topic_code fault)) × Rests mark used old new
+-- 4.3.3: it is the same publication
+OpenRow Sent_again input now old mark seen list used outcome new =
+    (p : Publish) × (input ≡ Whole (packet.Publish p)) × (is_some p.alias ≡ false) × IsTopicOrUnread p.topic × (is_held (held_id p.qos p.id) old.inbound ≡ true)
+    × (outcome ≡ Replies (acknowledged_by p.qos p.id 0)) × Rests mark used old new
+-- 3.3.4
+OpenRow Too_many_held input now old mark seen list used outcome new =
+    (p : Publish) × (input ≡ Whole (packet.Publish p)) × (is_some p.alias ≡ false) × IsTopicOrUnread p.topic × (is_one_too_many (held_id p.qos p.id) old.inbound ≡ true)
+    × (outcome ≡ Closes receive_maximum_exceeded) × Rests mark used old new
+-- 3.3.1.3: RETAIN 0 changes nothing
+OpenRow Not_retained input now old mark seen list used outcome new =
+    (p : Publish) × (topic : List ℕ) × (input ≡ Whole (packet.Publish p)) × IsTaken p old × (p.topic ≡ Ok topic) × (p.retain ≡ false)
+    × (outcome ≡ Replies (acknowledged_by p.qos p.id 0)) × (used ≡ mark) × (new ≡ holding p old)
+OpenRow Kept input now old mark seen list used outcome new =
+    (p : Publish) × (topic : List ℕ) × (operation : Operation) × (input ≡ Whole (packet.Publish p)) × IsSubmittable p topic now operation old mark used × IsSubmitted operation mark used list
+    × (outcome ≡ Replies (acknowledged_by p.qos p.id 0)) × (new ≡ holding p old)
+-- want of memory for the topic, which may come at any time
+OpenRow Topic_unread input now old mark seen list used outcome new =
+    (p : Publish) × (input ≡ Whole (packet.Publish p)) × IsTaken p old × (p.topic ≡ Err topic_fault.NoMemory)
+    × (outcome ≡ Replies (acknowledged_by p.qos p.id quota_exceeded)) × Rests mark used old new
+-- the store or memory is full
+OpenRow Not_kept input now old mark seen list used outcome new =
+    (p : Publish) × (topic : List ℕ) × (operation : Operation) × (input ≡ Whole (packet.Publish p)) × IsSubmittable p topic now operation old mark used
+    × (outcome ≡ Replies (acknowledged_by p.qos p.id quota_exceeded)) × (new ≡ old)
+-- the store gave no receipt
+OpenRow Uncertain input now old mark seen list used outcome new =
+    (p : Publish) × (topic : List ℕ) × (operation : Operation) × (input ≡ Whole (packet.Publish p)) × IsSubmittable p topic now operation old mark used
+    × (outcome ≡ Closes quota_exceeded) × (new ≡ old)
+-- the store takes no more, or answered for another
+OpenRow Gate_closed input now old mark seen list used outcome new =
+    (p : Publish) × (topic : List ℕ) × (operation : Operation) × (input ≡ Whole (packet.Publish p)) × IsSubmittable p topic now operation old mark used
+    × (outcome ≡ Closes implementation_specific_error) × (new ≡ old)
+-- 3.6, 4.3.3
+OpenRow Released input now old mark seen list used outcome new =
+    (a : Acknowledgement) × (input ≡ Whole (packet.Pubrel a)) × (outcome ≡ Replies (Some (reply.Pubcomp a.id (released_code a.id old.inbound))))
+    × (used ≡ mark) × (new ≡ record old { inbound = set.remove old.inbound a.id })
+-- 4.3: an acknowledgement that the PUBLISH with this identifier does not await
+OpenRow Wrong_acknowledgement input now old mark seen list used outcome new =
+    (p : Packet) × (ack : window.Acknowledgement) × (id : ℕ) × (input ≡ Whole p) × (acknowledgement_of p ≡ Some (ack, id)) × (window.answer_to ack (finite.get old.window.kinds id) ≡ Err WrongKind)
+    × (outcome ≡ Closes protocol_error) × Rests mark used old new
+OpenRow Acknowledged input now old mark seen list used outcome new =
+    (p : Packet) × (ack : window.Acknowledgement) × (id : ℕ) × (answer : Ack) × (input ≡ Whole p) × (acknowledgement_of p ≡ Some (ack, id)) × window.IsAcknowledged ack id old.window (Ok answer) new.window
+    × (outcome ≡ Replies (released_by ack id answer)) × (used ≡ mark) × (new ≡ record old { window = new.window })
+-- 3.8.3.1
+OpenRow Shared_no_local input now old mark seen list used outcome new =
+    (s : Subscribe) × (input ≡ Whole (packet.Subscribe s)) × (list_any is_shared_local s.filters ≡ true) × (outcome ≡ Closes protocol_error) × Rests mark used old new
+-- want of memory for the codes, which may come at any time
+OpenRow Not_subscribed input now old mark seen list used outcome new =
+    (s : Subscribe) × (input ≡ Whole (packet.Subscribe s)) × (list_any is_shared_local s.filters ≡ false) × (outcome ≡ Closes quota_exceeded) × Rests mark used old new
+-- 3.8.4
+OpenRow Subscribed input now old mark seen list used outcome new =
+    (s : Subscribe) × (codes : List ℕ) × (input ≡ Whole (packet.Subscribe s)) × (list_any is_shared_local s.filters ≡ false) × Grants now s.filters s.subscription seen old codes list new
+    × (outcome ≡ Replies (Some (reply.Suback (record { id = s.id; codes = codes })))) × (used ≡ mark)
+-- want of memory for the codes, which may come at any time
+OpenRow Not_unsubscribed input now old mark seen list used outcome new =
+    (u : Unsubscribe) × (input ≡ Whole (packet.Unsubscribe u)) × (outcome ≡ Closes quota_exceeded) × Rests mark used old new
+-- 3.10.4
+OpenRow Unsubscribed input now old mark seen list used outcome new =
+    (u : Unsubscribe) × (input ≡ Whole (packet.Unsubscribe u)) × (outcome ≡ Replies (Some (reply.Unsuback (record { id = u.id; codes = removal_codes u.filters old.subscriptions }))))
+    × (used ≡ mark) × (new ≡ record old { subscriptions = without_all u.filters old.subscriptions })
+-- 3.12
+OpenRow Pinged input now old mark seen list used outcome new =
+    (input ≡ Whole packet.Pingreq) × (outcome ≡ Replies (Some reply.Pingresp)) × Rests mark used old new
+-- 3.14
+OpenRow Disconnected input now old mark seen list used outcome new =
+    (code : ℕ) × (input ≡ Whole (packet.Disconnect code)) × (outcome ≡ Leaves) × Rests mark used old new
+
+-- one of the rows
+abbrev pub LeadsTo : Input → ℕ → Open → Mark → List Entry → List Entry → Mark → Outcome → Open → Type 0
+LeadsTo input now old mark seen list used outcome new = (case : OpenCase) × OpenRow case input now old mark seen list used outcome new
+
+-- ---- any session
+
+-- 3.1.2.11.4: what is sent of it to a client that takes packets of at most this length
+abbrev pub due_for : ℕ → Outcome → Option Reply
+due_for limit (Replies None) = None
+due_for limit (Replies (Some r)) = within limit r
+due_for limit (Closes code) = within limit (reply.Disconnect code)
+due_for limit Leaves = None
+
+abbrev pub state_after : Outcome → State → Open → State
+state_after (Replies r) old o = opened old o
+state_after (Closes code) old o = ended old (ByServer code)
+state_after Leaves old o = ended old ByClient
 
 -- what is no CONNECT and no fault of the version
 abbrev pub IsNoGreeting : Input → Type 0
@@ -161,8 +363,6 @@ IsNoGreeting (Whole p) = Unit {0}
 IsNoGreeting (Broken Version) = ⊥
 IsNoGreeting (Broken fault) = Unit {0}
 
--- The names of the rows. Where the phase or the input of a row does not fit, the row does not apply; each
--- row's conditions also leave out the inputs of the rows above it.
 pub data Case : Type 0 where
   -- before an accepted CONNECT
   With_method : Case
@@ -173,105 +373,44 @@ pub data Case : Type 0 where
   Other_version : Case
   Unexpected : Case
   -- after it
-  Connected_twice : Case
-  Faulty : Case
-  With_alias : Case
-  Bad_topic : Case
-  Other_qos : Case
-  Topic_unread : Case
-  Not_retained : Case
-  Kept : Case
-  Not_kept : Case
-  Uncertain : Case
-  Gate_closed : Case
-  Shared_no_local : Case
-  With_subscription_identifier : Case
-  Not_subscribed : Case
-  Subscribed : Case
-  Pinged : Case
-  Unserved : Case
-  Left : Case
+  In_session : Case
   -- after the end
   Over : Case
+
+-- 3.2: a CONNACK that refuses, and the end. It is not sent where the client does not take so long a packet
+pub record IsRefused (code : ℕ) (c : Connect) (old : State) (mark used : Mark) (due : Option Reply) (new : State) : Type 0 where
+  pub none_used : used ≡ mark
+  pub reply : due ≡ within (packet_limit c.packet_maximum) (reply.Refused code)
+  pub end : new ≡ ended old (ByServer code)
 
 -- what a row does, from the state, the mark and the gate's list before to those after, with the reply that is then due
 abbrev pub Row : Case → Input → ℕ → State → Mark → List Entry → List Entry → Mark → Option Reply → State → Type 0
 -- 4.12: enhanced authentication is not there
 Row With_method input now old mark seen list used due new =
-    (c : Connect) × (input ≡ Whole (packet.Connect c)) × (old.phase ≡ Before) × (is_some c.method ≡ true) × IsRefused bad_authentication_method c old mark used due new
+    (c : Connect) × (input ≡ Whole (packet.Connect c)) × (old.phase ≡ phase.Before) × (is_some c.method ≡ true) × IsRefused bad_authentication_method c old mark used due new
 -- 3.1.2.5: no will is taken
 Row With_will input now old mark seen list used due new =
-    (c : Connect) × (input ≡ Whole (packet.Connect c)) × (old.phase ≡ Before) × (is_some c.method ≡ false) × (c.will ≡ true) × IsRefused implementation_specific_error c old mark used due new
+    (c : Connect) × (input ≡ Whole (packet.Connect c)) × (old.phase ≡ phase.Before) × (is_some c.method ≡ false) × (c.will ≡ true) × IsRefused implementation_specific_error c old mark used due new
 -- want of memory, which may come at any time
 Row Connect_refused input now old mark seen list used due new =
-    (c : Connect) × (input ≡ Whole (packet.Connect c)) × (old.phase ≡ Before) × (is_some c.method ≡ false) × (c.will ≡ false) × IsRefused quota_exceeded c old mark used due new
+    (c : Connect) × (input ≡ Whole (packet.Connect c)) × (old.phase ≡ phase.Before) × (is_some c.method ≡ false) × (c.will ≡ false) × IsRefused quota_exceeded c old mark used due new
 Row Accepted input now old mark seen list used due new =
-    (c : Connect) × (input ≡ Whole (packet.Connect c)) × (old.phase ≡ Before) × (is_some c.method ≡ false) × (c.will ≡ false)
-    × (length (reply_bytes (connack c old)) ≤ limit_of c.packet_maximum) × (used ≡ mark) × (due ≡ Some (connack c old))
-    × (new ≡ record { phase = Open; assigned = old.assigned; largest = limit_of c.packet_maximum; waiting = [] })
+    (c : Connect) × (input ≡ Whole (packet.Connect c)) × (old.phase ≡ phase.Before) × (is_some c.method ≡ false) × (c.will ≡ false)
+    × (length (reply_bytes (connack c old)) ≤ packet_limit c.packet_maximum) × (used ≡ mark) × (due ≡ Some (connack c old)) × (new ≡ opened old (open_for c))
 Row Connack_too_long input now old mark seen list used due new =
-    (c : Connect) × (input ≡ Whole (packet.Connect c)) × (old.phase ≡ Before) × (is_some c.method ≡ false) × (c.will ≡ false)
-    × (limit_of c.packet_maximum < length (reply_bytes (connack c old))) × (used ≡ mark) × (due ≡ None) × (new ≡ ended old (ByServer 0))
+    (c : Connect) × (input ≡ Whole (packet.Connect c)) × (old.phase ≡ phase.Before) × (is_some c.method ≡ false) × (c.will ≡ false)
+    × (packet_limit c.packet_maximum < length (reply_bytes (connack c old))) × (used ≡ mark) × (due ≡ None) × (new ≡ ended old (ByServer 0))
 -- 3.1.2.2
 Row Other_version input now old mark seen list used due new =
-    (input ≡ Broken Version) × (old.phase ≡ Before) × (used ≡ mark) × (due ≡ Some (reply.Refused unsupported_protocol_version)) × (new ≡ ended old (ByServer unsupported_protocol_version))
+    (input ≡ Broken Version) × (old.phase ≡ phase.Before) × (used ≡ mark) × (due ≡ Some (reply.Refused unsupported_protocol_version)) × (new ≡ ended old (ByServer unsupported_protocol_version))
 -- 3.1: the first packet is a CONNECT
 Row Unexpected input now old mark seen list used due new =
-    IsNoGreeting input × (old.phase ≡ Before) × (used ≡ mark) × (due ≡ None) × (new ≡ ended old Dropped)
--- 3.1: a second CONNECT
-Row Connected_twice input now old mark seen list used due new =
-    (c : Connect) × (input ≡ Whole (packet.Connect c)) × (old.phase ≡ Open) × IsClosed protocol_error old mark used due new
-Row Faulty input now old mark seen list used due new =
-    (fault : PacketFault) × (input ≡ Broken fault) × (old.phase ≡ Open) × IsClosed (fault_code fault) old mark used due new
--- 3.3.2.3.4: CONNACK allowed none
-Row With_alias input now old mark seen list used due new =
-    (p : Publish) × (input ≡ Whole (packet.Publish p)) × (old.phase ≡ Open) × (is_some p.alias ≡ true) × IsClosed topic_alias_invalid old mark used due new
--- 3.3.2.1
-Row Bad_topic input now old mark seen list used due new =
-    (p : Publish) × (fault : TopicFault) × (input ≡ Whole (packet.Publish p)) × (old.phase ≡ Open) × (is_some p.alias ≡ false) × (p.topic ≡ Err fault) × (fault ≢ topic_fault.NoMemory)
-    × IsClosed (topic_code fault) old mark used due new
--- QoS 1 and 2 are not served yet
-Row Other_qos input now old mark seen list used due new =
-    (p : Publish) × (input ≡ Whole (packet.Publish p)) × (old.phase ≡ Open) × (is_some p.alias ≡ false) × IsTopicOrUnread p.topic × (p.qos ≢ AtMostOnce) × IsClosed implementation_specific_error old mark used due new
--- want of memory for the topic, which may come at any time
-Row Topic_unread input now old mark seen list used due new =
-    (p : Publish) × (input ≡ Whole (packet.Publish p)) × (old.phase ≡ Open) × (is_some p.alias ≡ false) × (p.topic ≡ Err topic_fault.NoMemory) × (p.qos ≡ AtMostOnce) × IsAnswered None old mark used due new
--- 3.3.1.3: RETAIN 0 changes nothing
-Row Not_retained input now old mark seen list used due new =
-    (p : Publish) × (topic : List ℕ) × (input ≡ Whole (packet.Publish p)) × (old.phase ≡ Open) × (is_some p.alias ≡ false) × (p.topic ≡ Ok topic) × (p.qos ≡ AtMostOnce) × (p.retain ≡ false) × IsAnswered None old mark used due new
-Row Kept input now old mark seen list used due new =
-    (p : Publish) × (topic : List ℕ) × (operation : Operation) × (input ≡ Whole (packet.Publish p)) × IsSubmittable p topic now operation old mark used × IsSubmitted operation mark used list × (due ≡ None) × (new ≡ old)
--- the store or memory is full
-Row Not_kept input now old mark seen list used due new =
-    (p : Publish) × (topic : List ℕ) × (operation : Operation) × (input ≡ Whole (packet.Publish p)) × IsSubmittable p topic now operation old mark used × (due ≡ None) × (new ≡ old)
--- the store gave no receipt
-Row Uncertain input now old mark seen list used due new =
-    (p : Publish) × (topic : List ℕ) × (operation : Operation) × (input ≡ Whole (packet.Publish p)) × IsSubmittable p topic now operation old mark used × (due ≡ within old.largest (reply.Disconnect quota_exceeded)) × (new ≡ ended old (ByServer quota_exceeded))
--- the store takes no more, or answered for another
-Row Gate_closed input now old mark seen list used due new =
-    (p : Publish) × (topic : List ℕ) × (operation : Operation) × (input ≡ Whole (packet.Publish p)) × IsSubmittable p topic now operation old mark used × (due ≡ within old.largest (reply.Disconnect implementation_specific_error)) × (new ≡ ended old (ByServer implementation_specific_error))
-Row Shared_no_local input now old mark seen list used due new =
-    (s : Subscribe) × (input ≡ Whole (packet.Subscribe s)) × (old.phase ≡ Open) × (list_any is_shared_local s.filters ≡ true) × IsClosed protocol_error old mark used due new
--- 3.2.2.3.12: CONNACK said that they are not available
-Row With_subscription_identifier input now old mark seen list used due new =
-    (s : Subscribe) × (input ≡ Whole (packet.Subscribe s)) × (old.phase ≡ Open) × (list_any is_shared_local s.filters ≡ false) × (is_some s.subscription ≡ true) × IsClosed subscription_identifiers_not_supported old mark used due new
--- want of memory for the codes, which may come at any time
-Row Not_subscribed input now old mark seen list used due new =
-    (s : Subscribe) × (input ≡ Whole (packet.Subscribe s)) × (old.phase ≡ Open) × (list_any is_shared_local s.filters ≡ false) × (is_some s.subscription ≡ false) × IsClosed quota_exceeded old mark used due new
--- 3.8.4
-Row Subscribed input now old mark seen list used due new =
-    (s : Subscribe) × (codes : List ℕ) × (input ≡ Whole (packet.Subscribe s)) × (old.phase ≡ Open) × (list_any is_shared_local s.filters ≡ false) × (is_some s.subscription ≡ false) × (used ≡ mark)
-    × (due ≡ within old.largest (reply.Suback (record { id = s.id; codes = codes }))) × Grants now s.filters seen old.waiting codes list new.waiting × (new ≡ record old { waiting = new.waiting })
--- 3.12
-Row Pinged input now old mark seen list used due new =
-    (input ≡ Whole packet.Pingreq) × (old.phase ≡ Open) × IsAnswered (within old.largest reply.Pingresp) old mark used due new
-Row Unserved input now old mark seen list used due new =
-    (p : Packet) × (input ≡ Whole p) × (old.phase ≡ Open) × IsUnserved p × IsClosed implementation_specific_error old mark used due new
--- 3.14
-Row Left input now old mark seen list used due new =
-    (code : ℕ) × (input ≡ Whole (packet.Disconnect code)) × (old.phase ≡ Open) × (used ≡ mark) × (due ≡ None) × (new ≡ ended old ByClient)
+    IsNoGreeting input × (old.phase ≡ phase.Before) × (used ≡ mark) × (due ≡ None) × (new ≡ ended old Dropped)
+Row In_session input now old mark seen list used due new =
+    (o : Open) × (left : Open) × (outcome : Outcome) × (old.phase ≡ phase.Open o) × LeadsTo input now o mark seen list used outcome left
+    × (due ≡ due_for o.window.packet_maximum outcome) × (new ≡ state_after outcome old left)
 Row Over input now old mark seen list used due new =
-    (closing : Closing) × (old.phase ≡ Ended closing) × IsAnswered None old mark used due new
+    (closing : Closing) × (old.phase ≡ phase.Ended closing) × (used ≡ mark) × (due ≡ None) × (new ≡ old)
 
 abbrev pub Answers : Input → ℕ → State → Mark → List Entry → List Entry → Mark → Option Reply → State → Type 0
 Answers input now old mark seen list used due new = (case : Case) × Row case input now old mark seen list used due new

@@ -1,16 +1,25 @@
-//! One client's session over a gate to the store.
+//! One client's session over a gate to the store (sections 3 and 4 of OASIS MQTT Version 5.0).
+//!
+//! A `Session` takes a packet, or a fault in its place, and gives the replies: an acknowledgement, and then the retained
+//! messages that wait, as far as the client's Receive Maximum and Maximum Packet Size allow. The store behind it is a
+//! `Gate`; `LocalGate` keeps one of its own.
+//!
+//! Promised by contracts: each input takes one row of the table of the session (`on_input`), over every gate; what waits
+//! is sent as the window gives it (`next_reply`); along a run of inputs the list of the gate only grows, so what was
+//! acknowledged stays (`lists_grow`).
 #![tactic(auto)]
 
 mod gate;
 mod law;
 mod local;
+mod open;
 mod phase;
 mod reason;
 mod session;
-mod window;
+mod subscriptions;
 
 pub use gate::Gate;
 pub use law::lists_grow;
 pub use local::LocalGate;
-pub use phase::{Closing, Input, Phase, Step};
+pub use phase::{Closing, Input, Step};
 pub use session::Session;

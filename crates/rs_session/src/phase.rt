@@ -1,5 +1,6 @@
 //! Where a session stands, and what it is given.
 
+use crate::open::Open;
 use rs_packet::{Packet, PacketFault};
 
 /// How a session ended.
@@ -15,12 +16,12 @@ pub enum Closing {
 }
 
 /// Where a session stands.
-#[derive(Clone, Copy, Debug, PartialEq, Eq)]
+#[derive(Drop)]
 pub enum Phase {
     /// No CONNECT was accepted yet.
     Before,
     /// A CONNECT was accepted.
-    Open,
+    Open(Open),
     /// The session is over.
     Ended(Closing),
 }

@@ -1,5 +1,7 @@
 //! Reason codes: section 2.4.
 
+pub const NO_SUBSCRIPTION_EXISTED: u8 = 0x11;
+
 pub const MALFORMED_PACKET: u8 = 0x81;
 
 pub const PROTOCOL_ERROR: u8 = 0x82;
@@ -14,6 +16,10 @@ pub const TOPIC_FILTER_INVALID: u8 = 0x8F;
 
 pub const TOPIC_NAME_INVALID: u8 = 0x90;
 
+pub const PACKET_IDENTIFIER_NOT_FOUND: u8 = 0x92;
+
+pub const RECEIVE_MAXIMUM_EXCEEDED: u8 = 0x93;
+
 pub const TOPIC_ALIAS_INVALID: u8 = 0x94;
 
 pub const PACKET_TOO_LARGE: u8 = 0x95;
@@ -21,5 +27,3 @@ pub const PACKET_TOO_LARGE: u8 = 0x95;
 pub const QUOTA_EXCEEDED: u8 = 0x97;
 
 pub const SHARED_SUBSCRIPTIONS_NOT_SUPPORTED: u8 = 0x9E;
-
-pub const SUBSCRIPTION_IDENTIFIERS_NOT_SUPPORTED: u8 = 0xA1;

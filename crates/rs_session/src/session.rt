@@ -1,22 +1,22 @@
 //! One client's session.
 
 mod connect;
-mod publish;
-mod subscribe;
 
-ghost use Rattle.std.specs.Prelude.{◌≡◌, ◌<◌, ◌≤◌, ◌&&◌, ◌-◌, ◌^◌, not, ℕ, List, [], Some, None, Ok, Err, OnOk, OnErr, IfOk, IfSome, length, is_some, true, false};
+ghost use Rattle.std.specs.Prelude.{◌≡◌, ◌<◌, ℕ, List, Some, None, IfSome};
 ghost use Rattle.rs_message.specs.declared.entry.Entry.{Entry};
 ghost use Rattle.rs_packet.specs.declared.packet.Packet.{Packet};
 ghost use Rattle.rs_packet.specs.declared.reply.Reply.{Reply};
 ghost use Rattle.rs_session.specs.Gate.{Grows, Mark};
+ghost use Rattle.rs_session.specs.Run.{replies_left};
 ghost use Rattle.rs_session.specs.State.{state_of, due_of, gate_of, closing_of, step_of, fresh, ended, within, IsGiven};
-ghost use Rattle.rs_session.specs.Table.{Answers, connack, filter_code, topic_code, fault_code, is_shared, is_shared_local, limit_of, IsGranted, IsNoGreeting};
+ghost use Rattle.rs_session.specs.declared.open.Open.{Open};
+ghost use Rattle.rs_session.specs.Table.{Answers, due_for, fault_code, state_after};
 
 use crate::gate::Gate;
+use crate::open::Outcome;
 use crate::phase::{Closing, Input, Phase, Step};
 use crate::reason;
-use crate::window::{Window, within};
-use rs_packet::{Packet, PacketFault, Reply};
+use rs_packet::{Packet, PacketFault, Reply, encoded_len};
 use rs_topic::Text;
 use std::alloc::Global;
 
@@ -29,7 +29,6 @@ pub struct Session<G> {
     phase: Phase,
     assigned: Text,
     due: Option<Reply>,
-    window: Window,
 }
 
 impl<G: Gate> Session<G> {
@@ -45,7 +44,6 @@ impl<G: Gate> Session<G> {
             phase: Phase::Before,
             assigned,
             due: None,
-            window: Window::new(alloc, u32::MAX),
         }
     }
 
@@ -58,7 +56,15 @@ impl<G: Gate> Session<G> {
             (G.mark (gate_of self.new)) (due_of self.new) (state_of self.new)) }
         ensures step { result ≡ step_of (state_of self.new).phase }
     {
-        self.hear(packet, now);
+        match &mut self.phase {
+            Phase::Before => self.first_packet(packet),
+            Phase::Open(open) => {
+                let limit = open.window.packet_maximum();
+                let outcome = open.take(self.alloc, &mut self.gate, packet, now);
+                self.conclude(outcome, limit);
+            }
+            Phase::Ended(_) => {}
+        }
         self.step()
     }
 
@@ -71,7 +77,14 @@ impl<G: Gate> Session<G> {
             (G.mark (gate_of self.new)) (due_of self.new) (state_of self.new)) }
         ensures step { result ≡ step_of (state_of self.new).phase }
     {
-        self.miss(fault);
+        match &self.phase {
+            Phase::Before => self.first_fault(fault),
+            Phase::Open(open) => {
+                let limit = open.window.packet_maximum();
+                self.conclude(Outcome::Closes(fault_reason(fault)), limit);
+            }
+            Phase::Ended(_) => {}
+        }
         self.step()
     }
 
@@ -89,16 +102,24 @@ impl<G: Gate> Session<G> {
         }
     }
 
-    /// The next reply at this moment. None where there is none any more.
+    /// The next reply at this moment. None where there is none any more: after at most as many replies as
+    /// are due and wait.
     pub fn next_reply(&mut self, now: u64) -> Option<Reply>
         ensures given { IsGiven now (due_of self.old) (state_of self.old) result
             (due_of self.new) (state_of self.new) }
         ensures gate { gate_of self.new ≡ gate_of self.old }
+        ensures fewer { IfSome result (λ _. replies_left (due_of self.new) (state_of self.new) < replies_left (due_of self.old) (state_of self.old)) }
     {
         if let Some(reply) = self.due.take() {
             return Some(reply);
         }
-        self.window.next(now)
+        match &mut self.phase {
+            Phase::Open(open) => match open.window.next(now) {
+                Some(publish) => Some(publish.reply()),
+                None => None,
+            },
+            _ => None,
+        }
     }
 
     /// How it ended, if it has.
@@ -121,7 +142,6 @@ impl<G: Gate> Session<G> {
             phase: _,
             assigned: _,
             due: _,
-            window: _,
         } = self;
         gate
     }
@@ -135,81 +155,41 @@ impl<G: Gate> Session<G> {
         }
     }
 
+    /// What an outcome leaves due and open, for a client that takes packets of at most `limit` bytes.
+    fn conclude(&mut self, outcome: Outcome, limit: u32)
+        requires { self.old.due ≡ None }
+        ensures due { self.new.due ≡ due_for limit outcome }
+        ensures state { (o : Open) → self.old.phase ≡ Phase.Open o → state_of self.new ≡ state_after outcome (state_of self.old) o }
+        ensures gate { self.new.gate ≡ self.old.gate }
+    {
+        match outcome {
+            Outcome::Replies(None) => {}
+            Outcome::Replies(Some(reply)) => self.due = within(limit, reply),
+            Outcome::Closes(code) => {
+                self.due = within(limit, Reply::Disconnect(code));
+                self.end(Closing::ByServer(code));
+            }
+            Outcome::Leaves => self.end(Closing::ByClient),
+        }
+    }
+
     fn end(&mut self, closing: Closing)
         ensures state { state_of self.new ≡ ended (state_of self.old) closing }
         ensures due { self.new.due ≡ self.old.due }
         ensures gate { self.new.gate ≡ self.old.gate }
     {
-        self.window.clear();
         self.phase = Phase::Ended(closing);
     }
+}
 
-    /// A DISCONNECT with this Reason Code, and the end.
-    fn close(&mut self, code: u8)
-        ensures state { state_of self.new ≡ ended (state_of self.old) (Closing.ByServer code) }
-        ensures due { self.new.due ≡ within (state_of self.old).largest (Reply.Disconnect code) }
-        ensures gate { self.new.gate ≡ self.old.gate }
-    {
-        self.reply(Reply::Disconnect(code));
-        self.end(Closing::ByServer(code));
+/// The reply where the client takes so long a packet (3.1.2.11.4).
+fn within(limit: u32, reply: Reply) -> Option<Reply>
+    ensures { result ≡ within limit reply }
+{
+    if encoded_len(&reply) <= limit as usize {
+        return Some(reply);
     }
-
-    /// A reply to a client that takes it.
-    fn reply(&mut self, reply: Reply)
-        ensures state { state_of self.new ≡ state_of self.old }
-        ensures due { self.new.due ≡ within (state_of self.old).largest reply }
-        ensures gate { self.new.gate ≡ self.old.gate }
-    {
-        self.due = within(self.window.largest(), reply);
-    }
-
-    fn hear(&mut self, packet: Packet, now: u64)
-        requires { self.old.due ≡ None }
-        ensures { Grows (G.stands self.old.gate) (G.stands self.new.gate) (λ seen list.
-            Answers (Input.Whole packet) now (state_of self.old) (G.mark self.old.gate) seen list
-            (G.mark self.new.gate) self.new.due (state_of self.new)) }
-    {
-        match self.phase {
-            Phase::Before => self.greet(packet),
-            Phase::Open => self.take(packet, now),
-            Phase::Ended(_) => {}
-        }
-    }
-
-    fn miss(&mut self, fault: PacketFault)
-        requires { self.old.due ≡ None }
-        ensures { (now : ℕ) → Grows (G.stands self.old.gate) (G.stands self.new.gate) (λ seen list.
-            Answers (Input.Broken fault) now (state_of self.old) (G.mark self.old.gate) seen list
-            (G.mark self.new.gate) self.new.due (state_of self.new)) }
-    {
-        match self.phase {
-            Phase::Before => self.turn_away(fault),
-            Phase::Open => self.close(fault_reason(fault)),
-            Phase::Ended(_) => {}
-        }
-    }
-
-    /// A packet of an open session.
-    fn take(&mut self, packet: Packet, now: u64)
-        requires due { self.old.due ≡ None }
-        requires open { self.old.phase ≡ Phase.Open }
-        ensures { Grows (G.stands self.old.gate) (G.stands self.new.gate) (λ seen list.
-            Answers (Input.Whole packet) now (state_of self.old) (G.mark self.old.gate) seen list
-            (G.mark self.new.gate) self.new.due (state_of self.new)) }
-    {
-        match packet {
-            Packet::Connect(_c) => self.close(reason::PROTOCOL_ERROR),
-            Packet::Publish(p) => self.publish(p, now),
-            Packet::Puback(_a) => self.close(reason::IMPLEMENTATION_SPECIFIC_ERROR),
-            Packet::Pubrec(_a) => self.close(reason::IMPLEMENTATION_SPECIFIC_ERROR),
-            Packet::Pubrel(_a) => self.close(reason::IMPLEMENTATION_SPECIFIC_ERROR),
-            Packet::Pubcomp(_a) => self.close(reason::IMPLEMENTATION_SPECIFIC_ERROR),
-            Packet::Subscribe(s) => self.subscribe(s, now),
-            Packet::Unsubscribe(_u) => self.close(reason::IMPLEMENTATION_SPECIFIC_ERROR),
-            Packet::Pingreq => self.reply(Reply::Pingresp),
-            Packet::Disconnect(_code) => self.end(Closing::ByClient),
-        }
-    }
+    None
 }
 
 /// The Reason Code of a DISCONNECT for a fault: section 4.13.

@@ -4,7 +4,7 @@ ghost use Rattle.std.specs.Prelude.{◌≡◌, List, ◌∷◌, [], ◌++◌, le
 ghost use Rattle.rs_message.specs.declared.entry.Entry.{Entry};
 ghost use Rattle.rs_store.specs.declared.content.Content.{Content};
 ghost use Rattle.rs_store.specs.Contents.{Accepts, NotAddedBy, RefusedBy, answer_in, empty, followed};
-ghost use Rattle.rs_store.specs.History.{MayFollow, MayNotFollow, Stands};
+ghost use Rattle.rs_store.specs.History.{IsLegal, MayNotFollow, Stands};
 
 use crate::fault::Refusal;
 use crate::limit::TopicLimit;
@@ -56,10 +56,10 @@ pub fn add<C: Catalogue>(catalogue: &mut C, entry: Entry) -> Result<(), Refusal>
     ensures done { OnOk result (Accepts (C.content catalogue.old) entry × (C.content catalogue.new ≡ followed (C.content catalogue.old) entry)) }
     ensures refused { IfErr result (λ r. NotAddedBy (C.content catalogue.old) entry r × (C.content catalogue.new ≡ C.content catalogue.old)) }
     ensures stands { (history : List Entry) → Stands (C.content catalogue.old) history → MatchResult result
-        (λ _. MayFollow (C.content catalogue.old).limit history entry × Stands (C.content catalogue.new) (history ++ entry ∷ []))
+        (λ _. IsLegal (C.content catalogue.old).limit (history ++ entry ∷ []) × Stands (C.content catalogue.new) (history ++ entry ∷ []))
         (λ r. MayNotFollow (C.content catalogue.old).limit history entry r × Stands (C.content catalogue.new) history) }
 {
-    let _place = entry.origin.place();
+    let (_place, _serial) = (entry.origin.place(), entry.origin.serial());
     if let Err(refusal) = catalogue.accepts(&entry) {
         return Err(refusal);
     }

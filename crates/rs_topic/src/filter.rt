@@ -106,7 +106,7 @@ impl TopicFilter {
     }
 
     /// The filter selects this topic: its levels fit those of the name, and its first level is no wildcard where the name begins
-    /// with `$` (4.7.1, 4.7.2).
+    /// with `$` (4.7.1, 4.7.2). It goes once along both texts, and takes no memory.
     pub fn matches(&self, name: &TopicName) -> bool
         ensures { IsTrue result ↔ Matches self.now name.now }
     {

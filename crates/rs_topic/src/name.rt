@@ -36,7 +36,8 @@ fn fault_of(bytes: &[u8]) -> Option<TopicFault>
 }
 
 /// A text that names one topic: not empty, without `+` and `#`, of at most 128 levels (4.7.1, 4.7.3). Names are ordered as
-/// retained messages are replayed: level by level, each by its bytes, a list of levels before its extensions.
+/// retained messages are replayed: level by level, each by its bytes, a list of levels before its extensions. A comparison goes
+/// once along both texts, and takes no memory.
 #[derive(Debug, Drop)]
 pub struct TopicName {
     text: Text,

@@ -1,25 +1,29 @@
 //! The first packet.
 
-ghost use Rattle.std.specs.Prelude.{◌≡◌, ◌≤◌, ℕ, List, None, Some, IfOk, is_some};
+ghost use Rattle.std.specs.Prelude.{◌≡◌, ◌≤◌, ◌<◌, ℕ, List, None, Some, IfOk, is_some};
 ghost use Rattle.rs_message.specs.declared.entry.Entry.{Entry};
 ghost use Rattle.rs_packet.specs.declared.reply.Reply.{Reply};
 ghost use Rattle.rs_session.specs.Gate.{Mark};
 ghost use Rattle.rs_session.specs.State.{state_of, ended, within};
 ghost use Rattle.rs_session.specs.Steps.{IsAccepted, connect_refusal};
-ghost use Rattle.rs_session.specs.Table.{Answers, connack, limit_of, is_longer, assigned_for};
+ghost use Rattle.rs_session.specs.Table.{Answers, connack, open_for, packet_limit, receive_limit, is_longer, assigned_for};
+ghost use Rattle.rs_session.specs.declared.open.Open.{Open};
 
 use super::Session;
 use crate::gate::Gate;
+use crate::open::Open;
 use crate::phase::{Closing, Input, Phase};
 use crate::reason;
-use crate::window::{Window, within};
+use crate::session::within;
+use crate::subscriptions::Subscriptions;
 use rs_packet::{Accepted, Connect, Packet, PacketFault, Reply, encoded_len};
 use rs_topic::Text;
+use rs_window::{Inbound, Window};
 use std::alloc::AllocError;
 
 impl<G: Gate> Session<G> {
     /// The first packet, which has to be a CONNECT.
-    pub(super) fn greet(&mut self, packet: Packet)
+    pub(super) fn first_packet(&mut self, packet: Packet)
         requires due { self.old.due ≡ None }
         requires before { self.old.phase ≡ Phase.Before }
         ensures row { (now : ℕ) (mark : Mark) (list : List Entry) → Answers (Input.Whole packet) now (state_of self.old) mark list list mark self.new.due (state_of self.new) }
@@ -40,7 +44,7 @@ impl<G: Gate> Session<G> {
     }
 
     /// A fault in place of the first packet. Only another version of the protocol is answered.
-    pub(super) fn turn_away(&mut self, fault: PacketFault)
+    pub(super) fn first_fault(&mut self, fault: PacketFault)
         requires due { self.old.due ≡ None }
         requires before { self.old.phase ≡ Phase.Before }
         ensures row { (now : ℕ) (mark : Mark) (list : List Entry) → Answers (Input.Broken fault) now (state_of self.old) mark list list mark self.new.due (state_of self.new) }
@@ -64,15 +68,36 @@ impl<G: Gate> Session<G> {
         ensures row { (now : ℕ) (mark : Mark) (list : List Entry) → Answers (Input.Whole (Packet.Connect c.now)) now (state_of self.old) mark list list mark self.new.due (state_of self.new) }
         ensures gate { self.new.gate ≡ self.old.gate }
     {
-        let limit = limit_of(c);
+        let limit = packet_limit(c);
         if let Some(code) = refusal(c) {
             self.refuse(code, limit);
             return;
         }
-        match self.connack(c) {
-            Ok(connack) => self.accept(connack, limit),
+        match self.begin(c) {
+            Ok((connack, begun)) => self.accept(connack, begun, limit),
             Err(_) => self.refuse(reason::QUOTA_EXCEEDED, limit),
         }
+    }
+
+    /// The CONNACK that accepts, and what the session keeps then.
+    fn begin(&self, c: &Connect) -> Result<(Reply, Open), AllocError>
+        ensures connack { IfOk result (λ r. r.0 ≡ connack c.now (state_of self.now)) }
+        ensures keeps { IfOk result (λ r. r.1 ≡ open_for c.now) }
+    {
+        let connack = self.connack(c)?;
+        let begun = self.opening(c)?;
+        Ok((connack, begun))
+    }
+
+    /// What the session keeps once it is open.
+    fn opening(&self, c: &Connect) -> Result<Open, AllocError>
+        ensures { IfOk result (λ begun. begun ≡ open_for c.now) }
+    {
+        Ok(Open {
+            subscriptions: Subscriptions::new(self.alloc),
+            inbound: Inbound::new(),
+            window: Window::new(self.alloc, receive_limit(c), packet_limit(c))?,
+        })
     }
 
     /// A CONNACK that refuses, to a client that takes it, and the end.
@@ -106,28 +131,39 @@ impl<G: Gate> Session<G> {
     }
 
     /// The session is open, unless the client would not take the CONNACK.
-    fn accept(&mut self, connack: Reply, limit: u32)
+    fn accept(&mut self, connack: Reply, begun: Open, limit: u32)
         requires { self.old.due ≡ None }
-        ensures accepted { IsAccepted connack limit (state_of self.old) self.new.due (state_of self.new) }
+        ensures accepted { IsAccepted connack limit begun (state_of self.old) self.new.due (state_of self.new) }
         ensures gate { self.new.gate ≡ self.old.gate }
     {
         if encoded_len(&connack) > limit as usize {
             self.end(Closing::ByServer(0));
         } else {
             self.due = Some(connack);
-            self.phase = Phase::Open;
-            self.window = Window::new(self.alloc, limit);
+            self.phase = Phase::Open(begun);
         }
     }
 }
 
-/// The longest packet that the client takes, in bytes.
-fn limit_of(c: &Connect) -> u32
-    ensures { result ≡ limit_of c.now.packet_maximum }
+/// The longest packet that the client takes, in bytes (3.1.2.11.4).
+fn packet_limit(c: &Connect) -> u32
+    ensures value { result ≡ packet_limit c.now.packet_maximum }
+    ensures some { 0 < result }
 {
     match c.packet_maximum {
         Some(limit) => limit,
         None => u32::MAX,
+    }
+}
+
+/// How many PUBLISH packets of QoS 1 and 2 the client takes before it acknowledges one (3.1.2.11.3).
+fn receive_limit(c: &Connect) -> u16
+    ensures value { result ≡ receive_limit c.now.receive_maximum }
+    ensures some { 0 < result }
+{
+    match c.receive_maximum {
+        Some(limit) => limit,
+        None => u16::MAX,
     }
 }
 

@@ -1,6 +1,6 @@
 use Rattle.std.proofs.Common.{List, ℕ, subst}
-use Rattle.rs_packet.proofs.Numbers.{digits_end}
-use Rattle.rs_packet.specs.Reading.{IsEnd}
+use Rattle.rs_field.proofs.Numbers.{digits_end}
+use Rattle.rs_field.specs.Reading.{IsEnd}
 use Rattle.rs_packet.proofs.decoding.decoded.Goals as goal
 
 pub whole_of-requires-clause-end : goal.whole_of-requires-clause-end

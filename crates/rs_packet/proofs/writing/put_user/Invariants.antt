@@ -1,8 +1,8 @@
 use Rattle.std.proofs.Common.{◌≡◌, ◌++◌, take}
 use Rattle.std.specs.Prelude.{map}
 use Rattle.std.specs.List.{flat_map}
-use Rattle.rs_packet.specs.Properties.{spelled}
-use Rattle.rs_packet.specs.Replies.{user_property}
+use Rattle.rs_field.specs.Properties.{spelled}
+use Rattle.rs_field.specs.Kept.{user_property}
 use Rattle.rs_packet.proofs.writing.put_user.Given as goal
 
 abbrev pub invariant-loop-pair : goal.invariant-loop-pair

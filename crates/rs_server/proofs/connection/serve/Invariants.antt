@@ -2,16 +2,17 @@
 use Rattle.std.proofs.Common.{◌≡◌, List, None}
 use Rattle.std.specs.Io.KnownBytes.{Consumes, Appends}
 use Rattle.rs_message.specs.declared.entry.Entry.{Entry}
+use Rattle.rs_session.specs.Gate.{StandsAt}
 use Rattle.rs_session.specs.State.{state_of, due_of, gate_of, closing_of}
 use Rattle.rs_server.specs.Clock.{Told}
 use Rattle.rs_server.specs.Counts.{inner_of, failures_of}
-use Rattle.rs_server.specs.Talk.{Conversation, start, assigned_of}
+use Rattle.rs_server.specs.Conversation.{Conversation, start, assigned_of}
 use Rattle.rs_server.proofs.connection.serve.Given as goal
 
 abbrev pub invariant-turns : goal.invariant-turns
 invariant-turns g l =
     record {
-      talk : (seen : List Entry) → g.G.Gate.stands l.fn.gate seen → Conversation (start (assigned_of l.fn.place l.fn.number) seen (g.G.Gate.mark l.fn.gate)) (g.G.Gate.stands (gate_of l.session)) (g.G.Gate.mark (gate_of l.session)) (state_of l.session)
+      conversation : (seen : List Entry) → g.G.Gate.stands l.fn.gate seen → Conversation (start (assigned_of l.fn.place l.fn.number) seen (g.G.Gate.mark l.fn.gate)) (StandsAt g.G.Gate.stands g.G.Gate.mark) (g.G.Gate.stands (gate_of l.session)) (g.G.Gate.mark (gate_of l.session)) (state_of l.session)
           (Consumes (g.R.Read.remaining (inner_of l.initial.reader)) (g.R.Read.remaining (inner_of l.reader))) l.held.items
           (Told (g.C.Clock.moments l.initial.clock) (g.C.Clock.moments l.clock))
           (Appends (g.W.Write.contents (inner_of l.initial.writer)) (g.W.Write.contents (inner_of l.writer)));

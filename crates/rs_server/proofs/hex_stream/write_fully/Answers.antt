@@ -1,6 +1,6 @@
 use Rattle.std.proofs.Common.{◌++◌, take}
 use Rattle.std.proofs.KnownBytes.{Appends-trans}
-use Rattle.rs_server.proofs.Said.{moves_front}
+use Rattle.rs_server.proofs.Written.{moves_front}
 use Rattle.rs_server.proofs.hex_stream.write_fully.Goals as goal
 
 pub loop-rest-preserved : goal.loop-rest-preserved

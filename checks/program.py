@@ -1,0 +1,19 @@
+"""Where the built programs lie."""
+
+import os
+import sys
+
+ROOT = os.path.dirname(os.path.dirname(os.path.abspath(__file__)))
+
+
+def crate(name="rstored"):
+    """The folder of a program's crate."""
+    return os.path.join(ROOT, "crates", name)
+
+
+def program(name="rstored"):
+    """The path of a program, which has to be built."""
+    path = os.path.join(crate(name), "out", name)
+    if not os.path.exists(path):
+        sys.exit(f"build {name} first: rt run in crates/{name}")
+    return path

@@ -1,0 +1,40 @@
+-- The properties that are sent on, by their parts.
+use Rattle.std.proofs.Common.{◌≡◌, ℕ, ◌+◌, cond, List, [], ◌++◌, length, Option, Some, None, refl, sym, ap, arith, append_assoc, length-append}
+use Rattle.std.specs.List.{flat_map}
+use Rattle.std.specs.Prelude.{map, is_some}
+use Rattle.std.proofs.lemmas.List.Concat.{flat_map-append}
+use Rattle.rs_field.specs.declared.property.Property.TheVariants as property
+use Rattle.rs_field.specs.Values.{PropertiesValue}
+use Rattle.rs_field.specs.Kept.{optional, user_property, replayed}
+use Rattle.rs_field.specs.Properties.{spelled}
+
+-- the parts of the properties, one after the other
+pub replayed_parts : (old : List ℕ) (expiry subscription : Option ℕ) (p : PropertiesValue) →
+    ((((((old ++ flat_map spelled (optional property.Format p.format)) ++ flat_map spelled (optional property.Expiry expiry)) ++ flat_map spelled (optional property.ContentTypeIs p.content_type))
+    ++ flat_map spelled (optional property.ResponseTopicIs p.response_topic)) ++ flat_map spelled (optional property.Correlation p.correlation)) ++ flat_map spelled (optional property.Subscription subscription))
+    ++ flat_map spelled (map user_property p.user)
+    ≡ old ++ flat_map spelled (replayed expiry subscription p)
+replayed_parts old expiry subscription p = simp (flat_map-append, append_assoc) refl
+
+format_len : (o : Option ℕ) → length (flat_map spelled (optional property.Format o)) ≡ cond (is_some o) 2 0
+format_len None = refl
+format_len (Some n) = refl
+
+expiry_len : (o : Option ℕ) → length (flat_map spelled (optional property.Expiry o)) ≡ cond (is_some o) 5 0
+expiry_len None = refl
+expiry_len (Some n) = refl
+
+-- the length of the properties, by their parts
+pub length_replayed : (expiry subscription : Option ℕ) (p : PropertiesValue) → length (flat_map spelled (replayed expiry subscription p))
+    ≡ cond (is_some p.format) 2 0 + cond (is_some expiry) 5 0 + (length (flat_map spelled (optional property.ContentTypeIs p.content_type)) + length (flat_map spelled (optional property.ResponseTopicIs p.response_topic)))
+    + (length (flat_map spelled (optional property.Correlation p.correlation)) + length (flat_map spelled (optional property.Subscription subscription))) + length (flat_map spelled (map user_property p.user))
+length_replayed expiry subscription p =
+    let a = flat_map spelled (optional property.Format p.format) in
+    let b = flat_map spelled (optional property.Expiry expiry) in
+    let c = flat_map spelled (optional property.ContentTypeIs p.content_type) in
+    let d = flat_map spelled (optional property.ResponseTopicIs p.response_topic) in
+    let e = flat_map spelled (optional property.Correlation p.correlation) in
+    let f = flat_map spelled (optional property.Subscription subscription) in
+    let g = flat_map spelled (map user_property p.user) in
+    let parts : flat_map spelled (replayed expiry subscription p) ≡ (((((a ++ b) ++ c) ++ d) ++ e) ++ f) ++ g = sym (replayed_parts [] expiry subscription p) in
+    omega (arith, ap length parts, length-append (((((a ++ b) ++ c) ++ d) ++ e) ++ f) g, length-append ((((a ++ b) ++ c) ++ d) ++ e) f, length-append (((a ++ b) ++ c) ++ d) e, length-append ((a ++ b) ++ c) d, length-append (a ++ b) c, length-append a b, format_len p.format, expiry_len expiry)

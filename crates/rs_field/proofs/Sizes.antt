@@ -1,0 +1,149 @@
+-- What the properties of a packet say is no longer than the properties, and stays in their ranges.
+use Rattle.std.proofs.Common.{◌≡◌, ℕ, zero, suc, ◌+◌, ◌/◌, ◌≤◌, Bool, true, false, cond, ltb, List, [], ◌∷◌, ◌++◌, length, Result, Ok, Err, sym, ap, subst, ◌∙◌, arith, inl, inr}
+use Rattle.std.specs.Prelude.{map, is_some, IfOk, None}
+use Rattle.std.specs.List.{flat_map}
+use Rattle.std.proofs.lemmas.Bool.{cases_lt, lt-ltb, le-ltb}
+use Rattle.std.proofs.lemmas.List.{length-append, map-append}
+use Rattle.std.proofs.lemmas.List.Concat.{flat_map-append}
+use Rattle.rs_field.specs.declared.fault.PacketFault.{PacketFault}
+use Rattle.rs_field.specs.declared.property.Property.{Property}
+use Rattle.rs_field.specs.declared.property.Property.TheVariants as property
+use Rattle.rs_field.specs.declared.property.Place.{Place}
+use Rattle.rs_field.specs.Values.{FoundValue}
+use Rattle.rs_field.specs.Properties.{low_first, varint, spelled, value, IsInRange, AreAllowed, properties, nothing, put, gathered}
+use Rattle.rs_field.specs.Kept.{kept, optional, user_property, replayed}
+use Rattle.rs_field.specs.Bounds.{IsFound}
+use Rattle.rs_field.specs.Reading.{Gives, found_at}
+use Rattle.rs_field.proofs.Fields.{IsBytes}
+use Rattle.rs_field.proofs.PropertyLaws.{found_takes}
+use Rattle.rs_field.proofs.Replayed.{length_replayed}
+
+-- how many bytes the properties that a message keeps take
+abbrev pub size : FoundValue → ℕ
+size f = length (flat_map spelled (replayed f.expiry None (kept f)))
+
+sizes : (f : FoundValue) → size f
+    ≡ cond (is_some f.format) 2 0 + cond (is_some f.expiry) 5 0 + (length (flat_map spelled (optional property.ContentTypeIs f.content_type)) + length (flat_map spelled (optional property.ResponseTopicIs f.response_topic)))
+    + length (flat_map spelled (optional property.Correlation f.correlation)) + length (flat_map spelled (map user_property f.user))
+sizes f = omega (arith, length_replayed f.expiry None (kept f))
+
+one_len : (p : Property) → length (flat_map spelled (p ∷ [])) ≡ length (spelled p)
+one_len p = omega (arith, length-append (value p) [])
+
+users_len : (us : List (List ℕ × List ℕ)) (k v : List ℕ) → length (flat_map spelled (map user_property (us ++ (k, v) ∷ []))) ≡ length (flat_map spelled (map user_property us)) + length (spelled (property.User k v))
+users_len us k v =
+    let one : Property = property.User k v in
+    ap (λ (ps : List Property). length (flat_map spelled ps)) (map-append user_property us ((k, v) ∷ []))
+    ∙ ap length (flat_map-append spelled (map user_property us) (one ∷ []))
+    ∙ length-append (flat_map spelled (map user_property us)) (flat_map spelled (one ∷ []))
+    ∙ ap (λ (n : ℕ). length (flat_map spelled (map user_property us)) + n) (one_len one)
+
+few : (b : Bool) (n : ℕ) → cond b n 0 ≤ n
+few true n = omega arith
+few false n = omega arith
+
+pub put_size : (f : FoundValue) (p : Property) → size (put f p) ≤ size f + length (spelled p)
+put_size f (property.Format n) = omega (arith, sizes f, sizes (put f (property.Format n)))
+put_size f (property.Expiry n) = omega (arith, sizes f, sizes (put f (property.Expiry n)))
+put_size f (property.ContentTypeIs t) = omega (arith, sizes f, sizes (put f (property.ContentTypeIs t)), one_len (property.ContentTypeIs t))
+put_size f (property.ResponseTopicIs t) = omega (arith, sizes f, sizes (put f (property.ResponseTopicIs t)), one_len (property.ResponseTopicIs t))
+put_size f (property.Correlation b) = omega (arith, sizes f, sizes (put f (property.Correlation b)), one_len (property.Correlation b))
+put_size f (property.Subscription n) = omega arith
+put_size f (property.SessionExpiryIs n) = omega arith
+put_size f (property.Method t) = omega arith
+put_size f (property.Authentication b) = omega arith
+put_size f (property.WantsProblem n) = omega arith
+put_size f (property.WantsResponse n) = omega arith
+put_size f (property.Reason t) = omega arith
+put_size f (property.ReceiveMaximumIs n) = omega arith
+put_size f (property.AliasMaximumIs n) = omega arith
+put_size f (property.Alias n) = omega arith
+put_size f (property.User k v) = omega (arith, sizes f, sizes (put f (property.User k v)), users_len f.user k v)
+put_size f (property.PacketMaximum n) = omega arith
+
+pub gathered_size : (f : FoundValue) (ps : List Property) → size (gathered f ps) ≤ size f + length (flat_map spelled ps)
+unfolding gathered
+gathered_size f [] = omega arith
+gathered_size f (p ∷ ps) = omega (arith, gathered_size (put f p) ps, put_size f p, length-append (value p) (flat_map spelled ps))
+
+all_size : (ps : List Property) → size (gathered nothing ps) ≤ length (flat_map spelled ps)
+all_size ps = omega (arith, gathered_size nothing ps)
+
+-- a smaller number has no longer form
+low_first_le : (k a b : ℕ) → a ≤ b → length (low_first k a) ≤ length (low_first k b)
+unfolding low_first
+low_first_le zero a b le = omega arith
+low_first_le (suc k) a b le =
+    elim (cases_lt b 128) [
+      | inl small ↦ let s : ltb a 128 ≡ true = lt-ltb _ _ (omega (arith, le, small)) in let t : ltb b 128 ≡ true = lt-ltb _ _ small in rw (s, t) (omega arith)
+      | inr big ↦
+          let t : ltb b 128 ≡ false = le-ltb _ _ big in
+          elim (cases_lt a 128) [
+            | inl small ↦ let s : ltb a 128 ≡ true = lt-ltb _ _ small in rw (s, t) (omega arith)
+            | inr large ↦
+                let s : ltb a 128 ≡ false = le-ltb _ _ large in
+                let up : a / 128 ≤ b / 128 = omega (arith, le) in
+                rw (s, t) (omega (arith, low_first_le k (a / 128) (b / 128) up))
+          ]
+    ]
+
+properties_le : (ps qs : List Property) → length (flat_map spelled ps) ≤ length (flat_map spelled qs) → length (properties ps) ≤ length (properties qs)
+properties_le ps qs le =
+    let m = length (flat_map spelled ps) in
+    let n = length (flat_map spelled qs) in
+    omega (arith, le, low_first_le 4 (length (flat_map spelled ps)) (length (flat_map spelled qs)) le, length-append (varint (length (flat_map spelled ps))) (flat_map spelled ps), length-append (varint (length (flat_map spelled qs))) (flat_map spelled qs))
+
+-- ---- the ranges
+
+put_found : (f : FoundValue) (p : Property) → IsFound f → IsInRange p → IsFound (put f p)
+put_found f (property.Format n) h r = record { short = h.short; maxima = h.maxima }
+put_found f (property.Expiry n) h r = record { short = h.short; maxima = h.maxima }
+put_found f (property.ContentTypeIs t) h r = record { short = h.short; maxima = h.maxima }
+put_found f (property.ResponseTopicIs t) h r = record { short = h.short; maxima = h.maxima }
+put_found f (property.Correlation b) h r = record { short = r; maxima = h.maxima }
+put_found f (property.Subscription n) h r = record { short = h.short; maxima = h.maxima }
+put_found f (property.SessionExpiryIs n) h r = record { short = h.short; maxima = h.maxima }
+put_found f (property.Method t) h r = record { short = h.short; maxima = h.maxima }
+put_found f (property.Authentication b) h r = record { short = h.short; maxima = h.maxima }
+put_found f (property.WantsProblem n) h r = h
+put_found f (property.WantsResponse n) h r = h
+put_found f (property.Reason t) h r = h
+put_found f (property.ReceiveMaximumIs n) h r = record { short = h.short; maxima = record { receive_fits = r.0; packet_fits = h.maxima.packet_fits } }
+put_found f (property.AliasMaximumIs n) h r = h
+put_found f (property.Alias n) h r = record { short = h.short; maxima = h.maxima }
+put_found f (property.User k v) h r = record { short = h.short; maxima = h.maxima }
+put_found f (property.PacketMaximum n) h r = record { short = h.short; maxima = record { receive_fits = h.maxima.receive_fits; packet_fits = r.0 } }
+
+gathered_found : (where_ : Place) (f : FoundValue) (ps : List Property) → IsFound f → AreAllowed where_ ps → IsFound (gathered f ps)
+unfolding gathered
+gathered_found where_ f [] h a = h
+gathered_found where_ f (p ∷ ps) h a = gathered_found where_ (put f p) ps (put_found f p h a.1) a.2
+
+nothing_found : IsFound nothing
+nothing_found = record { short = tt; maxima = record { receive_fits = tt; packet_fits = tt } }
+
+-- ---- what a reader of properties learns
+
+pub record FoundFits (bytes : List ℕ) (f : FoundValue) (rest : List ℕ) : Type 0 where
+  pub fits : IsFound f
+  pub size_fits : length (properties (replayed f.expiry None (kept f))) + length rest ≤ length bytes
+
+pub found_fits : (where_ : Place) (bytes : List ℕ) (f : FoundValue) (rest : List ℕ) → IsBytes bytes → found_at where_ bytes ≡ Ok (f, rest) → FoundFits bytes f rest
+found_fits where_ bytes f rest fits e =
+    let g = found_takes where_ bytes (f, rest) fits e in
+    let made : FoundFits bytes (gathered nothing g.ps) rest = record {
+      fits = gathered_found where_ nothing g.ps nothing_found g.are.allowed;
+      size_fits =
+          let inner : size (gathered nothing g.ps) ≤ length (flat_map spelled g.ps) = all_size g.ps in
+          omega (arith, properties_le (replayed (gathered nothing g.ps).expiry None (kept (gathered nothing g.ps))) g.ps inner, ap length g.takes.parts, length-append (properties g.ps) rest);
+    } in
+    subst (λ (v : FoundValue). FoundFits bytes v rest) (sym g.says) made
+
+pub found_is : (where_ : Place) (bytes rest : List ℕ) (r : Result FoundValue PacketFault) → IsBytes bytes → Gives (λ f. (f, rest)) r (found_at where_ bytes) → IfOk r (λ f. IsFound f)
+found_is where_ bytes rest (Ok f) fits e = (found_fits where_ bytes f rest fits e).fits
+found_is where_ bytes rest (Err d) fits e = tt
+
+pub found_size : (where_ : Place) (bytes rest : List ℕ) (r : Result FoundValue PacketFault) → IsBytes bytes → Gives (λ f. (f, rest)) r (found_at where_ bytes)
+    → IfOk r (λ f. length (properties (replayed f.expiry None (kept f))) + length rest ≤ length bytes)
+found_size where_ bytes rest (Ok f) fits e = (found_fits where_ bytes f rest fits e).size_fits
+found_size where_ bytes rest (Err d) fits e = tt

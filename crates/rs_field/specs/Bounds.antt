@@ -1,0 +1,21 @@
+-- What the types of properties keep, and what is known of properties that were read.
+use Rattle.std.specs.Prelude.{ℕ, ◌<◌, Option, IfSome}
+use Rattle.rs_field.specs.Values.{PropertiesValue, FoundValue}
+use Rattle.rs_field.specs.Forms.{IsShort}
+
+-- 3.3.2.3.6: correlation data are a binary
+abbrev pub AreKept : PropertiesValue → Type 0
+AreKept p = IfSome p.correlation IsShort
+
+abbrev pub IsSome : ℕ → Type 0
+IsSome n = 0 < n
+
+-- 3.1.2.11.3, 3.1.2.11.4: neither maximum is 0
+pub record MaximaFit (receive packet : Option ℕ) : Type 0 where
+  pub receive_fits : IfSome receive IsSome
+  pub packet_fits : IfSome packet IsSome
+
+-- what the properties of a packet say, each in its range
+pub record IsFound (f : FoundValue) : Type 0 where
+  pub short : IfSome f.correlation IsShort
+  pub maxima : MaximaFit f.receive_maximum f.packet_maximum

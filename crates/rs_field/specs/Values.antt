@@ -1,0 +1,24 @@
+-- What contracts see of the types that hold vectors or keep a bound: the same fields, with lists.
+use Rattle.std.specs.Prelude.{ℕ, List, Bool, Option}
+
+pub record FoundValue : Type 0 where
+  pub format : Option ℕ
+  pub expiry : Option ℕ
+  pub content_type : Option (List ℕ)
+  pub response_topic : Option (List ℕ)
+  pub correlation : Option (List ℕ)
+  pub subscription : Option ℕ
+  pub session_expiry : Option ℕ
+  pub method : Option (List ℕ)
+  pub authentication : Bool
+  pub receive_maximum : Option ℕ
+  pub alias : Option ℕ
+  pub user : List (List ℕ × List ℕ)
+  pub packet_maximum : Option ℕ
+
+pub record PropertiesValue : Type 0 where
+  pub format : Option ℕ
+  pub content_type : Option (List ℕ)
+  pub response_topic : Option (List ℕ)
+  pub correlation : Option (List ℕ)
+  pub user : List (List ℕ × List ℕ)

@@ -1,0 +1,402 @@
+//! The properties of packets.
+
+ghost use Rattle.std.specs.Prelude.{◌≡◌, ◌<◌, IfOk, OnOk};
+
+use crate::subscription::SubscriptionId;
+use bytes::Bytes;
+use rs_topic::Text;
+use std::alloc::{AllocError, Global};
+use std::marker::Model;
+
+/// Which property it is (2.2.2.2).
+#[derive(Clone, Copy)]
+pub enum Identifier {
+    PayloadFormat,
+    MessageExpiry,
+    ContentType,
+    ResponseTopic,
+    CorrelationData,
+    SubscriptionIdentifier,
+    SessionExpiry,
+    AuthenticationMethod,
+    AuthenticationData,
+    ProblemInformation,
+    ResponseInformation,
+    ServerReference,
+    ReasonString,
+    ReceiveMaximum,
+    TopicAliasMaximum,
+    TopicAlias,
+    UserProperty,
+    MaximumPacketSize,
+}
+
+/// A property that a client may send, with its value.
+#[derive(Drop)]
+pub enum Property {
+    Format(u8),
+    Expiry(u32),
+    ContentTypeIs(Text),
+    ResponseTopicIs(Text),
+    Correlation(Bytes),
+    Subscription(SubscriptionId),
+    SessionExpiryIs(u32),
+    Method(Text),
+    Authentication(Bytes),
+    WantsProblem(u8),
+    WantsResponse(u8),
+    Reason(Text),
+    ReceiveMaximumIs(u16),
+    AliasMaximumIs(u16),
+    Alias(u16),
+    User(Text, Text),
+    PacketMaximum(u32),
+}
+
+/// The packet that properties stand in.
+#[derive(Clone, Copy)]
+pub enum Place {
+    Connect,
+    Publish,
+    Acknowledgement,
+    Subscribe,
+    Unsubscribe,
+    Disconnect,
+}
+
+/// What the properties of a packet say, whichever it is.
+#[derive(Drop)]
+pub struct Found {
+    pub format: Option<u8>,
+    pub expiry: Option<u32>,
+    pub content_type: Option<Text>,
+    pub response_topic: Option<Text>,
+    pub correlation: Option<Bytes>,
+    pub subscription: Option<SubscriptionId>,
+    pub session_expiry: Option<u32>,
+    pub method: Option<Text>,
+    pub authentication: bool,
+    pub receive_maximum: Option<u16>,
+    pub alias: Option<u16>,
+    pub user: Vec<(Text, Text)>,
+    pub packet_maximum: Option<u32>,
+}
+
+impl Model for Found {
+    ghost use Rattle.rs_field.specs.Values.{FoundValue};
+
+    ghost Value = { FoundValue };
+
+    ghost view = { λ f. record {
+      format = f.format;
+      expiry = f.expiry;
+      content_type = f.content_type;
+      response_topic = f.response_topic;
+      correlation = f.correlation;
+      subscription = f.subscription;
+      session_expiry = f.session_expiry;
+      method = f.method;
+      authentication = f.authentication;
+      receive_maximum = f.receive_maximum;
+      alias = f.alias;
+      user = f.user.items;
+      packet_maximum = f.packet_maximum;
+    } };
+}
+
+/// The properties that a message keeps (3.3.2.3). The correlation data take less than 65,536 bytes, and the
+/// user properties stand in the order received.
+#[derive(Drop)]
+pub struct Properties {
+    /// The Payload Format Indicator (3.3.2.3.2): 0 for bytes, 1 for UTF-8.
+    pub format: Option<u8>,
+    /// The Content Type (3.3.2.3.9).
+    pub content_type: Option<Text>,
+    /// The Response Topic (3.3.2.3.5).
+    pub response_topic: Option<Text>,
+    /// The Correlation Data (3.3.2.3.6), of 0 to 65,535 bytes.
+    pub correlation: Option<Bytes>,
+    /// The User Properties (3.3.2.3.7): names and values; a name may stand more than once.
+    pub user: Vec<(Text, Text)>,
+}
+
+impl Model for Properties {
+    ghost use Rattle.rs_field.specs.Values.{PropertiesValue};
+
+    ghost Value = { PropertiesValue };
+
+    ghost use Rattle.rs_field.specs.Bounds.{AreKept};
+
+    ghost view = { λ p. record {
+      format = p.format;
+      content_type = p.content_type;
+      response_topic = p.response_topic;
+      correlation = p.correlation;
+      user = p.user.items;
+    } };
+
+    ghost invariant = { λ p. AreKept (record {
+      format = p.format;
+      content_type = p.content_type;
+      response_topic = p.response_topic;
+      correlation = p.correlation;
+      user = p.user.items;
+    }) };
+}
+
+impl Properties {
+    /// An equal value, which shares the bytes of its texts and of its correlation data; refused only for
+    /// want of memory.
+    pub fn copy(&self) -> Result<Properties, AllocError>
+        ensures { IfOk result (λ p. p ≡ self.now) }
+    {
+        Ok(Properties {
+            format: self.format,
+            content_type: copy_text(&self.content_type)?,
+            response_topic: copy_text(&self.response_topic)?,
+            correlation: copy_bytes(&self.correlation)?,
+            user: copy_pairs(&self.user)?,
+        })
+    }
+}
+
+impl PartialEq for Properties {
+    ghost use Rattle.std.specs.Cmp.{partial_equiv_from_equiv};
+    ghost use Rattle.rs_field.specs.Equality.{properties_eq, properties_eq_equiv};
+
+    ghost eq = { properties_eq };
+
+    ghost laws = { partial_equiv_from_equiv properties_eq_equiv };
+
+    fn eq(&self, other: &Properties) -> bool {
+        self.format == other.format
+            && self.content_type == other.content_type
+            && self.response_topic == other.response_topic
+            && self.correlation == other.correlation
+            && self.user == other.user
+    }
+}
+
+impl Eq for Properties {
+    ghost use Rattle.rs_field.specs.Equality.{properties_eq_equiv};
+
+    ghost laws = { properties_eq_equiv };
+}
+
+fn copy_text(text: &Option<Text>) -> Result<Option<Text>, AllocError>
+    ensures { IfOk result (λ t. t ≡ text.now) }
+{
+    match text {
+        Some(text) => Ok(Some(text.copy()?)),
+        None => Ok(None),
+    }
+}
+
+fn copy_bytes(bytes: &Option<Bytes>) -> Result<Option<Bytes>, AllocError>
+    ensures { IfOk result (λ b. b ≡ bytes.now) }
+{
+    match bytes {
+        Some(bytes) => Ok(Some(bytes.clone()?)),
+        None => Ok(None),
+    }
+}
+
+fn copy_pairs(pairs: &Vec<(Text, Text)>) -> Result<Vec<(Text, Text)>, AllocError>
+    ensures { IfOk result (λ copied. copied.items ≡ pairs.now.items) }
+{
+    let mut copied = Vec::with_capacity(*pairs.allocator(), pairs.len())?;
+    for pair in pairs {
+        copied.push((pair.0.copy()?, pair.1.copy()?))?;
+    }
+    Ok(copied)
+}
+
+impl Identifier {
+    ghost use Rattle.rs_field.specs.Properties.{number, may_stand, may_repeat};
+    ghost use Rattle.rs_field.specs.Reading.{identifier_of};
+
+    /// The identifier with this number (2.2.2.2).
+    #[tactic(auto, unfolding(crate::specs::Reading::identifier_of))]
+    pub fn of(number: u32) -> Option<Identifier>
+        ensures { result ≡ identifier_of number }
+    {
+        match number {
+            0x01 => Some(Identifier::PayloadFormat),
+            0x02 => Some(Identifier::MessageExpiry),
+            0x03 => Some(Identifier::ContentType),
+            0x08 => Some(Identifier::ResponseTopic),
+            0x09 => Some(Identifier::CorrelationData),
+            0x0B => Some(Identifier::SubscriptionIdentifier),
+            0x11 => Some(Identifier::SessionExpiry),
+            0x15 => Some(Identifier::AuthenticationMethod),
+            0x16 => Some(Identifier::AuthenticationData),
+            0x17 => Some(Identifier::ProblemInformation),
+            0x19 => Some(Identifier::ResponseInformation),
+            0x1C => Some(Identifier::ServerReference),
+            0x1F => Some(Identifier::ReasonString),
+            0x21 => Some(Identifier::ReceiveMaximum),
+            0x22 => Some(Identifier::TopicAliasMaximum),
+            0x23 => Some(Identifier::TopicAlias),
+            0x26 => Some(Identifier::UserProperty),
+            0x27 => Some(Identifier::MaximumPacketSize),
+            _ => None,
+        }
+    }
+
+    /// Its number (2.2.2.2).
+    pub fn number(self) -> u8
+        ensures value { result ≡ number self }
+        ensures small { result < 40 }
+    {
+        match self {
+            Identifier::PayloadFormat => 0x01,
+            Identifier::MessageExpiry => 0x02,
+            Identifier::ContentType => 0x03,
+            Identifier::ResponseTopic => 0x08,
+            Identifier::CorrelationData => 0x09,
+            Identifier::SubscriptionIdentifier => 0x0B,
+            Identifier::SessionExpiry => 0x11,
+            Identifier::AuthenticationMethod => 0x15,
+            Identifier::AuthenticationData => 0x16,
+            Identifier::ProblemInformation => 0x17,
+            Identifier::ResponseInformation => 0x19,
+            Identifier::ServerReference => 0x1C,
+            Identifier::ReasonString => 0x1F,
+            Identifier::ReceiveMaximum => 0x21,
+            Identifier::TopicAliasMaximum => 0x22,
+            Identifier::TopicAlias => 0x23,
+            Identifier::UserProperty => 0x26,
+            Identifier::MaximumPacketSize => 0x27,
+        }
+    }
+
+    /// Only a user property may stand twice.
+    pub fn may_repeat(self) -> bool
+        ensures { result ≡ may_repeat self }
+    {
+        matches!(self, Identifier::UserProperty)
+    }
+
+    /// Whether a client may send it in this packet.
+    pub fn may_stand(self, place: Place) -> bool
+        ensures { result ≡ may_stand place self }
+    {
+        match place {
+            Place::Connect => matches!(
+                self,
+                Identifier::SessionExpiry
+                    | Identifier::AuthenticationMethod
+                    | Identifier::AuthenticationData
+                    | Identifier::ProblemInformation
+                    | Identifier::ResponseInformation
+                    | Identifier::ReceiveMaximum
+                    | Identifier::TopicAliasMaximum
+                    | Identifier::MaximumPacketSize
+                    | Identifier::UserProperty
+            ),
+            Place::Publish => matches!(
+                self,
+                Identifier::PayloadFormat
+                    | Identifier::MessageExpiry
+                    | Identifier::ContentType
+                    | Identifier::ResponseTopic
+                    | Identifier::CorrelationData
+                    | Identifier::TopicAlias
+                    | Identifier::UserProperty
+            ),
+            Place::Acknowledgement => matches!(
+                self,
+                Identifier::ReasonString | Identifier::UserProperty
+            ),
+            Place::Subscribe => matches!(
+                self,
+                Identifier::SubscriptionIdentifier | Identifier::UserProperty
+            ),
+            Place::Unsubscribe => matches!(self, Identifier::UserProperty),
+            Place::Disconnect => matches!(
+                self,
+                Identifier::SessionExpiry | Identifier::ReasonString | Identifier::UserProperty
+            ),
+        }
+    }
+}
+
+impl Property {
+    ghost use Rattle.rs_field.specs.Properties.{identifier};
+
+    /// Which property it is.
+    pub fn identifier(&self) -> Identifier
+        ensures { result ≡ identifier self.now }
+    {
+        match self {
+            Property::Format(_) => Identifier::PayloadFormat,
+            Property::Expiry(_) => Identifier::MessageExpiry,
+            Property::ContentTypeIs(_) => Identifier::ContentType,
+            Property::ResponseTopicIs(_) => Identifier::ResponseTopic,
+            Property::Correlation(_) => Identifier::CorrelationData,
+            Property::Subscription(_) => Identifier::SubscriptionIdentifier,
+            Property::SessionExpiryIs(_) => Identifier::SessionExpiry,
+            Property::Method(_) => Identifier::AuthenticationMethod,
+            Property::Authentication(_) => Identifier::AuthenticationData,
+            Property::WantsProblem(_) => Identifier::ProblemInformation,
+            Property::WantsResponse(_) => Identifier::ResponseInformation,
+            Property::Reason(_) => Identifier::ReasonString,
+            Property::ReceiveMaximumIs(_) => Identifier::ReceiveMaximum,
+            Property::AliasMaximumIs(_) => Identifier::TopicAliasMaximum,
+            Property::Alias(_) => Identifier::TopicAlias,
+            Property::PacketMaximum(_) => Identifier::MaximumPacketSize,
+            Property::User(_, _) => Identifier::UserProperty,
+        }
+    }
+}
+
+impl Found {
+    ghost use Rattle.rs_field.specs.Properties.{put, nothing};
+
+    /// Of no property.
+    pub fn new(alloc: Global) -> Found
+        ensures { result ≡ nothing }
+    {
+        Found {
+            format: None,
+            expiry: None,
+            content_type: None,
+            response_topic: None,
+            correlation: None,
+            subscription: None,
+            session_expiry: None,
+            method: None,
+            authentication: false,
+            receive_maximum: None,
+            alias: None,
+            user: Vec::new(alloc),
+            packet_maximum: None,
+        }
+    }
+
+    /// Adds what a property says.
+    pub fn put(&mut self, property: Property) -> Result<(), AllocError>
+        ensures { OnOk result (self.new ≡ put self.old property) }
+    {
+        match property {
+            Property::Format(n) => self.format = Some(n),
+            Property::Expiry(n) => self.expiry = Some(n),
+            Property::ContentTypeIs(t) => self.content_type = Some(t),
+            Property::ResponseTopicIs(t) => self.response_topic = Some(t),
+            Property::Correlation(b) => self.correlation = Some(b),
+            Property::Subscription(n) => self.subscription = Some(n),
+            Property::SessionExpiryIs(n) => self.session_expiry = Some(n),
+            Property::Method(t) => self.method = Some(t),
+            Property::Authentication(_b) => self.authentication = true,
+            Property::ReceiveMaximumIs(n) => self.receive_maximum = Some(n),
+            Property::Alias(n) => self.alias = Some(n),
+            Property::User(k, v) => self.user.push((k, v))?,
+            Property::PacketMaximum(n) => self.packet_maximum = Some(n),
+            Property::WantsProblem(_n) => {}
+            Property::WantsResponse(_n) => {}
+            Property::Reason(_t) => {}
+            Property::AliasMaximumIs(_n) => {}
+        }
+        Ok(())
+    }
+}

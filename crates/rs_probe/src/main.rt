@@ -1,0 +1,57 @@
+//! Works the libraries directly, for checks that look at them from outside.
+//!
+//! `growth` adds topics to a catalogue, and looks at it again where memory is refused; `queue` does the same with the messages that
+//! wait in a window. `times TOPICS` says how long the calls of a catalogue take where so many topics, 1 to 65,536, hold a message.
+//! `rounds COUNT ROUNDS` makes so many rounds in a window where so many messages wait, 1 to 100,000, and is timed from outside.
+//! `decode ROUNDS` and `encode ROUNDS` say how long the one packet on standard input, a PUBLISH or a SUBSCRIBE, takes to be decoded
+//! so often, and what answers it to be encoded.
+#![tactic(auto)]
+
+mod codec;
+mod entries;
+mod failure;
+mod growth;
+mod job;
+mod queue;
+mod rounds;
+mod times;
+
+use crate::failure::Failure;
+use crate::job::{Job, asked};
+use std::env::Env;
+use std::io::Read;
+use std::process::ExitCode;
+use std::rt::Clock;
+
+fn work<H: Env + AllocGlobal + Print + Clock, R: Read>(
+    rt: &H,
+    input: &mut R,
+) -> Result<(), Failure> {
+    let alloc = rt.alloc();
+    match asked(rt)? {
+        Job::Growth => println!(rt; "refused {}", growth::refused(alloc)?)?,
+        Job::Queue => println!(rt; "refused {}", queue::refused(alloc)?)?,
+        Job::Times(topics) => times::measure(rt, alloc, topics)?,
+        Job::Rounds(count, rounds) => {
+            rounds::work(alloc, count, rounds)?;
+            println!(rt; "{rounds}")?;
+        }
+        Job::Decode(rounds) => {
+            codec::measure_decode(rt, alloc, &codec::read_input(alloc, input)?, rounds)?;
+        }
+        Job::Encode(rounds) => {
+            codec::measure_encode(rt, alloc, &codec::read_input(alloc, input)?, rounds)?;
+        }
+    }
+    Ok(())
+}
+
+fn main(rt: HostRuntime) -> ExitCode {
+    match work(&rt, &mut rt.stdin()) {
+        Ok(()) => ExitCode::SUCCESS,
+        Err(failure) => {
+            let _ = eprintln!(rt; "rs_probe: {failure}");
+            ExitCode::from(failure.status())
+        }
+    }
+}

@@ -1,0 +1,84 @@
+//! What a window gives after a `queue` that was refused for want of memory.
+
+use crate::entries::found;
+use crate::failure::Failure;
+use rs_message::Found;
+use rs_packet::Qos;
+use rs_topic::TopicName;
+use rs_window::{Window, WindowFault};
+use std::alloc::Global;
+
+/// How many messages are queued behind one that waits, each time: so many that the queue has to grow.
+const LENGTHS: [u32; 3] = [9, 40, 200];
+
+fn messages(alloc: Global, topic: &TopicName, count: u32) -> Result<Vec<Found>, Failure> {
+    let mut all = Vec::with_capacity(alloc, count as usize)?;
+    for _ in 0..count {
+        all.push(found(alloc, topic, Qos::AtMostOnce)?)?;
+    }
+    Ok(all)
+}
+
+/// Whether the next so many messages that the window gives are of this topic.
+fn gives(window: &mut Window, topic: &TopicName, count: u32) -> bool {
+    for _ in 0..count {
+        match window.next(0) {
+            Some(publish) if publish.topic == *topic => {}
+            _ => return false,
+        }
+    }
+    true
+}
+
+fn owed(kept: bool) -> Result<(), Failure> {
+    if kept { Ok(()) } else { Err(Failure::Changed) }
+}
+
+/// The topics of the message that waits and of those that are queued behind it.
+#[derive(Drop)]
+struct Topics {
+    waiting: TopicName,
+    later: TopicName,
+}
+
+/// In a window where nothing waits, queues so many messages behind one, and answers whether memory was refused for them. Then the
+/// one is given and nothing else, and the same messages must be taken.
+fn queue_later(
+    alloc: Global,
+    window: &mut Window,
+    topics: &Topics,
+    count: u32,
+) -> Result<bool, Failure> {
+    window.queue(messages(alloc, &topics.waiting, 1)?, Qos::AtMostOnce, None)?;
+    let later = messages(alloc, &topics.later, count)?;
+    let again = messages(alloc, &topics.later, count)?;
+    let refused = match window.queue(later, Qos::AtMostOnce, None) {
+        Ok(()) => false,
+        Err(WindowFault::NoMemory) => true,
+        Err(_) => return Err(Failure::Changed),
+    };
+    owed(gives(window, &topics.waiting, 1))?;
+    if refused {
+        owed(window.next(0).is_none())?;
+        owed(window.queue(again, Qos::AtMostOnce, None).is_ok())?;
+    }
+    owed(gives(window, &topics.later, count))?;
+    owed(window.next(0).is_none())?;
+    Ok(refused)
+}
+
+/// Queues messages behind one that waits, more each time, and answers how often memory was refused for them.
+pub fn refused(alloc: Global) -> Result<u32, Failure> {
+    let mut window = Window::new(alloc, 1, u32::MAX)?;
+    let topics = Topics {
+        waiting: TopicName::read(alloc, b"a")?,
+        later: TopicName::read(alloc, b"b")?,
+    };
+    let mut refused = 0u32;
+    for count in LENGTHS {
+        if queue_later(alloc, &mut window, &topics, count)? {
+            refused = refused.saturating_add(1);
+        }
+    }
+    Ok(refused)
+}

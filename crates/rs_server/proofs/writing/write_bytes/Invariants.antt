@@ -1,0 +1,13 @@
+-- What is gone from the rest was written, and nothing failed.
+use Rattle.std.proofs.Common.{◌≡◌, ℕ, List, ◌++◌, length}
+use Rattle.std.specs.Io.KnownBytes.{Appends}
+use Rattle.rs_server.specs.Counts.{inner_of, failures_of}
+use Rattle.rs_server.proofs.writing.write_bytes.Given as goal
+
+abbrev pub invariant-loop-rest : goal.invariant-loop-rest
+invariant-loop-rest g l =
+    ((done : List ℕ) × (l.bytes ≡ done ++ l.rest) × Appends (g.W.Write.contents (inner_of l.initial.writer)) (g.W.Write.contents (inner_of l.writer)) done)
+    × (failures_of l.writer ≡ failures_of l.initial.writer)
+
+abbrev pub decreases-loop-rest : goal.decreases-loop-rest
+decreases-loop-rest g l = length l.rest

@@ -1,0 +1,159 @@
+-- One connection, from the bytes that were read to those that were written.
+use Rattle.std.specs.Prelude.{◌⊎◌, ◌≡◌, ◌≢◌, ℕ, ◌<◌, ◌≤◌, Option, Some, None, List, [], ◌∷◌, ◌++◌, length, take, drop, map, Result, Ok, Err, codes}
+use Rattle.std.specs.List.{flat_map}
+use Rattle.std.specs.Io.KnownBytes.{Consumes, IsAtEnd}
+use Rattle.std.specs.Fmt.{decimal}
+use Rattle.rs_packet.specs.Grammar.{Spells}
+use Rattle.rs_packet.specs.Fronts.{IsMore, IsFaulty}
+use Rattle.rs_field.specs.declared.fault.PacketFault.TheVariants as faults
+use Rattle.rs_message.specs.declared.entry.Entry.{Entry}
+use Rattle.rs_session.specs.declared.phase.Input.{Input}
+use Rattle.rs_session.specs.declared.phase.Input.TheVariants.{Whole, Broken}
+use Rattle.rs_session.specs.declared.phase.Closing.{Closing}
+use Rattle.rs_session.specs.declared.phase.Closing.TheVariants as closing
+use Rattle.rs_session.specs.Gate.{Mark}
+use Rattle.rs_session.specs.State.{State, fresh, closing_of}
+use Rattle.rs_session.specs.Run.{Point, Turn, IsTurn, Run, AreOfGate}
+use Rattle.rs_server.specs.declared.connection.Served.{Served}
+use Rattle.rs_server.specs.declared.connection.Served.TheVariants.{ClientClosed, EndOfInput, CutInput, ServerClosed, Dropped}
+use Rattle.rs_server.specs.declared.writing.ServeFault.{ServeFault}
+use Rattle.rs_server.specs.declared.writing.ServeFault.TheVariants.{Read, Write, NoMemory}
+use Rattle.rs_server.specs.Writing.{Writes, all_reply_bytes}
+
+-- ---- what is read
+
+-- These bytes are the inputs, one after the other, and then what is held. A fault takes no byte.
+abbrev pub InputsOf : List Input → List ℕ → List ℕ → Type 0
+InputsOf [] bytes held = bytes ≡ held
+InputsOf (Whole packet ∷ inputs) bytes held = (text : List ℕ) × (rest : List ℕ) × (bytes ≡ text ++ rest) × Spells text packet × InputsOf inputs rest held
+InputsOf (Broken fault ∷ inputs) bytes held = IsFaulty bytes fault × InputsOf inputs bytes held
+
+-- The inputs are the same as far as both go, up to the first fault. Want of memory may stand in the place
+-- of any.
+abbrev pub Agree : List Input → List Input → Type 0
+Agree [] others = Unit {0}
+Agree (input ∷ inputs) [] = Unit {0}
+Agree (Whole p ∷ inputs) (Whole q ∷ others) = (p ≡ q) × Agree inputs others
+Agree (Whole p ∷ inputs) (Broken fault ∷ others) = fault ≡ faults.NoMemory
+Agree (Broken fault ∷ inputs) (Whole q ∷ others) = fault ≡ faults.NoMemory
+Agree (Broken fault ∷ inputs) (Broken other ∷ others) = (fault ≡ faults.NoMemory) ⊎ ((other ≡ faults.NoMemory) ⊎ (fault ≡ other))
+
+-- the input at the front of what is held, and what is held without it
+abbrev pub IsFront : List ℕ → Option Input → List ℕ → Type 0
+IsFront old None new = IsMore old × (new ≡ old)
+IsFront old (Some (Whole packet)) new = (n : ℕ) × (n ≤ length old) × Spells (take n old) packet × (new ≡ drop n old)
+IsFront old (Some (Broken fault)) new = IsFaulty old fault × (new ≡ old)
+
+-- ---- the run
+
+-- the identifier of a client that gives none: the place, and the number of the connection there
+abbrev pub assigned_of : ℕ → ℕ → List ℕ
+assigned_of place number = codes "rs" ++ (decimal place ++ (codes "-" ++ decimal number))
+
+abbrev pub inputs_of : List Turn → List Input
+inputs_of turns = map (λ turn. turn.input) turns
+
+abbrev pub moments_of : List Turn → List ℕ
+moments_of turns = map (λ turn. turn.now) turns
+
+abbrev pub replies_of : List Turn → List ℕ
+replies_of turns = flat_map (λ turn. all_reply_bytes turn.replies) turns
+
+abbrev pub point_at : State → List Entry → Mark → Point
+point_at state seen mark = record { state = state; seen = seen; mark = mark }
+
+-- where a connection begins
+abbrev pub start : List ℕ → List Entry → Mark → Point
+start assigned seen mark = point_at (fresh assigned) seen mark
+
+-- From this point there was a run of a session, whose lists and marks are those of a gate. It ends in this
+-- state, at a list that the gate stands for, with the gate's mark. The bytes that were consumed are its inputs and what is held; the moments that
+-- were told are its moments, one for each input; what was written are its replies.
+pub record Conversation (from : Point) (stands_at : Mark → List Entry → Type 0) (stands : List Entry → Type 0) (mark : Mark) (state : State) (consumed : List ℕ → Type 0) (held : List ℕ) (told : List ℕ → Type 0) (written : List ℕ → Type 0) : Type 0 where
+  pub turns : List Turn
+  pub seen : List Entry
+  pub bytes : List ℕ
+  pub run : Run from turns (point_at state seen mark)
+  pub of_gate : AreOfGate stands_at turns
+  pub stood_for : stands seen
+  pub read : consumed bytes
+  pub inputs : InputsOf (inputs_of turns) bytes held
+  pub moments : told (moments_of turns)
+  pub replies : written (replies_of turns)
+
+-- one turn of it
+pub record TakesTurn (from : Point) (input : Input) (now : ℕ) (stands_at : Mark → List Entry → Type 0) (stands : List Entry → Type 0) (mark : Mark) (state : State) (written : List ℕ → Type 0) : Type 0 where
+  pub turn : Turn
+  pub seen : List Entry
+  pub is_turn : IsTurn from turn
+  pub of_gate : stands_at turn.to.mark turn.to.seen
+  pub input_is : turn.input ≡ input
+  pub now_is : turn.now ≡ now
+  pub to_is : turn.to ≡ point_at state seen mark
+  pub stood_for : stands seen
+  pub replies : written (all_reply_bytes turn.replies)
+
+-- ---- how it ends
+
+abbrev pub served_by : Closing → Served
+served_by closing.ByClient = ClientClosed
+served_by (closing.ByServer code) = ServerClosed code
+served_by closing.Dropped = Dropped
+
+abbrev pub served_as : Option Closing → Option Served
+served_as None = None
+served_as (Some c) = Some (served_by c)
+
+-- how the run ended
+abbrev pub ClosesAs : Served → State → List ℕ → Type 0 → Type 0
+ClosesAs ClientClosed state held at_end = closing_of state.phase ≡ Some closing.ByClient
+ClosesAs EndOfInput state held at_end = (closing_of state.phase ≡ None) × (held ≡ []) × at_end
+ClosesAs CutInput state held at_end = (closing_of state.phase ≡ None) × (held ≢ []) × IsMore held × at_end
+ClosesAs (ServerClosed code) state held at_end = closing_of state.phase ≡ Some (closing.ByServer code)
+ClosesAs Dropped state held at_end = closing_of state.phase ≡ Some closing.Dropped
+
+-- where a fault broke it off: all that was whole had been answered when the reader failed
+abbrev pub BreaksAt : ServeFault → State → List ℕ → Type 0
+BreaksAt Read state held = (closing_of state.phase ≡ None) × IsMore held
+BreaksAt Write state held = Unit {0}
+BreaksAt NoMemory state held = Unit {0}
+
+abbrev pub Ends : Result Served ServeFault → State → List ℕ → Type 0 → Type 0
+Ends (Ok served) state held at_end = ClosesAs served state held at_end
+Ends (Err fault) state held at_end = BreaksAt fault state held
+
+-- From this point a session was run over the bytes that were consumed, at the moments that were told. What was
+-- written are its replies, and it ended so. The bytes that the reader has left and those that the writer holds
+-- are those before and after, where they are known.
+abbrev pub IsConnection : Point → (Mark → List Entry → Type 0) → (List Entry → Type 0) → Mark → (List ℕ → Type 0) → Option (List ℕ) → Option (List ℕ) → Option (List ℕ) → Option (List ℕ) → Result Served ServeFault → Type 0
+IsConnection from stands_at stands mark told unread rest written more result = (state : State) × (held : List ℕ)
+    × Conversation from stands_at stands mark state (Consumes unread rest) held told (Writes result written more)
+    × Ends result state held (IsAtEnd rest)
+
+abbrev pub Closes : Result (Option Served) ServeFault → State → List ℕ → Type 0 → Type 0
+Closes (Ok None) state held at_end = closing_of state.phase ≡ None
+Closes (Ok (Some served)) state held at_end = ClosesAs served state held at_end
+Closes (Err fault) state held at_end = BreaksAt fault state held
+
+-- The failures of the reader and of the writer rise only at the fault that says so.
+abbrev pub Causes : {T : Type 0} → Result T ServeFault → ℕ → ℕ → ℕ → ℕ → Type 0
+Causes (Ok x) read_before read_after write_before write_after = (read_after ≡ read_before) × (write_after ≡ write_before)
+Causes (Err Read) read_before read_after write_before write_after = (read_before < read_after) × (write_after ≡ write_before)
+Causes (Err Write) read_before read_after write_before write_after = (read_after ≡ read_before) × (write_before < write_after)
+Causes (Err NoMemory) read_before read_after write_before write_after = (read_after ≡ read_before) × (write_after ≡ write_before)
+
+abbrev pub IsReadCause : {T : Type 0} → Result T ServeFault → ℕ → ℕ → Type 0
+IsReadCause (Ok x) before after = after ≡ before
+IsReadCause (Err Read) before after = before < after
+IsReadCause (Err Write) before after = ⊥
+IsReadCause (Err NoMemory) before after = after ≡ before
+
+-- what one read found
+abbrev pub IsEnd : Result (Option Served) ServeFault → List ℕ → List ℕ → Type 0 → Type 0
+IsEnd (Ok None) old new at_end = Unit {0}
+IsEnd (Ok (Some ClientClosed)) old new at_end = ⊥
+IsEnd (Ok (Some EndOfInput)) old new at_end = (new ≡ old) × (new ≡ []) × at_end
+IsEnd (Ok (Some CutInput)) old new at_end = (new ≡ old) × (new ≢ []) × at_end
+IsEnd (Ok (Some (ServerClosed code))) old new at_end = ⊥
+IsEnd (Ok (Some Dropped)) old new at_end = ⊥
+IsEnd (Err fault) old new at_end = new ≡ old

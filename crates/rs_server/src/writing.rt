@@ -1,0 +1,120 @@
+//! What is written.
+
+ghost use Rattle.std.specs.Prelude.{◌≡◌, ◌<◌, ◌-◌, ◌^◌, List, None, OnOk, OnErr};
+ghost use Rattle.rs_packet.specs.Replies.{reply_bytes};
+ghost use Rattle.rs_packet.specs.declared.reply.Reply.{Reply};
+ghost use Rattle.rs_session.specs.State.{state_of, due_of, gate_of};
+ghost use Rattle.rs_session.specs.Run.{Drains};
+ghost use Rattle.rs_server.specs.Counts.{inner_of, failures_of};
+ghost use Rattle.rs_server.specs.Writing.{IsWriteCause, Writes, all_reply_bytes, fault_number};
+
+use crate::counted::Counted;
+use rs_packet::{Reply, encode};
+use rs_session::{Gate, Session};
+use std::alloc::Global;
+use std::io::Write;
+use thiserror::Error;
+
+/// Why a connection was not served to its end.
+#[derive(Clone, Copy, Debug, PartialEq, Eq, Error)]
+pub enum ServeFault {
+    /// The reader failed.
+    #[error("reading from the client failed; check the connection")]
+    Read,
+    /// The writer failed, or took nothing of what it was given.
+    #[error("writing to the client failed; check that it still reads")]
+    Write,
+    /// Memory was refused.
+    #[error("there was no memory to serve the connection; try again with fewer clients")]
+    NoMemory,
+}
+
+impl ServeFault {
+    /// The number of the fault, 60 to 62.
+    pub fn code(&self) -> u8
+        ensures { result ≡ fault_number self.now }
+    {
+        match self {
+            ServeFault::Read => 60,
+            ServeFault::Write => 61,
+            ServeFault::NoMemory => 62,
+        }
+    }
+}
+
+/// Writes all of the bytes.
+fn write_bytes<W: Write>(writer: &mut Counted<W>, bytes: &[u8]) -> Result<(), ServeFault>
+    requires { failures_of writer.old < 2 ^ 64 - 1 }
+    ensures bytes { Writes result (W.contents (inner_of writer.old)) (W.contents (inner_of writer.new)) bytes.now }
+    ensures cause { IsWriteCause result (failures_of writer.old) (failures_of writer.new) }
+{
+    let mut rest = bytes;
+    while !rest.is_empty() {
+        let Ok(n) = writer.write(rest) else {
+            return Err(ServeFault::Write);
+        };
+        if n == 0 {
+            return Err(ServeFault::Write);
+        }
+        rest = &rest[n..];
+    }
+    Ok(())
+}
+
+/// Writes a reply, and flushes.
+fn write_reply<W: Write>(
+    alloc: Global,
+    writer: &mut Counted<W>,
+    reply: &Reply,
+) -> Result<(), ServeFault>
+    requires { failures_of writer.old < 2 ^ 64 - 1 }
+    ensures bytes { Writes result (W.contents (inner_of writer.old)) (W.contents (inner_of writer.new)) (reply_bytes reply.now) }
+    ensures cause { IsWriteCause result (failures_of writer.old) (failures_of writer.new) }
+{
+    let Ok(bytes) = encode(alloc, reply) else {
+        return Err(ServeFault::NoMemory);
+    };
+    write_bytes(writer, bytes.as_slice())?;
+    match writer.flush() {
+        Ok(()) => Ok(()),
+        Err(_) => Err(ServeFault::Write),
+    }
+}
+
+/// Writes one more reply, unless something failed before.
+fn write_next_reply<W: Write>(
+    alloc: Global,
+    writer: &mut Counted<W>,
+    before: Result<(), ServeFault>,
+    reply: Reply,
+) -> Result<(), ServeFault>
+    requires { OnOk before (failures_of writer.old < 2 ^ 64 - 1) }
+    ensures goes_on { OnOk before (Writes result (W.contents (inner_of writer.old)) (W.contents (inner_of writer.new)) (reply_bytes reply)
+        × IsWriteCause result (failures_of writer.old) (failures_of writer.new)) }
+    ensures failed { OnErr before ((result ≡ before) × (writer.new ≡ writer.old)) }
+{
+    before?;
+    write_reply(alloc, writer, &reply)
+}
+
+/// Writes all that the session replies at this moment. The session is asked to the end in every case.
+pub(crate) fn write_replies<G: Gate, W: Write>(
+    alloc: Global,
+    session: &mut Session<G>,
+    writer: &mut Counted<W>,
+    now: u64,
+) -> Result<(), ServeFault>
+    requires { failures_of writer.old < 2 ^ 64 - 1 }
+    ensures bytes { (replies : List Reply)
+        × Drains now (due_of session.old) (state_of session.old) replies (state_of session.new)
+        × Writes result (W.contents (inner_of writer.old)) (W.contents (inner_of writer.new)) (all_reply_bytes replies) }
+    ensures due { due_of session.new ≡ None }
+    ensures gate { gate_of session.new ≡ gate_of session.old }
+    ensures cause { IsWriteCause result (failures_of writer.old) (failures_of writer.new) }
+{
+    let mut written = Ok(());
+    while let Some(reply) = session.next_reply(now) {
+        written = write_next_reply(alloc, writer, written, reply);
+    }
+    written
+}

@@ -1,0 +1,20 @@
+use Rattle.std.proofs.Common.{refl, ◌∙◌}
+use Rattle.rs_session.specs.declared.phase.Input.TheVariants.{Whole}
+use Rattle.rs_session.specs.State.{gate_of, state_of}
+use Rattle.rs_session.proofs.Rows.{stays, took, over, after_same}
+use Rattle.rs_session.proofs.session.Session.on_packet.Goals as goal
+use Rattle.rs_session.proofs.session.Session.on_packet.Goals.{in-Before, in-Open, in-Ended}
+
+pub returns-clause-row : goal.returns-clause-row
+returns-clause-row g c =
+    let old = c.args.self.now in
+    let now = c.args.now in
+    let mark = g.G.Gate.mark (gate_of old) in
+    elim c.match-self.branch [
+      | in-Before w ↦ stays g.G.Gate.stands g.G.Gate.mark (Whole c.args.packet) now old w.first_packet.new.self c.match-self.self w.self-is w.first_packet.ensures.gate (λ list. w.first_packet.ensures.row now mark list)
+      | in-Open w ↦
+          took g.G.Gate.stands g.G.Gate.mark (Whole c.args.packet) now old w.conclude.new.self c.match-self.self w.in-Open.open w.take-outcome.new.self w.take-outcome.new.gate w.take-outcome.result _ w.self-is w.conclude.ensures.gate w.in-Open.is w.packet_maximum-limit.ensures w.conclude.ensures.due
+          (w.conclude.ensures.state w.take-outcome.new.self refl ∙ after_same w.take-outcome.result _ (state_of old) w.take-outcome.new.self refl)
+          w.take-outcome.ensures
+      | in-Ended w ↦ stays g.G.Gate.stands g.G.Gate.mark (Whole c.args.packet) now old old c.match-self.self w.self-is refl (λ list. over _ (state_of old) (state_of old) _ now mark list _ w.in-Ended.is c.requires refl)
+    ]

@@ -1,0 +1,68 @@
+//! An open session.
+
+mod acknowledge;
+mod publish;
+mod subscribe;
+mod unsubscribe;
+
+ghost use Rattle.std.specs.Prelude.{◌≡◌, ℕ, List};
+ghost use Rattle.rs_message.specs.declared.entry.Entry.{Entry};
+ghost use Rattle.rs_session.specs.Gate.{Grows, Mark};
+ghost use Rattle.rs_session.specs.Table.{LeadsTo, open_for};
+
+use crate::gate::Gate;
+use crate::phase::Input;
+use crate::reason;
+use crate::subscriptions::Subscriptions;
+use rs_packet::{Packet, Reply};
+use rs_window::{Inbound, Window};
+use std::alloc::Global;
+
+/// What an open session keeps.
+#[derive(Drop)]
+pub struct Open {
+    /// Its subscriptions (3.8.4).
+    pub subscriptions: Subscriptions,
+    /// The identifiers of the PUBLISH packets of QoS 2 that wait for their PUBREL (4.3.3).
+    pub inbound: Inbound,
+    /// What was sent and not acknowledged, and what waits to be sent.
+    pub window: Window,
+}
+
+/// What an input leads to in an open session.
+#[derive(Drop)]
+pub enum Outcome {
+    /// It goes on, with this reply or none.
+    Replies(Option<Reply>),
+    /// A DISCONNECT with this Reason Code, and the end.
+    Closes(u8),
+    /// The end, by the client.
+    Leaves,
+}
+
+impl Open {
+    /// What a packet leads to. `now` is in seconds.
+    pub fn take<G: Gate>(
+        &mut self,
+        alloc: Global,
+        gate: &mut G,
+        packet: Packet,
+        now: u64,
+    ) -> Outcome
+        ensures { Grows (G.stands gate.old) (G.stands gate.new) (λ seen list.
+            LeadsTo (Input.Whole packet) now self.old (G.mark gate.old) seen list (G.mark gate.new) result self.new) }
+    {
+        match packet {
+            Packet::Connect(_c) => Outcome::Closes(reason::PROTOCOL_ERROR),
+            Packet::Publish(p) => self.publish(gate, p, now),
+            Packet::Puback(a) => self.puback(a),
+            Packet::Pubrec(a) => self.pubrec(a),
+            Packet::Pubrel(a) => self.pubrel(a),
+            Packet::Pubcomp(a) => self.pubcomp(a),
+            Packet::Subscribe(s) => self.subscribe(alloc, gate, s, now),
+            Packet::Unsubscribe(u) => self.unsubscribe(alloc, u),
+            Packet::Pingreq => Outcome::Replies(Some(Reply::Pingresp)),
+            Packet::Disconnect(_code) => Outcome::Leaves,
+        }
+    }
+}

@@ -1,0 +1,62 @@
+//! PUBACK, PUBREC, PUBREL and PUBCOMP: sections 3.4 to 3.7.
+
+ghost use Rattle.std.specs.Prelude.{◌≡◌, ℕ, List};
+ghost use Rattle.rs_message.specs.declared.entry.Entry.{Entry};
+ghost use Rattle.rs_session.specs.Gate.{Mark};
+ghost use Rattle.rs_session.specs.Table.{LeadsTo, released_code};
+
+use super::{Open, Outcome};
+use crate::phase::Input;
+use crate::reason;
+use rs_packet::{Acknowledgement, Packet, Reply};
+use rs_window::Ack;
+
+impl Open {
+    pub(super) fn puback(&mut self, a: Acknowledgement) -> Outcome
+        ensures { (now : ℕ) (mark : Mark) (list : List Entry) → LeadsTo (Input.Whole (Packet.Puback a)) now self.old mark list list mark result self.new }
+    {
+        match self.window.on_puback(a.id, a.code) {
+            Ok(_ack) => Outcome::Replies(None),
+            Err(_) => Outcome::Closes(reason::PROTOCOL_ERROR),
+        }
+    }
+
+    /// A PUBREC below 0x80 is answered by a PUBREL.
+    pub(super) fn pubrec(&mut self, a: Acknowledgement) -> Outcome
+        ensures { (now : ℕ) (mark : Mark) (list : List Entry) → LeadsTo (Input.Whole (Packet.Pubrec a)) now self.old mark list list mark result self.new }
+    {
+        match self.window.on_pubrec(a.id, a.code) {
+            Ok(Ack::Released) => Outcome::Replies(Some(Reply::Pubrel(a.id, 0))),
+            Ok(Ack::Freed) => Outcome::Replies(None),
+            Ok(Ack::Unknown) => {
+                if a.code < 0x80 {
+                    let code = reason::PACKET_IDENTIFIER_NOT_FOUND;
+                    return Outcome::Replies(Some(Reply::Pubrel(a.id, code)));
+                }
+                Outcome::Replies(None)
+            }
+            Err(_) => Outcome::Closes(reason::PROTOCOL_ERROR),
+        }
+    }
+
+    pub(super) fn pubcomp(&mut self, a: Acknowledgement) -> Outcome
+        ensures { (now : ℕ) (mark : Mark) (list : List Entry) → LeadsTo (Input.Whole (Packet.Pubcomp a)) now self.old mark list list mark result self.new }
+    {
+        match self.window.on_pubcomp(a.id, a.code) {
+            Ok(_ack) => Outcome::Replies(None),
+            Err(_) => Outcome::Closes(reason::PROTOCOL_ERROR),
+        }
+    }
+
+    /// Its identifier is held no longer.
+    pub(super) fn pubrel(&mut self, a: Acknowledgement) -> Outcome
+        ensures { (now : ℕ) (mark : Mark) (list : List Entry) → LeadsTo (Input.Whole (Packet.Pubrel a)) now self.old mark list list mark result self.new }
+    {
+        let code = if self.inbound.release(a.id) {
+            0
+        } else {
+            reason::PACKET_IDENTIFIER_NOT_FOUND
+        };
+        Outcome::Replies(Some(Reply::Pubcomp(a.id, code)))
+    }
+}

@@ -1,0 +1,159 @@
+//! PUBLISH: section 3.3.
+
+ghost use Rattle.std.specs.Prelude.{◌≡◌, ℕ, List, None, Some, Ok, Err, true, false, option_map};
+ghost use Rattle.rs_message.specs.declared.entry.Operation.{Operation};
+ghost use Rattle.rs_session.specs.Gate.{Grows, Uses};
+ghost use Rattle.rs_session.specs.Steps.{IsSettled, outcome_before, outcome_of_id, topic_refusal};
+ghost use Rattle.rs_session.specs.Table.{LeadsTo, acknowledged_by, held_id, held_with, is_held, is_one_too_many};
+
+use super::{Open, Outcome};
+use crate::gate::Gate;
+use crate::phase::Input;
+use crate::reason;
+use rs_message::{Operation, SubmitFault};
+use rs_packet::{Packet, PacketId, Publish, Qos, Reply};
+use rs_topic::{TopicFault, TopicName};
+
+impl Open {
+    pub(super) fn publish<G: Gate>(&mut self, gate: &mut G, p: Publish, now: u64) -> Outcome
+        ensures { Grows (G.stands gate.old) (G.stands gate.new) (λ seen list.
+            LeadsTo (Input.Whole (Packet.Publish p)) now self.old (G.mark gate.old) seen list (G.mark gate.new) result self.new) }
+    {
+        match self.outcome_before(&p) {
+            Some(outcome) => outcome,
+            None => self.store(gate, p, now),
+        }
+    }
+
+    /// What a PUBLISH leads to by its topic alias, a topic that is no name, or its identifier.
+    fn outcome_before(&self, p: &Publish) -> Option<Outcome>
+        ensures { result ≡ outcome_before p.now self.now }
+    {
+        if p.alias.is_some() {
+            return Some(Outcome::Closes(reason::TOPIC_ALIAS_INVALID));
+        }
+        if let Some(code) = topic_code(&p.topic) {
+            return Some(Outcome::Closes(code));
+        }
+        self.outcome_of_id(p.qos, p.id)
+    }
+
+    /// What the identifier of a PUBLISH leads to, where it is held already or is one too many.
+    fn outcome_of_id(&self, qos: Qos, id: Option<PacketId>) -> Option<Outcome>
+        ensures { result ≡ outcome_of_id (is_held (held_id qos id) self.now.inbound) (is_one_too_many (held_id qos id) self.now.inbound) (acknowledged_by qos id 0) }
+    {
+        let answered = id;
+        let held = held_id(qos, id)?;
+        if self.inbound.holds(held) {
+            return Some(Outcome::Replies(acknowledged_by(qos, answered, 0)));
+        }
+        if self.inbound.is_full() {
+            return Some(Outcome::Closes(reason::RECEIVE_MAXIMUM_EXCEEDED));
+        }
+        None
+    }
+
+    /// The change that a PUBLISH is, handed to the store.
+    fn store<G: Gate>(&mut self, gate: &mut G, p: Publish, now: u64) -> Outcome
+        requires { outcome_before p self.old ≡ None }
+        ensures { Grows (G.stands gate.old) (G.stands gate.new) (λ seen list.
+            LeadsTo (Input.Whole (Packet.Publish p)) now self.old (G.mark gate.old) seen list (G.mark gate.new) result self.new) }
+    {
+        let Publish {
+            duplicate: _,
+            qos,
+            retain,
+            topic,
+            id,
+            expiry,
+            alias: _,
+            properties,
+            payload,
+        } = p;
+        let Ok(topic) = topic else {
+            return Outcome::Replies(acknowledged_by(qos, id, reason::QUOTA_EXCEEDED));
+        };
+        match Operation::of(retain, topic, payload, qos, now, expiry, properties) {
+            Some(operation) => self.submit(gate, operation, qos, id),
+            None => {
+                let held = id;
+                self.hold(qos, held);
+                Outcome::Replies(acknowledged_by(qos, id, 0))
+            }
+        }
+    }
+
+    fn submit<G: Gate>(
+        &mut self,
+        gate: &mut G,
+        operation: Operation,
+        qos: Qos,
+        id: Option<PacketId>,
+    ) -> Outcome
+        requires { is_one_too_many (held_id qos id) self.old.inbound ≡ false }
+        ensures list { Grows (G.stands gate.old) (G.stands gate.new) (λ seen list.
+            IsSettled operation qos id self.old (G.mark gate.old) (G.mark gate.new) list result self.new) }
+        ensures mark { Uses (G.mark gate.old) (G.mark gate.new) }
+    {
+        match gate.submit(operation) {
+            Ok(()) => {
+                let held = id;
+                self.hold(qos, held);
+                Outcome::Replies(acknowledged_by(qos, id, 0))
+            }
+            Err(SubmitFault::Full | SubmitFault::NoMemory) => {
+                Outcome::Replies(acknowledged_by(qos, id, reason::QUOTA_EXCEEDED))
+            }
+            Err(SubmitFault::Open) => Outcome::Closes(reason::QUOTA_EXCEEDED),
+            Err(SubmitFault::Strange | SubmitFault::Closed) => {
+                Outcome::Closes(reason::IMPLEMENTATION_SPECIFIC_ERROR)
+            }
+        }
+    }
+
+    /// At QoS 2 the identifier is held from now on.
+    fn hold(&mut self, qos: Qos, id: Option<PacketId>)
+        requires { is_one_too_many (held_id qos id) self.old.inbound ≡ false }
+        ensures { self.new ≡ record self.old { inbound = held_with (held_id qos id) self.old.inbound } }
+    {
+        if let Some(held) = held_id(qos, id) {
+            match self.inbound.begin(held) {
+                Ok(()) => {}
+                Err(_) => unreachable!(),
+            }
+        }
+    }
+}
+
+/// The Reason Code for a topic that is no topic name: sections 3.3.2.1 and 4.7.3.
+fn topic_code(topic: &Result<TopicName, TopicFault>) -> Option<u8>
+    ensures { result ≡ topic_refusal topic.now }
+{
+    match topic {
+        Ok(_topic) => None,
+        Err(TopicFault::NoMemory) => None,
+        Err(TopicFault::Empty) => Some(reason::PROTOCOL_ERROR),
+        Err(_fault) => Some(reason::TOPIC_NAME_INVALID),
+    }
+}
+
+/// The identifier that a PUBLISH of QoS 2 holds.
+fn held_id(qos: Qos, id: Option<PacketId>) -> Option<PacketId>
+    ensures { result ≡ held_id qos id }
+{
+    match qos {
+        Qos::AtMostOnce | Qos::AtLeastOnce => None,
+        Qos::ExactlyOnce => id,
+    }
+}
+
+/// The answer to a PUBLISH: none, a PUBACK or a PUBREC.
+fn acknowledged_by(qos: Qos, id: Option<PacketId>, code: u8) -> Option<Reply>
+    ensures { result ≡ acknowledged_by qos id code }
+{
+    match qos {
+        Qos::AtMostOnce => None,
+        Qos::AtLeastOnce => Some(Reply::Puback(id?, code)),
+        Qos::ExactlyOnce => Some(Reply::Pubrec(id?, code)),
+    }
+}

@@ -1,0 +1,44 @@
+use Rattle.std.proofs.Common.{◌<◌, List, length, sym, ap, subst, ◌∙◌, arith}
+use Rattle.rs_window.specs.Identifiers.{kinds_of}
+use Rattle.rs_window.specs.declared.waiting.Waiting.{Waiting}
+use Rattle.rs_window.specs.State.{State, state_of}
+use Rattle.rs_window.specs.Calls.{IsGiven}
+use Rattle.rs_window.proofs.WaitingLemmas.{sendable_fewer}
+use Rattle.rs_window.proofs.StepLemmas.{given_fewer, first_current, is_given}
+use Rattle.rs_window.proofs.window.Window.next.Goals as goal
+
+pub invariant_of-self : goal.invariant_of-self
+invariant_of-self c = record {
+  within = c.take_first.ensures.len;
+  reserved = rw c.take_first.ensures.capacity c.self.invariant.reserved;
+  numbered = rw c.take_first.ensures.capacity c.self.invariant.numbered;
+  few = omega (arith, c.self.invariant.few, sendable_fewer c.self.inside.packet_maximum c.args.now c.self.inside.waiting.items, ap (λ (ws : List Waiting). length ws) (c.in_err-first.ensures.kept ∙ c.drop_unsendable.ensures));
+}
+
+pub publish_of-requires-clause-current : goal.publish_of-requires-clause-current
+publish_of-requires-clause-current c =
+    first_current c.self.inside.packet_maximum c.args.now c.in_ok-first.first c.self.inside.waiting.items c.take_first.new.waiting.items (sym c.drop_unsendable.ensures ∙ c.in_ok-first.ensures.first)
+
+pub invariant_of-self-2 : goal.invariant_of-self-2
+invariant_of-self-2 c = record {
+  within = c.take_first.ensures.len;
+  reserved = rw c.take_first.ensures.capacity c.self.invariant.reserved;
+  numbered = rw c.take_first.ensures.capacity c.self.invariant.numbered;
+  few = omega (arith, c.self.invariant.few, sendable_fewer c.self.inside.packet_maximum c.args.now c.self.inside.waiting.items, ap (λ (ws : List Waiting). length ws) (sym c.drop_unsendable.ensures ∙ c.in_ok-first.ensures.first));
+}
+
+pub returns-clause-step : goal.returns-clause-step
+returns-clause-step c =
+    subst (λ (s : State). IsGiven c.args.now s c.publish_of.result (state_of (kinds_of c.take_first.new.identifiers) c.take_first.new.waiting.items c.self.inside.quota c.self.inside.packet_maximum)) c.self.view_is (
+    is_given c.args.now (state_of (kinds_of c.self.inside.identifiers) c.self.inside.waiting.items c.self.inside.quota c.self.inside.packet_maximum)
+    (kinds_of c.take_first.new.identifiers) c.take_first.new.waiting.items c.in_ok-first.first c.publish_of.result c.in_ok-first.id
+    (sym c.drop_unsendable.ensures ∙ c.in_ok-first.ensures.first)
+    c.publish_of.ensures
+    c.in_ok-first.ensures.numbered
+    c.in_ok-first.ensures.kinds
+    )
+
+pub returns-clause-fewer : goal.returns-clause-fewer
+returns-clause-fewer c =
+    subst (λ (s : State). length c.take_first.new.waiting.items < length s.waiting) c.self.view_is
+    (given_fewer c.self.inside.packet_maximum c.args.now c.self.inside.waiting.items c.take_first.new.waiting.items c.in_ok-first.first (sym c.drop_unsendable.ensures ∙ c.in_ok-first.ensures.first))

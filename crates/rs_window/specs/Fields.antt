@@ -1,0 +1,12 @@
+-- What holds of a window's fields.
+use Rattle.std.specs.Prelude.{ℕ, ◌<◌, ◌≤◌, ◌^◌, List, length}
+use Rattle.slab.specs.Slab.{Slab, slab_len}
+use Rattle.rs_window.specs.declared.identifiers.Kind.{Kind}
+use Rattle.rs_window.specs.declared.waiting.Waiting.{Waiting}
+
+-- there is room for the whole quota, each slot has an identifier, and not too many wait
+pub record IsRoomy (identifiers : Slab Kind) (waiting : List Waiting) (quota : ℕ) : Type 0 where
+  pub within : slab_len identifiers ≤ quota
+  pub reserved : quota ≤ identifiers.capacity
+  pub numbered : identifiers.capacity < 2 ^ 16
+  pub few : length waiting ≤ 100000

@@ -1,0 +1,10 @@
+pub mod Codes
+pub mod Values
+pub mod Identifiers
+pub mod Packets
+pub mod Waiting
+pub mod State
+pub mod Fields
+pub mod Calls
+pub mod Replay
+pub mod Held

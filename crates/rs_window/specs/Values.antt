@@ -1,0 +1,12 @@
+-- What contracts see of the packets that a window gives: the same fields.
+use Rattle.std.specs.Prelude.{ℕ, List, Option}
+use Rattle.rs_packet.specs.declared.packet.Qos.{Qos}
+use Rattle.rs_message.specs.Values.{MessageValue}
+
+pub record PublishValue : Type 0 where
+  pub topic : List ℕ
+  pub message : MessageValue
+  pub qos : Qos
+  pub id : Option ℕ
+  pub expiry : Option ℕ
+  pub subscription : Option ℕ

@@ -1,0 +1,103 @@
+//! The identifiers of PUBLISH packets that are not yet acknowledged.
+
+ghost use Rattle.std.specs.Prelude.{◌≡◌, ◌≢◌, ◌+◌, ◌<◌, ◌≤◌, ◌^◌, Some, None, IsSome};
+ghost use Rattle.std.specs.FinMap as map;
+ghost use Rattle.slab.specs.Slab.{slab_len, HasRoomFor};
+ghost use Rattle.rs_window.specs.Identifiers.{kinds_of, IsNumbered, kinds_given};
+
+use rs_packet::{PacketId, Qos};
+use slab::Slab;
+
+/// What an identifier in use waits for.
+#[derive(Clone, Copy, Debug, PartialEq, Eq)]
+pub enum Kind {
+    /// Sent at QoS 1: a PUBACK (4.3.2).
+    AtLeastOnce,
+    /// Sent at QoS 2: a PUBREC (4.3.3).
+    ExactlyOnce,
+    /// Sent at QoS 2, and a PUBREC below 0x80 came: a PUBCOMP (4.3.3).
+    Received,
+}
+
+/// The slot of an identifier.
+fn slot_of(id: PacketId) -> usize
+    ensures { result + 1 ≡ id }
+{
+    id.get() as usize - 1
+}
+
+/// What the identifier waits for, if it is in use.
+#[tactic(auto, using(crate::proofs::IdentifierLemmas::get_at))]
+pub(crate) fn kind_at(identifiers: &Slab<Kind>, id: PacketId) -> Option<Kind>
+    ensures { result ≡ map.get (kinds_of identifiers.now) id }
+{
+    identifiers.get(slot_of(id)).copied()
+}
+
+/// Takes a number that is no identifier in use.
+fn take_number(identifiers: &mut Slab<Kind>, kind: Kind) -> u16
+    requires room { HasRoomFor identifiers.old 1 }
+    requires small { identifiers.old.capacity < 2 ^ 16 }
+    ensures positive { 0 < result }
+    ensures small { result < 2 ^ 16 }
+    ensures was_free { map.get (kinds_of identifiers.old) result ≡ None }
+    ensures kinds { kinds_of identifiers.new ≡ map.insert (kinds_of identifiers.old) result kind }
+    ensures len { slab_len identifiers.new ≡ slab_len identifiers.old + 1 }
+    ensures capacity { identifiers.new.capacity ≡ identifiers.old.capacity }
+{
+    let key = identifiers.insert_reserved(kind);
+    key as u16 + 1
+}
+
+/// The identifier of a number above 0.
+fn identifier(number: u16) -> Option<PacketId>
+    requires { 0 < number }
+    ensures { result ≡ Some number }
+{
+    PacketId::new(number)
+}
+
+/// An identifier for a PUBLISH of this QoS, or none at QoS 0.
+#[tactic(auto, using(crate::proofs::IdentifierLemmas::len_kinds))]
+pub(crate) fn take_identifier(
+    identifiers: &mut Slab<Kind>,
+    qos: Qos,
+    quota: usize,
+) -> Option<PacketId>
+    requires within { slab_len identifiers.old ≤ quota }
+    requires room { qos ≢ Qos.AtMostOnce → slab_len identifiers.old < quota }
+    requires reserved { quota ≤ identifiers.old.capacity }
+    requires small { identifiers.old.capacity < 2 ^ 16 }
+    ensures numbered { IsNumbered (kinds_of identifiers.old) quota qos result }
+    ensures kinds { kinds_of identifiers.new ≡ kinds_given qos result (kinds_of identifiers.old) }
+    ensures len { slab_len identifiers.new ≤ quota }
+    ensures capacity { identifiers.new.capacity ≡ identifiers.old.capacity }
+{
+    match qos {
+        Qos::AtMostOnce => None,
+        Qos::AtLeastOnce => identifier(take_number(identifiers, Kind::AtLeastOnce)),
+        Qos::ExactlyOnce => identifier(take_number(identifiers, Kind::ExactlyOnce)),
+    }
+}
+
+/// Gives an identifier back.
+pub(crate) fn free_identifier(identifiers: &mut Slab<Kind>, id: PacketId)
+    requires used { IsSome (map.get (kinds_of identifiers.old) id) }
+    ensures kinds { kinds_of identifiers.new ≡ map.remove (kinds_of identifiers.old) id }
+    ensures len { slab_len identifiers.new + 1 ≡ slab_len identifiers.old }
+    ensures capacity { identifiers.new.capacity ≡ identifiers.old.capacity }
+{
+    let _kind = identifiers.try_remove(slot_of(id));
+}
+
+/// Says what an identifier in use waits for now.
+pub(crate) fn change_kind(identifiers: &mut Slab<Kind>, id: PacketId, kind: Kind)
+    requires used { IsSome (map.get (kinds_of identifiers.old) id) }
+    ensures kinds { kinds_of identifiers.new ≡ map.insert (kinds_of identifiers.old) id kind }
+    ensures len { slab_len identifiers.new ≡ slab_len identifiers.old }
+    ensures capacity { identifiers.new.capacity ≡ identifiers.old.capacity }
+{
+    if let Some(slot) = identifiers.get_mut(slot_of(id)) {
+        *slot = kind;
+    }
+}
