@@ -1,3 +1,4 @@
+pub mod FirstDifference
 pub mod Joined
 pub mod LevelLemmas
 pub mod Matched

@@ -1,11 +1,10 @@
 -- Fitting, and the order of replay, as tests and as facts.
-use Rattle.std.proofs.Common.{◌≡◌, ℕ, ◌<◌, Bool, true, false, ◌&&◌, ◌||◌, List, [], ◌∷◌, refl, sym, ap, ◌∙◌, inl, inr, arith, subst}
+use Rattle.std.proofs.Common.{◌≡◌, ℕ, Bool, true, false, ◌&&◌, ◌||◌, List, [], ◌∷◌, refl, sym, ◌∙◌, subst}
 use Rattle.std.specs.Prelude.{◌↔◌, IsTrue}
-use Rattle.std.specs.Bool.{Decides}
 use Rattle.std.specs.Str.{bytes_eq}
 use Rattle.std.proofs.lemmas.Slice.Eq.{bytes_eq-Decides}
-use Rattle.rs_topic.specs.Topics.{plus, hash, dollar, is_end}
-use Rattle.rs_topic.specs.Matching.{Fits, ended, all_below, any_level, same_level, BeginsWild, BeginsWithDollar}
+use Rattle.rs_topic.specs.Topics.{plus, hash, is_end}
+use Rattle.rs_topic.specs.Matching.{Fits, ended, all_below, any_level, same_level}
 
 -- the cases of fitting, as a test
 abbrev pub fits : List (List ℕ) → List (List ℕ) → Bool

@@ -1,7 +1,6 @@
 -- The order of replay, as a comparison and as a relation.
-use Rattle.std.proofs.Common.{◌≡◌, ℕ, ◌<◌, List, [], ◌∷◌, refl, sym, subst, arith}
+use Rattle.std.proofs.Common.{◌≡◌, ℕ, ◌<◌, List, [], ◌∷◌, refl, subst, arith}
 use Rattle.std.specs.Prelude.{◌↔◌}
-use Rattle.std.specs.Cmp.{IsTotalOrder}
 use Rattle.std.specs.Cmp.Lexicographic.{slice_cmp}
 use Rattle.std.specs.Ordering.{nat_cmp}
 use Rattle.std.specs.declared.cmp.Ordering.{Ordering}
@@ -9,7 +8,7 @@ use Rattle.std.specs.declared.cmp.Ordering.TheVariants.{Less, Equal, Greater}
 use Rattle.std.proofs.lemmas.Cmp.{ranked, by_ranked, nat_cmp_total, nat_list_cmp_total, tied_itself}
 use Rattle.std.proofs.lemmas.Map.Lookups.{CmpEqualImpliesEq, exact_bytes, exact_unsigned}
 use Rattle.rs_topic.specs.Topics.{levels}
-use Rattle.rs_topic.specs.Order.{ComesBefore, shorter, here, later, path_cmp, topic_cmp, IsReplayedBefore}
+use Rattle.rs_topic.specs.Order.{ComesBefore, shorter, here, later, topic_cmp, IsReplayedBefore}
 
 -- a comparison answers `Less` where the relation holds, ties a value with itself, and no two others
 before_from_less : {X : Type 0} (R : X → X → Ordering) (IsLess : X → X → Type 0) → CmpEqualImpliesEq R → ((x y : X) → R x y ≡ Less → IsLess x y) → (xs ys : List X) → slice_cmp R xs ys ≡ Less → ComesBefore IsLess xs ys

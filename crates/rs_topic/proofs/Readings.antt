@@ -1,6 +1,6 @@
 -- Faults as tests and as facts, and what readings answer.
-use Rattle.std.proofs.Common.{◌≡◌, ◌≢◌, ℕ, ◌+◌, ◌<◌, ◌≤◌, ◌^◌, zero, suc, Bool, true, false, ◌&&◌, ◌||◌, not, List, [], ◌∷◌, ◌++◌, length, take, drop, refl, sym, ap, ◌∙◌, inl, inr, arith, subst}
-use Rattle.std.specs.Prelude.{Option, Some, None, Result, Ok, Err, IsOk, MatchResult, IsTrue, nat_lt, nat_eq}
+use Rattle.std.proofs.Common.{◌≡◌, ℕ, ◌+◌, ◌<◌, ◌≤◌, ◌^◌, zero, suc, Bool, true, false, ◌&&◌, ◌||◌, not, List, [], ◌∷◌, ◌++◌, length, take, drop, refl, sym, ap, ◌∙◌, inl, inr, arith, subst}
+use Rattle.std.specs.Prelude.{Option, Some, None, Result, Ok, Err, MatchResult, nat_lt, nat_eq}
 use Rattle.std.specs.Bool.{Decides}
 use Rattle.std.specs.List.{slice_get, starts_with}
 use Rattle.std.specs.Str.{IsUtf8, is_utf8, bytes_eq}

@@ -1,5 +1,5 @@
 -- Texts, topic names, topic filters and their faults, in the words of the standard. The number of a section is that of OASIS MQTT Version 5.0.
-use Rattle.std.specs.Prelude.{◌≡◌, ℕ, ◌+◌, ◌<◌, ◌≤◌, ◌^◌, false, IsTrue, ◌⊎◌, List, [], ◌∷◌, ◌++◌, length, Option, Some, None, Result, Ok, Err, IsOk, MatchResult}
+use Rattle.std.specs.Prelude.{◌≡◌, ℕ, ◌+◌, ◌<◌, ◌≤◌, ◌^◌, false, IsTrue, ◌⊎◌, List, [], ◌∷◌, ◌++◌, length, Some, Result, Err, IsOk, MatchResult}
 use Rattle.std.specs.List.{slice_get}
 use Rattle.std.specs.Str.{IsUtf8}
 use Rattle.rs_topic.specs.Texts.{IsText}

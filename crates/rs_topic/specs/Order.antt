@@ -1,9 +1,10 @@
 -- The order of replay.
-use Rattle.std.specs.Prelude.{ℕ, ◌<◌, List, [], ◌∷◌}
+use Rattle.std.specs.Prelude.{ℕ, ◌<◌, ◌==◌, if◌then◌else◌, List, [], ◌∷◌}
 use Rattle.std.specs.Cmp.Lexicographic.{slice_cmp}
 use Rattle.std.specs.Ordering.{nat_cmp}
 use Rattle.std.specs.declared.cmp.Ordering.{Ordering}
-use Rattle.rs_topic.specs.Topics.{levels}
+use Rattle.std.specs.declared.cmp.Ordering.TheVariants.{Less, Greater}
+use Rattle.rs_topic.specs.Topics.{levels, slash}
 
 -- own: level by level, each by its bytes, a list before its extensions
 pub data ComesBefore {X : Type 0} (IsLess : X → X → Type 0) : List X → List X → Type 0 where
@@ -20,3 +21,7 @@ path_cmp = slice_cmp (slice_cmp nat_cmp)
 
 abbrev pub topic_cmp : List ℕ → List ℕ → Ordering
 topic_cmp a b = path_cmp (levels a) (levels b)
+
+-- of two bytes that differ, where all before them is the same: a slash ends a level, and so comes first
+abbrev pub differing_cmp : ℕ → ℕ → Ordering
+differing_cmp x y = if x == slash then Less else if y == slash then Greater else nat_cmp x y

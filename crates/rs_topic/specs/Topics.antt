@@ -1,5 +1,5 @@
 -- Levels, faults, and what a text is as a topic name and as a topic filter. The number of a section is that of OASIS MQTT Version 5.0.
-use Rattle.std.specs.Prelude.{◌≡◌, ℕ, Bool, true, false, ◌&&◌, ◌||◌, not, nat_lt, nat_eq, ◌==◌, if◌then◌else◌, List, [], ◌∷◌, length, Option, Some, None, Result, Ok, Err}
+use Rattle.std.specs.Prelude.{ℕ, Bool, true, false, ◌&&◌, ◌||◌, not, nat_lt, nat_eq, ◌==◌, if◌then◌else◌, List, [], ◌∷◌, length, Option, Some, None, Result, Ok, Err}
 use Rattle.std.specs.List.{list_any, starts_with, slice_split}
 use Rattle.std.specs.Str.{bytes_eq, is_utf8}
 use Rattle.rs_topic.specs.declared.text.TopicFault.{TopicFault}

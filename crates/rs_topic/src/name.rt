@@ -143,7 +143,7 @@ impl Ord for TopicName {
     ghost matches_eq = { topic_matches_eq };
 
     fn cmp(&self, other: &TopicName) -> Ordering {
-        compare(self.levels(), other.levels())
+        compare(self.as_bytes(), other.as_bytes())
     }
 }
 

@@ -1,25 +1,32 @@
 //! The order of replay.
 
 ghost use Rattle.std.specs.Prelude.{◌≡◌};
-ghost use Rattle.rs_topic.specs.Order.{path_cmp};
+ghost use Rattle.rs_topic.specs.Order.{differing_cmp, topic_cmp};
 
-use crate::level::Levels;
 use std::cmp::Ordering;
 
-/// Level by level, each by its bytes, a list of levels before its extensions.
-pub(crate) fn compare(mut a: Levels<'_>, mut b: Levels<'_>) -> Ordering
-    ensures { result ≡ path_cmp a.entry b.entry }
+/// The order of two bytes that differ, where all before them is the same: a slash ends a level.
+fn compare_differing(x: u8, y: u8) -> Ordering
+    ensures { result ≡ differing_cmp x y }
 {
-    loop {
-        match (a.next(), b.next()) {
-            (None, None) => return Ordering::Equal,
-            (None, Some(_)) => return Ordering::Less,
-            (Some(_), None) => return Ordering::Greater,
-            (Some(x), Some(y)) => match x.cmp(y) {
-                Ordering::Equal => {}
-                Ordering::Less => return Ordering::Less,
-                Ordering::Greater => return Ordering::Greater,
-            },
+    if x == b'/' {
+        Ordering::Less
+    } else if y == b'/' {
+        Ordering::Greater
+    } else {
+        x.cmp(&y)
+    }
+}
+
+/// Level by level, each by its bytes, a list of levels before its extensions. One walk over the bytes of both finds it.
+#[tactic(auto, using(crate::proofs::FirstDifference::differ_at, crate::proofs::FirstDifference::differ_nowhere))]
+pub(crate) fn compare(a: &[u8], b: &[u8]) -> Ordering
+    ensures { result ≡ topic_cmp a.now b.now }
+{
+    for i in 0..a.len().min(b.len()) {
+        if a[i] != b[i] {
+            return compare_differing(a[i], b[i]);
         }
     }
+    a.len().cmp(&b.len())
 }

@@ -1,6 +1,5 @@
-use Rattle.std.proofs.Common.{◌≡◌}
-use Rattle.rs_topic.specs.Order.{path_cmp}
+use Rattle.std.proofs.Common.{◌≡◌, ◌<◌, ℕ, get_or}
 use Rattle.rs_topic.proofs.order.compare.Given as goal
 
-abbrev pub invariant-loop-x : goal.invariant-loop-x
-invariant-loop-x l = (goal.iterator-loop-x).can_next l.a × (goal.iterator-loop-x).is_finite l.a × (path_cmp l.a l.b ≡ path_cmp l.fn.a l.fn.b)
+abbrev pub invariant-loop-i : goal.invariant-loop-i
+invariant-loop-i l = (k : ℕ) → k < l.i → get_or l.a k 0 ≡ get_or l.b k 0
