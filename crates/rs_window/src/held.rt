@@ -1,6 +1,6 @@
 //! A list of identifiers in a fixed table.
 
-ghost use Rattle.std.specs.Prelude.{◌≡◌, ◌≢◌, ℕ, ◌<◌, length, slice_index, IfSome, IfNone, false};
+ghost use Rattle.std.specs.Prelude.{◌≡◌, ◌≢◌, ℕ, ◌<◌, ◌≤◌, length, slice_index, IfSome, IfNone, false};
 ghost use Rattle.std.specs.FinSet as set;
 ghost use Rattle.arrayvec.specs.ArrayVec.{array_vec_len};
 ghost use Rattle.rs_window.specs.Held.{held_of, IsDistinct};
@@ -54,6 +54,7 @@ pub(crate) fn put_in(ids: &mut ArrayVec<u16, 16>, id: u16)
     requires new { set.contains (held_of ids.old.items) id ≡ false }
     ensures inserted { held_of ids.new.items ≡ set.insert (held_of ids.old.items) id }
     ensures distinct { IsDistinct ids.new.items }
+    ensures fits { array_vec_len ids.new ≤ 16 }
 {
     ids.push(id);
 }

@@ -1,6 +1,6 @@
 //! Identifiers of QoS 2 packets that were received and not yet released.
 
-ghost use Rattle.std.specs.Prelude.{◌≡◌, ◌==◌, ◌↔◌, IsErr, OnOk, OnErr, IfErr, false};
+ghost use Rattle.std.specs.Prelude.{◌≡◌, ◌≤◌, ◌==◌, ◌↔◌, IsErr, OnOk, OnErr, IfErr, false};
 ghost use Rattle.std.specs.FinSet as set;
 
 use crate::fault::WindowFault;
@@ -47,7 +47,8 @@ impl Inbound {
 
     /// As many are held as may be.
     pub fn is_full(&self) -> bool
-        ensures { result ≡ set.len self.now == 16 }
+        ensures full { result ≡ set.len self.now == 16 }
+        ensures most { set.len self.now ≤ 16 }
     {
         self.ids.is_full()
     }
@@ -66,6 +67,7 @@ impl Inbound {
         ensures refused { OnErr result (self.new ≡ self.old) }
         ensures fault { IfErr result (λ e. e ≡ TooManyHeld) }
         ensures full { IsErr result ↔ ((set.len self.old ≡ 16) × (set.contains self.old id ≡ false)) }
+        ensures most { set.len self.new ≤ 16 }
     {
         if stands(self.ids.as_slice(), id.get()) {
             return Ok(());
