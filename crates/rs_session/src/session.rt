@@ -55,6 +55,7 @@ impl<G: Gate> Session<G> {
             Answers (Input.Whole packet) now (state_of self.old) (G.mark (gate_of self.old)) seen list
             (G.mark (gate_of self.new)) (due_of self.new) (state_of self.new)) }
         ensures step { result ≡ step_of (state_of self.new).phase }
+        ensures over { (closing : Closing) → (state_of self.old).phase ≡ Phase.Ended closing → self.new ≡ self.old }
     {
         match &mut self.phase {
             Phase::Before => self.first_packet(packet),
@@ -76,6 +77,7 @@ impl<G: Gate> Session<G> {
             Answers (Input.Broken fault) now (state_of self.old) (G.mark (gate_of self.old)) seen list
             (G.mark (gate_of self.new)) (due_of self.new) (state_of self.new)) }
         ensures step { result ≡ step_of (state_of self.new).phase }
+        ensures over { (closing : Closing) → (state_of self.old).phase ≡ Phase.Ended closing → self.new ≡ self.old }
     {
         match &self.phase {
             Phase::Before => self.first_fault(fault),
@@ -95,6 +97,7 @@ impl<G: Gate> Session<G> {
             Answers input now (state_of self.old) (G.mark (gate_of self.old)) seen list
             (G.mark (gate_of self.new)) (due_of self.new) (state_of self.new)) }
         ensures step { result ≡ step_of (state_of self.new).phase }
+        ensures over { (closing : Closing) → (state_of self.old).phase ≡ Phase.Ended closing → self.new ≡ self.old }
     {
         match input {
             Input::Whole(packet) => self.on_packet(packet, now),
