@@ -2,3 +2,4 @@ pub mod Submitting
 pub mod Rows
 pub mod Runs
 pub mod SubscriptionLemmas
+pub mod Limits

@@ -1,8 +1,13 @@
 -- A session over a list of inputs.
-use Rattle.std.specs.Prelude.{◌≡◌, ℕ, ◌+◌, Option, Some, None, List, [], ◌∷◌, length}
+use Rattle.std.specs.Prelude.{◌≡◌, ℕ, ◌+◌, ◌≤◌, Option, Some, None, List, [], ◌∷◌, length}
+use Rattle.std.specs.FinMap as finite
+use Rattle.std.specs.FinSet as set
 use Rattle.rs_packet.specs.declared.reply.Reply.{Reply}
 use Rattle.rs_message.specs.declared.entry.Entry.{Entry}
+use Rattle.rs_window.specs.Calls.{waiting_maximum}
+use Rattle.rs_session.specs.declared.open.Open.{Open}
 use Rattle.rs_session.specs.declared.phase.Input.{Input}
+use Rattle.rs_session.specs.Subscriptions.{subscriptions_max}
 use Rattle.rs_session.specs.Gate.{Mark, BeginsWith}
 use Rattle.rs_session.specs.State.{State, closing_of, waiting_of, IsGiven}
 use Rattle.rs_session.specs.Table.{Case, Row}
@@ -59,3 +64,12 @@ due_count (Some reply) = 1
 -- how many replies are left at most
 abbrev pub replies_left : Option Reply → State → ℕ
 replies_left due state = due_count due + length (waiting_of state.phase)
+
+-- 3.2.2.3.3, 4.9: an open session keeps at most so many subscriptions, identifiers of QoS 2, messages that wait, and
+-- messages that are not acknowledged
+pub record IsWithinLimits (o : Open) : Type 0 where
+  pub subscriptions : finite.len o.subscriptions ≤ subscriptions_max
+  pub held : set.len o.inbound ≤ 16
+  pub waiting : length o.window.waiting ≤ waiting_maximum
+  pub unacknowledged : finite.len o.window.kinds ≤ o.window.quota
+  pub quota : o.window.quota ≤ 1024

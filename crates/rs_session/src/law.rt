@@ -1,12 +1,22 @@
 //! What holds of every run.
 
-ghost use Rattle.std.specs.Prelude.{List};
+ghost use Rattle.std.specs.Prelude.{◌≡◌, ℕ, List};
 ghost use Rattle.rs_session.specs.Gate.{BeginsWith};
-ghost use Rattle.rs_session.specs.Run.{Point, Turn, Run};
+ghost use Rattle.rs_session.specs.Run.{Point, Turn, Run, IsWithinLimits};
+ghost use Rattle.rs_session.specs.State.{fresh};
+ghost use Rattle.rs_session.specs.declared.open.Open.{Open};
+ghost use Rattle.rs_session.specs.declared.phase.Phase.TheVariants as phase;
 
 /// Does nothing, and says that along a run the gate's list only grows at its end, so what was
 /// acknowledged stays in it.
 #[tactic(auto, using(crate::proofs::Runs::run_grows))]
 pub fn lists_grow()
     ensures { (from to : Point) (turns : List Turn) → Run from turns to → BeginsWith to.seen from.seen }
+{}
+
+/// Does nothing, and says that along a run of a new session, wherever it is open, what it keeps is
+/// within the limits.
+pub fn limits_kept()
+    ensures { (assigned : List ℕ) (from to : Point) (turns : List Turn) (o : Open) → from.state ≡ fresh assigned → Run from turns to
+        → to.state.phase ≡ phase.Open o → IsWithinLimits o }
 {}

@@ -6,7 +6,7 @@
 //!
 //! Promised by contracts: each input takes one row of the table of the session (`on_input`), over every gate; what waits
 //! is sent as the window gives it (`next_reply`); along a run of inputs the list of the gate only grows, so what was
-//! acknowledged stays (`lists_grow`).
+//! acknowledged stays (`lists_grow`), and what the session keeps is within its limits (`limits_kept`).
 #![tactic(auto)]
 
 mod gate;
@@ -19,7 +19,7 @@ mod session;
 mod subscriptions;
 
 pub use gate::Gate;
-pub use law::lists_grow;
+pub use law::{limits_kept, lists_grow};
 pub use local::LocalGate;
 pub use phase::{Closing, Input, Step};
 pub use session::Session;

@@ -27,7 +27,7 @@ use Rattle.rs_window.proofs.WaitingLemmas.{drops, keeps, first_is_sent, sendable
 
 -- ---- limits
 
-step_limits : (old : State) (call : Call) (new : State) → Step old call new → (new.quota ≡ old.quota) × (new.packet_maximum ≡ old.packet_maximum)
+pub step_limits : (old : State) (call : Call) (new : State) → Step old call new → (new.quota ≡ old.quota) × (new.packet_maximum ≡ old.packet_maximum)
 step_limits old (Queue found granted subscription (Ok done)) new h = (ap (λ (s : State). s.quota) h.1, ap (λ (s : State). s.packet_maximum) h.1)
 step_limits old (Queue found granted subscription (Err TooManyWaiting)) new h = (ap (λ (s : State). s.quota) h.1, ap (λ (s : State). s.packet_maximum) h.1)
 step_limits old (Queue found granted subscription (Err NoMemory)) new h = (ap (λ (s : State). s.quota) h.1, ap (λ (s : State). s.packet_maximum) h.1)
@@ -131,7 +131,7 @@ len_acknowledged : (ack : Acknowledgement) (m : Kinds) (id : ℕ) (kind : Option
 len_acknowledged ack m id None e = omega arith
 len_acknowledged ack m id (Some kind) e = len_put m id kind (kind_acknowledged ack kind) e
 
-step_quota : (old : State) (call : Call) (new : State) → Step old call new → len old.kinds ≤ old.quota → len new.kinds ≤ old.quota
+pub step_quota : (old : State) (call : Call) (new : State) → Step old call new → len old.kinds ≤ old.quota → len new.kinds ≤ old.quota
 step_quota old (Queue found granted subscription (Ok done)) new h q = omega (arith, q, ap (λ (s : State). len s.kinds) h.1)
 step_quota old (Queue found granted subscription (Err TooManyWaiting)) new h q = omega (arith, q, ap (λ (s : State). len s.kinds) h.1)
 step_quota old (Queue found granted subscription (Err NoMemory)) new h q = omega (arith, q, ap (λ (s : State). len s.kinds) h.1)
@@ -202,7 +202,7 @@ replayed receive_maximum packet_maximum calls end h =
     let (front, whole, fronts) = run_queue packet_maximum (fresh receive_maximum packet_maximum) calls end refl h in
     record { front = front; whole = whole; leaves = fronts }
 
-step_few : (old : State) (call : Call) (new : State) → Step old call new → length old.waiting ≤ waiting_maximum → length new.waiting ≤ waiting_maximum
+pub step_few : (old : State) (call : Call) (new : State) → Step old call new → length old.waiting ≤ waiting_maximum → length new.waiting ≤ waiting_maximum
 step_few old (Queue found granted subscription (Ok done)) new h f =
     let whole : length new.waiting ≡ length old.waiting + length found =
     ap (λ (s : State). length s.waiting) h.1 ∙ length-append old.waiting (map (granted_at granted subscription) found) ∙ ap (λ n. length old.waiting + n) (length-map found (granted_at granted subscription)) in
