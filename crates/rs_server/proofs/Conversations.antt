@@ -11,7 +11,7 @@ use Rattle.rs_session.specs.declared.phase.Input.TheVariants.{Whole, Broken}
 use Rattle.rs_session.specs.Gate.{Mark, Grows, StandsAt}
 use Rattle.rs_session.specs.State.{State, fresh, closing_of}
 use Rattle.rs_session.specs.Table.{Answers}
-use Rattle.rs_session.specs.Run.{Point, Turn, Run, Drains}
+use Rattle.rs_session.specs.Run.{Point, Turn, Run, GivesAll}
 use Rattle.rs_session.proofs.Runs.{run_more, of_gate_more}
 use Rattle.rs_server.specs.declared.connection.Served.{Served}
 use Rattle.rs_server.specs.declared.writing.ServeFault.{ServeFault}
@@ -63,15 +63,15 @@ pub takes_turn : {G : Type 0} (stands : G → List Entry → Type 0) (mark : G �
     → Grows (stands old) (stands mid) (λ seen list. Answers input now from (mark old) seen list (mark mid) due between)
     → closing_of from.phase ≡ None
     → new ≡ mid
-    → (replies : List Reply) × Drains now due between replies to × written (all_reply_bytes replies)
+    → (replies : List Reply) × GivesAll now due between replies to × written (all_reply_bytes replies)
     → (seen : List Entry) → stands old seen → TakesTurn (point_at from seen (mark old)) input now (StandsAt stands mark) (stands new) (mark new) to written
-takes_turn {G} stands mark old mid new from input now due between to written grows ongoing same (replies, drains, all) = λ seen s.
+takes_turn {G} stands mark old mid new from input now due between to written grows ongoing same (replies, all_given, all) = λ seen s.
     let (list, stood, begins, (case, row)) = grows seen s in
     let made : TakesTurn (point_at from seen (mark old)) input now (StandsAt stands mark) (stands mid) (mark mid) to written =
     record {
       turn = record { input = input; now = now; replies = replies; to = point_at to list (mark mid) };
       seen = list;
-      is_turn = record { goes_on = ongoing; case = case; due = due; mid = between; grows = begins; row = row; drained = drains };
+      is_turn = record { goes_on = ongoing; case = case; due = due; mid = between; grows = begins; row = row; all_given = all_given };
       of_gate = (mid, stood, refl);
       input_is = refl;
       now_is = refl;

@@ -4,7 +4,7 @@ ghost use Rattle.std.specs.Prelude.{◌≡◌, ◌<◌, ◌-◌, ◌^◌, List, 
 ghost use Rattle.rs_packet.specs.Replies.{reply_bytes};
 ghost use Rattle.rs_packet.specs.declared.reply.Reply.{Reply};
 ghost use Rattle.rs_session.specs.State.{state_of, due_of, gate_of};
-ghost use Rattle.rs_session.specs.Run.{Drains};
+ghost use Rattle.rs_session.specs.Run.{GivesAll};
 ghost use Rattle.rs_server.specs.Counts.{inner_of, failures_of};
 ghost use Rattle.rs_server.specs.Writing.{IsWriteCause, Writes, all_reply_bytes, fault_number};
 
@@ -106,7 +106,7 @@ pub(crate) fn write_replies<G: Gate, W: Write>(
 ) -> Result<(), ServeFault>
     requires { failures_of writer.old < 2 ^ 64 - 1 }
     ensures bytes { (replies : List Reply)
-        × Drains now (due_of session.old) (state_of session.old) replies (state_of session.new)
+        × GivesAll now (due_of session.old) (state_of session.old) replies (state_of session.new)
         × Writes result (W.contents (inner_of writer.old)) (W.contents (inner_of writer.new)) (all_reply_bytes replies) }
     ensures due { due_of session.new ≡ None }
     ensures gate { gate_of session.new ≡ gate_of session.old }

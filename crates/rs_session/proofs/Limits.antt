@@ -50,13 +50,13 @@ remove_within false n few = few
 released_within : (held : set.FinSet nat_cmp) (id : ℕ) → set.len held ≤ 16 → set.len (set.remove held id) ≤ 16
 released_within held id few = subst (λ n. n ≤ 16) (sym (set.len-remove nat_cmp_total held id)) (remove_within (set.contains held id) (set.len held) few)
 
-pub holding_within : (p : Publish) (o : Open) → IsTaken p o → IsWithinLimits o → IsWithinLimits (holding p o)
+holding_within : (p : Publish) (o : Open) → IsTaken p o → IsWithinLimits o → IsWithinLimits (holding p o)
 holding_within p o taken h =
     record { subscriptions = h.subscriptions; held = held_within (held_id p.qos p.id) o.inbound taken.has_room h.held; waiting = h.waiting; unacknowledged = h.unacknowledged; quota = h.quota }
 
 -- ---- the window
 
-pub called_within : (old : Open) (call : window.Call) (after : window_state.State) → window.Step old.window call after → IsWithinLimits old → IsWithinLimits (record old { window = after })
+called_within : (old : Open) (call : window.Call) (after : window_state.State) → window.Step old.window call after → IsWithinLimits old → IsWithinLimits (record old { window = after })
 called_within old call after step h =
     let limit : after.quota ≡ old.window.quota = (step_limits old.window call after step).0 in
     record {
@@ -112,15 +112,15 @@ all_fewer (filter ∷ more) m = omega (arith, without_fewer filter m, all_fewer 
 
 row_within : (case : OpenCase) (input : Input) (now : ℕ) (old : Open) (mark : Mark) (seen list : List Entry) (used : Mark) (outcome : Outcome) (new : Open)
     → OpenRow case input now old mark seen list used outcome new → IsWithinLimits old → IsWithinLimits new
-row_within Connected_twice input now old mark seen list used outcome new (c, i, out, rests) h = subst IsWithinLimits (sym rests.same) h
-row_within Faulty input now old mark seen list used outcome new (f, i, out, rests) h = subst IsWithinLimits (sym rests.same) h
-row_within With_alias input now old mark seen list used outcome new (p, i, a, out, rests) h = subst IsWithinLimits (sym rests.same) h
-row_within Bad_topic input now old mark seen list used outcome new (p, f, i, a, t, other, out, rests) h = subst IsWithinLimits (sym rests.same) h
-row_within Sent_again input now old mark seen list used outcome new (p, i, a, t, held, out, rests) h = subst IsWithinLimits (sym rests.same) h
-row_within Too_many_held input now old mark seen list used outcome new (p, i, a, t, many, out, rests) h = subst IsWithinLimits (sym rests.same) h
+row_within Connected_twice input now old mark seen list used outcome new (c, i, out, unchanged) h = subst IsWithinLimits (sym unchanged.same) h
+row_within Faulty input now old mark seen list used outcome new (f, i, out, unchanged) h = subst IsWithinLimits (sym unchanged.same) h
+row_within With_alias input now old mark seen list used outcome new (p, i, a, out, unchanged) h = subst IsWithinLimits (sym unchanged.same) h
+row_within Bad_topic input now old mark seen list used outcome new (p, f, i, a, t, other, out, unchanged) h = subst IsWithinLimits (sym unchanged.same) h
+row_within Sent_again input now old mark seen list used outcome new (p, i, a, t, held, out, unchanged) h = subst IsWithinLimits (sym unchanged.same) h
+row_within Too_many_held input now old mark seen list used outcome new (p, i, a, t, many, out, unchanged) h = subst IsWithinLimits (sym unchanged.same) h
 row_within Not_retained input now old mark seen list used outcome new (p, topic, i, taken, t, r, out, u, same) h = subst IsWithinLimits (sym same) (holding_within p old taken h)
 row_within Kept input now old mark seen list used outcome new (p, topic, operation, i, s, submitted, out, same) h = subst IsWithinLimits (sym same) (holding_within p old s.taken h)
-row_within Topic_unread input now old mark seen list used outcome new (p, i, taken, t, out, rests) h = subst IsWithinLimits (sym rests.same) h
+row_within Topic_unread input now old mark seen list used outcome new (p, i, taken, t, out, unchanged) h = subst IsWithinLimits (sym unchanged.same) h
 row_within Not_kept input now old mark seen list used outcome new (p, topic, operation, i, s, out, same) h = subst IsWithinLimits (sym same) h
 row_within Uncertain input now old mark seen list used outcome new (p, topic, operation, i, s, out, same) h = subst IsWithinLimits (sym same) h
 row_within Gate_closed input now old mark seen list used outcome new (p, topic, operation, i, s, out, same) h = subst IsWithinLimits (sym same) h
@@ -128,17 +128,17 @@ row_within Released input now old mark seen list used outcome new (a, i, out, u,
     let left : IsWithinLimits (record old { inbound = set.remove old.inbound a.id }) =
     record { subscriptions = h.subscriptions; held = released_within old.inbound a.id h.held; waiting = h.waiting; unacknowledged = h.unacknowledged; quota = h.quota } in
     subst IsWithinLimits (sym same) left
-row_within Wrong_acknowledgement input now old mark seen list used outcome new (p, ack, id, i, is, wrong, out, rests) h = subst IsWithinLimits (sym rests.same) h
+row_within Wrong_acknowledgement input now old mark seen list used outcome new (p, ack, id, i, is, wrong, out, unchanged) h = subst IsWithinLimits (sym unchanged.same) h
 row_within Acknowledged input now old mark seen list used outcome new (p, ack, id, answer, i, is, step, out, u, same) h =
     subst IsWithinLimits (sym same) (called_within old (window.Acknowledge ack id (Ok answer)) new.window step h)
-row_within Shared_no_local input now old mark seen list used outcome new (s, i, n, out, rests) h = subst IsWithinLimits (sym rests.same) h
-row_within Not_subscribed input now old mark seen list used outcome new (s, i, n, out, rests) h = subst IsWithinLimits (sym rests.same) h
+row_within Shared_no_local input now old mark seen list used outcome new (s, i, n, out, unchanged) h = subst IsWithinLimits (sym unchanged.same) h
+row_within Not_subscribed input now old mark seen list used outcome new (s, i, n, out, unchanged) h = subst IsWithinLimits (sym unchanged.same) h
 row_within Subscribed input now old mark seen list used outcome new (s, codes, i, n, grants, out, u) h = grants_within now s.filters s.subscription seen old codes list new grants h
-row_within Not_unsubscribed input now old mark seen list used outcome new (u, i, out, rests) h = subst IsWithinLimits (sym rests.same) h
+row_within Not_unsubscribed input now old mark seen list used outcome new (u, i, out, unchanged) h = subst IsWithinLimits (sym unchanged.same) h
 row_within Unsubscribed input now old mark seen list used outcome new (u, i, out, m, same) h =
     subst IsWithinLimits (sym same) (subscriptions_within old (without_all u.filters old.subscriptions) (omega (arith, all_fewer u.filters old.subscriptions, h.subscriptions)) h)
-row_within Pinged input now old mark seen list used outcome new (i, out, rests) h = subst IsWithinLimits (sym rests.same) h
-row_within Disconnected input now old mark seen list used outcome new (code, i, out, rests) h = subst IsWithinLimits (sym rests.same) h
+row_within Pinged input now old mark seen list used outcome new (i, out, unchanged) h = subst IsWithinLimits (sym unchanged.same) h
+row_within Disconnected input now old mark seen list used outcome new (code, i, out, unchanged) h = subst IsWithinLimits (sym unchanged.same) h
 
 -- ---- a session
 
@@ -195,8 +195,8 @@ gives_within now due old (reply ∷ replies) left new (later, mid, given, rest) 
 turn_within : (from : Point) (turn : Turn) → IsTurn from turn → PhaseWithin from.state.phase → PhaseWithin turn.to.state.phase
 turn_within from turn t h =
     let answered = answer_within t.case turn.input turn.now from.state from.mark from.seen turn.to.seen turn.to.mark t.due t.mid t.row h in
-    let given = gives_within turn.now t.due t.mid turn.replies t.drained.left t.drained.last t.drained.given answered in
-    given_within turn.now t.drained.left t.drained.last None None turn.to.state t.drained.none_left given
+    let given = gives_within turn.now t.due t.mid turn.replies t.all_given.left t.all_given.last t.all_given.given answered in
+    given_within turn.now t.all_given.left t.all_given.last None None turn.to.state t.all_given.none_left given
 
 turns_within : (from to : Point) (turns : List Turn) → Run from turns to → PhaseWithin from.state.phase → PhaseWithin to.state.phase
 turns_within from to [] e h = same_within from.state to.state (ap (λ (p : Point). p.state) e) h

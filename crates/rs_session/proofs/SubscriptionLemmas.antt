@@ -1,5 +1,5 @@
 -- Lemmas on the subscriptions of a session: what the entries of the map say, and what a caller needs of the finite map.
-use Rattle.std.proofs.Common.{◌≡◌, ◌≢◌, ℕ, ◌+◌, ◌-◌, ◌≤◌, Bool, true, false, cond, ◌||◌, nat_eq, nat_lt, length, List, [], ◌∷◌, Option, Some, None, is_some, refl, sym, ap, subst, ◌∙◌, arith}
+use Rattle.std.proofs.Common.{◌≡◌, ℕ, ◌+◌, ◌-◌, ◌≤◌, Bool, true, false, cond, ◌||◌, nat_eq, nat_lt, length, List, [], ◌∷◌, Option, Some, None, is_some, refl, sym, ap, subst, ◌∙◌, arith}
 use borrow.Author.Tests.{ltb-true}
 use Rattle.std.specs.Cmp.Lexicographic.{slice_cmp, pointwise, texts_ties, bytes_decides}
 use Rattle.std.specs.Ordering.{nat_cmp, eq_by_cmp}
@@ -21,16 +21,6 @@ same_subscriptions m n h = same_map nat_list_cmp_total (slice_cmp-IsAntisymmetri
 -- two filters tie just where their bytes are equal
 tied : (p q : List ℕ) → eq_by_cmp (slice_cmp nat_cmp) p q ≡ pointwise nat_eq p q
 tied p q = sym (texts_ties p q)
-
-pub tied_same : (p q : List ℕ) → p ≡ q → eq_by_cmp (slice_cmp nat_cmp) p q ≡ true
-tied_same p q e = tied p q ∙ (bytes_decides p q).1 e
-
-not_true : (b : Bool) → (b ≡ true → ⊥) → b ≡ false
-not_true true h = absurd (h refl)
-not_true false h = refl
-
-pub tied_other : (p q : List ℕ) → p ≢ q → eq_by_cmp (slice_cmp nat_cmp) p q ≡ false
-tied_other p q other = not_true _ (λ t. other ((bytes_decides p q).0 (sym (tied p q) ∙ t)))
 
 find_lookup : (q : List ℕ) (es : Entries) → find (slice_cmp nat_cmp) q es ≡ lookup (pointwise nat_eq q) es
 find_lookup q [] = refl
@@ -75,24 +65,6 @@ removed m es fs k e h =
 
 -- ---- for a caller
 
--- after `insert`
-pub subscribed_inserted : (m : Subscriptions) (k : List ℕ) (v : Subscription) → is_subscribed k (insert m k v) ≡ true
-subscribed_inserted m k v =
-    ap is_some (get-insert nat_list_cmp_total m k v k ∙ ap (λ b. cond b (Some v) (get m k)) (tied_same k k refl))
-
-pub subscribed_inserted_other : (m : Subscriptions) (k : List ℕ) (v : Subscription) (q : List ℕ) → q ≢ k → is_subscribed q (insert m k v) ≡ is_subscribed q m
-subscribed_inserted_other m k v q other =
-    ap is_some (get-insert nat_list_cmp_total m k v q ∙ ap (λ b. cond b (Some v) (get m q)) (tied_other q k other))
-
--- after `remove`
-pub subscribed_removed : (m : Subscriptions) (k : List ℕ) → is_subscribed k (remove m k) ≡ false
-subscribed_removed m k =
-    ap is_some (get-remove nat_list_cmp_total m k k ∙ ap (λ b. cond b None (get m k)) (tied_same k k refl))
-
-pub subscribed_removed_other : (m : Subscriptions) (k : List ℕ) (q : List ℕ) → q ≢ k → is_subscribed q (remove m k) ≡ is_subscribed q m
-subscribed_removed_other m k q other =
-    ap is_some (get-remove nat_list_cmp_total m k q ∙ ap (λ b. cond b None (get m q)) (tied_other q k other))
-
 absent : (o : Option Subscription) → is_some o ≡ false → o ≡ None
 absent None e = refl
 absent (Some v) e = cc
@@ -125,22 +97,6 @@ pub remove_inserted : (m : Subscriptions) (k : List ℕ) (v : Subscription) → 
 remove_inserted m k v e =
     same_subscriptions _ _ (λ q. get_removed (insert m k v) k q ∙ ap (cond (eq_by_cmp (slice_cmp nat_cmp) q k) None) (get_inserted m k v q)
     ∙ twice (eq_by_cmp (slice_cmp nat_cmp) q k) (Some v) None (get m q) ∙ put_alike m k None e q)
-
--- one that was replaced, and put back, is there again
-pub insert_back : (m : Subscriptions) (k : List ℕ) (v old : Subscription) → get m k ≡ Some old → insert (insert m k v) k old ≡ m
-insert_back m k v old e =
-    same_subscriptions _ _ (λ q. get_inserted (insert m k v) k old q ∙ ap (cond (eq_by_cmp (slice_cmp nat_cmp) q k) (Some old)) (get_inserted m k v q)
-    ∙ twice (eq_by_cmp (slice_cmp nat_cmp) q k) (Some v) (Some old) (get m q) ∙ put_alike m k (Some old) e q)
-
--- the second of two with the same filter stays
-pub insert_inserted : (m : Subscriptions) (k : List ℕ) (v w : Subscription) → insert (insert m k v) k w ≡ insert m k w
-insert_inserted m k v w =
-    same_subscriptions _ _ (λ q. get_inserted (insert m k v) k w q ∙ ap (cond (eq_by_cmp (slice_cmp nat_cmp) q k) (Some w)) (get_inserted m k v q)
-    ∙ twice (eq_by_cmp (slice_cmp nat_cmp) q k) (Some v) (Some w) (get m q) ∙ sym (get_inserted m k w q))
-
--- to remove one that is not there changes nothing
-pub remove_absent : (m : Subscriptions) (k : List ℕ) → get m k ≡ None → remove m k ≡ m
-remove_absent m k e = same_subscriptions _ _ (λ q. get_removed m k q ∙ put_alike m k None e q)
 
 -- ---- how many there are
 

@@ -31,7 +31,7 @@ Gives now due old [] left new = (left ≡ due) × (new ≡ old)
 Gives now due old (reply ∷ replies) left new = (later : Option Reply) × (mid : State) × IsGiven now due old (Some reply) later mid × Gives now later mid replies left new
 
 -- these, and then none
-pub record Drains (now : ℕ) (due : Option Reply) (old : State) (replies : List Reply) (new : State) : Type 0 where
+pub record GivesAll (now : ℕ) (due : Option Reply) (old : State) (replies : List Reply) (new : State) : Type 0 where
   pub left : Option Reply
   pub last : State
   pub given : Gives now due old replies left last
@@ -45,7 +45,7 @@ pub record IsTurn (from : Point) (turn : Turn) : Type 0 where
   pub mid : State
   pub grows : BeginsWith turn.to.seen from.seen
   pub row : Row case turn.input turn.now from.state from.mark from.seen turn.to.seen turn.to.mark due mid
-  pub drained : Drains turn.now due mid turn.replies turn.to.state
+  pub all_given : GivesAll turn.now due mid turn.replies turn.to.state
 
 -- one turn after the other
 abbrev pub Run : Point → List Turn → Point → Type 0

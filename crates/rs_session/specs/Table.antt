@@ -252,8 +252,8 @@ pub record IsSubmittable (p : Publish) (topic : List ℕ) (now : ℕ) (operation
   pub changes : change p topic now ≡ Some operation
   pub one_used : Uses mark used
 
--- no serial is used
-pub record Rests (mark used : Mark) (old new : Open) : Type 0 where
+-- the session stays as it was, and no serial is used
+pub record IsUnchanged (mark used : Mark) (old new : Open) : Type 0 where
   pub none_used : used ≡ mark
   pub same : new ≡ old
 
@@ -262,24 +262,24 @@ pub record Rests (mark used : Mark) (old new : Open) : Type 0 where
 abbrev pub OpenRow : OpenCase → Input → ℕ → Open → Mark → List Entry → List Entry → Mark → Outcome → Open → Type 0
 -- 3.1: a second CONNECT
 OpenRow Connected_twice input now old mark seen list used outcome new =
-    (c : Connect) × (input ≡ Whole (packet.Connect c)) × (outcome ≡ Closes protocol_error) × Rests mark used old new
+    (c : Connect) × (input ≡ Whole (packet.Connect c)) × (outcome ≡ Closes protocol_error) × IsUnchanged mark used old new
 OpenRow Faulty input now old mark seen list used outcome new =
-    (fault : PacketFault) × (input ≡ Broken fault) × (outcome ≡ Closes (fault_code fault)) × Rests mark used old new
+    (fault : PacketFault) × (input ≡ Broken fault) × (outcome ≡ Closes (fault_code fault)) × IsUnchanged mark used old new
 -- 3.3.2.3.4: CONNACK allowed none
 OpenRow With_alias input now old mark seen list used outcome new =
-    (p : Publish) × (input ≡ Whole (packet.Publish p)) × (is_some p.alias ≡ true) × (outcome ≡ Closes topic_alias_invalid) × Rests mark used old new
+    (p : Publish) × (input ≡ Whole (packet.Publish p)) × (is_some p.alias ≡ true) × (outcome ≡ Closes topic_alias_invalid) × IsUnchanged mark used old new
 -- 3.3.2.1
 OpenRow Bad_topic input now old mark seen list used outcome new =
     (p : Publish) × (fault : TopicFault) × (input ≡ Whole (packet.Publish p)) × (is_some p.alias ≡ false) × (p.topic ≡ Err fault) × (fault ≢ topic_fault.NoMemory)
-    × (outcome ≡ Closes (topic_code fault)) × Rests mark used old new
+    × (outcome ≡ Closes (topic_code fault)) × IsUnchanged mark used old new
 -- 4.3.3: it is the same publication
 OpenRow Sent_again input now old mark seen list used outcome new =
     (p : Publish) × (input ≡ Whole (packet.Publish p)) × (is_some p.alias ≡ false) × IsTopicOrUnread p.topic × (is_held (held_id p.qos p.id) old.inbound ≡ true)
-    × (outcome ≡ Replies (acknowledged_by p.qos p.id 0)) × Rests mark used old new
+    × (outcome ≡ Replies (acknowledged_by p.qos p.id 0)) × IsUnchanged mark used old new
 -- 3.3.4
 OpenRow Too_many_held input now old mark seen list used outcome new =
     (p : Publish) × (input ≡ Whole (packet.Publish p)) × (is_some p.alias ≡ false) × IsTopicOrUnread p.topic × (is_one_too_many (held_id p.qos p.id) old.inbound ≡ true)
-    × (outcome ≡ Closes receive_maximum_exceeded) × Rests mark used old new
+    × (outcome ≡ Closes receive_maximum_exceeded) × IsUnchanged mark used old new
 -- 3.3.1.3: RETAIN 0 changes nothing
 OpenRow Not_retained input now old mark seen list used outcome new =
     (p : Publish) × (topic : List ℕ) × (input ≡ Whole (packet.Publish p)) × IsTaken p old × (p.topic ≡ Ok topic) × (p.retain ≡ false)
@@ -290,7 +290,7 @@ OpenRow Kept input now old mark seen list used outcome new =
 -- want of memory for the topic, which may come at any time
 OpenRow Topic_unread input now old mark seen list used outcome new =
     (p : Publish) × (input ≡ Whole (packet.Publish p)) × IsTaken p old × (p.topic ≡ Err topic_fault.NoMemory)
-    × (outcome ≡ Replies (acknowledged_by p.qos p.id quota_exceeded)) × Rests mark used old new
+    × (outcome ≡ Replies (acknowledged_by p.qos p.id quota_exceeded)) × IsUnchanged mark used old new
 -- the store or memory is full
 OpenRow Not_kept input now old mark seen list used outcome new =
     (p : Publish) × (topic : List ℕ) × (operation : Operation) × (input ≡ Whole (packet.Publish p)) × IsSubmittable p topic now operation old mark used
@@ -310,33 +310,33 @@ OpenRow Released input now old mark seen list used outcome new =
 -- 4.3: an acknowledgement that the PUBLISH with this identifier does not await
 OpenRow Wrong_acknowledgement input now old mark seen list used outcome new =
     (p : Packet) × (ack : window.Acknowledgement) × (id : ℕ) × (input ≡ Whole p) × (acknowledgement_of p ≡ Some (ack, id)) × (window.answer_to ack (finite.get old.window.kinds id) ≡ Err WrongKind)
-    × (outcome ≡ Closes protocol_error) × Rests mark used old new
+    × (outcome ≡ Closes protocol_error) × IsUnchanged mark used old new
 OpenRow Acknowledged input now old mark seen list used outcome new =
     (p : Packet) × (ack : window.Acknowledgement) × (id : ℕ) × (answer : Ack) × (input ≡ Whole p) × (acknowledgement_of p ≡ Some (ack, id)) × window.IsAcknowledged ack id old.window (Ok answer) new.window
     × (outcome ≡ Replies (released_by ack id answer)) × (used ≡ mark) × (new ≡ record old { window = new.window })
 -- 3.8.3.1
 OpenRow Shared_no_local input now old mark seen list used outcome new =
-    (s : Subscribe) × (input ≡ Whole (packet.Subscribe s)) × (list_any is_shared_local s.filters ≡ true) × (outcome ≡ Closes protocol_error) × Rests mark used old new
+    (s : Subscribe) × (input ≡ Whole (packet.Subscribe s)) × (list_any is_shared_local s.filters ≡ true) × (outcome ≡ Closes protocol_error) × IsUnchanged mark used old new
 -- want of memory for the codes, which may come at any time
 OpenRow Not_subscribed input now old mark seen list used outcome new =
-    (s : Subscribe) × (input ≡ Whole (packet.Subscribe s)) × (list_any is_shared_local s.filters ≡ false) × (outcome ≡ Closes quota_exceeded) × Rests mark used old new
+    (s : Subscribe) × (input ≡ Whole (packet.Subscribe s)) × (list_any is_shared_local s.filters ≡ false) × (outcome ≡ Closes quota_exceeded) × IsUnchanged mark used old new
 -- 3.8.4
 OpenRow Subscribed input now old mark seen list used outcome new =
     (s : Subscribe) × (codes : List ℕ) × (input ≡ Whole (packet.Subscribe s)) × (list_any is_shared_local s.filters ≡ false) × Grants now s.filters s.subscription seen old codes list new
     × (outcome ≡ Replies (Some (reply.Suback (record { id = s.id; codes = codes })))) × (used ≡ mark)
 -- want of memory for the codes, which may come at any time
 OpenRow Not_unsubscribed input now old mark seen list used outcome new =
-    (u : Unsubscribe) × (input ≡ Whole (packet.Unsubscribe u)) × (outcome ≡ Closes quota_exceeded) × Rests mark used old new
+    (u : Unsubscribe) × (input ≡ Whole (packet.Unsubscribe u)) × (outcome ≡ Closes quota_exceeded) × IsUnchanged mark used old new
 -- 3.10.4
 OpenRow Unsubscribed input now old mark seen list used outcome new =
     (u : Unsubscribe) × (input ≡ Whole (packet.Unsubscribe u)) × (outcome ≡ Replies (Some (reply.Unsuback (record { id = u.id; codes = removal_codes u.filters old.subscriptions }))))
     × (used ≡ mark) × (new ≡ record old { subscriptions = without_all u.filters old.subscriptions })
 -- 3.12
 OpenRow Pinged input now old mark seen list used outcome new =
-    (input ≡ Whole packet.Pingreq) × (outcome ≡ Replies (Some reply.Pingresp)) × Rests mark used old new
+    (input ≡ Whole packet.Pingreq) × (outcome ≡ Replies (Some reply.Pingresp)) × IsUnchanged mark used old new
 -- 3.14
 OpenRow Disconnected input now old mark seen list used outcome new =
-    (code : ℕ) × (input ≡ Whole (packet.Disconnect code)) × (outcome ≡ Leaves) × Rests mark used old new
+    (code : ℕ) × (input ≡ Whole (packet.Disconnect code)) × (outcome ≡ Leaves) × IsUnchanged mark used old new
 
 -- one of the rows
 abbrev pub LeadsTo : Input → ℕ → Open → Mark → List Entry → List Entry → Mark → Outcome → Open → Type 0
