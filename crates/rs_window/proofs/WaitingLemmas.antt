@@ -1,5 +1,5 @@
 -- Lemmas on messages that wait.
-use Rattle.std.proofs.Common.{◌≡◌, ◌⊎◌, ℕ, ◌<◌, ◌≤◌, ◌||◌, List, [], ◌∷◌, length, get_or, drop, Option, Bool, true, false, cond, nat_lt, refl, sym, ap, subst, ◌∙◌, inl, inr, arith}
+use Rattle.std.proofs.Common.{◌≡◌, ◌⊎◌, ℕ, ◌<◌, ◌≤◌, ◌||◌, List, [], ◌∷◌, length, Option, Bool, true, false, cond, nat_lt, refl, sym, ap, subst, ◌∙◌, inl, inr, arith}
 use Rattle.std.proofs.lemmas.Bool.Decides.{nat_tests}
 use Rattle.rs_packet.specs.declared.packet.Qos.{Qos}
 use Rattle.rs_packet.specs.declared.packet.Qos.TheVariants as qos
@@ -57,20 +57,6 @@ keeps packet_maximum now w h (inr less) =
     let wrong : true ≡ false = sym all ∙ h in cc
 
 -- ---- what is left of the queue
-
--- a first message that is to be sent stays first
-pub first_kept : (packet_maximum now : ℕ) (w : Waiting) (ws : List Waiting) → 0 < length ws → w ≡ get_or ws 0 w → is_dropped packet_maximum now w ≡ false → sendable packet_maximum now ws ≡ ws
-first_kept packet_maximum now w [] h e d = absurd (omega arith)
-first_kept packet_maximum now w (v ∷ vs) h e d =
-    let kept : is_dropped packet_maximum now v ≡ false = subst (λ (x : Waiting). is_dropped packet_maximum now x ≡ false) e d in
-    ap (λ b. cond b (sendable packet_maximum now vs) (v ∷ vs)) kept
-
--- one that is not to be sent leaves the rest
-pub first_dropped : (packet_maximum now : ℕ) (w : Waiting) (ws : List Waiting) → 0 < length ws → w ≡ get_or ws 0 w → is_dropped packet_maximum now w ≡ true → sendable packet_maximum now ws ≡ sendable packet_maximum now (drop 1 ws)
-first_dropped packet_maximum now w [] h e d = absurd (omega arith)
-first_dropped packet_maximum now w (v ∷ vs) h e d =
-    let dropped : is_dropped packet_maximum now v ≡ true = subst (λ (x : Waiting). is_dropped packet_maximum now x ≡ true) e d in
-    ap (λ b. cond b (sendable packet_maximum now vs) (v ∷ vs)) dropped
 
 first_step : (packet_maximum now : ℕ) (v w : Waiting) (vs rest : List Waiting) (b : Bool) → is_dropped packet_maximum now v ≡ b
     → (sendable packet_maximum now vs ≡ w ∷ rest → is_dropped packet_maximum now w ≡ false)
