@@ -5,4 +5,3 @@ pub mod Identifiers
 pub mod PropertyLaws
 pub mod Replayed
 pub mod Sizes
-pub mod Equalities

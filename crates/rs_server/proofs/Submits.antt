@@ -1,5 +1,5 @@
 -- What a submit to the store of a single connection leads to.
-use Rattle.std.proofs.Common.{◌≡◌, ℕ, ◌+◌, ◌-◌, ◌≤◌, ◌<◌, ◌^◌, List, [], ◌∷◌, ◌++◌, length, refl, sym, ap, subst, ◌∙◌, append-nil, arith, slice_index, inl, inr}
+use Rattle.std.proofs.Common.{◌≡◌, ℕ, ◌+◌, ◌-◌, ◌≤◌, ◌<◌, ◌^◌, List, [], ◌∷◌, ◌++◌, length, refl, sym, ap, subst, ◌∙◌, arith, slice_index, inl, inr}
 use Rattle.std.proofs.lemmas.Bool.{cases_eq}
 use Rattle.std.proofs.lemmas.List.{get_or-set_same}
 use Rattle.std.proofs.lemmas.List.Elements.{Contains-append_right, All-append, All-cons, All-nil}
@@ -48,7 +48,3 @@ own_submitted old new operation seen limit free is own =
       (e ∷ [], refl),
       record { entry = subst (Contains list) named (Contains-append_right seen (e ∷ []) e (0, omega arith, refl)); serial = omega (arith, serial) },
     )
-
--- where nothing changed, the list stays
-pub own_kept : (old new : Content) (seen : List Entry) → new ≡ old → IsOwn old seen → (list : List Entry) × IsOwn new list × BeginsWith list seen
-own_kept old new seen is own = (seen, subst (λ (c : Content). IsOwn c seen) (sym is) own, ([], sym (append-nil seen)))

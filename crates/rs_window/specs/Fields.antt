@@ -5,7 +5,7 @@ use Rattle.rs_window.specs.declared.identifiers.Kind.{Kind}
 use Rattle.rs_window.specs.declared.waiting.Waiting.{Waiting}
 
 -- there is room for the whole quota, each slot has an identifier, and not too many wait
-pub record IsRoomy (identifiers : Slab Kind) (waiting : List Waiting) (quota : ℕ) : Type 0 where
+pub record IsInBounds (identifiers : Slab Kind) (waiting : List Waiting) (quota : ℕ) : Type 0 where
   pub within : slab_len identifiers ≤ quota
   pub reserved : quota ≤ identifiers.capacity
   pub numbered : identifiers.capacity < 2 ^ 16

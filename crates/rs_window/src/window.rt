@@ -40,7 +40,7 @@ impl Model for Window {
     ghost coded = { state_code };
 
     ghost use Rattle.rs_window.specs.Identifiers.{kinds_of};
-    ghost use Rattle.rs_window.specs.Fields.{IsRoomy};
+    ghost use Rattle.rs_window.specs.Fields.{IsInBounds};
 
     ghost view = { λ w. record {
       kinds = kinds_of w.identifiers;
@@ -49,7 +49,7 @@ impl Model for Window {
       packet_maximum = w.packet_maximum;
     } };
 
-    ghost invariant = { λ w. IsRoomy w.identifiers w.waiting.items w.quota };
+    ghost invariant = { λ w. IsInBounds w.identifiers w.waiting.items w.quota };
 }
 
 impl Window {
