@@ -9,7 +9,7 @@ use thiserror::Error;
 
 #[derive(Clone, Copy, Debug, Error)]
 pub enum Failure {
-    #[error("give growth, queue, times TOPICS (1 to 65536), rounds COUNT ROUNDS (COUNT 1 to 100000), decode ROUNDS or encode ROUNDS")]
+    #[error("give growth, queue, times TOPICS (1 to 65536), rounds COUNT ROUNDS (COUNT 1 to 100000), decode ROUNDS, encode ROUNDS or short COUNT")]
     Words,
     #[error("standard input has to be one PUBLISH or SUBSCRIBE")]
     Input,

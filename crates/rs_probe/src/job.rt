@@ -13,6 +13,7 @@ pub enum Job {
     Rounds(u32, u32),
     Decode(u32),
     Encode(u32),
+    Short(u32),
 }
 
 fn number(word: &String) -> Option<u32> {
@@ -35,6 +36,7 @@ fn job_of(words: &[String]) -> Option<Job> {
         ("rounds", [count, rounds]) => Some(Job::Rounds(waiting(count)?, number(rounds)?)),
         ("decode", [rounds]) => Some(Job::Decode(number(rounds)?)),
         ("encode", [rounds]) => Some(Job::Encode(number(rounds)?)),
+        ("short", [count]) => Some(Job::Short(number(count)?)),
         _ => None,
     }
 }

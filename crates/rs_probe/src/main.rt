@@ -4,7 +4,8 @@
 //! wait in a window. `times TOPICS` says how long the calls of a catalogue take where so many topics, 1 to 65,536, hold a message.
 //! `rounds COUNT ROUNDS` makes so many rounds in a window where so many messages wait, 1 to 100,000, and is timed from outside.
 //! `decode ROUNDS` and `encode ROUNDS` say how long the one packet on standard input, a PUBLISH or a SUBSCRIBE, takes to be decoded
-//! so often, and what answers it to be encoded.
+//! so often, and what answers it to be encoded. `short COUNT` says how long so many short sessions take, one after the other over
+//! one store in memory.
 #![tactic(auto)]
 
 mod codec;
@@ -14,6 +15,7 @@ mod growth;
 mod job;
 mod queue;
 mod rounds;
+mod short;
 mod times;
 
 use crate::failure::Failure;
@@ -22,8 +24,9 @@ use std::env::Env;
 use std::io::Read;
 use std::process::ExitCode;
 use std::rt::Clock;
+use std::sync::Wait;
 
-fn work<H: Env + AllocGlobal + Print + Clock, R: Read>(
+fn work<H: Env + AllocGlobal + Print + Clock + Wait, R: Read>(
     rt: &H,
     input: &mut R,
 ) -> Result<(), Failure> {
@@ -42,6 +45,7 @@ fn work<H: Env + AllocGlobal + Print + Clock, R: Read>(
         Job::Encode(rounds) => {
             codec::measure_encode(rt, alloc, &codec::read_input(alloc, input)?, rounds)?;
         }
+        Job::Short(count) => short::measure(rt, alloc, count)?,
     }
     Ok(())
 }
