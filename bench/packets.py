@@ -1,4 +1,6 @@
-"""Packets of a client, as bytes (OASIS MQTT Version 5.0, sections 3.3 and 3.8)."""
+"""Packets of a client, as bytes (OASIS MQTT Version 5.0, sections 3.3 to 3.10)."""
+
+PUBACK, PUBREL = 0x40, 0x62
 
 
 def varint(n):
@@ -14,13 +16,24 @@ def counted(data):
     return len(data).to_bytes(2, "big") + data
 
 
-def publish(topic, payload, user=()):
-    """A retained PUBLISH at QoS 0 with these user properties."""
+def packet(first, body):
+    return bytes([first]) + varint(len(body)) + body
+
+
+def publish(topic, payload, user=(), qos=0, identifier=1):
+    """A retained PUBLISH with these user properties. It has the packet identifier at QoS 1 and 2 only."""
     section = b"".join(b"\x26" + counted(name) + counted(value) for name, value in user)
-    body = counted(topic) + varint(len(section)) + section + payload
-    return b"\x31" + varint(len(body)) + body
+    number = identifier.to_bytes(2, "big") if qos else b""
+    return packet(0x31 + 2 * qos, counted(topic) + number + varint(len(section)) + section + payload)
+
+
+def acknowledgement(kind, identifier):
+    return packet(kind, identifier.to_bytes(2, "big"))
 
 
 def subscribe(filters, options):
-    body = (1).to_bytes(2, "big") + varint(0) + b"".join(counted(text) + bytes([options]) for text in filters)
-    return b"\x82" + varint(len(body)) + body
+    return packet(0x82, b"\x00\x01\x00" + b"".join(counted(text) + bytes([options]) for text in filters))
+
+
+def unsubscribe(filters):
+    return packet(0xA2, b"\x00\x01\x00" + b"".join(counted(text) for text in filters))
