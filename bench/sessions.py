@@ -12,9 +12,6 @@ PAYLOAD = b"x" * 64
 QUOTA = 1024
 SUBSCRIPTIONS = 256
 
-# How often a session subscribes and unsubscribes, so that this takes most of its time.
-ROUNDS = 20
-
 
 def topic(i):
     return b"fleet/%06d/state" % i
@@ -60,13 +57,13 @@ def codes_bytes(count):
     return len(packet(0x90, bytes(3 + count)))
 
 
-def subscribed(count, stored, in_one):
-    """Over so many retained messages, again and again a SUBSCRIBE to so many filters, of which each matches one message at most,
-    and an UNSUBSCRIBE from them: one packet of all filters, or one packet a filter."""
+def subscribed(count, stored, rounds, in_one):
+    """Over so many retained messages, so often a SUBSCRIBE to so many filters, of which each matches one message at most, and an
+    UNSUBSCRIBE from them: one packet of all filters, or one packet a filter."""
     packets, replies = publications(stored, 0)
     filters = [one_level_up(i) for i in range(count)]
     parts = [filters] if in_one else [[text] for text in filters]
     turn = b"".join(subscribe(part, 0) for part in parts) + b"".join(unsubscribe(part) for part in parts)
     sent = min(count, stored, SUBSCRIPTIONS) * len(publish(topic(0), PAYLOAD))
     answered = 2 * sum(codes_bytes(len(part)) for part in parts) + sent
-    return whole(packets + ROUNDS * turn, replies + ROUNDS * answered)
+    return whole(packets + rounds * turn, replies + rounds * answered)
