@@ -2,7 +2,7 @@
 use Rattle.std.proofs.Common.{◌≡◌, ℕ, zero, suc, ◌<◌, ◌≤◌, ◌^◌, Bool, true, false, cond, not, ltb, ◌||◌, List, [], ◌∷◌, ◌++◌, length, slice_index_or, slice_set, Option, Some, None, Result, Ok, Err, refl, sym, ap, subst, ◌∙◌, append_assoc, arith}
 use Rattle.std.specs.List.{flat_map}
 use Rattle.std.specs.Int.{w16, w32}
-use Rattle.std.proofs.lemmas.Bool.{ltb-true, lt-ltb}
+use Rattle.std.proofs.lemmas.Bool.{ltb-true, le-ltb, lt-ltb}
 use Rattle.std.proofs.lemmas.List.{length-append}
 use Rattle.rs_field.specs.declared.fault.PacketFault.{PacketFault}
 use Rattle.rs_field.specs.declared.fault.PacketFault.TheVariants.{Protocol}
@@ -208,3 +208,8 @@ found_takes where_ bytes x fits e =
 pub found_again : (where_ : Place) (ps : List Property) (rest : List ℕ) → AreProperties where_ ps → found_at where_ (properties ps ++ rest) ≡ Ok (gathered nothing ps, rest)
 unfolding found_at
 found_again where_ ps rest h = rw (all_again where_ ps rest h) refl
+
+-- a section of length 0 is taken at once
+pub found_none : (where_ : Place) (bytes rest : List ℕ) → varint_at bytes ≡ Ok (0, rest) → found_at where_ bytes ≡ Ok (nothing, rest)
+unfolding found_at properties_at properties_in gathered
+found_none where_ bytes rest h = rw (h, le-ltb (length rest) 0 (omega arith)) refl

@@ -311,6 +311,9 @@ fn section_of(alloc: Global, rest: &mut Bytes, place: Place) -> Result<Found, Pa
     ensures { Gives (λ f. (f, rest.new)) result (found_at place rest.old) }
 {
     let len = varint_of(rest)?;
+    if len == 0 {
+        return Ok(Found::new(alloc));
+    }
     let section = part_of(rest, len as usize)?;
     found_in(alloc, section, place)
 }
