@@ -12,47 +12,80 @@ use std::process::Abort;
 use std::sync::Wait;
 use std::test::Fail;
 
-// CONNECT (16 bytes), a retained PUBLISH of QoS 0 (9 bytes), DISCONNECT.
+// CONNECT (16 bytes), a retained PUBLISH of QoS 1 (11 bytes), DISCONNECT.
 const FIRST: &[u8] =
-    b"\x10\x0E\x00\x04MQTT\x05\x02\x00\x3C\x00\x00\x01a1\x07\x00\x03a/b\x00x\xE0\x00";
+    b"\x10\x0E\x00\x04MQTT\x05\x02\x00\x3C\x00\x00\x01a\x33\x09\x00\x03a/b\x00\x01\x00x\xE0\x00";
+
+// CONNACK (15 bytes), PUBACK.
+const FIRST_REPLIES: &[u8] =
+    b"\x20\x0D\x00\x00\x0A\x21\x00\x10\x27\x00\x04\x00\x00\x2A\x00\x40\x02\x00\x01";
 
 // CONNECT, SUBSCRIBE.
 const SECOND: &[u8] =
     b"\x10\x0E\x00\x04MQTT\x05\x02\x00\x3C\x00\x00\x01a\x82\x09\x00\x01\x00\x00\x03a/#\x00";
 
-// CONNACK (15 bytes), SUBACK (6 bytes), and the PUBLISH if it is kept.
-const REPLIES: &[u8] =
-    b"\x20\x0D\x00\x00\x0A\x21\x00\x10\x27\x00\x04\x00\x00\x2A\x00\x90\x04\x00\x01\x00\x001\x07\x00\x03a/b\x00x";
+// CONNACK, SUBACK, and the PUBLISH if it was kept.
+const SECOND_REPLIES: &[u8] =
+    b"\x20\x0D\x00\x00\x0A\x21\x00\x10\x27\x00\x04\x00\x00\x2A\x00\x90\x04\x00\x01\x00\x00\x31\x07\x00\x03a/b\x00x";
 
-// The calls that fail, counted from 1. None does at 0.
-#[derive(Clone, Copy)]
-struct Failing {
-    read: usize,
-    write: usize,
-    flush: usize,
+const READ: Result<Served, ServeFault> = Err(ServeFault::Read);
+
+const WRITE: Result<Served, ServeFault> = Err(ServeFault::Write);
+
+const CLOSED: Result<Served, ServeFault> = Ok(Served::ClientClosed);
+
+// Which calls fail, from the first to the last, one in each run; how the first connection ends then; how
+// many bytes of its replies are written where the first of these calls fails, one more for each later
+// write; and whether the PUBLISH was kept.
+const ROWS: [(Call, usize, usize, Result<Served, ServeFault>, usize, bool); 10] = [
+    (Call::Read, 1, 16, READ, 0, false),
+    (Call::Read, 17, 27, READ, 15, false),
+    (Call::Read, 28, 29, READ, 19, true),
+    (Call::Read, 30, 31, CLOSED, 19, true),
+    (Call::Write, 1, 15, WRITE, 0, false),
+    (Call::Write, 16, 19, WRITE, 15, true),
+    (Call::Write, 20, 21, CLOSED, 19, true),
+    (Call::Flush, 1, 1, WRITE, 15, false),
+    (Call::Flush, 2, 2, WRITE, 19, true),
+    (Call::Flush, 3, 3, CLOSED, 19, true),
+];
+
+#[derive(Clone, Copy, PartialEq, Eq)]
+enum Call {
+    Read,
+    Write,
+    Flush,
 }
 
-const NONE: Failing = Failing {
-    read: 0,
-    write: 0,
-    flush: 0,
-};
+// The call that fails, counted from 1 among those of its kind. None does at 0.
+#[derive(Clone, Copy)]
+struct Failing {
+    call: Call,
+    at: usize,
+}
+
+impl Failing {
+    fn meets(self, call: Call, at: usize) -> io::Result<()> {
+        if self.call == call && self.at == at {
+            return Err(io::Error::from(ErrorKind::Interrupted));
+        }
+        Ok(())
+    }
+}
 
 // Gives one byte a call.
 #[derive(Drop)]
 struct ByteReader {
     input: &'static [u8],
     calls: usize,
-    fails_at: usize,
+    failing: Failing,
 }
 
 impl Read for ByteReader {
     fn read(&mut self, buf: &mut [u8]) -> io::Result<usize> {
         let byte = self.input.get(self.calls).copied();
         self.calls = self.calls.saturating_add(1);
-        if self.calls == self.fails_at {
-            return Err(io::Error::from(ErrorKind::Interrupted));
-        }
+        self.failing.meets(Call::Read, self.calls)?;
         match byte {
             Some(byte) if !buf.is_empty() => {
                 buf[0] = byte;
@@ -75,9 +108,7 @@ struct ByteWriter {
 impl Write for ByteWriter {
     fn write(&mut self, buf: &[u8]) -> io::Result<usize> {
         self.calls = self.calls.saturating_add(1);
-        if self.calls == self.failing.write {
-            return Err(io::Error::from(ErrorKind::Interrupted));
-        }
+        self.failing.meets(Call::Write, self.calls)?;
         let n = buf.len().min(1);
         self.bytes.extend_from_slice(&buf[..n])?;
         Ok(n)
@@ -85,10 +116,7 @@ impl Write for ByteWriter {
 
     fn flush(&mut self) -> io::Result<()> {
         self.flushes = self.flushes.saturating_add(1);
-        if self.flushes == self.failing.flush {
-            return Err(io::Error::from(ErrorKind::Interrupted));
-        }
-        Ok(())
+        self.failing.meets(Call::Flush, self.flushes)
     }
 }
 
@@ -102,7 +130,7 @@ fn outcome<H: Wait>(
     let mut reader = Counted::new(ByteReader {
         input,
         calls: 0,
-        fails_at: failing.read,
+        failing,
     });
     let mut writer = Counted::new(ByteWriter {
         bytes: Vec::new(alloc),
@@ -121,69 +149,46 @@ fn outcome<H: Wait>(
     (served, bytes, gate)
 }
 
-// How the first connection ends and how many bytes of its replies are written, and how many the second
-// one gets.
+// How the first connection ends and what is written to it, and what the second one gets.
 fn check<H: Abort + Wait>(
     rt: &H,
     alloc: Global,
     failing: Failing,
     ends: Result<Served, ServeFault>,
-    first: usize,
-    second: usize,
+    written: &[u8],
+    got: &[u8],
 ) -> Result<(), Fail> {
+    let at = failing.at;
     let (end, bytes, gate) = outcome(rt, alloc, OwnStore::new(alloc)?, FIRST, failing);
-    assert!(rt; end == ends);
-    assert!(rt; bytes.as_slice() == &REPLIES[..first.min(30)]);
-    let (end, bytes, _gate) = outcome(rt, alloc, gate, SECOND, NONE);
-    assert!(rt; end == Ok(Served::EndOfInput));
-    assert!(rt; bytes.as_slice() == &REPLIES[..second.min(30)]);
+    assert!(rt; end == ends, "call {at}");
+    assert!(rt; bytes.as_slice() == written, "call {at}");
+    let none = Failing { at: 0, ..failing };
+    let (end, bytes, _gate) = outcome(rt, alloc, gate, SECOND, none);
+    assert!(rt; end == Ok(Served::EndOfInput), "after call {at}");
+    assert!(rt; bytes.as_slice() == got, "after call {at}");
     Ok(())
 }
 
 #[test]
-fn one_read_fails(rt: HostRuntime) -> Result<(), Fail> {
-    let rows = [
-        (1, 17, Err(ServeFault::Read), 0, 21),
-        (17, 26, Err(ServeFault::Read), 15, 21),
-        (26, 28, Err(ServeFault::Read), 15, 30),
-        (28, 31, Ok(Served::ClientClosed), 15, 30),
-    ];
-    for (from, end, ends, first, second) in rows {
-        for read in from..end {
+fn one_call_fails(rt: HostRuntime) -> Result<(), Fail> {
+    for (call, first, last, ends, written, kept) in ROWS {
+        for at in first..=last {
+            let more = if call == Call::Write {
+                at.saturating_sub(first)
+            } else {
+                0
+            };
+            let written = written.saturating_add(more).min(19);
+            let got = if kept { 30 } else { 21 };
             check(
                 &rt,
                 rt.alloc(),
-                Failing { read, ..NONE },
+                Failing { call, at },
                 ends,
-                first,
-                second,
+                &FIRST_REPLIES[..written],
+                &SECOND_REPLIES[..got],
             )?;
         }
     }
     Ok(())
-}
-
-#[test]
-fn one_write_fails(rt: HostRuntime) -> Result<(), Fail> {
-    for write in 1..16usize {
-        let ends = Err(ServeFault::Write);
-        check(
-            &rt,
-            rt.alloc(),
-            Failing { write, ..NONE },
-            ends,
-            write - 1,
-            21,
-        )?;
-    }
-    let ends = Ok(Served::ClientClosed);
-    check(&rt, rt.alloc(), Failing { write: 16, ..NONE }, ends, 15, 30)
-}
-
-#[test]
-fn one_flush_fails(rt: HostRuntime) -> Result<(), Fail> {
-    let ends = Err(ServeFault::Write);
-    check(&rt, rt.alloc(), Failing { flush: 1, ..NONE }, ends, 15, 21)?;
-    let ends = Ok(Served::ClientClosed);
-    check(&rt, rt.alloc(), Failing { flush: 2, ..NONE }, ends, 15, 30)
 }
