@@ -17,7 +17,7 @@ pub fn read_input<R: Read>(alloc: Global, input: &mut R) -> Result<Bytes, Failur
     Ok(Bytes::copy_from_slice(alloc, bytes.as_slice())?)
 }
 
-fn decode_whole(alloc: Global, bytes: &Bytes) -> Result<Packet, Failure> {
+pub fn decode_whole(alloc: Global, bytes: &Bytes) -> Result<Packet, Failure> {
     match decode(alloc, bytes)? {
         Decoded::Whole(packet, size) if size == bytes.len() => Ok(packet),
         _ => Err(Failure::Input),

@@ -9,7 +9,7 @@ use thiserror::Error;
 
 #[derive(Clone, Copy, Debug, Error)]
 pub enum Failure {
-    #[error("give growth, queue, times TOPICS (1 to 65536), rounds COUNT ROUNDS (COUNT 1 to 100000), decode ROUNDS, encode ROUNDS or short COUNT")]
+    #[error("give growth, queue, session, times TOPICS (1 to 65536), rounds COUNT ROUNDS (COUNT 1 to 100000), decode ROUNDS, encode ROUNDS or short COUNT")]
     Words,
     #[error("standard input has to be one PUBLISH or SUBSCRIBE")]
     Input,
@@ -31,6 +31,11 @@ impl Failure {
             Failure::Changed => 3,
         }
     }
+}
+
+/// An answer that a call owes.
+pub fn owed(kept: bool) -> Result<(), Failure> {
+    if kept { Ok(()) } else { Err(Failure::Changed) }
 }
 
 impl From<AllocError> for Failure {

@@ -9,6 +9,7 @@ use std::env::Env;
 pub enum Job {
     Growth,
     Queue,
+    Session,
     Times(TopicLimit),
     Rounds(u32, u32),
     Decode(u32),
@@ -32,6 +33,7 @@ fn job_of(words: &[String]) -> Option<Job> {
     match (name.as_str(), numbers) {
         ("growth", []) => Some(Job::Growth),
         ("queue", []) => Some(Job::Queue),
+        ("session", []) => Some(Job::Session),
         ("times", [topics]) => Some(Job::Times(TopicLimit::new(number(topics)?)?)),
         ("rounds", [count, rounds]) => Some(Job::Rounds(waiting(count)?, number(rounds)?)),
         ("decode", [rounds]) => Some(Job::Decode(number(rounds)?)),

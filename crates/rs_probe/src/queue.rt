@@ -1,7 +1,7 @@
 //! What a window gives after a `queue` that was refused for want of memory.
 
 use crate::entries::found;
-use crate::failure::Failure;
+use crate::failure::{Failure, owed};
 use rs_message::Found;
 use rs_packet::Qos;
 use rs_topic::TopicName;
@@ -28,10 +28,6 @@ fn gives(window: &mut Window, topic: &TopicName, count: u32) -> bool {
         }
     }
     true
-}
-
-fn owed(kept: bool) -> Result<(), Failure> {
-    if kept { Ok(()) } else { Err(Failure::Changed) }
 }
 
 /// The topics of the message that waits and of those that are queued behind it.
