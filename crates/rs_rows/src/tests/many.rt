@@ -152,15 +152,16 @@ fn too_many_waiting(rt: HostRuntime) -> Result<(), Fail> {
     )
 }
 
-/// One SUBSCRIBE for each of 257 filters, one more for the last after an UNSUBSCRIBE of the first.
+/// One SUBSCRIBE for each of 257 filters, one more for the 256th, and one for the last after an UNSUBSCRIBE of the first.
 fn subscribes(alloc: Global) -> Result<Vec<u8>, Fail> {
     let mut input = bytes(alloc, &[CONNECT])?;
     for id in 1..=257u16 {
         push_subscribe(&mut input, id, id)?;
     }
-    let unsubscribe = bytes(alloc, &["A209 0102 00 000461616162"])?;
+    push_subscribe(&mut input, 256, 258)?;
+    let unsubscribe = bytes(alloc, &["A209 0103 00 000461616162"])?;
     let mut input = joined(input, unsubscribe)?;
-    push_subscribe(&mut input, 257, 259)?;
+    push_subscribe(&mut input, 257, 260)?;
     Ok(input)
 }
 
@@ -171,7 +172,12 @@ fn subacks(alloc: Global) -> Result<Vec<u8>, Fail> {
     }
     let last = bytes(
         alloc,
-        &["9004 0101 00 97", "B004 0102 00 00", "9004 0103 00 00"],
+        &[
+            "9004 0101 00 97",
+            "9004 0102 00 00",
+            "B004 0103 00 00",
+            "9004 0104 00 00",
+        ],
     )?;
     joined(output, last)
 }
