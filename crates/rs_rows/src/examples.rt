@@ -169,7 +169,7 @@ pub const CONNECTED: [(&str, [u64; 3], &str, &str, Served); 52] = [
     (
         "the subscription identifier 0",
         [0, 0, 0],
-        "820B 0001 020B00 0003612F23 00",
+        "3107 0003612F62 00 78 820B 0001 020B00 0003612F23 00",
         "E00182",
         Served::ServerClosed(0x82),
     ),

@@ -10,6 +10,7 @@ use std::process::Abort;
 use std::sync::Wait;
 use std::test::Fail;
 
+mod fronts;
 mod many;
 
 type Store = LocalGate<MapCatalogue>;
