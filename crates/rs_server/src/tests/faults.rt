@@ -44,13 +44,13 @@ const ROWS: [(Call, usize, usize, Result<Served, ServeFault>, usize, bool); 10] 
     (Call::Read, 30, 31, CLOSED, 19, true),
     (Call::Write, 1, 15, WRITE, 0, false),
     (Call::Write, 16, 19, WRITE, 15, true),
-    (Call::Write, 20, 21, CLOSED, 19, true),
+    (Call::Write, 20, 20, CLOSED, 19, true),
     (Call::Flush, 1, 1, WRITE, 15, false),
     (Call::Flush, 2, 2, WRITE, 19, true),
     (Call::Flush, 3, 3, CLOSED, 19, true),
 ];
 
-#[derive(Clone, Copy, PartialEq, Eq)]
+#[derive(Clone, Copy, Debug, PartialEq, Eq)]
 enum Call {
     Read,
     Write,
@@ -158,14 +158,14 @@ fn check<H: Abort + Wait>(
     written: &[u8],
     got: &[u8],
 ) -> Result<(), Fail> {
-    let at = failing.at;
+    let Failing { call, at } = failing;
     let (end, bytes, gate) = outcome(rt, alloc, OwnStore::new(alloc)?, FIRST, failing);
-    assert!(rt; end == ends, "call {at}");
-    assert!(rt; bytes.as_slice() == written, "call {at}");
-    let none = Failing { at: 0, ..failing };
+    assert!(rt; end == ends, "{call:?} {at}");
+    assert!(rt; bytes.as_slice() == written, "{call:?} {at}");
+    let none = Failing { call, at: 0 };
     let (end, bytes, _gate) = outcome(rt, alloc, gate, SECOND, none);
-    assert!(rt; end == Ok(Served::EndOfInput), "after call {at}");
-    assert!(rt; bytes.as_slice() == got, "after call {at}");
+    assert!(rt; end == Ok(Served::EndOfInput), "after {call:?} {at}");
+    assert!(rt; bytes.as_slice() == got, "after {call:?} {at}");
     Ok(())
 }
 
