@@ -1,6 +1,6 @@
 //! SUBSCRIBE: section 3.8.
 
-ghost use Rattle.std.specs.Prelude.{◌≡◌, ◌≤◌, ◌⊎◌, ℕ, List, length, true, false, Ok, MatchBool};
+ghost use Rattle.std.specs.Prelude.{◌≡◌, ◌≤◌, ◌⊎◌, ℕ, List, length, true, false, Ok, IfOk, MatchBool};
 ghost use Rattle.std.specs.List.{list_any};
 ghost use Rattle.rs_session.specs.Gate.{Grows};
 ghost use Rattle.rs_session.specs.Subscriptions.{is_subscribed, replays};
@@ -42,7 +42,7 @@ impl Open {
         } = s;
         'filters: for asked in filters {
             let identifier = subscription;
-            let code = self.grant(gate, asked, identifier, now);
+            let code = self.grant(alloc, gate, asked, identifier, now);
             codes.push_reserved(code);
         }
         Outcome::Replies(Some(Reply::Suback(Codes::new(id, codes))))
@@ -51,6 +51,7 @@ impl Open {
     /// One filter, and the code that answers it.
     fn grant<G: Gate>(
         &mut self,
+        alloc: Global,
         gate: &mut G,
         asked: (Result<TopicFilter, TopicFault>, Options),
         identifier: Option<SubscriptionId>,
@@ -71,7 +72,7 @@ impl Open {
                 let is_granted = if self.subscriptions.holds(&filter) {
                     self.renew(gate, filter, subscription, now)
                 } else {
-                    self.add(gate, filter, subscription, now)
+                    self.add(alloc, gate, filter, subscription, now)
                 };
                 if is_granted {
                     options.qos.level()
@@ -105,6 +106,7 @@ impl Open {
     /// A new subscription, which goes again where its replay is refused.
     fn add<G: Gate>(
         &mut self,
+        alloc: Global,
         gate: &mut G,
         filter: TopicFilter,
         subscription: Subscription,
@@ -118,7 +120,7 @@ impl Open {
         if self.subscriptions.len() >= SUBSCRIPTIONS_MAX {
             return false;
         }
-        let Ok(key) = filter.copy() else {
+        let Ok(key) = own_copy(alloc, &filter) else {
             return false;
         };
         let kept = subscription;
@@ -159,6 +161,13 @@ impl Open {
             .queue(found, subscription.options.qos, subscription.identifier)
             .is_ok()
     }
+}
+
+/// An equal filter in bytes of its own, so that a subscription does not keep the whole SUBSCRIBE in memory.
+fn own_copy(alloc: Global, filter: &TopicFilter) -> Result<TopicFilter, TopicFault>
+    ensures { IfOk result (λ copy. copy ≡ filter.now) }
+{
+    TopicFilter::read(alloc, filter.as_bytes())
 }
 
 /// Whether the retained messages are sent, by Retain Handling (3.8.3.1).
