@@ -8,6 +8,9 @@ use Rattle.rs_packet.specs.declared.reply.Reply.{Reply}
 use Rattle.rs_packet.specs.Replies.{reply_bytes}
 use Rattle.rs_message.specs.declared.entry.Entry.{Entry}
 use Rattle.rs_message.specs.declared.entry.Operation.{Operation}
+use Rattle.rs_message.specs.declared.fault.SubmitFault.{SubmitFault}
+use Rattle.rs_message.specs.declared.fault.SubmitFault.TheVariants.{Full, NoMemory, Strange, Closed}
+use Rattle.rs_message.specs.declared.fault.SubmitFault.TheVariants as submit_fault
 use Rattle.rs_session.specs.Gate.{Mark, IsSubmitted}
 use Rattle.rs_session.specs.Reasons.{bad_authentication_method, implementation_specific_error, quota_exceeded, receive_maximum_exceeded, topic_alias_invalid}
 use Rattle.rs_session.specs.State.{State, opened, ended}
@@ -57,6 +60,15 @@ abbrev pub outcome_before : Publish → Open → Option Outcome
 outcome_before p o =
     outcome_of_alias p.alias (outcome_of_topic (topic_refusal p.topic)
     (outcome_of_id (is_held (held_id p.qos p.id) o.inbound) (is_one_too_many (held_id p.qos p.id) o.inbound) (acknowledged_by p.qos p.id 0)))
+
+-- the outcome by what the gate answered to a change
+abbrev pub outcome_of_answer : Result (Unit {0}) SubmitFault → Qos → Option ℕ → Outcome
+outcome_of_answer (Ok done) qos id = Replies (acknowledged_by qos id 0)
+outcome_of_answer (Err Full) qos id = Replies (acknowledged_by qos id quota_exceeded)
+outcome_of_answer (Err NoMemory) qos id = Replies (acknowledged_by qos id quota_exceeded)
+outcome_of_answer (Err submit_fault.Open) qos id = Closes quota_exceeded
+outcome_of_answer (Err Strange) qos id = Closes implementation_specific_error
+outcome_of_answer (Err Closed) qos id = Closes implementation_specific_error
 
 -- what a submit leads to
 abbrev pub IsSettled : Operation → Qos → Option ℕ → Open → Mark → Mark → List Entry → Outcome → Open → Type 0

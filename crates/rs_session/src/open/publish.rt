@@ -3,7 +3,7 @@
 ghost use Rattle.std.specs.Prelude.{◌≡◌, ℕ, List, None, Some, Ok, Err, true, false, option_map};
 ghost use Rattle.rs_message.specs.declared.entry.Operation.{Operation};
 ghost use Rattle.rs_session.specs.Gate.{Grows, Uses};
-ghost use Rattle.rs_session.specs.Steps.{IsSettled, outcome_before, outcome_of_id, topic_refusal};
+ghost use Rattle.rs_session.specs.Steps.{IsSettled, outcome_before, outcome_of_answer, outcome_of_id, topic_refusal};
 ghost use Rattle.rs_session.specs.Table.{LeadsTo, acknowledged_by, held_id, held_with, is_held, is_one_too_many};
 
 use super::{Open, Outcome};
@@ -95,20 +95,12 @@ impl Open {
             IsSettled operation qos id self.old (G.mark gate.old) (G.mark gate.new) list result self.new) }
         ensures mark { Uses (G.mark gate.old) (G.mark gate.new) }
     {
-        match gate.submit(operation) {
-            Ok(()) => {
-                let held = id;
-                self.hold(qos, held);
-                Outcome::Replies(acknowledged_by(qos, id, 0))
-            }
-            Err(SubmitFault::Full | SubmitFault::NoMemory) => {
-                Outcome::Replies(acknowledged_by(qos, id, reason::QUOTA_EXCEEDED))
-            }
-            Err(SubmitFault::Open) => Outcome::Closes(reason::QUOTA_EXCEEDED),
-            Err(SubmitFault::Strange | SubmitFault::Closed) => {
-                Outcome::Closes(reason::IMPLEMENTATION_SPECIFIC_ERROR)
-            }
+        let answer = gate.submit(operation);
+        if answer.is_ok() {
+            let held = id;
+            self.hold(qos, held);
         }
+        outcome_of_answer(answer, qos, id)
     }
 
     /// At QoS 2 the identifier is held from now on.
@@ -121,6 +113,22 @@ impl Open {
                 Ok(()) => {}
                 Err(_) => unreachable!(),
             }
+        }
+    }
+}
+
+/// What the answer of the gate to a change leads to.
+fn outcome_of_answer(answer: Result<(), SubmitFault>, qos: Qos, id: Option<PacketId>) -> Outcome
+    ensures { result ≡ outcome_of_answer answer qos id }
+{
+    match answer {
+        Ok(()) => Outcome::Replies(acknowledged_by(qos, id, 0)),
+        Err(SubmitFault::Full | SubmitFault::NoMemory) => {
+            Outcome::Replies(acknowledged_by(qos, id, reason::QUOTA_EXCEEDED))
+        }
+        Err(SubmitFault::Open) => Outcome::Closes(reason::QUOTA_EXCEEDED),
+        Err(SubmitFault::Strange | SubmitFault::Closed) => {
+            Outcome::Closes(reason::IMPLEMENTATION_SPECIFIC_ERROR)
         }
     }
 }
