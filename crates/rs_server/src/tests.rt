@@ -2,6 +2,7 @@ mod counted;
 mod faults;
 mod gate;
 mod lines;
+mod refusals;
 mod streams;
 
 use crate::words::{Run, WordsFault, read_words};

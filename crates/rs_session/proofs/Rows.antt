@@ -48,7 +48,7 @@ use Rattle.rs_session.specs.Subscriptions.{Subscriptions, is_subscribed}
 use Rattle.rs_session.specs.declared.subscriptions.Subscription.{Subscription}
 use Rattle.rs_session.proofs.SubscriptionLemmas.{remove_inserted, get_absent}
 use Rattle.rs_session.specs.Steps.{IsAccepted, connect_refusal, outcome_before, outcome_of_alias, outcome_of_topic, outcome_of_id, topic_refusal, IsSettled}
-use Rattle.rs_session.specs.Table.{Answers, LeadsTo, IsNoGreeting, fault_code, packet_limit, connack, open_for, change, topic_code, acknowledged_by, held_id, is_held, is_one_too_many, holding, IsTaken, IsTopicOrUnread, IsSubmittable, acknowledgement_of, released_by, released_code, is_shared_local, Grants, IsGranted, removal_code, removal_codes, without, without_all, due_for, state_after, With_method, With_will, Connect_refused, Accepted, Connack_too_long, Other_version, Unexpected, In_session, Over, Faulty, With_alias, Bad_topic, Sent_again, Too_many_held, Not_retained, Kept, Topic_unread, Not_kept, Uncertain, Gate_closed, Released, Wrong_acknowledgement, Acknowledged, Shared_no_local, Not_subscribed, Subscribed, Not_unsubscribed, Unsubscribed, Connected_twice, Pinged, Disconnected}
+use Rattle.rs_session.specs.Table.{Answers, LeadsTo, IsNeitherConnectNorVersion, fault_code, packet_limit, connack, open_for, change, topic_code, acknowledged_by, held_id, is_held, is_one_too_many, holding, IsTaken, IsTopicOrUnread, IsSubmittable, acknowledgement_of, released_by, released_code, is_shared_local, Grants, IsGranted, removal_code, removal_codes, without, without_all, due_for, state_after, With_method, With_will, Connect_refused, Accepted, Connack_too_long, Other_version, Unexpected, In_session, Over, Faulty, With_alias, Bad_topic, Sent_again, Too_many_held, Not_retained, Kept, Topic_unread, Not_kept, Uncertain, Gate_closed, Released, Wrong_acknowledgement, Acknowledged, Shared_no_local, Not_subscribed, Subscribed, Not_unsubscribed, Unsubscribed, Connected_twice, Pinged, Disconnected}
 
 pub Grows-weaker : (before after : List Entry → Type 0) (P Q : List Entry → List Entry → Type 0) → ((seen list : List Entry) → P seen list → Q seen list) → Grows before after P → Grows before after Q
 Grows-weaker before after P Q f h = λ seen s. let (list, stands, begins, p) = h seen s in (list, stands, begins, f seen list p)
@@ -62,15 +62,15 @@ unmoved {G} stands mark old new P e h =
 
 -- ---- before an accepted CONNECT
 
-pub unexpected : (p is : Packet) (old new : State) (due : Option Reply) → p ≡ is → IsNoGreeting (Whole is) → old.phase ≡ phase.Before → due ≡ None → new ≡ ended old Dropped
+pub unexpected : (p is : Packet) (old new : State) (due : Option Reply) → p ≡ is → IsNeitherConnectNorVersion (Whole is) → old.phase ≡ phase.Before → due ≡ None → new ≡ ended old Dropped
     → (now : ℕ) (mark : Mark) (list : List Entry) → Answers (Whole p) now old mark list list mark due new
 unexpected p is old new due e greets before none end = λ now mark list.
-    (Unexpected, (subst (λ (x : Packet). IsNoGreeting (Whole x)) (sym e) greets, before, refl, none, end))
+    (Unexpected, (subst (λ (x : Packet). IsNeitherConnectNorVersion (Whole x)) (sym e) greets, before, refl, none, end))
 
-pub unexpected_fault : (f is : PacketFault) (old new : State) (due : Option Reply) → f ≡ is → IsNoGreeting (Broken is) → old.phase ≡ phase.Before → due ≡ None → new ≡ ended old Dropped
+pub unexpected_fault : (f is : PacketFault) (old new : State) (due : Option Reply) → f ≡ is → IsNeitherConnectNorVersion (Broken is) → old.phase ≡ phase.Before → due ≡ None → new ≡ ended old Dropped
     → (now : ℕ) (mark : Mark) (list : List Entry) → Answers (Broken f) now old mark list list mark due new
 unexpected_fault f is old new due e greets before none end = λ now mark list.
-    (Unexpected, (subst (λ (x : PacketFault). IsNoGreeting (Broken x)) (sym e) greets, before, refl, none, end))
+    (Unexpected, (subst (λ (x : PacketFault). IsNeitherConnectNorVersion (Broken x)) (sym e) greets, before, refl, none, end))
 
 pub other_version : (f : PacketFault) (old new : State) (due : Option Reply) → f ≡ fault.Version → old.phase ≡ phase.Before → due ≡ Some (reply.Refused unsupported_protocol_version) → new ≡ ended old (ByServer unsupported_protocol_version)
     → (now : ℕ) (mark : Mark) (list : List Entry) → Answers (Broken f) now old mark list list mark due new

@@ -357,11 +357,11 @@ state_after (Closes code) old o = ended old (ByServer code)
 state_after Leaves old o = ended old ByClient
 
 -- what is no CONNECT and no fault of the version
-abbrev pub IsNoGreeting : Input → Type 0
-IsNoGreeting (Whole (packet.Connect c)) = ⊥
-IsNoGreeting (Whole p) = Unit {0}
-IsNoGreeting (Broken Version) = ⊥
-IsNoGreeting (Broken fault) = Unit {0}
+abbrev pub IsNeitherConnectNorVersion : Input → Type 0
+IsNeitherConnectNorVersion (Whole (packet.Connect c)) = ⊥
+IsNeitherConnectNorVersion (Whole p) = Unit {0}
+IsNeitherConnectNorVersion (Broken Version) = ⊥
+IsNeitherConnectNorVersion (Broken fault) = Unit {0}
 
 pub data Case : Type 0 where
   -- before an accepted CONNECT
@@ -405,7 +405,7 @@ Row Other_version input now old mark seen list used due new =
     (input ≡ Broken Version) × (old.phase ≡ phase.Before) × (used ≡ mark) × (due ≡ Some (reply.Refused unsupported_protocol_version)) × (new ≡ ended old (ByServer unsupported_protocol_version))
 -- 3.1: the first packet is a CONNECT
 Row Unexpected input now old mark seen list used due new =
-    IsNoGreeting input × (old.phase ≡ phase.Before) × (used ≡ mark) × (due ≡ None) × (new ≡ ended old Dropped)
+    IsNeitherConnectNorVersion input × (old.phase ≡ phase.Before) × (used ≡ mark) × (due ≡ None) × (new ≡ ended old Dropped)
 Row In_session input now old mark seen list used due new =
     (o : Open) × (left : Open) × (outcome : Outcome) × (old.phase ≡ phase.Open o) × LeadsTo input now o mark seen list used outcome left
     × (due ≡ due_for o.window.packet_maximum outcome) × (new ≡ state_after outcome old left)

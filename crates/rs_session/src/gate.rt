@@ -18,14 +18,16 @@ pub trait Gate {
     /// Its place, and the last serial that it used.
     ghost mark: { Self → Mark };
 
-    /// Hands a change to the store. At `Ok` the list has it as an entry of its own.
+    /// Hands a change to the store. At `Ok` the list has it as an entry of its own. The faults say what stands
+    /// otherwise; the list may have grown by entries of others.
     fn submit(&mut self, operation: Operation) -> Result<(), SubmitFault>
         ensures list { Grows (stands self.old) (stands self.new)
             (λ seen list. OnOk result (IsSubmitted operation (mark self.old) (mark self.new) list)) }
         ensures mark { Uses (mark self.old) (mark self.new) };
 
     /// The retained messages that a filter matches and that have not expired at this moment, in the
-    /// order of replay. `now` is in seconds.
+    /// order of replay. `now` is in seconds. `AllocError` where memory was refused; the list may have grown
+    /// all the same.
     fn answer(&mut self, filter: &TopicFilter, now: u64) -> Result<Vec<Found>, AllocError>
         ensures list { Grows (stands self.old) (stands self.new)
             (λ seen list. IfOk result (λ found. IsAnswer list filter.now now found.items)) }

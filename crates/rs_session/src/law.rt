@@ -14,8 +14,9 @@ pub fn lists_grow()
     ensures { (from to : Point) (turns : List Turn) → Run from turns to → BeginsWith to.seen from.seen }
 {}
 
-/// Does nothing, and says that along a run of a new session, wherever it is open, what it keeps is
-/// within the limits.
+/// Does nothing, and says of every run of a new session that is open after its last turn: it keeps at most
+/// 256 subscriptions, 16 identifiers of QoS 2 and 100,000 messages that wait, and no more messages are
+/// unacknowledged than the quota, which is at most 1,024.
 pub fn limits_kept()
     ensures { (assigned : List ℕ) (from to : Point) (turns : List Turn) (o : Open) → from.state ≡ fresh assigned → Run from turns to
         → to.state.phase ≡ phase.Open o → IsWithinLimits o }

@@ -1,6 +1,6 @@
 //! One client's session over a gate to the store (sections 3 and 4 of OASIS MQTT Version 5.0).
 //!
-//! A `Session` takes a packet, or a fault in its place, and gives the replies: an acknowledgement, and then the retained
+//! A `Session` takes a packet, or a fault in its place, and gives the replies: at most one of its own, and then the retained
 //! messages that wait, as far as the client's Receive Maximum and Maximum Packet Size allow. The store behind it is a
 //! `Gate`; `LocalGate` keeps one of its own.
 //!

@@ -32,7 +32,7 @@ pub struct Session<G> {
 }
 
 impl<G: Gate> Session<G> {
-    /// A session before its CONNECT. `assigned` is the identifier of a client that gives none.
+    /// A session before its CONNECT. `assigned` is the identifier of a client that gives none (3.1.3.1, 3.2.2.3.7).
     pub fn new(alloc: Global, gate: G, assigned: Text) -> Session<G>
         ensures state { state_of result ≡ fresh assigned }
         ensures due { due_of result ≡ None }
@@ -47,7 +47,7 @@ impl<G: Gate> Session<G> {
         }
     }
 
-    /// What a packet at this moment leads to, where no reply of the input before is left. `now` is in
+    /// What a packet at this moment leads to, where the reply that was due has been taken. `now` is in
     /// seconds. Over a session that has ended it changes nothing.
     pub fn on_packet(&mut self, packet: Packet, now: u64) -> Step
         requires { due_of self.old ≡ None }
@@ -69,8 +69,9 @@ impl<G: Gate> Session<G> {
         self.step()
     }
 
-    /// What a fault in place of a packet leads to, where no reply of the input before is left: a
-    /// DISCONNECT with its Reason Code (section 4.13), or before CONNECT mostly no reply.
+    /// What a fault in place of a packet leads to, where the reply that was due has been taken: a
+    /// DISCONNECT with its Reason Code (4.13). Before an accepted CONNECT only another protocol version is
+    /// answered, by a CONNACK with 0x84 (3.1.2.2).
     pub fn on_fault(&mut self, fault: PacketFault) -> Step
         requires { due_of self.old ≡ None }
         ensures row { (now : ℕ) → Grows (G.stands (gate_of self.old)) (G.stands (gate_of self.new)) (λ seen list.
@@ -105,8 +106,8 @@ impl<G: Gate> Session<G> {
         }
     }
 
-    /// The next reply at this moment. None where there is none any more: after at most as many replies as
-    /// are due and wait.
+    /// The next reply at this moment, which is that of the input and in seconds. None where there is none any
+    /// more: after at most as many replies as are due and wait.
     pub fn next_reply(&mut self, now: u64) -> Option<Reply>
         ensures given { IsGiven now (due_of self.old) (state_of self.old) result
             (due_of self.new) (state_of self.new) }

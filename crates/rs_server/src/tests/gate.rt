@@ -1,4 +1,4 @@
-//! A gate to a store that is always full and never has the memory to answer.
+//! A gate to a store that takes no change and never has the memory to answer.
 
 ghost use Rattle.std.specs.Prelude.{◌≡◌, []};
 
@@ -8,15 +8,23 @@ use rs_topic::TopicFilter;
 use std::alloc::AllocError;
 
 #[derive(Drop)]
-pub struct FullStore;
+pub struct Refusing {
+    /// What each change is answered.
+    pub fault: SubmitFault,
+}
 
-impl Gate for FullStore {
+/// A store that is full.
+pub const FULL: Refusing = Refusing {
+    fault: SubmitFault::Full,
+};
+
+impl Gate for Refusing {
     ghost stands = { λ _ seen. seen ≡ [] };
 
     ghost mark = { λ _. record { place = 1; serial = 0 } };
 
     fn submit(&mut self, _operation: Operation) -> Result<(), SubmitFault> {
-        Err(SubmitFault::Full)
+        Err(self.fault)
     }
 
     fn answer(&mut self, _filter: &TopicFilter, _now: u64) -> Result<Vec<Found>, AllocError> {

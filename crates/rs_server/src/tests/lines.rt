@@ -1,4 +1,4 @@
-use super::gate::FullStore;
+use super::gate::FULL;
 use crate::connection::Served;
 use crate::hex_lines::{HexFault, read_hex};
 use crate::memory::serve_bytes;
@@ -35,7 +35,7 @@ fn digits_are_read(rt: HostRuntime) -> Result<(), Fail> {
 }
 
 fn piped<H: Wait>(rt: &H, alloc: Global, input: &[u8]) -> (Result<Served, PipeFault>, Vec<u8>) {
-    let ended = pipe(rt, alloc, input, Vec::new(alloc), FullStore, true, 0);
+    let ended = pipe(rt, alloc, input, Vec::new(alloc), FULL, true, 0);
     (ended.served, ended.output)
 }
 
@@ -76,7 +76,7 @@ fn the_identifier_is_assigned(rt: HostRuntime) {
 fn bytes_as_they_are(rt: HostRuntime) {
     let alloc = rt.alloc();
     let input = b"\x10\x0D\x00\x04MQTT\x04\x02\x00\x3C\x00\x01a".as_slice();
-    let ended = pipe(&rt, alloc, input, Vec::new(alloc), FullStore, false, 0);
+    let ended = pipe(&rt, alloc, input, Vec::new(alloc), FULL, false, 0);
     assert!(rt; ended.served == Ok(Served::ServerClosed(0x84)));
     assert_eq!(rt; ended.output.as_slice(), b"\x20\x03\x00\x84\x00".as_slice());
 }

@@ -1,4 +1,4 @@
-use super::gate::FullStore;
+use super::gate::FULL;
 use crate::clock::Moments;
 use crate::connection::{Served, serve};
 use crate::counted::Counted;
@@ -90,7 +90,7 @@ fn run<H: Wait>(rt: &H, alloc: Global, slow: Slow, room: usize) -> Outcome {
         alloc,
         &mut reader,
         &mut writer,
-        FullStore,
+        FULL,
         1,
         1,
         &mut clock,
