@@ -41,7 +41,7 @@ pub enum Served {
 }
 
 /// The room for one read, in bytes.
-const READ_ROOM: usize = 65536;
+const READ_ROOM: usize = 8192;
 
 /// Serves one connection: reads packets and writes the session's replies, each of which is flushed, until
 /// the session or the input ends.
