@@ -1,7 +1,7 @@
 -- Lemmas on conversations.
-use Rattle.std.proofs.Common.{◌≡◌, ℕ, suc, List, [], ◌∷◌, ◌++◌, take, drop, refl, sym, subst, ap, ◌∙◌, append-nil, append_assoc, take-append-drop, Option, Some, None, Result, Ok, Err}
+use Rattle.std.proofs.Common.{◌≡◌, ℕ, suc, List, [], ◌∷◌, ◌++◌, take, drop, refl, sym, subst, ap, ◌∙◌, append-nil, append_assoc, take-append-drop, Option, Some, None, Result, Ok, Err, arith}
 use Rattle.std.proofs.lemmas.List.{map-append, flat_map_more}
-use Rattle.std.proofs.KnownBytes.{Consumes-trans, Appends-nil, Consumes-nil}
+use Rattle.std.proofs.KnownBytes.{Consumes-trans, Appends-trans, Appends-nil, Consumes-nil}
 use Rattle.std.specs.Io.KnownBytes.{Appends, Consumes, IsAtEnd}
 use Rattle.rs_packet.proofs.Fronts.{fault_stays}
 use Rattle.rs_packet.specs.declared.reply.Reply.{Reply}
@@ -17,9 +17,8 @@ use Rattle.rs_server.specs.declared.connection.Served.{Served}
 use Rattle.rs_server.specs.declared.writing.ServeFault.{ServeFault}
 use Rattle.rs_server.specs.declared.writing.ServeFault.TheVariants.{Read, Write, NoMemory}
 use Rattle.rs_server.specs.Clock.{TellsAll, Told, Tells}
-use Rattle.rs_server.specs.Writing.{Writes, all_reply_bytes}
-use Rattle.rs_server.specs.Conversation.{InputsOf, inputs_of, moments_of, replies_of, point_at, start, Conversation, TakesTurn, IsFront, IsReadCause, IsConnection, Ends}
-use Rattle.rs_server.proofs.Written.{writes_after}
+use Rattle.rs_server.specs.Writing.{Writes, AppendsFront, all_reply_bytes}
+use Rattle.rs_server.specs.Conversation.{InputsOf, inputs_of, moments_of, replies_of, point_at, start, AppendsReplies, AppendsIntoLast, WritesTurns, Conversation, TakesTurn, IsFront, IsReadCause, IsConnection, Ends}
 
 -- ---- the clock
 
@@ -81,12 +80,25 @@ takes_turn {G} stands mark old mid new from input now due between to written gro
     } in
     subst (λ (g : G). TakesTurn (point_at from seen (mark old)) input now (StandsAt stands mark) (stands g) (mark g) to written) (sym same) made
 
+-- one turn's replies are written behind those of all turns before
+all_written : (a b c : Option (List ℕ)) (turns : List Turn) (turn : Turn) → AppendsReplies a b turns → Appends b c (all_reply_bytes turn.replies) → AppendsReplies a c (turns ++ turn ∷ [])
+all_written a b c turns turn p q = subst (Appends a c) (flat_map_more (λ (x : Turn). all_reply_bytes x.replies) [] turns turn) (Appends-trans a b c _ _ p q)
+
+front_written : (a b c : Option (List ℕ)) (turns : List Turn) (turn : Turn) → AppendsReplies a b turns → AppendsFront b c (all_reply_bytes turn.replies) → AppendsIntoLast a c (turns ++ turn ∷ [])
+front_written a b c turns turn p (front, back, e, q) = (turns, turn ∷ [], refl, omega arith, front, back, append-nil _ ∙ e, Appends-trans a b c _ front p q)
+
+writes_turn : {T : Type 0} (r : Result T ServeFault) (a b c : Option (List ℕ)) (turns : List Turn) (turn : Turn) → AppendsReplies a b turns → Writes r b c (all_reply_bytes turn.replies) → WritesTurns r a c (turns ++ turn ∷ [])
+writes_turn (Ok x) a b c turns turn p q = all_written a b c turns turn p q
+writes_turn (Err Read) a b c turns turn p q = all_written a b c turns turn p q
+writes_turn (Err Write) a b c turns turn p q = front_written a b c turns turn p q
+writes_turn (Err NoMemory) a b c turns turn p q = front_written a b c turns turn p q
+
 -- a conversation goes on by one turn
 pub conversation_turn : {T : Type 0} (from : Point) (stands_at : Mark → List Entry → Type 0) (s1 s2 : List Entry → Type 0) (m1 m2 : Mark) (st1 st2 : State) (consumed : List ℕ → Type 0) (held1 held2 : List ℕ) (told c1 c2 : Option (ℕ → ℕ)) (r : Result T ServeFault) (wrote w1 w2 : Option (List ℕ)) (input : Input) (now : ℕ)
     → IsFront held1 (Some input) held2 → Tells c1 c2 now
     → ((seen : List Entry) → s1 seen → TakesTurn (point_at st1 seen m1) input now stands_at s2 m2 st2 (Writes r w1 w2))
-    → Conversation from stands_at s1 m1 st1 consumed held1 (Told told c1) (Appends wrote w1)
-    → Conversation from stands_at s2 m2 st2 consumed held2 (Told told c2) (Writes r wrote w2)
+    → Conversation from stands_at s1 m1 st1 consumed held1 (Told told c1) (AppendsReplies wrote w1)
+    → Conversation from stands_at s2 m2 st2 consumed held2 (Told told c2) (WritesTurns r wrote w2)
 conversation_turn from stands_at s1 s2 m1 m2 st1 st2 consumed held1 held2 told c1 c2 r wrote w1 w2 input now front tells turn conversation =
     let t = turn conversation.seen conversation.stood_for in
     let is : inputs_of (conversation.turns ++ t.turn ∷ []) ≡ inputs_of conversation.turns ++ input ∷ [] = map-append (λ (x : Turn). x.input) conversation.turns (t.turn ∷ []) ∙ ap (λ (i : Input). inputs_of conversation.turns ++ i ∷ []) t.input_is in
@@ -101,20 +113,20 @@ conversation_turn from stands_at s1 s2 m1 m2 st1 st2 consumed held1 held2 told c
       read = conversation.read;
       inputs = subst (λ (l : List Input). InputsOf l conversation.bytes held2) (sym is) (inputs_with_next _ input conversation.bytes held1 held2 conversation.inputs front);
       moments = subst (Told told c2) (sym ms) (told_more told c1 c2 _ now conversation.moments tells);
-      replies = subst (Writes r wrote w2) (flat_map_more (λ (x : Turn). all_reply_bytes x.replies) [] conversation.turns t.turn) (writes_after r wrote w1 w2 _ _ conversation.replies t.replies);
+      replies = writes_turn r wrote w1 w2 conversation.turns t.turn conversation.replies t.replies;
     }
 
-writes_none : {T : Type 0} (r : Result T ServeFault) (a b : Option (List ℕ)) (xs : List ℕ) (before after : ℕ) → IsReadCause r before after → Appends a b xs → Writes r a b xs
-writes_none (Ok x) a b xs before after c h = h
-writes_none (Err Read) a b xs before after c h = h
-writes_none (Err Write) a b xs before after c h = absurd c
-writes_none (Err NoMemory) a b xs before after c h = (xs, [], sym (append-nil xs), h)
+writes_none : {T : Type 0} (r : Result T ServeFault) (a b : Option (List ℕ)) (turns : List Turn) (before after : ℕ) → IsReadCause r before after → AppendsReplies a b turns → WritesTurns r a b turns
+writes_none (Ok x) a b turns before after c h = h
+writes_none (Err Read) a b turns before after c h = h
+writes_none (Err Write) a b turns before after c h = absurd c
+writes_none (Err NoMemory) a b turns before after c h = (turns, [], sym (append-nil turns), omega arith, [], [], refl, subst (Appends a b) (sym (append-nil (replies_of turns))) h)
 
 -- a conversation goes on by one read
 pub conversation_read : {T : Type 0} (from : Point) (stands_at : Mark → List Entry → Type 0) (stands : List Entry → Type 0) (mark : Mark) (state : State) (read r1 r2 : Option (List ℕ)) (held1 held2 more : List ℕ) (told : List ℕ → Type 0) (r : Result T ServeFault) (wrote w : Option (List ℕ)) (before after : ℕ)
     → Consumes r1 r2 more → held2 ≡ held1 ++ more → IsReadCause r before after
-    → Conversation from stands_at stands mark state (Consumes read r1) held1 told (Appends wrote w)
-    → Conversation from stands_at stands mark state (Consumes read r2) held2 told (Writes r wrote w)
+    → Conversation from stands_at stands mark state (Consumes read r1) held1 told (AppendsReplies wrote w)
+    → Conversation from stands_at stands mark state (Consumes read r2) held2 told (WritesTurns r wrote w)
 conversation_read from stands_at stands mark state read r1 r2 held1 held2 more told r wrote w before after taken grown cause conversation =
     record {
       turns = conversation.turns;
@@ -132,7 +144,7 @@ conversation_read from stands_at stands mark state read r1 r2 held1 held2 more t
 -- at first nothing was written
 pub conversation_first : {G : Type 0} (stands : G → List Entry → Type 0) (mark : G → Mark) (gate kept : G) (state : State) (held : List ℕ) (assigned : List ℕ) (read : Option (List ℕ)) (told : Option (ℕ → ℕ)) (wrote : Option (List ℕ))
     → kept ≡ gate → state ≡ fresh assigned → held ≡ []
-    → (seen : List Entry) → stands gate seen → Conversation (start assigned seen (mark gate)) (StandsAt stands mark) (stands kept) (mark kept) state (Consumes read read) held (Told told told) (Appends wrote wrote)
+    → (seen : List Entry) → stands gate seen → Conversation (start assigned seen (mark gate)) (StandsAt stands mark) (stands kept) (mark kept) state (Consumes read read) held (Told told told) (AppendsReplies wrote wrote)
 conversation_first {G} stands mark gate kept state held assigned read told wrote e f h = λ seen s.
     record {
       turns = [];
@@ -148,13 +160,13 @@ conversation_first {G} stands mark gate kept state held assigned read told wrote
     }
 
 -- a fault says the same in a result of another type
-pub writes_as : (T U : Type 0) (f : ServeFault) (a b : Option (List ℕ)) (xs : List ℕ) → Writes {T = T} (Err f) a b xs → Writes {T = U} (Err f) a b xs
-writes_as T U Read a b xs h = h
-writes_as T U Write a b xs h = h
-writes_as T U NoMemory a b xs h = h
+writes_as : (T U : Type 0) (f : ServeFault) (a b : Option (List ℕ)) (turns : List Turn) → WritesTurns {T = T} (Err f) a b turns → WritesTurns {T = U} (Err f) a b turns
+writes_as T U Read a b turns h = h
+writes_as T U Write a b turns h = h
+writes_as T U NoMemory a b turns h = h
 
 pub conversation_as : (T U : Type 0) (f : ServeFault) (from : Point) (stands_at : Mark → List Entry → Type 0) (stands : List Entry → Type 0) (mark : Mark) (state : State) (consumed : List ℕ → Type 0) (held : List ℕ) (told : List ℕ → Type 0) (a b : Option (List ℕ))
-    → Conversation from stands_at stands mark state consumed held told (Writes {T = T} (Err f) a b) → Conversation from stands_at stands mark state consumed held told (Writes {T = U} (Err f) a b)
+    → Conversation from stands_at stands mark state consumed held told (WritesTurns {T = T} (Err f) a b) → Conversation from stands_at stands mark state consumed held told (WritesTurns {T = U} (Err f) a b)
 conversation_as T U f from stands_at stands mark state consumed held told a b t =
     record { turns = t.turns; seen = t.seen; bytes = t.bytes; run = t.run; of_gate = t.of_gate; stood_for = t.stood_for; read = t.read; inputs = t.inputs; moments = t.moments; replies = writes_as T U f a b _ t.replies }
 
@@ -162,20 +174,20 @@ conversation_as T U f from stands_at stands mark state consumed held told a b t 
 pub conversation_turn_err : (T U : Type 0) (from : Point) (stands_at : Mark → List Entry → Type 0) (s1 s2 : List Entry → Type 0) (m1 m2 : Mark) (st1 st2 : State) (consumed : List ℕ → Type 0) (held1 held2 : List ℕ) (told c1 c2 : Option (ℕ → ℕ)) (f : ServeFault) (wrote w1 w2 : Option (List ℕ)) (input : Input) (now : ℕ)
     → IsFront held1 (Some input) held2 → Tells c1 c2 now
     → ((seen : List Entry) → s1 seen → TakesTurn (point_at st1 seen m1) input now stands_at s2 m2 st2 (Writes {T = T} (Err f) w1 w2))
-    → Conversation from stands_at s1 m1 st1 consumed held1 (Told told c1) (Appends wrote w1)
-    → Conversation from stands_at s2 m2 st2 consumed held2 (Told told c2) (Writes {T = U} (Err f) wrote w2)
+    → Conversation from stands_at s1 m1 st1 consumed held1 (Told told c1) (AppendsReplies wrote w1)
+    → Conversation from stands_at s2 m2 st2 consumed held2 (Told told c2) (WritesTurns {T = U} (Err f) wrote w2)
 conversation_turn_err T U from stands_at s1 s2 m1 m2 st1 st2 consumed held1 held2 told c1 c2 f wrote w1 w2 input now front tells turn conversation =
     conversation_as T U f from stands_at s2 m2 st2 consumed held2 (Told told c2) wrote w2 (conversation_turn {T = T} from stands_at s1 s2 m1 m2 st1 st2 consumed held1 held2 told c1 c2 (Err f) wrote w1 w2 input now front tells turn conversation)
 
 -- the gate comes back as it is
-pub conversation_kept : {G : Type 0} (stands : G → List Entry → Type 0) (mark : G → Mark) (gate kept : G) (from : Point) (stands_at : Mark → List Entry → Type 0) (state : State) (consumed : List ℕ → Type 0) (held : List ℕ) (told : List ℕ → Type 0) (written : List ℕ → Type 0)
+pub conversation_kept : {G : Type 0} (stands : G → List Entry → Type 0) (mark : G → Mark) (gate kept : G) (from : Point) (stands_at : Mark → List Entry → Type 0) (state : State) (consumed : List ℕ → Type 0) (held : List ℕ) (told : List ℕ → Type 0) (written : List Turn → Type 0)
     → kept ≡ gate → Conversation from stands_at (stands gate) (mark gate) state consumed held told written → Conversation from stands_at (stands kept) (mark kept) state consumed held told written
 conversation_kept {G} stands mark gate kept from stands_at state consumed held told written e t =
     subst (λ (g : G). Conversation from stands_at (stands g) (mark g) state consumed held told written) (sym e) t
 
 -- where there is no memory for the identifier, nothing is read
 pub conversation_refused : (T : Type 0) (stands_at : Mark → List Entry → Type 0) (stands : List Entry → Type 0) (mark : Mark) (assigned : List ℕ) (read : Option (List ℕ)) (told : Option (ℕ → ℕ)) (wrote : Option (List ℕ)) (seen : List Entry)
-    → stands seen → Conversation (start assigned seen mark) stands_at stands mark (fresh assigned) (Consumes read read) [] (Told told told) (Writes {T = T} (Err NoMemory) wrote wrote)
+    → stands seen → Conversation (start assigned seen mark) stands_at stands mark (fresh assigned) (Consumes read read) [] (Told told told) (WritesTurns {T = T} (Err NoMemory) wrote wrote)
 conversation_refused T stands_at stands mark assigned read told wrote seen s =
     record {
       turns = [];
@@ -187,7 +199,7 @@ conversation_refused T stands_at stands mark assigned read told wrote seen s =
       read = Consumes-nil read;
       inputs = refl;
       moments = told_none told;
-      replies = ([], [], refl, Appends-nil wrote);
+      replies = ([], [], refl, omega arith, [], [], refl, Appends-nil wrote);
     }
 
 -- ---- a connection
@@ -209,7 +221,7 @@ connection_as from stands_at stands mark told other u v r q w x m n result e f g
     read = subst (λ (o : Option (List ℕ)). Consumes v o c.bytes) f (subst (λ (o : Option (List ℕ)). Consumes o r c.bytes) e c.read);
     inputs = c.inputs;
     moments = t _ c.moments;
-    replies = subst (λ (o : Option (List ℕ)). Writes result x o (replies_of c.turns)) h (subst (λ (o : Option (List ℕ)). Writes result o m (replies_of c.turns)) g c.replies);
+    replies = subst (λ (o : Option (List ℕ)). WritesTurns result x o c.turns) h (subst (λ (o : Option (List ℕ)). WritesTurns result o m c.turns) g c.replies);
   },
   subst (λ (o : Option (List ℕ)). Ends result state held (IsAtEnd o)) f ends,
 )

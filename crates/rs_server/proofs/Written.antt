@@ -20,7 +20,7 @@ front_after : (a b c : Option (List ℕ)) (xs ys : List ℕ) → Appends a b xs 
 front_after a b c xs ys p (front, back, e, q) = (xs ++ front, back, ap (λ l. xs ++ l) e ∙ sym (append_assoc xs front back), Appends-trans a b c xs front p q)
 
 -- what was written behind what was written
-pub writes_after : {T : Type 0} (r : Result T ServeFault) (a b c : Option (List ℕ)) (xs ys : List ℕ) → Appends a b xs → Writes r b c ys → Writes r a c (xs ++ ys)
+writes_after : {T : Type 0} (r : Result T ServeFault) (a b c : Option (List ℕ)) (xs ys : List ℕ) → Appends a b xs → Writes r b c ys → Writes r a c (xs ++ ys)
 writes_after (Ok x) a b c xs ys p q = Appends-trans a b c xs ys p q
 writes_after (Err Read) a b c xs ys p q = Appends-trans a b c xs ys p q
 writes_after (Err Write) a b c xs ys p q = front_after a b c xs ys p q

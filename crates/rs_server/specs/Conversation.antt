@@ -1,7 +1,7 @@
 -- One connection, from the bytes that were read to those that were written.
 use Rattle.std.specs.Prelude.{◌⊎◌, ◌≡◌, ◌≢◌, ℕ, ◌<◌, ◌≤◌, Option, Some, None, List, [], ◌∷◌, ◌++◌, length, take, drop, map, Result, Ok, Err, codes}
 use Rattle.std.specs.List.{flat_map}
-use Rattle.std.specs.Io.KnownBytes.{Consumes, IsAtEnd}
+use Rattle.std.specs.Io.KnownBytes.{Consumes, Appends, IsAtEnd}
 use Rattle.std.specs.Fmt.{decimal}
 use Rattle.rs_packet.specs.Grammar.{Spells}
 use Rattle.rs_packet.specs.Fronts.{IsMore, IsFaulty}
@@ -18,7 +18,7 @@ use Rattle.rs_server.specs.declared.connection.Served.{Served}
 use Rattle.rs_server.specs.declared.connection.Served.TheVariants.{ClientClosed, EndOfInput, CutInput, ServerClosed, Dropped}
 use Rattle.rs_server.specs.declared.writing.ServeFault.{ServeFault}
 use Rattle.rs_server.specs.declared.writing.ServeFault.TheVariants.{Read, Write, NoMemory}
-use Rattle.rs_server.specs.Writing.{Writes, all_reply_bytes}
+use Rattle.rs_server.specs.Writing.{all_reply_bytes}
 
 -- ---- what is read
 
@@ -66,10 +66,26 @@ point_at state seen mark = record { state = state; seen = seen; mark = mark }
 abbrev pub start : List ℕ → List Entry → Mark → Point
 start assigned seen mark = point_at (fresh assigned) seen mark
 
+-- known bytes grow by the replies of all turns
+abbrev pub AppendsReplies : Option (List ℕ) → Option (List ℕ) → List Turn → Type 0
+AppendsReplies old new turns = Appends old new (replies_of turns)
+
+-- known bytes grow by the replies of every turn but the last, and by a beginning of the last one's
+abbrev pub AppendsIntoLast : Option (List ℕ) → Option (List ℕ) → List Turn → Type 0
+AppendsIntoLast old new turns = (before : List Turn) × (last : List Turn) × (turns ≡ before ++ last) × (length last ≤ 1)
+    × (front : List ℕ) × (back : List ℕ) × (replies_of last ≡ front ++ back) × Appends old new (replies_of before ++ front)
+
+-- All replies were written, or the last turn's only in part before the writer or memory failed.
+abbrev pub WritesTurns : {T : Type 0} → Result T ServeFault → Option (List ℕ) → Option (List ℕ) → List Turn → Type 0
+WritesTurns (Ok x) old new turns = AppendsReplies old new turns
+WritesTurns (Err Read) old new turns = AppendsReplies old new turns
+WritesTurns (Err Write) old new turns = AppendsIntoLast old new turns
+WritesTurns (Err NoMemory) old new turns = AppendsIntoLast old new turns
+
 -- From this point there was a run of a session, whose lists and marks are those of a gate. It ends in this
 -- state, at a list that the gate stands for, with the gate's mark. The bytes that were consumed are its inputs and what is held; the moments that
--- were told are its moments, one for each input; what was written are its replies.
-pub record Conversation (from : Point) (stands_at : Mark → List Entry → Type 0) (stands : List Entry → Type 0) (mark : Mark) (state : State) (consumed : List ℕ → Type 0) (held : List ℕ) (told : List ℕ → Type 0) (written : List ℕ → Type 0) : Type 0 where
+-- were told are its moments, one for each input; what was written are the replies of its turns.
+pub record Conversation (from : Point) (stands_at : Mark → List Entry → Type 0) (stands : List Entry → Type 0) (mark : Mark) (state : State) (consumed : List ℕ → Type 0) (held : List ℕ) (told : List ℕ → Type 0) (written : List Turn → Type 0) : Type 0 where
   pub turns : List Turn
   pub seen : List Entry
   pub bytes : List ℕ
@@ -79,7 +95,7 @@ pub record Conversation (from : Point) (stands_at : Mark → List Entry → Type
   pub read : consumed bytes
   pub inputs : InputsOf (inputs_of turns) bytes held
   pub moments : told (moments_of turns)
-  pub replies : written (replies_of turns)
+  pub replies : written turns
 
 -- one turn of it
 pub record TakesTurn (from : Point) (input : Input) (now : ℕ) (stands_at : Mark → List Entry → Type 0) (stands : List Entry → Type 0) (mark : Mark) (state : State) (written : List ℕ → Type 0) : Type 0 where
@@ -123,11 +139,11 @@ Ends (Ok served) state held at_end = ClosesAs served state held at_end
 Ends (Err fault) state held at_end = BreaksAt fault state held
 
 -- From this point a session was run over the bytes that were consumed, at the moments that were told. What was
--- written are its replies, and it ended so. The bytes that the reader has left and those that the writer holds
--- are those before and after, where they are known.
+-- written are its replies, at a fault the last turn's perhaps in part, and it ended so. The bytes that the reader
+-- has left and those that the writer holds are those before and after, where they are known.
 abbrev pub IsConnection : Point → (Mark → List Entry → Type 0) → (List Entry → Type 0) → Mark → (List ℕ → Type 0) → Option (List ℕ) → Option (List ℕ) → Option (List ℕ) → Option (List ℕ) → Result Served ServeFault → Type 0
 IsConnection from stands_at stands mark told unread rest written more result = (state : State) × (held : List ℕ)
-    × Conversation from stands_at stands mark state (Consumes unread rest) held told (Writes result written more)
+    × Conversation from stands_at stands mark state (Consumes unread rest) held told (WritesTurns result written more)
     × Ends result state held (IsAtEnd rest)
 
 abbrev pub Closes : Result (Option Served) ServeFault → State → List ℕ → Type 0 → Type 0

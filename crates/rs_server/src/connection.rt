@@ -1,7 +1,7 @@
 //! One connection.
 
 ghost use Rattle.std.specs.Prelude.{◌≡◌, ◌<◌, ◌-◌, ◌^◌, ◌++◌, ℕ, Option, List, None, Some, IfOk};
-ghost use Rattle.std.specs.Io.KnownBytes.{Consumes, Appends, IsAtEnd};
+ghost use Rattle.std.specs.Io.KnownBytes.{Consumes, IsAtEnd};
 ghost use Rattle.rs_message.specs.declared.entry.Entry.{Entry};
 ghost use Rattle.rs_packet.specs.Grammar.{IsAtFront};
 ghost use Rattle.rs_packet.specs.PacketReading.{Gives, answer};
@@ -11,7 +11,7 @@ ghost use Rattle.rs_session.specs.Run.{Point};
 ghost use Rattle.rs_server.specs.Clock.{Told};
 ghost use Rattle.rs_server.specs.Counts.{inner_of, failures_of};
 ghost use Rattle.rs_server.specs.Writing.{IsWriteCause, Writes};
-ghost use Rattle.rs_server.specs.Conversation.{IsFront, TakesTurn, Closes, Causes, Conversation, IsConnection, IsReadCause, IsEnd, assigned_of, start, point_at, served_as};
+ghost use Rattle.rs_server.specs.Conversation.{IsFront, TakesTurn, Closes, Causes, Conversation, AppendsReplies, WritesTurns, IsConnection, IsReadCause, IsEnd, assigned_of, start, point_at, served_as};
 
 use crate::assigned::assigned_client;
 use crate::clock::Clock;
@@ -50,7 +50,8 @@ const READ_ROOM: usize = 8192;
 /// clock is asked once for each packet, and once for a fault. The gate comes back in every case.
 ///
 /// It is broken off by [`ServeFault`] where the reader failed, where the writer failed or took nothing, or
-/// where memory was refused. Both counts of failures have to be below the greatest u64.
+/// where memory was refused. No packet is handled after one whose replies were written only in part. Both
+/// counts of failures have to be below the greatest u64.
 pub fn serve<H: Wait, R: Read, W: Write, G: Gate, C: Clock>(
     rt: &H,
     alloc: Global,
@@ -109,11 +110,11 @@ fn serve_once<R: Read, W: Write, G: Gate, C: Clock>(
         → Conversation from (StandsAt G.stands G.mark) (G.stands (gate_of session.old)) (G.mark (gate_of session.old)) (state_of session.old)
         (Consumes read (R.remaining (inner_of reader.old))) held.old.items
         (Told told (C.moments clock.old))
-        (Appends wrote (W.contents (inner_of writer.old)))
+        (AppendsReplies wrote (W.contents (inner_of writer.old)))
         → Conversation from (StandsAt G.stands G.mark) (G.stands (gate_of session.new)) (G.mark (gate_of session.new)) (state_of session.new)
         (Consumes read (R.remaining (inner_of reader.new))) held.new.items
         (Told told (C.moments clock.new))
-        (Writes result wrote (W.contents (inner_of writer.new))) }
+        (WritesTurns result wrote (W.contents (inner_of writer.new))) }
     ensures closes { Closes result (state_of session.new) held.new.items (IsAtEnd (R.remaining (inner_of reader.new))) }
     ensures due { due_of session.new ≡ None }
     ensures cause { Causes result (failures_of reader.old) (failures_of reader.new)
