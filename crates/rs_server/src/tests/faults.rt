@@ -37,11 +37,16 @@ const CLOSED: Result<Served, ServeFault> = Ok(Served::ClientClosed);
 // Which calls fail, from the first to the last, one in each run; how the first connection ends then; how
 // many bytes of its replies are written where the first of these calls fails, one more for each later
 // write; and whether the PUBLISH was kept.
-const ROWS: [(Call, usize, usize, Result<Served, ServeFault>, usize, bool); 10] = [
+type Row = (Call, usize, usize, Result<Served, ServeFault>, usize, bool);
+
+const READS: [Row; 4] = [
     (Call::Read, 1, 16, READ, 0, false),
     (Call::Read, 17, 27, READ, 15, false),
     (Call::Read, 28, 29, READ, 19, true),
     (Call::Read, 30, 31, CLOSED, 19, true),
+];
+
+const WRITES: [Row; 6] = [
     (Call::Write, 1, 15, WRITE, 0, false),
     (Call::Write, 16, 19, WRITE, 15, true),
     (Call::Write, 20, 20, CLOSED, 19, true),
@@ -73,26 +78,21 @@ impl Failing {
     }
 }
 
-// Gives one byte a call.
+// Gives at most `step` bytes a call.
 #[derive(Drop)]
-struct ByteReader {
+struct StepReader {
     input: &'static [u8],
+    step: usize,
     calls: usize,
     failing: Failing,
 }
 
-impl Read for ByteReader {
+impl Read for StepReader {
     fn read(&mut self, buf: &mut [u8]) -> io::Result<usize> {
-        let byte = self.input.get(self.calls).copied();
         self.calls = self.calls.saturating_add(1);
         self.failing.meets(Call::Read, self.calls)?;
-        match byte {
-            Some(byte) if !buf.is_empty() => {
-                buf[0] = byte;
-                Ok(1)
-            }
-            _ => Ok(0),
-        }
+        let n = buf.len().min(self.step);
+        self.input.read(&mut buf[..n])
     }
 }
 
@@ -125,10 +125,12 @@ fn outcome<H: Wait>(
     alloc: Global,
     gate: OwnStore,
     input: &'static [u8],
+    step: usize,
     failing: Failing,
 ) -> (Result<Served, ServeFault>, Vec<u8>, OwnStore) {
-    let mut reader = Counted::new(ByteReader {
+    let mut reader = Counted::new(StepReader {
         input,
+        step,
         calls: 0,
         failing,
     });
@@ -153,41 +155,60 @@ fn outcome<H: Wait>(
 fn check<H: Abort + Wait>(
     rt: &H,
     alloc: Global,
+    step: usize,
     failing: Failing,
     ends: Result<Served, ServeFault>,
     written: &[u8],
     got: &[u8],
 ) -> Result<(), Fail> {
     let Failing { call, at } = failing;
-    let (end, bytes, gate) = outcome(rt, alloc, OwnStore::new(alloc)?, FIRST, failing);
+    let (end, bytes, gate) = outcome(rt, alloc, OwnStore::new(alloc)?, FIRST, step, failing);
     assert!(rt; end == ends, "{call:?} {at}");
     assert!(rt; bytes.as_slice() == written, "{call:?} {at}");
     let none = Failing { call, at: 0 };
-    let (end, bytes, _gate) = outcome(rt, alloc, gate, SECOND, none);
+    let (end, bytes, _gate) = outcome(rt, alloc, gate, SECOND, step, none);
     assert!(rt; end == Ok(Served::EndOfInput), "after {call:?} {at}");
     assert!(rt; bytes.as_slice() == got, "after {call:?} {at}");
     Ok(())
 }
 
+fn check_row<H: Abort + Wait>(rt: &H, alloc: Global, step: usize, row: Row) -> Result<(), Fail> {
+    let (call, first, last, ends, written, kept) = row;
+    for at in first..=last {
+        let more = if call == Call::Write {
+            at.saturating_sub(first)
+        } else {
+            0
+        };
+        let written = written.saturating_add(more).min(19);
+        let got = if kept { 30 } else { 21 };
+        check(
+            rt,
+            alloc,
+            step,
+            Failing { call, at },
+            ends,
+            &FIRST_REPLIES[..written],
+            &SECOND_REPLIES[..got],
+        )?;
+    }
+    Ok(())
+}
+
 #[test]
-fn one_call_fails(rt: HostRuntime) -> Result<(), Fail> {
-    for (call, first, last, ends, written, kept) in ROWS {
-        for at in first..=last {
-            let more = if call == Call::Write {
-                at.saturating_sub(first)
-            } else {
-                0
-            };
-            let written = written.saturating_add(more).min(19);
-            let got = if kept { 30 } else { 21 };
-            check(
-                &rt,
-                rt.alloc(),
-                Failing { call, at },
-                ends,
-                &FIRST_REPLIES[..written],
-                &SECOND_REPLIES[..got],
-            )?;
+fn one_read_fails(rt: HostRuntime) -> Result<(), Fail> {
+    for row in READS {
+        check_row(&rt, rt.alloc(), 1, row)?;
+    }
+    Ok(())
+}
+
+// Where all packets come in one read, those behind the failed write are held, and are not handled.
+#[test]
+fn one_write_or_flush_fails(rt: HostRuntime) -> Result<(), Fail> {
+    for step in [1, FIRST.len()] {
+        for row in WRITES {
+            check_row(&rt, rt.alloc(), step, row)?;
         }
     }
     Ok(())
