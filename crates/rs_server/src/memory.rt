@@ -11,8 +11,12 @@ use crate::writing::ServeFault;
 use std::alloc::Global;
 use std::sync::Wait;
 
-/// How a connection of these bytes ends, and what is replied to them, over an empty store of its own. Every
-/// moment is `now`, in seconds.
+/// How a connection of these bytes ends, and what is replied to them: connection 1 at place 1, over an empty
+/// store of its own, of at most 10,000 topics. Every moment is `now`, in seconds.
+///
+/// It is broken off only for want of memory: by [`ServeFault::Write`] where the output cannot grow, by
+/// [`ServeFault::NoMemory`] elsewhere, and never by [`ServeFault::Read`], since a slice can always be read.
+/// The contract says nothing of these faults: that of [`serve`] lets every reader and writer fail.
 pub fn serve_bytes<H: Wait>(
     rt: &H,
     alloc: Global,
