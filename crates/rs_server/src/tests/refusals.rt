@@ -18,8 +18,14 @@ const PINGREQ: &[u8] = b"\xC0\x00";
 // A retained PUBLISH at QoS 0, 1 and 2, and what answers it where the session goes on, with the PINGRESP.
 const GOING_ON: [(&[u8], &[u8]); 3] = [
     (b"\x31\x05\x00\x01a\x00x", b"\xD0\x00"),
-    (b"\x33\x07\x00\x01a\x00\x01\x00x", b"\x40\x03\x00\x01\x97\xD0\x00"),
-    (b"\x35\x07\x00\x01a\x00\x01\x00x", b"\x50\x03\x00\x01\x97\xD0\x00"),
+    (
+        b"\x33\x07\x00\x01a\x00\x01\x00x",
+        b"\x40\x03\x00\x01\x97\xD0\x00",
+    ),
+    (
+        b"\x35\x07\x00\x01a\x00\x01\x00x",
+        b"\x50\x03\x00\x01\x97\xD0\x00",
+    ),
 ];
 
 // The code of the DISCONNECT, in which each of these ends the session.

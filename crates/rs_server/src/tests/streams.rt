@@ -85,16 +85,7 @@ fn run<H: Wait>(rt: &H, alloc: Global, slow: Slow, room: usize) -> Outcome {
         flushed_at: Vec::new(alloc),
     });
     let mut clock = Moments::new(0, Vec::new(alloc));
-    let (served, _gate) = serve(
-        rt,
-        alloc,
-        &mut reader,
-        &mut writer,
-        FULL,
-        1,
-        1,
-        &mut clock,
-    );
+    let (served, _gate) = serve(rt, alloc, &mut reader, &mut writer, FULL, 1, 1, &mut clock);
     let failures = (reader.failures(), writer.failures());
     let Narrow {
         bytes,
