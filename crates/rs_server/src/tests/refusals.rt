@@ -35,11 +35,10 @@ const ENDING: [(SubmitFault, u8); 3] = [
     (SubmitFault::Closed, 0x83),
 ];
 
-fn joined(alloc: Global, parts: [&[u8]; 3]) -> Result<Vec<u8>, Fail> {
-    let mut all = Vec::new(alloc);
-    for part in parts {
-        all.extend_from_slice(part)?;
-    }
+fn joined(alloc: Global, first: &[u8], second: &[u8], third: &[u8]) -> Result<Vec<u8>, Fail> {
+    let mut all = first.to_vec(alloc)?;
+    all.extend_from_slice(second)?;
+    all.extend_from_slice(third)?;
     Ok(all)
 }
 
@@ -51,8 +50,8 @@ fn check<H: Abort + Wait>(
     replies: &[u8],
     ends: Served,
 ) -> Result<(), Fail> {
-    let input = joined(alloc, [CONNECT, publish, PINGREQ])?;
-    let wanted = joined(alloc, [CONNACK, replies, b""])?;
+    let input = joined(alloc, CONNECT, publish, PINGREQ)?;
+    let wanted = joined(alloc, CONNACK, replies, b"")?;
     let gate = Refusing { fault };
     let ended = pipe(rt, alloc, input.as_slice(), Vec::new(alloc), gate, false, 0);
     assert_eq!(rt; ended.served, Ok(ends));
