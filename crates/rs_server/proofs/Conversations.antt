@@ -8,7 +8,7 @@ use Rattle.rs_packet.specs.declared.reply.Reply.{Reply}
 use Rattle.rs_message.specs.declared.entry.Entry.{Entry}
 use Rattle.rs_session.specs.declared.phase.Input.{Input}
 use Rattle.rs_session.specs.declared.phase.Input.TheVariants.{Whole, Broken}
-use Rattle.rs_session.specs.Gate.{Mark, Grows, StandsAt}
+use Rattle.rs_session.specs.Gate.{Mark, GrowsAnswering, StandsAt}
 use Rattle.rs_session.specs.State.{State, fresh, closing_of}
 use Rattle.rs_session.specs.Table.{Answers}
 use Rattle.rs_session.specs.Run.{Point, Turn, Run, GivesAll}
@@ -59,19 +59,19 @@ inputs_with_next (Broken x ∷ inputs) input bytes old new (a, h) f = (a, inputs
 
 -- where a row was taken and its replies were written, there was a turn
 pub takes_turn : {G : Type 0} (stands : G → List Entry → Type 0) (mark : G → Mark) (old mid new : G) (from : State) (input : Input) (now : ℕ) (due : Option Reply) (between to : State) (written : List ℕ → Type 0)
-    → Grows (stands old) (stands mid) (λ seen list. Answers input now from (mark old) seen list (mark mid) due between)
+    → GrowsAnswering stands mark old mid (λ seen answered list. Answers input now from (mark old) seen answered list (mark mid) due between)
     → closing_of from.phase ≡ None
     → new ≡ mid
     → (replies : List Reply) × GivesAll now due between replies to × written (all_reply_bytes replies)
     → (seen : List Entry) → stands old seen → TakesTurn (point_at from seen (mark old)) input now (StandsAt stands mark) (stands new) (mark new) to written
 takes_turn {G} stands mark old mid new from input now due between to written grows ongoing same (replies, all_given, all) = λ seen s.
-    let (list, stood, begins, (case, row)) = grows seen s in
+    let (list, stood, begins, (answered, each, (case, row))) = grows seen s in
     let made : TakesTurn (point_at from seen (mark old)) input now (StandsAt stands mark) (stands mid) (mark mid) to written =
     record {
-      turn = record { input = input; now = now; replies = replies; to = point_at to list (mark mid) };
+      turn = record { input = input; now = now; answered = answered; replies = replies; to = point_at to list (mark mid) };
       seen = list;
       is_turn = record { goes_on = ongoing; case = case; due = due; mid = between; grows = begins; row = row; all_given = all_given };
-      of_gate = (mid, stood, refl);
+      of_gate = record { answered = each; seen = (mid, stood, refl) };
       input_is = refl;
       now_is = refl;
       to_is = refl;

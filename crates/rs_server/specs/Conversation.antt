@@ -13,7 +13,7 @@ use Rattle.rs_session.specs.declared.phase.Closing.{Closing}
 use Rattle.rs_session.specs.declared.phase.Closing.TheVariants as closing
 use Rattle.rs_session.specs.Gate.{Mark}
 use Rattle.rs_session.specs.State.{State, fresh, closing_of}
-use Rattle.rs_session.specs.Run.{Point, Turn, IsTurn, Run, AreOfGate}
+use Rattle.rs_session.specs.Run.{Point, Turn, IsTurn, Run, IsOfGate, AreOfGate}
 use Rattle.rs_server.specs.declared.connection.Served.{Served}
 use Rattle.rs_server.specs.declared.connection.Served.TheVariants.{ClientClosed, EndOfInput, CutInput, ServerClosed, Dropped}
 use Rattle.rs_server.specs.declared.writing.ServeFault.{ServeFault}
@@ -102,7 +102,7 @@ pub record TakesTurn (from : Point) (input : Input) (now : ℕ) (stands_at : Mar
   pub turn : Turn
   pub seen : List Entry
   pub is_turn : IsTurn from turn
-  pub of_gate : stands_at turn.to.mark turn.to.seen
+  pub of_gate : IsOfGate stands_at turn
   pub input_is : turn.input ≡ input
   pub now_is : turn.now ≡ now
   pub to_is : turn.to ≡ point_at state seen mark

@@ -15,7 +15,7 @@ pub record IsOfMark (mark : Mark) (list : List Entry) : Type 0 where
   pub serial : last_serial 1 list ≡ mark.serial
 
 -- From an empty store, as connection 1 at place 1, a session was run over the packets at the front of the
--- input, each at this moment. The output are its replies, and it ended so. The list at each turn has no entry
+-- input, each at this moment. The output are its replies, and it ended so. The lists of each turn have no entry
 -- of a later one.
 pub record IsServed (input : List ℕ) (now : ℕ) (served : Served) (output : List ℕ) : Type 0 where
   pub turns : List Turn

@@ -95,10 +95,10 @@ granted_within (Err fault) options identifier now list old code new (c, same) h 
 granted_within (Ok filter) options identifier now list old code new (inl (c, s)) h = subscribed_within now filter options identifier list old new s h
 granted_within (Ok filter) options identifier now list old code new (inr (c, same)) h = subst IsWithinLimits (sym same) h
 
-grants_within : (now : ℕ) (filters : List Asked) (identifier : Option ℕ) (seen : List Entry) (old : Open) (codes : List ℕ) (list : List Entry) (new : Open) → Grants now filters identifier seen old codes list new → IsWithinLimits old → IsWithinLimits new
-grants_within now [] identifier seen old codes list new (a, b, same) h = subst IsWithinLimits (sym same) h
-grants_within now (asked ∷ more) identifier seen old codes list new (code, rest, mid, between, c, begins, granted, later) h =
-    grants_within now more identifier mid between rest list new later (granted_within asked.0 asked.1 identifier now mid old code between granted h)
+grants_within : (now : ℕ) (filters : List Asked) (identifier : Option ℕ) (seen : List Entry) (old : Open) (codes : List ℕ) (answered : List (List Entry)) (list : List Entry) (new : Open) → Grants now filters identifier seen old codes answered list new → IsWithinLimits old → IsWithinLimits new
+grants_within now [] identifier seen old codes answered list new (a, n, b, same) h = subst IsWithinLimits (sym same) h
+grants_within now (asked ∷ more) identifier seen old codes answered list new (code, rest, mid, later, between, c, a, begins, granted, grants) h =
+    grants_within now more identifier mid between rest later list new grants (granted_within asked.0 asked.1 identifier now mid old code between granted h)
 
 without_fewer : (filter : Filter) (m : Subscriptions) → finite.len (without filter m) ≤ finite.len m
 without_fewer (Err fault) m = omega arith
@@ -110,35 +110,35 @@ all_fewer (filter ∷ more) m = omega (arith, without_fewer filter m, all_fewer 
 
 -- ---- the rows of an open session
 
-row_within : (case : OpenCase) (input : Input) (now : ℕ) (old : Open) (mark : Mark) (seen list : List Entry) (used : Mark) (outcome : Outcome) (new : Open)
-    → OpenRow case input now old mark seen list used outcome new → IsWithinLimits old → IsWithinLimits new
-row_within Connected_twice input now old mark seen list used outcome new (c, i, out, unchanged) h = subst IsWithinLimits (sym unchanged.same) h
-row_within Faulty input now old mark seen list used outcome new (f, i, out, unchanged) h = subst IsWithinLimits (sym unchanged.same) h
-row_within With_alias input now old mark seen list used outcome new (p, i, a, out, unchanged) h = subst IsWithinLimits (sym unchanged.same) h
-row_within Bad_topic input now old mark seen list used outcome new (p, f, i, a, t, other, out, unchanged) h = subst IsWithinLimits (sym unchanged.same) h
-row_within Sent_again input now old mark seen list used outcome new (p, i, a, t, held, out, unchanged) h = subst IsWithinLimits (sym unchanged.same) h
-row_within Too_many_held input now old mark seen list used outcome new (p, i, a, t, many, out, unchanged) h = subst IsWithinLimits (sym unchanged.same) h
-row_within Not_retained input now old mark seen list used outcome new (p, topic, i, taken, t, r, out, u, same) h = subst IsWithinLimits (sym same) (holding_within p old taken h)
-row_within Kept input now old mark seen list used outcome new (p, topic, operation, i, s, submitted, out, same) h = subst IsWithinLimits (sym same) (holding_within p old s.taken h)
-row_within Topic_unread input now old mark seen list used outcome new (p, i, taken, t, out, unchanged) h = subst IsWithinLimits (sym unchanged.same) h
-row_within Not_kept input now old mark seen list used outcome new (p, topic, operation, i, s, out, same) h = subst IsWithinLimits (sym same) h
-row_within Uncertain input now old mark seen list used outcome new (p, topic, operation, i, s, out, same) h = subst IsWithinLimits (sym same) h
-row_within Gate_closed input now old mark seen list used outcome new (p, topic, operation, i, s, out, same) h = subst IsWithinLimits (sym same) h
-row_within Released input now old mark seen list used outcome new (a, i, out, u, same) h =
+row_within : (case : OpenCase) (input : Input) (now : ℕ) (old : Open) (mark : Mark) (seen : List Entry) (answered : List (List Entry)) (list : List Entry) (used : Mark) (outcome : Outcome) (new : Open)
+    → OpenRow case input now old mark seen answered list used outcome new → IsWithinLimits old → IsWithinLimits new
+row_within Connected_twice input now old mark seen answered list used outcome new (c, i, out, unchanged) h = subst IsWithinLimits (sym unchanged.same) h
+row_within Faulty input now old mark seen answered list used outcome new (f, i, out, unchanged) h = subst IsWithinLimits (sym unchanged.same) h
+row_within With_alias input now old mark seen answered list used outcome new (p, i, a, out, unchanged) h = subst IsWithinLimits (sym unchanged.same) h
+row_within Bad_topic input now old mark seen answered list used outcome new (p, f, i, a, t, other, out, unchanged) h = subst IsWithinLimits (sym unchanged.same) h
+row_within Sent_again input now old mark seen answered list used outcome new (p, i, a, t, held, out, unchanged) h = subst IsWithinLimits (sym unchanged.same) h
+row_within Too_many_held input now old mark seen answered list used outcome new (p, i, a, t, many, out, unchanged) h = subst IsWithinLimits (sym unchanged.same) h
+row_within Not_retained input now old mark seen answered list used outcome new (p, topic, i, taken, t, r, out, u, same) h = subst IsWithinLimits (sym same) (holding_within p old taken h)
+row_within Kept input now old mark seen answered list used outcome new (p, topic, operation, i, s, submitted, out, same) h = subst IsWithinLimits (sym same) (holding_within p old s.taken h)
+row_within Topic_unread input now old mark seen answered list used outcome new (p, i, taken, t, out, unchanged) h = subst IsWithinLimits (sym unchanged.same) h
+row_within Not_kept input now old mark seen answered list used outcome new (p, topic, operation, i, s, out, same) h = subst IsWithinLimits (sym same) h
+row_within Uncertain input now old mark seen answered list used outcome new (p, topic, operation, i, s, out, same) h = subst IsWithinLimits (sym same) h
+row_within Gate_closed input now old mark seen answered list used outcome new (p, topic, operation, i, s, out, same) h = subst IsWithinLimits (sym same) h
+row_within Released input now old mark seen answered list used outcome new (a, i, out, u, same) h =
     let left : IsWithinLimits (record old { inbound = set.remove old.inbound a.id }) =
     record { subscriptions = h.subscriptions; held = released_within old.inbound a.id h.held; waiting = h.waiting; unacknowledged = h.unacknowledged; quota = h.quota } in
     subst IsWithinLimits (sym same) left
-row_within Wrong_acknowledgement input now old mark seen list used outcome new (p, ack, id, i, is, wrong, out, unchanged) h = subst IsWithinLimits (sym unchanged.same) h
-row_within Acknowledged input now old mark seen list used outcome new (p, ack, id, answer, i, is, step, out, u, same) h =
+row_within Wrong_acknowledgement input now old mark seen answered list used outcome new (p, ack, id, i, is, wrong, out, unchanged) h = subst IsWithinLimits (sym unchanged.same) h
+row_within Acknowledged input now old mark seen answered list used outcome new (p, ack, id, answer, i, is, step, out, u, same) h =
     subst IsWithinLimits (sym same) (called_within old (window.Acknowledge ack id (Ok answer)) new.window step h)
-row_within Shared_no_local input now old mark seen list used outcome new (s, i, n, out, unchanged) h = subst IsWithinLimits (sym unchanged.same) h
-row_within Not_subscribed input now old mark seen list used outcome new (s, i, n, out, unchanged) h = subst IsWithinLimits (sym unchanged.same) h
-row_within Subscribed input now old mark seen list used outcome new (s, codes, i, n, grants, out, u) h = grants_within now s.filters s.subscription seen old codes list new grants h
-row_within Not_unsubscribed input now old mark seen list used outcome new (u, i, out, unchanged) h = subst IsWithinLimits (sym unchanged.same) h
-row_within Unsubscribed input now old mark seen list used outcome new (u, i, out, m, same) h =
+row_within Shared_no_local input now old mark seen answered list used outcome new (s, i, n, out, unchanged) h = subst IsWithinLimits (sym unchanged.same) h
+row_within Not_subscribed input now old mark seen answered list used outcome new (s, i, n, out, unchanged) h = subst IsWithinLimits (sym unchanged.same) h
+row_within Subscribed input now old mark seen answered list used outcome new (s, codes, i, n, grants, out, u) h = grants_within now s.filters s.subscription seen old codes answered list new grants h
+row_within Not_unsubscribed input now old mark seen answered list used outcome new (u, i, out, unchanged) h = subst IsWithinLimits (sym unchanged.same) h
+row_within Unsubscribed input now old mark seen answered list used outcome new (u, i, out, m, same) h =
     subst IsWithinLimits (sym same) (subscriptions_within old (without_all u.filters old.subscriptions) (omega (arith, all_fewer u.filters old.subscriptions, h.subscriptions)) h)
-row_within Pinged input now old mark seen list used outcome new (i, out, unchanged) h = subst IsWithinLimits (sym unchanged.same) h
-row_within Disconnected input now old mark seen list used outcome new (code, i, out, unchanged) h = subst IsWithinLimits (sym unchanged.same) h
+row_within Pinged input now old mark seen answered list used outcome new (i, out, unchanged) h = subst IsWithinLimits (sym unchanged.same) h
+row_within Disconnected input now old mark seen answered list used outcome new (code, i, out, unchanged) h = subst IsWithinLimits (sym unchanged.same) h
 
 -- ---- a session
 
@@ -164,18 +164,18 @@ after_within Leaves old left h = tt
 same_within : (old new : State) → new ≡ old → PhaseWithin old.phase → PhaseWithin new.phase
 same_within old new e h = subst (λ (s : State). PhaseWithin s.phase) (sym e) h
 
-answer_within : (case : Case) (input : Input) (now : ℕ) (old : State) (mark : Mark) (seen list : List Entry) (used : Mark) (due : Option Reply) (new : State)
-    → Row case input now old mark seen list used due new → PhaseWithin old.phase → PhaseWithin new.phase
-answer_within With_method input now old mark seen list used due new (c, i, before, m, refused) h = same_within _ new refused.end tt
-answer_within With_will input now old mark seen list used due new (c, i, before, m, w, refused) h = same_within _ new refused.end tt
-answer_within Connect_refused input now old mark seen list used due new (c, i, before, m, w, refused) h = same_within _ new refused.end tt
-answer_within Accepted input now old mark seen list used due new (c, i, before, m, w, short, u, d, same) h = same_within _ new same (begun_within c)
-answer_within Connack_too_long input now old mark seen list used due new (c, i, before, m, w, long, u, d, same) h = same_within _ new same tt
-answer_within Other_version input now old mark seen list used due new (i, before, u, d, same) h = same_within _ new same tt
-answer_within Unexpected input now old mark seen list used due new (i, before, u, d, same) h = same_within _ new same tt
-answer_within In_session input now old mark seen list used due new (o, left, outcome, is, (case, row), d, same) h =
-    same_within _ new same (after_within outcome old left (row_within case input now o mark seen list used outcome left row (subst PhaseWithin is h)))
-answer_within Over input now old mark seen list used due new (closing, is, u, d, same) h = same_within old new same h
+answer_within : (case : Case) (input : Input) (now : ℕ) (old : State) (mark : Mark) (seen : List Entry) (answered : List (List Entry)) (list : List Entry) (used : Mark) (due : Option Reply) (new : State)
+    → Row case input now old mark seen answered list used due new → PhaseWithin old.phase → PhaseWithin new.phase
+answer_within With_method input now old mark seen answered list used due new (c, i, before, m, refused) h = same_within _ new refused.end tt
+answer_within With_will input now old mark seen answered list used due new (c, i, before, m, w, refused) h = same_within _ new refused.end tt
+answer_within Connect_refused input now old mark seen answered list used due new (c, i, before, m, w, refused) h = same_within _ new refused.end tt
+answer_within Accepted input now old mark seen answered list used due new (c, i, before, m, w, short, u, d, same) h = same_within _ new same (begun_within c)
+answer_within Connack_too_long input now old mark seen answered list used due new (c, i, before, m, w, long, u, d, same) h = same_within _ new same tt
+answer_within Other_version input now old mark seen answered list used due new (i, before, u, d, same) h = same_within _ new same tt
+answer_within Unexpected input now old mark seen answered list used due new (i, before, u, d, same) h = same_within _ new same tt
+answer_within In_session input now old mark seen answered list used due new (o, left, outcome, is, (case, row), d, same) h =
+    same_within _ new same (after_within outcome old left (row_within case input now o mark seen answered list used outcome left row (subst PhaseWithin is h)))
+answer_within Over input now old mark seen answered list used due new (closing, is, u, d, same) h = same_within old new same h
 
 replayed_within : (now : ℕ) (old : Phase) (given : Option Reply) (new : Phase) → IsReplayed now old given new → PhaseWithin old → PhaseWithin new
 replayed_within now phase.Before given new (none, same) h = subst PhaseWithin (sym same) tt
@@ -194,8 +194,8 @@ gives_within now due old (reply ∷ replies) left new (later, mid, given, rest) 
 
 turn_within : (from : Point) (turn : Turn) → IsTurn from turn → PhaseWithin from.state.phase → PhaseWithin turn.to.state.phase
 turn_within from turn t h =
-    let answered = answer_within t.case turn.input turn.now from.state from.mark from.seen turn.to.seen turn.to.mark t.due t.mid t.row h in
-    let given = gives_within turn.now t.due t.mid turn.replies t.all_given.left t.all_given.last t.all_given.given answered in
+    let after = answer_within t.case turn.input turn.now from.state from.mark from.seen turn.answered turn.to.seen turn.to.mark t.due t.mid t.row h in
+    let given = gives_within turn.now t.due t.mid turn.replies t.all_given.left t.all_given.last t.all_given.given after in
     given_within turn.now t.all_given.left t.all_given.last None None turn.to.state t.all_given.none_left given
 
 turns_within : (from to : Point) (turns : List Turn) → Run from turns to → PhaseWithin from.state.phase → PhaseWithin to.state.phase

@@ -1,10 +1,11 @@
 -- Lemmas on the rows.
 use Rattle.std.proofs.Common.{◌≡◌, ◌≢◌, ℕ, ◌<◌, ◌≤◌, List, [], ◌∷◌, ◌++◌, refl, sym, subst, ap, append-nil, append_assoc, Bool, true, false, ltb, Option, Some, None, is_some, Result, Ok, Err, ◌∙◌, inl, inr}
 use Rattle.std.specs.Prelude.{option_map}
-use Rattle.std.specs.List.{list_any}
+use Rattle.std.specs.List.{All, list_any}
 use Rattle.std.specs.FinMap as finite
 use Rattle.std.specs.FinSet as set
 use Rattle.std.proofs.lemmas.Bool.{lt-ltb, le-ltb}
+use Rattle.std.proofs.lemmas.List.Elements.{All-nil, All-cons, All-append}
 use Rattle.rs_topic.specs.declared.text.TopicFault.{TopicFault}
 use Rattle.rs_topic.specs.declared.text.TopicFault.TheVariants as topic_fault
 use Rattle.rs_field.specs.declared.fault.PacketFault.{PacketFault}
@@ -37,7 +38,7 @@ use Rattle.rs_session.specs.declared.phase.Closing.TheVariants.{ByClient, ByServ
 use Rattle.rs_session.specs.declared.phase.Phase.TheVariants as phase
 use Rattle.rs_session.specs.declared.phase.Input.{Input}
 use Rattle.rs_session.specs.declared.phase.Input.TheVariants.{Whole, Broken}
-use Rattle.rs_session.specs.Gate.{Mark, BeginsWith, Grows, Uses}
+use Rattle.rs_session.specs.Gate.{Mark, BeginsWith, Grows, GrowsAnswering, StandsAt, Uses}
 use Rattle.rs_session.specs.Reasons.{unsupported_protocol_version, implementation_specific_error, bad_authentication_method, quota_exceeded, protocol_error, packet_identifier_not_found}
 use Rattle.rs_session.specs.State.{State, opened, ended, within, state_of, due_of, gate_of, IsGiven, IsReplayed}
 use Rattle.rs_session.specs.declared.session.Session.{Session}
@@ -53,37 +54,42 @@ use Rattle.rs_session.specs.Table.{Answers, LeadsTo, IsNeitherConnectNorVersion,
 pub Grows-weaker : (before after : List Entry → Type 0) (P Q : List Entry → List Entry → Type 0) → ((seen list : List Entry) → P seen list → Q seen list) → Grows before after P → Grows before after Q
 Grows-weaker before after P Q f h = λ seen s. let (list, stands, begins, p) = h seen s in (list, stands, begins, f seen list p)
 
+-- where no filter is answered
+none_answered : {G : Type 0} (stands : G → List Entry → Type 0) (mark : G → Mark) (old new : G) (P : List Entry → List (List Entry) → List Entry → Type 0)
+    → Grows (stands old) (stands new) (λ seen list. P seen [] list) → GrowsAnswering stands mark old new P
+none_answered stands mark old new P h = Grows-weaker (stands old) (stands new) (λ seen list. P seen [] list) _ (λ seen list p. ([], All-nil (StandsAt stands mark (mark new)), p)) h
+
 -- a gate that is as it was stands for the same lists
-pub unmoved : {G : Type 0} (stands : G → List Entry → Type 0) (mark : G → Mark) (old new : G) (P : List Entry → List Entry → Mark → Type 0)
-    → new ≡ old → ((seen : List Entry) → P seen seen (mark old)) → Grows (stands old) (stands new) (λ seen list. P seen list (mark new))
+pub unmoved : {G : Type 0} (stands : G → List Entry → Type 0) (mark : G → Mark) (old new : G) (P : List Entry → List (List Entry) → List Entry → Mark → Type 0)
+    → new ≡ old → ((seen : List Entry) → P seen [] seen (mark old)) → GrowsAnswering stands mark old new (λ seen answered list. P seen answered list (mark new))
 unmoved {G} stands mark old new P e h =
-    subst (λ (g : G). Grows (stands old) (stands g) (λ seen list. P seen list (mark g))) (sym e)
-    (λ seen s. (seen, s, ([], sym (append-nil seen)), h seen))
+    subst (λ (g : G). GrowsAnswering stands mark old g (λ seen answered list. P seen answered list (mark g))) (sym e)
+    (none_answered stands mark old old (λ seen answered list. P seen answered list (mark old)) (λ seen s. (seen, s, ([], sym (append-nil seen)), h seen)))
 
 -- ---- before an accepted CONNECT
 
 pub unexpected : (p is : Packet) (old new : State) (due : Option Reply) → p ≡ is → IsNeitherConnectNorVersion (Whole is) → old.phase ≡ phase.Before → due ≡ None → new ≡ ended old Dropped
-    → (now : ℕ) (mark : Mark) (list : List Entry) → Answers (Whole p) now old mark list list mark due new
+    → (now : ℕ) (mark : Mark) (list : List Entry) → Answers (Whole p) now old mark list [] list mark due new
 unexpected p is old new due e greets before none end = λ now mark list.
     (Unexpected, (subst (λ (x : Packet). IsNeitherConnectNorVersion (Whole x)) (sym e) greets, before, refl, none, end))
 
 pub unexpected_fault : (f is : PacketFault) (old new : State) (due : Option Reply) → f ≡ is → IsNeitherConnectNorVersion (Broken is) → old.phase ≡ phase.Before → due ≡ None → new ≡ ended old Dropped
-    → (now : ℕ) (mark : Mark) (list : List Entry) → Answers (Broken f) now old mark list list mark due new
+    → (now : ℕ) (mark : Mark) (list : List Entry) → Answers (Broken f) now old mark list [] list mark due new
 unexpected_fault f is old new due e greets before none end = λ now mark list.
     (Unexpected, (subst (λ (x : PacketFault). IsNeitherConnectNorVersion (Broken x)) (sym e) greets, before, refl, none, end))
 
 pub other_version : (f : PacketFault) (old new : State) (due : Option Reply) → f ≡ fault.Version → old.phase ≡ phase.Before → due ≡ Some (reply.Refused unsupported_protocol_version) → new ≡ ended old (ByServer unsupported_protocol_version)
-    → (now : ℕ) (mark : Mark) (list : List Entry) → Answers (Broken f) now old mark list list mark due new
+    → (now : ℕ) (mark : Mark) (list : List Entry) → Answers (Broken f) now old mark list [] list mark due new
 other_version f old new due e before is end = λ now mark list.
     (Other_version, (ap Broken e, before, refl, is, end))
 
 pub connected : (c : Connect) (p : Packet) (old new : State) (due : Option Reply) → p ≡ packet.Connect c
-    → ((now : ℕ) (mark : Mark) (list : List Entry) → Answers (Whole (packet.Connect c)) now old mark list list mark due new)
-    → (now : ℕ) (mark : Mark) (list : List Entry) → Answers (Whole p) now old mark list list mark due new
-connected c p old new due e h = λ now mark list. subst (λ (x : Packet). Answers (Whole x) now old mark list list mark due new) (sym e) (h now mark list)
+    → ((now : ℕ) (mark : Mark) (list : List Entry) → Answers (Whole (packet.Connect c)) now old mark list [] list mark due new)
+    → (now : ℕ) (mark : Mark) (list : List Entry) → Answers (Whole p) now old mark list [] list mark due new
+connected c p old new due e h = λ now mark list. subst (λ (x : Packet). Answers (Whole x) now old mark list [] list mark due new) (sym e) (h now mark list)
 
 pub accepted : (c : Connect) (method will : Bool) (old new : State) (due : Option Reply) → is_some c.method ≡ method → c.will ≡ will → connect_refusal method will ≡ None → old.phase ≡ phase.Before → IsAccepted (connack c old) (packet_limit c.packet_maximum) (open_for c) old due new
-    → (now : ℕ) (mark : Mark) (list : List Entry) → Answers (Whole (packet.Connect c)) now old mark list list mark due new
+    → (now : ℕ) (mark : Mark) (list : List Entry) → Answers (Whole (packet.Connect c)) now old mark list [] list mark due new
 accepted c true will old new due m w none before h = absurd (cc)
 accepted c false true old new due m w none before h = absurd (cc)
 accepted c false false old new due m w none before (inl (a, b, d)) = λ now mark list. (Accepted, (c, refl, before, m, w, a, refl, b, d))
@@ -91,7 +97,7 @@ accepted c false false old new due m w none before (inr (a, b, d)) = λ now mark
 
 pub connect_refused : (c : Connect) (method will : Bool) (code : ℕ) (old new : State) (due : Option Reply) → is_some c.method ≡ method → c.will ≡ will → connect_refusal method will ≡ Some code → old.phase ≡ phase.Before
     → due ≡ within (packet_limit c.packet_maximum) (reply.Refused code) → new ≡ ended old (ByServer code)
-    → (now : ℕ) (mark : Mark) (list : List Entry) → Answers (Whole (packet.Connect c)) now old mark list list mark due new
+    → (now : ℕ) (mark : Mark) (list : List Entry) → Answers (Whole (packet.Connect c)) now old mark list [] list mark due new
 connect_refused c true will code old new due m w is before d s = λ now mark list.
     let e : code ≡ bad_authentication_method = cc in
     (With_method, (c, refl, before, m, record { none_used = refl; reply = d ∙ ap (λ (n : ℕ). within (packet_limit c.packet_maximum) (reply.Refused n)) e; end = s ∙ ap (λ (n : ℕ). ended old (ByServer n)) e }))
@@ -102,7 +108,7 @@ connect_refused c false false code old new due m w is before d s = absurd (cc)
 
 pub connect_without_memory : (c : Connect) (method will : Bool) (old new : State) (due : Option Reply) → is_some c.method ≡ method → c.will ≡ will → connect_refusal method will ≡ None → old.phase ≡ phase.Before
     → due ≡ within (packet_limit c.packet_maximum) (reply.Refused quota_exceeded) → new ≡ ended old (ByServer quota_exceeded)
-    → (now : ℕ) (mark : Mark) (list : List Entry) → Answers (Whole (packet.Connect c)) now old mark list list mark due new
+    → (now : ℕ) (mark : Mark) (list : List Entry) → Answers (Whole (packet.Connect c)) now old mark list [] list mark due new
 connect_without_memory c true will old new due m w none before d s = absurd (cc)
 connect_without_memory c false true old new due m w none before d s = absurd (cc)
 connect_without_memory c false false old new due m w none before d s = λ now mark list.
@@ -110,24 +116,24 @@ connect_without_memory c false false old new due m w none before d s = λ now ma
 
 -- ---- an open session
 
-pub over : (input : Input) (old new : State) (due : Option Reply) (now : ℕ) (mark : Mark) (list : List Entry) (closing : Closing) → old.phase ≡ phase.Ended closing → due ≡ None → new ≡ old → Answers input now old mark list list mark due new
+pub over : (input : Input) (old new : State) (due : Option Reply) (now : ℕ) (mark : Mark) (list : List Entry) (closing : Closing) → old.phase ≡ phase.Ended closing → due ≡ None → new ≡ old → Answers input now old mark list [] list mark due new
 over input old new due now mark list closing e d s = (Over, (closing, e, refl, d, s))
 
 -- what a row leads to is due, and the state after it
-pub concluded : (input : Input) (now : ℕ) (old new : State) (o left : Open) (outcome : Outcome) (limit : ℕ) (due : Option Reply) (mark used : Mark) (seen list : List Entry)
-    → old.phase ≡ phase.Open o → limit ≡ o.window.packet_maximum → LeadsTo input now o mark seen list used outcome left → due ≡ due_for limit outcome → new ≡ state_after outcome old left
-    → Answers input now old mark seen list used due new
-concluded input now old new o left outcome limit due mark used seen list p l h d s =
+pub concluded : (input : Input) (now : ℕ) (old new : State) (o left : Open) (outcome : Outcome) (limit : ℕ) (due : Option Reply) (mark used : Mark) (seen : List Entry) (answered : List (List Entry)) (list : List Entry)
+    → old.phase ≡ phase.Open o → limit ≡ o.window.packet_maximum → LeadsTo input now o mark seen answered list used outcome left → due ≡ due_for limit outcome → new ≡ state_after outcome old left
+    → Answers input now old mark seen answered list used due new
+concluded input now old new o left outcome limit due mark used seen answered list p l h d s =
     (In_session, (o, left, outcome, p, h, d ∙ ap (λ (n : ℕ). due_for n outcome) l, s))
 
-pub faulty : (f : PacketFault) (o : Open) (now code : ℕ) (mark : Mark) (list : List Entry) → code ≡ fault_code f → LeadsTo (Broken f) now o mark list list mark (Closes code) o
+pub faulty : (f : PacketFault) (o : Open) (now code : ℕ) (mark : Mark) (list : List Entry) → code ≡ fault_code f → LeadsTo (Broken f) now o mark list [] list mark (Closes code) o
 faulty f o now code mark list e = (Faulty, (f, refl, ap Closes e, record { none_used = refl; same = refl }))
 
 -- ---- acknowledgements
 
 pub acknowledged : (p : Packet) (ack : window.Acknowledgement) (id : ℕ) (answer : Ack) (old new : Open) (outcome : Outcome) (now : ℕ) (mark : Mark) (list : List Entry)
     → acknowledgement_of p ≡ Some (ack, id) → window.IsAcknowledged ack id old.window (Ok answer) new.window → outcome ≡ Replies (released_by ack id answer) → new ≡ record old { window = new.window }
-    → LeadsTo (Whole p) now old mark list list mark outcome new
+    → LeadsTo (Whole p) now old mark list [] list mark outcome new
 acknowledged p ack id answer old new outcome now mark list is h e s = (Acknowledged, (p, ack, id, answer, refl, is, h, e, refl, s))
 
 -- an acknowledgement is refused only where it is of the wrong kind
@@ -145,7 +151,7 @@ wrong ack (Some k) fault e = left ack (window.kind_acknowledged ack k) e
 
 pub not_acknowledged : (p : Packet) (ack : window.Acknowledgement) (id : ℕ) (fault : WindowFault) (old new : Open) (now : ℕ) (mark : Mark) (list : List Entry)
     → acknowledgement_of p ≡ Some (ack, id) → window.IsAcknowledged ack id old.window (Err fault) new.window → new ≡ old
-    → LeadsTo (Whole p) now old mark list list mark (Closes protocol_error) new
+    → LeadsTo (Whole p) now old mark list [] list mark (Closes protocol_error) new
 not_acknowledged p ack id fault old new now mark list is h s =
     (Wrong_acknowledgement, (p, ack, id, refl, is, sym h.0 ∙ ap (λ (f : WindowFault). Err f) (wrong ack _ fault h.0), refl, record { none_used = refl; same = s }))
 
@@ -157,7 +163,7 @@ pub unknown_high : (code id : ℕ) → 128 ≤ code → Replies None ≡ Replies
 unknown_high code id h = let s : ltb code 128 ≡ false = le-ltb _ _ h in rw s refl
 
 pub released : (a : Acknowledgement) (code : ℕ) (old new : Open) (now : ℕ) (mark : Mark) (list : List Entry) → code ≡ released_code a.id old.inbound → new ≡ record old { inbound = set.remove old.inbound a.id }
-    → LeadsTo (Whole (packet.Pubrel a)) now old mark list list mark (Replies (Some (reply.Pubcomp a.id code))) new
+    → LeadsTo (Whole (packet.Pubrel a)) now old mark list [] list mark (Replies (Some (reply.Pubcomp a.id code))) new
 released a code old new now mark list e s = (Released, (a, refl, ap (λ (n : ℕ). Replies (Some (reply.Pubcomp a.id n))) e, refl, s))
 
 -- ---- PUBLISH
@@ -166,19 +172,19 @@ some_outcome : (a b : Outcome) → Some a ≡ Some b → b ≡ a
 some_outcome a b e = cc
 
 bad_topic : (p : Publish) (f : TopicFault) (outcome : Outcome) (o : Open) (now : ℕ) (mark : Mark) (list : List Entry) → is_some p.alias ≡ false → p.topic ≡ Err f → f ≢ topic_fault.NoMemory → Some (Closes (topic_code f)) ≡ Some outcome
-    → LeadsTo (Whole (packet.Publish p)) now o mark list list mark outcome o
+    → LeadsTo (Whole (packet.Publish p)) now o mark list [] list mark outcome o
 bad_topic p f outcome o now mark list a t other e = (Bad_topic, (p, f, refl, a, t, other, some_outcome _ _ e, record { none_used = refl; same = refl }))
 
 by_id : (p : Publish) (held many : Bool) (outcome : Outcome) (o : Open) (now : ℕ) (mark : Mark) (list : List Entry) → is_some p.alias ≡ false → IsTopicOrUnread p.topic
     → is_held (held_id p.qos p.id) o.inbound ≡ held → is_one_too_many (held_id p.qos p.id) o.inbound ≡ many → outcome_of_id held many (acknowledged_by p.qos p.id 0) ≡ Some outcome
-    → LeadsTo (Whole (packet.Publish p)) now o mark list list mark outcome o
+    → LeadsTo (Whole (packet.Publish p)) now o mark list [] list mark outcome o
 by_id p true many outcome o now mark list a t h m e = (Sent_again, (p, refl, a, t, h, some_outcome _ _ e, record { none_used = refl; same = refl }))
 by_id p false true outcome o now mark list a t h m e = (Too_many_held, (p, refl, a, t, m, some_outcome _ _ e, record { none_used = refl; same = refl }))
 by_id p false false outcome o now mark list a t h m e = absurd (cc)
 
 by_topic : (p : Publish) (topic : Result (List ℕ) TopicFault) (rest : Option Outcome) (outcome : Outcome) (o : Open) (now : ℕ) (mark : Mark) (list : List Entry) → is_some p.alias ≡ false → p.topic ≡ topic
-    → (IsTopicOrUnread topic → rest ≡ Some outcome → LeadsTo (Whole (packet.Publish p)) now o mark list list mark outcome o)
-    → outcome_of_topic (topic_refusal topic) rest ≡ Some outcome → LeadsTo (Whole (packet.Publish p)) now o mark list list mark outcome o
+    → (IsTopicOrUnread topic → rest ≡ Some outcome → LeadsTo (Whole (packet.Publish p)) now o mark list [] list mark outcome o)
+    → outcome_of_topic (topic_refusal topic) rest ≡ Some outcome → LeadsTo (Whole (packet.Publish p)) now o mark list [] list mark outcome o
 by_topic p (Ok topic) rest outcome o now mark list a t more e = more tt e
 by_topic p (Err topic_fault.NoMemory) rest outcome o now mark list a t more e = more refl e
 by_topic p (Err topic_fault.Empty) rest outcome o now mark list a t more e = bad_topic p _ outcome o now mark list a t (λ h. cc) e
@@ -191,13 +197,13 @@ by_topic p (Err topic_fault.TooManyLevels) rest outcome o now mark list a t more
 by_topic p (Err topic_fault.Shared) rest outcome o now mark list a t more e = bad_topic p _ outcome o now mark list a t (λ h. cc) e
 
 by_alias : (p : Publish) (alias : Option ℕ) (rest : Option Outcome) (outcome : Outcome) (o : Open) (now : ℕ) (mark : Mark) (list : List Entry) → p.alias ≡ alias
-    → (is_some p.alias ≡ false → rest ≡ Some outcome → LeadsTo (Whole (packet.Publish p)) now o mark list list mark outcome o)
-    → outcome_of_alias alias rest ≡ Some outcome → LeadsTo (Whole (packet.Publish p)) now o mark list list mark outcome o
+    → (is_some p.alias ≡ false → rest ≡ Some outcome → LeadsTo (Whole (packet.Publish p)) now o mark list [] list mark outcome o)
+    → outcome_of_alias alias rest ≡ Some outcome → LeadsTo (Whole (packet.Publish p)) now o mark list [] list mark outcome o
 by_alias p (Some x) rest outcome o now mark list a more e = (With_alias, (p, refl, ap is_some a, some_outcome _ _ e, record { none_used = refl; same = refl }))
 by_alias p None rest outcome o now mark list a more e = more (ap is_some a) e
 
 -- what a PUBLISH leads to before its topic is used
-pub before_use : (p : Publish) (outcome : Outcome) (o : Open) (now : ℕ) (mark : Mark) (list : List Entry) → outcome_before p o ≡ Some outcome → LeadsTo (Whole (packet.Publish p)) now o mark list list mark outcome o
+pub before_use : (p : Publish) (outcome : Outcome) (o : Open) (now : ℕ) (mark : Mark) (list : List Entry) → outcome_before p o ≡ Some outcome → LeadsTo (Whole (packet.Publish p)) now o mark list [] list mark outcome o
 before_use p outcome o now mark list e =
     by_alias p p.alias _ outcome o now mark list refl
     (λ a e. by_topic p p.topic _ outcome o now mark list a refl (λ t e. by_id p _ _ outcome o now mark list a t refl refl e) e) e
@@ -239,7 +245,7 @@ pub has_room : (p : Publish) (o : Open) → outcome_before p o ≡ None → is_o
 has_room p o e = (taken p o e).0.has_room
 
 pub topic_unread : (p : Publish) (f : TopicFault) (outcome : Outcome) (o : Open) (now : ℕ) (mark : Mark) (list : List Entry) → outcome_before p o ≡ None → p.topic ≡ Err f → outcome ≡ Replies (acknowledged_by p.qos p.id quota_exceeded)
-    → LeadsTo (Whole (packet.Publish p)) now o mark list list mark outcome o
+    → LeadsTo (Whole (packet.Publish p)) now o mark list [] list mark outcome o
 topic_unread p f outcome o now mark list e t d =
     let h = taken p o e in
     let is : f ≡ topic_fault.NoMemory = subst IsTopicOrUnread t h.1 in
@@ -250,30 +256,33 @@ unretained true topic m c = absurd (cc)
 unretained false topic m c = refl
 
 pub not_retained : (p : Publish) (topic : List ℕ) (outcome : Outcome) (old new : Open) (now : ℕ) (mark : Mark) (list : List Entry) → outcome_before p old ≡ None → p.topic ≡ Ok topic → change p topic now ≡ None
-    → outcome ≡ Replies (acknowledged_by p.qos p.id 0) → new ≡ holding p old → LeadsTo (Whole (packet.Publish p)) now old mark list list mark outcome new
+    → outcome ≡ Replies (acknowledged_by p.qos p.id 0) → new ≡ holding p old → LeadsTo (Whole (packet.Publish p)) now old mark list [] list mark outcome new
 not_retained p topic outcome old new now mark list e t c d s =
     (Not_retained, (p, topic, refl, (taken p old e).0, t, unretained p.retain topic _ c, d, refl, s))
 
 settled : (p : Publish) (topic : List ℕ) (operation : Operation) (now : ℕ) (outcome : Outcome) (old new : Open) (mark used : Mark) (seen list : List Entry)
-    → IsSubmittable p topic now operation old mark used → IsSettled operation p.qos p.id old mark used list outcome new → LeadsTo (Whole (packet.Publish p)) now old mark seen list used outcome new
+    → IsSubmittable p topic now operation old mark used → IsSettled operation p.qos p.id old mark used list outcome new → LeadsTo (Whole (packet.Publish p)) now old mark seen [] list used outcome new
 settled p topic operation now outcome old new mark used seen list may h =
-    elim h as (λ h. LeadsTo (Whole (packet.Publish p)) now old mark seen list used outcome new) [
+    elim h as (λ h. LeadsTo (Whole (packet.Publish p)) now old mark seen [] list used outcome new) [
       | inl k ↦ (Kept, (p, topic, operation, refl, may, k.0, k.1, k.2))
-      | inr h ↦ elim h as (λ h. LeadsTo (Whole (packet.Publish p)) now old mark seen list used outcome new) [
+      | inr h ↦ elim h as (λ h. LeadsTo (Whole (packet.Publish p)) now old mark seen [] list used outcome new) [
         | inl k ↦ (Not_kept, (p, topic, operation, refl, may, k.0, k.1))
-        | inr h ↦ elim h as (λ h. LeadsTo (Whole (packet.Publish p)) now old mark seen list used outcome new) [
+        | inr h ↦ elim h as (λ h. LeadsTo (Whole (packet.Publish p)) now old mark seen [] list used outcome new) [
           | inl k ↦ (Uncertain, (p, topic, operation, refl, may, k.0, k.1))
           | inr k ↦ (Gate_closed, (p, topic, operation, refl, may, k.0, k.1))
         ]
       ]
     ]
 
-pub submitted : (p : Publish) (topic : List ℕ) (operation : Operation) (now : ℕ) (outcome : Outcome) (old new : Open) (mark used : Mark) (before after : List Entry → Type 0)
-    → outcome_before p old ≡ None → p.topic ≡ Ok topic → change p topic now ≡ Some operation → Uses mark used
-    → Grows before after (λ seen list. IsSettled operation p.qos p.id old mark used list outcome new) → Grows before after (λ seen list. LeadsTo (Whole (packet.Publish p)) now old mark seen list used outcome new)
-submitted p topic operation now outcome old new mark used before after e t c u h =
-    let may : IsSubmittable p topic now operation old mark used = record { taken = (taken p old e).0; is_topic = t; changes = c; one_used = u } in
-    Grows-weaker before after (λ seen list. IsSettled operation p.qos p.id old mark used list outcome new) _ (λ seen list k. settled p topic operation now outcome old new mark used seen list may k) h
+pub submitted : {G : Type 0} (stands : G → List Entry → Type 0) (mark : G → Mark) (before after : G) (p : Publish) (topic : List ℕ) (operation : Operation) (now : ℕ) (outcome : Outcome) (old new : Open)
+    → outcome_before p old ≡ None → p.topic ≡ Ok topic → change p topic now ≡ Some operation → Uses (mark before) (mark after)
+    → Grows (stands before) (stands after) (λ seen list. IsSettled operation p.qos p.id old (mark before) (mark after) list outcome new)
+    → GrowsAnswering stands mark before after (λ seen answered list. LeadsTo (Whole (packet.Publish p)) now old (mark before) seen answered list (mark after) outcome new)
+submitted stands mark before after p topic operation now outcome old new e t c u h =
+    let may : IsSubmittable p topic now operation old (mark before) (mark after) = record { taken = (taken p old e).0; is_topic = t; changes = c; one_used = u } in
+    none_answered stands mark before after (λ seen answered list. LeadsTo (Whole (packet.Publish p)) now old (mark before) seen answered list (mark after) outcome new)
+    (Grows-weaker (stands before) (stands after) (λ seen list. IsSettled operation p.qos p.id old (mark before) (mark after) list outcome new) _
+    (λ seen list k. settled p topic operation now outcome old new (mark before) (mark after) seen list may k) h)
 
 -- ---- the filters of a SUBSCRIBE and of an UNSUBSCRIBE
 
@@ -284,31 +293,37 @@ pub begins_trans : (a b c : List Entry) → BeginsWith b a → BeginsWith c b �
 begins_trans a b c (x, p) (y, q) = (x ++ y, q ∙ ap (λ l. l ++ y) p ∙ append_assoc a x y)
 
 -- one more filter
-pub grants_more : (now : ℕ) (filters : List Asked) (identifier : Option ℕ) (seen : List Entry) (old : Open) (codes : List ℕ) (mid : List Entry) (between : Open) (asked : Asked) (list : List Entry) (code : ℕ) (new : Open)
-    → Grants now filters identifier seen old codes mid between → BeginsWith list mid → IsGranted now asked identifier list between code new → Grants now (filters ++ asked ∷ []) identifier seen old (codes ++ code ∷ []) list new
-grants_more now [] identifier seen old codes mid between asked list code new (a, b, c) begins step =
-    (code, [], list, new, ap (λ l. l ++ code ∷ []) a, subst (BeginsWith list) b begins, subst (λ (m : Open). IsGranted now asked identifier list m code new) c step, (refl, refl, refl))
-grants_more now (f ∷ fs) identifier seen old codes mid between asked list code new (x, rest, m, between', e, begun, first, h) begins step =
-    (x, rest ++ code ∷ [], m, between', ap (λ l. l ++ code ∷ []) e, begun, first, grants_more now fs identifier m between' rest mid between asked list code new h begins step)
+pub grants_more : (now : ℕ) (filters : List Asked) (identifier : Option ℕ) (seen : List Entry) (old : Open) (codes : List ℕ) (answered : List (List Entry)) (mid : List Entry) (between : Open) (asked : Asked) (list : List Entry) (code : ℕ) (new : Open)
+    → Grants now filters identifier seen old codes answered mid between → BeginsWith list mid → IsGranted now asked identifier list between code new → Grants now (filters ++ asked ∷ []) identifier seen old (codes ++ code ∷ []) (answered ++ list ∷ []) list new
+grants_more now [] identifier seen old codes answered mid between asked list code new (a, n, b, c) begins step =
+    (code, [], list, [], new, ap (λ l. l ++ code ∷ []) a, ap (λ l. l ++ list ∷ []) n, subst (BeginsWith list) b begins, subst (λ (m : Open). IsGranted now asked identifier list m code new) c step, (refl, refl, refl, refl))
+grants_more now (f ∷ fs) identifier seen old codes answered mid between asked list code new (x, rest, m, later, between', e, n, begun, first, h) begins step =
+    (x, rest ++ code ∷ [], m, later ++ list ∷ [], between', ap (λ l. l ++ code ∷ []) e, ap (λ l. l ++ list ∷ []) n, begun, first, grants_more now fs identifier m between' rest later mid between asked list code new h begins step)
 
-pub grants_grow : (now : ℕ) (filters : List Asked) (identifier : Option ℕ) (seen : List Entry) (old : Open) (codes : List ℕ) (list : List Entry) (new : Open) → Grants now filters identifier seen old codes list new → BeginsWith list seen
-grants_grow now [] identifier seen old codes list new (a, b, c) = subst (BeginsWith list) b (begins_itself list)
-grants_grow now (f ∷ fs) identifier seen old codes list new (x, rest, m, between, e, begun, first, h) = begins_trans seen m list begun (grants_grow now fs identifier m between rest list new h)
+pub grants_grow : (now : ℕ) (filters : List Asked) (identifier : Option ℕ) (seen : List Entry) (old : Open) (codes : List ℕ) (answered : List (List Entry)) (list : List Entry) (new : Open) → Grants now filters identifier seen old codes answered list new → BeginsWith list seen
+grants_grow now [] identifier seen old codes answered list new (a, n, b, c) = subst (BeginsWith list) b (begins_itself list)
+grants_grow now (f ∷ fs) identifier seen old codes answered list new (x, rest, m, later, between, e, n, begun, first, h) = begins_trans seen m list begun (grants_grow now fs identifier m between rest later list new h)
 
-pub shared_refused : (s : Subscribe) (o : Open) (now : ℕ) (mark : Mark) (list : List Entry) → list_any is_shared_local s.filters ≡ true → LeadsTo (Whole (packet.Subscribe s)) now o mark list list mark (Closes protocol_error) o
+-- a gate stood for one more
+pub stood_more : {G : Type 0} (stands : G → List Entry → Type 0) (mark_of : G → Mark) (mark : Mark) (answered : List (List Entry)) (list : List Entry)
+    → All (StandsAt stands mark_of mark) answered → StandsAt stands mark_of mark list → All (StandsAt stands mark_of mark) (answered ++ list ∷ [])
+stood_more stands mark_of mark answered list each one =
+    All-append (StandsAt stands mark_of mark) answered (list ∷ []) each (All-cons (StandsAt stands mark_of mark) list [] one (All-nil (StandsAt stands mark_of mark)))
+
+pub shared_refused : (s : Subscribe) (o : Open) (now : ℕ) (mark : Mark) (list : List Entry) → list_any is_shared_local s.filters ≡ true → LeadsTo (Whole (packet.Subscribe s)) now o mark list [] list mark (Closes protocol_error) o
 shared_refused s o now mark list h = (Shared_no_local, (s, refl, h, refl, record { none_used = refl; same = refl }))
 
-pub not_subscribed : (s : Subscribe) (o : Open) (now : ℕ) (mark : Mark) (list : List Entry) → list_any is_shared_local s.filters ≡ false → LeadsTo (Whole (packet.Subscribe s)) now o mark list list mark (Closes quota_exceeded) o
+pub not_subscribed : (s : Subscribe) (o : Open) (now : ℕ) (mark : Mark) (list : List Entry) → list_any is_shared_local s.filters ≡ false → LeadsTo (Whole (packet.Subscribe s)) now o mark list [] list mark (Closes quota_exceeded) o
 not_subscribed s o now mark list h = (Not_subscribed, (s, refl, h, refl, record { none_used = refl; same = refl }))
 
 pub same_codes : (id other : ℕ) (codes more : List ℕ) → id ≡ other → codes ≡ more → (let a : CodesValue = record { id = id; codes = codes } in a) ≡ (record { id = other; codes = more })
 same_codes id other codes more e f = λ j. record { id = e j; codes = f j }
 
 -- the codes of all filters are replied
-pub subscribed : (s : Subscribe) (codes : List ℕ) (c : CodesValue) (old new : Open) (now : ℕ) (mark used : Mark) (seen list : List Entry)
-    → list_any is_shared_local s.filters ≡ false → used ≡ mark → c ≡ record { id = s.id; codes = codes } → Grants now s.filters s.subscription seen old codes list new
-    → LeadsTo (Whole (packet.Subscribe s)) now old mark seen list used (Replies (Some (reply.Suback c))) new
-subscribed s codes c old new now mark used seen list n u e h =
+pub subscribed : (s : Subscribe) (codes : List ℕ) (c : CodesValue) (old new : Open) (now : ℕ) (mark used : Mark) (seen : List Entry) (answered : List (List Entry)) (list : List Entry)
+    → list_any is_shared_local s.filters ≡ false → used ≡ mark → c ≡ record { id = s.id; codes = codes } → Grants now s.filters s.subscription seen old codes answered list new
+    → LeadsTo (Whole (packet.Subscribe s)) now old mark seen answered list used (Replies (Some (reply.Suback c))) new
+subscribed s codes c old new now mark used seen answered list n u e h =
     (Subscribed, (s, codes, refl, n, h, ap (λ (x : CodesValue). Replies (Some (reply.Suback x))) e, u))
 
 -- one more filter to be removed
@@ -334,12 +349,12 @@ removed_all so_far all filter first mid new a m e =
     let Take : Open → Open = λ o. record o { subscriptions = without filter o.subscriptions } in
     e ∙ (ap Take m ∙ (ap Set (sym (without_more so_far filter first.subscriptions)) ∙ ap (λ (l : List Filter). Set (without_all l first.subscriptions)) (sym a)))
 
-pub not_unsubscribed : (u : Unsubscribe) (o : Open) (now : ℕ) (mark : Mark) (list : List Entry) → LeadsTo (Whole (packet.Unsubscribe u)) now o mark list list mark (Closes quota_exceeded) o
+pub not_unsubscribed : (u : Unsubscribe) (o : Open) (now : ℕ) (mark : Mark) (list : List Entry) → LeadsTo (Whole (packet.Unsubscribe u)) now o mark list [] list mark (Closes quota_exceeded) o
 not_unsubscribed u o now mark list = (Not_unsubscribed, (u, refl, refl, record { none_used = refl; same = refl }))
 
 pub unsubscribed : (u : Unsubscribe) (c : CodesValue) (old new : Open) (now : ℕ) (mark : Mark) (list : List Entry)
     → c ≡ record { id = u.id; codes = removal_codes u.filters old.subscriptions } → new ≡ record old { subscriptions = without_all u.filters old.subscriptions }
-    → LeadsTo (Whole (packet.Unsubscribe u)) now old mark list list mark (Replies (Some (reply.Unsuback c))) new
+    → LeadsTo (Whole (packet.Unsubscribe u)) now old mark list [] list mark (Replies (Some (reply.Unsuback c))) new
 unsubscribed u c old new now mark list e s =
     (Unsubscribed, (u, refl, ap (λ (x : CodesValue). Replies (Some (reply.Unsuback x))) e, refl, s))
 
@@ -355,24 +370,24 @@ taken_out old mid new filter key subscription kept left absent k e m n l =
 
 -- ---- the other packets
 
-pub connected_twice : (p : Packet) (c : Connect) (o : Open) (now : ℕ) (mark : Mark) (list : List Entry) → p ≡ packet.Connect c → LeadsTo (Whole p) now o mark list list mark (Closes protocol_error) o
+pub connected_twice : (p : Packet) (c : Connect) (o : Open) (now : ℕ) (mark : Mark) (list : List Entry) → p ≡ packet.Connect c → LeadsTo (Whole p) now o mark list [] list mark (Closes protocol_error) o
 connected_twice p c o now mark list e = (Connected_twice, (c, ap Whole e, refl, record { none_used = refl; same = refl }))
 
-pub pinged : (p : Packet) (o : Open) (now : ℕ) (mark : Mark) (list : List Entry) → p ≡ packet.Pingreq → LeadsTo (Whole p) now o mark list list mark (Replies (Some reply.Pingresp)) o
+pub pinged : (p : Packet) (o : Open) (now : ℕ) (mark : Mark) (list : List Entry) → p ≡ packet.Pingreq → LeadsTo (Whole p) now o mark list [] list mark (Replies (Some reply.Pingresp)) o
 pinged p o now mark list e = (Pinged, (ap Whole e, refl, record { none_used = refl; same = refl }))
 
-pub disconnected : (p : Packet) (code : ℕ) (o : Open) (now : ℕ) (mark : Mark) (list : List Entry) → p ≡ packet.Disconnect code → LeadsTo (Whole p) now o mark list list mark Leaves o
+pub disconnected : (p : Packet) (code : ℕ) (o : Open) (now : ℕ) (mark : Mark) (list : List Entry) → p ≡ packet.Disconnect code → LeadsTo (Whole p) now o mark list [] list mark Leaves o
 disconnected p code o now mark list e = (Disconnected, (code, ap Whole e, refl, record { none_used = refl; same = refl }))
 
 -- ---- a session
 
 -- a gate that a method left as it was
 pub stays : {G : Type 0} (stands : G → List Entry → Type 0) (mark : G → Mark) (input : Input) (now : ℕ) (old mid new : Session G) → new ≡ mid → gate_of mid ≡ gate_of old
-    → ((list : List Entry) → Answers input now (state_of old) (mark (gate_of old)) list list (mark (gate_of old)) (due_of mid) (state_of mid))
-    → Grows (stands (gate_of old)) (stands (gate_of new)) (λ seen list. Answers input now (state_of old) (mark (gate_of old)) seen list (mark (gate_of new)) (due_of new) (state_of new))
+    → ((list : List Entry) → Answers input now (state_of old) (mark (gate_of old)) list [] list (mark (gate_of old)) (due_of mid) (state_of mid))
+    → GrowsAnswering stands mark (gate_of old) (gate_of new) (λ seen answered list. Answers input now (state_of old) (mark (gate_of old)) seen answered list (mark (gate_of new)) (due_of new) (state_of new))
 stays {G} stands mark input now old mid new e g h =
-    subst (λ (s : Session G). Grows (stands (gate_of old)) (stands (gate_of s)) (λ seen list. Answers input now (state_of old) (mark (gate_of old)) seen list (mark (gate_of s)) (due_of s) (state_of s))) (sym e)
-    (unmoved stands mark (gate_of old) (gate_of mid) (λ seen list used. Answers input now (state_of old) (mark (gate_of old)) seen list used (due_of mid) (state_of mid)) g h)
+    subst (λ (s : Session G). GrowsAnswering stands mark (gate_of old) (gate_of s) (λ seen answered list. Answers input now (state_of old) (mark (gate_of old)) seen answered list (mark (gate_of s)) (due_of s) (state_of s))) (sym e)
+    (unmoved stands mark (gate_of old) (gate_of mid) (λ seen answered list used. Answers input now (state_of old) (mark (gate_of old)) seen answered list used (due_of mid) (state_of mid)) g h)
 
 -- what an outcome leaves does not depend on the phase before
 pub after_same : (outcome : Outcome) (a b : State) (o : Open) → a.assigned ≡ b.assigned → state_after outcome a o ≡ state_after outcome b o
@@ -383,12 +398,12 @@ after_same Leaves a b o e = ap (λ (l : List ℕ). let s : State = record { phas
 -- an open session took a packet
 pub took : {G : Type 0} (stands : G → List Entry → Type 0) (mark : G → Mark) (input : Input) (now : ℕ) (old mid new : Session G) (o left : Open) (gate : G) (outcome : Outcome) (limit : ℕ)
     → new ≡ mid → gate_of mid ≡ gate → (state_of old).phase ≡ phase.Open o → limit ≡ o.window.packet_maximum → due_of mid ≡ due_for limit outcome → state_of mid ≡ state_after outcome (state_of old) left
-    → Grows (stands (gate_of old)) (stands gate) (λ seen list. LeadsTo input now o (mark (gate_of old)) seen list (mark gate) outcome left)
-    → Grows (stands (gate_of old)) (stands (gate_of new)) (λ seen list. Answers input now (state_of old) (mark (gate_of old)) seen list (mark (gate_of new)) (due_of new) (state_of new))
+    → GrowsAnswering stands mark (gate_of old) gate (λ seen answered list. LeadsTo input now o (mark (gate_of old)) seen answered list (mark gate) outcome left)
+    → GrowsAnswering stands mark (gate_of old) (gate_of new) (λ seen answered list. Answers input now (state_of old) (mark (gate_of old)) seen answered list (mark (gate_of new)) (due_of new) (state_of new))
 took {G} stands mark input now old mid new o left gate outcome limit e g p l d s h =
-    subst (λ (x : Session G). Grows (stands (gate_of old)) (stands (gate_of x)) (λ seen list. Answers input now (state_of old) (mark (gate_of old)) seen list (mark (gate_of x)) (due_of x) (state_of x))) (sym e)
-    (subst (λ (x : G). Grows (stands (gate_of old)) (stands x) (λ seen list. Answers input now (state_of old) (mark (gate_of old)) seen list (mark x) (due_of mid) (state_of mid))) (sym g)
-    (Grows-weaker _ _ _ _ (λ seen list k. concluded input now (state_of old) (state_of mid) o left outcome limit (due_of mid) _ _ seen list p l k d s) h))
+    subst (λ (x : Session G). GrowsAnswering stands mark (gate_of old) (gate_of x) (λ seen answered list. Answers input now (state_of old) (mark (gate_of old)) seen answered list (mark (gate_of x)) (due_of x) (state_of x))) (sym e)
+    (subst (λ (x : G). GrowsAnswering stands mark (gate_of old) x (λ seen answered list. Answers input now (state_of old) (mark (gate_of old)) seen answered list (mark x) (due_of mid) (state_of mid))) (sym g)
+    (Grows-weaker _ _ _ _ (λ seen list k. (k.0, k.1, concluded input now (state_of old) (state_of mid) o left outcome limit (due_of mid) _ _ seen k.0 list p l k.2 d s)) h))
 
 -- what waits is given next
 pub given_next : (now : ℕ) (before due : Option Reply) (old : State) (o left : Open) (p : Option PublishValue) (given : Option Reply) → before ≡ None → due ≡ None → old.phase ≡ phase.Open o

@@ -1,11 +1,12 @@
 -- Lemmas on runs.
 use Rattle.std.proofs.Common.{ℕ, List, [], ◌∷◌, ◌++◌, refl, sym, subst, ap, ◌∙◌, append-nil, Option, Some}
+use Rattle.std.proofs.lemmas.List.Elements.{All-weaker}
 use Rattle.rs_packet.specs.declared.reply.Reply.{Reply}
 use Rattle.rs_message.specs.declared.entry.Entry.{Entry}
 use Rattle.rs_session.specs.Gate.{Mark, BeginsWith}
 use Rattle.rs_session.specs.State.{State, IsGiven}
 use Rattle.rs_session.proofs.Rows.{begins_trans}
-use Rattle.rs_session.specs.Run.{Point, Turn, Gives, IsTurn, Run, AreOfGate}
+use Rattle.rs_session.specs.Run.{Point, Turn, Gives, IsTurn, Run, IsOfGate, AreOfGate}
 
 pub run_grows : (from to : Point) (turns : List Turn) → Run from turns to → BeginsWith to.seen from.seen
 run_grows from to [] e = ([], ap (λ (p : Point). p.seen) e ∙ sym (append-nil from.seen))
@@ -23,10 +24,11 @@ gives_more now due old [] left mid answer later new (p, q) h =
     (later, new, subst (λ (d : Option Reply). IsGiven now d old (Some answer) later new) p (subst (λ (s : State). IsGiven now left s (Some answer) later new) q h), (refl, refl))
 gives_more now due old (r ∷ rs) left mid answer later new (a, b, c, d) h = (a, b, c, gives_more now a b rs left mid answer later new d h)
 
-pub of_gate_more : (stands_at : Mark → List Entry → Type 0) (turns : List Turn) (turn : Turn) → AreOfGate stands_at turns → stands_at turn.to.mark turn.to.seen → AreOfGate stands_at (turns ++ turn ∷ [])
+pub of_gate_more : (stands_at : Mark → List Entry → Type 0) (turns : List Turn) (turn : Turn) → AreOfGate stands_at turns → IsOfGate stands_at turn → AreOfGate stands_at (turns ++ turn ∷ [])
 of_gate_more stands_at [] turn h last = (last, tt)
 of_gate_more stands_at (t ∷ ts) turn (a, b) last = (a, of_gate_more stands_at ts turn b last)
 
 pub of_gate_weaker : (P Q : Mark → List Entry → Type 0) (turns : List Turn) → ((mark : Mark) (list : List Entry) → P mark list → Q mark list) → AreOfGate P turns → AreOfGate Q turns
 of_gate_weaker P Q [] f h = tt
-of_gate_weaker P Q (t ∷ ts) f (a, b) = (f t.to.mark t.to.seen a, of_gate_weaker P Q ts f b)
+of_gate_weaker P Q (t ∷ ts) f (a, b) =
+    (record { answered = All-weaker (P t.to.mark) (Q t.to.mark) (f t.to.mark) t.answered a.answered; seen = f t.to.mark t.to.seen a.seen }, of_gate_weaker P Q ts f b)

@@ -1,5 +1,6 @@
 -- What a session knows of the store behind its gate.
 use Rattle.std.specs.Prelude.{◌≡◌, ℕ, ◌+◌, ◌<◌, ◌≤◌, List, ◌++◌, Contains}
+use Rattle.std.specs.List.{All}
 use Rattle.rs_message.specs.declared.entry.Entry.{Entry}
 use Rattle.rs_message.specs.declared.entry.Operation.{Operation}
 
@@ -30,3 +31,9 @@ pub record IsSubmitted (operation : Operation) (old new : Mark) (list : List Ent
 -- of gates of one type: one of them stands for the list while it has the mark
 abbrev pub StandsAt : {G : Type 0} → (G → List Entry → Type 0) → (G → Mark) → Mark → List Entry → Type 0
 StandsAt {G} stands mark_of mark list = (gate : G) × stands gate list × (mark_of gate ≡ mark)
+
+-- Grows from the old gate to the new one, where P holds also of the lists by which filters were answered between.
+-- For each of these a gate stood while it had the mark of the new one.
+abbrev pub GrowsAnswering : {G : Type 0} → (G → List Entry → Type 0) → (G → Mark) → G → G → (List Entry → List (List Entry) → List Entry → Type 0) → Type 0
+GrowsAnswering stands mark_of old new P =
+    Grows (stands old) (stands new) (λ seen list. (answered : List (List Entry)) × All (StandsAt stands mark_of (mark_of new)) answered × P seen answered list)

@@ -1,5 +1,6 @@
 -- A session over a list of inputs.
 use Rattle.std.specs.Prelude.{◌≡◌, ℕ, ◌+◌, ◌≤◌, Option, Some, None, List, [], ◌∷◌, length}
+use Rattle.std.specs.List.{All}
 use Rattle.std.specs.FinMap as finite
 use Rattle.std.specs.FinSet as set
 use Rattle.rs_packet.specs.declared.reply.Reply.{Reply}
@@ -18,10 +19,12 @@ pub record Point : Type 0 where
   pub seen : List Entry
   pub mark : Mark
 
--- one input at its moment, all that was replied to it, and where the run stands then
+-- one input at its moment, the lists by which the filters of a SUBSCRIBE were answered, all that was replied to it,
+-- and where the run stands then
 pub record Turn : Type 0 where
   pub input : Input
   pub now : ℕ
+  pub answered : List (List Entry)
   pub replies : List Reply
   pub to : Point
 
@@ -44,7 +47,7 @@ pub record IsTurn (from : Point) (turn : Turn) : Type 0 where
   pub due : Option Reply
   pub mid : State
   pub grows : BeginsWith turn.to.seen from.seen
-  pub row : Row case turn.input turn.now from.state from.mark from.seen turn.to.seen turn.to.mark due mid
+  pub row : Row case turn.input turn.now from.state from.mark from.seen turn.answered turn.to.seen turn.to.mark due mid
   pub all_given : GivesAll turn.now due mid turn.replies turn.to.state
 
 -- one turn after the other
@@ -52,10 +55,15 @@ abbrev pub Run : Point → List Turn → Point → Type 0
 Run from [] to = to ≡ from
 Run from (turn ∷ turns) to = IsTurn from turn × Run turn.to turns to
 
--- the list and the mark of each turn are those of a gate
+-- the list after a turn, and each by which a filter was answered, are a gate's while it has the mark after the turn
+pub record IsOfGate (stands_at : Mark → List Entry → Type 0) (turn : Turn) : Type 0 where
+  pub answered : All (stands_at turn.to.mark) turn.answered
+  pub seen : stands_at turn.to.mark turn.to.seen
+
+-- the lists and the mark of each turn are those of a gate
 abbrev pub AreOfGate : (Mark → List Entry → Type 0) → List Turn → Type 0
 AreOfGate stands_at [] = Unit {0}
-AreOfGate stands_at (turn ∷ turns) = stands_at turn.to.mark turn.to.seen × AreOfGate stands_at turns
+AreOfGate stands_at (turn ∷ turns) = IsOfGate stands_at turn × AreOfGate stands_at turns
 
 abbrev pub due_count : Option Reply → ℕ
 due_count None = 0

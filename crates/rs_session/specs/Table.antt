@@ -183,11 +183,12 @@ IsGrantedTo (Ok filter) options identifier now list old code new = ((code ≡ le
 abbrev pub IsGranted : ℕ → Asked → Option ℕ → List Entry → Open → ℕ → Open → Type 0
 IsGranted now asked identifier list old code new = IsGrantedTo asked.0 asked.1 identifier now list old code new
 
--- one filter after the other, each by its own list, which begins with the one before
-abbrev pub Grants : ℕ → List Asked → Option ℕ → List Entry → Open → List ℕ → List Entry → Open → Type 0
-Grants now [] identifier seen old codes list new = (codes ≡ []) × (list ≡ seen) × (new ≡ old)
-Grants now (asked ∷ more) identifier seen old codes list new =
-    (code : ℕ) × (rest : List ℕ) × (mid : List Entry) × (between : Open) × (codes ≡ code ∷ rest) × BeginsWith mid seen × IsGranted now asked identifier mid old code between × Grants now more identifier mid between rest list new
+-- one filter after the other, each by the next of the answered lists, which begins with the one before
+abbrev pub Grants : ℕ → List Asked → Option ℕ → List Entry → Open → List ℕ → List (List Entry) → List Entry → Open → Type 0
+Grants now [] identifier seen old codes answered list new = (codes ≡ []) × (answered ≡ []) × (list ≡ seen) × (new ≡ old)
+Grants now (asked ∷ more) identifier seen old codes answered list new =
+    (code : ℕ) × (rest : List ℕ) × (mid : List Entry) × (later : List (List Entry)) × (between : Open) × (codes ≡ code ∷ rest) × (answered ≡ mid ∷ later)
+    × BeginsWith mid seen × IsGranted now asked identifier mid old code between × Grants now more identifier mid between rest later list new
 
 -- ---- 3.10, 3.11: UNSUBSCRIBE and UNSUBACK
 
@@ -258,89 +259,90 @@ pub record IsUnchanged (mark used : Mark) (old new : Open) : Type 0 where
   pub same : new ≡ old
 
 -- What a row does in an open session, from what it keeps, the mark and the gate's list before to those after,
--- and what it leads to: a reply or none, a DISCONNECT with this code, or the end by the client.
-abbrev pub OpenRow : OpenCase → Input → ℕ → Open → Mark → List Entry → List Entry → Mark → Outcome → Open → Type 0
+-- and what it leads to: a reply or none, a DISCONNECT with this code, or the end by the client. `answered` are the
+-- lists by which the filters of a SUBSCRIBE are answered, one for each; the other rows say nothing of it.
+abbrev pub OpenRow : OpenCase → Input → ℕ → Open → Mark → List Entry → List (List Entry) → List Entry → Mark → Outcome → Open → Type 0
 -- 3.1: a second CONNECT
-OpenRow Connected_twice input now old mark seen list used outcome new =
+OpenRow Connected_twice input now old mark seen answered list used outcome new =
     (c : Connect) × (input ≡ Whole (packet.Connect c)) × (outcome ≡ Closes protocol_error) × IsUnchanged mark used old new
-OpenRow Faulty input now old mark seen list used outcome new =
+OpenRow Faulty input now old mark seen answered list used outcome new =
     (fault : PacketFault) × (input ≡ Broken fault) × (outcome ≡ Closes (fault_code fault)) × IsUnchanged mark used old new
 -- 3.3.2.3.4: CONNACK allowed none
-OpenRow With_alias input now old mark seen list used outcome new =
+OpenRow With_alias input now old mark seen answered list used outcome new =
     (p : Publish) × (input ≡ Whole (packet.Publish p)) × (is_some p.alias ≡ true) × (outcome ≡ Closes topic_alias_invalid) × IsUnchanged mark used old new
 -- 3.3.2.1
-OpenRow Bad_topic input now old mark seen list used outcome new =
+OpenRow Bad_topic input now old mark seen answered list used outcome new =
     (p : Publish) × (fault : TopicFault) × (input ≡ Whole (packet.Publish p)) × (is_some p.alias ≡ false) × (p.topic ≡ Err fault) × (fault ≢ topic_fault.NoMemory)
     × (outcome ≡ Closes (topic_code fault)) × IsUnchanged mark used old new
 -- 4.3.3: it is the same publication
-OpenRow Sent_again input now old mark seen list used outcome new =
+OpenRow Sent_again input now old mark seen answered list used outcome new =
     (p : Publish) × (input ≡ Whole (packet.Publish p)) × (is_some p.alias ≡ false) × IsTopicOrUnread p.topic × (is_held (held_id p.qos p.id) old.inbound ≡ true)
     × (outcome ≡ Replies (acknowledged_by p.qos p.id 0)) × IsUnchanged mark used old new
 -- 3.3.4
-OpenRow Too_many_held input now old mark seen list used outcome new =
+OpenRow Too_many_held input now old mark seen answered list used outcome new =
     (p : Publish) × (input ≡ Whole (packet.Publish p)) × (is_some p.alias ≡ false) × IsTopicOrUnread p.topic × (is_one_too_many (held_id p.qos p.id) old.inbound ≡ true)
     × (outcome ≡ Closes receive_maximum_exceeded) × IsUnchanged mark used old new
 -- 3.3.1.3: RETAIN 0 changes nothing
-OpenRow Not_retained input now old mark seen list used outcome new =
+OpenRow Not_retained input now old mark seen answered list used outcome new =
     (p : Publish) × (topic : List ℕ) × (input ≡ Whole (packet.Publish p)) × IsTaken p old × (p.topic ≡ Ok topic) × (p.retain ≡ false)
     × (outcome ≡ Replies (acknowledged_by p.qos p.id 0)) × (used ≡ mark) × (new ≡ holding p old)
-OpenRow Kept input now old mark seen list used outcome new =
+OpenRow Kept input now old mark seen answered list used outcome new =
     (p : Publish) × (topic : List ℕ) × (operation : Operation) × (input ≡ Whole (packet.Publish p)) × IsSubmittable p topic now operation old mark used × IsSubmitted operation mark used list
     × (outcome ≡ Replies (acknowledged_by p.qos p.id 0)) × (new ≡ holding p old)
 -- want of memory for the topic, which may come at any time
-OpenRow Topic_unread input now old mark seen list used outcome new =
+OpenRow Topic_unread input now old mark seen answered list used outcome new =
     (p : Publish) × (input ≡ Whole (packet.Publish p)) × IsTaken p old × (p.topic ≡ Err topic_fault.NoMemory)
     × (outcome ≡ Replies (acknowledged_by p.qos p.id quota_exceeded)) × IsUnchanged mark used old new
 -- the store or memory is full
-OpenRow Not_kept input now old mark seen list used outcome new =
+OpenRow Not_kept input now old mark seen answered list used outcome new =
     (p : Publish) × (topic : List ℕ) × (operation : Operation) × (input ≡ Whole (packet.Publish p)) × IsSubmittable p topic now operation old mark used
     × (outcome ≡ Replies (acknowledged_by p.qos p.id quota_exceeded)) × (new ≡ old)
 -- the store gave no receipt
-OpenRow Uncertain input now old mark seen list used outcome new =
+OpenRow Uncertain input now old mark seen answered list used outcome new =
     (p : Publish) × (topic : List ℕ) × (operation : Operation) × (input ≡ Whole (packet.Publish p)) × IsSubmittable p topic now operation old mark used
     × (outcome ≡ Closes quota_exceeded) × (new ≡ old)
 -- the store takes no more, or answered for another
-OpenRow Gate_closed input now old mark seen list used outcome new =
+OpenRow Gate_closed input now old mark seen answered list used outcome new =
     (p : Publish) × (topic : List ℕ) × (operation : Operation) × (input ≡ Whole (packet.Publish p)) × IsSubmittable p topic now operation old mark used
     × (outcome ≡ Closes implementation_specific_error) × (new ≡ old)
 -- 3.6, 4.3.3
-OpenRow Released input now old mark seen list used outcome new =
+OpenRow Released input now old mark seen answered list used outcome new =
     (a : Acknowledgement) × (input ≡ Whole (packet.Pubrel a)) × (outcome ≡ Replies (Some (reply.Pubcomp a.id (released_code a.id old.inbound))))
     × (used ≡ mark) × (new ≡ record old { inbound = set.remove old.inbound a.id })
 -- 4.3: an acknowledgement that the PUBLISH with this identifier does not await
-OpenRow Wrong_acknowledgement input now old mark seen list used outcome new =
+OpenRow Wrong_acknowledgement input now old mark seen answered list used outcome new =
     (p : Packet) × (ack : window.Acknowledgement) × (id : ℕ) × (input ≡ Whole p) × (acknowledgement_of p ≡ Some (ack, id)) × (window.answer_to ack (finite.get old.window.kinds id) ≡ Err WrongKind)
     × (outcome ≡ Closes protocol_error) × IsUnchanged mark used old new
-OpenRow Acknowledged input now old mark seen list used outcome new =
+OpenRow Acknowledged input now old mark seen answered list used outcome new =
     (p : Packet) × (ack : window.Acknowledgement) × (id : ℕ) × (answer : Ack) × (input ≡ Whole p) × (acknowledgement_of p ≡ Some (ack, id)) × window.IsAcknowledged ack id old.window (Ok answer) new.window
     × (outcome ≡ Replies (released_by ack id answer)) × (used ≡ mark) × (new ≡ record old { window = new.window })
 -- 3.8.3.1
-OpenRow Shared_no_local input now old mark seen list used outcome new =
+OpenRow Shared_no_local input now old mark seen answered list used outcome new =
     (s : Subscribe) × (input ≡ Whole (packet.Subscribe s)) × (list_any is_shared_local s.filters ≡ true) × (outcome ≡ Closes protocol_error) × IsUnchanged mark used old new
 -- want of memory for the codes, which may come at any time
-OpenRow Not_subscribed input now old mark seen list used outcome new =
+OpenRow Not_subscribed input now old mark seen answered list used outcome new =
     (s : Subscribe) × (input ≡ Whole (packet.Subscribe s)) × (list_any is_shared_local s.filters ≡ false) × (outcome ≡ Closes quota_exceeded) × IsUnchanged mark used old new
 -- 3.8.4
-OpenRow Subscribed input now old mark seen list used outcome new =
-    (s : Subscribe) × (codes : List ℕ) × (input ≡ Whole (packet.Subscribe s)) × (list_any is_shared_local s.filters ≡ false) × Grants now s.filters s.subscription seen old codes list new
+OpenRow Subscribed input now old mark seen answered list used outcome new =
+    (s : Subscribe) × (codes : List ℕ) × (input ≡ Whole (packet.Subscribe s)) × (list_any is_shared_local s.filters ≡ false) × Grants now s.filters s.subscription seen old codes answered list new
     × (outcome ≡ Replies (Some (reply.Suback (record { id = s.id; codes = codes })))) × (used ≡ mark)
 -- want of memory for the codes, which may come at any time
-OpenRow Not_unsubscribed input now old mark seen list used outcome new =
+OpenRow Not_unsubscribed input now old mark seen answered list used outcome new =
     (u : Unsubscribe) × (input ≡ Whole (packet.Unsubscribe u)) × (outcome ≡ Closes quota_exceeded) × IsUnchanged mark used old new
 -- 3.10.4
-OpenRow Unsubscribed input now old mark seen list used outcome new =
+OpenRow Unsubscribed input now old mark seen answered list used outcome new =
     (u : Unsubscribe) × (input ≡ Whole (packet.Unsubscribe u)) × (outcome ≡ Replies (Some (reply.Unsuback (record { id = u.id; codes = removal_codes u.filters old.subscriptions }))))
     × (used ≡ mark) × (new ≡ record old { subscriptions = without_all u.filters old.subscriptions })
 -- 3.12
-OpenRow Pinged input now old mark seen list used outcome new =
+OpenRow Pinged input now old mark seen answered list used outcome new =
     (input ≡ Whole packet.Pingreq) × (outcome ≡ Replies (Some reply.Pingresp)) × IsUnchanged mark used old new
 -- 3.14
-OpenRow Disconnected input now old mark seen list used outcome new =
+OpenRow Disconnected input now old mark seen answered list used outcome new =
     (code : ℕ) × (input ≡ Whole (packet.Disconnect code)) × (outcome ≡ Leaves) × IsUnchanged mark used old new
 
 -- one of the rows
-abbrev pub LeadsTo : Input → ℕ → Open → Mark → List Entry → List Entry → Mark → Outcome → Open → Type 0
-LeadsTo input now old mark seen list used outcome new = (case : OpenCase) × OpenRow case input now old mark seen list used outcome new
+abbrev pub LeadsTo : Input → ℕ → Open → Mark → List Entry → List (List Entry) → List Entry → Mark → Outcome → Open → Type 0
+LeadsTo input now old mark seen answered list used outcome new = (case : OpenCase) × OpenRow case input now old mark seen answered list used outcome new
 
 -- ---- any session
 
@@ -384,33 +386,33 @@ pub record IsRefused (code : ℕ) (c : Connect) (old : State) (mark used : Mark)
   pub end : new ≡ ended old (ByServer code)
 
 -- what a row does, from the state, the mark and the gate's list before to those after, with the reply that is then due
-abbrev pub Row : Case → Input → ℕ → State → Mark → List Entry → List Entry → Mark → Option Reply → State → Type 0
+abbrev pub Row : Case → Input → ℕ → State → Mark → List Entry → List (List Entry) → List Entry → Mark → Option Reply → State → Type 0
 -- 4.12: enhanced authentication is not there
-Row With_method input now old mark seen list used due new =
+Row With_method input now old mark seen answered list used due new =
     (c : Connect) × (input ≡ Whole (packet.Connect c)) × (old.phase ≡ phase.Before) × (is_some c.method ≡ true) × IsRefused bad_authentication_method c old mark used due new
 -- 3.1.2.5: no will is taken
-Row With_will input now old mark seen list used due new =
+Row With_will input now old mark seen answered list used due new =
     (c : Connect) × (input ≡ Whole (packet.Connect c)) × (old.phase ≡ phase.Before) × (is_some c.method ≡ false) × (c.will ≡ true) × IsRefused implementation_specific_error c old mark used due new
 -- want of memory, which may come at any time
-Row Connect_refused input now old mark seen list used due new =
+Row Connect_refused input now old mark seen answered list used due new =
     (c : Connect) × (input ≡ Whole (packet.Connect c)) × (old.phase ≡ phase.Before) × (is_some c.method ≡ false) × (c.will ≡ false) × IsRefused quota_exceeded c old mark used due new
-Row Accepted input now old mark seen list used due new =
+Row Accepted input now old mark seen answered list used due new =
     (c : Connect) × (input ≡ Whole (packet.Connect c)) × (old.phase ≡ phase.Before) × (is_some c.method ≡ false) × (c.will ≡ false)
     × (length (reply_bytes (connack c old)) ≤ packet_limit c.packet_maximum) × (used ≡ mark) × (due ≡ Some (connack c old)) × (new ≡ opened old (open_for c))
-Row Connack_too_long input now old mark seen list used due new =
+Row Connack_too_long input now old mark seen answered list used due new =
     (c : Connect) × (input ≡ Whole (packet.Connect c)) × (old.phase ≡ phase.Before) × (is_some c.method ≡ false) × (c.will ≡ false)
     × (packet_limit c.packet_maximum < length (reply_bytes (connack c old))) × (used ≡ mark) × (due ≡ None) × (new ≡ ended old (ByServer 0))
 -- 3.1.2.2
-Row Other_version input now old mark seen list used due new =
+Row Other_version input now old mark seen answered list used due new =
     (input ≡ Broken Version) × (old.phase ≡ phase.Before) × (used ≡ mark) × (due ≡ Some (reply.Refused unsupported_protocol_version)) × (new ≡ ended old (ByServer unsupported_protocol_version))
 -- 3.1: the first packet is a CONNECT
-Row Unexpected input now old mark seen list used due new =
+Row Unexpected input now old mark seen answered list used due new =
     IsNeitherConnectNorVersion input × (old.phase ≡ phase.Before) × (used ≡ mark) × (due ≡ None) × (new ≡ ended old Dropped)
-Row In_session input now old mark seen list used due new =
-    (o : Open) × (left : Open) × (outcome : Outcome) × (old.phase ≡ phase.Open o) × LeadsTo input now o mark seen list used outcome left
+Row In_session input now old mark seen answered list used due new =
+    (o : Open) × (left : Open) × (outcome : Outcome) × (old.phase ≡ phase.Open o) × LeadsTo input now o mark seen answered list used outcome left
     × (due ≡ due_for o.window.packet_maximum outcome) × (new ≡ state_after outcome old left)
-Row Over input now old mark seen list used due new =
+Row Over input now old mark seen answered list used due new =
     (closing : Closing) × (old.phase ≡ phase.Ended closing) × (used ≡ mark) × (due ≡ None) × (new ≡ old)
 
-abbrev pub Answers : Input → ℕ → State → Mark → List Entry → List Entry → Mark → Option Reply → State → Type 0
-Answers input now old mark seen list used due new = (case : Case) × Row case input now old mark seen list used due new
+abbrev pub Answers : Input → ℕ → State → Mark → List Entry → List (List Entry) → List Entry → Mark → Option Reply → State → Type 0
+Answers input now old mark seen answered list used due new = (case : Case) × Row case input now old mark seen answered list used due new

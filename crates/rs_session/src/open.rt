@@ -7,7 +7,7 @@ mod unsubscribe;
 
 ghost use Rattle.std.specs.Prelude.{◌≡◌, ℕ, List};
 ghost use Rattle.rs_message.specs.declared.entry.Entry.{Entry};
-ghost use Rattle.rs_session.specs.Gate.{Grows, Mark};
+ghost use Rattle.rs_session.specs.Gate.{GrowsAnswering};
 ghost use Rattle.rs_session.specs.Table.{LeadsTo, open_for};
 
 use crate::gate::Gate;
@@ -49,8 +49,8 @@ impl Open {
         packet: Packet,
         now: u64,
     ) -> Outcome
-        ensures { Grows (G.stands gate.old) (G.stands gate.new) (λ seen list.
-            LeadsTo (Input.Whole packet) now self.old (G.mark gate.old) seen list (G.mark gate.new) result self.new) }
+        ensures { GrowsAnswering G.stands G.mark gate.old gate.new (λ seen answered list.
+            LeadsTo (Input.Whole packet) now self.old (G.mark gate.old) seen answered list (G.mark gate.new) result self.new) }
     {
         match packet {
             Packet::Connect(_c) => Outcome::Closes(reason::PROTOCOL_ERROR),

@@ -6,7 +6,7 @@ ghost use Rattle.std.specs.Prelude.{◌≡◌, ◌<◌, ℕ, List, Some, None, I
 ghost use Rattle.rs_message.specs.declared.entry.Entry.{Entry};
 ghost use Rattle.rs_packet.specs.declared.packet.Packet.{Packet};
 ghost use Rattle.rs_packet.specs.declared.reply.Reply.{Reply};
-ghost use Rattle.rs_session.specs.Gate.{Grows, Mark};
+ghost use Rattle.rs_session.specs.Gate.{GrowsAnswering};
 ghost use Rattle.rs_session.specs.Run.{replies_left};
 ghost use Rattle.rs_session.specs.State.{state_of, due_of, gate_of, closing_of, step_of, fresh, ended, within, IsGiven};
 ghost use Rattle.rs_session.specs.declared.open.Open.{Open};
@@ -51,8 +51,8 @@ impl<G: Gate> Session<G> {
     /// seconds. Over a session that has ended it changes nothing.
     pub fn on_packet(&mut self, packet: Packet, now: u64) -> Step
         requires { due_of self.old ≡ None }
-        ensures row { Grows (G.stands (gate_of self.old)) (G.stands (gate_of self.new)) (λ seen list.
-            Answers (Input.Whole packet) now (state_of self.old) (G.mark (gate_of self.old)) seen list
+        ensures row { GrowsAnswering G.stands G.mark (gate_of self.old) (gate_of self.new) (λ seen answered list.
+            Answers (Input.Whole packet) now (state_of self.old) (G.mark (gate_of self.old)) seen answered list
             (G.mark (gate_of self.new)) (due_of self.new) (state_of self.new)) }
         ensures step { result ≡ step_of (state_of self.new).phase }
         ensures over { (closing : Closing) → (state_of self.old).phase ≡ Phase.Ended closing → self.new ≡ self.old }
@@ -74,8 +74,8 @@ impl<G: Gate> Session<G> {
     /// answered, by a CONNACK with 0x84 (3.1.2.2).
     pub fn on_fault(&mut self, fault: PacketFault) -> Step
         requires { due_of self.old ≡ None }
-        ensures row { (now : ℕ) → Grows (G.stands (gate_of self.old)) (G.stands (gate_of self.new)) (λ seen list.
-            Answers (Input.Broken fault) now (state_of self.old) (G.mark (gate_of self.old)) seen list
+        ensures row { (now : ℕ) → GrowsAnswering G.stands G.mark (gate_of self.old) (gate_of self.new) (λ seen answered list.
+            Answers (Input.Broken fault) now (state_of self.old) (G.mark (gate_of self.old)) seen answered list
             (G.mark (gate_of self.new)) (due_of self.new) (state_of self.new)) }
         ensures step { result ≡ step_of (state_of self.new).phase }
         ensures over { (closing : Closing) → (state_of self.old).phase ≡ Phase.Ended closing → self.new ≡ self.old }
@@ -94,8 +94,8 @@ impl<G: Gate> Session<G> {
     /// What a packet, or a fault in its place, leads to: `on_packet` or `on_fault`.
     pub fn on_input(&mut self, input: Input, now: u64) -> Step
         requires { due_of self.old ≡ None }
-        ensures row { Grows (G.stands (gate_of self.old)) (G.stands (gate_of self.new)) (λ seen list.
-            Answers input now (state_of self.old) (G.mark (gate_of self.old)) seen list
+        ensures row { GrowsAnswering G.stands G.mark (gate_of self.old) (gate_of self.new) (λ seen answered list.
+            Answers input now (state_of self.old) (G.mark (gate_of self.old)) seen answered list
             (G.mark (gate_of self.new)) (due_of self.new) (state_of self.new)) }
         ensures step { result ≡ step_of (state_of self.new).phase }
         ensures over { (closing : Closing) → (state_of self.old).phase ≡ Phase.Ended closing → self.new ≡ self.old }

@@ -2,7 +2,7 @@
 
 ghost use Rattle.std.specs.Prelude.{◌≡◌, ℕ, List, None, Some, Ok, Err, true, false, option_map};
 ghost use Rattle.rs_message.specs.declared.entry.Operation.{Operation};
-ghost use Rattle.rs_session.specs.Gate.{Grows, Uses};
+ghost use Rattle.rs_session.specs.Gate.{Grows, GrowsAnswering, Uses};
 ghost use Rattle.rs_session.specs.Steps.{IsSettled, outcome_before, outcome_of_answer, outcome_of_id, topic_refusal};
 ghost use Rattle.rs_session.specs.Table.{LeadsTo, acknowledged_by, held_id, held_with, is_held, is_one_too_many};
 
@@ -16,8 +16,8 @@ use rs_topic::{TopicFault, TopicName};
 
 impl Open {
     pub(super) fn publish<G: Gate>(&mut self, gate: &mut G, p: Publish, now: u64) -> Outcome
-        ensures { Grows (G.stands gate.old) (G.stands gate.new) (λ seen list.
-            LeadsTo (Input.Whole (Packet.Publish p)) now self.old (G.mark gate.old) seen list (G.mark gate.new) result self.new) }
+        ensures { GrowsAnswering G.stands G.mark gate.old gate.new (λ seen answered list.
+            LeadsTo (Input.Whole (Packet.Publish p)) now self.old (G.mark gate.old) seen answered list (G.mark gate.new) result self.new) }
     {
         match self.outcome_before(&p) {
             Some(outcome) => outcome,
@@ -56,8 +56,8 @@ impl Open {
     /// The change that a PUBLISH is, handed to the store.
     fn store<G: Gate>(&mut self, gate: &mut G, p: Publish, now: u64) -> Outcome
         requires { outcome_before p self.old ≡ None }
-        ensures { Grows (G.stands gate.old) (G.stands gate.new) (λ seen list.
-            LeadsTo (Input.Whole (Packet.Publish p)) now self.old (G.mark gate.old) seen list (G.mark gate.new) result self.new) }
+        ensures { GrowsAnswering G.stands G.mark gate.old gate.new (λ seen answered list.
+            LeadsTo (Input.Whole (Packet.Publish p)) now self.old (G.mark gate.old) seen answered list (G.mark gate.new) result self.new) }
     {
         let Publish {
             duplicate: _,

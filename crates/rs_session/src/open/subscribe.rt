@@ -2,7 +2,7 @@
 
 ghost use Rattle.std.specs.Prelude.{◌≡◌, ◌≤◌, ◌⊎◌, ℕ, List, length, true, false, Ok, IfOk, MatchBool};
 ghost use Rattle.std.specs.List.{list_any};
-ghost use Rattle.rs_session.specs.Gate.{Grows};
+ghost use Rattle.rs_session.specs.Gate.{Grows, GrowsAnswering};
 ghost use Rattle.rs_session.specs.Subscriptions.{is_subscribed, replays};
 ghost use Rattle.rs_session.specs.Table.{LeadsTo, IsGranted, IsQueued, IsSubscribed, filter_code, is_shared, is_shared_local};
 
@@ -26,8 +26,8 @@ impl Open {
         s: Subscribe,
         now: u64,
     ) -> Outcome
-        ensures { Grows (G.stands gate.old) (G.stands gate.new) (λ seen list.
-            LeadsTo (Input.Whole (Packet.Subscribe s)) now self.old (G.mark gate.old) seen list (G.mark gate.new) result self.new) }
+        ensures { GrowsAnswering G.stands G.mark gate.old gate.new (λ seen answered list.
+            LeadsTo (Input.Whole (Packet.Subscribe s)) now self.old (G.mark gate.old) seen answered list (G.mark gate.new) result self.new) }
     {
         if any_shared_local(s.filters.as_slice()) {
             return Outcome::Closes(reason::PROTOCOL_ERROR);

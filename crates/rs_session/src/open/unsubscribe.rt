@@ -1,6 +1,6 @@
 //! UNSUBSCRIBE: section 3.10.
 
-ghost use Rattle.std.specs.Prelude.{◌≡◌, ◌≤◌, ℕ, List, length};
+ghost use Rattle.std.specs.Prelude.{◌≡◌, ◌≤◌, ℕ, List, [], length};
 ghost use Rattle.rs_message.specs.declared.entry.Entry.{Entry};
 ghost use Rattle.rs_session.specs.Gate.{Mark};
 ghost use Rattle.rs_session.specs.Table.{LeadsTo, removal_code, without};
@@ -14,7 +14,7 @@ use std::alloc::Global;
 
 impl Open {
     pub(super) fn unsubscribe(&mut self, alloc: Global, u: Unsubscribe) -> Outcome
-        ensures { (now : ℕ) (mark : Mark) (list : List Entry) → LeadsTo (Input.Whole (Packet.Unsubscribe u)) now self.old mark list list mark result self.new }
+        ensures { (now : ℕ) (mark : Mark) (list : List Entry) → LeadsTo (Input.Whole (Packet.Unsubscribe u)) now self.old mark list [] list mark result self.new }
     {
         let Ok(mut codes) = Vec::with_capacity(alloc, u.filters.len()) else {
             return Outcome::Closes(reason::QUOTA_EXCEEDED);

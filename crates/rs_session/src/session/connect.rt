@@ -1,6 +1,6 @@
 //! The first packet.
 
-ghost use Rattle.std.specs.Prelude.{◌≡◌, ◌≤◌, ◌<◌, ℕ, List, None, Some, IfOk, is_some};
+ghost use Rattle.std.specs.Prelude.{◌≡◌, ◌≤◌, ◌<◌, ℕ, List, [], None, Some, IfOk, is_some};
 ghost use Rattle.rs_message.specs.declared.entry.Entry.{Entry};
 ghost use Rattle.rs_packet.specs.declared.reply.Reply.{Reply};
 ghost use Rattle.rs_session.specs.Gate.{Mark};
@@ -26,7 +26,7 @@ impl<G: Gate> Session<G> {
     pub(super) fn first_packet(&mut self, packet: Packet)
         requires due { self.old.due ≡ None }
         requires before { self.old.phase ≡ Phase.Before }
-        ensures row { (now : ℕ) (mark : Mark) (list : List Entry) → Answers (Input.Whole packet) now (state_of self.old) mark list list mark self.new.due (state_of self.new) }
+        ensures row { (now : ℕ) (mark : Mark) (list : List Entry) → Answers (Input.Whole packet) now (state_of self.old) mark list [] list mark self.new.due (state_of self.new) }
         ensures gate { self.new.gate ≡ self.old.gate }
     {
         match packet {
@@ -47,7 +47,7 @@ impl<G: Gate> Session<G> {
     pub(super) fn first_fault(&mut self, fault: PacketFault)
         requires due { self.old.due ≡ None }
         requires before { self.old.phase ≡ Phase.Before }
-        ensures row { (now : ℕ) (mark : Mark) (list : List Entry) → Answers (Input.Broken fault) now (state_of self.old) mark list list mark self.new.due (state_of self.new) }
+        ensures row { (now : ℕ) (mark : Mark) (list : List Entry) → Answers (Input.Broken fault) now (state_of self.old) mark list [] list mark self.new.due (state_of self.new) }
         ensures gate { self.new.gate ≡ self.old.gate }
     {
         match fault {
@@ -65,7 +65,7 @@ impl<G: Gate> Session<G> {
     fn connect(&mut self, c: &Connect)
         requires due { self.old.due ≡ None }
         requires before { self.old.phase ≡ Phase.Before }
-        ensures row { (now : ℕ) (mark : Mark) (list : List Entry) → Answers (Input.Whole (Packet.Connect c.now)) now (state_of self.old) mark list list mark self.new.due (state_of self.new) }
+        ensures row { (now : ℕ) (mark : Mark) (list : List Entry) → Answers (Input.Whole (Packet.Connect c.now)) now (state_of self.old) mark list [] list mark self.new.due (state_of self.new) }
         ensures gate { self.new.gate ≡ self.old.gate }
     {
         let limit = packet_limit(c);

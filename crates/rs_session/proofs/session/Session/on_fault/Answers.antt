@@ -16,7 +16,7 @@ returns-clause-row g c = λ now.
       | in-Open w ↦
           took g.G.Gate.stands g.G.Gate.mark (Broken c.args.fault) now old w.conclude.new.self c.match-self.self w.in-Open.open w.in-Open.open (gate_of old) _ _ w.self-is w.conclude.ensures.gate w.in-Open.is w.packet_maximum-limit.ensures w.conclude.ensures.due
           (w.conclude.ensures.state w.in-Open.open w.in-Open.is)
-          (unmoved g.G.Gate.stands g.G.Gate.mark (gate_of old) (gate_of old) (λ seen list used. LeadsTo (Broken c.args.fault) now w.in-Open.open mark seen list used (Closes w.fault_reason.result) w.in-Open.open) refl
+          (unmoved g.G.Gate.stands g.G.Gate.mark (gate_of old) (gate_of old) (λ seen answered list used. LeadsTo (Broken c.args.fault) now w.in-Open.open mark seen answered list used (Closes w.fault_reason.result) w.in-Open.open) refl
           (λ list. faulty c.args.fault w.in-Open.open now w.fault_reason.result mark list w.fault_reason.ensures))
       | in-Ended w ↦ stays g.G.Gate.stands g.G.Gate.mark (Broken c.args.fault) now old old c.match-self.self w.self-is refl (λ list. over _ (state_of old) (state_of old) _ now mark list _ w.in-Ended.is c.requires refl)
     ]

@@ -10,5 +10,5 @@ returns-in-Broken-clause-row g c =
     let old = c.args.self.now in
     let new = c.on_fault.new.self in
     Grows-weaker _ _ _ _
-    (λ seen list h. subst (λ (i : Input). Answers i c.args.now (state_of old) (g.G.Gate.mark old.gate) seen list (g.G.Gate.mark new.gate) new.due (state_of new)) (sym c.in-Broken.is) h)
+    (λ seen list h. (h.0, h.1, subst (λ (i : Input). Answers i c.args.now (state_of old) (g.G.Gate.mark old.gate) seen h.0 list (g.G.Gate.mark new.gate) new.due (state_of new)) (sym c.in-Broken.is) h.2))
     (c.on_fault.ensures.row c.args.now)
