@@ -1,10 +1,10 @@
 -- The properties that are sent on, by their parts.
-use Rattle.std.proofs.Common.{◌≡◌, ℕ, ◌+◌, cond, List, [], ◌++◌, length, Option, Some, None, refl, sym, ap, arith, append_assoc, length-append}
+use Rattle.std.proofs.Common.{◌≡◌, ℕ, ◌+◌, cond, List, [], ◌++◌, length, Option, Some, None, refl, sym, ap, arith, append_assoc, append-nil, length-append}
 use Rattle.std.specs.List.{flat_map}
 use Rattle.std.specs.Prelude.{map, is_some}
 use Rattle.std.proofs.lemmas.List.Concat.{flat_map-append}
 use Rattle.rs_field.specs.declared.property.Property.TheVariants as property
-use Rattle.rs_field.specs.Values.{PropertiesValue}
+use Rattle.rs_field.specs.Values.{PropertiesValue, no_properties}
 use Rattle.rs_field.specs.Kept.{optional, user_property, replayed}
 use Rattle.rs_field.specs.Properties.{spelled}
 
@@ -15,6 +15,12 @@ pub replayed_parts : (old : List ℕ) (expiry subscription : Option ℕ) (p : Pr
     ++ flat_map spelled (map user_property p.user)
     ≡ old ++ flat_map spelled (replayed expiry subscription p)
 replayed_parts old expiry subscription p = simp (flat_map-append, append_assoc) refl
+
+-- where there is no other property
+pub replayed_bare : (old : List ℕ) (expiry subscription : Option ℕ) →
+    (old ++ flat_map spelled (optional property.Expiry expiry)) ++ flat_map spelled (optional property.Subscription subscription)
+    ≡ old ++ flat_map spelled (replayed expiry subscription no_properties)
+replayed_bare old expiry subscription = simp (flat_map-append, append_assoc, append-nil) refl
 
 format_len : (o : Option ℕ) → length (flat_map spelled (optional property.Format o)) ≡ cond (is_some o) 2 0
 format_len None = refl

@@ -6,3 +6,4 @@ pub mod Reading
 pub mod Kept
 pub mod Bounds
 pub mod Equality
+pub mod Shared

@@ -1,5 +1,5 @@
 -- What contracts see of the types that hold vectors or keep a bound: the same fields, with lists.
-use Rattle.std.specs.Prelude.{ℕ, List, Bool, Option}
+use Rattle.std.specs.Prelude.{ℕ, List, [], Bool, Option, None}
 
 pub record FoundValue : Type 0 where
   pub format : Option ℕ
@@ -22,3 +22,7 @@ pub record PropertiesValue : Type 0 where
   pub response_topic : Option (List ℕ)
   pub correlation : Option (List ℕ)
   pub user : List (List ℕ × List ℕ)
+
+-- no property at all
+abbrev pub no_properties : PropertiesValue
+no_properties = record { format = None; content_type = None; response_topic = None; correlation = None; user = [] }

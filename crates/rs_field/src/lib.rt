@@ -6,8 +6,8 @@
 //!
 //! Promised by contracts: a reader gives the field, or the first fault from left to right, exactly as the definition that its
 //! contract names says; only want of memory comes in place of these answers. `found_of` takes each property once, but User
-//! Properties, where its packet may have it, with a value in its range. `Properties` has a copy that is equal to it, and `==`
-//! field by field. A `SubscriptionId` is never 0 and always has a form of at most four bytes.
+//! Properties, where its packet may have it, with a value in its range. Copies of `Properties` are equal, and share what they
+//! say; `==` goes field by field. A `SubscriptionId` is never 0 and always has a form of at most four bytes.
 #![tactic(auto)]
 
 mod fault;
@@ -16,6 +16,6 @@ mod reading;
 mod subscription;
 
 pub use fault::PacketFault;
-pub use property::{Found, Place, Properties, Property};
+pub use property::{Found, Place, Properties, Property, PropertyFields};
 pub use reading::{Cut, binary_of, byte_of, digits, found_of, note_octets, text_of, two_of};
 pub use subscription::{SubscriptionId, in_range};

@@ -7,6 +7,7 @@ use bytes::Bytes;
 use rs_topic::Text;
 use std::alloc::{AllocError, Global};
 use std::marker::Model;
+use std::sync::Arc;
 
 /// Which property it is (2.2.2.2).
 #[derive(Clone, Copy)]
@@ -104,10 +105,10 @@ impl Model for Found {
     } };
 }
 
-/// The properties that a message keeps (3.3.2.3). The correlation data take less than 65,536 bytes, and the
-/// user properties stand in the order received.
+/// What the properties that a message keeps say, one by one (3.3.2.3). The correlation data take less than 65,536
+/// bytes, and the user properties stand in the order received.
 #[derive(Drop)]
-pub struct Properties {
+pub struct PropertyFields {
     /// The Payload Format Indicator (3.3.2.3.2): 0 for bytes, 1 for UTF-8.
     pub format: Option<u8>,
     /// The Content Type (3.3.2.3.9).
@@ -120,7 +121,7 @@ pub struct Properties {
     pub user: Vec<(Text, Text)>,
 }
 
-impl Model for Properties {
+impl Model for PropertyFields {
     ghost use Rattle.rs_field.specs.Values.{PropertiesValue};
 
     ghost Value = { PropertiesValue };
@@ -144,19 +145,99 @@ impl Model for Properties {
     }) };
 }
 
+impl PropertyFields {
+    ghost use Rattle.rs_field.specs.Values.{no_properties};
+    ghost use Rattle.rs_field.specs.Equality.{properties_eq};
+
+    /// None of them is there.
+    fn are_none(&self) -> bool
+        ensures { result ≡ properties_eq no_properties self.now }
+    {
+        self.format.is_none()
+            && self.content_type.is_none()
+            && self.response_topic.is_none()
+            && self.correlation.is_none()
+            && self.user.is_empty()
+    }
+}
+
+impl PartialEq for PropertyFields {
+    ghost use Rattle.std.specs.Cmp.{partial_equiv_from_equiv};
+    ghost use Rattle.rs_field.specs.Equality.{properties_eq, properties_eq_equiv};
+
+    ghost eq = { properties_eq };
+
+    ghost laws = { partial_equiv_from_equiv properties_eq_equiv };
+
+    fn eq(&self, other: &PropertyFields) -> bool {
+        self.format == other.format
+            && self.content_type == other.content_type
+            && self.response_topic == other.response_topic
+            && self.correlation == other.correlation
+            && self.user == other.user
+    }
+}
+
+/// The properties that a message keeps (3.3.2.3). Copies share what they say, and no property takes no memory.
+#[derive(Drop)]
+pub struct Properties {
+    fields: Option<Arc<PropertyFields>>,
+}
+
+impl Model for Properties {
+    ghost use Rattle.rs_field.specs.Values.{PropertiesValue};
+
+    ghost Value = { PropertiesValue };
+
+    ghost use Rattle.rs_field.specs.Shared.{properties_of};
+
+    ghost view = { λ p. properties_of p.fields };
+}
+
 impl Properties {
-    /// An equal value, which shares the bytes of its texts and of its correlation data; refused only for
-    /// want of memory.
+    ghost use Rattle.std.specs.Prelude.{IsOk, MatchOption};
+    ghost use Rattle.rs_field.specs.Values.{no_properties};
+
+    /// No property at all.
+    pub fn none() -> Properties
+        ensures { result ≡ no_properties }
+    {
+        Properties { fields: None }
+    }
+
+    /// These properties. Memory is taken only where there is one.
+    pub fn new(alloc: Global, fields: PropertyFields) -> Result<Properties, AllocError>
+        ensures ok { IfOk result (λ p. p ≡ fields) }
+        ensures none { fields ≡ no_properties → IsOk result }
+    {
+        if fields.are_none() {
+            return Ok(Properties::none());
+        }
+        Ok(Properties {
+            fields: Some(Arc::new(alloc, fields)?),
+        })
+    }
+
+    /// What they say, where there is one.
+    pub fn fields(&self) -> Option<&PropertyFields>
+        ensures { MatchOption result (self.now ≡ no_properties) (λ fields. fields.now ≡ self.now) }
+    {
+        match &self.fields {
+            Some(fields) => Some(&**fields),
+            None => None,
+        }
+    }
+
+    /// An equal value, which shares what they say; refused only for want of memory. It takes none.
     pub fn copy(&self) -> Result<Properties, AllocError>
         ensures { IfOk result (λ p. p ≡ self.now) }
     {
-        Ok(Properties {
-            format: self.format,
-            content_type: copy_text(&self.content_type)?,
-            response_topic: copy_text(&self.response_topic)?,
-            correlation: copy_bytes(&self.correlation)?,
-            user: copy_pairs(&self.user)?,
-        })
+        match &self.fields {
+            Some(fields) => Ok(Properties {
+                fields: Some(fields.clone()?),
+            }),
+            None => Ok(Properties::none()),
+        }
     }
 }
 
@@ -169,11 +250,12 @@ impl PartialEq for Properties {
     ghost laws = { partial_equiv_from_equiv properties_eq_equiv };
 
     fn eq(&self, other: &Properties) -> bool {
-        self.format == other.format
-            && self.content_type == other.content_type
-            && self.response_topic == other.response_topic
-            && self.correlation == other.correlation
-            && self.user == other.user
+        match (self.fields(), other.fields()) {
+            (Some(fields), Some(others)) => *fields == *others,
+            (Some(fields), None) => fields.are_none(),
+            (None, Some(others)) => others.are_none(),
+            (None, None) => true,
+        }
     }
 }
 
@@ -181,34 +263,6 @@ impl Eq for Properties {
     ghost use Rattle.rs_field.specs.Equality.{properties_eq_equiv};
 
     ghost laws = { properties_eq_equiv };
-}
-
-fn copy_text(text: &Option<Text>) -> Result<Option<Text>, AllocError>
-    ensures { IfOk result (λ t. t ≡ text.now) }
-{
-    match text {
-        Some(text) => Ok(Some(text.copy()?)),
-        None => Ok(None),
-    }
-}
-
-fn copy_bytes(bytes: &Option<Bytes>) -> Result<Option<Bytes>, AllocError>
-    ensures { IfOk result (λ b. b ≡ bytes.now) }
-{
-    match bytes {
-        Some(bytes) => Ok(Some(bytes.clone()?)),
-        None => Ok(None),
-    }
-}
-
-fn copy_pairs(pairs: &Vec<(Text, Text)>) -> Result<Vec<(Text, Text)>, AllocError>
-    ensures { IfOk result (λ copied. copied.items ≡ pairs.now.items) }
-{
-    let mut copied = Vec::with_capacity(*pairs.allocator(), pairs.len())?;
-    for pair in pairs {
-        copied.push((pair.0.copy()?, pair.1.copy()?))?;
-    }
-    Ok(copied)
 }
 
 impl Identifier {

@@ -124,8 +124,8 @@ impl Message {
         }
     }
 
-    /// An equal message, which shares the payload and the texts: no byte of them is copied, whatever their size. It takes
-    /// memory for the list of user properties alone; refused only for want of memory.
+    /// An equal message, which shares the payload and the properties: no byte of them is copied, whatever their size.
+    /// Refused only for want of memory.
     pub fn copy(&self) -> Result<Message, AllocError>
         ensures { IfOk result (λ m. m ≡ self.now) }
     {

@@ -1,7 +1,6 @@
 //! Worked examples, and each public call once with ample memory.
 
-ghost use Rattle.std.specs.Prelude.{◌≡◌, ◌≢◌, ◌≤◌, [], length};
-ghost use Rattle.rs_message.specs.Bare.{no_properties};
+ghost use Rattle.std.specs.Prelude.{◌≢◌, ◌≤◌, [], length};
 
 use crate::{Entry, Message, Operation, Origin, Remaining, SubmitFault};
 use bytes::Bytes;
@@ -10,20 +9,8 @@ use rs_topic::TopicName;
 use std::alloc::{AllocError, Global};
 use std::test::Fail;
 
-fn bare(alloc: Global) -> Properties
-    ensures { result ≡ no_properties }
-{
-    Properties {
-        format: None,
-        content_type: None,
-        response_topic: None,
-        correlation: None,
-        user: Vec::new(alloc),
-    }
-}
-
 #[tactic(auto, using(crate::proofs::Sizes::small_message))]
-fn received_at_100(alloc: Global, payload: &'static [u8], expiry: Option<u32>) -> Message
+fn received_at_100(payload: &'static [u8], expiry: Option<u32>) -> Message
     requires some { payload.now ≢ [] }
     requires small { length payload.now ≤ 1000 }
 {
@@ -32,13 +19,13 @@ fn received_at_100(alloc: Global, payload: &'static [u8], expiry: Option<u32>) -
         Qos::AtLeastOnce,
         100,
         expiry,
-        bare(alloc),
+        Properties::none(),
     )
 }
 
 #[test]
 fn interval_of_10(rt: HostRuntime) -> Result<(), Fail> {
-    let message = received_at_100(rt.alloc(), b"x", Some(10));
+    let message = received_at_100(b"x", Some(10));
     assert_eq!(rt; message.remaining(100), Remaining::Left(10));
     assert_eq!(rt; message.remaining(109), Remaining::Left(1));
     assert_eq!(rt; message.remaining(110), Remaining::Expired);
@@ -49,10 +36,10 @@ fn interval_of_10(rt: HostRuntime) -> Result<(), Fail> {
 
 #[test]
 fn interval_of_0_and_none(rt: HostRuntime) -> Result<(), Fail> {
-    let at_once = received_at_100(rt.alloc(), b"x", Some(0));
+    let at_once = received_at_100(b"x", Some(0));
     assert_eq!(rt; at_once.remaining(0), Remaining::Expired);
     assert_eq!(rt; at_once.remaining(100), Remaining::Expired);
-    let for_ever = received_at_100(rt.alloc(), b"x", None);
+    let for_ever = received_at_100(b"x", None);
     assert_eq!(rt; for_ever.remaining(u64::MAX), Remaining::Forever);
     Ok(())
 }
@@ -85,7 +72,7 @@ fn published(
         Qos::ExactlyOnce,
         7,
         expiry,
-        bare(alloc),
+        Properties::none(),
     ))
 }
 
@@ -101,7 +88,7 @@ fn is_x(message: &Message) -> bool {
         && message.qos() == Qos::ExactlyOnce
         && message.received() == 7
         && message.expiry() == Some(9)
-        && message.properties().user.is_empty()
+        && message.properties().fields().is_none()
 }
 
 fn sets(operation: &Option<Operation>) -> bool {
@@ -154,7 +141,7 @@ fn cleared(alloc: Global, place: u8, serial: u64) -> Result<Entry, Fail> {
 fn entry_of_set(alloc: Global) -> Result<Entry, Fail> {
     let origin = Origin::new(1, 1).ok_or("1 is a place")?;
     let topic = TopicName::read(alloc, b"a/b")?;
-    let operation = Operation::Set(topic, received_at_100(alloc, b"x", Some(10)));
+    let operation = Operation::Set(topic, received_at_100(b"x", Some(10)));
     Ok(Entry { origin, operation })
 }
 
@@ -186,10 +173,10 @@ fn a_set_is_copied(rt: HostRuntime) -> Result<(), Fail> {
 
 #[test]
 fn parts(rt: HostRuntime) -> Result<(), Fail> {
-    let message = received_at_100(rt.alloc(), b"x", Some(10));
+    let message = received_at_100(b"x", Some(10));
     let copy = message.copy()?;
     assert!(rt; copy == message);
-    assert!(rt; copy != received_at_100(rt.alloc(), b"x", Some(11)));
+    assert!(rt; copy != received_at_100(b"x", Some(11)));
     let (payload, qos, received, expiry, _properties) = copy.into_parts();
     assert_eq!(rt; payload.as_slice(), b"x".as_slice());
     assert_eq!(rt; qos, Qos::AtLeastOnce);

@@ -20,8 +20,8 @@ use crate::packet::{
 use crate::reply::PACKET_MAXIMUM;
 use bytes::Bytes;
 use rs_field::{
-    Cut, Found, PacketFault, Place, Properties, binary_of, byte_of, digits, found_of, note_octets,
-    text_of, two_of,
+    Cut, Found, PacketFault, Place, Properties, PropertyFields, binary_of, byte_of, digits,
+    found_of, note_octets, text_of, two_of,
 };
 use rs_topic::{Text, TopicName};
 use std::alloc::Global;
@@ -75,6 +75,13 @@ fn publish_of(
         user,
         ..
     } = found;
+    let fields = PropertyFields {
+        format,
+        content_type,
+        response_topic,
+        correlation,
+        user,
+    };
     Ok(Publish {
         duplicate,
         qos,
@@ -83,13 +90,7 @@ fn publish_of(
         id,
         expiry,
         alias,
-        properties: Properties {
-            format,
-            content_type,
-            response_topic,
-            correlation,
-            user,
-        },
+        properties: Properties::new(alloc, fields)?,
         payload: rest,
     })
 }

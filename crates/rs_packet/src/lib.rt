@@ -25,7 +25,7 @@ pub use packet::{
     Subscribe, Unsubscribe,
 };
 pub use reply::{Accepted, Codes, PACKET_MAXIMUM, Publication, RECEIVE_MAXIMUM, Reply};
-pub use rs_field::{PacketFault, Properties, SubscriptionId};
+pub use rs_field::{PacketFault, Properties, PropertyFields, SubscriptionId};
 pub use writing::{encode, encoded_len, publish_len};
 
 #[cfg(test)]

@@ -5,12 +5,13 @@ ghost use Rattle.std.specs.List.{All, flat_map};
 ghost use Rattle.rs_field.specs.Properties.{varint, two, four, counted, spelled, properties, IsShort, IsSubscriptionId};
 ghost use Rattle.rs_packet.specs.Grammar.{IdFits, frame, id_bytes, level};
 ghost use Rattle.rs_field.specs.Kept.{optional, user_property, replayed};
+ghost use Rattle.rs_field.specs.Values.{no_properties};
 ghost use Rattle.rs_packet.specs.Replies.{codes_body, publication_body, acknowledging, reply_body, reply_bytes, HasSpelling, SectionFits, PublishFits, ReplyFits, SpellsReply, message_len, expiry_told, client_told, limits_told, accepting, accepted_body};
 
 use crate::packet::{PacketId, Qos};
 use crate::reply::{Accepted, Codes, PACKET_MAXIMUM, Publication, RECEIVE_MAXIMUM, Reply};
 use bytes::Bytes;
-use rs_field::{Properties, Property, SubscriptionId};
+use rs_field::{Properties, Property, PropertyFields, SubscriptionId};
 use rs_topic::{Text, TopicName};
 use std::alloc::{AllocError, Global};
 
@@ -167,11 +168,11 @@ fn put_subscription(
 }
 
 #[tactic(auto, using(rs_field::proofs::Replayed::replayed_parts))]
-fn put_section(
+fn put_fields(
     out: &mut Vec<u8>,
     expiry: Option<u32>,
     subscription: Option<SubscriptionId>,
-    kept: &Properties,
+    kept: &PropertyFields,
 ) -> Result<(), AllocError>
     ensures { OnOk result (out.new.items ≡ out.old.items ++ flat_map spelled (replayed expiry subscription kept.now)) }
 {
@@ -182,6 +183,35 @@ fn put_section(
     put_correlation(out, &kept.correlation)?;
     put_subscription(out, subscription)?;
     put_user(out, &kept.user)?;
+    Ok(())
+}
+
+/// The properties of a message that keeps none but its interval.
+#[tactic(auto, using(rs_field::proofs::Replayed::replayed_bare))]
+fn put_bare(
+    out: &mut Vec<u8>,
+    expiry: Option<u32>,
+    subscription: Option<SubscriptionId>,
+) -> Result<(), AllocError>
+    ensures { OnOk result (out.new.items ≡ out.old.items ++ flat_map spelled (replayed expiry subscription no_properties)) }
+{
+    put_expiry(out, expiry)?;
+    put_subscription(out, subscription)?;
+    Ok(())
+}
+
+fn put_section(
+    out: &mut Vec<u8>,
+    expiry: Option<u32>,
+    subscription: Option<SubscriptionId>,
+    kept: &Properties,
+) -> Result<(), AllocError>
+    ensures { OnOk result (out.new.items ≡ out.old.items ++ flat_map spelled (replayed expiry subscription kept.now)) }
+{
+    match kept.fields() {
+        Some(fields) => put_fields(out, expiry, subscription, fields)?,
+        None => put_bare(out, expiry, subscription)?,
+    }
     Ok(())
 }
 
@@ -252,12 +282,11 @@ fn correlation_len(correlation: &Option<Bytes>) -> usize
     }
 }
 
-/// How many bytes the properties of a PUBLISH take.
 #[tactic(auto, using(rs_field::proofs::Replayed::length_replayed))]
-fn section_len(
+fn fields_len(
     expiry: Option<u32>,
     subscription: Option<SubscriptionId>,
-    kept: &Properties,
+    kept: &PropertyFields,
 ) -> usize
     requires { length (flat_map spelled (replayed expiry subscription kept.now)) < 2 ^ 28 }
     ensures value { result ≡ length (flat_map spelled (replayed expiry subscription kept.now)) }
@@ -268,6 +297,30 @@ fn section_len(
     let texts = text_len(&kept.content_type) + text_len(&kept.response_topic);
     let correlation = correlation_len(&kept.correlation) + subscription_len(subscription);
     format + expiry + texts + correlation + user_len(&kept.user)
+}
+
+#[tactic(auto, using(rs_field::proofs::Replayed::length_replayed))]
+fn bare_len(expiry: Option<u32>, subscription: Option<SubscriptionId>) -> usize
+    ensures value { result ≡ length (flat_map spelled (replayed expiry subscription no_properties)) }
+    ensures fits { SectionFits expiry subscription no_properties }
+{
+    expiry_len(expiry) + subscription_len(subscription)
+}
+
+/// How many bytes the properties of a PUBLISH take.
+fn section_len(
+    expiry: Option<u32>,
+    subscription: Option<SubscriptionId>,
+    kept: &Properties,
+) -> usize
+    requires { length (flat_map spelled (replayed expiry subscription kept.now)) < 2 ^ 28 }
+    ensures value { result ≡ length (flat_map spelled (replayed expiry subscription kept.now)) }
+    ensures fits { SectionFits expiry subscription kept.now }
+{
+    match kept.fields() {
+        Some(fields) => fields_len(expiry, subscription, fields),
+        None => bare_len(expiry, subscription),
+    }
 }
 
 /// How many bytes the body of a PUBLISH takes, by the length of its properties and of its payload.

@@ -29,7 +29,8 @@ fn parts_of(decoded: &Decoded, len: usize) -> Option<u64> {
     match decoded {
         Decoded::Whole(_, size) if *size != len => None,
         Decoded::Whole(Packet::Publish(publish), _) => {
-            let user = publish.properties.user.len() as u64;
+            let fields = publish.properties.fields();
+            let user = fields.map_or(0, |fields| fields.user.len() as u64);
             Some((publish.payload.len() as u64).wrapping_add(user))
         }
         Decoded::Whole(Packet::Subscribe(subscribe), _) => Some(subscribe.filters.len() as u64),

@@ -14,7 +14,7 @@ const LENGTHS: [u32; 3] = [9, 40, 200];
 fn messages(alloc: Global, topic: &TopicName, count: u32) -> Result<Vec<Found>, Failure> {
     let mut all = Vec::with_capacity(alloc, count as usize)?;
     for _ in 0..count {
-        all.push(found(alloc, topic, Qos::AtMostOnce)?)?;
+        all.push(found(topic, Qos::AtMostOnce)?)?;
     }
     Ok(all)
 }

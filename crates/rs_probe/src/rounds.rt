@@ -18,7 +18,7 @@ fn messages(alloc: Global, count: u32) -> Result<Vec<Found>, Failure> {
         } else {
             Qos::ExactlyOnce
         };
-        all.push(found(alloc, &topic, qos)?)?;
+        all.push(found(&topic, qos)?)?;
     }
     Ok(all)
 }

@@ -1,7 +1,6 @@
 //! Worked examples, each public call once with ample memory, and want of memory.
 
-ghost use Rattle.std.specs.Prelude.{◌≡◌, ◌≢◌, ◌≤◌, [], length};
-ghost use Rattle.rs_message.specs.Bare.{no_properties};
+ghost use Rattle.std.specs.Prelude.{◌≢◌, ◌≤◌, [], length};
 
 use crate::{Catalogue, MapCatalogue, Refusal, TopicLimit, add, content_law};
 use bytes::Bytes;
@@ -12,21 +11,9 @@ use std::alloc::Global;
 use std::process::Abort;
 use std::test::Fail;
 
-fn bare(alloc: Global) -> Properties
-    ensures { result ≡ no_properties }
-{
-    Properties {
-        format: None,
-        content_type: None,
-        response_topic: None,
-        correlation: None,
-        user: Vec::new(alloc),
-    }
-}
-
 /// A message that came at 100.
 #[tactic(auto, using(rs_message::proofs::Sizes::small_message))]
-fn message(alloc: Global, payload: &'static [u8], expiry: Option<u32>) -> Message
+fn message(payload: &'static [u8], expiry: Option<u32>) -> Message
     requires some { payload.now ≢ [] }
     requires small { length payload.now ≤ 1000 }
 {
@@ -35,7 +22,7 @@ fn message(alloc: Global, payload: &'static [u8], expiry: Option<u32>) -> Messag
         Qos::AtLeastOnce,
         100,
         expiry,
-        bare(alloc),
+        Properties::none(),
     )
 }
 
@@ -53,7 +40,7 @@ fn set<C: Catalogue>(
 ) -> Result<Result<(), Refusal>, Fail> {
     let origin = origin(place, serial)?;
     let topic = TopicName::read(alloc, topic)?;
-    let operation = Operation::Set(topic, message(alloc, b"x", Some(10)));
+    let operation = Operation::Set(topic, message(b"x", Some(10)));
     Ok(add(catalogue, Entry { origin, operation }))
 }
 

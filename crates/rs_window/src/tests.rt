@@ -1,7 +1,6 @@
 //! Worked examples: what is given, in which order, and with which identifiers.
 
-ghost use Rattle.std.specs.Prelude.{◌≡◌, ◌≢◌, ◌<◌, ◌≤◌, [], length};
-ghost use Rattle.rs_message.specs.Bare.{no_properties};
+ghost use Rattle.std.specs.Prelude.{◌≢◌, ◌<◌, ◌≤◌, [], length};
 
 use crate::{Ack, Inbound, Publish, Window, WindowFault};
 use bytes::Bytes;
@@ -11,18 +10,6 @@ use rs_topic::TopicName;
 use std::alloc::Global;
 use std::process::Abort;
 use std::test::Fail;
-
-fn bare(alloc: Global) -> Properties
-    ensures { result ≡ no_properties }
-{
-    Properties {
-        format: None,
-        content_type: None,
-        response_topic: None,
-        correlation: None,
-        user: Vec::new(alloc),
-    }
-}
 
 /// A retained message that was received at 0.
 #[tactic(auto, using(rs_message::proofs::Sizes::small_message))]
@@ -38,7 +25,7 @@ fn found(
 {
     let topic = TopicName::read(alloc, topic).ok()?;
     let payload = Bytes::from_static(payload);
-    let message = Message::new(payload, qos, 0, expiry, bare(alloc));
+    let message = Message::new(payload, qos, 0, expiry, Properties::none());
     Some(Found { topic, message })
 }
 
