@@ -36,7 +36,7 @@ pub use connection::{Served, serve};
 pub use counted::Counted;
 pub use hex_lines::{HexFault, read_hex};
 pub use hex_stream::{HexReader, HexWriter};
-pub use law::inputs_determined;
+pub use law::{inputs_determined, served_rises};
 pub use memory::serve_bytes;
 pub use own_store::OwnStore;
 pub use piping::{PipeFault, Piped, pipe};

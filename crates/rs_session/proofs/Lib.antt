@@ -3,3 +3,5 @@ pub mod Rows
 pub mod Runs
 pub mod SubscriptionLemmas
 pub mod Limits
+pub mod Replaying
+pub mod Keeping

@@ -5,4 +5,6 @@ pub mod Reasons
 pub mod Table
 pub mod Steps
 pub mod Run
+pub mod Replay
+pub mod Kept
 pub mod Local

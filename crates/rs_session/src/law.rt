@@ -1,7 +1,12 @@
 //! What holds of every run.
 
-ghost use Rattle.std.specs.Prelude.{◌≡◌, ℕ, List};
+ghost use Rattle.std.specs.Prelude.{◌≡◌, ℕ, List, [], ◌∷◌, ◌++◌};
 ghost use Rattle.rs_session.specs.Gate.{BeginsWith};
+ghost use Rattle.rs_packet.specs.declared.packet.Connect.{Connect};
+ghost use Rattle.rs_packet.specs.declared.packet.Publish.{Publish};
+ghost use Rattle.rs_packet.specs.declared.reply.Reply.{Reply};
+ghost use Rattle.rs_session.specs.Kept.{MarkGrows, lists_of, AreGrowing, SerialsRiseIn, point_after, IsToldKept, IsKeptIn};
+ghost use Rattle.rs_session.specs.Replay.{IsOpen, Opens, IsReplaying, IsSentInOrder};
 ghost use Rattle.rs_session.specs.Run.{Point, Turn, Run, IsWithinLimits};
 ghost use Rattle.rs_session.specs.State.{fresh};
 ghost use Rattle.rs_session.specs.declared.open.Open.{Open};
@@ -20,4 +25,31 @@ pub fn lists_grow()
 pub fn limits_kept()
     ensures { (assigned : List ℕ) (from to : Point) (turns : List Turn) (o : Open) → from.state ≡ fresh assigned → Run from turns to
         → to.state.phase ≡ phase.Open o → IsWithinLimits o }
+{}
+
+/// Does nothing, and says of every run of a new session that a CONNECT opened: the PUBLISH packets of its replies are what
+/// its window gave, in a run of the window's calls that the inputs and the lists make, turn by turn.
+pub fn replay_of_run()
+    // A session that is open after some turn was opened by the first one.
+    ensures opened { (assigned : List ℕ) (from to : Point) (before : List Turn) (turn : Turn) (after : List Turn) → from.state ≡ fresh assigned → Run from (before ++ turn ∷ after) to
+        → IsOpen turn.to.state.phase → (c : Connect) × Opens c (before ++ turn ∷ after) }
+    // What the turns call of the window is a run of its calls, so `replay_law` speaks of it.
+    ensures calls { (assigned : List ℕ) (from to : Point) (turns : List Turn) (c : Connect) → from.state ≡ fresh assigned → Run from turns to
+        → Opens c turns → IsReplaying c turns }
+    // What they queued is a front and then what waits, and the PUBLISH replies are the front, in order, each once, less
+    // what was dropped; and no more is unacknowledged than the lesser of the client's Receive Maximum and 1,024.
+    ensures sent { (c : Connect) (turns : List Turn) (r : IsReplaying c turns) → IsSentInOrder c turns r.made }
+{}
+
+/// Does nothing, and says of every run, from any point, how its lists grow, and that what it acknowledged stays in them.
+pub fn kept_of_run()
+    // Each list by which a filter was answered, and each that a turn leaves, begins with every one before it.
+    ensures lists { (from to : Point) (turns : List Turn) → Run from turns to → AreGrowing (from.seen ∷ (lists_of turns ++ to.seen ∷ [])) }
+    // Where the serials of each place rise in the lists, a retained publication that the client was told is kept stands
+    // once in the list that its turn leaves, and in every later one.
+    ensures publications { (from to : Point) (before : List Turn) (turn : Turn) (after : List Turn) (o : Open) (p : Publish) (answer : Reply) → Run from (before ++ turn ∷ after) to
+        → SerialsRiseIn (before ++ turn ∷ after) → (point_after from before).state.phase ≡ phase.Open o → IsToldKept o turn p answer
+        → IsKeptIn (point_after from before).mark turn p (turn.to.seen ∷ (lists_of after ++ to.seen ∷ [])) }
+    // Along a run the mark's serial never falls. So two publications that were told kept are two entries.
+    ensures marks { (from to : Point) (turns : List Turn) → Run from turns to → MarkGrows from.mark to.mark }
 {}

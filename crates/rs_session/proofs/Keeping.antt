@@ -1,0 +1,523 @@
+-- Lemmas on the lists along a run, and on the publications that it acknowledged.
+use Rattle.std.proofs.Common.{◌≡◌, ◌≢◌, ℕ, ◌==◌, ◌<◌, ◌⊎◌, Bool, true, false, cond, List, [], ◌∷◌, ◌++◌, map, length, Option, Some, None, Ok, refl, sym, ap, subst, ◌∙◌, inl, inr, append_assoc, append-nil, leb, suc, arith}
+use Rattle.std.specs.Prelude.{Contains}
+use Rattle.std.specs.List.{All, AllByRecursion, filter}
+use Rattle.std.specs.List.Sorted.{IsStrictlySortedBy}
+use Rattle.std.specs.Ordering.{nat_cmp}
+use Rattle.std.specs.Cmp.{ranked}
+use Rattle.std.specs.declared.cmp.Ordering.TheVariants.{Less}
+use Rattle.std.proofs.lemmas.Bool.Decides.{nat_tests}
+use Rattle.std.proofs.lemmas.List.Elements.{Contains-append_left}
+use Rattle.std.proofs.lemmas.Option.{none-some, same_Some}
+use Rattle.rs_packet.specs.declared.packet.Packet.{Packet}
+use Rattle.rs_packet.specs.declared.packet.Packet.TheVariants as packet
+use Rattle.rs_packet.specs.declared.packet.Publish.{Publish}
+use Rattle.rs_packet.specs.declared.packet.Qos.{Qos}
+use Rattle.rs_packet.specs.declared.packet.Qos.TheVariants as qos
+use Rattle.rs_packet.specs.declared.packet.Subscribe.{Subscribe}
+use Rattle.rs_packet.specs.declared.reply.Reply.{Reply}
+use Rattle.rs_packet.specs.declared.reply.Reply.TheVariants as reply
+use Rattle.rs_packet.specs.Replies.{reply_bytes}
+use Rattle.rs_packet.specs.Values.{Asked}
+use Rattle.rs_message.specs.declared.entry.Entry.{Entry}
+use Rattle.rs_message.specs.declared.entry.Operation.{Operation}
+use Rattle.rs_store.specs.History.{SerialsRise, serials_of}
+use Rattle.rs_store.proofs.Entries.{Among, among, all_among, all_weaker}
+use Rattle.std.proofs.lemmas.Map.Keys.{sorted_head, sorted_tail}
+use Rattle.rs_message.specs.Values.{OriginValue}
+use Rattle.rs_window.specs.Calls as window
+use Rattle.rs_window.specs.Packets.{reply_of}
+use Rattle.rs_window.specs.Values.{PublishValue}
+use Rattle.rs_session.specs.declared.open.Open.{Open}
+use Rattle.rs_session.specs.declared.open.Outcome.{Outcome}
+use Rattle.rs_session.specs.declared.open.Outcome.TheVariants.{Replies, Closes, Leaves}
+use Rattle.rs_session.specs.declared.phase.Closing.{Closing}
+use Rattle.rs_session.specs.declared.phase.Closing.TheVariants.{ByClient, ByServer, Dropped}
+use Rattle.rs_session.specs.declared.phase.Input.{Input}
+use Rattle.rs_session.specs.declared.phase.Input.TheVariants.{Whole, Broken}
+use Rattle.rs_session.specs.declared.phase.Phase.{Phase}
+use Rattle.rs_session.specs.declared.phase.Phase.TheVariants as phase
+use Rattle.rs_session.specs.Gate.{Mark, BeginsWith, Uses, IsSubmitted}
+use Rattle.rs_session.specs.Reasons.{quota_exceeded, bad_authentication_method, implementation_specific_error, unsupported_protocol_version}
+use Rattle.rs_session.specs.State.{State}
+use Rattle.rs_session.specs.Table.{acknowledged_by, acknowledgement_of, change, due_for, held_id, is_held, state_after, Grants, OpenCase, OpenRow, Case, Row, With_method, With_will, Connect_refused, Accepted, Connack_too_long, Other_version, Unexpected, In_session, Over, Faulty, With_alias, Bad_topic, Sent_again, Too_many_held, Not_retained, Kept, Topic_unread, Not_kept, Uncertain, Gate_closed, Released, Wrong_acknowledgement, Acknowledged, Shared_no_local, Not_subscribed, Subscribed, Not_unsubscribed, Unsubscribed, Connected_twice, Pinged, Disconnected}
+use Rattle.rs_session.specs.Run.{Point, Turn, GivesAll, IsTurn, Run}
+use Rattle.rs_session.specs.Replay.{listed}
+use Rattle.rs_session.specs.Kept.{MarkGrows, answering, lists_of, AreGrowing, point_after, SerialsRiseIn, IsToldKept, StandsOnce, IsKeptIn}
+use Rattle.rs_session.proofs.Rows.{begins_trans}
+use Rattle.rs_session.proofs.Replaying.{given_calls, left_replies, shut}
+
+-- ---- lists that grow
+
+-- each begins with the one before it, from the first to the last
+abbrev Chain : List Entry → List (List Entry) → List Entry → Type 0
+Chain first [] last = BeginsWith last first
+Chain first (list ∷ lists) last = BeginsWith list first × Chain list lists last
+
+chain_append : (first : List Entry) (before : List (List Entry)) (mid : List Entry) (after : List (List Entry)) (last : List Entry) → Chain first before mid → Chain mid after last → Chain first (before ++ mid ∷ after) last
+chain_append first [] mid after last h g = (h, g)
+chain_append first (list ∷ before) mid after last (h, more) g = (h, chain_append list before mid after last more g)
+
+chain_all : (seen first : List Entry) (lists : List (List Entry)) (last : List Entry) → BeginsWith first seen → Chain first lists last → AllByRecursion (λ later. BeginsWith later seen) (lists ++ last ∷ [])
+chain_all seen first [] last h g = (begins_trans seen first last h g, tt)
+chain_all seen first (list ∷ lists) last h (g, more) = let here = begins_trans seen first list h g in (here, chain_all seen list lists last here more)
+
+begins_itself : (list : List Entry) → BeginsWith list list
+begins_itself list = ([], sym (append-nil list))
+
+chain_grows : (first : List Entry) (lists : List (List Entry)) (last : List Entry) → Chain first lists last → AreGrowing (first ∷ (lists ++ last ∷ []))
+chain_grows first [] last h = ((h, tt), (tt, tt))
+chain_grows first (list ∷ lists) last (h, more) = (chain_all first first (list ∷ lists) last (begins_itself first) (h, more), chain_grows list lists last more)
+
+grants_chain : (now : ℕ) (filters : List Asked) (identifier : Option ℕ) (seen : List Entry) (old : Open) (codes : List ℕ) (answered : List (List Entry)) (list : List Entry) (new : Open)
+    → Grants now filters identifier seen old codes answered list new → Chain seen answered list
+grants_chain now [] identifier seen old codes answered list new (c, a, l, same) =
+    subst (λ (ls : List (List Entry)). Chain seen ls list) (sym a) (subst (λ (l : List Entry). BeginsWith l seen) (sym l) (begins_itself seen))
+grants_chain now (asked ∷ more) identifier seen old codes answered list new (code, rest, mid, later, between, c, a, begins, granted, grants) =
+    subst (λ (ls : List (List Entry)). Chain seen ls list) (sym a) (begins, grants_chain now more identifier mid between rest later list new grants)
+
+-- ---- the lists of a turn
+
+abbrev IsChained : Input → List (List Entry) → List Entry → List Entry → Outcome → Type 0
+IsChained input answered seen list (Replies answer) = (to : Phase) → Chain seen (answering input to answered) list
+IsChained input answered seen list (Closes code) = Unit {0}
+IsChained input answered seen list Leaves = Unit {0}
+
+-- an input that is no SUBSCRIBE
+no_filter : (input as_read : Input) (answered : List (List Entry)) (seen list : List Entry) (outcome : Outcome) → input ≡ as_read → ((to : Phase) → answering as_read to answered ≡ []) → BeginsWith list seen
+    → IsChained input answered seen list outcome
+no_filter input as_read answered seen list (Replies answer) i none grows =
+    subst (λ (read : Input). (to : Phase) → Chain seen (answering read to answered) list) (sym i) (λ to. subst (λ (ls : List (List Entry)). Chain seen ls list) (sym (none to)) grows)
+no_filter input as_read answered seen list (Closes code) i none grows = tt
+no_filter input as_read answered seen list Leaves i none grows = tt
+
+closes_chained : (input : Input) (answered : List (List Entry)) (seen list : List Entry) (outcome : Outcome) (code : ℕ) → outcome ≡ Closes code → IsChained input answered seen list outcome
+closes_chained input answered seen list outcome code out = subst (λ (o : Outcome). IsChained input answered seen list o) (sym out) tt
+
+acknowledges_none : (p : Packet) (a : window.Acknowledgement × ℕ) (answered : List (List Entry)) → acknowledgement_of p ≡ Some a → (to : Phase) → answering (Whole p) to answered ≡ []
+acknowledges_none (packet.Subscribe s) a answered is to = absurd (none-some a is)
+acknowledges_none p a answered is to = refl
+
+subscribe_chain : (s : Subscribe) (answered : List (List Entry)) (seen list : List Entry) → Chain seen answered list → BeginsWith list seen → (to : Phase) → Chain seen (answering (Whole (packet.Subscribe s)) to answered) list
+subscribe_chain s answered seen list h grows phase.Before = grows
+subscribe_chain s answered seen list h grows (phase.Open o) = h
+subscribe_chain s answered seen list h grows (phase.Ended closing) = grows
+
+row_chained : (case : OpenCase) (input : Input) (now : ℕ) (old : Open) (mark : Mark) (seen : List Entry) (answered : List (List Entry)) (list : List Entry) (used : Mark) (outcome : Outcome) (new : Open)
+    → OpenRow case input now old mark seen answered list used outcome new → BeginsWith list seen → IsChained input answered seen list outcome
+row_chained Connected_twice input now old mark seen answered list used outcome new (c, i, out, unchanged) g = closes_chained input answered seen list outcome _ out
+row_chained Faulty input now old mark seen answered list used outcome new (f, i, out, unchanged) g = closes_chained input answered seen list outcome _ out
+row_chained With_alias input now old mark seen answered list used outcome new (p, i, a, out, unchanged) g = closes_chained input answered seen list outcome _ out
+row_chained Bad_topic input now old mark seen answered list used outcome new (p, f, i, a, t, other, out, unchanged) g = closes_chained input answered seen list outcome _ out
+row_chained Sent_again input now old mark seen answered list used outcome new (p, i, a, t, held, out, unchanged) g = no_filter input _ answered seen list outcome i (λ to. refl) g
+row_chained Too_many_held input now old mark seen answered list used outcome new (p, i, a, t, many, out, unchanged) g = closes_chained input answered seen list outcome _ out
+row_chained Not_retained input now old mark seen answered list used outcome new (p, topic, i, taken, t, r, out, u, same) g = no_filter input _ answered seen list outcome i (λ to. refl) g
+row_chained Kept input now old mark seen answered list used outcome new (p, topic, operation, i, s, submitted, out, same) g = no_filter input _ answered seen list outcome i (λ to. refl) g
+row_chained Topic_unread input now old mark seen answered list used outcome new (p, i, taken, t, out, unchanged) g = no_filter input _ answered seen list outcome i (λ to. refl) g
+row_chained Not_kept input now old mark seen answered list used outcome new (p, topic, operation, i, s, out, same) g = no_filter input _ answered seen list outcome i (λ to. refl) g
+row_chained Uncertain input now old mark seen answered list used outcome new (p, topic, operation, i, s, out, same) g = closes_chained input answered seen list outcome _ out
+row_chained Gate_closed input now old mark seen answered list used outcome new (p, topic, operation, i, s, out, same) g = closes_chained input answered seen list outcome _ out
+row_chained Released input now old mark seen answered list used outcome new (a, i, out, u, same) g = no_filter input _ answered seen list outcome i (λ to. refl) g
+row_chained Wrong_acknowledgement input now old mark seen answered list used outcome new (p, ack, id, i, is, wrong, out, unchanged) g = closes_chained input answered seen list outcome _ out
+row_chained Acknowledged input now old mark seen answered list used outcome new (p, ack, id, answer, i, is, step, out, u, same) g =
+    no_filter input (Whole p) answered seen list outcome i (acknowledges_none p (ack, id) answered is) g
+row_chained Shared_no_local input now old mark seen answered list used outcome new (s, i, n, out, unchanged) g = closes_chained input answered seen list outcome _ out
+row_chained Not_subscribed input now old mark seen answered list used outcome new (s, i, n, out, unchanged) g = closes_chained input answered seen list outcome _ out
+row_chained Subscribed input now old mark seen answered list used outcome new (s, codes, i, n, grants, out, u) g =
+    let chain : Chain seen answered list = grants_chain now s.filters s.subscription seen old codes answered list new grants in
+    subst (λ (read : Input). IsChained read answered seen list outcome) (sym i) (subst (λ (o : Outcome). IsChained (Whole (packet.Subscribe s)) answered seen list o) (sym out) (subscribe_chain s answered seen list chain g))
+row_chained Not_unsubscribed input now old mark seen answered list used outcome new (u, i, out, unchanged) g = closes_chained input answered seen list outcome _ out
+row_chained Unsubscribed input now old mark seen answered list used outcome new (u, i, out, m, same) g = no_filter input _ answered seen list outcome i (λ to. refl) g
+row_chained Pinged input now old mark seen answered list used outcome new (i, out, unchanged) g = no_filter input _ answered seen list outcome i (λ to. refl) g
+row_chained Disconnected input now old mark seen answered list used outcome new (code, i, out, unchanged) g = subst (λ (o : Outcome). IsChained input answered seen list o) (sym out) tt
+
+none_at_end : (input : Input) (closing : Closing) (answered : List (List Entry)) → answering input (phase.Ended closing) answered ≡ []
+none_at_end (Whole (packet.Subscribe s)) closing answered = refl
+none_at_end (Whole p) closing answered = refl
+none_at_end (Broken fault) closing answered = refl
+
+-- where the session ends, no list is one of an answer
+ended_chain : (turn : Turn) (seen : List Entry) (due : Option Reply) (mid : State) (closing : Closing) → mid.phase ≡ phase.Ended closing → GivesAll turn.now due mid turn.replies turn.to.state → BeginsWith turn.to.seen seen
+    → Chain seen (answering turn.input turn.to.state.phase turn.answered) turn.to.seen
+ended_chain turn seen due mid closing is g grows =
+    let end : turn.to.state.phase ≡ phase.Ended closing = (left_replies turn.now due mid closing turn.replies g.left g.last turn.to.state is g.given g.none_left).0 in
+    subst (λ (ls : List (List Entry)). Chain seen ls turn.to.seen) (sym (ap (λ (p : Phase). answering turn.input p turn.answered) end ∙ none_at_end turn.input closing turn.answered)) grows
+
+phase_of : (a b : State) → a ≡ b → a.phase ≡ b.phase
+phase_of a b e = ap (λ (s : State). s.phase) e
+
+led_chain : (turn : Turn) (seen : List Entry) (outcome : Outcome) (left : Open) (old mid : State) (due : Option Reply) → IsChained turn.input turn.answered seen turn.to.seen outcome → mid ≡ state_after outcome old left
+    → GivesAll turn.now due mid turn.replies turn.to.state → BeginsWith turn.to.seen seen → Chain seen (answering turn.input turn.to.state.phase turn.answered) turn.to.seen
+led_chain turn seen (Replies answer) left old mid due chained same g grows = chained turn.to.state.phase
+led_chain turn seen (Closes code) left old mid due chained same g grows = ended_chain turn seen due mid (ByServer code) (phase_of mid _ same) g grows
+led_chain turn seen Leaves left old mid due chained same g grows = ended_chain turn seen due mid ByClient (phase_of mid _ same) g grows
+
+turn_chain : (from : Point) (turn : Turn) (case : Case) (due : Option Reply) (mid : State) → Row case turn.input turn.now from.state from.mark from.seen turn.answered turn.to.seen turn.to.mark due mid
+    → GivesAll turn.now due mid turn.replies turn.to.state → BeginsWith turn.to.seen from.seen → Chain from.seen (answering turn.input turn.to.state.phase turn.answered) turn.to.seen
+turn_chain from turn With_method due mid (c, i, before, m, refused) g grows = ended_chain turn from.seen due mid (ByServer bad_authentication_method) (phase_of mid _ refused.end) g grows
+turn_chain from turn With_will due mid (c, i, before, m, k, refused) g grows = ended_chain turn from.seen due mid (ByServer implementation_specific_error) (phase_of mid _ refused.end) g grows
+turn_chain from turn Connect_refused due mid (c, i, before, m, k, refused) g grows = ended_chain turn from.seen due mid (ByServer quota_exceeded) (phase_of mid _ refused.end) g grows
+turn_chain from turn Accepted due mid (c, i, before, m, k, short, u, d, same) g grows =
+    subst (λ (read : Input). Chain from.seen (answering read turn.to.state.phase turn.answered) turn.to.seen) (sym i) grows
+turn_chain from turn Connack_too_long due mid (c, i, before, m, k, long, u, d, same) g grows = ended_chain turn from.seen due mid (ByServer 0) (phase_of mid _ same) g grows
+turn_chain from turn Other_version due mid (i, before, u, d, same) g grows = ended_chain turn from.seen due mid (ByServer unsupported_protocol_version) (phase_of mid _ same) g grows
+turn_chain from turn Unexpected due mid (i, before, u, d, same) g grows = ended_chain turn from.seen due mid Dropped (phase_of mid _ same) g grows
+turn_chain from turn In_session due mid (o, left, outcome, is, (case, row), d, same) g grows =
+    let chained : IsChained turn.input turn.answered from.seen turn.to.seen outcome =
+    row_chained case turn.input turn.now o from.mark from.seen turn.answered turn.to.seen turn.to.mark outcome left row grows in
+    led_chain turn from.seen outcome left from.state mid due chained same g grows
+turn_chain from turn Over due mid (closing, is, u, d, same) g grows = ended_chain turn from.seen due mid closing (phase_of mid from.state same ∙ is) g grows
+
+run_chain : (from to : Point) (turns : List Turn) → Run from turns to → Chain from.seen (lists_of turns) to.seen
+run_chain from to [] e = ([], ap (λ (p : Point). p.seen) e ∙ sym (append-nil from.seen))
+run_chain from to (turn ∷ turns) (t, rest) =
+    chain_append from.seen (answering turn.input turn.to.state.phase turn.answered) turn.to.seen (lists_of turns) to.seen (turn_chain from turn t.case t.due t.mid t.row t.all_given t.grows)
+    (run_chain turn.to to turns rest)
+
+pub run_lists : (from to : Point) (turns : List Turn) → Run from turns to → AreGrowing (from.seen ∷ (lists_of turns ++ to.seen ∷ []))
+run_lists from to turns run = chain_grows from.seen (lists_of turns) to.seen (run_chain from to turns run)
+
+-- ---- an origin that stands once
+
+below_itself : (n : ℕ) → nat_cmp n n ≡ Less → ⊥
+below_itself n h = let less : n < n = ranked n n Less (sym h) in omega (arith, less)
+
+serials_first : (place : ℕ) (first : Entry) (rest : List Entry) (b : Bool) → (first.origin.place == place) ≡ b
+    → serials_of place (first ∷ rest) ≡ cond b (first.origin.serial ∷ serials_of place rest) (serials_of place rest)
+serials_first place first rest true e = ap (λ (b : Bool). map (λ (x : Entry). x.origin.serial) (cond b (first ∷ filter (λ (x : Entry). x.origin.place == place) rest) (filter (λ (x : Entry). x.origin.place == place) rest))) e
+serials_first place first rest false e = ap (λ (b : Bool). map (λ (x : Entry). x.origin.serial) (cond b (first ∷ filter (λ (x : Entry). x.origin.place == place) rest) (filter (λ (x : Entry). x.origin.place == place) rest))) e
+
+-- what holds of the serials of a place holds of each entry of that place
+each_serial : (P : ℕ → Type 0) (place : ℕ) (entries : List Entry) → AllByRecursion P (serials_of place entries) → AllByRecursion (λ (x : Entry). x.origin.place ≡ place → P x.origin.serial) entries
+each_serial P place [] all = tt
+each_serial P place (x ∷ xs) all = by_case (x.origin.place == place) refl (each_serial P place xs)
+  where
+    other_place : x.origin.place ≡ place → (x.origin.place == place) ≡ false → ⊥
+    other_place same e = grind (arith, nat_tests)
+
+    by_case : (b : Bool) → (x.origin.place == place) ≡ b → (AllByRecursion P (serials_of place xs) → AllByRecursion (λ (y : Entry). y.origin.place ≡ place → P y.origin.serial) xs)
+        → AllByRecursion (λ (y : Entry). y.origin.place ≡ place → P y.origin.serial) (x ∷ xs)
+    by_case true e rest = let h : AllByRecursion P (x.origin.serial ∷ serials_of place xs) = subst (AllByRecursion P) (serials_first place x xs true e) all in ((λ same. h.0), rest h.1)
+    by_case false e rest =
+        let h : AllByRecursion P (serials_of place xs) = subst (AllByRecursion P) (serials_first place x xs false e) all in ((λ same. absurd (other_place same e)), rest h)
+
+-- above a serial there is no other entry of that origin
+none_above : (e : Entry) (entries : List Entry) → AllByRecursion (λ y. nat_cmp e.origin.serial y ≡ Less) (serials_of e.origin.place entries) → AllByRecursion (λ (x : Entry). x.origin ≢ e.origin) entries
+none_above e entries all = all_weaker (λ (x : Entry). x.origin.place ≡ e.origin.place → nat_cmp e.origin.serial x.origin.serial ≡ Less) (λ (x : Entry). x.origin ≢ e.origin) other entries (each_serial (λ y. nat_cmp e.origin.serial y ≡ Less) e.origin.place entries all)
+  where
+    other : (x : Entry) → (x.origin.place ≡ e.origin.place → nat_cmp e.origin.serial x.origin.serial ≡ Less) → x.origin ≢ e.origin
+    other x above same =
+        let less : nat_cmp e.origin.serial x.origin.serial ≡ Less = above (ap (λ (o : OriginValue). o.place) same) in
+        below_itself e.origin.serial (subst (λ n. nat_cmp e.origin.serial n ≡ Less) (ap (λ (o : OriginValue). o.serial) same) less)
+
+once : (e : Entry) (list : List Entry) → IsStrictlySortedBy nat_cmp (serials_of e.origin.place list) → Among e list → StandsOnce e list
+once e [] sorted h = absurd h
+once e (x ∷ xs) sorted (inl same) =
+    let itself : (e.origin.place == e.origin.place) ≡ true = grind (arith, nat_tests) in
+    let here : (x.origin.place == e.origin.place) ≡ true = ap (λ (y : Entry). y.origin.place == e.origin.place) same ∙ itself in
+    let rises : IsStrictlySortedBy nat_cmp (x.origin.serial ∷ serials_of e.origin.place xs) = subst (IsStrictlySortedBy nat_cmp) (serials_first e.origin.place x xs true here) sorted in
+    let above : AllByRecursion (λ y. nat_cmp x.origin.serial y ≡ Less) (serials_of e.origin.place xs) = sorted_head nat_cmp x.origin.serial (serials_of e.origin.place xs) rises in
+    record {
+      front = [];
+      rest = xs;
+      whole = ap (λ (y : Entry). y ∷ xs) same;
+      before = tt;
+      after = none_above e xs (subst (λ (n : ℕ). AllByRecursion (λ y. nat_cmp n y ≡ Less) (serials_of e.origin.place xs)) (ap (λ (y : Entry). y.origin.serial) same) above);
+    }
+once e (x ∷ xs) sorted (inr among_rest) = by_case (x.origin.place == e.origin.place) refl (λ rises. once e xs rises among_rest)
+  where
+    with_first : x.origin ≢ e.origin → StandsOnce e xs → StandsOnce e (x ∷ xs)
+    with_first differs s = record { front = x ∷ s.front; rest = s.rest; whole = ap (λ (ys : List Entry). x ∷ ys) s.whole; before = (differs, s.before); after = s.after }
+
+    by_case : (b : Bool) → (x.origin.place == e.origin.place) ≡ b → (IsStrictlySortedBy nat_cmp (serials_of e.origin.place xs) → StandsOnce e xs) → StandsOnce e (x ∷ xs)
+    by_case true here later =
+        let rises : IsStrictlySortedBy nat_cmp (x.origin.serial ∷ serials_of e.origin.place xs) = subst (IsStrictlySortedBy nat_cmp) (serials_first e.origin.place x xs true here) sorted in
+        let above = each_serial (λ y. nat_cmp x.origin.serial y ≡ Less) e.origin.place xs (sorted_head nat_cmp x.origin.serial (serials_of e.origin.place xs) rises) in
+        let less : nat_cmp x.origin.serial e.origin.serial ≡ Less = all_among (λ (y : Entry). y.origin.place ≡ e.origin.place → nat_cmp x.origin.serial y.origin.serial ≡ Less) e xs above among_rest refl in
+        with_first (λ same. below_itself e.origin.serial (subst (λ n. nat_cmp n e.origin.serial ≡ Less) (ap (λ (o : OriginValue). o.serial) same) less)) (later (sorted_tail nat_cmp x.origin.serial (serials_of e.origin.place xs) rises))
+    by_case false here later =
+        let rises : IsStrictlySortedBy nat_cmp (serials_of e.origin.place xs) = subst (IsStrictlySortedBy nat_cmp) (serials_first e.origin.place x xs false here) sorted in
+        with_first (λ same. let places : x.origin.place ≡ e.origin.place = ap (λ (o : OriginValue). o.place) same in absurd (grind (arith, nat_tests))) (later rises)
+
+-- ---- what a client was told
+
+abbrev IsAck : Reply → Type 0
+IsAck (reply.Puback n code) = Unit {0}
+IsAck (reply.Pubrec n code) = Unit {0}
+IsAck r = ⊥
+
+ack_by : (quality : Qos) (id : Option ℕ) (code : ℕ) (answer : Reply) → acknowledged_by quality id code ≡ Some answer → IsAck answer
+ack_by qos.AtMostOnce id code answer e = absurd (none-some answer e)
+ack_by qos.AtLeastOnce None code answer e = absurd (none-some answer e)
+ack_by qos.AtLeastOnce (Some n) code answer e = subst IsAck (same_Some (reply.Puback n code) answer e) tt
+ack_by qos.ExactlyOnce None code answer e = absurd (none-some answer e)
+ack_by qos.ExactlyOnce (Some n) code answer e = subst IsAck (same_Some (reply.Pubrec n code) answer e) tt
+
+abbrev code_of : Reply → ℕ
+code_of (reply.Puback n code) = code
+code_of (reply.Pubrec n code) = code
+code_of r = 0
+
+code_by : (quality : Qos) (id : Option ℕ) (code : ℕ) (answer : Reply) → acknowledged_by quality id code ≡ Some answer → code_of answer ≡ code
+code_by qos.AtMostOnce id code answer e = absurd (none-some answer e)
+code_by qos.AtLeastOnce None code answer e = absurd (none-some answer e)
+code_by qos.AtLeastOnce (Some n) code answer e = ap code_of (sym (same_Some (reply.Puback n code) answer e))
+code_by qos.ExactlyOnce None code answer e = absurd (none-some answer e)
+code_by qos.ExactlyOnce (Some n) code answer e = ap code_of (sym (same_Some (reply.Pubrec n code) answer e))
+
+-- not both codes were told
+one_code : {A : Type 0} (p : Publish) (answer : Reply) → acknowledged_by p.qos p.id 0 ≡ Some answer → acknowledged_by p.qos p.id quota_exceeded ≡ Some answer → A
+one_code p answer zero full = let same : 0 ≡ quota_exceeded = sym (code_by p.qos p.id 0 answer zero) ∙ code_by p.qos p.id quota_exceeded answer full in absurd (omega (arith, same))
+
+among_append : (r : Reply) (xs ys : List Reply) → Among r (xs ++ ys) → Among r xs ⊎ Among r ys
+among_append r [] ys h = inr h
+among_append r (x ∷ xs) ys (inl e) = inl (inl e)
+among_append r (x ∷ xs) ys (inr h) = by_case (among_append r xs ys h)
+  where
+    by_case : Among r xs ⊎ Among r ys → Among r (x ∷ xs) ⊎ Among r ys
+    by_case (inl a) = inl (inr a)
+    by_case (inr b) = inr b
+
+no_ack_given : (r : Reply) (given : List PublishValue) → IsAck r → Among r (map reply_of given) → ⊥
+no_ack_given r [] ack h = h
+no_ack_given r (p ∷ given) ack (inl e) = subst IsAck (sym e) ack
+no_ack_given r (p ∷ given) ack (inr h) = no_ack_given r given ack h
+
+-- a reply that is due is that of the outcome
+due_is : (limit : ℕ) (outcome : Outcome) (r : Reply) → IsAck r → Among r (listed (due_for limit outcome)) → outcome ≡ Replies (Some r)
+due_is limit (Replies None) r ack h = absurd h
+due_is limit (Replies (Some first)) r ack h = by_case (leb (length (reply_bytes first)) limit) h
+  where
+    by_case : (b : Bool) → Among r (listed (cond b (Some first) None)) → Replies (Some first) ≡ Replies (Some r)
+    by_case true (inl e) = ap (λ (x : Reply). let o : Outcome = Replies (Some x) in o) e
+    by_case true (inr none) = absurd none
+    by_case false none = absurd none
+due_is limit (Closes code) r ack h = by_case (leb (length (reply_bytes (reply.Disconnect code))) limit) h
+  where
+    by_case : (b : Bool) → Among r (listed (cond b (Some (reply.Disconnect code)) None)) → Closes code ≡ Replies (Some r)
+    by_case true (inl e) = absurd (subst IsAck (sym e) ack)
+    by_case true (inr none) = absurd none
+    by_case false none = absurd none
+due_is limit Leaves r ack h = absurd h
+
+replied_by : (turn : Turn) (limit : ℕ) (outcome : Outcome) (left : Open) (old mid : State) (due : Option Reply) (r : Reply) → due ≡ due_for limit outcome → mid ≡ state_after outcome old left
+    → GivesAll turn.now due mid turn.replies turn.to.state → IsAck r → Among r turn.replies → outcome ≡ Replies (Some r)
+replied_by turn limit (Replies answer) left old mid due r d same g ack h =
+    let (given, n, is, run, whole) = given_calls turn.now due mid left turn.replies g.left g.last turn.to.state (phase_of mid _ same) g.given g.none_left in
+    by_case given (among_append r (listed due) (map reply_of given) (subst (λ (rs : List Reply). Among r rs) whole h))
+  where
+    by_case : (given : List PublishValue) → Among r (listed due) ⊎ Among r (map reply_of given) → Replies answer ≡ Replies (Some r)
+    by_case given (inl a) = due_is limit (Replies answer) r ack (subst (λ (o : Option Reply). Among r (listed o)) d a)
+    by_case given (inr b) = absurd (no_ack_given r given ack b)
+replied_by turn limit (Closes code) left old mid due r d same g ack h =
+    let whole = (left_replies turn.now due mid (ByServer code) turn.replies g.left g.last turn.to.state (phase_of mid _ same) g.given g.none_left).1 in
+    due_is limit (Closes code) r ack (subst (λ (o : Option Reply). Among r (listed o)) d (subst (λ (rs : List Reply). Among r rs) whole h))
+replied_by turn limit Leaves left old mid due r d same g ack h =
+    let whole = (left_replies turn.now due mid ByClient turn.replies g.left g.last turn.to.state (phase_of mid _ same) g.given g.none_left).1 in
+    due_is limit Leaves r ack (subst (λ (o : Option Reply). Among r (listed o)) d (subst (λ (rs : List Reply). Among r rs) whole h))
+
+-- ---- the row that keeps it
+
+abbrev publish_in : Input → Option Publish
+publish_in (Whole (packet.Publish p)) = Some p
+publish_in input = None
+
+no_publish : {A : Type 0} (input as_read : Input) (p : Publish) → input ≡ as_read → publish_in as_read ≡ None → input ≡ Whole (packet.Publish p) → A
+no_publish input as_read p i none is = absurd (none-some p (sym none ∙ ap publish_in (sym i ∙ is)))
+
+same_publish : (input : Input) (p q : Publish) → input ≡ Whole (packet.Publish q) → input ≡ Whole (packet.Publish p) → q ≡ p
+same_publish input p q i is = same_Some q p (ap publish_in (sym i ∙ is))
+
+abbrev answer_in : Outcome → Option (Option Reply)
+answer_in (Replies answer) = Some answer
+answer_in (Closes code) = None
+answer_in Leaves = None
+
+no_answer : {A : Type 0} (outcome as_led : Outcome) (answer : Reply) → outcome ≡ as_led → answer_in as_led ≡ None → outcome ≡ Replies (Some answer) → A
+no_answer outcome as_led answer out none is = absurd (none-some (Some answer) (sym none ∙ ap answer_in (sym out ∙ is)))
+
+same_answer : (outcome : Outcome) (a : Option Reply) (answer : Reply) → outcome ≡ Replies a → outcome ≡ Replies (Some answer) → a ≡ Some answer
+same_answer outcome a answer out is = same_Some a (Some answer) (ap answer_in (sym out ∙ is))
+
+true_false : {A : Type 0} (b : Bool) → b ≡ true → b ≡ false → A
+true_false b t f = absurd (subst IsIt (sym t ∙ f) tt)
+  where
+    IsIt : Bool → Type 0
+    IsIt true = Unit {0}
+    IsIt false = ⊥
+
+acknowledges_no_publish : (p : Packet) (a : window.Acknowledgement × ℕ) → acknowledgement_of p ≡ Some a → publish_in (Whole p) ≡ None
+acknowledges_no_publish (packet.Publish p) a is = absurd (none-some a is)
+acknowledges_no_publish p a is = refl
+
+abbrev IsEntered : Publish → ℕ → Mark → Mark → List Entry → Type 0
+IsEntered p now mark used list = (topic : List ℕ) × (operation : Operation) × (p.topic ≡ Ok topic) × (change p topic now ≡ Some operation) × IsSubmitted operation mark used list
+
+row_kept : (case : OpenCase) (input : Input) (now : ℕ) (old : Open) (mark : Mark) (seen : List Entry) (answered : List (List Entry)) (list : List Entry) (used : Mark) (outcome : Outcome) (new : Open) (p : Publish) (answer : Reply)
+    → OpenRow case input now old mark seen answered list used outcome new → input ≡ Whole (packet.Publish p) → p.retain ≡ true → is_held (held_id p.qos p.id) old.inbound ≡ false
+    → acknowledged_by p.qos p.id 0 ≡ Some answer → outcome ≡ Replies (Some answer) → IsEntered p now mark used list
+row_kept Connected_twice input now old mark seen answered list used outcome new p answer (c, i, out, unchanged) is r f a o = no_publish input _ p i refl is
+row_kept Faulty input now old mark seen answered list used outcome new p answer (k, i, out, unchanged) is r f a o = no_publish input _ p i refl is
+row_kept With_alias input now old mark seen answered list used outcome new p answer (q, i, al, out, unchanged) is r f a o = no_answer outcome _ answer out refl o
+row_kept Bad_topic input now old mark seen answered list used outcome new p answer (q, k, i, al, t, other, out, unchanged) is r f a o = no_answer outcome _ answer out refl o
+row_kept Sent_again input now old mark seen answered list used outcome new p answer (q, i, al, t, held, out, unchanged) is r f a o =
+    let same : q ≡ p = same_publish input p q i is in
+    true_false (is_held (held_id q.qos q.id) old.inbound) held (ap (λ (x : Publish). is_held (held_id x.qos x.id) old.inbound) same ∙ f)
+row_kept Too_many_held input now old mark seen answered list used outcome new p answer (q, i, al, t, many, out, unchanged) is r f a o = no_answer outcome _ answer out refl o
+row_kept Not_retained input now old mark seen answered list used outcome new p answer (q, topic, i, taken, t, not_retained, out, u, same) is r f a o =
+    true_false p.retain r (sym (ap (λ (x : Publish). x.retain) (same_publish input p q i is)) ∙ not_retained)
+row_kept Kept input now old mark seen answered list used outcome new p answer (q, topic, operation, i, s, submitted, out, same) is r f a o =
+    let same_p : q ≡ p = same_publish input p q i is in
+    subst (λ (x : Publish). IsEntered x now mark used list) same_p (topic, operation, s.is_topic, s.changes, submitted)
+row_kept Topic_unread input now old mark seen answered list used outcome new p answer (q, i, taken, t, out, unchanged) is r f a o =
+    one_code p answer a (sym (ap (λ (x : Publish). acknowledged_by x.qos x.id quota_exceeded) (same_publish input p q i is)) ∙ same_answer outcome _ answer out o)
+row_kept Not_kept input now old mark seen answered list used outcome new p answer (q, topic, operation, i, s, out, same) is r f a o =
+    one_code p answer a (sym (ap (λ (x : Publish). acknowledged_by x.qos x.id quota_exceeded) (same_publish input p q i is)) ∙ same_answer outcome _ answer out o)
+row_kept Uncertain input now old mark seen answered list used outcome new p answer (q, topic, operation, i, s, out, same) is r f a o = no_answer outcome _ answer out refl o
+row_kept Gate_closed input now old mark seen answered list used outcome new p answer (q, topic, operation, i, s, out, same) is r f a o = no_answer outcome _ answer out refl o
+row_kept Released input now old mark seen answered list used outcome new p answer (k, i, out, u, same) is r f a o = no_publish input _ p i refl is
+row_kept Wrong_acknowledgement input now old mark seen answered list used outcome new p answer (q, ack, id, i, at, wrong, out, unchanged) is r f a o = no_answer outcome _ answer out refl o
+row_kept Acknowledged input now old mark seen answered list used outcome new p answer (q, ack, id, k, i, at, step, out, u, same) is r f a o = no_publish input (Whole q) p i (acknowledges_no_publish q (ack, id) at) is
+row_kept Shared_no_local input now old mark seen answered list used outcome new p answer (s, i, n, out, unchanged) is r f a o = no_publish input _ p i refl is
+row_kept Not_subscribed input now old mark seen answered list used outcome new p answer (s, i, n, out, unchanged) is r f a o = no_publish input _ p i refl is
+row_kept Subscribed input now old mark seen answered list used outcome new p answer (s, codes, i, n, grants, out, u) is r f a o = no_publish input _ p i refl is
+row_kept Not_unsubscribed input now old mark seen answered list used outcome new p answer (u, i, out, unchanged) is r f a o = no_publish input _ p i refl is
+row_kept Unsubscribed input now old mark seen answered list used outcome new p answer (u, i, out, m, same) is r f a o = no_publish input _ p i refl is
+row_kept Pinged input now old mark seen answered list used outcome new p answer (i, out, unchanged) is r f a o = no_publish input _ p i refl is
+row_kept Disconnected input now old mark seen answered list used outcome new p answer (code, i, out, unchanged) is r f a o = no_publish input _ p i refl is
+
+abbrev open_or : Open → Phase → Open
+open_or other phase.Before = other
+open_or other (phase.Open o) = o
+open_or other (phase.Ended closing) = other
+
+turn_kept : (from : Point) (turn : Turn) (o : Open) (p : Publish) (answer : Reply) (case : Case) (due : Option Reply) (mid : State) → from.state.phase ≡ phase.Open o → IsToldKept o turn p answer
+    → Row case turn.input turn.now from.state from.mark from.seen turn.answered turn.to.seen turn.to.mark due mid → GivesAll turn.now due mid turn.replies turn.to.state
+    → IsEntered p turn.now from.mark turn.to.mark turn.to.seen
+turn_kept from turn o p answer With_method due mid is told (c, i, before, m, refused) g = shut (phase.Open o) phase.Before (sym is ∙ before) tt (λ n. n)
+turn_kept from turn o p answer With_will due mid is told (c, i, before, m, k, refused) g = shut (phase.Open o) phase.Before (sym is ∙ before) tt (λ n. n)
+turn_kept from turn o p answer Connect_refused due mid is told (c, i, before, m, k, refused) g = shut (phase.Open o) phase.Before (sym is ∙ before) tt (λ n. n)
+turn_kept from turn o p answer Accepted due mid is told (c, i, before, m, k, short, u, d, same) g = shut (phase.Open o) phase.Before (sym is ∙ before) tt (λ n. n)
+turn_kept from turn o p answer Connack_too_long due mid is told (c, i, before, m, k, long, u, d, same) g = shut (phase.Open o) phase.Before (sym is ∙ before) tt (λ n. n)
+turn_kept from turn o p answer Other_version due mid is told (i, before, u, d, same) g = shut (phase.Open o) phase.Before (sym is ∙ before) tt (λ n. n)
+turn_kept from turn o p answer Unexpected due mid is told (i, before, u, d, same) g = shut (phase.Open o) phase.Before (sym is ∙ before) tt (λ n. n)
+turn_kept from turn o p answer In_session due mid is told (at, left, outcome, here, (case, row), d, same) g =
+    let same_open : o ≡ at = ap (open_or o) (sym is ∙ here) in
+    let new : is_held (held_id p.qos p.id) at.inbound ≡ false = subst (λ (x : Open). is_held (held_id p.qos p.id) x.inbound ≡ false) same_open told.new in
+    let out : outcome ≡ Replies (Some answer) =
+    replied_by turn at.window.packet_maximum outcome left from.state mid due answer d same g (ack_by p.qos p.id 0 answer told.code) (among answer turn.replies told.replied) in
+    row_kept case turn.input turn.now at from.mark from.seen turn.answered turn.to.seen turn.to.mark outcome left p answer row told.input told.retained new told.code out
+turn_kept from turn o p answer Over due mid is told (closing, ended, u, d, same) g = shut (phase.Open o) (phase.Ended closing) (sym is ∙ ended) tt (λ n. n)
+
+-- ---- the lists of a gate
+
+all_each : {A : Type 0} (P : A → Type 0) (xs : List A) → All P xs → AllByRecursion P xs
+all_each P [] all = tt
+all_each P (x ∷ xs) all = (all 0 x (omega arith), all_each P xs (λ k d h. all (suc k) d (omega (arith, h))))
+
+all_append : {A : Type 0} (P : A → Type 0) (xs ys : List A) → AllByRecursion P xs → AllByRecursion P ys → AllByRecursion P (xs ++ ys)
+all_append P [] ys h g = g
+all_append P (x ∷ xs) ys (first, h) g = (first, all_append P xs ys h g)
+
+all_answering : (P : List Entry → Type 0) (input : Input) (to : Phase) (answered : List (List Entry)) → AllByRecursion P answered → AllByRecursion P (answering input to answered)
+all_answering P (Whole (packet.Subscribe s)) phase.Before answered h = tt
+all_answering P (Whole (packet.Subscribe s)) (phase.Open o) answered h = h
+all_answering P (Whole (packet.Subscribe s)) (phase.Ended closing) answered h = tt
+all_answering P (Whole p) to answered h = tt
+all_answering P (Broken fault) to answered h = tt
+
+lists_rise : (from to : Point) (turns : List Turn) → Run from turns to
+    → SerialsRiseIn turns → SerialsRise from.seen → AllByRecursion SerialsRise (lists_of turns ++ to.seen ∷ [])
+lists_rise from to [] e of_gate rises = (subst (λ (p : Point). SerialsRise p.seen) (sym e) rises, tt)
+lists_rise from to (turn ∷ turns) (t, rest) (here, later) rises =
+    let after : SerialsRise turn.to.seen = here.seen in
+    let answers = all_answering SerialsRise turn.input turn.to.state.phase turn.answered
+    (all_each SerialsRise turn.answered here.answered) in
+    let more = lists_rise turn.to to turns rest later after in
+    subst (AllByRecursion SerialsRise) (sym (append_assoc (answering turn.input turn.to.state.phase turn.answered) (turn.to.seen ∷ lists_of turns) (to.seen ∷ [])))
+    (all_append SerialsRise (answering turn.input turn.to.state.phase turn.answered) (turn.to.seen ∷ (lists_of turns ++ to.seen ∷ [])) answers (after, more))
+
+all_once : (e : Entry) (seen : List Entry) (lists : List (List Entry)) → Contains seen e → AllByRecursion (λ later. BeginsWith later seen) lists → AllByRecursion SerialsRise lists → AllByRecursion (StandsOnce e) lists
+all_once e seen [] there begin rise = tt
+all_once e seen (list ∷ lists) there ((more, whole), begin) (rises, rise) =
+    let here : Contains list e = subst (λ (l : List Entry). Contains l e) (sym whole) (Contains-append_left seen more e there) in
+    (once e list (rises e.origin.place) (among e list here), all_once e seen lists there begin rise)
+
+run_cut : (from to : Point) (before : List Turn) (turn : Turn) (after : List Turn) → Run from (before ++ turn ∷ after) to → IsTurn (point_after from before) turn × Run turn.to after to
+run_cut from to [] turn after run = run
+run_cut from to (first ∷ before) turn after (t, rest) = run_cut first.to to before turn after rest
+
+rising_cut : (before : List Turn) (turn : Turn) (after : List Turn) → SerialsRiseIn (before ++ turn ∷ after) → SerialsRiseIn (turn ∷ after)
+rising_cut [] turn after h = h
+rising_cut (first ∷ before) turn after (t, rest) = rising_cut before turn after rest
+
+pub run_keeps : (from to : Point) (before : List Turn) (turn : Turn) (after : List Turn) (o : Open) (p : Publish) (answer : Reply)
+    → Run from (before ++ turn ∷ after) to → SerialsRiseIn (before ++ turn ∷ after) → (point_after from before).state.phase ≡ phase.Open o → IsToldKept o turn p answer
+    → IsKeptIn (point_after from before).mark turn p (turn.to.seen ∷ (lists_of after ++ to.seen ∷ []))
+run_keeps from to before turn after o p answer run rising is told =
+    let (t, rest) = run_cut from to before turn after run in
+    let (here, later) = rising_cut before turn after rising in
+    let rises : SerialsRise turn.to.seen = here.seen in
+    let (topic, operation, is_topic, changes, submitted) = turn_kept (point_after from before) turn o p answer t.case t.due t.mid is told t.row t.all_given in
+    let begin = chain_all turn.to.seen turn.to.seen (lists_of after) to.seen (begins_itself turn.to.seen) (run_chain turn.to to after rest) in
+    let rise = lists_rise turn.to to after rest later rises in
+    record {
+      topic = topic;
+      operation = operation;
+      is_topic = is_topic;
+      changes = changes;
+      used = submitted.serial;
+      kept = all_once _ turn.to.seen (turn.to.seen ∷ (lists_of after ++ to.seen ∷ [])) submitted.entry (begins_itself turn.to.seen, begin) (rises, rise);
+    }
+
+-- ---- the marks
+
+grows_itself : (mark used : Mark) → used ≡ mark → MarkGrows mark used
+grows_itself mark used e = record { place = ap (λ (m : Mark). m.place) e; serial = omega (arith, ap (λ (m : Mark). m.serial) e) }
+
+uses_grows : (mark used : Mark) → Uses mark used → MarkGrows mark used
+uses_grows mark used u = record { place = u.place; serial = u.no_lower }
+
+row_marks : (case : OpenCase) (input : Input) (now : ℕ) (old : Open) (mark : Mark) (seen : List Entry) (answered : List (List Entry)) (list : List Entry) (used : Mark) (outcome : Outcome) (new : Open)
+    → OpenRow case input now old mark seen answered list used outcome new → MarkGrows mark used
+row_marks Connected_twice input now old mark seen answered list used outcome new (c, i, out, unchanged) = grows_itself mark used unchanged.none_used
+row_marks Faulty input now old mark seen answered list used outcome new (f, i, out, unchanged) = grows_itself mark used unchanged.none_used
+row_marks With_alias input now old mark seen answered list used outcome new (p, i, a, out, unchanged) = grows_itself mark used unchanged.none_used
+row_marks Bad_topic input now old mark seen answered list used outcome new (p, f, i, a, t, other, out, unchanged) = grows_itself mark used unchanged.none_used
+row_marks Sent_again input now old mark seen answered list used outcome new (p, i, a, t, held, out, unchanged) = grows_itself mark used unchanged.none_used
+row_marks Too_many_held input now old mark seen answered list used outcome new (p, i, a, t, many, out, unchanged) = grows_itself mark used unchanged.none_used
+row_marks Not_retained input now old mark seen answered list used outcome new (p, topic, i, taken, t, r, out, u, same) = grows_itself mark used u
+row_marks Kept input now old mark seen answered list used outcome new (p, topic, operation, i, s, submitted, out, same) = uses_grows mark used s.one_used
+row_marks Topic_unread input now old mark seen answered list used outcome new (p, i, taken, t, out, unchanged) = grows_itself mark used unchanged.none_used
+row_marks Not_kept input now old mark seen answered list used outcome new (p, topic, operation, i, s, out, same) = uses_grows mark used s.one_used
+row_marks Uncertain input now old mark seen answered list used outcome new (p, topic, operation, i, s, out, same) = uses_grows mark used s.one_used
+row_marks Gate_closed input now old mark seen answered list used outcome new (p, topic, operation, i, s, out, same) = uses_grows mark used s.one_used
+row_marks Released input now old mark seen answered list used outcome new (a, i, out, u, same) = grows_itself mark used u
+row_marks Wrong_acknowledgement input now old mark seen answered list used outcome new (p, ack, id, i, is, wrong, out, unchanged) = grows_itself mark used unchanged.none_used
+row_marks Acknowledged input now old mark seen answered list used outcome new (p, ack, id, answer, i, is, step, out, u, same) = grows_itself mark used u
+row_marks Shared_no_local input now old mark seen answered list used outcome new (s, i, n, out, unchanged) = grows_itself mark used unchanged.none_used
+row_marks Not_subscribed input now old mark seen answered list used outcome new (s, i, n, out, unchanged) = grows_itself mark used unchanged.none_used
+row_marks Subscribed input now old mark seen answered list used outcome new (s, codes, i, n, grants, out, u) = grows_itself mark used u
+row_marks Not_unsubscribed input now old mark seen answered list used outcome new (u, i, out, unchanged) = grows_itself mark used unchanged.none_used
+row_marks Unsubscribed input now old mark seen answered list used outcome new (u, i, out, m, same) = grows_itself mark used m
+row_marks Pinged input now old mark seen answered list used outcome new (i, out, unchanged) = grows_itself mark used unchanged.none_used
+row_marks Disconnected input now old mark seen answered list used outcome new (code, i, out, unchanged) = grows_itself mark used unchanged.none_used
+
+turn_marks : (case : Case) (input : Input) (now : ℕ) (old : State) (mark : Mark) (seen : List Entry) (answered : List (List Entry)) (list : List Entry) (used : Mark) (due : Option Reply) (new : State)
+    → Row case input now old mark seen answered list used due new → MarkGrows mark used
+turn_marks With_method input now old mark seen answered list used due new (c, i, before, m, refused) = grows_itself mark used refused.none_used
+turn_marks With_will input now old mark seen answered list used due new (c, i, before, m, w, refused) = grows_itself mark used refused.none_used
+turn_marks Connect_refused input now old mark seen answered list used due new (c, i, before, m, w, refused) = grows_itself mark used refused.none_used
+turn_marks Accepted input now old mark seen answered list used due new (c, i, before, m, w, short, u, d, same) = grows_itself mark used u
+turn_marks Connack_too_long input now old mark seen answered list used due new (c, i, before, m, w, long, u, d, same) = grows_itself mark used u
+turn_marks Other_version input now old mark seen answered list used due new (i, before, u, d, same) = grows_itself mark used u
+turn_marks Unexpected input now old mark seen answered list used due new (i, before, u, d, same) = grows_itself mark used u
+turn_marks In_session input now old mark seen answered list used due new (o, left, outcome, is, (case, row), d, same) = row_marks case input now o mark seen answered list used outcome left row
+turn_marks Over input now old mark seen answered list used due new (closing, is, u, d, same) = grows_itself mark used u
+
+pub run_marks : (from to : Point) (turns : List Turn) → Run from turns to → MarkGrows from.mark to.mark
+run_marks from to [] e = grows_itself from.mark to.mark (ap (λ (p : Point). p.mark) e)
+run_marks from to (turn ∷ turns) (t, rest) =
+    let here = turn_marks t.case turn.input turn.now from.state from.mark from.seen turn.answered turn.to.seen turn.to.mark t.due t.mid t.row in
+    let later = run_marks turn.to to turns rest in
+    record { place = later.place ∙ here.place; serial = omega (arith, here.serial, later.serial) }

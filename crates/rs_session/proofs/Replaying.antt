@@ -1,0 +1,620 @@
+-- Lemmas on the calls that a run of a session makes of its window.
+use Rattle.std.proofs.Common.{◌≡◌, ℕ, ◌⊎◌, ◌&&◌, Bool, true, false, cond, List, [], ◌∷◌, ◌++◌, map, Option, Some, None, Result, Ok, Err, refl, sym, ap, subst, ◌∙◌, inl, inr, append_assoc, append-nil, leb, nat_lt, length}
+use Rattle.std.specs.Prelude.{MatchBool, option_map}
+use Rattle.std.specs.FinMap as finite
+use Rattle.std.proofs.lemmas.Bool.{le-leb}
+use Rattle.std.proofs.lemmas.Option.{none-some, same_Some}
+use Rattle.rs_packet.specs.declared.packet.Connect.{Connect}
+use Rattle.rs_packet.specs.declared.packet.Options.{Options}
+use Rattle.rs_packet.specs.declared.packet.Packet.{Packet}
+use Rattle.rs_packet.specs.declared.packet.Packet.TheVariants as packet
+use Rattle.rs_packet.specs.declared.packet.Qos.{Qos}
+use Rattle.rs_packet.specs.declared.packet.Qos.TheVariants as qos
+use Rattle.rs_packet.specs.declared.reply.Publication.{Publication}
+use Rattle.rs_packet.specs.declared.reply.Reply.{Reply}
+use Rattle.rs_packet.specs.declared.reply.Reply.TheVariants as reply
+use Rattle.rs_packet.specs.Values.{Asked, Filter}
+use Rattle.rs_packet.specs.Grammar.{level}
+use Rattle.rs_packet.specs.Replies.{reply_bytes}
+use Rattle.rs_message.specs.declared.entry.Entry.{Entry}
+use Rattle.rs_window.specs.Calls as window
+use Rattle.rs_window.specs.Calls.{Call, Queue, Next, Acknowledge}
+use Rattle.rs_window.specs.Packets.{reply_of, publication_of}
+use Rattle.rs_window.specs.Replay as calls
+use Rattle.rs_window.specs.State as window_state
+use Rattle.rs_window.specs.Values.{PublishValue}
+use Rattle.rs_window.specs.Waiting.{AllDropped}
+use Rattle.rs_window.specs.declared.waiting.Waiting.{Waiting}
+use Rattle.rs_window.specs.declared.fault.Ack.{Ack}
+use Rattle.rs_window.specs.declared.fault.Ack.TheVariants as ack_case
+use Rattle.rs_window.specs.declared.fault.Ack.TheVariants.{Freed, Unknown}
+use Rattle.rs_window.specs.declared.fault.WindowFault.{WindowFault}
+use Rattle.rs_window.specs.Identifiers.{Kinds, kinds_put}
+use Rattle.rs_window.specs.declared.fault.WindowFault.TheVariants.{WrongKind}
+use Rattle.rs_window.specs.declared.identifiers.Kind.{Kind}
+use Rattle.rs_window.specs.declared.identifiers.Kind.TheVariants.{AtLeastOnce, ExactlyOnce, Received}
+use Rattle.rs_window.proofs.IdentifierLemmas.{put_same}
+use Rattle.rs_window.proofs.ReplayLemmas.{step_limits, replayed, kinds_read, quota_holds}
+use Rattle.rs_session.specs.declared.open.Open.{Open}
+use Rattle.rs_session.specs.declared.open.Outcome.{Outcome}
+use Rattle.rs_session.specs.declared.open.Outcome.TheVariants.{Replies, Closes, Leaves}
+use Rattle.rs_session.specs.declared.phase.Closing.{Closing}
+use Rattle.rs_session.specs.declared.phase.Closing.TheVariants.{ByClient, ByServer, Dropped}
+use Rattle.rs_session.specs.declared.phase.Input.{Input}
+use Rattle.rs_session.specs.declared.phase.Input.TheVariants.{Whole, Broken}
+use Rattle.rs_session.specs.declared.phase.Phase.{Phase}
+use Rattle.rs_session.specs.declared.phase.Phase.TheVariants as phase
+use Rattle.rs_session.specs.Gate.{Mark}
+use Rattle.rs_session.specs.Reasons.{packet_identifier_not_found, quota_exceeded, protocol_error, bad_authentication_method, implementation_specific_error, unsupported_protocol_version}
+use Rattle.rs_session.specs.Subscriptions.{Subscriptions, none, is_subscribed, replays}
+use Rattle.rs_session.specs.State.{State, fresh, closing_of, IsGiven, IsReplayed}
+use Rattle.rs_session.specs.Table.{acknowledged_by, acknowledgement_of, released_by, IsSubscribed, IsGrantedTo, Grants, OpenCase, OpenRow, Case, Row, due_for, state_after, connack, open_for, packet_limit, receive_limit, With_method, With_will, Connect_refused, Accepted, Connack_too_long, Other_version, Unexpected, In_session, Over, Faulty, With_alias, Bad_topic, Sent_again, Too_many_held, Not_retained, Kept, Topic_unread, Not_kept, Uncertain, Gate_closed, Wrong_acknowledgement, Acknowledged, Shared_no_local, Not_subscribed, Subscribed, Not_unsubscribed, Unsubscribed, Connected_twice, Pinged, Disconnected}
+use Rattle.rs_session.specs.Table as table
+use Rattle.rs_session.specs.Run.{Point, Turn, Gives, GivesAll, IsTurn, Run}
+use Rattle.rs_session.specs.Replay.{is_granted, subscribed_by, IsQueuedAt, IsQueuedFor, AreQueued, IsAcknowledged, AreCalledBy, acknowledgement_in, IsRefused, giving, listed, publications, IsNoPublish, IsServed, IsLast, AreMade, subscriptions_of, AreCalls, window_of, window_after, window_for, IsOpen, Opens, IsReplaying, AreSentOrDropped, AreSent, IsWithinQuota, IsSentInOrder}
+
+-- ---- a SUBSCRIBE
+
+level_granted : (quality : Qos) → is_granted (level quality) ≡ true
+level_granted qos.AtMostOnce = refl
+level_granted qos.AtLeastOnce = refl
+level_granted qos.ExactlyOnce = refl
+
+run_append : (from mid : window_state.State) (before after : List Call) (to : window_state.State) → calls.Run from before mid → calls.Run mid after to → calls.Run from (before ++ after) to
+run_append from mid [] after to e h = subst (λ (s : window_state.State). calls.Run s after to) e h
+run_append from mid (call ∷ before) after to (next, step, rest) h = (next, step, run_append next mid before after to rest h)
+
+-- what waits is as before, or all that is found waits behind it
+queued_calls : (replayed : Bool) (filter : List ℕ) (options : Options) (identifier : Option ℕ) (now : ℕ) (list : List Entry) (code : ℕ) (old new : Open) → code ≡ level options.qos
+    → MatchBool replayed (table.IsQueued now filter options.qos identifier list old new) (new.window ≡ old.window)
+    → (own : List Call) × calls.Run old.window own new.window × MatchBool replayed (IsQueuedAt filter options identifier now list code own) (own ≡ [])
+queued_calls true filter options identifier now list code old new c (found, answer, queued) =
+    (Queue found options.qos identifier (Ok tt) ∷ [], (new.window, queued, refl), (found, answer, c, refl))
+queued_calls false filter options identifier now list code old new c same = ([], same, refl)
+
+granted_calls : (asked : Filter) (options : Options) (identifier : Option ℕ) (now : ℕ) (list : List Entry) (old : Open) (code : ℕ) (new : Open) → IsGrantedTo asked options identifier now list old code new
+    → (own : List Call) × calls.Run old.window own new.window × IsQueuedFor asked options identifier now list code old.subscriptions own
+    × (new.subscriptions ≡ subscribed_by asked options identifier code old.subscriptions)
+granted_calls (Err fault) options identifier now list old code new (c, same) = ([], ap (λ (o : Open). o.window) same, refl, ap (λ (o : Open). o.subscriptions) same)
+granted_calls (Ok filter) options identifier now list old code new (inl (c, s)) =
+    let r : Bool = replays options.retain_handling (is_subscribed filter old.subscriptions) in
+    let e : is_granted code ≡ true = ap is_granted c ∙ level_granted options.qos in
+    let (own, run, queued) = queued_calls r filter options identifier now list code old new c s.replay in (
+      own,
+      run,
+      subst (λ (b : Bool). MatchBool (b && r) (IsQueuedAt filter options identifier now list code own) (own ≡ [])) (sym e) queued,
+      s.kept ∙ sym (ap (λ (b : Bool). cond b (finite.insert old.subscriptions filter (record { options = options; identifier = identifier })) old.subscriptions) e),
+    )
+granted_calls (Ok filter) options identifier now list old code new (inr (c, same)) =
+    let r : Bool = replays options.retain_handling (is_subscribed filter old.subscriptions) in
+    let e : is_granted code ≡ false = ap is_granted c in
+    let nothing : List Call = [] in (
+      [],
+      ap (λ (o : Open). o.window) same,
+      subst (λ (b : Bool). MatchBool (b && r) (IsQueuedAt filter options identifier now list code []) (nothing ≡ [])) (sym e) refl,
+      ap (λ (o : Open). o.subscriptions) same
+          ∙ sym (ap (λ (b : Bool). cond b (finite.insert old.subscriptions filter (record { options = options; identifier = identifier })) old.subscriptions) e),
+    )
+
+grants_calls : (now : ℕ) (filters : List Asked) (identifier : Option ℕ) (seen : List Entry) (old : Open) (codes : List ℕ) (answered : List (List Entry)) (list : List Entry) (new : Open)
+    → Grants now filters identifier seen old codes answered list new → (own : List Call) × calls.Run old.window own new.window × AreQueued now filters identifier codes answered old.subscriptions own
+grants_calls now [] identifier seen old codes answered list new (c, a, l, same) = ([], ap (λ (o : Open). o.window) same, (c, a, refl))
+grants_calls now (asked ∷ more) identifier seen old codes answered list new (code, rest, mid, later, between, c, a, begins, granted, grants) =
+    let (own, run, queued, kept) = granted_calls asked.0 asked.1 identifier now mid old code between granted in
+    let (others, runs, are) = grants_calls now more identifier mid between rest later list new grants in (
+      own ++ others,
+      run_append old.window between.window own others new.window run runs,
+      (code, rest, mid, later, own, others, c, a, refl, queued, subst (λ (there : Subscriptions). AreQueued now more identifier rest later there others) kept are),
+    )
+
+-- ---- the rows of an open session
+
+-- the calls of an input, by what it leads to
+abbrev IsLed : Input → ℕ → List (List Entry) → Open → Outcome → Open → Type 0
+IsLed input now answered old (Replies answer) new = (own : List Call) × calls.Run old.window own new.window × AreCalledBy input now answered old.subscriptions answer own × IsNoPublish answer
+IsLed input now answered old (Closes code) new = (own : List Call) × calls.Run old.window own old.window × IsRefused (acknowledgement_in input) own
+IsLed input now answered old Leaves new = (own : List Call) × calls.Run old.window own old.window × IsRefused (acknowledgement_in input) own
+
+-- it goes on with the same window
+answers : (input as_read : Input) (now : ℕ) (answered : List (List Entry)) (old : Open) (outcome : Outcome) (answer : Option Reply) (new : Open) → input ≡ as_read → outcome ≡ Replies answer → new.window ≡ old.window
+    → AreCalledBy as_read now answered old.subscriptions answer [] → IsNoPublish answer → IsLed input now answered old outcome new
+answers input as_read now answered old outcome answer new i out same called no_publish =
+    let led : IsLed as_read now answered old (Replies answer) new = ([], same, called, no_publish) in
+    subst (λ (read : Input). IsLed read now answered old outcome new) (sym i) (subst (λ (o : Outcome). IsLed as_read now answered old o new) (sym out) led)
+
+closes : (input as_read : Input) (now : ℕ) (answered : List (List Entry)) (old : Open) (outcome : Outcome) (code : ℕ) (new : Open) → input ≡ as_read → outcome ≡ Closes code
+    → IsRefused (acknowledgement_in as_read) [] → IsLed input now answered old outcome new
+closes input as_read now answered old outcome code new i out refused =
+    let led : IsLed as_read now answered old (Closes code) new = ([], refl, refused) in
+    subst (λ (read : Input). IsLed read now answered old outcome new) (sym i) (subst (λ (o : Outcome). IsLed as_read now answered old o new) (sym out) led)
+
+no_publish_by : (quality : Qos) (id : Option ℕ) (code : ℕ) → IsNoPublish (acknowledged_by quality id code)
+no_publish_by qos.AtMostOnce id code = tt
+no_publish_by qos.AtLeastOnce None code = tt
+no_publish_by qos.AtLeastOnce (Some n) code = tt
+no_publish_by qos.ExactlyOnce None code = tt
+no_publish_by qos.ExactlyOnce (Some n) code = tt
+
+no_publish_release : (code id : ℕ) (b : Bool) → IsNoPublish (cond b (Some (reply.Pubrel id code)) None)
+no_publish_release code id true = tt
+no_publish_release code id false = tt
+
+no_publish_released : (ack : window.Acknowledgement) (id : ℕ) (answer : Ack) → IsNoPublish (released_by ack id answer)
+no_publish_released window.Puback id answer = tt
+no_publish_released window.Pubcomp id answer = tt
+no_publish_released (window.Pubrec code) id ack_case.Released = tt
+no_publish_released (window.Pubrec code) id Freed = tt
+no_publish_released (window.Pubrec code) id Unknown = no_publish_release packet_identifier_not_found id (nat_lt code 0x80)
+
+acknowledging : (p : Packet) (now : ℕ) (answered : List (List Entry)) (there : Subscriptions) (reply : Option Reply) (ack : window.Acknowledgement) (id : ℕ) (answer : Ack) → acknowledgement_of p ≡ Some (ack, id)
+    → AreCalledBy (Whole p) now answered there reply (Acknowledge ack id (Ok answer) ∷ [])
+acknowledging (packet.Subscribe s) now answered there reply ack id answer is = absurd (none-some (ack, id) is)
+acknowledging p now answered there reply ack id answer is =
+    subst (λ (a : Option (window.Acknowledgement × ℕ)). IsAcknowledged a (Acknowledge ack id (Ok answer) ∷ [])) (sym is) (answer, refl)
+
+ok_is_not_err : (answer : Ack) → Ok answer ≡ Err WrongKind → ⊥
+ok_is_not_err answer e = subst IsOk e tt
+  where
+    IsOk : Result Ack WindowFault → Type 0
+    IsOk (Ok a) = Unit {0}
+    IsOk (Err fault) = ⊥
+
+-- what is left of a kind after an acknowledgement that it does not await is that kind
+wrong_left : (ack : window.Acknowledgement) (kind : Kind) → window.answer_to ack (Some kind) ≡ Err WrongKind → window.kind_acknowledged ack kind ≡ Some kind
+wrong_left window.Puback AtLeastOnce e = absurd (ok_is_not_err Freed e)
+wrong_left window.Puback ExactlyOnce e = refl
+wrong_left window.Puback Received e = refl
+wrong_left (window.Pubrec code) AtLeastOnce e = refl
+wrong_left (window.Pubrec code) ExactlyOnce e = by_case (nat_lt code 0x80) e
+  where
+    by_case : (b : Bool) → window.answer_left (window.Pubrec code) (cond b (Some Received) None) ≡ Err WrongKind → cond b (Some Received) None ≡ Some ExactlyOnce
+    by_case true h = absurd (ok_is_not_err ack_case.Released h)
+    by_case false h = absurd (ok_is_not_err Freed h)
+wrong_left (window.Pubrec code) Received e = by_case (nat_lt code 0x80) e
+  where
+    by_case : (b : Bool) → window.answer_left (window.Pubrec code) (cond b (Some Received) None) ≡ Err WrongKind → cond b (Some Received) None ≡ Some Received
+    by_case true h = absurd (ok_is_not_err ack_case.Released h)
+    by_case false h = absurd (ok_is_not_err Freed h)
+wrong_left window.Pubcomp AtLeastOnce e = refl
+wrong_left window.Pubcomp ExactlyOnce e = refl
+wrong_left window.Pubcomp Received e = absurd (ok_is_not_err Freed e)
+
+-- an acknowledgement that is not awaited changes nothing
+wrong_step : (ack : window.Acknowledgement) (id : ℕ) (old : window_state.State) (kind : Option Kind) → finite.get old.kinds id ≡ kind → window.answer_to ack kind ≡ Err WrongKind
+    → old ≡ record old { kinds = window.kinds_acknowledged ack id kind old.kinds }
+wrong_step ack id old None is e = absurd (ok_is_not_err Unknown e)
+wrong_step ack id old (Some kind) is e =
+    let same : window.kinds_acknowledged ack id (Some kind) old.kinds ≡ old.kinds = ap (kinds_put old.kinds id) (wrong_left ack kind e) ∙ put_same old.kinds id kind is in
+    ap (λ (kinds : Kinds). let s : window_state.State = record old { kinds = kinds } in s) (sym same)
+
+same_window : (old new : Open) → new ≡ old → new.window ≡ old.window
+same_window old new e = ap (λ (o : Open). o.window) e
+
+row_calls : (case : OpenCase) (input : Input) (now : ℕ) (old : Open) (mark : Mark) (seen : List Entry) (answered : List (List Entry)) (list : List Entry) (used : Mark) (outcome : Outcome) (new : Open)
+    → OpenRow case input now old mark seen answered list used outcome new → IsLed input now answered old outcome new
+row_calls Connected_twice input now old mark seen answered list used outcome new (c, i, out, unchanged) = closes input _ now answered old outcome _ new i out refl
+row_calls Faulty input now old mark seen answered list used outcome new (f, i, out, unchanged) = closes input _ now answered old outcome _ new i out refl
+row_calls With_alias input now old mark seen answered list used outcome new (p, i, a, out, unchanged) = closes input _ now answered old outcome _ new i out refl
+row_calls Bad_topic input now old mark seen answered list used outcome new (p, f, i, a, t, other, out, unchanged) = closes input _ now answered old outcome _ new i out refl
+row_calls Sent_again input now old mark seen answered list used outcome new (p, i, a, t, held, out, unchanged) =
+    answers input _ now answered old outcome _ new i out (same_window old new unchanged.same) refl (no_publish_by p.qos p.id 0)
+row_calls Too_many_held input now old mark seen answered list used outcome new (p, i, a, t, many, out, unchanged) = closes input _ now answered old outcome _ new i out refl
+row_calls Not_retained input now old mark seen answered list used outcome new (p, topic, i, taken, t, r, out, u, same) =
+    answers input _ now answered old outcome _ new i out (ap (λ (o : Open). o.window) same) refl (no_publish_by p.qos p.id 0)
+row_calls Kept input now old mark seen answered list used outcome new (p, topic, operation, i, s, submitted, out, same) =
+    answers input _ now answered old outcome _ new i out (ap (λ (o : Open). o.window) same) refl (no_publish_by p.qos p.id 0)
+row_calls Topic_unread input now old mark seen answered list used outcome new (p, i, taken, t, out, unchanged) =
+    answers input _ now answered old outcome _ new i out (same_window old new unchanged.same) refl (no_publish_by p.qos p.id quota_exceeded)
+row_calls Not_kept input now old mark seen answered list used outcome new (p, topic, operation, i, s, out, same) =
+    answers input _ now answered old outcome _ new i out (same_window old new same) refl (no_publish_by p.qos p.id quota_exceeded)
+row_calls Uncertain input now old mark seen answered list used outcome new (p, topic, operation, i, s, out, same) = closes input _ now answered old outcome _ new i out refl
+row_calls Gate_closed input now old mark seen answered list used outcome new (p, topic, operation, i, s, out, same) = closes input _ now answered old outcome _ new i out refl
+row_calls table.Released input now old mark seen answered list used outcome new (a, i, out, u, same) =
+    answers input _ now answered old outcome _ new i out (ap (λ (o : Open). o.window) same) refl tt
+row_calls Wrong_acknowledgement input now old mark seen answered list used outcome new (p, ack, id, i, is, wrong, out, unchanged) =
+    let led : IsLed (Whole p) now answered old (Closes protocol_error) new = (
+      Acknowledge ack id (Err WrongKind) ∷ [],
+      (old.window, (sym wrong, wrong_step ack id old.window (finite.get old.window.kinds id) refl wrong), refl),
+      subst (λ (a : Option (window.Acknowledgement × ℕ)). IsRefused a (Acknowledge ack id (Err WrongKind) ∷ [])) (sym is) refl,
+    ) in
+    subst (λ (read : Input). IsLed read now answered old outcome new) (sym i) (subst (λ (o : Outcome). IsLed (Whole p) now answered old o new) (sym out) led)
+row_calls Acknowledged input now old mark seen answered list used outcome new (p, ack, id, answer, i, is, step, out, u, same) =
+    let led : IsLed (Whole p) now answered old (Replies (released_by ack id answer)) new = (
+      Acknowledge ack id (Ok answer) ∷ [],
+      (new.window, step, refl),
+      acknowledging p now answered old.subscriptions (released_by ack id answer) ack id answer is,
+      no_publish_released ack id answer,
+    ) in
+    subst (λ (read : Input). IsLed read now answered old outcome new) (sym i) (subst (λ (o : Outcome). IsLed (Whole p) now answered old o new) (sym out) led)
+row_calls Shared_no_local input now old mark seen answered list used outcome new (s, i, n, out, unchanged) = closes input _ now answered old outcome _ new i out refl
+row_calls Not_subscribed input now old mark seen answered list used outcome new (s, i, n, out, unchanged) = closes input _ now answered old outcome _ new i out refl
+row_calls Subscribed input now old mark seen answered list used outcome new (s, codes, i, n, grants, out, u) =
+    let (own, run, queued) = grants_calls now s.filters s.subscription seen old codes answered list new grants in
+    let led : IsLed (Whole (packet.Subscribe s)) now answered old (Replies (Some (reply.Suback (record { id = s.id; codes = codes })))) new = (own, run, (codes, refl, queued), tt) in
+    subst (λ (read : Input). IsLed read now answered old outcome new) (sym i) (subst (λ (o : Outcome). IsLed (Whole (packet.Subscribe s)) now answered old o new) (sym out) led)
+row_calls Not_unsubscribed input now old mark seen answered list used outcome new (u, i, out, unchanged) = closes input _ now answered old outcome _ new i out refl
+row_calls Unsubscribed input now old mark seen answered list used outcome new (u, i, out, m, same) =
+    answers input _ now answered old outcome _ new i out (ap (λ (o : Open). o.window) same) refl tt
+row_calls Pinged input now old mark seen answered list used outcome new (i, out, unchanged) =
+    answers input _ now answered old outcome _ new i out (same_window old new unchanged.same) refl tt
+row_calls Disconnected input now old mark seen answered list used outcome new (code, i, out, unchanged) =
+    let led : IsLed (Whole (packet.Disconnect code)) now answered old Leaves new = ([], refl, refl) in
+    subst (λ (read : Input). IsLed read now answered old outcome new) (sym i) (subst (λ (o : Outcome). IsLed (Whole (packet.Disconnect code)) now answered old o new) (sym out) led)
+
+-- ---- the replies
+
+none_next : (now : ℕ) (old new : window_state.State) (publish : Option PublishValue) → None ≡ option_map reply_of publish → window.IsNext now old publish new → window.Step old (Next now None) new
+none_next now old new None e step = step
+none_next now old new (Some p) e step = absurd (none-some (reply_of p) e)
+
+some_next : (now : ℕ) (answer : Reply) (old new : window_state.State) (publish : Option PublishValue) → Some answer ≡ option_map reply_of publish → window.IsNext now old publish new
+    → (p : PublishValue) × (answer ≡ reply_of p) × window.Step old (Next now (Some p)) new
+some_next now answer old new None e step = absurd (none-some answer (sym e))
+some_next now answer old new (Some p) e step = (p, same_Some answer (reply_of p) e, step)
+
+abbrev pub AreGiven : ℕ → Option Reply → Open → List Reply → State → Type 0
+AreGiven now due o replies new = (given : List PublishValue) × (n : Open) × (new.phase ≡ phase.Open n) × calls.Run o.window (giving now given) n.window × (replies ≡ listed due ++ map reply_of given)
+
+last_given : (now : ℕ) (due : Option Reply) (old : State) (o : Open) (new : State) → old.phase ≡ phase.Open o → IsGiven now due old None None new → AreGiven now due o [] new
+last_given now (Some first) old o new e (g, d, same) = absurd (none-some first g)
+last_given now None old o new e (d, a, r) =
+    let (n, is, sent) : IsReplayed now (phase.Open o) None new.phase = subst (λ (p : Phase). IsReplayed now p None new.phase) e r in
+    ([], n, is, (n.window, none_next now o.window n.window sent.publish sent.reply sent.next, refl), refl)
+
+-- what an open session replies: what is due, and then what the window gives
+pub given_calls : (now : ℕ) (due : Option Reply) (old : State) (o : Open) (replies : List Reply) (left : Option Reply) (last new : State) → old.phase ≡ phase.Open o → Gives now due old replies left last
+    → IsGiven now left last None None new → AreGiven now due o replies new
+given_calls now due old o [] left last new e (l, s) after =
+    last_given now due old o new e (subst (λ (p : State). IsGiven now due p None None new) s (subst (λ (d : Option Reply). IsGiven now d last None None new) l after))
+given_calls now (Some first) old o (answer ∷ replies) left last new e (later, mid, (g, d, same), rest) after =
+    let (given, n, is, run, whole) =
+    given_calls now None mid o replies left last new (ap (λ (p : State). p.phase) same ∙ e) (subst (λ (l : Option Reply). Gives now l mid replies left last) d rest) after in
+    (given, n, is, run, ap (λ (r : Reply). r ∷ replies) (same_Some answer first g) ∙ ap (λ (rs : List Reply). first ∷ rs) whole)
+given_calls now None old o (answer ∷ replies) left last new e (later, mid, (d, a, r), rest) after =
+    let (o1, is1, sent) : IsReplayed now (phase.Open o) (Some answer) mid.phase = subst (λ (p : Phase). IsReplayed now p (Some answer) mid.phase) e r in
+    let (p, carried, step) = some_next now answer o.window o1.window sent.publish sent.reply sent.next in
+    let (given, n, is, run, whole) = given_calls now None mid o1 replies left last new is1 (subst (λ (l : Option Reply). Gives now l mid replies left last) d rest) after in
+    (p ∷ given, n, is, (o1.window, step, run), ap (λ (r : Reply). r ∷ replies) carried ∙ ap (λ (rs : List Reply). reply_of p ∷ rs) whole)
+
+-- what an ended one replies: what is due
+abbrev pub AreLeft : Option Reply → Closing → List Reply → State → Type 0
+AreLeft due closing replies new = (new.phase ≡ phase.Ended closing) × (replies ≡ listed due)
+
+last_left : (now : ℕ) (due : Option Reply) (old : State) (closing : Closing) (new : State) → old.phase ≡ phase.Ended closing → IsGiven now due old None None new → AreLeft due closing [] new
+last_left now (Some first) old closing new e (g, d, same) = absurd (none-some first g)
+last_left now None old closing new e (d, a, r) =
+    let (nothing, is) : IsReplayed now (phase.Ended closing) None new.phase = subst (λ (p : Phase). IsReplayed now p None new.phase) e r in
+    (is, refl)
+
+pub left_replies : (now : ℕ) (due : Option Reply) (old : State) (closing : Closing) (replies : List Reply) (left : Option Reply) (last new : State) → old.phase ≡ phase.Ended closing
+    → Gives now due old replies left last → IsGiven now left last None None new → AreLeft due closing replies new
+left_replies now due old closing [] left last new e (l, s) after =
+    last_left now due old closing new e (subst (λ (p : State). IsGiven now due p None None new) s (subst (λ (d : Option Reply). IsGiven now d last None None new) l after))
+left_replies now (Some first) old closing (answer ∷ replies) left last new e (later, mid, (g, d, same), rest) after =
+    let (is, whole) = left_replies now None mid closing replies left last new (ap (λ (p : State). p.phase) same ∙ e) (subst (λ (l : Option Reply). Gives now l mid replies left last) d rest) after in
+    (is, ap (λ (r : Reply). r ∷ replies) (same_Some answer first g) ∙ ap (λ (rs : List Reply). first ∷ rs) whole)
+left_replies now None old closing (answer ∷ replies) left last new e (later, mid, (d, a, r), rest) after =
+    let (given, is) : IsReplayed now (phase.Ended closing) (Some answer) mid.phase = subst (λ (p : Phase). IsReplayed now p (Some answer) mid.phase) e r in
+    absurd (none-some answer (sym given))
+
+-- ---- a turn
+
+run_limit : (from : window_state.State) (made : List Call) (to : window_state.State) → calls.Run from made to → to.packet_maximum ≡ from.packet_maximum
+run_limit from [] to e = ap (λ (s : window_state.State). s.packet_maximum) e
+run_limit from (call ∷ made) to (mid, step, rest) = run_limit mid made to rest ∙ (step_limits from call mid step).1
+
+-- the calls of a turn, from the window of an open session to that in this phase
+abbrev IsMadeTo : Open → Turn → Phase → Type 0
+IsMadeTo o turn to = (made : List Call) × calls.Run o.window made (window_of o.window to) × AreMade o.subscriptions turn to made
+
+none_within : (b : Bool) (code : ℕ) → publications (listed (cond b (Some (reply.Disconnect code)) None)) ≡ []
+none_within true code = refl
+none_within false code = refl
+
+led_made : (turn : Turn) (o left : Open) (outcome : Outcome) (old mid : State) (due : Option Reply) → IsLed turn.input turn.now turn.answered o outcome left → due ≡ due_for o.window.packet_maximum outcome
+    → mid ≡ state_after outcome old left → GivesAll turn.now due mid turn.replies turn.to.state → IsMadeTo o turn turn.to.state.phase
+led_made turn o left (Replies answer) old mid due (own, run, called, no_publish) d same g =
+    let (given, n, is, runs, whole) = given_calls turn.now due mid left turn.replies g.left g.last turn.to.state (ap (λ (s : State). s.phase) same) g.given g.none_left in
+    let all : calls.Run o.window (own ++ giving turn.now given) n.window = run_append o.window left.window own (giving turn.now given) n.window run runs in
+    let served : IsServed o.subscriptions n.window.packet_maximum turn (own ++ giving turn.now given) = record {
+      answer = answer;
+      own = own;
+      given = given;
+      called = called;
+      no_publish = no_publish;
+      whole = refl;
+      replies = whole ∙ ap (λ (r : Option Reply). listed r ++ map reply_of given) d
+          ∙ ap (λ (limit : ℕ). listed (due_for limit (Replies answer)) ++ map reply_of given) (sym (run_limit o.window (own ++ giving turn.now given) n.window all));
+    } in
+    subst (λ (p : Phase). IsMadeTo o turn p) (sym is) (own ++ giving turn.now given, all, served)
+led_made turn o left (Closes code) old mid due (own, run, refused) d same g =
+    let (is, whole) = left_replies turn.now due mid (ByServer code) turn.replies g.left g.last turn.to.state (ap (λ (s : State). s.phase) same) g.given g.none_left in
+    let last : IsLast turn own = record {
+      refused = refused;
+      none_given = ap publications whole ∙ ap (λ (r : Option Reply). publications (listed r)) d ∙ none_within (leb (length (reply_bytes (reply.Disconnect code))) o.window.packet_maximum) code;
+    } in
+    subst (λ (p : Phase). IsMadeTo o turn p) (sym is) (own, run, last)
+led_made turn o left Leaves old mid due (own, run, refused) d same g =
+    let (is, whole) = left_replies turn.now due mid ByClient turn.replies g.left g.last turn.to.state (ap (λ (s : State). s.phase) same) g.given g.none_left in
+    let last : IsLast turn own = record { refused = refused; none_given = ap publications whole ∙ ap (λ (r : Option Reply). publications (listed r)) d } in
+    subst (λ (p : Phase). IsMadeTo o turn p) (sym is) (own, run, last)
+
+-- from whatever phase
+abbrev IsMade : window_state.State → Phase → Turn → Type 0
+IsMade w from turn =
+    (made : List Call) × calls.Run (window_of w from) made (window_of (window_of w from) turn.to.state.phase) × AreMade (subscriptions_of from) turn turn.to.state.phase made
+
+pub shut : {A : Type 0} (a b : Phase) → a ≡ b → IsOpen a → (IsOpen b → ⊥) → A
+shut a b e h closed = absurd (closed (subst IsOpen e h))
+
+open_made : (w : window_state.State) (from : Point) (turn : Turn) (case : Case) (due : Option Reply) (mid : State) → IsOpen from.state.phase
+    → Row case turn.input turn.now from.state from.mark from.seen turn.answered turn.to.seen turn.to.mark due mid → GivesAll turn.now due mid turn.replies turn.to.state → IsMade w from.state.phase turn
+open_made w from turn With_method due mid h (c, i, before, m, refused) g = shut from.state.phase phase.Before before h (λ n. n)
+open_made w from turn With_will due mid h (c, i, before, m, k, refused) g = shut from.state.phase phase.Before before h (λ n. n)
+open_made w from turn Connect_refused due mid h (c, i, before, m, k, refused) g = shut from.state.phase phase.Before before h (λ n. n)
+open_made w from turn Accepted due mid h (c, i, before, m, k, short, u, d, same) g = shut from.state.phase phase.Before before h (λ n. n)
+open_made w from turn Connack_too_long due mid h (c, i, before, m, k, long, u, d, same) g = shut from.state.phase phase.Before before h (λ n. n)
+open_made w from turn Other_version due mid h (i, before, u, d, same) g = shut from.state.phase phase.Before before h (λ n. n)
+open_made w from turn Unexpected due mid h (i, before, u, d, same) g = shut from.state.phase phase.Before before h (λ n. n)
+open_made w from turn In_session due mid h (o, left, outcome, is, (case, row), d, same) g =
+    let led : IsLed turn.input turn.now turn.answered o outcome left = row_calls case turn.input turn.now o from.mark from.seen turn.answered turn.to.seen turn.to.mark outcome left row in
+    subst (λ (p : Phase). IsMade w p turn) (sym is) (led_made turn o left outcome from.state mid due led d same g)
+open_made w from turn Over due mid h (closing, is, u, d, same) g = shut from.state.phase (phase.Ended closing) is h (λ n. n)
+
+-- the first turn, where it opens the session
+abbrev connect_in : Connect → Input → Connect
+connect_in other (Whole (packet.Connect c)) = c
+connect_in other input = other
+
+ended_first : {A : Type 0} (turn : Turn) (due : Option Reply) (mid : State) (closing : Closing) → mid.phase ≡ phase.Ended closing → GivesAll turn.now due mid turn.replies turn.to.state → IsOpen turn.to.state.phase → A
+ended_first turn due mid closing is g h =
+    shut turn.to.state.phase (phase.Ended closing) (left_replies turn.now due mid closing turn.replies g.left g.last turn.to.state is g.given g.none_left).0 h (λ n. n)
+
+phase_of : (a b : State) → a ≡ b → a.phase ≡ b.phase
+phase_of a b e = ap (λ (s : State). s.phase) e
+
+first_made : (from : Point) (turn : Turn) (c : Connect) (case : Case) (due : Option Reply) (mid : State) → from.state.phase ≡ phase.Before → turn.input ≡ Whole (packet.Connect c) → IsOpen turn.to.state.phase
+    → Row case turn.input turn.now from.state from.mark from.seen turn.answered turn.to.seen turn.to.mark due mid → GivesAll turn.now due mid turn.replies turn.to.state
+    → IsMadeTo (open_for c) turn turn.to.state.phase
+first_made from turn c With_method due mid begun is h (d, i, before, m, refused) g = ended_first turn due mid (ByServer bad_authentication_method) (phase_of mid _ refused.end) g h
+first_made from turn c With_will due mid begun is h (d, i, before, m, k, refused) g = ended_first turn due mid (ByServer implementation_specific_error) (phase_of mid _ refused.end) g h
+first_made from turn c Connect_refused due mid begun is h (d, i, before, m, k, refused) g = ended_first turn due mid (ByServer quota_exceeded) (phase_of mid _ refused.end) g h
+first_made from turn c Accepted due mid begun is h (d, i, before, m, k, short, u, e, same) g =
+    let o : Open = open_for d in
+    let answer : Reply = connack d from.state in
+    let sent : due ≡ due_for o.window.packet_maximum (Replies (Some answer)) = e ∙ sym (ap (λ (b : Bool). cond b (Some answer) None) (le-leb (length (reply_bytes answer)) o.window.packet_maximum short)) in
+    let led : IsLed turn.input turn.now turn.answered o (Replies (Some answer)) o =
+    answers turn.input (Whole (packet.Connect d)) turn.now turn.answered o (Replies (Some answer)) (Some answer) o i refl refl refl tt in
+    subst (λ (x : Connect). IsMadeTo (open_for x) turn turn.to.state.phase) (ap (connect_in c) (sym i ∙ is)) (led_made turn o o (Replies (Some answer)) from.state mid due led sent same g)
+first_made from turn c Connack_too_long due mid begun is h (d, i, before, m, k, long, u, e, same) g = ended_first turn due mid (ByServer 0) (phase_of mid _ same) g h
+first_made from turn c Other_version due mid begun is h (i, before, u, e, same) g = ended_first turn due mid (ByServer unsupported_protocol_version) (phase_of mid _ same) g h
+first_made from turn c Unexpected due mid begun is h (i, before, u, e, same) g = ended_first turn due mid Dropped (phase_of mid _ same) g h
+first_made from turn c In_session due mid begun is h (o, left, outcome, at, row, e, same) g = shut (phase.Open o) phase.Before (sym at ∙ begun) tt (λ n. n)
+first_made from turn c Over due mid begun is h (closing, at, u, e, same) g = ended_first turn due mid closing (phase_of mid from.state same ∙ at) g h
+
+-- ---- a run
+
+abbrev HasBegun : Phase → Type 0
+HasBegun phase.Before = ⊥
+HasBegun (phase.Open o) = Unit {0}
+HasBegun (phase.Ended closing) = Unit {0}
+
+is_open : (p : Phase) → HasBegun p → closing_of p ≡ None → IsOpen p
+is_open phase.Before h e = absurd h
+is_open (phase.Open o) h e = tt
+is_open (phase.Ended closing) h e = absurd (none-some closing (sym e))
+
+has_begun : (there : Subscriptions) (turn : Turn) (p : Phase) (made : List Call) → AreMade there turn p made → HasBegun p
+has_begun there turn phase.Before made h = h
+has_begun there turn (phase.Open o) made h = tt
+has_begun there turn (phase.Ended closing) made h = tt
+
+turns_made : (w : window_state.State) (from to : Point) (turns : List Turn) → Run from turns to → HasBegun from.state.phase
+    → (made : List Call) × calls.Run (window_of w from.state.phase) made (window_after (window_of w from.state.phase) turns) × AreCalls from.state.phase turns made
+turns_made w from to [] e h = ([], refl, refl)
+turns_made w from to (turn ∷ turns) (t, rest) h =
+    let (own, run, made) = open_made w from turn t.case t.due t.mid (is_open from.state.phase h t.goes_on) t.row t.all_given in
+    let at : window_state.State = window_of w from.state.phase in
+    let (more, runs, are) = turns_made at turn.to to turns rest (has_begun (subscriptions_of from.state.phase) turn turn.to.state.phase own made) in (
+      own ++ more,
+      run_append at (window_of at turn.to.state.phase) own more (window_after (window_of at turn.to.state.phase) turns) run runs,
+      (own, more, refl, made, are),
+    )
+
+pub run_replays : (assigned : List ℕ) (from to : Point) (turns : List Turn) (c : Connect) → from.state ≡ fresh assigned → Run from turns to → Opens c turns → IsReplaying c turns
+run_replays assigned from to [] c begun run opens = absurd opens
+run_replays assigned from to (turn ∷ turns) c begun (t, rest) (is, h) =
+    let (own, run, made) = first_made from turn c t.case t.due t.mid (phase_of from.state (fresh assigned) begun) is h t.row t.all_given in
+    let at : window_state.State = window_for c in
+    let (more, runs, are) = turns_made at turn.to to turns rest (has_begun none turn turn.to.state.phase own made) in
+    record {
+      made = own ++ more;
+      run = run_append at (window_of at turn.to.state.phase) own more (window_after (window_of at turn.to.state.phase) turns) run runs;
+      by_turns = (own, more, refl, made, are);
+    }
+
+-- ---- what the calls send
+
+-- none of them is a `next`
+abbrev GivesNone : List Call → Type 0
+GivesNone [] = Unit {0}
+GivesNone (Queue found granted subscription answer ∷ made) = GivesNone made
+GivesNone (Next now given ∷ made) = ⊥
+GivesNone (Acknowledge ack id answer ∷ made) = GivesNone made
+
+gives_none_append : (before after : List Call) → GivesNone before → GivesNone after → GivesNone (before ++ after)
+gives_none_append [] after h g = g
+gives_none_append (Queue found granted subscription answer ∷ before) after h g = gives_none_append before after h g
+gives_none_append (Next now given ∷ before) after h g = absurd h
+gives_none_append (Acknowledge ack id answer ∷ before) after h g = gives_none_append before after h g
+
+same_gives_none : (a b : List Call) → a ≡ b → GivesNone b → GivesNone a
+same_gives_none a b e h = subst GivesNone (sym e) h
+
+queued_gives_none : (replayed : Bool) (filter : List ℕ) (options : Options) (identifier : Option ℕ) (now : ℕ) (list : List Entry) (code : ℕ) (own : List Call)
+    → MatchBool replayed (IsQueuedAt filter options identifier now list code own) (own ≡ []) → GivesNone own
+queued_gives_none true filter options identifier now list code own (found, answer, c, e) = same_gives_none own (Queue found options.qos identifier (Ok tt) ∷ []) e tt
+queued_gives_none false filter options identifier now list code own e = same_gives_none own [] e tt
+
+filter_gives_none : (asked : Filter) (options : Options) (identifier : Option ℕ) (now : ℕ) (list : List Entry) (code : ℕ) (there : Subscriptions) (own : List Call)
+    → IsQueuedFor asked options identifier now list code there own → GivesNone own
+filter_gives_none (Err fault) options identifier now list code there own e = same_gives_none own [] e tt
+filter_gives_none (Ok filter) options identifier now list code there own h =
+    queued_gives_none (is_granted code && replays options.retain_handling (is_subscribed filter there)) filter options identifier now list code own h
+
+filters_give_none : (now : ℕ) (filters : List Asked) (identifier : Option ℕ) (codes : List ℕ) (answered : List (List Entry)) (there : Subscriptions) (own : List Call) → AreQueued now filters identifier codes answered there own
+    → GivesNone own
+filters_give_none now [] identifier codes answered there own (c, a, e) = same_gives_none own [] e tt
+filters_give_none now (asked ∷ more) identifier codes answered there own (code, rest, list, later, first, others, c, a, e, queued, are) =
+    same_gives_none own (first ++ others) e (gives_none_append first others (filter_gives_none asked.0 asked.1 identifier now list code there first queued)
+    (filters_give_none now more identifier rest later (subscribed_by asked.0 asked.1 identifier code there) others are))
+
+acknowledged_gives_none : (a : Option (window.Acknowledgement × ℕ)) (own : List Call) → IsAcknowledged a own → GivesNone own
+acknowledged_gives_none None own e = same_gives_none own [] e tt
+acknowledged_gives_none (Some (ack, id)) own (answer, e) = same_gives_none own (Acknowledge ack id (Ok answer) ∷ []) e tt
+
+refused_gives_none : (a : Option (window.Acknowledgement × ℕ)) (own : List Call) → IsRefused a own → GivesNone own
+refused_gives_none None own e = same_gives_none own [] e tt
+refused_gives_none (Some (ack, id)) own e = same_gives_none own (Acknowledge ack id (Err WrongKind) ∷ []) e tt
+
+called_gives_none : (input : Input) (now : ℕ) (answered : List (List Entry)) (there : Subscriptions) (answer : Option Reply) (own : List Call) → AreCalledBy input now answered there answer own → GivesNone own
+called_gives_none (Whole (packet.Subscribe s)) now answered there answer own (codes, e, queued) = filters_give_none now s.filters s.subscription codes answered there own queued
+called_gives_none (Whole p) now answered there answer own h = acknowledged_gives_none (acknowledgement_of p) own h
+called_gives_none (Broken fault) now answered there answer own e = same_gives_none own [] e tt
+
+-- what leaves the queue in calls that give nothing and others, leaves it in the others
+front_after : (packet_maximum : ℕ) (own rest : List Call) (front : List Waiting) → GivesNone own → calls.IsFront packet_maximum (own ++ rest) front → calls.IsFront packet_maximum rest front
+front_after packet_maximum [] rest front h is = is
+front_after packet_maximum (Queue found granted subscription answer ∷ own) rest front h (gone, more, e, none_gone, is) =
+    front_after packet_maximum own rest front h (subst (λ (ws : List Waiting). calls.IsFront packet_maximum (own ++ rest) ws) (sym (e ∙ ap (λ (ws : List Waiting). ws ++ more) none_gone)) is)
+front_after packet_maximum (Next now given ∷ own) rest front h is = absurd h
+front_after packet_maximum (Acknowledge ack id answer ∷ own) rest front h (gone, more, e, none_gone, is) =
+    front_after packet_maximum own rest front h (subst (λ (ws : List Waiting). calls.IsFront packet_maximum (own ++ rest) ws) (sym (e ∙ ap (λ (ws : List Waiting). ws ++ more) none_gone)) is)
+
+dropped_first : (packet_maximum now : ℕ) (dropped ws : List Waiting) (sent : List Publication) → AllDropped packet_maximum now dropped → AreSentOrDropped packet_maximum now ws sent
+    → AreSentOrDropped packet_maximum now (dropped ++ ws) sent
+dropped_first packet_maximum now [] ws sent all h = h
+dropped_first packet_maximum now (w ∷ dropped) ws sent (first, all) h = inl (first, dropped_first packet_maximum now dropped ws sent all h)
+
+-- what leaves the queue while the window gives these
+front_given : (packet_maximum now : ℕ) (given : List PublishValue) (rest : List Call) (front : List Waiting) → calls.IsFront packet_maximum (giving now given ++ rest) front
+    → (gone : List Waiting) × (more : List Waiting) × (front ≡ gone ++ more) × AreSentOrDropped packet_maximum now gone (map publication_of given) × calls.IsFront packet_maximum rest more
+front_given packet_maximum now [] rest front (gone, more, e, all, is) =
+    (gone, more, e, subst (λ (ws : List Waiting). AreSentOrDropped packet_maximum now ws []) (append-nil gone) (dropped_first packet_maximum now gone [] [] all refl), is)
+front_given packet_maximum now (p ∷ given) rest front (gone, more, e, (dropped, w, whole, all, carries), is) =
+    let (later, left, e_later, sent, fronts) = front_given packet_maximum now given rest more is in
+    let here : AreSentOrDropped packet_maximum now (w ∷ later) (publication_of p ∷ map publication_of given) = inr (p, map publication_of given, refl, carries, sent) in
+    let regroup : front ≡ (dropped ++ w ∷ later) ++ left =
+    e ∙ ap (λ (ws : List Waiting). ws ++ more) whole ∙ append_assoc dropped (w ∷ []) more ∙ ap (λ (ws : List Waiting). dropped ++ w ∷ ws) e_later ∙ sym (append_assoc dropped (w ∷ later) left) in
+    (dropped ++ w ∷ later, left, regroup, dropped_first packet_maximum now dropped (w ∷ later) _ all here, fronts)
+
+published : (given : List PublishValue) → publications (map reply_of given) ≡ map publication_of given
+published [] = refl
+published (p ∷ given) = ap (λ (ps : List Publication). publication_of p ∷ ps) (published given)
+
+other_first : (r : Reply) (rs : List Reply) → IsNoPublish (Some r) → publications (r ∷ rs) ≡ publications rs
+other_first (reply.Publish p) rs h = absurd h
+other_first r rs h = refl
+
+answer_first : (limit : ℕ) (answer : Option Reply) (rs : List Reply) → IsNoPublish answer → publications (listed (due_for limit (Replies answer)) ++ rs) ≡ publications rs
+answer_first limit None rs h = refl
+answer_first limit (Some r) rs h = by_case (leb (length (reply_bytes r)) limit)
+  where
+    by_case : (b : Bool) → publications (listed (cond b (Some r) None) ++ rs) ≡ publications rs
+    by_case true = other_first r rs h
+    by_case false = refl
+
+turn_sends : (packet_maximum : ℕ) (there : Subscriptions) (turn : Turn) (to : Phase) (made rest : List Call) (front : List Waiting) → AreMade there turn to made → calls.IsFront packet_maximum (made ++ rest) front
+    → (gone : List Waiting) × (more : List Waiting) × (front ≡ gone ++ more) × AreSentOrDropped packet_maximum turn.now gone (publications turn.replies) × calls.IsFront packet_maximum rest more
+turn_sends packet_maximum there turn phase.Before made rest front h is = absurd h
+turn_sends packet_maximum there turn (phase.Open o) made rest front s is =
+    let apart : calls.IsFront packet_maximum (s.own ++ (giving turn.now s.given ++ rest)) front =
+    subst (λ (cs : List Call). calls.IsFront packet_maximum cs front) (ap (λ (cs : List Call). cs ++ rest) s.whole ∙ append_assoc s.own (giving turn.now s.given) rest) is in
+    let (gone, more, e, sent, fronts) = front_given packet_maximum turn.now s.given rest front
+    (front_after packet_maximum s.own (giving turn.now s.given ++ rest) front (called_gives_none turn.input turn.now turn.answered there s.answer s.own s.called) apart) in
+    let replied : publications turn.replies ≡ map publication_of s.given = ap publications s.replies ∙ answer_first o.window.packet_maximum s.answer (map reply_of s.given) s.no_publish ∙ published s.given in
+    (gone, more, e, subst (λ (ps : List Publication). AreSentOrDropped packet_maximum turn.now gone ps) (sym replied) sent, fronts)
+turn_sends packet_maximum there turn (phase.Ended closing) made rest front last is =
+    ([], front, refl, last.none_given, front_after packet_maximum made rest front (refused_gives_none (acknowledgement_in turn.input) made last.refused) is)
+
+turns_send : (packet_maximum : ℕ) (from : Phase) (turns : List Turn) (made : List Call) (front : List Waiting) → AreCalls from turns made → calls.IsFront packet_maximum made front → AreSent packet_maximum turns front
+turns_send packet_maximum from [] made front e is = subst (λ (cs : List Call). calls.IsFront packet_maximum cs front) e is
+turns_send packet_maximum from (turn ∷ turns) made front (own, rest, e, here, later) is =
+    let (gone, more, whole, sent, fronts) =
+    turn_sends packet_maximum (subscriptions_of from) turn turn.to.state.phase own rest front here (subst (λ (cs : List Call). calls.IsFront packet_maximum cs front) e is) in
+    (gone, more, whole, sent, turns_send packet_maximum turn.to.state.phase turns rest more later fronts)
+
+-- a run begins with a run of its first calls
+run_first : (from : window_state.State) (before after : List Call) (to : window_state.State) → calls.Run from (before ++ after) to → (mid : window_state.State) × calls.Run from before mid
+run_first from [] after to h = (from, refl)
+run_first from (call ∷ before) after to (next, step, rest) = let (mid, more) = run_first next before after to rest in (mid, (next, step, more))
+
+within_quota : (c : Connect) (made : List Call) (end : window_state.State) → calls.Run (window_for c) made end → (before after : List Call) → made ≡ before ++ after → IsWithinQuota c before
+within_quota c made end run before after e =
+    let limit : ℕ = packet_limit c.packet_maximum in
+    let quota : ℕ = receive_limit c.receive_maximum in
+    let (mid, first) = run_first (window_for c) before after end (subst (λ (cs : List Call). calls.Run (window_for c) cs end) e run) in
+    record { kinds = mid.kinds; unacknowledged = kinds_read quota limit before mid first; few = quota_holds quota limit before mid first }
+
+pub replay_sends : (c : Connect) (turns : List Turn) (r : IsReplaying c turns) → IsSentInOrder c turns r.made
+replay_sends c turns r =
+    let limit : ℕ = packet_limit c.packet_maximum in
+    let quota : ℕ = receive_limit c.receive_maximum in
+    let end : window_state.State = window_after (window_for c) turns in
+    let replay : calls.IsReplayed limit r.made end.waiting = replayed quota limit r.made end r.run in
+    record {
+      front = replay.front;
+      whole = replay.whole;
+      sent = turns_send limit phase.Before turns r.made replay.front r.by_turns replay.leaves;
+      quota = within_quota c r.made end r.run;
+      unacknowledged = kinds_read quota limit r.made end r.run;
+    }
+
+-- ---- which turn opens a session
+
+abbrev OpensOrEnds : Turn → Type 0
+OpensOrEnds turn = ((c : Connect) × Opens c (turn ∷ [])) ⊎ ((closing : Closing) × (turn.to.state.phase ≡ phase.Ended closing))
+
+ends_first : (turn : Turn) (due : Option Reply) (mid : State) (closing : Closing) → mid.phase ≡ phase.Ended closing → GivesAll turn.now due mid turn.replies turn.to.state → OpensOrEnds turn
+ends_first turn due mid closing is g = inr (closing, (left_replies turn.now due mid closing turn.replies g.left g.last turn.to.state is g.given g.none_left).0)
+
+-- the first turn opens it by a CONNECT, or it ends
+first_to : (from : Point) (turn : Turn) (case : Case) (due : Option Reply) (mid : State) → from.state.phase ≡ phase.Before
+    → Row case turn.input turn.now from.state from.mark from.seen turn.answered turn.to.seen turn.to.mark due mid → GivesAll turn.now due mid turn.replies turn.to.state
+    → OpensOrEnds turn
+first_to from turn With_method due mid begun (d, i, before, m, refused) g = ends_first turn due mid (ByServer bad_authentication_method) (phase_of mid _ refused.end) g
+first_to from turn With_will due mid begun (d, i, before, m, k, refused) g = ends_first turn due mid (ByServer implementation_specific_error) (phase_of mid _ refused.end) g
+first_to from turn Connect_refused due mid begun (d, i, before, m, k, refused) g = ends_first turn due mid (ByServer quota_exceeded) (phase_of mid _ refused.end) g
+first_to from turn Accepted due mid begun (d, i, before, m, k, short, u, e, same) g =
+    let (given, n, is, run, whole) = given_calls turn.now due mid (open_for d) turn.replies g.left g.last turn.to.state (phase_of mid _ same) g.given g.none_left in
+    inl (d, (i, subst IsOpen (sym is) tt))
+first_to from turn Connack_too_long due mid begun (d, i, before, m, k, long, u, e, same) g = ends_first turn due mid (ByServer 0) (phase_of mid _ same) g
+first_to from turn Other_version due mid begun (i, before, u, e, same) g = ends_first turn due mid (ByServer unsupported_protocol_version) (phase_of mid _ same) g
+first_to from turn Unexpected due mid begun (i, before, u, e, same) g = ends_first turn due mid Dropped (phase_of mid _ same) g
+first_to from turn In_session due mid begun (o, left, outcome, at, row, e, same) g = shut (phase.Open o) phase.Before (sym at ∙ begun) tt (λ n. n)
+first_to from turn Over due mid begun (closing, at, u, e, same) g = ends_first turn due mid closing (phase_of mid from.state same ∙ at) g
+
+-- nothing follows the end
+none_follow : {A : Type 0} (from : Point) (turn : Turn) (closing : Closing) → from.state.phase ≡ phase.Ended closing → IsTurn from turn → A
+none_follow from turn closing is t = absurd (none-some closing (sym t.goes_on ∙ ap closing_of is))
+
+first_opens : (assigned : List ℕ) (from : Point) (turn : Turn) → from.state ≡ fresh assigned → IsTurn from turn → OpensOrEnds turn
+first_opens assigned from turn begun t = first_to from turn t.case t.due t.mid (phase_of from.state (fresh assigned) begun) t.row t.all_given
+
+pub run_opens : (assigned : List ℕ) (from to : Point) (before : List Turn) (turn : Turn) (after : List Turn) → from.state ≡ fresh assigned → Run from (before ++ turn ∷ after) to → IsOpen turn.to.state.phase
+    → (c : Connect) × Opens c (before ++ turn ∷ after)
+run_opens assigned from to [] turn after begun (t, rest) h = by_case (first_opens assigned from turn begun t)
+  where
+    by_case : OpensOrEnds turn → (c : Connect) × Opens c (turn ∷ after)
+    by_case (inl (c, opens)) = (c, opens)
+    by_case (inr (closing, is)) = shut turn.to.state.phase (phase.Ended closing) is h (λ n. n)
+run_opens assigned from to (first ∷ []) turn after begun (t, (next, rest)) h = by_case (first_opens assigned from first begun t)
+  where
+    by_case : OpensOrEnds first → (c : Connect) × Opens c (first ∷ turn ∷ after)
+    by_case (inl (c, opens)) = (c, opens)
+    by_case (inr (closing, is)) = none_follow first.to turn closing is next
+run_opens assigned from to (first ∷ second ∷ before) turn after begun (t, (next, rest)) h = by_case (first_opens assigned from first begun t)
+  where
+    by_case : OpensOrEnds first → (c : Connect) × Opens c (first ∷ second ∷ (before ++ turn ∷ after))
+    by_case (inl (c, opens)) = (c, opens)
+    by_case (inr (closing, is)) = none_follow first.to second closing is next

@@ -1,0 +1,77 @@
+-- The lists along a run of a session, and the retained publications that it acknowledged: sections 3.3.1.3, 3.8.4 and 4.3 of
+-- OASIS MQTT Version 5.0.
+use Rattle.std.specs.Prelude.{◌≡◌, ◌≢◌, ℕ, ◌<◌, ◌≤◌, true, false, Contains, List, [], ◌∷◌, ◌++◌, Some, Ok}
+use Rattle.std.specs.List.{AllByRecursion}
+use Rattle.rs_packet.specs.declared.packet.Packet.TheVariants as packet
+use Rattle.rs_packet.specs.declared.packet.Publish.{Publish}
+use Rattle.rs_packet.specs.declared.reply.Reply.{Reply}
+use Rattle.rs_message.specs.declared.entry.Entry.{Entry}
+use Rattle.rs_message.specs.declared.entry.Operation.{Operation}
+use Rattle.rs_store.specs.History.{SerialsRise}
+use Rattle.rs_session.specs.Gate.{Mark, BeginsWith}
+use Rattle.rs_session.specs.Run.{Point, Turn, AreOfGate}
+use Rattle.rs_session.specs.Table.{acknowledged_by, change, held_id, is_held}
+use Rattle.rs_session.specs.declared.open.Open.{Open}
+use Rattle.rs_session.specs.declared.phase.Input.{Input}
+use Rattle.rs_session.specs.declared.phase.Input.TheVariants.{Whole}
+use Rattle.rs_session.specs.declared.phase.Phase.{Phase}
+use Rattle.rs_session.specs.declared.phase.Phase.TheVariants as phase
+
+-- ---- the lists
+
+-- the lists by which the filters of a SUBSCRIBE were answered, where the session goes on
+abbrev pub answering : Input → Phase → List (List Entry) → List (List Entry)
+answering (Whole (packet.Subscribe s)) (phase.Open o) answered = answered
+answering input to answered = []
+
+-- in order, those of each turn, and then the list after it
+abbrev pub lists_of : List Turn → List (List Entry)
+lists_of [] = []
+lists_of (turn ∷ turns) = answering turn.input turn.to.state.phase turn.answered ++ turn.to.seen ∷ lists_of turns
+
+-- each begins with every one before it
+abbrev pub AreGrowing : List (List Entry) → Type 0
+AreGrowing [] = Unit {0}
+AreGrowing (list ∷ lists) = AllByRecursion (λ later. BeginsWith later list) lists × AreGrowing lists
+
+-- the serials of each place rise in each list, as they do where the gate stands for legal lists alone
+abbrev pub SerialsRiseIn : List Turn → Type 0
+SerialsRiseIn turns = AreOfGate (λ mark list. SerialsRise list) turns
+
+-- ---- the publications
+
+-- where the run stands after these turns
+abbrev pub point_after : Point → List Turn → Point
+point_after from [] = from
+point_after from (turn ∷ turns) = point_after turn.to turns
+
+-- the place stays, and no serial is given up
+pub record MarkGrows (old new : Mark) : Type 0 where
+  pub place : new.place ≡ old.place
+  pub serial : old.serial ≤ new.serial
+
+-- A retained publication that the client was told is kept: a PUBLISH with RETAIN 1 that is not one sent again, and a PUBACK
+-- or a PUBREC of 0x00 among the replies.
+pub record IsToldKept (o : Open) (turn : Turn) (p : Publish) (answer : Reply) : Type 0 where
+  pub input : turn.input ≡ Whole (packet.Publish p)
+  pub retained : p.retain ≡ true
+  pub new : is_held (held_id p.qos p.id) o.inbound ≡ false
+  pub code : acknowledged_by p.qos p.id 0 ≡ Some answer
+  pub replied : Contains turn.replies answer
+
+-- the entry stands in the list, and no other there has its origin
+pub record StandsOnce (e : Entry) (list : List Entry) : Type 0 where
+  pub front : List Entry
+  pub rest : List Entry
+  pub whole : list ≡ front ++ e ∷ rest
+  pub before : AllByRecursion (λ other. other.origin ≢ e.origin) front
+  pub after : AllByRecursion (λ other. other.origin ≢ e.origin) rest
+
+-- what it does to its topic stands once in each of these lists, under the serial that the turn used
+pub record IsKeptIn (before : Mark) (turn : Turn) (p : Publish) (lists : List (List Entry)) : Type 0 where
+  pub topic : List ℕ
+  pub operation : Operation
+  pub is_topic : p.topic ≡ Ok topic
+  pub changes : change p topic turn.now ≡ Some operation
+  pub used : before.serial < turn.to.mark.serial
+  pub kept : AllByRecursion (StandsOnce (record { origin = record { place = turn.to.mark.place; serial = turn.to.mark.serial }; operation = operation })) lists

@@ -1,0 +1,200 @@
+-- What a run of a session calls of its window, and what it replies by that: sections 3.3.1.3, 3.8.4, 4.3 and 4.9 of OASIS
+-- MQTT Version 5.0.
+use Rattle.std.specs.Prelude.{◌≡◌, ℕ, ◌≤◌, ◌⊎◌, ◌&&◌, Bool, MatchBool, min, nat_lt, if◌then◌else◌, List, [], ◌∷◌, ◌++◌, map, Option, Some, None, Ok, Err}
+use Rattle.std.specs.FinMap as finite
+use Rattle.rs_packet.specs.declared.packet.Options.{Options}
+use Rattle.rs_packet.specs.declared.packet.Connect.{Connect}
+use Rattle.rs_packet.specs.declared.packet.Packet.TheVariants as packet
+use Rattle.rs_packet.specs.declared.reply.Publication.{Publication}
+use Rattle.rs_packet.specs.declared.reply.Reply.{Reply}
+use Rattle.rs_packet.specs.declared.reply.Reply.TheVariants as reply
+use Rattle.rs_packet.specs.Values.{Asked, Filter}
+use Rattle.rs_packet.specs.Grammar.{level}
+use Rattle.rs_message.specs.declared.entry.Entry.{Entry}
+use Rattle.rs_message.specs.declared.entry.Found.{Found}
+use Rattle.rs_store.specs.History.{IsAnswer}
+use Rattle.rs_window.specs.Calls as window
+use Rattle.rs_window.specs.Calls.{Call, Queue, Next, Acknowledge}
+use Rattle.rs_window.specs.Identifiers.{Kinds}
+use Rattle.rs_window.specs.Packets.{reply_of, publication_of}
+use Rattle.rs_window.specs.Replay as calls
+use Rattle.rs_window.specs.State as window_state
+use Rattle.rs_window.specs.Values.{PublishValue}
+use Rattle.rs_window.specs.Waiting.{Carries, IsDropped}
+use Rattle.rs_window.specs.declared.waiting.Waiting.{Waiting}
+use Rattle.rs_window.specs.declared.fault.Ack.{Ack}
+use Rattle.rs_window.specs.declared.fault.WindowFault.TheVariants.{WrongKind}
+use Rattle.rs_session.specs.Subscriptions.{Subscriptions, none, is_subscribed, replays}
+use Rattle.rs_session.specs.Table.{receive_limit, packet_limit, acknowledgement_of, due_for}
+use Rattle.rs_session.specs.Run.{Turn}
+use Rattle.rs_session.specs.declared.open.Outcome.TheVariants.{Replies}
+use Rattle.rs_session.specs.declared.phase.Input.{Input}
+use Rattle.rs_session.specs.declared.phase.Input.TheVariants.{Whole, Broken}
+use Rattle.rs_session.specs.declared.phase.Phase.{Phase}
+use Rattle.rs_session.specs.declared.phase.Phase.TheVariants as phase
+
+-- ---- the calls of a SUBSCRIBE
+
+-- 3.9.3: a code of a SUBACK below 0x80 is the granted QoS
+abbrev pub is_granted : ℕ → Bool
+is_granted code = nat_lt code 0x80
+
+-- the subscriptions once a filter was answered by this code
+abbrev pub subscribed_by : Filter → Options → Option ℕ → ℕ → Subscriptions → Subscriptions
+subscribed_by (Err fault) options identifier code there = there
+subscribed_by (Ok filter) options identifier code there = if is_granted code then finite.insert there filter (record { options = options; identifier = identifier }) else there
+
+-- all that the list answers is queued, at the granted QoS and with the Subscription Identifier
+abbrev pub IsQueuedAt : List ℕ → Options → Option ℕ → ℕ → List Entry → ℕ → List Call → Type 0
+IsQueuedAt filter options identifier now list code own =
+    (found : List Found) × IsAnswer list filter now found × (code ≡ level options.qos) × (own ≡ Queue found options.qos identifier (Ok tt) ∷ [])
+
+-- a filter that is granted and that its Retain Handling lets replay; another queues nothing
+abbrev pub IsQueuedFor : Filter → Options → Option ℕ → ℕ → List Entry → ℕ → Subscriptions → List Call → Type 0
+IsQueuedFor (Err fault) options identifier now list code there own = own ≡ []
+IsQueuedFor (Ok filter) options identifier now list code there own =
+    MatchBool (is_granted code && replays options.retain_handling (is_subscribed filter there)) (IsQueuedAt filter options identifier now list code own) (own ≡ [])
+
+-- one filter after the other, each with the next code, by the next list
+abbrev pub AreQueued : ℕ → List Asked → Option ℕ → List ℕ → List (List Entry) → Subscriptions → List Call → Type 0
+AreQueued now [] identifier codes answered there made = (codes ≡ []) × (answered ≡ []) × (made ≡ [])
+AreQueued now (asked ∷ more) identifier codes answered there made =
+    (code : ℕ) × (rest : List ℕ) × (list : List Entry) × (later : List (List Entry)) × (own : List Call) × (others : List Call) × (codes ≡ code ∷ rest) × (answered ≡ list ∷ later)
+    × (made ≡ own ++ others) × IsQueuedFor asked.0 asked.1 identifier now list code there own × AreQueued now more identifier rest later (subscribed_by asked.0 asked.1 identifier code there) others
+
+-- ---- the calls of a turn
+
+abbrev pub IsAcknowledged : Option (window.Acknowledgement × ℕ) → List Call → Type 0
+IsAcknowledged None own = own ≡ []
+IsAcknowledged (Some (ack, id)) own = (answer : Ack) × (own ≡ Acknowledge ack id (Ok answer) ∷ [])
+
+-- What an input calls where the session goes on, with the answer to it: a SUBSCRIBE for its filters, by the codes of its
+-- SUBACK, an acknowledgement for itself, and another nothing.
+abbrev pub AreCalledBy : Input → ℕ → List (List Entry) → Subscriptions → Option Reply → List Call → Type 0
+AreCalledBy (Whole (packet.Subscribe s)) now answered there answer own =
+    (codes : List ℕ) × (answer ≡ Some (reply.Suback (record { id = s.id; codes = codes }))) × AreQueued now s.filters s.subscription codes answered there own
+AreCalledBy (Whole p) now answered there answer own = IsAcknowledged (acknowledgement_of p) own
+AreCalledBy (Broken fault) now answered there answer own = own ≡ []
+
+abbrev pub acknowledgement_in : Input → Option (window.Acknowledgement × ℕ)
+acknowledgement_in (Whole p) = acknowledgement_of p
+acknowledgement_in (Broken fault) = None
+
+-- 4.3: where the session ends, an acknowledgement was not the one that its identifier waits for
+abbrev pub IsRefused : Option (window.Acknowledgement × ℕ) → List Call → Type 0
+IsRefused None own = own ≡ []
+IsRefused (Some (ack, id)) own = own ≡ Acknowledge ack id (Err WrongKind) ∷ []
+
+-- the window gives these, and then none
+abbrev pub giving : ℕ → List PublishValue → List Call
+giving now [] = Next now None ∷ []
+giving now (p ∷ ps) = Next now (Some p) ∷ giving now ps
+
+abbrev pub listed : Option Reply → List Reply
+listed None = []
+listed (Some r) = r ∷ []
+
+-- the PUBLISH packets among the replies
+abbrev pub publications : List Reply → List Publication
+publications [] = []
+publications (reply.Publish p ∷ rs) = p ∷ publications rs
+publications (r ∷ rs) = publications rs
+
+abbrev pub IsNoPublish : Option Reply → Type 0
+IsNoPublish (Some (reply.Publish p)) = ⊥
+IsNoPublish answer = Unit {0}
+
+-- The answer to the input, where the client takes so long a packet, and then each that the window gave and no other
+pub record IsServed (there : Subscriptions) (packet_maximum : ℕ) (turn : Turn) (made : List Call) : Type 0 where
+  pub answer : Option Reply
+  pub own : List Call
+  pub given : List PublishValue
+  pub called : AreCalledBy turn.input turn.now turn.answered there answer own
+  pub no_publish : IsNoPublish answer
+  pub whole : made ≡ own ++ giving turn.now given
+  pub replies : turn.replies ≡ listed (due_for packet_maximum (Replies answer)) ++ map reply_of given
+
+-- the session ends, and no more is given
+pub record IsLast (turn : Turn) (made : List Call) : Type 0 where
+  pub refused : IsRefused (acknowledgement_in turn.input) made
+  pub none_given : publications turn.replies ≡ []
+
+abbrev pub AreMade : Subscriptions → Turn → Phase → List Call → Type 0
+AreMade there turn phase.Before made = ⊥
+AreMade there turn (phase.Open o) made = IsServed there o.window.packet_maximum turn made
+AreMade there turn (phase.Ended closing) made = IsLast turn made
+
+-- ---- the calls of a run
+
+abbrev pub subscriptions_of : Phase → Subscriptions
+subscriptions_of phase.Before = none
+subscriptions_of (phase.Open o) = o.subscriptions
+subscriptions_of (phase.Ended closing) = none
+
+-- one turn after the other
+abbrev pub AreCalls : Phase → List Turn → List Call → Type 0
+AreCalls from [] made = made ≡ []
+AreCalls from (turn ∷ turns) made =
+    (own : List Call) × (rest : List Call) × (made ≡ own ++ rest) × AreMade (subscriptions_of from) turn turn.to.state.phase own × AreCalls turn.to.state.phase turns rest
+
+abbrev pub window_of : window_state.State → Phase → window_state.State
+window_of old phase.Before = old
+window_of old (phase.Open o) = o.window
+window_of old (phase.Ended closing) = old
+
+-- the window of the session after these turns, or when it ended
+abbrev pub window_after : window_state.State → List Turn → window_state.State
+window_after old [] = old
+window_after old (turn ∷ turns) = window_after (window_of old turn.to.state.phase) turns
+
+-- 3.1.2.11.3, 3.1.2.11.4: by the client's Receive Maximum and Maximum Packet Size
+abbrev pub window_for : Connect → window_state.State
+window_for c = window.fresh (receive_limit c.receive_maximum) (packet_limit c.packet_maximum)
+
+abbrev pub IsOpen : Phase → Type 0
+IsOpen phase.Before = ⊥
+IsOpen (phase.Open o) = Unit {0}
+IsOpen (phase.Ended closing) = ⊥
+
+-- the first turn accepts this CONNECT
+abbrev pub Opens : Connect → List Turn → Type 0
+Opens c [] = ⊥
+Opens c (turn ∷ turns) = (turn.input ≡ Whole (packet.Connect c)) × IsOpen turn.to.state.phase
+
+-- the calls of a run of the window, from a new one
+pub record IsReplaying (c : Connect) (turns : List Turn) : Type 0 where
+  pub made : List Call
+  pub run : calls.Run (window_for c) made (window_after (window_for c) turns)
+  pub by_turns : AreCalls phase.Before turns made
+
+-- ---- what was queued, and what became of it
+
+-- What leaves the front of the queue at a moment, and what is sent of it: each as its packet, in order, or it is dropped, since
+-- it has expired or its packet is longer than the client takes.
+abbrev pub AreSentOrDropped : ℕ → ℕ → List Waiting → List Publication → Type 0
+AreSentOrDropped packet_maximum now [] sent = sent ≡ []
+AreSentOrDropped packet_maximum now (w ∷ ws) sent =
+    (IsDropped packet_maximum now w × AreSentOrDropped packet_maximum now ws sent)
+    ⊎ ((p : PublishValue) × (more : List Publication) × (sent ≡ publication_of p ∷ more) × Carries packet_maximum now w p × AreSentOrDropped packet_maximum now ws more)
+
+-- turn by turn, the PUBLISH packets among its replies
+abbrev pub AreSent : ℕ → List Turn → List Waiting → Type 0
+AreSent packet_maximum [] front = front ≡ []
+AreSent packet_maximum (turn ∷ turns) front =
+    (gone : List Waiting) × (rest : List Waiting) × (front ≡ gone ++ rest) × AreSentOrDropped packet_maximum turn.now gone (publications turn.replies) × AreSent packet_maximum turns rest
+
+-- these identifiers wait for an acknowledgement after the calls, and they are not more than the client takes
+pub record IsWithinQuota (c : Connect) (before : List Call) : Type 0 where
+  pub kinds : Kinds
+  pub unacknowledged : calls.AreUnacknowledged before kinds
+  pub few : finite.len kinds ≤ min (receive_limit c.receive_maximum) 1024
+
+-- What these calls queued is a front and then what waits. The PUBLISH replies of the run are the front, each once, in order,
+-- less what was dropped. After each of the calls no more identifiers wait for an acknowledgement than the client takes, and
+-- at the end just those of the window do.
+pub record IsSentInOrder (c : Connect) (turns : List Turn) (made : List Call) : Type 0 where
+  pub front : List Waiting
+  pub whole : calls.queued made ≡ front ++ (window_after (window_for c) turns).waiting
+  pub sent : AreSent (packet_limit c.packet_maximum) turns front
+  pub quota : (before after : List Call) → made ≡ before ++ after → IsWithinQuota c before
+  pub unacknowledged : calls.AreUnacknowledged made (window_after (window_for c) turns).kinds
