@@ -1,12 +1,12 @@
--- A field that is read is spelled so, and what is spelled so is read.
+-- A field that is read is encoded so, and what is encoded so is read.
 use Rattle.std.proofs.Common.{◌≡◌, ℕ, zero, suc, ◌+◌, ◌-◌, ◌*◌, ◌/◌, ◌%◌, ◌<◌, ◌≤◌, ◌^◌, Bool, true, false, cond, eqb, ltb, List, [], ◌∷◌, ◌++◌, length, get_or, take, drop, Result, Ok, Err, refl, sym, ap, subst, ◌∙◌, append_assoc, arith, inl, inr}
 use Rattle.std.specs.Int.{Width, w16, w32, byte_len, from_be_bytes, to_be_bytes}
 use Rattle.std.proofs.lemmas.Bool.{cases_lt, ltb-false, ltb-true, le-ltb, lt-ltb, eqb-false, ne_eqb}
 use Rattle.std.proofs.lemmas.List.{take_at, drop_at, take-append-drop, length-append, length-take, get_or-drop, get_or-take, get_or_past}
 use Rattle.std.proofs.lemmas.Nat.{be_bytes_2, be_bytes_4, from_be_bytes-to_be_bytes_2, from_be_bytes-to_be_bytes_4}
 use Rattle.rs_field.specs.declared.fault.PacketFault.TheVariants.{Malformed}
-use Rattle.rs_field.specs.declared.reading.Cut.{Cut}
-use Rattle.rs_field.specs.declared.reading.Cut.TheVariants.{Bad}
+use Rattle.rs_field.specs.declared.varint.VarintFault.{VarintFault}
+use Rattle.rs_field.specs.declared.varint.VarintFault.TheVariants.{Bad}
 use Rattle.rs_topic.specs.Texts.{IsText, reads_as_text}
 use Rattle.rs_field.specs.Properties.{low_first, varint, varint_end, counted, IsShort}
 use Rattle.rs_field.specs.Reading.{◌>>=◌, digits_at, within, varint_at, number_at, part_at, binary_at, text_at}
@@ -180,10 +180,10 @@ digits_again (suc (suc k)) n rest lt pos =
 pub varint_takes : (bytes : List ℕ) (x : ℕ × List ℕ) → IsBytes bytes → varint_at bytes ≡ Ok x → Takes bytes (varint x.0) x.1 × (x.0 < varint_end)
 unfolding varint_at
 varint_takes bytes x fits e =
-    let go : (r : Result (ℕ × List ℕ) Cut) → within r ≡ Ok x → r ≡ Ok x = within_ok x in
+    let go : (r : Result (ℕ × List ℕ) VarintFault) → within r ≡ Ok x → r ≡ Ok x = within_ok x in
     digits_takes 4 bytes x fits (go (digits_at 4 bytes) e)
   where
-    within_ok : (x : ℕ × List ℕ) (r : Result (ℕ × List ℕ) Cut) → within r ≡ Ok x → r ≡ Ok x
+    within_ok : (x : ℕ × List ℕ) (r : Result (ℕ × List ℕ) VarintFault) → within r ≡ Ok x → r ≡ Ok x
     within_ok x (Ok y) e = ap (λ (z : ℕ × List ℕ). Ok z) (ok_is y x e)
     within_ok x (Err c) e = absurd cc
 

@@ -4,4 +4,6 @@ pub mod Fields
 pub mod Identifiers
 pub mod PropertyLaws
 pub mod Replayed
+pub mod Written
+pub mod KeptLaws
 pub mod Sizes

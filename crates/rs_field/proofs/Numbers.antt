@@ -2,7 +2,7 @@
 use Rattle.std.proofs.Common.{◌≡◌, ℕ, zero, suc, ◌+◌, ◌-◌, ◌*◌, ◌≤◌, Bool, true, false, cond, eqb, ltb, List, [], ◌∷◌, length, take, drop, Result, Ok, Err, refl, sym, ap, subst, ◌∙◌, arith, inl, inr, slice_range}
 use Rattle.std.specs.Prelude.{◌⊎◌}
 use Rattle.std.proofs.lemmas.List.{take_all}
-use Rattle.rs_field.specs.declared.reading.Cut.TheVariants.{Bad}
+use Rattle.rs_field.specs.declared.varint.VarintFault.TheVariants.{Bad}
 use Rattle.rs_field.specs.Reading.{◌>>=◌, digits_at, IsEnd}
 
 -- the value of a step that did not fail

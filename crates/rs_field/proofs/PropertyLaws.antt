@@ -1,4 +1,4 @@
--- A property that is read is spelled so, and what is spelled so is read.
+-- A property that is read is encoded so, and what is encoded so is read.
 use Rattle.std.proofs.Common.{◌≡◌, ℕ, zero, suc, ◌<◌, ◌≤◌, ◌^◌, Bool, true, false, cond, not, ltb, ◌||◌, List, [], ◌∷◌, ◌++◌, length, slice_index_or, slice_set, Option, Some, None, Result, Ok, Err, refl, sym, ap, subst, ◌∙◌, append_assoc, arith}
 use Rattle.std.specs.List.{flat_map}
 use Rattle.std.specs.Int.{w16, w32}
@@ -12,7 +12,7 @@ use Rattle.rs_field.specs.declared.property.Property.{Property}
 use Rattle.rs_field.specs.declared.property.Property.TheVariants as property
 use Rattle.rs_field.specs.declared.property.Place.{Place}
 use Rattle.rs_topic.specs.Topics.{is_plain}
-use Rattle.rs_field.specs.Properties.{varint, varint_end, number, identifier, value, spelled, may_stand, may_repeat, IsInRange, AreAllowed, AreProperties, properties, none_yet, counted, nothing, gathered}
+use Rattle.rs_field.specs.Properties.{varint, varint_end, number, identifier, value, property_bytes, may_stand, may_repeat, IsInRange, AreAllowed, AreProperties, properties, none_yet, counted, nothing, gathered}
 use Rattle.rs_field.specs.Values.{FoundValue}
 use Rattle.rs_field.specs.Reading.{◌>>=◌, varint_at, byte_at, number_at, part_at, binary_at, text_at, wanting, identifier_of, misplaced, judged, value_at, property_at, properties_in, properties_at, found_at}
 use Rattle.rs_field.proofs.Numbers.{bind_ok, ok_is}
@@ -116,11 +116,11 @@ judged_again where_ before i h = rw (h.stands, h.new) refl
 identifier_byte : (i j : Identifier) (n : ℕ) → i ≡ j → number j ≡ n → varint n ≡ number i ∷ []
 identifier_byte i j n same is = rw (same, ← is) (one_byte j)
 
-section_is : (n : ℕ) (section : List ℕ) (ps : List Property) → length (flat_map spelled ps) ≡ n → section ≡ flat_map spelled ps → varint n ++ section ≡ properties ps
+section_is : (n : ℕ) (section : List ℕ) (ps : List Property) → length (flat_map property_bytes ps) ≡ n → section ≡ flat_map property_bytes ps → varint n ++ section ≡ properties ps
 section_is n section ps len is = rw (is, ← len) refl
 
 pub property_takes : (where_ : Place) (before : List Bool) (bytes : List ℕ) (x : Property × List ℕ) → IsBytes bytes → property_at where_ before bytes ≡ Ok x
-    → Takes bytes (spelled x.0) x.1 × IsInRange x.0 × IsJudged where_ before (identifier x.0)
+    → Takes bytes (property_bytes x.0) x.1 × IsInRange x.0 × IsJudged where_ before (identifier x.0)
 unfolding property_at
 property_takes where_ before bytes x fits e =
     let n = bind_ok (varint_at bytes) (λ n. judged where_ before (identifier_of n.0) >>= λ i. value_at i n.1) x e in
@@ -133,7 +133,7 @@ property_takes where_ before bytes x fits e =
     let both = Takes-then bytes (varint n.0.0) n.0.1 (value x.0) x.1 t.0 v.1 in
     (subst (λ (front : List ℕ). Takes bytes (front ++ value x.0) x.1) byte both, v.2, subst (IsJudged where_ before) (sym v.0) j.1)
 
-pub property_again : (where_ : Place) (before : List Bool) (p : Property) (rest : List ℕ) → IsInRange p → IsJudged where_ before (identifier p) → property_at where_ before (spelled p ++ rest) ≡ Ok (p, rest)
+pub property_again : (where_ : Place) (before : List Bool) (p : Property) (rest : List ℕ) → IsInRange p → IsJudged where_ before (identifier p) → property_at where_ before (property_bytes p ++ rest) ≡ Ok (p, rest)
 unfolding property_at
 property_again where_ before p rest h j =
     let i = identifier p in
@@ -144,9 +144,9 @@ property_again where_ before p rest h j =
 -- ---- the properties
 
 pub properties_take : (n : ℕ) (where_ : Place) (before : List Bool) (bytes : List ℕ) (ps : List Property) → IsBytes bytes → length bytes ≤ n → properties_in n where_ before bytes ≡ Ok ps
-    → (bytes ≡ flat_map spelled ps) × AreAllowed where_ ps × AreNew before ps
+    → (bytes ≡ flat_map property_bytes ps) × AreAllowed where_ ps × AreNew before ps
 unfolding properties_in
-properties_take n where_ before [] ps fits le e = subst (λ (qs : List Property). ([] ≡ flat_map spelled qs) × AreAllowed where_ qs × AreNew before qs) (ok_is [] ps e) (refl, tt, tt)
+properties_take n where_ before [] ps fits le e = subst (λ (qs : List Property). ([] ≡ flat_map property_bytes qs) × AreAllowed where_ qs × AreNew before qs) (ok_is [] ps e) (refl, tt, tt)
 properties_take zero where_ before (b ∷ bytes) ps fits le e = absurd (omega (arith, le))
 properties_take (suc n) where_ before (b ∷ bytes) ps fits le e =
     let p = bind_ok (property_at where_ before (b ∷ bytes)) (λ p. properties_in n where_ (slice_set before (number (identifier p.0)) true) p.1 >>= λ ps. Ok (p.0 ∷ ps)) ps e in
@@ -154,16 +154,16 @@ properties_take (suc n) where_ before (b ∷ bytes) ps fits le e =
     let t = property_takes where_ before (b ∷ bytes) p.0 fits p.1 in
     let shorter : length p.0.1 ≤ n = omega (arith, le, simp length-append at (ap length t.0.parts)) in
     let others = properties_take n where_ (slice_set before (number (identifier p.0.0)) true) p.0.1 q.0 t.0.rest_fits shorter q.1 in
-    let whole : b ∷ bytes ≡ flat_map spelled (p.0.0 ∷ q.0) = t.0.parts ∙ ap (λ (r : List ℕ). spelled p.0.0 ++ r) others.0 in
-    subst (λ (qs : List Property). (b ∷ bytes ≡ flat_map spelled qs) × AreAllowed where_ qs × AreNew before qs) (ok_is (p.0.0 ∷ q.0) ps q.2) (whole, (t.2.stands, t.1, others.1), (t.2.new, others.2))
+    let whole : b ∷ bytes ≡ flat_map property_bytes (p.0.0 ∷ q.0) = t.0.parts ∙ ap (λ (r : List ℕ). property_bytes p.0.0 ++ r) others.0 in
+    subst (λ (qs : List Property). (b ∷ bytes ≡ flat_map property_bytes qs) × AreAllowed where_ qs × AreNew before qs) (ok_is (p.0.0 ∷ q.0) ps q.2) (whole, (t.2.stands, t.1, others.1), (t.2.new, others.2))
 
-pub properties_again : (n : ℕ) (where_ : Place) (before : List Bool) (ps : List Property) → length (flat_map spelled ps) ≤ n → AreAllowed where_ ps → AreNew before ps → properties_in n where_ before (flat_map spelled ps) ≡ Ok ps
+pub properties_again : (n : ℕ) (where_ : Place) (before : List Bool) (ps : List Property) → length (flat_map property_bytes ps) ≤ n → AreAllowed where_ ps → AreNew before ps → properties_in n where_ before (flat_map property_bytes ps) ≡ Ok ps
 unfolding properties_in
 properties_again n where_ before [] le allowed new = refl
 properties_again zero where_ before (p ∷ ps) le allowed new = absurd (omega (arith, le))
 properties_again (suc n) where_ before (p ∷ ps) le allowed new =
-    let first = property_again where_ before p (flat_map spelled ps) allowed.1 (record { stands = allowed.0; new = new.0 }) in
-    let small : length (flat_map spelled ps) ≤ n = omega (arith, le, length-append (value p) (flat_map spelled ps)) in
+    let first = property_again where_ before p (flat_map property_bytes ps) allowed.1 (record { stands = allowed.0; new = new.0 }) in
+    let small : length (flat_map property_bytes ps) ≤ n = omega (arith, le, length-append (value p) (flat_map property_bytes ps)) in
     rw (first, properties_again n where_ (slice_set before (number (identifier p)) true) ps small allowed.2 new.1) refl
 
 pub all_take : (where_ : Place) (bytes : List ℕ) (x : List Property × List ℕ) → IsBytes bytes → properties_at where_ bytes ≡ Ok x → Takes bytes (properties x.0) x.1 × AreProperties where_ x.0
@@ -175,7 +175,7 @@ all_take where_ bytes x fits e =
     let t = varint_takes bytes n.0 fits n.1 in
     let part = part_takes n.0.0 n.0.1 s.0 t.0.rest_fits s.1 in
     let in_ = properties_take (length s.0.0) where_ none_yet s.0.0 ps.0 part.2 (omega arith) ps.1 in
-    let len : length (flat_map spelled ps.0) ≡ n.0.0 = ap length (sym in_.0) ∙ part.1 in
+    let len : length (flat_map property_bytes ps.0) ≡ n.0.0 = ap length (sym in_.0) ∙ part.1 in
     let both = Takes-then bytes (varint n.0.0) n.0.1 s.0.0 s.0.1 t.0 part.0 in
     let same : varint n.0.0 ++ s.0.0 ≡ properties ps.0 = section_is n.0.0 s.0.0 ps.0 len in_.0 in
     let made : List Property × List ℕ = (ps.0, s.0.1) in
@@ -185,7 +185,7 @@ all_take where_ bytes x fits e =
 pub all_again : (where_ : Place) (ps : List Property) (rest : List ℕ) → AreProperties where_ ps → properties_at where_ (properties ps ++ rest) ≡ Ok (ps, rest)
 unfolding properties_at
 all_again where_ ps rest h =
-    let text = flat_map spelled ps in
+    let text = flat_map property_bytes ps in
     let regrouped : properties ps ++ rest ≡ varint (length text) ++ (text ++ rest) = append_assoc (varint (length text)) text rest in
     ap (properties_at where_) regrouped ∙ rw (varint_again (length text) (text ++ rest) h.short, part_again text rest, properties_again (length text) where_ none_yet ps (omega arith) h.allowed (new_when_once ps h.once)) refl
 

@@ -10,7 +10,7 @@ use Rattle.rs_field.specs.declared.property.Property.{Property}
 use Rattle.rs_field.specs.declared.property.Property.TheVariants as property
 use Rattle.rs_field.specs.declared.property.Place.{Place}
 use Rattle.rs_field.specs.Values.{FoundValue}
-use Rattle.rs_field.specs.Properties.{low_first, varint, spelled, value, IsInRange, AreAllowed, properties, nothing, put, gathered}
+use Rattle.rs_field.specs.Properties.{low_first, varint, property_bytes, value, IsInRange, AreAllowed, properties, nothing, put, gathered}
 use Rattle.rs_field.specs.Kept.{kept, optional, user_property, replayed}
 use Rattle.rs_field.specs.Bounds.{IsFound}
 use Rattle.rs_field.specs.Reading.{Gives, found_at}
@@ -20,29 +20,29 @@ use Rattle.rs_field.proofs.Replayed.{length_replayed}
 
 -- how many bytes the properties that a message keeps take
 abbrev pub size : FoundValue → ℕ
-size f = length (flat_map spelled (replayed f.expiry None (kept f)))
+size f = length (flat_map property_bytes (replayed f.expiry None (kept f)))
 
 sizes : (f : FoundValue) → size f
-    ≡ cond (is_some f.format) 2 0 + cond (is_some f.expiry) 5 0 + (length (flat_map spelled (optional property.ContentTypeIs f.content_type)) + length (flat_map spelled (optional property.ResponseTopicIs f.response_topic)))
-    + length (flat_map spelled (optional property.Correlation f.correlation)) + length (flat_map spelled (map user_property f.user))
+    ≡ cond (is_some f.format) 2 0 + cond (is_some f.expiry) 5 0 + (length (flat_map property_bytes (optional property.ContentTypeIs f.content_type)) + length (flat_map property_bytes (optional property.ResponseTopicIs f.response_topic)))
+    + length (flat_map property_bytes (optional property.Correlation f.correlation)) + length (flat_map property_bytes (map user_property f.user))
 sizes f = omega (arith, length_replayed f.expiry None (kept f))
 
-one_len : (p : Property) → length (flat_map spelled (p ∷ [])) ≡ length (spelled p)
+one_len : (p : Property) → length (flat_map property_bytes (p ∷ [])) ≡ length (property_bytes p)
 one_len p = omega (arith, length-append (value p) [])
 
-users_len : (us : List (List ℕ × List ℕ)) (k v : List ℕ) → length (flat_map spelled (map user_property (us ++ (k, v) ∷ []))) ≡ length (flat_map spelled (map user_property us)) + length (spelled (property.User k v))
+users_len : (us : List (List ℕ × List ℕ)) (k v : List ℕ) → length (flat_map property_bytes (map user_property (us ++ (k, v) ∷ []))) ≡ length (flat_map property_bytes (map user_property us)) + length (property_bytes (property.User k v))
 users_len us k v =
     let one : Property = property.User k v in
-    ap (λ (ps : List Property). length (flat_map spelled ps)) (map-append user_property us ((k, v) ∷ []))
-    ∙ ap length (flat_map-append spelled (map user_property us) (one ∷ []))
-    ∙ length-append (flat_map spelled (map user_property us)) (flat_map spelled (one ∷ []))
-    ∙ ap (λ (n : ℕ). length (flat_map spelled (map user_property us)) + n) (one_len one)
+    ap (λ (ps : List Property). length (flat_map property_bytes ps)) (map-append user_property us ((k, v) ∷ []))
+    ∙ ap length (flat_map-append property_bytes (map user_property us) (one ∷ []))
+    ∙ length-append (flat_map property_bytes (map user_property us)) (flat_map property_bytes (one ∷ []))
+    ∙ ap (λ (n : ℕ). length (flat_map property_bytes (map user_property us)) + n) (one_len one)
 
 few : (b : Bool) (n : ℕ) → cond b n 0 ≤ n
 few true n = omega arith
 few false n = omega arith
 
-pub put_size : (f : FoundValue) (p : Property) → size (put f p) ≤ size f + length (spelled p)
+pub put_size : (f : FoundValue) (p : Property) → size (put f p) ≤ size f + length (property_bytes p)
 put_size f (property.Format n) = omega (arith, sizes f, sizes (put f (property.Format n)))
 put_size f (property.Expiry n) = omega (arith, sizes f, sizes (put f (property.Expiry n)))
 put_size f (property.ContentTypeIs t) = omega (arith, sizes f, sizes (put f (property.ContentTypeIs t)), one_len (property.ContentTypeIs t))
@@ -61,12 +61,12 @@ put_size f (property.Alias n) = omega arith
 put_size f (property.User k v) = omega (arith, sizes f, sizes (put f (property.User k v)), users_len f.user k v)
 put_size f (property.PacketMaximum n) = omega arith
 
-pub gathered_size : (f : FoundValue) (ps : List Property) → size (gathered f ps) ≤ size f + length (flat_map spelled ps)
+pub gathered_size : (f : FoundValue) (ps : List Property) → size (gathered f ps) ≤ size f + length (flat_map property_bytes ps)
 unfolding gathered
 gathered_size f [] = omega arith
-gathered_size f (p ∷ ps) = omega (arith, gathered_size (put f p) ps, put_size f p, length-append (value p) (flat_map spelled ps))
+gathered_size f (p ∷ ps) = omega (arith, gathered_size (put f p) ps, put_size f p, length-append (value p) (flat_map property_bytes ps))
 
-all_size : (ps : List Property) → size (gathered nothing ps) ≤ length (flat_map spelled ps)
+all_size : (ps : List Property) → size (gathered nothing ps) ≤ length (flat_map property_bytes ps)
 all_size ps = omega (arith, gathered_size nothing ps)
 
 -- a smaller number has no longer form
@@ -87,11 +87,11 @@ low_first_le (suc k) a b le =
           ]
     ]
 
-properties_le : (ps qs : List Property) → length (flat_map spelled ps) ≤ length (flat_map spelled qs) → length (properties ps) ≤ length (properties qs)
+properties_le : (ps qs : List Property) → length (flat_map property_bytes ps) ≤ length (flat_map property_bytes qs) → length (properties ps) ≤ length (properties qs)
 properties_le ps qs le =
-    let m = length (flat_map spelled ps) in
-    let n = length (flat_map spelled qs) in
-    omega (arith, le, low_first_le 4 (length (flat_map spelled ps)) (length (flat_map spelled qs)) le, length-append (varint (length (flat_map spelled ps))) (flat_map spelled ps), length-append (varint (length (flat_map spelled qs))) (flat_map spelled qs))
+    let m = length (flat_map property_bytes ps) in
+    let n = length (flat_map property_bytes qs) in
+    omega (arith, le, low_first_le 4 (length (flat_map property_bytes ps)) (length (flat_map property_bytes qs)) le, length-append (varint (length (flat_map property_bytes ps))) (flat_map property_bytes ps), length-append (varint (length (flat_map property_bytes qs))) (flat_map property_bytes qs))
 
 -- ---- the ranges
 
@@ -134,7 +134,7 @@ found_fits where_ bytes f rest fits e =
     let made : FoundFits bytes (gathered nothing g.ps) rest = record {
       fits = gathered_found where_ nothing g.ps nothing_found g.are.allowed;
       size_fits =
-          let inner : size (gathered nothing g.ps) ≤ length (flat_map spelled g.ps) = all_size g.ps in
+          let inner : size (gathered nothing g.ps) ≤ length (flat_map property_bytes g.ps) = all_size g.ps in
           omega (arith, properties_le (replayed (gathered nothing g.ps).expiry None (kept (gathered nothing g.ps))) g.ps inner, ap length g.takes.parts, length-append (properties g.ps) rest);
     } in
     subst (λ (v : FoundValue). FoundFits bytes v rest) (sym g.says) made

@@ -1,7 +1,8 @@
 -- What the types of properties keep, and what is known of properties that were read.
-use Rattle.std.specs.Prelude.{ℕ, ◌<◌, Option, IfSome}
+use Rattle.std.specs.Prelude.{ℕ, ◌<◌, ◌^◌, Option, IfSome}
+use Rattle.std.specs.List.{All}
 use Rattle.rs_field.specs.Values.{PropertiesValue, FoundValue}
-use Rattle.rs_field.specs.Forms.{IsShort}
+use Rattle.rs_field.specs.Forms.{IsShort, IsSubscriptionId}
 
 -- 3.3.2.3.6: correlation data are a binary
 abbrev pub AreKept : PropertiesValue → Type 0
@@ -19,3 +20,12 @@ pub record MaximaFit (receive packet : Option ℕ) : Type 0 where
 pub record IsFound (f : FoundValue) : Type 0 where
   pub short : IfSome f.correlation IsShort
   pub maxima : MaximaFit f.receive_maximum f.packet_maximum
+
+-- the properties of a PUBLISH have their forms (1.5.3, 1.5.4, 1.5.6, 3.8.2.1.2)
+pub record SectionFits (expiry subscription : Option ℕ) (p : PropertiesValue) : Type 0 where
+  pub expiry_fits : IfSome expiry (λ n. n < 2 ^ 32)
+  pub content_type_fits : IfSome p.content_type IsShort
+  pub response_topic_fits : IfSome p.response_topic IsShort
+  pub correlation_fits : IfSome p.correlation IsShort
+  pub subscription_fits : IfSome subscription IsSubscriptionId
+  pub user_fits : All (λ pair. IsShort pair.0 × IsShort pair.1) p.user

@@ -1,6 +1,7 @@
 -- The basic forms: section 1.5.
 use Rattle.std.specs.Prelude.{ℕ, zero, suc, ◌+◌, ◌/◌, ◌%◌, ◌<◌, ◌^◌, nat_lt, if◌then◌else◌, List, [], ◌∷◌, ◌++◌, length}
 use Rattle.std.specs.Int.{w16, w32, to_be_bytes}
+use Rattle.rs_field.specs.declared.limits.TheConstants.{MAX_REMAINING_LENGTH}
 
 -- 1.5.5: seven bits a byte, lowest first, the top bit set on all but the last; at most k bytes, and the fewest
 unfoldable pub low_first : ℕ → ℕ → List ℕ
@@ -12,7 +13,7 @@ varint n = low_first 4 n
 
 -- 1.5.5: numbers from here on have no form
 abbrev pub varint_end : ℕ
-varint_end = 268435456
+varint_end = MAX_REMAINING_LENGTH + 1
 
 -- 1.5.2, 1.5.3
 abbrev pub two : ℕ → List ℕ

@@ -96,8 +96,8 @@ IsInRange (property.User k v) = IsText k × IsText v
 IsInRange (property.PacketMaximum n) = (0 < n) × (n < 2 ^ 32)
 
 -- 2.2.2: the identifier, and the value
-abbrev pub spelled : Property → List ℕ
-spelled p = number (identifier p) ∷ value p
+abbrev pub property_bytes : Property → List ℕ
+property_bytes p = number (identifier p) ∷ value p
 
 -- table 2-4: which packet a client's property may stand in
 abbrev pub may_stand : Place → Identifier → Bool
@@ -138,7 +138,7 @@ none_yet = replicate 40 false
 
 -- ---- the properties of a packet, in any order
 
--- a property beside others of the packet: of one identifier only where they are user properties
+-- a property beside others of the packet: of one identifier only if they are user properties
 abbrev pub MayStandBeside : Property → List Property → Type 0
 MayStandBeside p [] = Unit {0}
 MayStandBeside p (q ∷ qs) = (identifier p ≡ identifier q → identifier p ≡ id.UserProperty) × MayStandBeside p qs
@@ -156,11 +156,11 @@ AreAllowed where_ (p ∷ ps) = (may_stand where_ (identifier p) ≡ true) × IsI
 pub record AreProperties (where_ : Place) (ps : List Property) : Type 0 where
   pub allowed : AreAllowed where_ ps
   pub once : AreOnce ps
-  pub short : length (flat_map spelled ps) < varint_end
+  pub short : length (flat_map property_bytes ps) < varint_end
 
 -- 2.2.2.1: their length in bytes, and the properties
 abbrev pub properties : List Property → List ℕ
-properties ps = varint (length (flat_map spelled ps)) ++ flat_map spelled ps
+properties ps = varint (length (flat_map property_bytes ps)) ++ flat_map property_bytes ps
 
 -- ---- what they say
 

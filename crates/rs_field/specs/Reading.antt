@@ -4,8 +4,8 @@ use Rattle.std.specs.List.{find}
 use Rattle.std.specs.Int.{Width, w16, w32, byte_len, from_be_bytes}
 use Rattle.rs_field.specs.declared.fault.PacketFault.{PacketFault}
 use Rattle.rs_field.specs.declared.fault.PacketFault.TheVariants.{Malformed, Protocol, TooLarge, Version, NoMemory}
-use Rattle.rs_field.specs.declared.reading.Cut.{Cut}
-use Rattle.rs_field.specs.declared.reading.Cut.TheVariants.{Short, Bad}
+use Rattle.rs_field.specs.declared.varint.VarintFault.{VarintFault}
+use Rattle.rs_field.specs.declared.varint.VarintFault.TheVariants.{Short, Bad}
 use Rattle.rs_field.specs.declared.property.Identifier.{Identifier}
 use Rattle.rs_field.specs.declared.property.Identifier.TheVariants as id
 use Rattle.rs_field.specs.declared.property.Property.{Property}
@@ -34,7 +34,7 @@ abbrev pub Gives : {X Y : Type 0} → (X → Y) → Result X PacketFault → Res
 Gives view (Ok x) read = read ≡ Ok (view x)
 Gives view (Err e) read = Fails e read
 
-abbrev pub GivesNumber : {X Y : Type 0} → (X → Y) → Result X Cut → Result Y Cut → Type 0
+abbrev pub GivesNumber : {X Y : Type 0} → (X → Y) → Result X VarintFault → Result Y VarintFault → Type 0
 GivesNumber view (Ok x) read = read ≡ Ok (view x)
 GivesNumber view (Err e) read = read ≡ Err e
 
@@ -45,15 +45,15 @@ pub record IsEnd (rest bytes : List ℕ) : Type 0 where
 
 -- ---- the basic forms: a value, and the bytes after it
 
--- at most n bytes of a number: Short where it goes on past the end, Bad where it has no such form
-unfoldable pub digits_at : ℕ → List ℕ → Result (ℕ × List ℕ) Cut
+-- at most n bytes of a number: Short if it goes on past the end, Bad if it has no such form
+unfoldable pub digits_at : ℕ → List ℕ → Result (ℕ × List ℕ) VarintFault
 digits_at zero bytes = Err Bad
 digits_at (suc n) [] = Err Short
 digits_at (suc n) (b ∷ bytes) =
     if nat_lt b 128 then Ok (b, bytes)
     else (digits_at n bytes >>= λ high. if high.0 == 0 then Err Bad else Ok (b - 128 + 128 * high.0, high.1))
 
-abbrev pub within : {A : Type 0} → Result A Cut → Result A PacketFault
+abbrev pub within : {A : Type 0} → Result A VarintFault → Result A PacketFault
 within (Ok x) = Ok x
 within (Err c) = Err Malformed
 

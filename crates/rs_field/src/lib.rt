@@ -1,21 +1,32 @@
-//! The fields of the packets of MQTT 5.0 (OASIS, sections 1.5 and 2.2.2): numbers, texts, binaries and properties, read
-//! from the front of some bytes.
+//! The fields of the packets of MQTT 5.0 (OASIS, sections 1.5 and 2.2.2): integers, strings, binary data and properties. A file
+//! of `src/` has each form: how it is read, how it is written, and how many bytes it takes.
 //!
-//! A reader takes its field off the front of `Bytes`; the texts and binaries that it gives share their memory. After a fault
-//! what is left has no meaning.
+//! A reader takes its field off the start of `Bytes`; the strings and binary data that it gives share their memory. After a fault
+//! what is left has no meaning. A writer appends to a `Vec`.
 //!
 //! Promised by contracts: a reader gives the field, or the first fault from left to right, exactly as the definition that its
-//! contract names says; only want of memory comes in place of these answers. `found_of` takes each property once, but User
-//! Properties, where its packet may have it, with a value in its range. Copies of `Properties` are equal, and share what they
-//! say; `==` goes field by field. A `SubscriptionId` is never 0 and always has a form of at most four bytes.
+//! contract names says; only out of memory comes in place of these answers. `read_properties` takes each property once, but User
+//! Properties, if its packet may have it, with a value in its range. A writer appends just the bytes of the form, and a length is
+//! their number. Copies of `Properties` are equal, and share what they say; `==` goes field by field. A `SubscriptionId` is never
+//! 0 and always has a form of at most four bytes.
 #![tactic(auto)]
 
+mod binary;
 mod fault;
+mod kept;
+mod limits;
+mod number;
+mod properties;
 mod property;
-mod reading;
 mod subscription;
+mod varint;
 
+pub use binary::{put_binary, put_string, read_binary, read_part, read_string};
 pub use fault::PacketFault;
-pub use property::{Found, Place, Properties, Property, PropertyFields};
-pub use reading::{Cut, binary_of, byte_of, digits, found_of, note_octets, text_of, two_of};
-pub use subscription::{SubscriptionId, in_range};
+pub use kept::{Properties, PropertyFields};
+pub use limits::MAX_REMAINING_LENGTH;
+pub use number::{put_u16, put_u32, read_u8, read_u16, read_u32};
+pub use properties::{properties_len, put_properties, read_properties};
+pub use property::{Found, Place};
+pub use subscription::SubscriptionId;
+pub use varint::{VarintFault, parse_varint, put_varint, read_varint, varint_len};

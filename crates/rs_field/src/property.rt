@@ -1,13 +1,12 @@
-//! The properties of packets.
+//! The properties that a client may send (2.2.2.2), and the packets that may have them.
 
-ghost use Rattle.std.specs.Prelude.{◌≡◌, ◌<◌, IfOk, OnOk};
+ghost use Rattle.std.specs.Prelude.{◌≡◌, ◌<◌, OnOk};
 
 use crate::subscription::SubscriptionId;
 use bytes::Bytes;
 use rs_topic::Text;
 use std::alloc::{AllocError, Global};
 use std::marker::Model;
-use std::sync::Arc;
 
 /// Which property it is (2.2.2.2).
 #[derive(Clone, Copy)]
@@ -65,7 +64,7 @@ pub enum Place {
     Disconnect,
 }
 
-/// What the properties of a packet say, whichever it is.
+/// The property values of one packet; None if absent.
 #[derive(Drop)]
 pub struct Found {
     pub format: Option<u8>,
@@ -103,166 +102,6 @@ impl Model for Found {
       user = f.user.items;
       packet_maximum = f.packet_maximum;
     } };
-}
-
-/// What the properties that a message keeps say, one by one (3.3.2.3). The correlation data take less than 65,536
-/// bytes, and the user properties stand in the order received.
-#[derive(Drop)]
-pub struct PropertyFields {
-    /// The Payload Format Indicator (3.3.2.3.2): 0 for bytes, 1 for UTF-8.
-    pub format: Option<u8>,
-    /// The Content Type (3.3.2.3.9).
-    pub content_type: Option<Text>,
-    /// The Response Topic (3.3.2.3.5).
-    pub response_topic: Option<Text>,
-    /// The Correlation Data (3.3.2.3.6), of 0 to 65,535 bytes.
-    pub correlation: Option<Bytes>,
-    /// The User Properties (3.3.2.3.7): names and values; a name may stand more than once.
-    pub user: Vec<(Text, Text)>,
-}
-
-impl Model for PropertyFields {
-    ghost use Rattle.rs_field.specs.Values.{PropertiesValue};
-
-    ghost Value = { PropertiesValue };
-
-    ghost use Rattle.rs_field.specs.Bounds.{AreKept};
-
-    ghost view = { λ p. record {
-      format = p.format;
-      content_type = p.content_type;
-      response_topic = p.response_topic;
-      correlation = p.correlation;
-      user = p.user.items;
-    } };
-
-    ghost invariant = { λ p. AreKept (record {
-      format = p.format;
-      content_type = p.content_type;
-      response_topic = p.response_topic;
-      correlation = p.correlation;
-      user = p.user.items;
-    }) };
-}
-
-impl PropertyFields {
-    ghost use Rattle.rs_field.specs.Values.{no_properties};
-    ghost use Rattle.rs_field.specs.Equality.{properties_eq};
-
-    /// None of them is there.
-    fn are_none(&self) -> bool
-        ensures { result ≡ properties_eq no_properties self.now }
-    {
-        self.format.is_none()
-            && self.content_type.is_none()
-            && self.response_topic.is_none()
-            && self.correlation.is_none()
-            && self.user.is_empty()
-    }
-}
-
-impl PartialEq for PropertyFields {
-    ghost use Rattle.std.specs.Cmp.{partial_equiv_from_equiv};
-    ghost use Rattle.rs_field.specs.Equality.{properties_eq, properties_eq_equiv};
-
-    ghost eq = { properties_eq };
-
-    ghost laws = { partial_equiv_from_equiv properties_eq_equiv };
-
-    fn eq(&self, other: &PropertyFields) -> bool {
-        self.format == other.format
-            && self.content_type == other.content_type
-            && self.response_topic == other.response_topic
-            && self.correlation == other.correlation
-            && self.user == other.user
-    }
-}
-
-/// The properties that a message keeps (3.3.2.3). Copies share what they say, and no property takes no memory.
-#[derive(Drop)]
-pub struct Properties {
-    fields: Option<Arc<PropertyFields>>,
-}
-
-impl Model for Properties {
-    ghost use Rattle.rs_field.specs.Values.{PropertiesValue};
-
-    ghost Value = { PropertiesValue };
-
-    ghost use Rattle.rs_field.specs.Shared.{properties_of};
-
-    ghost view = { λ p. properties_of p.fields };
-}
-
-impl Properties {
-    ghost use Rattle.std.specs.Prelude.{IsOk, MatchOption};
-    ghost use Rattle.rs_field.specs.Values.{no_properties};
-
-    /// No property at all.
-    pub fn none() -> Properties
-        ensures { result ≡ no_properties }
-    {
-        Properties { fields: None }
-    }
-
-    /// These properties. Memory is taken only where there is one.
-    pub fn new(alloc: Global, fields: PropertyFields) -> Result<Properties, AllocError>
-        ensures ok { IfOk result (λ p. p ≡ fields) }
-        ensures none { fields ≡ no_properties → IsOk result }
-    {
-        if fields.are_none() {
-            return Ok(Properties::none());
-        }
-        Ok(Properties {
-            fields: Some(Arc::new(alloc, fields)?),
-        })
-    }
-
-    /// What they say, where there is one.
-    pub fn fields(&self) -> Option<&PropertyFields>
-        ensures { MatchOption result (self.now ≡ no_properties) (λ fields. fields.now ≡ self.now) }
-    {
-        match &self.fields {
-            Some(fields) => Some(&**fields),
-            None => None,
-        }
-    }
-
-    /// An equal value, which shares what they say; refused only for want of memory. It takes none.
-    pub fn copy(&self) -> Result<Properties, AllocError>
-        ensures { IfOk result (λ p. p ≡ self.now) }
-    {
-        match &self.fields {
-            Some(fields) => Ok(Properties {
-                fields: Some(fields.clone()?),
-            }),
-            None => Ok(Properties::none()),
-        }
-    }
-}
-
-impl PartialEq for Properties {
-    ghost use Rattle.std.specs.Cmp.{partial_equiv_from_equiv};
-    ghost use Rattle.rs_field.specs.Equality.{properties_eq, properties_eq_equiv};
-
-    ghost eq = { properties_eq };
-
-    ghost laws = { partial_equiv_from_equiv properties_eq_equiv };
-
-    fn eq(&self, other: &Properties) -> bool {
-        match (self.fields(), other.fields()) {
-            (Some(fields), Some(others)) => *fields == *others,
-            (Some(fields), None) => fields.are_none(),
-            (None, Some(others)) => others.are_none(),
-            (None, None) => true,
-        }
-    }
-}
-
-impl Eq for Properties {
-    ghost use Rattle.rs_field.specs.Equality.{properties_eq_equiv};
-
-    ghost laws = { properties_eq_equiv };
 }
 
 impl Identifier {

@@ -1,11 +1,9 @@
 //! Subscription Identifiers.
 
-ghost use Rattle.std.specs.Prelude.{◌≡◌, IfSome};
-ghost use Rattle.rs_field.specs.Forms.{IsSubscriptionId};
-
+use crate::limits::MAX_REMAINING_LENGTH;
 use std::marker::Model;
 
-/// A Subscription Identifier, from 1 to 268,435,455 (3.8.2.1.2).
+/// A Subscription Identifier, from 1 to `MAX_REMAINING_LENGTH` (3.8.2.1.2).
 #[derive(Clone, Copy)]
 pub struct SubscriptionId {
     number: u32,
@@ -28,11 +26,11 @@ impl SubscriptionId {
     ghost use Rattle.std.specs.Prelude.{◌≡◌, ◌<◌, ◌&&◌, nat_lt, if◌then◌else◌, Some, None};
     ghost use Rattle.rs_field.specs.Forms.{varint_end};
 
-    /// None unless the number is 1 to 268,435,455.
+    /// None unless the number is 1 to `MAX_REMAINING_LENGTH`.
     pub fn new(number: u32) -> Option<SubscriptionId>
         ensures { result ≡ (if nat_lt 0 number && nat_lt number varint_end then Some number else None) }
     {
-        if 0 < number && number < 268_435_456 {
+        if 0 < number && number <= MAX_REMAINING_LENGTH {
             return Some(SubscriptionId { number });
         }
         None
@@ -45,19 +43,5 @@ impl SubscriptionId {
         ensures small { result < varint_end }
     {
         self.number
-    }
-}
-
-/// The same, which says that an identifier is in its range.
-pub fn in_range(subscription: Option<SubscriptionId>) -> Option<SubscriptionId>
-    ensures same { result ≡ subscription }
-    ensures fits { IfSome result IsSubscriptionId }
-{
-    match subscription {
-        Some(id) => {
-            let _number = id.get();
-            Some(id)
-        }
-        None => None,
     }
 }

@@ -1,8 +1,7 @@
 pub mod ItemLoop
 pub mod PacketLaws
 pub mod AnswerLaws
-pub mod Fronts
-pub mod WritingLemmas
-pub mod KeptLaws
+pub mod Prefixes
+pub mod Lengths
 pub mod ReplyLaws
 pub mod Rows

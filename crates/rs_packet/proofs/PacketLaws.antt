@@ -1,4 +1,4 @@
--- What is read is spelled so, and what is spelled so is read: PUBLISH, SUBSCRIBE, the acknowledgements and DISCONNECT.
+-- What is read is encoded so, and what is encoded so is read: PUBLISH, SUBSCRIBE, the acknowledgements and DISCONNECT.
 use Rattle.std.proofs.Common.{◌≡◌, ℕ, zero, suc, ◌+◌, ◌/◌, ◌%◌, ◌<◌, ◌≤◌, ◌^◌, Bool, true, false, cond, not, eqb, ltb, List, [], ◌∷◌, ◌++◌, length, Option, Some, None, Result, Ok, Err, refl, sym, ap, subst, ◌∙◌, append_assoc, arith}
 use Rattle.std.specs.List.{flat_map}
 use Rattle.std.specs.Prelude.{◌&&◌, is_none, map}
@@ -26,9 +26,9 @@ use Rattle.rs_topic.specs.Texts.{IsText}
 use Rattle.rs_topic.specs.Topics.{filter_of}
 use Rattle.rs_field.specs.Values.{FoundValue}
 use Rattle.rs_packet.specs.Values.{SubscribeValue, UnsubscribeValue, Asked, Filter}
-use Rattle.rs_field.specs.Properties.{two, counted, IsShort, properties, gathered, nothing, low_first, spelled}
+use Rattle.rs_field.specs.Properties.{two, counted, IsShort, properties, gathered, nothing, low_first, property_bytes}
 use Rattle.rs_field.specs.Reading.{◌>>=◌, number_at, byte_at, binary_at, text_at, wanting, found_at}
-use Rattle.rs_packet.specs.Grammar.{bit, level, handling, IsId, IdFits, id_bytes, publication, SpellsPublish, SpellsCode, SpellsAcknowledgement, options_byte, AreTexts, text_of, filter_bytes, asked_of, SpellsSubscribe, SpellsUnsubscribe, protocol, flags_byte, FlagsFit, SpellsIf, SpellsPayload, MethodFits, SpellsConnect}
+use Rattle.rs_packet.specs.Grammar.{bit, level, handling, IsId, IdFits, id_bytes, publication, EncodesPublish, EncodesCode, EncodesAcknowledgement, options_byte, AreTexts, text_of, filter_bytes, asked_of, EncodesSubscribe, EncodesUnsubscribe, protocol, flags_byte, FlagsFit, EncodesIf, EncodesPayload, MethodFits, EncodesConnect}
 use Rattle.rs_packet.specs.PacketReading.{id_at, id_for, publish_at, ended, code_at, acknowledgement_at, qos_of, handling_of, options_of, asked_at, all_in, some_of, subscribe_at, filter_at, unsubscribe_at, mqtt, flags_of, past_text, past_binary, client_at, version_at, connect_at}
 use Rattle.rs_field.proofs.Numbers.{bind_ok, ok_is}
 use Rattle.rs_field.proofs.Fields.{IsBytes, IsBytes-rest, Takes, Takes-then, wide16, number_takes, number_again, binary_takes, binary_again, text_takes, text_again}
@@ -72,7 +72,7 @@ id_for_again ExactlyOnce (Some n) rest h = rw (id_again n rest h) refl
 
 -- ---- PUBLISH
 
-pub publish_takes : (duplicate : Bool) (qos : Qos) (retain : Bool) (body : List ℕ) (p : Publish) → IsBytes body → publish_at duplicate qos retain body ≡ Ok p → SpellsPublish duplicate qos retain body p
+pub publish_takes : (duplicate : Bool) (qos : Qos) (retain : Bool) (body : List ℕ) (p : Publish) → IsBytes body → publish_at duplicate qos retain body ≡ Ok p → EncodesPublish duplicate qos retain body p
 unfolding publish_at
 publish_takes duplicate qos retain body p fits e =
     let topic = bind_ok (text_at body) (λ topic. id_for qos topic.1 >>= λ id. found_at place.Publish id.1 >>= λ f. Ok (publication duplicate qos retain topic.0 id.0 f.0 f.1)) p e in
@@ -97,7 +97,7 @@ publish_takes duplicate qos retain body p fits e =
       value = sym (ok_is (publication duplicate qos retain topic.0.0 id.0.0 f.0.0 f.0.1) p f.2) ∙ made;
     }
 
-pub publish_again : (duplicate : Bool) (qos : Qos) (retain : Bool) (body : List ℕ) (p : Publish) → SpellsPublish duplicate qos retain body p → publish_at duplicate qos retain body ≡ Ok p
+pub publish_again : (duplicate : Bool) (qos : Qos) (retain : Bool) (body : List ℕ) (p : Publish) → EncodesPublish duplicate qos retain body p → publish_at duplicate qos retain body ≡ Ok p
 unfolding publish_at
 publish_again duplicate qos retain body p h =
     ap (publish_at duplicate qos retain) h.fields
@@ -110,17 +110,17 @@ ended_is : {A : Type 0} (x y : A) (rest : List ℕ) → ended x rest ≡ Ok y �
 ended_is x y [] e = (refl, ok_is x y e)
 ended_is x y (b ∷ rest) e = absurd cc
 
-pub code_takes : (where_ : Place) (bytes : List ℕ) (code : ℕ) → IsBytes bytes → code_at where_ bytes ≡ Ok code → SpellsCode where_ bytes code
+pub code_takes : (where_ : Place) (bytes : List ℕ) (code : ℕ) → IsBytes bytes → code_at where_ bytes ≡ Ok code → EncodesCode where_ bytes code
 unfolding code_at
-code_takes where_ [] code fits e = subst (SpellsCode where_ []) (ok_is 0 code e) SpellsCode.no_code
-code_takes where_ (c ∷ []) code fits e = subst (SpellsCode where_ (c ∷ [])) (ok_is c code e) (SpellsCode.no_properties (fits 0))
+code_takes where_ [] code fits e = subst (EncodesCode where_ []) (ok_is 0 code e) EncodesCode.no_code
+code_takes where_ (c ∷ []) code fits e = subst (EncodesCode where_ (c ∷ [])) (ok_is c code e) (EncodesCode.no_properties (fits 0))
 code_takes where_ (c ∷ b ∷ bytes) code fits e =
     let f = bind_ok (found_at where_ (b ∷ bytes)) (λ f. ended c f.1) code e in
     let end = ended_is c code f.0.1 f.2 in
     let g = found_takes where_ (b ∷ bytes) f.0 (IsBytes-rest c (b ∷ bytes) fits) f.1 in
     let whole : properties g.ps ≡ b ∷ bytes = sym (g.takes.parts ∙ ap (λ (r : List ℕ). properties g.ps ++ r) end.0 ∙ append-nil (properties g.ps)) in
-    let made : SpellsCode where_ (c ∷ properties g.ps) c = SpellsCode.with_properties (fits 0) g.are in
-    subst (SpellsCode where_ (c ∷ b ∷ bytes)) end.1 (subst (λ (r : List ℕ). SpellsCode where_ (c ∷ r) c) whole made)
+    let made : EncodesCode where_ (c ∷ properties g.ps) c = EncodesCode.with_properties (fits 0) g.are in
+    subst (EncodesCode where_ (c ∷ b ∷ bytes)) end.1 (subst (λ (r : List ℕ). EncodesCode where_ (c ∷ r) c) whole made)
 
 varint_some : (k n : ℕ) → (b : ℕ) × (bs : List ℕ) × (low_first (suc k) n ≡ b ∷ bs)
 unfolding low_first
@@ -130,17 +130,17 @@ varint_some k n = by (ltb n 128)
     by true = (n, [], refl)
     by false = (n % 128 + 128, low_first k (n / 128), refl)
 
-pub code_again : (where_ : Place) (bytes : List ℕ) (code : ℕ) → SpellsCode where_ bytes code → code_at where_ bytes ≡ Ok code
+pub code_again : (where_ : Place) (bytes : List ℕ) (code : ℕ) → EncodesCode where_ bytes code → code_at where_ bytes ≡ Ok code
 unfolding code_at
-code_again where_ _ _ SpellsCode.no_code = refl
-code_again where_ _ _ (SpellsCode.no_properties h) = refl
-code_again where_ _ _ (SpellsCode.with_properties {code = code} {ps = ps} h are) =
-    let v = varint_some 3 (length (flat_map spelled ps)) in
-    let shape : properties ps ≡ v.0 ∷ (v.1 ++ flat_map spelled ps) = ap (λ (r : List ℕ). r ++ flat_map spelled ps) v.2 in
-    let read : found_at where_ (v.0 ∷ (v.1 ++ flat_map spelled ps)) ≡ Ok (gathered nothing ps, []) = ap (found_at where_) (sym shape ∙ sym (append-nil (properties ps))) ∙ found_again where_ ps [] are in
+code_again where_ _ _ EncodesCode.no_code = refl
+code_again where_ _ _ (EncodesCode.no_properties h) = refl
+code_again where_ _ _ (EncodesCode.with_properties {code = code} {ps = ps} h are) =
+    let v = varint_some 3 (length (flat_map property_bytes ps)) in
+    let shape : properties ps ≡ v.0 ∷ (v.1 ++ flat_map property_bytes ps) = ap (λ (r : List ℕ). r ++ flat_map property_bytes ps) v.2 in
+    let read : found_at where_ (v.0 ∷ (v.1 ++ flat_map property_bytes ps)) ≡ Ok (gathered nothing ps, []) = ap (found_at where_) (sym shape ∙ sym (append-nil (properties ps))) ∙ found_again where_ ps [] are in
     ap (λ (r : List ℕ). code_at where_ (code ∷ r)) shape ∙ rw read refl
 
-pub acknowledgement_takes : (body : List ℕ) (a : Acknowledgement) → IsBytes body → acknowledgement_at body ≡ Ok a → SpellsAcknowledgement body a
+pub acknowledgement_takes : (body : List ℕ) (a : Acknowledgement) → IsBytes body → acknowledgement_at body ≡ Ok a → EncodesAcknowledgement body a
 unfolding acknowledgement_at
 acknowledgement_takes body a fits e =
     let id = bind_ok (id_at body) (λ id. code_at place.Acknowledgement id.1 >>= λ code. Ok (record { id = id.0; code = code })) a e in
@@ -148,9 +148,9 @@ acknowledgement_takes body a fits e =
     let t = id_takes body id.0 fits id.1 in
     let s = code_takes place.Acknowledgement id.0.1 code.0 t.0.rest_fits code.1 in
     let made : Acknowledgement = record { id = id.0.0; code = code.0 } in
-    subst (SpellsAcknowledgement body) (ok_is made a code.2) (record { rest = id.0.1; is_id = t.1; fields = t.0.parts; code = s })
+    subst (EncodesAcknowledgement body) (ok_is made a code.2) (record { rest = id.0.1; is_id = t.1; fields = t.0.parts; code = s })
 
-pub acknowledgement_again : (body : List ℕ) (a : Acknowledgement) → SpellsAcknowledgement body a → acknowledgement_at body ≡ Ok a
+pub acknowledgement_again : (body : List ℕ) (a : Acknowledgement) → EncodesAcknowledgement body a → acknowledgement_at body ≡ Ok a
 unfolding acknowledgement_at
 acknowledgement_again body a h = ap acknowledgement_at h.fields ∙ rw (id_again a.id h.rest h.is_id, code_again place.Acknowledgement h.rest a.code h.code) refl
 
@@ -256,10 +256,10 @@ asked_takes bytes x fits e =
     let byte = byte_takes t.0.1 b.0 text.0.rest_fits b.1 in
     let both = Takes-then bytes (counted t.0.0) t.0.1 (b.0.0 ∷ []) b.0.1 text.0 byte.0 in
     let is : options_byte o.0 ≡ b.0.0 = options_takes b.0.0 o.0 o.1 in
-    let spelled : Takes bytes (filter_bytes (t.0.0, o.0)) b.0.1 = subst (λ (n : ℕ). Takes bytes (counted t.0.0 ++ n ∷ []) b.0.1) (sym is) both in
+    let property_bytes : Takes bytes (filter_bytes (t.0.0, o.0)) b.0.1 = subst (λ (n : ℕ). Takes bytes (counted t.0.0 ++ n ∷ []) b.0.1) (sym is) both in
     let made : Asked × List ℕ = ((filter_of t.0.0, o.0), b.0.1) in
     subst (λ (y : Asked × List ℕ). (f : List ℕ × Options) × Takes bytes (filter_bytes f) y.1 × IsText f.0 × (y.0 ≡ (filter_of f.0, f.1))) (ok_is made x o.2)
-    ((t.0.0, o.0), spelled, text.1, refl)
+    ((t.0.0, o.0), property_bytes, text.1, refl)
 
 pub asked_again : (f : List ℕ × Options) (rest : List ℕ) → IsText f.0 → asked_at (filter_bytes f ++ rest) ≡ Ok ((filter_of f.0, f.1), rest)
 unfolding asked_at
@@ -292,7 +292,7 @@ all_asked_again (suc n) (f ∷ fs) le h =
     let small : length (flat_map filter_bytes fs) ≤ n = omega (arith, le, length-append (f.0 ++ options_byte f.1 ∷ []) (flat_map filter_bytes fs)) in
     rw (first, all_asked_again n fs small h.1) refl
 
-pub subscribe_takes : (body : List ℕ) (s : SubscribeValue) → IsBytes body → subscribe_at body ≡ Ok s → SpellsSubscribe body s
+pub subscribe_takes : (body : List ℕ) (s : SubscribeValue) → IsBytes body → subscribe_at body ≡ Ok s → EncodesSubscribe body s
 unfolding subscribe_at
 subscribe_takes body s fits e =
     let id = bind_ok (id_at body) (λ id. found_at place.Subscribe id.1 >>= λ f. some_of asked_at f.1 >>= λ filters. Ok (record { id = id.0; subscription = f.0.subscription; filters = filters })) s e in
@@ -307,7 +307,7 @@ subscribe_takes body s fits e =
     let fields : body ≡ two id.0.0 ++ (properties g.ps ++ flat_map filter_bytes fs.0) = t.0.parts ∙ ap (λ (r : List ℕ). two id.0.0 ++ r) (g.takes.parts ∙ ap (λ (r : List ℕ). properties g.ps ++ r) fs.2) in
     let made : SubscribeValue = record { id = id.0.0; subscription = f.0.0.subscription; filters = l.0 } in
     let is : made ≡ record { id = id.0.0; subscription = (gathered nothing g.ps).subscription; filters = map asked_of fs.0 } = same id.0.0 f.0.0 (gathered nothing g.ps) l.0 (map asked_of fs.0) g.says fs.3 in
-    subst (SpellsSubscribe body) (ok_is made s l.2)
+    subst (EncodesSubscribe body) (ok_is made s l.2)
     (record { ps = g.ps; filters = fs.0; is_id = t.1; are_properties = g.are; are_texts = fs.1; some = count; fields = fields; value = is })
   where
     tested : {A : Type 0} (t : Bool) (d : PacketFault) (x : Result A PacketFault) (y : A) → cond t (Err d) x ≡ Ok y → (t ≡ false) × (x ≡ Ok y)
@@ -321,7 +321,7 @@ subscribe_takes body s fits e =
     same : (id : ℕ) (f g : FoundValue) (xs ys : List Asked) → f ≡ g → xs ≡ ys → ◌≡◌ {A = SubscribeValue} (record { id = id; subscription = f.subscription; filters = xs }) (record { id = id; subscription = g.subscription; filters = ys })
     same id f g xs ys p q = rw (p, q) refl
 
-pub subscribe_again : (body : List ℕ) (s : SubscribeValue) → SpellsSubscribe body s → subscribe_at body ≡ Ok s
+pub subscribe_again : (body : List ℕ) (s : SubscribeValue) → EncodesSubscribe body s → subscribe_at body ≡ Ok s
 unfolding subscribe_at
 subscribe_again body s h =
     let text = flat_map filter_bytes h.filters in
@@ -373,7 +373,7 @@ filters_again (suc n) (t ∷ ts) le h =
     let small : length (flat_map counted ts) ≤ n = omega (arith, le, length-append t (flat_map counted ts)) in
     rw (first, filters_again n ts small h.1) refl
 
-pub unsubscribe_takes : (body : List ℕ) (u : UnsubscribeValue) → IsBytes body → unsubscribe_at body ≡ Ok u → SpellsUnsubscribe body u
+pub unsubscribe_takes : (body : List ℕ) (u : UnsubscribeValue) → IsBytes body → unsubscribe_at body ≡ Ok u → EncodesUnsubscribe body u
 unfolding unsubscribe_at
 unsubscribe_takes body u fits e =
     let id = bind_ok (id_at body) (λ id. found_at place.Unsubscribe id.1 >>= λ f. some_of filter_at f.1 >>= λ filters. Ok (record { id = id.0; filters = filters })) u e in
@@ -388,7 +388,7 @@ unsubscribe_takes body u fits e =
     let fields : body ≡ two id.0.0 ++ (properties g.ps ++ flat_map counted ts.0) = t.0.parts ∙ ap (λ (r : List ℕ). two id.0.0 ++ r) (g.takes.parts ∙ ap (λ (r : List ℕ). properties g.ps ++ r) ts.2) in
     let made : UnsubscribeValue = record { id = id.0.0; filters = l.0 } in
     let is : made ≡ record { id = id.0.0; filters = map filter_of ts.0 } = ap (λ (xs : List Filter). let v : UnsubscribeValue = record { id = id.0.0; filters = xs } in v) ts.3 in
-    subst (SpellsUnsubscribe body) (ok_is made u l.2) (record { ps = g.ps; filters = ts.0; is_id = t.1; are_properties = g.are; are_texts = ts.1; some = count; fields = fields; value = is })
+    subst (EncodesUnsubscribe body) (ok_is made u l.2) (record { ps = g.ps; filters = ts.0; is_id = t.1; are_properties = g.are; are_texts = ts.1; some = count; fields = fields; value = is })
   where
     tested : {A : Type 0} (t : Bool) (d : PacketFault) (x : Result A PacketFault) (y : A) → cond t (Err d) x ≡ Ok y → (t ≡ false) × (x ≡ Ok y)
     tested true d x y e = absurd cc
@@ -398,7 +398,7 @@ unsubscribe_takes body u fits e =
     not_none [] bytes e h = absurd (omega (arith, h, ap length e))
     not_none (t ∷ ts) bytes e h = omega arith
 
-pub unsubscribe_again : (body : List ℕ) (u : UnsubscribeValue) → SpellsUnsubscribe body u → unsubscribe_at body ≡ Ok u
+pub unsubscribe_again : (body : List ℕ) (u : UnsubscribeValue) → EncodesUnsubscribe body u → unsubscribe_at body ≡ Ok u
 unfolding unsubscribe_at
 unsubscribe_again body u h =
     let text = flat_map counted h.filters in
@@ -428,8 +428,8 @@ version_takes body rest fits e =
     let is : name.0.0 ≡ mqtt = decided (bytes_eq name.0.0 mqtt) (name.0.0 ≡ mqtt) (bytes_eq-Decides name.0.0 mqtt) named.0 in
     let v : version.0.0 ≡ 5 = eqb-true _ _ five.0 in
     let both = Takes-then body (counted name.0.0) name.0.1 (version.0.0 ∷ []) version.0.1 t.0 b.0 in
-    let spelled : counted name.0.0 ++ version.0.0 ∷ [] ≡ protocol = same name.0.0 version.0.0 is v in
-    subst (λ (r : List ℕ). Takes body protocol r) (ok_is version.0.1 rest five.1) (subst (λ (front : List ℕ). Takes body front version.0.1) spelled both)
+    let property_bytes : counted name.0.0 ++ version.0.0 ∷ [] ≡ protocol = same name.0.0 version.0.0 is v in
+    subst (λ (r : List ℕ). Takes body protocol r) (ok_is version.0.1 rest five.1) (subst (λ (front : List ℕ). Takes body front version.0.1) property_bytes both)
   where
     passed : {A : Type 0} (t : Bool) (x : Result A PacketFault) (y : A) → cond t x (Err Version) ≡ Ok y → (t ≡ true) × (x ≡ Ok y)
     passed true x y e = (refl, e)
@@ -477,26 +477,26 @@ flags_takes b f lt e =
     empty w zero h e = refl
     empty w (suc n) h e = let s : eqb (suc n) 0 ≡ false = ne_eqb _ _ (λ z. omega arith) in let f = rw s at e in let t : ◌≡◌ {A = Bool} true false = rw h at f in absurd cc
 
-past_text_takes : (present : Bool) (bytes rest : List ℕ) → IsBytes bytes → past_text present bytes ≡ Ok rest → (field : List ℕ) × Takes bytes field rest × SpellsIf IsText present field
-past_text_takes false bytes rest fits e = subst (λ (r : List ℕ). (field : List ℕ) × Takes bytes field r × SpellsIf IsText false field) (ok_is bytes rest e) ([], record { parts = refl; rest_fits = fits }, SpellsIf.absent)
+past_text_takes : (present : Bool) (bytes rest : List ℕ) → IsBytes bytes → past_text present bytes ≡ Ok rest → (field : List ℕ) × Takes bytes field rest × EncodesIf IsText present field
+past_text_takes false bytes rest fits e = subst (λ (r : List ℕ). (field : List ℕ) × Takes bytes field r × EncodesIf IsText false field) (ok_is bytes rest e) ([], record { parts = refl; rest_fits = fits }, EncodesIf.absent)
 past_text_takes true bytes rest fits e =
     let t = bind_ok (text_at bytes) (λ t. Ok t.1) rest e in
     let g = text_takes bytes t.0 fits t.1 in
-    subst (λ (r : List ℕ). (field : List ℕ) × Takes bytes field r × SpellsIf IsText true field) (ok_is t.0.1 rest t.2) (counted t.0.0, g.0, SpellsIf.present g.1)
+    subst (λ (r : List ℕ). (field : List ℕ) × Takes bytes field r × EncodesIf IsText true field) (ok_is t.0.1 rest t.2) (counted t.0.0, g.0, EncodesIf.present g.1)
 
-past_binary_takes : (present : Bool) (bytes rest : List ℕ) → IsBytes bytes → past_binary present bytes ≡ Ok rest → (field : List ℕ) × Takes bytes field rest × SpellsIf IsShort present field
-past_binary_takes false bytes rest fits e = subst (λ (r : List ℕ). (field : List ℕ) × Takes bytes field r × SpellsIf IsShort false field) (ok_is bytes rest e) ([], record { parts = refl; rest_fits = fits }, SpellsIf.absent)
+past_binary_takes : (present : Bool) (bytes rest : List ℕ) → IsBytes bytes → past_binary present bytes ≡ Ok rest → (field : List ℕ) × Takes bytes field rest × EncodesIf IsShort present field
+past_binary_takes false bytes rest fits e = subst (λ (r : List ℕ). (field : List ℕ) × Takes bytes field r × EncodesIf IsShort false field) (ok_is bytes rest e) ([], record { parts = refl; rest_fits = fits }, EncodesIf.absent)
 past_binary_takes true bytes rest fits e =
     let t = bind_ok (binary_at bytes) (λ t. Ok t.1) rest e in
     let g = binary_takes bytes t.0 fits t.1 in
-    subst (λ (r : List ℕ). (field : List ℕ) × Takes bytes field r × SpellsIf IsShort true field) (ok_is t.0.1 rest t.2) (counted t.0.0, g.0, SpellsIf.present g.1)
+    subst (λ (r : List ℕ). (field : List ℕ) × Takes bytes field r × EncodesIf IsShort true field) (ok_is t.0.1 rest t.2) (counted t.0.0, g.0, EncodesIf.present g.1)
 
-client_takes : (f : Flags) (bytes : List ℕ) (client : Option (List ℕ)) → IsBytes bytes → client_at f bytes ≡ Ok client → SpellsPayload f bytes client
+client_takes : (f : Flags) (bytes : List ℕ) (client : Option (List ℕ)) → IsBytes bytes → client_at f bytes ≡ Ok client → EncodesPayload f bytes client
 unfolding client_at
 client_takes f bytes client fits e = by f.will refl e
   where
-    by : (w : Bool) → f.will ≡ w → cond w (Ok None) (text_at bytes >>= λ client. past_text f.user_name client.1 >>= λ name. past_binary f.password name >>= λ rest. ended (Some client.0) rest) ≡ Ok client → SpellsPayload f bytes client
-    by true is e = subst (SpellsPayload f bytes) (ok_is None client e) (SpellsPayload.with_will is)
+    by : (w : Bool) → f.will ≡ w → cond w (Ok None) (text_at bytes >>= λ client. past_text f.user_name client.1 >>= λ name. past_binary f.password name >>= λ rest. ended (Some client.0) rest) ≡ Ok client → EncodesPayload f bytes client
+    by true is e = subst (EncodesPayload f bytes) (ok_is None client e) (EncodesPayload.with_will is)
     by false is e =
         let t = bind_ok (text_at bytes) (λ client. past_text f.user_name client.1 >>= λ name. past_binary f.password name >>= λ rest. ended (Some client.0) rest) client e in
         let n = bind_ok (past_text f.user_name t.0.1) (λ name. past_binary f.password name >>= λ rest. ended (Some t.0.0) rest) client t.2 in
@@ -506,9 +506,9 @@ client_takes f bytes client fits e = by f.will refl e
         let nn = past_text_takes f.user_name t.0.1 n.0 tt_.0.rest_fits n.1 in
         let pp = past_binary_takes f.password n.0 p.0 nn.1.rest_fits p.1 in
         let whole : counted t.0.0 ++ (nn.0 ++ pp.0) ≡ bytes = sym (tt_.0.parts ∙ ap (λ (r : List ℕ). counted t.0.0 ++ r) (nn.1.parts ∙ ap (λ (r : List ℕ). nn.0 ++ r) (pp.1.parts ∙ ap (λ (r : List ℕ). pp.0 ++ r) end.0 ∙ append-nil pp.0))) in
-        subst (SpellsPayload f bytes) end.1 (subst (λ (r : List ℕ). SpellsPayload f r (Some t.0.0)) whole (SpellsPayload.with_client is tt_.1 nn.2 pp.2))
+        subst (EncodesPayload f bytes) end.1 (subst (λ (r : List ℕ). EncodesPayload f r (Some t.0.0)) whole (EncodesPayload.with_client is tt_.1 nn.2 pp.2))
 
-pub connect_takes : (body : List ℕ) (c : Connect) → IsBytes body → connect_at body ≡ Ok c → SpellsConnect body c
+pub connect_takes : (body : List ℕ) (c : Connect) → IsBytes body → connect_at body ≡ Ok c → EncodesConnect body c
 unfolding connect_at
 connect_takes body c fits e =
     let v = bind_ok (version_at body) (λ rest. byte_at rest >>= λ b. flags_of b.0 >>= λ flags. after flags b.1) c e in
@@ -530,7 +530,7 @@ connect_takes body c fits e =
     tv.parts ∙ ap (λ (r : List ℕ). protocol ++ r) (tb.0.parts ∙ ap (λ (x : List ℕ). x ++ b.0.1) byte ∙ ap (λ (r : List ℕ). flags_byte fl.0 ∷ r) (tk.0.parts ∙ ap (λ (r : List ℕ). two k.0.0 ++ r) g.takes.parts)) in
     let is : ch.0 ≡ gathered nothing g.ps = sym m.1 ∙ g.says in
     let value : made fl.0 k.0.0 ch.0 cl.0 ≡ made fl.0 k.0.0 (gathered nothing g.ps) cl.0 = ap (λ (x : FoundValue). made fl.0 k.0.0 x cl.0) is in
-    subst (SpellsConnect body) (ok_is (made fl.0 k.0.0 ch.0 cl.0) c cl.2)
+    subst (EncodesConnect body) (ok_is (made fl.0 k.0.0 ch.0 cl.0) c cl.2)
     (record { flags = fl.0; ps = g.ps; payload = f.0.1; flags_fit = tf.1; keep_alive = tk.1; are_properties = g.are; method = subst MethodFits g.says m.0; has_payload = pay; fields = fields; value = value })
   where
     made : Flags → ℕ → FoundValue → Option (List ℕ) → Connect
@@ -635,18 +635,18 @@ version_again : (rest : List ℕ) → version_at (protocol ++ rest) ≡ Ok rest
 unfolding version_at
 version_again rest = let t : text_at (counted mqtt ++ 5 ∷ rest) ≡ Ok (mqtt, 5 ∷ rest) = text_again mqtt (5 ∷ rest) mqtt_is_text in rw t refl
 
-past_text_again : (present : Bool) (field rest : List ℕ) → SpellsIf IsText present field → past_text present (field ++ rest) ≡ Ok rest
-past_text_again _ _ rest SpellsIf.absent = refl
-past_text_again _ _ rest (SpellsIf.present {field = t} h) = rw (text_again t rest h) refl
+past_text_again : (present : Bool) (field rest : List ℕ) → EncodesIf IsText present field → past_text present (field ++ rest) ≡ Ok rest
+past_text_again _ _ rest EncodesIf.absent = refl
+past_text_again _ _ rest (EncodesIf.present {field = t} h) = rw (text_again t rest h) refl
 
-past_binary_again : (present : Bool) (field rest : List ℕ) → SpellsIf IsShort present field → past_binary present (field ++ rest) ≡ Ok rest
-past_binary_again _ _ rest SpellsIf.absent = refl
-past_binary_again _ _ rest (SpellsIf.present {field = t} h) = rw (binary_again t rest h) refl
+past_binary_again : (present : Bool) (field rest : List ℕ) → EncodesIf IsShort present field → past_binary present (field ++ rest) ≡ Ok rest
+past_binary_again _ _ rest EncodesIf.absent = refl
+past_binary_again _ _ rest (EncodesIf.present {field = t} h) = rw (binary_again t rest h) refl
 
-client_again : (f : Flags) (bytes : List ℕ) (client : Option (List ℕ)) → SpellsPayload f bytes client → client_at f bytes ≡ Ok client
+client_again : (f : Flags) (bytes : List ℕ) (client : Option (List ℕ)) → EncodesPayload f bytes client → client_at f bytes ≡ Ok client
 unfolding client_at
-client_again f _ _ (SpellsPayload.with_will is) = rw is refl
-client_again f _ _ (SpellsPayload.with_client {client = c} {name = n} {password = p} is text name password) =
+client_again f _ _ (EncodesPayload.with_will is) = rw is refl
+client_again f _ _ (EncodesPayload.with_client {client = c} {name = n} {password = p} is text name password) =
     let pp : past_binary f.password p ≡ Ok [] = ap (past_binary f.password) (sym (append-nil p)) ∙ past_binary_again f.password p [] password in
     rw (is, text_again c (n ++ p) text, past_text_again f.user_name n p name, pp) refl
 
@@ -658,7 +658,7 @@ method_again f h = by f.authentication f.method h
     by true (Some t) h = refl
     by true None h = absurd (let e = (h refl).1 in cc)
 
-pub connect_again : (body : List ℕ) (c : Connect) → SpellsConnect body c → connect_at body ≡ Ok c
+pub connect_again : (body : List ℕ) (c : Connect) → EncodesConnect body c → connect_at body ≡ Ok c
 unfolding connect_at
 connect_again body c h =
     let tail = two c.keep_alive ++ (properties h.ps ++ h.payload) in

@@ -1,4 +1,4 @@
--- A reply is read back from its bytes: one spelling is of one reply.
+-- A reply is read back from its bytes: one encoding is of one reply.
 use Rattle.std.proofs.Common.{◌≡◌, ℕ, ◌+◌, ◌*◌, ◌<◌, ◌^◌, Bool, true, false, cond, eqb, List, [], ◌∷◌, ◌++◌, length, drop, slice_index_or, Option, Some, None, Result, Ok, Err, refl, sym, ap, subst, ◌∙◌, append_assoc, arith}
 use Rattle.std.specs.Prelude.{IfSome}
 use Rattle.std.specs.List.{flat_map}
@@ -6,7 +6,7 @@ use Rattle.std.specs.Int.{w16}
 use Rattle.std.proofs.lemmas.Bool.{ne_eqb, eqb-true}
 use Rattle.rs_field.specs.declared.fault.PacketFault.{PacketFault}
 use Rattle.rs_field.specs.Values.{PropertiesValue}
-use Rattle.rs_field.specs.Properties.{varint, varint_end, two, spelled, properties, IsShort}
+use Rattle.rs_field.specs.Properties.{varint, varint_end, two, property_bytes, properties, IsShort}
 use Rattle.rs_field.specs.Reading.{number_at, binary_at, varint_at}
 use Rattle.rs_field.specs.Kept.{replayed}
 use Rattle.rs_field.proofs.Fields.{wide16, number_again, binary_again, varint_again}
@@ -18,10 +18,10 @@ use Rattle.rs_packet.specs.declared.reply.Reply.{Reply}
 use Rattle.rs_packet.specs.declared.reply.Reply.TheVariants as reply
 use Rattle.rs_packet.specs.Values.{CodesValue}
 use Rattle.rs_packet.specs.Grammar.{IdFits, id_bytes, level}
-use Rattle.rs_packet.specs.Replies.{limits_told, accepting, accepted_body, acknowledging, codes_body, publication_body, first_byte, reply_body, HasSpelling, PublishFits, ReplyFits, SpellsReply}
-use Rattle.rs_packet.proofs.WritingLemmas.{length_accepting, length_accepted, section_small}
-use Rattle.rs_packet.proofs.AnswerLaws.{pair_is, same_front, frame_parts}
-use Rattle.rs_packet.proofs.KeptLaws.{section_is}
+use Rattle.rs_packet.specs.Replies.{limits_told, accepting, accepted_body, acknowledging, codes_body, publication_body, first_byte, reply_body, HasEncoding, PublishFits, ReplyFits, EncodesReply}
+use Rattle.rs_packet.proofs.Lengths.{length_accepting, length_accepted, section_small}
+use Rattle.rs_packet.proofs.AnswerLaws.{pair_is, same_prefix, frame_parts}
+use Rattle.rs_field.proofs.KeptLaws.{section_is}
 
 -- ---- PUBLISH
 
@@ -43,8 +43,8 @@ ids_are ExactlyOnce (Some n) (Some m) x y h k e = numbers_are n m x y h.1 k.1 e
 
 publication_is : (p q : Publication) → PublishFits p → PublishFits q → length (publication_body p) < varint_end → length (publication_body q) < varint_end → p.qos ≡ q.qos → publication_body p ≡ publication_body q → p ≡ q
 publication_is p q h k lp lq qos e =
-    let ps = flat_map spelled (replayed p.expiry p.subscription p.properties) in
-    let qs = flat_map spelled (replayed q.expiry q.subscription q.properties) in
+    let ps = flat_map property_bytes (replayed p.expiry p.subscription p.properties) in
+    let qs = flat_map property_bytes (replayed q.expiry q.subscription q.properties) in
     let topic = pair_is p.topic q.topic (id_bytes p.id ++ (properties (replayed p.expiry p.subscription p.properties) ++ p.payload)) (id_bytes q.id ++ (properties (replayed q.expiry q.subscription q.properties) ++ q.payload))
     (sym (binary_again p.topic (id_bytes p.id ++ (properties (replayed p.expiry p.subscription p.properties) ++ p.payload)) h.topic_fits) ∙ ap binary_at e
     ∙ binary_again q.topic (id_bytes q.id ++ (properties (replayed q.expiry q.subscription q.properties) ++ q.payload)) k.topic_fits) in
@@ -53,7 +53,7 @@ publication_is p q h k lp lq qos e =
     let tails : varint (length ps) ++ (ps ++ p.payload) ≡ varint (length qs) ++ (qs ++ q.payload) = sym (append_assoc (varint (length ps)) ps p.payload) ∙ ids.1 ∙ append_assoc (varint (length qs)) qs q.payload in
     let read = pair_is (length ps) (length qs) (ps ++ p.payload) (qs ++ q.payload)
     (sym (varint_again (length ps) (ps ++ p.payload) (section_small p lp)) ∙ ap varint_at tails ∙ varint_again (length qs) (qs ++ q.payload) (section_small q lq)) in
-    let parts = same_front ps qs p.payload q.payload read.0 read.1 in
+    let parts = same_prefix ps qs p.payload q.payload read.0 read.1 in
     let kept = section_is p.expiry p.subscription p.properties q.expiry q.subscription q.properties h.section_fits k.section_fits parts.0 in
     made topic.0 qos ids.0 kept.1 kept.0 kept.2 parts.1
   where
@@ -154,7 +154,7 @@ plain (reply.Disconnect code) = Some (reply.Disconnect code)
 some : (r s : Reply) → r ≡ s → ◌≡◌ {A = Option Reply} (Some r) (Some s)
 some r s e = ap (λ (x : Reply). Some x) e
 
-plain_is : (r : Reply) → ReplyFits r → HasSpelling r → plain_at (first_byte r) (reply_body r) ≡ plain r
+plain_is : (r : Reply) → ReplyFits r → HasEncoding r → plain_at (first_byte r) (reply_body r) ≡ plain r
 plain_is (reply.Accepted a) h lt = some _ _ (connack_is a h lt)
 plain_is (reply.Refused code) h lt = refl
 plain_is (reply.Publish p) h lt = none p.qos
@@ -203,17 +203,17 @@ plain_none (reply.Disconnect code) e = absurd cc
 
 -- ---- all of them
 
-published : (r s : Reply) (p q : Publication) → r ≡ reply.Publish p → s ≡ reply.Publish q → ReplyFits r → ReplyFits s → HasSpelling r → HasSpelling s → first_byte r ≡ first_byte s → reply_body r ≡ reply_body s → r ≡ s
+published : (r s : Reply) (p q : Publication) → r ≡ reply.Publish p → s ≡ reply.Publish q → ReplyFits r → ReplyFits s → HasEncoding r → HasEncoding s → first_byte r ≡ first_byte s → reply_body r ≡ reply_body s → r ≡ s
 published r s p q er es h k hs ks f b =
     let fp : PublishFits p = subst ReplyFits er h in
     let fq : PublishFits q = subst ReplyFits es k in
-    let sp : length (publication_body p) < varint_end = subst HasSpelling er hs in
-    let sq : length (publication_body q) < varint_end = subst HasSpelling es ks in
+    let sp : length (publication_body p) < varint_end = subst HasEncoding er hs in
+    let sq : length (publication_body q) < varint_end = subst HasEncoding es ks in
     let first : 0x31 + 2 * level p.qos ≡ 0x31 + 2 * level q.qos = sym (ap first_byte er) ∙ f ∙ ap first_byte es in
     let body : publication_body p ≡ publication_body q = sym (ap reply_body er) ∙ b ∙ ap reply_body es in
     er ∙ ap (λ (x : Publication). reply.Publish x) (publication_is p q fp fq sp sq (level_is p.qos q.qos (omega (arith, first))) body) ∙ sym es
 
-reply_is : (r s : Reply) → ReplyFits r → ReplyFits s → HasSpelling r → HasSpelling s → first_byte r ≡ first_byte s → reply_body r ≡ reply_body s → r ≡ s
+reply_is : (r s : Reply) → ReplyFits r → ReplyFits s → HasEncoding r → HasEncoding s → first_byte r ≡ first_byte s → reply_body r ≡ reply_body s → r ≡ s
 reply_is r s h k hs ks f b = go (plain r) refl (sym both)
   where
     both : plain r ≡ plain s
@@ -223,7 +223,7 @@ reply_is r s h k hs ks f b = go (plain r) refl (sym both)
     go (Some t) e g = plain_some r t e ∙ sym (plain_some s t g)
     go None e g = let p = plain_none r e in let q = plain_none s g in published r s p.0 q.0 p.1 q.1 h k hs ks f b
 
-pub one_reply : (a b x y : List ℕ) (r s : Reply) → SpellsReply a r → SpellsReply b s → a ++ x ≡ b ++ y → r ≡ s
+pub one_reply : (a b x y : List ℕ) (r s : Reply) → EncodesReply a r → EncodesReply b s → a ++ x ≡ b ++ y → r ≡ s
 one_reply a b x y r s h k e =
     let whole = ap (λ (t : List ℕ). t ++ x) (sym h.fields) ∙ e ∙ ap (λ (t : List ℕ). t ++ y) k.fields in
     let parts = frame_parts (first_byte r) (first_byte s) (reply_body r) (reply_body s) x y h.small k.small whole in

@@ -3,21 +3,22 @@ use Rattle.std.specs.Prelude.{ℕ, ◌<◌, ◌≤◌, length, IfSome}
 use Rattle.rs_field.specs.Bounds.{MaximaFit}
 use Rattle.rs_packet.specs.Values.{PublishValue, ConnectValue, PublicationValue, SubscribeValue, UnsubscribeValue, CodesValue}
 use Rattle.rs_field.specs.Properties.{IsSubscriptionId, varint_end}
-use Rattle.rs_packet.specs.Grammar.{IdFits, largest}
+use Rattle.rs_packet.specs.declared.limits.TheConstants.{MAX_PACKET_SIZE}
+use Rattle.rs_packet.specs.Grammar.{IdFits}
 use Rattle.rs_packet.specs.Replies.{message_size, publication_body, codes_body}
 
 abbrev pub IsConnect : ConnectValue → Type 0
 IsConnect c = MaximaFit c.receive_maximum c.packet_maximum
 
--- 3.3.2.2: an identifier stands where QoS is 1 or 2; the payload and the properties that a message keeps are no longer than a packet
+-- 3.3.2.2: there is an identifier if QoS is 1 or 2; the payload and the properties that a message keeps are no longer than a packet
 pub record IsPublish (p : PublishValue) : Type 0 where
   pub id_fits : IdFits p.qos p.id
-  pub message_fits : message_size p.expiry p.properties p.payload ≤ largest
+  pub message_fits : message_size p.expiry p.properties p.payload ≤ MAX_PACKET_SIZE
 
 -- 3.8.3: one filter at least, and no more than a packet has bytes
 pub record FewFilters (n : ℕ) : Type 0 where
   pub some : 0 < n
-  pub few : n ≤ largest
+  pub few : n ≤ MAX_PACKET_SIZE
 
 -- 3.8.2.1.2, 3.8.3
 pub record IsSubscribe (s : SubscribeValue) : Type 0 where

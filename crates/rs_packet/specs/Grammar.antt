@@ -4,6 +4,7 @@ use Rattle.std.specs.List.{flat_map}
 use Rattle.rs_field.specs.declared.property.Property.{Property}
 use Rattle.rs_field.specs.declared.property.Place.{Place}
 use Rattle.rs_field.specs.declared.property.Place.TheVariants as place
+use Rattle.rs_packet.specs.declared.limits.TheConstants.{MAX_PACKET_SIZE}
 use Rattle.rs_packet.specs.declared.packet.Qos.{Qos}
 use Rattle.rs_packet.specs.declared.packet.Qos.TheVariants.{AtMostOnce, AtLeastOnce, ExactlyOnce}
 use Rattle.rs_packet.specs.declared.packet.RetainHandling.{RetainHandling}
@@ -60,7 +61,7 @@ IsId n = (0 < n) × (n < 2 ^ 16)
 
 -- ---- 3.3: PUBLISH
 
--- 3.3.2.2: there is an identifier where QoS is 1 or 2
+-- 3.3.2.2: there is an identifier if QoS is 1 or 2
 abbrev pub IdFits : Qos → Option ℕ → Type 0
 IdFits AtMostOnce None = Unit {0}
 IdFits AtMostOnce (Some n) = ⊥
@@ -86,7 +87,7 @@ publication duplicate qos retain topic id f payload = record {
   payload = payload;
 }
 
-pub record SpellsPublish (duplicate : Bool) (qos : Qos) (retain : Bool) (body : List ℕ) (p : Publish) : Type 0 where
+pub record EncodesPublish (duplicate : Bool) (qos : Qos) (retain : Bool) (body : List ℕ) (p : Publish) : Type 0 where
   pub topic : List ℕ
   pub id : Option ℕ
   pub ps : List Property
@@ -100,16 +101,16 @@ pub record SpellsPublish (duplicate : Bool) (qos : Qos) (retain : Bool) (body : 
 -- ---- 3.4 to 3.7: PUBACK, PUBREC, PUBREL, PUBCOMP
 
 -- 3.4.2.1: an absent code is 0, and absent properties are none
-pub data SpellsCode (where_ : Place) : List ℕ → ℕ → Type 0 where
-  no_code : SpellsCode where_ [] 0
-  no_properties : {code : ℕ} → code < 256 → SpellsCode where_ (code ∷ []) code
-  with_properties : {code : ℕ} {ps : List Property} → code < 256 → AreProperties where_ ps → SpellsCode where_ (code ∷ properties ps) code
+pub data EncodesCode (where_ : Place) : List ℕ → ℕ → Type 0 where
+  no_code : EncodesCode where_ [] 0
+  no_properties : {code : ℕ} → code < 256 → EncodesCode where_ (code ∷ []) code
+  with_properties : {code : ℕ} {ps : List Property} → code < 256 → AreProperties where_ ps → EncodesCode where_ (code ∷ properties ps) code
 
-pub record SpellsAcknowledgement (body : List ℕ) (a : Acknowledgement) : Type 0 where
+pub record EncodesAcknowledgement (body : List ℕ) (a : Acknowledgement) : Type 0 where
   pub rest : List ℕ
   pub is_id : IsId a.id
   pub fields : body ≡ two a.id ++ rest
-  pub code : SpellsCode place.Acknowledgement rest a.code
+  pub code : EncodesCode place.Acknowledgement rest a.code
 
 -- ---- 3.8: SUBSCRIBE
 
@@ -136,7 +137,7 @@ filter_bytes f = counted f.0 ++ options_byte f.1 ∷ []
 abbrev pub asked_of : List ℕ × Options → Asked
 asked_of f = (filter_of f.0, f.1)
 
-pub record SpellsSubscribe (body : List ℕ) (s : SubscribeValue) : Type 0 where
+pub record EncodesSubscribe (body : List ℕ) (s : SubscribeValue) : Type 0 where
   pub ps : List Property
   pub filters : List (List ℕ × Options)
   pub is_id : IsId s.id
@@ -148,7 +149,7 @@ pub record SpellsSubscribe (body : List ℕ) (s : SubscribeValue) : Type 0 where
 
 -- ---- 3.10: UNSUBSCRIBE
 
-pub record SpellsUnsubscribe (body : List ℕ) (u : UnsubscribeValue) : Type 0 where
+pub record EncodesUnsubscribe (body : List ℕ) (u : UnsubscribeValue) : Type 0 where
   pub ps : List Property
   pub filters : List (List ℕ)
   pub is_id : IsId u.id
@@ -173,21 +174,21 @@ abbrev pub FlagsFit : Flags → Type 0
 FlagsFit f = f.will ≡ false → (f.will_retain ≡ false) × (f.will_qos ≡ AtMostOnce)
 
 -- 3.1.3.5, 3.1.3.6: a field that a flag announces
-pub data SpellsIf (P : List ℕ → Type 0) : Bool → List ℕ → Type 0 where
-  absent : SpellsIf P false []
-  present : {field : List ℕ} → P field → SpellsIf P true (counted field)
+pub data EncodesIf (P : List ℕ → Type 0) : Bool → List ℕ → Type 0 where
+  absent : EncodesIf P false []
+  present : {field : List ℕ} → P field → EncodesIf P true (counted field)
 
 -- 3.1.3: the client identifier, the user name and the password. Where there is a will, nothing of it is read
-pub data SpellsPayload : Flags → List ℕ → Option (List ℕ) → Type 0 where
-  with_will : {f : Flags} {payload : List ℕ} → f.will ≡ true → SpellsPayload f payload None
-  with_client : {f : Flags} {client name password : List ℕ} → f.will ≡ false → IsText client → SpellsIf IsText f.user_name name → SpellsIf IsShort f.password password
-      → SpellsPayload f (counted client ++ (name ++ password)) (Some client)
+pub data EncodesPayload : Flags → List ℕ → Option (List ℕ) → Type 0 where
+  with_will : {f : Flags} {payload : List ℕ} → f.will ≡ true → EncodesPayload f payload None
+  with_client : {f : Flags} {client name password : List ℕ} → f.will ≡ false → IsText client → EncodesIf IsText f.user_name name → EncodesIf IsShort f.password password
+      → EncodesPayload f (counted client ++ (name ++ password)) (Some client)
 
 -- 3.1.2.11.10: authentication data stand with a method
 abbrev pub MethodFits : FoundValue → Type 0
 MethodFits f = f.authentication ≡ true → (t : List ℕ) × (f.method ≡ Some t)
 
-pub record SpellsConnect (body : List ℕ) (c : Connect) : Type 0 where
+pub record EncodesConnect (body : List ℕ) (c : Connect) : Type 0 where
   pub flags : Flags
   pub ps : List Property
   pub payload : List ℕ
@@ -195,7 +196,7 @@ pub record SpellsConnect (body : List ℕ) (c : Connect) : Type 0 where
   pub keep_alive : c.keep_alive < 2 ^ 16
   pub are_properties : AreProperties place.Connect ps
   pub method : MethodFits (gathered nothing ps)
-  pub has_payload : SpellsPayload flags payload c.client
+  pub has_payload : EncodesPayload flags payload c.client
   pub fields : body ≡ protocol ++ (flags_byte flags ∷ (two c.keep_alive ++ (properties ps ++ payload)))
   pub value : let f = gathered nothing ps in c ≡ record {
     clean_start = flags.clean_start;
@@ -210,32 +211,28 @@ pub record SpellsConnect (body : List ℕ) (c : Connect) : Type 0 where
 
 -- ---- all of them
 
-pub data SpellsBody : Kind → List ℕ → Packet → Type 0 where
-  connect : {body : List ℕ} {c : Connect} → SpellsConnect body c → SpellsBody kind.Connect body (packet.Connect c)
+pub data EncodesBody : Kind → List ℕ → Packet → Type 0 where
+  connect : {body : List ℕ} {c : Connect} → EncodesConnect body c → EncodesBody kind.Connect body (packet.Connect c)
   -- 3.3.1.1: a packet of QoS 0 is no duplicate
-  publish : {duplicate retain : Bool} {qos : Qos} {body : List ℕ} {p : Publish} → (qos ≡ AtMostOnce → duplicate ≡ false) → SpellsPublish duplicate qos retain body p
-      → SpellsBody (kind.Publish duplicate qos retain) body (packet.Publish p)
-  puback : {body : List ℕ} {a : Acknowledgement} → SpellsAcknowledgement body a → SpellsBody kind.Puback body (packet.Puback a)
-  pubrec : {body : List ℕ} {a : Acknowledgement} → SpellsAcknowledgement body a → SpellsBody kind.Pubrec body (packet.Pubrec a)
-  pubrel : {body : List ℕ} {a : Acknowledgement} → SpellsAcknowledgement body a → SpellsBody kind.Pubrel body (packet.Pubrel a)
-  pubcomp : {body : List ℕ} {a : Acknowledgement} → SpellsAcknowledgement body a → SpellsBody kind.Pubcomp body (packet.Pubcomp a)
-  subscribe : {body : List ℕ} {s : SubscribeValue} → SpellsSubscribe body s → SpellsBody kind.Subscribe body (packet.Subscribe s)
-  unsubscribe : {body : List ℕ} {u : UnsubscribeValue} → SpellsUnsubscribe body u → SpellsBody kind.Unsubscribe body (packet.Unsubscribe u)
-  pingreq : SpellsBody kind.Pingreq [] packet.Pingreq
-  disconnect : {body : List ℕ} {code : ℕ} → SpellsCode place.Disconnect body code → SpellsBody kind.Disconnect body (packet.Disconnect code)
+  publish : {duplicate retain : Bool} {qos : Qos} {body : List ℕ} {p : Publish} → (qos ≡ AtMostOnce → duplicate ≡ false) → EncodesPublish duplicate qos retain body p
+      → EncodesBody (kind.Publish duplicate qos retain) body (packet.Publish p)
+  puback : {body : List ℕ} {a : Acknowledgement} → EncodesAcknowledgement body a → EncodesBody kind.Puback body (packet.Puback a)
+  pubrec : {body : List ℕ} {a : Acknowledgement} → EncodesAcknowledgement body a → EncodesBody kind.Pubrec body (packet.Pubrec a)
+  pubrel : {body : List ℕ} {a : Acknowledgement} → EncodesAcknowledgement body a → EncodesBody kind.Pubrel body (packet.Pubrel a)
+  pubcomp : {body : List ℕ} {a : Acknowledgement} → EncodesAcknowledgement body a → EncodesBody kind.Pubcomp body (packet.Pubcomp a)
+  subscribe : {body : List ℕ} {s : SubscribeValue} → EncodesSubscribe body s → EncodesBody kind.Subscribe body (packet.Subscribe s)
+  unsubscribe : {body : List ℕ} {u : UnsubscribeValue} → EncodesUnsubscribe body u → EncodesBody kind.Unsubscribe body (packet.Unsubscribe u)
+  pingreq : EncodesBody kind.Pingreq [] packet.Pingreq
+  disconnect : {body : List ℕ} {code : ℕ} → EncodesCode place.Disconnect body code → EncodesBody kind.Disconnect body (packet.Disconnect code)
 
--- the longest packet that the server reads
-abbrev pub largest : ℕ
-largest = 262144
-
-pub record Spells (bytes : List ℕ) (p : Packet) : Type 0 where
+pub record Encodes (bytes : List ℕ) (p : Packet) : Type 0 where
   pub first : Kind
   pub body : List ℕ
   pub fields : bytes ≡ frame (head first) body
-  pub small : length bytes ≤ largest
-  pub says : SpellsBody first body p
+  pub small : length bytes ≤ MAX_PACKET_SIZE
+  pub says : EncodesBody first body p
 
--- what was decoded stands at the front
-abbrev pub IsAtFront : List ℕ → Decoded → Type 0
-IsAtFront bytes (Whole p n) = (n ≤ length bytes) × Spells (take n bytes) p
-IsAtFront bytes More = Unit {0}
+-- what was decoded is a prefix of the bytes
+abbrev pub HasPrefix : List ℕ → Decoded → Type 0
+HasPrefix bytes (Whole p n) = (n ≤ length bytes) × Encodes (take n bytes) p
+HasPrefix bytes More = Unit {0}

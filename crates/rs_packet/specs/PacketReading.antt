@@ -1,12 +1,12 @@
 -- Which answer the bytes of a packet get: the first fault, from left to right.
-use Rattle.std.specs.Prelude.{ℕ, zero, suc, ◌+◌, ◌-◌, ◌/◌, ◌%◌, Bool, true, false, ◌&&◌, not, nat_lt, nat_eq, ◌==◌, if◌then◌else◌, List, [], ◌∷◌, length, take, Option, Some, None, Result, Ok, Err, is_none}
+use Rattle.std.specs.Prelude.{ℕ, zero, suc, ◌+◌, ◌-◌, ◌/◌, ◌%◌, Bool, true, false, ◌&&◌, not, nat_lt, nat_eq, ◌==◌, if◌then◌else◌, List, [], ◌∷◌, length, take, slice_range, Option, Some, None, Result, Ok, Err, is_none}
 use Rattle.std.specs.List.{list_any, find}
 use Rattle.std.specs.Str.{bytes_eq}
 use Rattle.std.specs.Int.{w16}
 use Rattle.rs_field.specs.declared.fault.PacketFault.{PacketFault}
 use Rattle.rs_field.specs.declared.fault.PacketFault.TheVariants.{Malformed, Protocol, TooLarge, Version}
-use Rattle.rs_field.specs.declared.reading.Cut.{Cut}
-use Rattle.rs_field.specs.declared.reading.Cut.TheVariants.{Short, Bad}
+use Rattle.rs_field.specs.declared.varint.VarintFault.{VarintFault}
+use Rattle.rs_field.specs.declared.varint.VarintFault.TheVariants.{Short, Bad}
 use Rattle.rs_field.specs.declared.property.Place.{Place}
 use Rattle.rs_field.specs.declared.property.Place.TheVariants as place
 use Rattle.rs_packet.specs.declared.packet.Qos.{Qos}
@@ -14,6 +14,7 @@ use Rattle.rs_packet.specs.declared.packet.Qos.TheVariants.{AtMostOnce, AtLeastO
 use Rattle.rs_packet.specs.declared.packet.RetainHandling.{RetainHandling}
 use Rattle.rs_packet.specs.declared.packet.RetainHandling.TheVariants.{Always, IfNew, Never}
 use Rattle.rs_packet.specs.declared.packet.Options.{Options}
+use Rattle.rs_packet.specs.declared.header.Header.{Header}
 use Rattle.rs_packet.specs.declared.packet.Kind.{Kind}
 use Rattle.rs_packet.specs.declared.packet.Kind.TheVariants as kind
 use Rattle.rs_packet.specs.declared.packet.Publish.{Publish}
@@ -26,7 +27,8 @@ use Rattle.rs_packet.specs.declared.packet.Decoded.{Decoded}
 use Rattle.rs_packet.specs.declared.packet.Decoded.TheVariants.{Whole, More}
 use Rattle.rs_topic.specs.Topics.{filter_of}
 use Rattle.rs_packet.specs.Values.{SubscribeValue, UnsubscribeValue, Asked, Filter}
-use Rattle.rs_packet.specs.Grammar.{head, publication, largest}
+use Rattle.rs_packet.specs.declared.limits.TheConstants.{MAX_PACKET_SIZE}
+use Rattle.rs_packet.specs.Grammar.{head, publication}
 pub use Rattle.rs_field.specs.Reading.{◌>>=◌, Fails, Gives, GivesNumber}
 use Rattle.rs_field.specs.Reading.{digits_at, byte_at, number_at, binary_at, text_at, wanting, found_at}
 
@@ -215,11 +217,29 @@ packet_at kind.Disconnect body = code_at place.Disconnect body >>= λ code. Ok (
 -- a packet whose length is n, with these bytes behind the length, and so many before
 abbrev pub body_at : Kind → ℕ → ℕ → List ℕ → Result Decoded PacketFault
 body_at k before n rest =
-    if nat_lt largest (before + n) then Err TooLarge
+    if nat_lt MAX_PACKET_SIZE (before + n) then Err TooLarge
     else (if nat_lt (length rest) n then Ok More
     else (packet_at k (take n rest) >>= λ p. Ok (Whole p (before + n))))
 
-abbrev pub sized : Kind → List ℕ → Result (ℕ × List ℕ) Cut → Result Decoded PacketFault
+-- 2.1: the header, by the kind of the packet, the bytes behind the first one, and the length that they begin with
+abbrev pub header_in : Kind → List ℕ → Result (ℕ × List ℕ) VarintFault → Result (Option Header) PacketFault
+header_in k bytes (Err Short) = Ok None
+header_in k bytes (Err Bad) = Err Malformed
+header_in k bytes (Ok n) = let start = suc (length bytes) - length n.1 in
+    if nat_lt MAX_PACKET_SIZE (start + n.0) then Err TooLarge else Ok (Some (record { kind = k; start = start; size = start + n.0 }))
+
+-- the header that some bytes begin with, if they have all of it
+unfoldable pub header_at : List ℕ → Result (Option Header) PacketFault
+header_at [] = Ok None
+header_at (first ∷ bytes) = do
+  k ← kind_of first
+  header_in k bytes (digits_at 4 bytes)
+
+-- the packet with this header, or More if the bytes end before it does
+abbrev pub packet_in : List ℕ → Header → Result Decoded PacketFault
+packet_in bytes h = if nat_lt (length bytes) h.size then Ok More else (packet_at h.kind (slice_range bytes h.start h.size) >>= λ p. Ok (Whole p h.size))
+
+abbrev pub sized : Kind → List ℕ → Result (ℕ × List ℕ) VarintFault → Result Decoded PacketFault
 sized k bytes (Err Short) = Ok More
 sized k bytes (Err Bad) = Err Malformed
 sized k bytes (Ok n) = body_at k (suc (length bytes) - length n.1) n.0 n.1

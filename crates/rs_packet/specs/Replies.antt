@@ -1,15 +1,17 @@
--- The replies of the server: one spelling each. Sections 3.2 to 3.14.
-use Rattle.std.specs.Prelude.{◌≡◌, ℕ, ◌+◌, ◌*◌, ◌<◌, ◌^◌, List, [], ◌∷◌, ◌++◌, length, Option, Some, None, IfSome, Bool, true, false, ◌==◌, if◌then◌else◌}
-use Rattle.std.specs.List.{All}
+-- The replies of the server: one encoding each. Sections 3.2 to 3.14.
+use Rattle.std.specs.Prelude.{◌≡◌, ℕ, ◌+◌, ◌*◌, ◌<◌, ◌^◌, List, [], ◌∷◌, ◌++◌, length, Option, Some, None, IfSome, Bool, true, false, nat_lt, ◌==◌, if◌then◌else◌}
+use Rattle.rs_packet.specs.declared.packet.Qos.{Qos}
 use Rattle.rs_packet.specs.declared.reply.Accepted.{Accepted}
 use Rattle.rs_packet.specs.declared.reply.Publication.{Publication}
 use Rattle.rs_packet.specs.declared.reply.Reply.{Reply}
 use Rattle.rs_packet.specs.declared.reply.Reply.TheVariants as reply
 use Rattle.rs_field.specs.Values.{PropertiesValue}
 use Rattle.rs_field.specs.Kept.{replayed}
+use Rattle.rs_field.specs.Bounds.{SectionFits}
 use Rattle.rs_packet.specs.Values.{CodesValue}
-use Rattle.rs_field.specs.Properties.{two, four, varint, counted, properties, varint_end, IsShort, IsSubscriptionId}
-use Rattle.rs_packet.specs.Grammar.{IdFits, frame, level, id_bytes, largest}
+use Rattle.rs_field.specs.Properties.{two, four, varint, counted, properties, varint_end, IsShort}
+use Rattle.rs_packet.specs.declared.limits.TheConstants.{MAX_PACKET_SIZE, RECEIVE_MAXIMUM}
+use Rattle.rs_packet.specs.Grammar.{IdFits, frame, level, id_bytes}
 
 -- how many bytes a payload of this length and the properties of its message take in a PUBLISH without a Subscription Identifier
 abbrev pub message_len : Option ℕ → PropertiesValue → ℕ → ℕ
@@ -18,11 +20,7 @@ message_len expiry kept payload = payload + length (properties (replayed expiry 
 abbrev pub message_size : Option ℕ → PropertiesValue → List ℕ → ℕ
 message_size expiry kept payload = message_len expiry kept (length payload)
 
--- 3.2.2.3.3: what the server takes before it has answered
-abbrev pub receive_maximum : ℕ
-receive_maximum = 16
-
--- 3.2.2.3.2: an interval of 0, told where the client asked for another
+-- 3.2.2.3.2: an interval of 0, told if the client asked for another
 abbrev pub expiry_told : Bool → List ℕ
 expiry_told false = []
 expiry_told true = 0x11 ∷ four 0
@@ -34,7 +32,7 @@ client_told (Some client) = 0x12 ∷ counted client
 
 -- 3.2.2.3.3, 3.2.2.3.6, 3.2.2.3.13: the two maxima; no shared subscriptions
 abbrev pub limits_told : List ℕ
-limits_told = 0x21 ∷ two receive_maximum ++ (0x27 ∷ four largest ++ (0x2A ∷ 0 ∷ []))
+limits_told = 0x21 ∷ two RECEIVE_MAXIMUM ++ (0x27 ∷ four MAX_PACKET_SIZE ++ (0x2A ∷ 0 ∷ []))
 
 -- 3.2.2.3: the properties of an accepting CONNACK, in rising order of identifier
 abbrev pub accepting : Accepted → List ℕ
@@ -64,6 +62,11 @@ first_byte (reply.Disconnect code) = 0xE0
 abbrev pub publication_body : Publication → List ℕ
 publication_body p = counted p.topic ++ (id_bytes p.id ++ (properties (replayed p.expiry p.subscription p.properties) ++ p.payload))
 
+-- 2.1.4: the Remaining Length of a PUBLISH whose payload has this length; there is an identifier if QoS is 1 or 2 (3.3.2.2)
+unfoldable pub publish_remaining : List ℕ → Qos → Option ℕ → Option ℕ → PropertiesValue → ℕ → ℕ
+publish_remaining topic qos expiry subscription kept payload =
+    length (counted topic) + (if nat_lt 0 (level qos) then 2 else 0) + length (properties (replayed expiry subscription kept)) + payload
+
 abbrev pub codes_body : CodesValue → List ℕ
 codes_body c = two c.id ++ 0 ∷ c.codes
 
@@ -80,22 +83,13 @@ reply_body (reply.Unsuback codes) = codes_body codes
 reply_body reply.Pingresp = []
 reply_body (reply.Disconnect code) = code ∷ []
 
--- the one spelling of a reply
+-- the one encoding of a reply
 abbrev pub reply_bytes : Reply → List ℕ
 reply_bytes r = frame (first_byte r) (reply_body r)
 
 -- ---- what the types keep
 
--- the properties of a PUBLISH have their forms (1.5.3, 1.5.4, 1.5.6, 3.8.2.1.2)
-pub record SectionFits (expiry subscription : Option ℕ) (p : PropertiesValue) : Type 0 where
-  pub expiry_fits : IfSome expiry (λ n. n < 2 ^ 32)
-  pub content_type_fits : IfSome p.content_type IsShort
-  pub response_topic_fits : IfSome p.response_topic IsShort
-  pub correlation_fits : IfSome p.correlation IsShort
-  pub subscription_fits : IfSome subscription IsSubscriptionId
-  pub user_fits : All (λ pair. IsShort pair.0 × IsShort pair.1) p.user
-
--- 3.3.2: and so have its topic and its identifier
+-- 3.3.2: the topic, the identifier and the properties of a PUBLISH have their forms
 pub record PublishFits (p : Publication) : Type 0 where
   pub topic_fits : IsShort p.topic
   pub id_fits : IdFits p.qos p.id
@@ -115,11 +109,11 @@ ReplyFits (reply.Unsuback codes) = codes.id < 2 ^ 16
 ReplyFits reply.Pingresp = Unit {0}
 ReplyFits (reply.Disconnect code) = Unit {0}
 
--- what has a spelling
-abbrev pub HasSpelling : Reply → Type 0
-HasSpelling r = length (reply_body r) < varint_end
+-- what has a encoding
+abbrev pub HasEncoding : Reply → Type 0
+HasEncoding r = length (reply_body r) < varint_end
 
-pub record SpellsReply (bytes : List ℕ) (r : Reply) : Type 0 where
+pub record EncodesReply (bytes : List ℕ) (r : Reply) : Type 0 where
   pub fields : bytes ≡ reply_bytes r
-  pub small : HasSpelling r
+  pub small : HasEncoding r
   pub fits : ReplyFits r

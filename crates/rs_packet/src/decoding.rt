@@ -1,27 +1,27 @@
 //! Reading the packets of a client.
 
-ghost use Rattle.std.specs.Prelude.{◌≡◌, ◌<◌, ◌≤◌, ◌-◌, ◌^◌, ◌++◌, length, take, slice_index, List, ℕ, Ok, IfOk, OnOk};
+ghost use Rattle.std.specs.Prelude.{◌≡◌, ◌<◌, ◌≤◌, ◌-◌, ◌++◌, length, take, slice_index, List, ℕ, Ok, IfOk};
 ghost use Rattle.rs_packet.specs.declared.packet.Packet.{Packet};
 ghost use Rattle.rs_packet.specs.declared.reply.Reply.{Reply};
-ghost use Rattle.rs_packet.specs.Replies.{SpellsReply};
-ghost use Rattle.rs_packet.specs.Grammar.{IdFits, IsAtFront, Spells};
-ghost use Rattle.rs_packet.specs.PacketReading.{Gives, id_at, id_for, publish_at, ended, code_at, acknowledgement_at, subscribe_at, unsubscribe_at, flags_of, mqtt, version_at, past_text, past_binary, client_at, connect_at, packet_at, body_at, answer};
+ghost use Rattle.rs_packet.specs.Replies.{EncodesReply};
+ghost use Rattle.rs_packet.specs.Grammar.{IdFits, HasPrefix, Encodes};
+ghost use Rattle.rs_packet.specs.PacketReading.{Gives, id_at, id_for, publish_at, code_at, acknowledgement_at, subscribe_at, unsubscribe_at, flags_of, mqtt, version_at, past_text, past_binary, client_at, connect_at, packet_at, packet_in, answer};
 ghost use Rattle.rs_field.specs.declared.fault.PacketFault.{PacketFault};
 ghost use Rattle.rs_field.specs.declared.fault.PacketFault.TheVariants.{NoMemory};
-ghost use Rattle.rs_packet.specs.Fronts.{IsMore, IsFaulty};
-ghost use Rattle.rs_field.specs.Reading.{IsEnd};
+ghost use Rattle.rs_packet.specs.Prefixes.{IsMore, IsFaulty};
+ghost use Rattle.rs_packet.specs.declared.limits.TheConstants.{MAX_PACKET_SIZE};
 ghost use Rattle.std.specs.Str.{bytes_eq};
 
 use crate::filters::all_items;
+use crate::header::{Header, parse_header};
 use crate::packet::{
     Acknowledgement, Connect, Decoded, Flags, Kind, Packet, PacketId, Publish, Qos, Subscribe,
     Unsubscribe,
 };
-use crate::reply::PACKET_MAXIMUM;
 use bytes::Bytes;
 use rs_field::{
-    Cut, Found, PacketFault, Place, Properties, PropertyFields, binary_of, byte_of, digits,
-    found_of, note_octets, text_of, two_of,
+    Found, PacketFault, Place, Properties, PropertyFields, read_binary, read_properties,
+    read_string, read_u8, read_u16,
 };
 use rs_topic::{Text, TopicName};
 use std::alloc::Global;
@@ -31,7 +31,7 @@ fn id_of(rest: &mut Bytes) -> Result<PacketId, PacketFault>
     ensures read { Gives (λ n. (n, rest.new)) result (id_at rest.old) }
     ensures shorter { length rest.new ≤ length rest.old }
 {
-    let number = two_of(rest)?;
+    let number = read_u16(rest)?;
     match PacketId::new(number) {
         Some(id) => Ok(id),
         None => Err(PacketFault::Protocol),
@@ -58,13 +58,13 @@ fn publish_of(
     qos: Qos,
     retain: bool,
 ) -> Result<Publish, PacketFault>
-    requires { length body ≤ 262144 }
+    requires { length body ≤ MAX_PACKET_SIZE }
     ensures { Gives (λ p. p) result (publish_at duplicate qos retain body) }
 {
     let mut rest = body;
-    let topic = text_of(&mut rest)?;
+    let topic = read_string(&mut rest)?;
     let id = id_if(&mut rest, qos)?;
-    let found = found_of(alloc, &mut rest, Place::Publish)?;
+    let found = read_properties(alloc, &mut rest, Place::Publish)?;
     let Found {
         format,
         expiry,
@@ -103,11 +103,11 @@ fn code_of(alloc: Global, body: Bytes, place: Place) -> Result<u8, PacketFault>
     if rest.is_empty() {
         return Ok(0);
     }
-    let code = byte_of(&mut rest)?;
+    let code = read_u8(&mut rest)?;
     if rest.is_empty() {
         return Ok(code);
     }
-    let _found = found_of(alloc, &mut rest, place)?;
+    let _found = read_properties(alloc, &mut rest, place)?;
     if !rest.is_empty() {
         return Err(PacketFault::Malformed);
     }
@@ -126,12 +126,12 @@ fn acknowledgement_of(alloc: Global, body: Bytes) -> Result<Acknowledgement, Pac
 
 #[tactic(auto, unfolding(crate::specs::PacketReading::subscribe_at))]
 fn subscribe_of(alloc: Global, body: Bytes) -> Result<Subscribe, PacketFault>
-    requires { length body ≤ 262144 }
+    requires { length body ≤ MAX_PACKET_SIZE }
     ensures { Gives (λ s. s) result (subscribe_at body) }
 {
     let mut rest = body;
     let id = id_of(&mut rest)?;
-    let found = found_of(alloc, &mut rest, Place::Subscribe)?;
+    let found = read_properties(alloc, &mut rest, Place::Subscribe)?;
     if rest.is_empty() {
         return Err(PacketFault::Protocol);
     }
@@ -146,12 +146,12 @@ fn subscribe_of(alloc: Global, body: Bytes) -> Result<Subscribe, PacketFault>
 
 #[tactic(auto, unfolding(crate::specs::PacketReading::unsubscribe_at))]
 fn unsubscribe_of(alloc: Global, body: Bytes) -> Result<Unsubscribe, PacketFault>
-    requires { length body ≤ 262144 }
+    requires { length body ≤ MAX_PACKET_SIZE }
     ensures { Gives (λ u. u) result (unsubscribe_at body) }
 {
     let mut rest = body;
     let id = id_of(&mut rest)?;
-    let _found = found_of(alloc, &mut rest, Place::Unsubscribe)?;
+    let _found = read_properties(alloc, &mut rest, Place::Unsubscribe)?;
     if rest.is_empty() {
         return Err(PacketFault::Protocol);
     }
@@ -159,34 +159,50 @@ fn unsubscribe_of(alloc: Global, body: Bytes) -> Result<Unsubscribe, PacketFault
     Ok(Unsubscribe { id, filters })
 }
 
+// The bits of the Connect Flags (3.1.2.3): the value of each, of the lower one for the Will QoS.
+const CLEAN_START: u8 = 2;
+
+const WILL: u8 = 4;
+
+const WILL_QOS: u8 = 8;
+
+const WILL_RETAIN: u8 = 32;
+
+const PASSWORD: u8 = 64;
+
+const USER_NAME: u8 = 128;
+
+/// The Connect Flags. Malformed if the reserved bit is set, if Will QoS is 3, or if Will QoS or Will Retain is set without
+/// the Will Flag.
 #[tactic(auto, unfolding(crate::specs::PacketReading::flags_of))]
-fn flags(byte: u8) -> Result<Flags, PacketFault>
+fn read_flags(byte: u8) -> Result<Flags, PacketFault>
     ensures { Gives (λ f. f) result (flags_of byte) }
 {
     if byte % 2 == 1 {
         return Err(PacketFault::Malformed);
     }
-    if byte / 8 % 4 == 3 {
+    if byte / WILL_QOS % 4 == 3 {
         return Err(PacketFault::Malformed);
     }
-    if byte / 4 % 2 == 0 && byte / 8 % 8 != 0 {
+    if byte / WILL % 2 == 0 && byte / WILL_QOS % 8 != 0 {
         return Err(PacketFault::Malformed);
     }
-    let will_qos = match byte / 8 % 4 {
+    let will_qos = match byte / WILL_QOS % 4 {
         0 => Qos::AtMostOnce,
         1 => Qos::AtLeastOnce,
         _ => Qos::ExactlyOnce,
     };
     Ok(Flags {
-        user_name: byte / 128 == 1,
-        password: byte / 64 % 2 == 1,
-        will_retain: byte / 32 % 2 == 1,
+        user_name: byte / USER_NAME == 1,
+        password: byte / PASSWORD % 2 == 1,
+        will_retain: byte / WILL_RETAIN % 2 == 1,
         will_qos,
-        will: byte / 4 % 2 == 1,
-        clean_start: byte / 2 % 2 == 1,
+        will: byte / WILL % 2 == 1,
+        clean_start: byte / CLEAN_START % 2 == 1,
     })
 }
 
+/// The protocol name is `MQTT` (3.1.2.1).
 fn is_mqtt(name: &[u8]) -> bool
     ensures { result ≡ bytes_eq name.now mqtt }
 {
@@ -197,11 +213,11 @@ fn is_mqtt(name: &[u8]) -> bool
 fn version_of(rest: &mut Bytes) -> Result<(), PacketFault>
     ensures { Gives (λ _. rest.new) result (version_at rest.old) }
 {
-    let name = text_of(rest)?;
+    let name = read_string(rest)?;
     if !is_mqtt(name.as_bytes()) {
         return Err(PacketFault::Version);
     }
-    let version = byte_of(rest)?;
+    let version = read_u8(rest)?;
     if version != 5 {
         return Err(PacketFault::Version);
     }
@@ -212,7 +228,7 @@ fn pass_text(rest: &mut Bytes, present: bool) -> Result<(), PacketFault>
     ensures { Gives (λ _. rest.new) result (past_text present rest.old) }
 {
     if present {
-        let _text = text_of(rest)?;
+        let _text = read_string(rest)?;
     }
     Ok(())
 }
@@ -221,7 +237,7 @@ fn pass_binary(rest: &mut Bytes, present: bool) -> Result<(), PacketFault>
     ensures { Gives (λ _. rest.new) result (past_binary present rest.old) }
 {
     if present {
-        let _bytes = binary_of(rest)?;
+        let _bytes = read_binary(rest)?;
     }
     Ok(())
 }
@@ -234,7 +250,7 @@ fn client_of(body: Bytes, flags: Flags) -> Result<Option<Text>, PacketFault>
     if flags.will {
         return Ok(None);
     }
-    let client = text_of(&mut rest)?;
+    let client = read_string(&mut rest)?;
     pass_text(&mut rest, flags.user_name)?;
     pass_binary(&mut rest, flags.password)?;
     if !rest.is_empty() {
@@ -249,10 +265,10 @@ fn connect_of(alloc: Global, body: Bytes) -> Result<Connect, PacketFault>
 {
     let mut rest = body;
     version_of(&mut rest)?;
-    let byte = byte_of(&mut rest)?;
-    let flags = flags(byte)?;
-    let keep_alive = two_of(&mut rest)?;
-    let found = found_of(alloc, &mut rest, Place::Connect)?;
+    let byte = read_u8(&mut rest)?;
+    let flags = read_flags(byte)?;
+    let keep_alive = read_u16(&mut rest)?;
+    let found = read_properties(alloc, &mut rest, Place::Connect)?;
     let Found {
         session_expiry,
         method,
@@ -279,7 +295,7 @@ fn connect_of(alloc: Global, body: Bytes) -> Result<Connect, PacketFault>
 
 #[tactic(auto, unfolding(crate::specs::PacketReading::packet_at))]
 fn packet_of(alloc: Global, kind: Kind, body: Bytes) -> Result<Packet, PacketFault>
-    requires { length body ≤ 262144 }
+    requires { length body ≤ MAX_PACKET_SIZE }
     ensures { Gives (λ p. p) result (packet_at kind body) }
 {
     match kind {
@@ -304,55 +320,43 @@ fn packet_of(alloc: Global, kind: Kind, body: Bytes) -> Result<Packet, PacketFau
     }
 }
 
-/// The packet whose body has `len` bytes, which `rest` begins with.
-fn whole_of(
-    alloc: Global,
-    kind: Kind,
-    bytes: &Bytes,
-    rest: &[u8],
-    len: u32,
-) -> Result<Decoded, PacketFault>
-    requires end { IsEnd rest.now bytes.now }
-    requires small { len < 2 ^ 28 }
-    ensures { Gives (λ d. d) result (body_at kind (length bytes.now - length rest.now) len rest.now) }
+/// The packet with this header, or `More` if the bytes end before it does.
+fn decode_body(alloc: Global, bytes: &Bytes, header: Header) -> Result<Decoded, PacketFault>
+    requires start { header.start ≤ header.size }
+    requires small { header.size - header.start ≤ MAX_PACKET_SIZE }
+    ensures { Gives (λ d. d) result (packet_in bytes.now header) }
 {
-    let len = len as usize;
-    let start = bytes.len() - rest.len();
-    let size = start + len;
-    if size > PACKET_MAXIMUM as usize {
-        return Err(PacketFault::TooLarge);
-    }
-    if rest.len() < len {
+    if bytes.len() < header.size {
         return Ok(Decoded::More);
     }
-    let body = bytes.slice(start..size)?;
-    let packet = packet_of(alloc, kind, body)?;
-    Ok(Decoded::Whole(packet, size))
+    let body = bytes.slice(header.start..header.size)?;
+    let packet = packet_of(alloc, header.kind, body)?;
+    Ok(Decoded::Whole(packet, header.size))
 }
 
-#[tactic(auto, unfolding(crate::specs::PacketReading::answer))]
 fn decoded(alloc: Global, bytes: &Bytes) -> Result<Decoded, PacketFault>
     ensures { Gives (λ d. d) result (answer bytes.now) }
 {
-    let [first, behind @ ..] = bytes.as_slice() else {
-        return Ok(Decoded::More);
-    };
-    let kind = Kind::of(*first)?;
-    match digits(behind) {
-        Ok((len, rest)) => whole_of(alloc, kind, bytes, rest, len),
-        Err(Cut::Short) => Ok(Decoded::More),
-        Err(Cut::Bad) => Err(PacketFault::Malformed),
+    match parse_header(bytes.as_slice()) {
+        Ok(Some(header)) => decode_body(alloc, bytes, header),
+        Ok(None) => Ok(Decoded::More),
+        Err(fault) => Err(fault),
     }
 }
 
-/// The packet at the front of the bytes and its size, or `More` where they are less than a packet. The
-/// first fault from left to right is answered (4.13), or `NoMemory` in place of any answer. Nothing
-/// of a body is read before all of it is there, and no payload or text is copied.
+/// Does nothing: its contract says that bytes are below 256, which the lemmas on what was read need.
+fn note_octets(bytes: &[u8])
+    ensures { (i : ℕ) → slice_index bytes.now i < 256 }
+{}
+
+/// Decodes the packet that the bytes begin with: the packet and its size in bytes, or `More` if they are less than a packet.
+/// Err is the first fault from left to right (4.13), or `NoMemory`, which may come in place of any other answer. Nothing
+/// of a body is read before all of it is there, and no payload or string is copied.
 pub fn decode(alloc: Global, bytes: &Bytes) -> Result<Decoded, PacketFault>
-    // What is read stands at the front.
-    ensures found { IfOk result (λ d. IsAtFront bytes.now d) }
-    // What stands at the front is read, unless memory runs out.
-    ensures only { (p : Packet) (n : ℕ) → n ≤ length bytes.now → Spells (take n bytes.now) p → Gives (λ d. d) result (Ok (Decoded.Whole p n)) }
+    // What is decoded is a prefix of the bytes.
+    ensures found { IfOk result (λ d. HasPrefix bytes.now d) }
+    // A packet that is a prefix is decoded, unless memory runs out.
+    ensures only { (p : Packet) (n : ℕ) → n ≤ length bytes.now → Encodes (take n bytes.now) p → Gives (λ d. d) result (Ok (Decoded.Whole p n)) }
     // Which fault it is, and when more is wanted.
     ensures exact { Gives (λ d. d) result (answer bytes.now) }
 {
@@ -360,20 +364,19 @@ pub fn decode(alloc: Global, bytes: &Bytes) -> Result<Decoded, PacketFault>
     decoded(alloc, bytes)
 }
 
-/// No spelling of a packet begins another one, no spelling of a reply begins another one (2.1), and a
-/// spelling is of one reply.
+/// The encodings of packets are prefix-free, and so are those of replies (2.1); no two replies have one encoding.
 pub fn wire_law()
-    ensures packets { (a b x y : List ℕ) (p q : Packet) → Spells a p → Spells b q → a ++ x ≡ b ++ y → (a ≡ b) × (x ≡ y) }
-    ensures replies { (a b x y : List ℕ) (r s : Reply) → SpellsReply a r → SpellsReply b s → a ++ x ≡ b ++ y → (a ≡ b) × (x ≡ y) }
-    ensures one_reply { (a b x y : List ℕ) (r s : Reply) → SpellsReply a r → SpellsReply b s → a ++ x ≡ b ++ y → r ≡ s }
+    ensures packets { (a b x y : List ℕ) (p q : Packet) → Encodes a p → Encodes b q → a ++ x ≡ b ++ y → (a ≡ b) × (x ≡ y) }
+    ensures replies { (a b x y : List ℕ) (r s : Reply) → EncodesReply a r → EncodesReply b s → a ++ x ≡ b ++ y → (a ≡ b) × (x ≡ y) }
+    ensures one_reply { (a b x y : List ℕ) (r s : Reply) → EncodesReply a r → EncodesReply b s → a ++ x ≡ b ++ y → r ≡ s }
 {}
 
-/// Bytes spell at most one packet at their front, and where they spell one neither a fault (want of
-/// memory aside) nor `More` is due there.
+/// At most one prefix of some bytes encodes a packet, and it encodes one. If there is one, `decode` answers neither `More`
+/// nor a fault other than `NoMemory`.
 pub fn one_reading()
-    ensures one_packet { (a b x y : List ℕ) (p q : Packet) → Spells a p → Spells b q → a ++ x ≡ b ++ y → (a ≡ b) × (p ≡ q) }
-    ensures no_fault { (a x : List ℕ) (p : Packet) (f : PacketFault) → Spells a p → IsFaulty (a ++ x) f → f ≡ NoMemory }
-    ensures not_more { (a x : List ℕ) (p : Packet) → Spells a p → IsMore (a ++ x) → ⊥ }
-    // What was called faulty stays so, whatever follows.
+    ensures one_packet { (a b x y : List ℕ) (p q : Packet) → Encodes a p → Encodes b q → a ++ x ≡ b ++ y → (a ≡ b) × (p ≡ q) }
+    ensures no_fault { (a x : List ℕ) (p : Packet) (f : PacketFault) → Encodes a p → IsFaulty (a ++ x) f → f ≡ NoMemory }
+    ensures not_more { (a x : List ℕ) (p : Packet) → Encodes a p → IsMore (a ++ x) → ⊥ }
+    // A fault stays, whatever bytes follow.
     ensures stays { (f : PacketFault) (bytes more : List ℕ) → IsFaulty bytes f → IsFaulty (bytes ++ more) f }
 {}

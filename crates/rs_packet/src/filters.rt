@@ -1,38 +1,38 @@
 //! Reading the filters of a SUBSCRIBE (3.8.3) and of an UNSUBSCRIBE (3.10.3).
 
-ghost use Rattle.std.specs.Prelude.{◌≡◌, ◌<◌, ◌≤◌, length, List, ℕ, Result, IfOk, OnOk};
+ghost use Rattle.std.specs.Prelude.{◌<◌, ◌≤◌, length, List, ℕ, Result, IfOk, OnOk};
 ghost use Rattle.rs_field.specs.declared.fault.PacketFault.{PacketFault};
 ghost use Rattle.rs_packet.specs.PacketReading.{Gives, options_of, asked_at, filter_at, all_in};
 
 use crate::packet::{Options, Qos, RetainHandling};
 use bytes::Bytes;
-use rs_field::{PacketFault, byte_of, text_of};
+use rs_field::{PacketFault, read_string, read_u8};
 use rs_topic::{TopicFault, TopicFilter};
 use std::alloc::Global;
 
-/// What stands once for each filter.
+/// One entry of the payload of a SUBSCRIBE or an UNSUBSCRIBE.
 pub trait Item {
-    /// How it is read from the front of some bytes.
+    /// The entry that some bytes begin with, and the bytes after it.
     ghost item_at: { List ℕ → Result (Self × List ℕ) PacketFault };
 
-    /// The item at the front.
+    /// Reads one entry.
     fn item_of(rest: &mut Bytes) -> Result<Self, PacketFault>
         ensures read { Gives (λ a. (a, rest.new)) result (item_at rest.old) }
         ensures shorter { OnOk result (length rest.new < length rest.old) };
 }
 
-/// In an UNSUBSCRIBE: the filter, or why the text is none.
+/// In an UNSUBSCRIBE: the filter, or why the string is none.
 impl Item for Result<TopicFilter, TopicFault> {
     ghost item_at = { filter_at };
 
     #[tactic(auto, unfolding(crate::specs::PacketReading::filter_at))]
     fn item_of(rest: &mut Bytes) -> Result<Result<TopicFilter, TopicFault>, PacketFault> {
-        let text = text_of(rest)?;
+        let text = read_string(rest)?;
         Ok(TopicFilter::of(text))
     }
 }
 
-/// In a SUBSCRIBE: the filter, or why the text is none, and the options.
+/// In a SUBSCRIBE: the filter, or why the string is none, and the options.
 impl Item for (Result<TopicFilter, TopicFault>, Options) {
     ghost item_at = { asked_at };
 
@@ -40,14 +40,14 @@ impl Item for (Result<TopicFilter, TopicFault>, Options) {
     fn item_of(
         rest: &mut Bytes,
     ) -> Result<(Result<TopicFilter, TopicFault>, Options), PacketFault> {
-        let text = text_of(rest)?;
-        let byte = byte_of(rest)?;
-        let options = options(byte)?;
+        let text = read_string(rest)?;
+        let byte = read_u8(rest)?;
+        let options = read_options(byte)?;
         Ok((TopicFilter::of(text), options))
     }
 }
 
-/// All items of a payload.
+/// Reads all entries of a payload.
 pub fn all_items<I: Item + Drop>(alloc: Global, body: Bytes) -> Result<Vec<I>, PacketFault>
     ensures read { Gives (λ v. v.items) result (all_in I.item_at (length body) body) }
     ensures few { IfOk result (λ v. length v.items ≤ length body) }
@@ -62,12 +62,22 @@ pub fn all_items<I: Item + Drop>(alloc: Global, body: Bytes) -> Result<Vec<I>, P
     Ok(all)
 }
 
-/// The options byte of a filter (3.8.3.1).
+// The bits of the Subscription Options (3.8.3.1): the value of each, of the lower one for Retain Handling. Maximum QoS is
+// the value of the two lowest bits.
+const NO_LOCAL: u8 = 4;
+
+const RETAIN_AS_PUBLISHED: u8 = 8;
+
+const RETAIN_HANDLING: u8 = 16;
+
+const RESERVED: u8 = 64;
+
+/// The Subscription Options. Malformed if a reserved bit is set; else Protocol if the Maximum QoS or the Retain Handling is 3.
 #[tactic(auto, unfolding(crate::specs::PacketReading::options_of))]
-fn options(byte: u8) -> Result<Options, PacketFault>
+fn read_options(byte: u8) -> Result<Options, PacketFault>
     ensures { Gives (λ o. o) result (options_of byte) }
 {
-    if byte >= 64 {
+    if byte >= RESERVED {
         return Err(PacketFault::Malformed);
     }
     let qos = match byte % 4 {
@@ -76,7 +86,7 @@ fn options(byte: u8) -> Result<Options, PacketFault>
         2 => Qos::ExactlyOnce,
         _ => return Err(PacketFault::Protocol),
     };
-    let retain_handling = match byte / 16 {
+    let retain_handling = match byte / RETAIN_HANDLING {
         0 => RetainHandling::Always,
         1 => RetainHandling::IfNew,
         2 => RetainHandling::Never,
@@ -84,8 +94,8 @@ fn options(byte: u8) -> Result<Options, PacketFault>
     };
     Ok(Options {
         qos,
-        no_local: byte / 4 % 2 == 1,
-        retain_as_published: byte / 8 % 2 == 1,
+        no_local: byte / NO_LOCAL % 2 == 1,
+        retain_as_published: byte / RETAIN_AS_PUBLISHED % 2 == 1,
         retain_handling,
     })
 }

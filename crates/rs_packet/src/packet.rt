@@ -26,7 +26,7 @@ impl Model for PacketId {
 impl PacketId {
     ghost use Rattle.std.specs.Prelude.{◌≡◌, ◌<◌, ◌^◌, ◌==◌, if◌then◌else◌, Some, None};
 
-    /// None where the number is 0.
+    /// None if the number is 0.
     pub fn new(number: u16) -> Option<PacketId>
         ensures { result ≡ (if number == 0 then None else Some number) }
     {
@@ -79,7 +79,7 @@ impl Qos {
 pub enum RetainHandling {
     /// 0: at each SUBSCRIBE.
     Always,
-    /// 1: only where the subscription was not there before.
+    /// 1: only if the subscription is new.
     IfNew,
     /// 2: at no SUBSCRIBE.
     Never,
@@ -88,7 +88,7 @@ pub enum RetainHandling {
 /// The options of a filter (3.8.3.1).
 #[derive(Clone, Copy)]
 pub struct Options {
-    /// The Maximum QoS, bits 0 and 1: the best quality with which messages are sent.
+    /// The Maximum QoS, bits 0 and 1: the highest QoS with which messages are sent.
     pub qos: Qos,
     /// No Local, bit 2: the client gets none of its own messages.
     pub no_local: bool,
@@ -117,7 +117,7 @@ impl Kind {
     ghost use Rattle.std.specs.Prelude.{◌≡◌};
     ghost use Rattle.rs_packet.specs.PacketReading.{Gives, kind_of};
 
-    /// What a client's packet begins with, or the fault.
+    /// The kind of packet that begins with this byte. Protocol if only a server sends it, Malformed if it is no packet's.
     #[tactic(auto, unfolding(crate::specs::PacketReading::kind_of))]
     pub fn of(head: u8) -> Result<Kind, PacketFault>
         ensures { result ≡ kind_of head }
@@ -148,22 +148,21 @@ impl Kind {
     }
 }
 
-/// A PUBLISH (3.3). An identifier stands where QoS is 1 or 2, and the payload and the properties that a
-/// message keeps, spelled as in a PUBLISH, take at most 262,144 bytes; both are known where it is
-/// taken apart.
+/// A PUBLISH (3.3). It has an identifier if QoS is 1 or 2, and the payload and the properties that a message keeps,
+/// encoded as in a PUBLISH, take at most `MAX_PACKET_SIZE` bytes; callers know both once they take it apart.
 #[derive(Drop)]
 pub struct Publish {
     /// DUP: it is sent again (3.3.1.1).
     pub duplicate: bool,
-    /// The quality with which it is sent (3.3.1.2).
+    /// The QoS with which it is sent (3.3.1.2).
     pub qos: Qos,
     /// RETAIN: the message is to be kept for its topic (3.3.1.3).
     pub retain: bool,
-    /// The name, or why the text is none (3.3.2.1).
+    /// The topic name, or why the string is none (3.3.2.1).
     pub topic: Result<TopicName, TopicFault>,
-    /// The packet identifier, where QoS is 1 or 2 (3.3.2.2).
+    /// The packet identifier, if QoS is 1 or 2 (3.3.2.2).
     pub id: Option<PacketId>,
-    /// The Message Expiry Interval, in seconds (3.3.2.3.3); None where the message does not expire.
+    /// The Message Expiry Interval, in seconds (3.3.2.3.3); None if the message does not expire.
     pub expiry: Option<u32>,
     /// The Topic Alias (3.3.2.3.4) as sent, 0 too, which the standard forbids.
     pub alias: Option<u16>,
@@ -214,14 +213,14 @@ pub struct Acknowledgement {
     pub code: u8,
 }
 
-/// A SUBSCRIBE (3.8) with 1 to 262,144 filters, in order.
+/// A SUBSCRIBE (3.8) with 1 to `MAX_PACKET_SIZE` filters, in order.
 #[derive(Drop)]
 pub struct Subscribe {
     /// The packet identifier (3.8.2), which the SUBACK repeats.
     pub id: PacketId,
     /// The Subscription Identifier (3.8.2.1.2), of all the filters.
     pub subscription: Option<SubscriptionId>,
-    /// Each filter, or why the text is none, and its options (3.8.3).
+    /// Each filter, or why the string is none, and its options (3.8.3).
     pub filters: Vec<(Result<TopicFilter, TopicFault>, Options)>,
 }
 
@@ -237,12 +236,12 @@ impl Model for Subscribe {
     ghost invariant = { λ s. IsSubscribe (record { id = s.id; subscription = s.subscription; filters = s.filters.items }) };
 }
 
-/// An UNSUBSCRIBE (3.10) with 1 to 262,144 filters, in order.
+/// An UNSUBSCRIBE (3.10) with 1 to `MAX_PACKET_SIZE` filters, in order.
 #[derive(Drop)]
 pub struct Unsubscribe {
     /// The packet identifier (3.10.2), which the UNSUBACK repeats.
     pub id: PacketId,
-    /// Each filter, or why the text is none (3.10.3).
+    /// Each filter, or why the string is none (3.10.3).
     pub filters: Vec<Result<TopicFilter, TopicFault>>,
 }
 
@@ -286,7 +285,7 @@ pub struct Connect {
     pub receive_maximum: Option<u16>,
     /// The Maximum Packet Size, in bytes (3.1.2.11.4): 1 or more.
     pub packet_maximum: Option<u32>,
-    /// The client identifier (3.1.3.1); None where the Will Flag ends the reading before it.
+    /// The client identifier (3.1.3.1); None if the Will Flag is set: then nothing after the properties is read.
     pub client: Option<Text>,
 }
 
@@ -341,11 +340,11 @@ pub enum Packet {
     Unsubscribe(Unsubscribe),
     /// A PINGREQ (3.12).
     Pingreq,
-    /// A DISCONNECT with its reason code (3.14.2.1), 0 where it is absent.
+    /// A DISCONNECT with its reason code (3.14.2.1), 0 if it is absent.
     Disconnect(u8),
 }
 
-/// What stands at the front of some bytes.
+/// What `decode` finds in some bytes.
 #[derive(Drop)]
 pub enum Decoded {
     /// A packet, and how many bytes it takes.

@@ -1,17 +1,14 @@
 //! What the server sends.
 
+ghost use Rattle.std.specs.Prelude.{◌≡◌, IfSome};
+ghost use Rattle.rs_field.specs.Forms.{IsSubscriptionId};
+
+use crate::limits::MAX_PACKET_SIZE;
 use crate::packet::{PacketId, Qos};
 use bytes::Bytes;
-use rs_field::{Properties, SubscriptionId, in_range};
+use rs_field::{Properties, SubscriptionId};
 use rs_topic::{Text, TopicName};
 use std::marker::Model;
-
-/// The Receive Maximum of the server (3.2.2.3.3): how many PUBLISH packets of QoS 1 and 2 a client
-/// may have unacknowledged.
-pub const RECEIVE_MAXIMUM: u16 = 16;
-
-/// The Maximum Packet Size of the server (3.2.2.3.6), in bytes: no longer packet is read.
-pub const PACKET_MAXIMUM: u32 = 262_144;
 
 /// A CONNACK that accepts (3.2). Session Present is 0, since no session outlives its connection.
 #[derive(Drop)]
@@ -22,19 +19,19 @@ pub struct Accepted {
     pub assigned_client: Option<Text>,
 }
 
-/// A PUBLISH (3.3) with a retained message for a subscriber. An identifier stands where QoS is 1 or 2, and
-/// the body is short enough for a length (2.1.4).
+/// A PUBLISH (3.3) with a retained message for a subscriber. It has an identifier if QoS is 1 or 2, and
+/// its Remaining Length (2.1.4) is at most `MAX_REMAINING_LENGTH`.
 #[derive(Drop)]
 pub struct Publication {
     /// The name under which the message is retained (3.3.2.1).
     pub topic: TopicName,
-    /// The quality with which it is sent (3.3.1.2).
+    /// The QoS with which it is sent (3.3.1.2).
     pub qos: Qos,
-    /// The packet identifier, where QoS is 1 or 2 (3.3.2.2).
+    /// The packet identifier, if QoS is 1 or 2 (3.3.2.2).
     pub id: Option<PacketId>,
-    /// The Subscription Identifier of the subscription that it answers (3.3.2.3.8), where that has one.
+    /// The Subscription Identifier of the subscription that it answers (3.3.2.3.8), if that has one.
     pub subscription: Option<SubscriptionId>,
-    /// The seconds left (3.3.2.3.3); None where the message does not expire.
+    /// The seconds left (3.3.2.3.3); None if the message does not expire.
     pub expiry: Option<u32>,
     /// The other properties of the message (3.3.2.3), sent in rising order of identifier.
     pub properties: Properties,
@@ -71,25 +68,24 @@ impl Model for Publication {
 }
 
 impl Publication {
-    ghost use Rattle.std.specs.Prelude.{◌≡◌, ◌≤◌, ◌+◌, length};
+    ghost use Rattle.std.specs.Prelude.{◌≡◌, ◌≤◌};
     ghost use Rattle.rs_packet.specs.Values.{PublicationValue};
     ghost use Rattle.rs_packet.specs.Grammar.{IdFits};
     ghost use Rattle.rs_packet.specs.Replies.{message_size};
 
-    /// A PUBLISH (3.3) with an identifier where QoS is 1 or 2, whose payload and properties, without
-    /// the Subscription Identifier, take at most 262,144 bytes.
-    #[tactic(auto, using(crate::proofs::WritingLemmas::publication_small))]
+    /// A PUBLISH (3.3) with an identifier if QoS is 1 or 2. Payload and properties, without the Subscription
+    /// Identifier, take at most `MAX_PACKET_SIZE` bytes.
     pub fn new(
         topic: TopicName,
         qos: Qos,
         id: Option<PacketId>,
-        subscription: Option<SubscriptionId>,
         expiry: Option<u32>,
+        subscription: Option<SubscriptionId>,
         properties: Properties,
         payload: Bytes,
     ) -> Publication
         requires id_fits { IdFits qos id }
-        requires message_fits { message_size expiry properties payload ≤ 262144 }
+        requires message_fits { message_size expiry properties payload ≤ MAX_PACKET_SIZE }
         ensures { result ≡ record { topic = topic; qos = qos; id = id; subscription = subscription; expiry = expiry; properties = properties; payload = payload } }
     {
         let subscription = in_range(subscription);
@@ -103,6 +99,20 @@ impl Publication {
             properties,
             payload,
         }
+    }
+}
+
+/// Gives back the identifier: its contract says that it is in its range, which the type of a publication keeps.
+fn in_range(subscription: Option<SubscriptionId>) -> Option<SubscriptionId>
+    ensures same { result ≡ subscription }
+    ensures fits { IfSome result IsSubscriptionId }
+{
+    match subscription {
+        Some(id) => {
+            let _number = id.get();
+            Some(id)
+        }
+        None => None,
     }
 }
 
@@ -131,22 +141,22 @@ impl Codes {
     ghost use Rattle.std.specs.Prelude.{◌≡◌, ◌≤◌, length};
     ghost use Rattle.rs_packet.specs.Values.{CodesValue};
 
-    /// A SUBACK (3.9) or an UNSUBACK (3.11) with at most 262,144 codes.
+    /// A SUBACK (3.9) or an UNSUBACK (3.11) with at most `MAX_PACKET_SIZE` codes.
     pub fn new(id: PacketId, codes: Vec<u8>) -> Codes
-        requires { length codes.items ≤ 262144 }
+        requires { length codes.items ≤ MAX_PACKET_SIZE }
         ensures { result ≡ record { id = id; codes = codes.items } }
     {
         Codes { id, codes }
     }
 }
 
-/// What the server sends. Each reply has one spelling; an acknowledgement has its reason code.
+/// What the server sends. Each reply has one encoding.
 #[derive(Drop)]
 pub enum Reply {
     /// A CONNACK with the reason code 0x00 (3.2).
     Accepted(Accepted),
-    /// A CONNACK with this reason code and no properties (3.2.2.2). It refuses where the code is 0x80
-    /// or more, which is the caller's part.
+    /// A CONNACK with this reason code and no properties (3.2.2.2). It refuses if the code is 0x80
+    /// or more, which the caller sees to.
     Refused(u8),
     /// A PUBLISH with RETAIN set (3.3).
     Publish(Publication),

@@ -1,5 +1,6 @@
-use Rattle.std.proofs.Common.{arith, ap, length}
-use Rattle.rs_packet.proofs.WritingLemmas.{publication_small}
+use Rattle.std.proofs.Common.{ℕ, ◌<◌, ◌^◌, Option, length, ap, arith}
+use Rattle.rs_packet.specs.Replies.{publish_remaining}
+use Rattle.rs_packet.proofs.Lengths.{message_publish, remaining_is}
 use Rattle.rs_packet.proofs.reply.Publication.new.Goals as goal
 
 pub invariant_of-result : goal.invariant_of-result
@@ -7,6 +8,8 @@ invariant_of-result c = record {
   id_fits = c.requires.id_fits;
   subscription_fits = c.in_range-subscription.ensures.fits;
   small =
-      publication_small c.args.topic c.args.qos c.args.id c.in_range-subscription.result c.args.expiry c.args.properties c.args.payload
-      (omega (arith, c.as_bytes-topic.ensures.short, ap length c.as_bytes-topic.ensures.bytes)) c.requires.message_fits;
+      let same = ap (λ (s : Option ℕ). publish_remaining c.args.topic c.args.qos c.args.expiry s c.args.properties (length c.args.payload)) c.in_range-subscription.ensures.same in
+      let short : length c.args.topic < 2 ^ 16 = omega (arith, c.as_bytes-topic.ensures.short, ap length c.as_bytes-topic.ensures.bytes) in
+      let fits = message_publish c.args.topic c.args.qos c.args.expiry c.args.subscription c.args.properties (length c.args.payload) short c.requires.message_fits in
+      omega (arith, fits, remaining_is c.args.topic c.args.qos c.args.id c.in_range-subscription.result c.args.expiry c.args.properties c.args.payload c.requires.id_fits, same);
 }

@@ -1,0 +1,406 @@
+//! The properties of a packet (2.2.2): all of them read, and those of a PUBLISH that the server sends written and measured.
+
+ghost use Rattle.std.specs.Prelude.{◌≡◌, ◌+◌, ◌<◌, ◌≤◌, ◌^◌, ◌++◌, length, map, slice_index, ℕ, IfOk, OnOk, IfSome, None};
+ghost use Rattle.std.specs.List.{All, flat_map};
+ghost use Rattle.rs_field.specs.Forms.{varint_end, IsShort, IsSubscriptionId};
+ghost use Rattle.rs_field.specs.Properties.{nothing, none_yet, properties, property_bytes};
+ghost use Rattle.rs_field.specs.Kept.{kept, replayed, optional, user_property};
+ghost use Rattle.rs_field.specs.Values.{no_properties};
+ghost use Rattle.rs_field.specs.Bounds.{IsFound, SectionFits};
+ghost use Rattle.rs_field.specs.Reading.{Gives, judged, value_at, property_at, properties_in, gather_on, found_at};
+
+use crate::binary::{put_binary, put_string, read_binary, read_part, read_string};
+use crate::fault::PacketFault;
+use crate::kept::{Properties, PropertyFields};
+use crate::number::{put_u32, read_u8, read_u16, read_u32};
+use crate::property::{Found, Identifier, Place, Property};
+use crate::subscription::SubscriptionId;
+use crate::varint::{put_varint, read_varint, varint_len};
+use bytes::Bytes;
+use rs_topic::Text;
+use std::alloc::{AllocError, Global};
+
+/// The identifier, if it may stand here. Malformed or Protocol if not (2.2.2.2).
+fn judge(id: Option<Identifier>, place: Place, seen: &[bool; 40]) -> Result<Identifier, PacketFault>
+    ensures { Gives (λ i. i) result (judged place seen.now id) }
+{
+    let Some(id) = id else {
+        return Err(PacketFault::Malformed);
+    };
+    if !id.may_stand(place) {
+        return match (place, id) {
+            (Place::Publish, Identifier::SubscriptionIdentifier) => Err(PacketFault::Protocol),
+            (Place::Disconnect, Identifier::ServerReference) => Err(PacketFault::Protocol),
+            _ => Err(PacketFault::Malformed),
+        };
+    }
+    if id.may_repeat() || !seen[usize::from(id.number())] {
+        Ok(id)
+    } else {
+        Err(PacketFault::Protocol)
+    }
+}
+
+#[tactic(auto, unfolding(crate::specs::Reading::value_at))]
+fn read_value(rest: &mut Bytes, id: Identifier) -> Result<Property, PacketFault>
+    ensures read { Gives (λ p. (p, rest.new)) result (value_at id rest.old) }
+    ensures shorter { length rest.new ≤ length rest.old }
+{
+    let property = match id {
+        Identifier::PayloadFormat => {
+            let n = read_u8(rest)?;
+            if n > 1 {
+                return Err(PacketFault::Protocol);
+            }
+            Property::Format(n)
+        }
+        Identifier::MessageExpiry => Property::Expiry(read_u32(rest)?),
+        Identifier::ContentType => Property::ContentTypeIs(read_string(rest)?),
+        Identifier::ResponseTopic => {
+            let t = read_string(rest)?;
+            if !t.is_plain() {
+                return Err(PacketFault::Protocol);
+            }
+            Property::ResponseTopicIs(t)
+        }
+        Identifier::CorrelationData => Property::Correlation(read_binary(rest)?),
+        Identifier::SubscriptionIdentifier => {
+            let n = read_varint(rest)?;
+            match SubscriptionId::new(n) {
+                Some(id) => Property::Subscription(id),
+                None => return Err(PacketFault::Protocol),
+            }
+        }
+        Identifier::SessionExpiry => Property::SessionExpiryIs(read_u32(rest)?),
+        Identifier::AuthenticationMethod => Property::Method(read_string(rest)?),
+        Identifier::AuthenticationData => Property::Authentication(read_binary(rest)?),
+        Identifier::ProblemInformation => {
+            let n = read_u8(rest)?;
+            if n > 1 {
+                return Err(PacketFault::Protocol);
+            }
+            Property::WantsProblem(n)
+        }
+        Identifier::ResponseInformation => {
+            let n = read_u8(rest)?;
+            if n > 1 {
+                return Err(PacketFault::Protocol);
+            }
+            Property::WantsResponse(n)
+        }
+        Identifier::ServerReference => return Err(PacketFault::Malformed),
+        Identifier::ReasonString => Property::Reason(read_string(rest)?),
+        Identifier::ReceiveMaximum => {
+            let n = read_u16(rest)?;
+            if n == 0 {
+                return Err(PacketFault::Protocol);
+            }
+            Property::ReceiveMaximumIs(n)
+        }
+        Identifier::TopicAliasMaximum => Property::AliasMaximumIs(read_u16(rest)?),
+        Identifier::TopicAlias => Property::Alias(read_u16(rest)?),
+        Identifier::UserProperty => {
+            let k = read_string(rest)?;
+            let v = read_string(rest)?;
+            Property::User(k, v)
+        }
+        Identifier::MaximumPacketSize => {
+            let n = read_u32(rest)?;
+            if n == 0 {
+                return Err(PacketFault::Protocol);
+            }
+            Property::PacketMaximum(n)
+        }
+    };
+    Ok(property)
+}
+
+#[tactic(auto, unfolding(crate::specs::Reading::property_at))]
+fn read_property(rest: &mut Bytes, place: Place, seen: &[bool; 40]) -> Result<Property, PacketFault>
+    ensures read { Gives (λ p. (p, rest.new)) result (property_at place seen.now rest.old) }
+    ensures shorter { OnOk result (length rest.new < length rest.old) }
+{
+    let number = read_varint(rest)?;
+    let id = judge(Identifier::of(number), place, seen)?;
+    read_value(rest, id)
+}
+
+fn found_in(alloc: Global, section: Bytes, place: Place) -> Result<Found, PacketFault>
+    ensures { Gives (λ f. f) result (gather_on nothing (properties_in (length section) place none_yet section)) }
+{
+    let mut found = Found::new(alloc);
+    let mut seen = [false; 40];
+    let mut rest = section;
+    'next: while !rest.is_empty() {
+        let property = read_property(&mut rest, place, &seen)?;
+        seen[usize::from(property.identifier().number())] = true;
+        found.put(property)?;
+    }
+    Ok(found)
+}
+
+/// Does nothing: its contract says that bytes are below 256, which the lemmas on what was read need.
+fn note_octets(bytes: &[u8])
+    ensures { (i : ℕ) → slice_index bytes.now i < 256 }
+{}
+
+#[tactic(auto, unfolding(crate::specs::Reading::found_at, crate::specs::Reading::properties_at))]
+fn read_section(alloc: Global, rest: &mut Bytes, place: Place) -> Result<Found, PacketFault>
+    ensures { Gives (λ f. (f, rest.new)) result (found_at place rest.old) }
+{
+    let len = read_varint(rest)?;
+    if len == 0 {
+        return Ok(Found::new(alloc));
+    }
+    let section = read_part(rest, len as usize)?;
+    found_in(alloc, section, place)
+}
+
+/// Reads the properties of a packet of this kind (2.2.2): their length, and each of them.
+pub fn read_properties(alloc: Global, rest: &mut Bytes, place: Place) -> Result<Found, PacketFault>
+    ensures read { Gives (λ f. (f, rest.new)) result (found_at place rest.old) }
+    ensures fits { IfOk result (λ f. IsFound f) }
+    // What a message keeps of them takes no more bytes than they do.
+    ensures size { IfOk result (λ f. length (properties (replayed f.expiry None (kept f))) + length rest.new ≤ length rest.old) }
+{
+    note_octets(rest.as_slice());
+    read_section(alloc, rest, place)
+}
+
+fn put_format(out: &mut Vec<u8>, format: Option<u8>) -> Result<(), AllocError>
+    ensures { OnOk result (out.new.items ≡ out.old.items ++ flat_map property_bytes (optional Property.Format format)) }
+{
+    if let Some(n) = format {
+        out.extend_from_slice(&[0x01, n])?;
+    }
+    Ok(())
+}
+
+fn put_expiry(out: &mut Vec<u8>, expiry: Option<u32>) -> Result<(), AllocError>
+    ensures { OnOk result (out.new.items ≡ out.old.items ++ flat_map property_bytes (optional Property.Expiry expiry)) }
+{
+    if let Some(n) = expiry {
+        out.push(0x02)?;
+        put_u32(out, n)?;
+    }
+    Ok(())
+}
+
+fn put_content_type(out: &mut Vec<u8>, content_type: &Option<Text>) -> Result<(), AllocError>
+    ensures { OnOk result (out.new.items ≡ out.old.items ++ flat_map property_bytes (optional Property.ContentTypeIs content_type.now)) }
+{
+    if let Some(t) = content_type {
+        out.push(0x03)?;
+        put_string(out, t)?;
+    }
+    Ok(())
+}
+
+fn put_response_topic(out: &mut Vec<u8>, topic: &Option<Text>) -> Result<(), AllocError>
+    ensures { OnOk result (out.new.items ≡ out.old.items ++ flat_map property_bytes (optional Property.ResponseTopicIs topic.now)) }
+{
+    if let Some(t) = topic {
+        out.push(0x08)?;
+        put_string(out, t)?;
+    }
+    Ok(())
+}
+
+fn put_correlation(out: &mut Vec<u8>, correlation: &Option<Bytes>) -> Result<(), AllocError>
+    requires { IfSome correlation.now (λ b. length b < 2 ^ 16) }
+    ensures { OnOk result (out.new.items ≡ out.old.items ++ flat_map property_bytes (optional Property.Correlation correlation.now)) }
+{
+    if let Some(b) = correlation {
+        out.push(0x09)?;
+        put_binary(out, b.as_slice())?;
+    }
+    Ok(())
+}
+
+fn put_pair(out: &mut Vec<u8>, pair: &(Text, Text)) -> Result<(), AllocError>
+    ensures { OnOk result (out.new.items ≡ out.old.items ++ property_bytes (user_property pair.now)) }
+{
+    out.push(0x26)?;
+    put_string(out, &pair.0)?;
+    put_string(out, &pair.1)?;
+    Ok(())
+}
+
+fn put_user(out: &mut Vec<u8>, user: &[(Text, Text)]) -> Result<(), AllocError>
+    ensures { OnOk result (out.new.items ≡ out.old.items ++ flat_map property_bytes (map user_property user.now)) }
+{
+    for pair in user {
+        put_pair(out, pair)?;
+    }
+    Ok(())
+}
+
+fn put_subscription(
+    out: &mut Vec<u8>,
+    subscription: Option<SubscriptionId>,
+) -> Result<(), AllocError>
+    ensures { OnOk result (out.new.items ≡ out.old.items ++ flat_map property_bytes (optional Property.Subscription subscription)) }
+{
+    if let Some(id) = subscription {
+        out.push(0x0B)?;
+        put_varint(out, id.get() as usize)?;
+    }
+    Ok(())
+}
+
+/// Appends what a message with these fields sends, in rising order of identifier.
+#[tactic(auto, using(crate::proofs::Replayed::replayed_parts))]
+fn put_fields(
+    out: &mut Vec<u8>,
+    expiry: Option<u32>,
+    subscription: Option<SubscriptionId>,
+    kept: &PropertyFields,
+) -> Result<(), AllocError>
+    ensures { OnOk result (out.new.items ≡ out.old.items ++ flat_map property_bytes (replayed expiry subscription kept.now)) }
+{
+    put_format(out, kept.format)?;
+    put_expiry(out, expiry)?;
+    put_content_type(out, &kept.content_type)?;
+    put_response_topic(out, &kept.response_topic)?;
+    put_correlation(out, &kept.correlation)?;
+    put_subscription(out, subscription)?;
+    put_user(out, &kept.user)?;
+    Ok(())
+}
+
+/// Appends what a message sends that keeps no field.
+#[tactic(auto, using(crate::proofs::Replayed::replayed_bare))]
+fn put_bare(
+    out: &mut Vec<u8>,
+    expiry: Option<u32>,
+    subscription: Option<SubscriptionId>,
+) -> Result<(), AllocError>
+    ensures { OnOk result (out.new.items ≡ out.old.items ++ flat_map property_bytes (replayed expiry subscription no_properties)) }
+{
+    put_expiry(out, expiry)?;
+    put_subscription(out, subscription)?;
+    Ok(())
+}
+
+/// Appends the properties of a PUBLISH (3.3.2.3), without their length, in rising order of identifier.
+pub fn put_properties(
+    out: &mut Vec<u8>,
+    expiry: Option<u32>,
+    subscription: Option<SubscriptionId>,
+    kept: &Properties,
+) -> Result<(), AllocError>
+    ensures { OnOk result (out.new.items ≡ out.old.items ++ flat_map property_bytes (replayed expiry subscription kept.now)) }
+{
+    match kept.fields() {
+        Some(fields) => put_fields(out, expiry, subscription, fields)?,
+        None => put_bare(out, expiry, subscription)?,
+    }
+    Ok(())
+}
+
+fn pair_len(pair: &(Text, Text)) -> usize
+    ensures value { result ≡ length (property_bytes (user_property pair.now)) }
+    ensures small { result < 2 ^ 18 }
+    ensures fits { IsShort pair.now.0 × IsShort pair.now.1 }
+{
+    5 + pair.0.as_bytes().len() + pair.1.as_bytes().len()
+}
+
+fn user_len(user: &[(Text, Text)]) -> usize
+    requires { length (flat_map property_bytes (map user_property user.now)) < varint_end }
+    ensures value { result ≡ length (flat_map property_bytes (map user_property user.now)) }
+    ensures fits { All (λ pair. IsShort pair.0 × IsShort pair.1) user.now }
+{
+    let mut len: usize = 0;
+    for pair in user {
+        len += pair_len(pair);
+    }
+    len
+}
+
+/// The number of bytes of a property whose value is a string.
+fn text_len(text: &Option<Text>) -> usize
+    ensures content_type { result ≡ length (flat_map property_bytes (optional Property.ContentTypeIs text.now)) }
+    ensures response_topic { result ≡ length (flat_map property_bytes (optional Property.ResponseTopicIs text.now)) }
+    ensures small { result < 2 ^ 17 }
+    ensures fits { IfSome text.now IsShort }
+{
+    match text {
+        Some(text) => 3 + text.as_bytes().len(),
+        None => 0,
+    }
+}
+
+fn expiry_len(expiry: Option<u32>) -> usize
+    ensures value { result ≡ length (flat_map property_bytes (optional Property.Expiry expiry)) }
+    ensures small { result ≤ 5 }
+    ensures fits { IfSome expiry (λ n. n < 2 ^ 32) }
+{
+    match expiry {
+        Some(_n) => 5,
+        None => 0,
+    }
+}
+
+fn subscription_len(subscription: Option<SubscriptionId>) -> usize
+    ensures value { result ≡ length (flat_map property_bytes (optional Property.Subscription subscription)) }
+    ensures small { result ≤ 5 }
+    ensures fits { IfSome subscription IsSubscriptionId }
+{
+    match subscription {
+        Some(id) => 1 + varint_len(id.get() as usize),
+        None => 0,
+    }
+}
+
+fn correlation_len(correlation: &Option<Bytes>) -> usize
+    requires { IfSome correlation.now (λ b. length b < 2 ^ 16) }
+    ensures value { result ≡ length (flat_map property_bytes (optional Property.Correlation correlation.now)) }
+    ensures small { result < 2 ^ 17 }
+{
+    match correlation {
+        Some(b) => 3 + b.len(),
+        None => 0,
+    }
+}
+
+#[tactic(auto, using(crate::proofs::Replayed::length_replayed))]
+fn fields_len(
+    expiry: Option<u32>,
+    subscription: Option<SubscriptionId>,
+    kept: &PropertyFields,
+) -> usize
+    requires { length (flat_map property_bytes (replayed expiry subscription kept.now)) < varint_end }
+    ensures value { result ≡ length (flat_map property_bytes (replayed expiry subscription kept.now)) }
+    ensures fits { SectionFits expiry subscription kept.now }
+{
+    let format = if kept.format.is_some() { 2 } else { 0 };
+    let expiry = expiry_len(expiry);
+    let texts = text_len(&kept.content_type) + text_len(&kept.response_topic);
+    let correlation = correlation_len(&kept.correlation) + subscription_len(subscription);
+    format + expiry + texts + correlation + user_len(&kept.user)
+}
+
+#[tactic(auto, using(crate::proofs::Replayed::length_replayed))]
+fn bare_len(expiry: Option<u32>, subscription: Option<SubscriptionId>) -> usize
+    ensures value { result ≡ length (flat_map property_bytes (replayed expiry subscription no_properties)) }
+    ensures fits { SectionFits expiry subscription no_properties }
+{
+    expiry_len(expiry) + subscription_len(subscription)
+}
+
+/// The number of bytes of the properties of a PUBLISH, without their length.
+pub fn properties_len(
+    expiry: Option<u32>,
+    subscription: Option<SubscriptionId>,
+    kept: &Properties,
+) -> usize
+    requires { length (flat_map property_bytes (replayed expiry subscription kept.now)) < varint_end }
+    ensures value { result ≡ length (flat_map property_bytes (replayed expiry subscription kept.now)) }
+    ensures fits { SectionFits expiry subscription kept.now }
+{
+    match kept.fields() {
+        Some(fields) => fields_len(expiry, subscription, fields),
+        None => bare_len(expiry, subscription),
+    }
+}

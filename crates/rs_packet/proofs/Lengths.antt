@@ -1,0 +1,137 @@
+-- How many bytes a reply takes, by its parts.
+use Rattle.std.proofs.Common.{◌≡◌, ℕ, ◌+◌, ◌*◌, ◌<◌, ◌≤◌, ◌^◌, Bool, true, false, cond, ltb, List, ◌++◌, length, refl, sym, ap, ◌∙◌, arith}
+use Rattle.std.specs.List.{flat_map}
+use Rattle.std.specs.Prelude.{Option}
+use Rattle.std.proofs.Common.{Some, None}
+use Rattle.std.specs.Prelude.{is_some}
+use Rattle.std.proofs.lemmas.List.{append-nil, length-append}
+use Rattle.rs_field.specs.declared.property.Property.TheVariants as property
+use Rattle.rs_field.specs.Values.{PropertiesValue}
+use Rattle.rs_packet.specs.declared.packet.Qos.{Qos}
+use Rattle.rs_packet.specs.declared.packet.Qos.TheVariants.{AtMostOnce, AtLeastOnce, ExactlyOnce}
+use Rattle.rs_packet.specs.declared.reply.Accepted.{Accepted}
+use Rattle.rs_packet.specs.declared.reply.Publication.{Publication}
+use Rattle.rs_packet.specs.declared.reply.Reply.TheVariants as reply
+use Rattle.rs_packet.specs.Grammar.{IdFits, id_bytes, frame, level}
+use Rattle.rs_field.specs.Kept.{optional, replayed}
+use Rattle.rs_packet.specs.declared.limits.TheConstants.{MAX_PACKET_SIZE}
+use Rattle.rs_packet.specs.Replies.{message_len, publish_remaining, publication_body, reply_bytes, expiry_told, client_told, limits_told, accepting, accepted_body}
+use Rattle.rs_field.proofs.Replayed.{length_replayed}
+use Rattle.rs_field.proofs.Written.{varint_short}
+use Rattle.rs_field.specs.Properties.{varint, varint_end, property_bytes, counted}
+
+id_len : (o : Option ℕ) → length (id_bytes o) ≡ cond (is_some o) 2 0
+id_len None = refl
+id_len (Some n) = refl
+
+pub length_frame : (first : ℕ) (body : List ℕ) → length (frame first body) ≡ 1 + length (varint (length body)) + length body
+length_frame first body = omega (arith, length-append (varint (length body)) body)
+
+-- the length of a PUBLISH's body, by its parts
+pub length_body : (p : Publication) → let section = flat_map property_bytes (replayed p.expiry p.subscription p.properties) in
+    length (publication_body p) ≡ 2 + length p.topic + cond (is_some p.id) 2 0 + length (varint (length section)) + length section + length p.payload
+length_body p =
+    let section = flat_map property_bytes (replayed p.expiry p.subscription p.properties) in
+    omega (
+      arith,
+      id_len p.id,
+      length-append (counted p.topic) (id_bytes p.id ++ ((varint (length section) ++ section) ++ p.payload)),
+      length-append (id_bytes p.id) ((varint (length section) ++ section) ++ p.payload),
+      length-append (varint (length section) ++ section) p.payload,
+      length-append (varint (length section)) section,
+    )
+
+subscription_short : (o : Option ℕ) → length (flat_map property_bytes (optional property.Subscription o)) ≤ 5
+subscription_short None = omega arith
+subscription_short (Some n) = omega (arith, varint_short n, ap length (append-nil (varint n)))
+
+-- a Subscription Identifier adds five bytes at most
+pub section_le : (expiry subscription : Option ℕ) (kept : PropertiesValue) → length (flat_map property_bytes (replayed expiry subscription kept)) ≤ 5 + length (flat_map property_bytes (replayed expiry None kept))
+section_le expiry subscription kept = omega (arith, length_replayed expiry subscription kept, length_replayed expiry None kept, subscription_short subscription)
+
+-- a message of a packet's size has properties of less than that
+pub message_section : (expiry subscription : Option ℕ) (kept : PropertiesValue) (payload : ℕ) → message_len expiry kept payload ≤ MAX_PACKET_SIZE
+    → payload + length (flat_map property_bytes (replayed expiry subscription kept)) ≤ 262149
+message_section expiry subscription kept payload le =
+    let section = flat_map property_bytes (replayed expiry None kept) in
+    omega (arith, le, section_le expiry subscription kept, length-append (varint (length section)) section)
+
+pub two_if : (b : Bool) → cond b 2 0 ≤ 2
+two_if true = omega arith
+two_if false = omega arith
+
+-- a message whose payload and properties fit a packet has a PUBLISH
+pub message_publish : (topic : List ℕ) (qos : Qos) (expiry subscription : Option ℕ) (kept : PropertiesValue) (payload : ℕ) → length topic < 2 ^ 16 → message_len expiry kept payload ≤ MAX_PACKET_SIZE
+    → publish_remaining topic qos expiry subscription kept payload < varint_end
+unfolding publish_remaining
+message_publish topic qos expiry subscription kept payload lt le =
+    let section = flat_map property_bytes (replayed expiry subscription kept) in
+    omega (arith, lt, message_section expiry subscription kept payload le, varint_short (length section), length-append (varint (length section)) section, two_if (ltb 0 (level qos)))
+
+-- an interval takes the same room, whatever it is
+pub message_len_alike : (a b : Option ℕ) (kept : PropertiesValue) (payload : ℕ) → is_some a ≡ is_some b → message_len a kept payload ≡ message_len b kept payload
+message_len_alike None None kept payload e = refl
+message_len_alike None (Some n) kept payload e = absurd (cc (e))
+message_len_alike (Some m) None kept payload e = absurd (cc (e))
+message_len_alike (Some m) (Some n) kept payload e =
+    let a = flat_map property_bytes (replayed (Some m) None kept) in
+    let b = flat_map property_bytes (replayed (Some n) None kept) in
+    let same : length a ≡ length b = omega (arith, length_replayed (Some m) None kept, length_replayed (Some n) None kept) in
+    let head : length (varint (length a)) ≡ length (varint (length b)) = ap (λ (k : ℕ). length (varint k)) same in
+    omega (arith, same, head, length-append (varint (length a)) a, length-append (varint (length b)) b)
+
+-- the Remaining Length, by its parts
+pub remaining_parts : (topic : List ℕ) (qos : Qos) (expiry subscription : Option ℕ) (kept : PropertiesValue) (payload section quality : ℕ)
+    → section ≡ length (flat_map property_bytes (replayed expiry subscription kept)) → quality ≡ level qos
+    → publish_remaining topic qos expiry subscription kept payload ≡ 2 + length topic + cond (ltb 0 quality) 2 0 + length (varint section) + section + payload
+unfolding publish_remaining
+remaining_parts topic qos expiry subscription kept payload section quality is-section is-quality =
+    let s = flat_map property_bytes (replayed expiry subscription kept) in
+    rw (is-section, is-quality) (omega (arith, length-append (varint (length s)) s))
+
+pub section_small : (p : Publication) → length (publication_body p) < varint_end → length (flat_map property_bytes (replayed p.expiry p.subscription p.properties)) < varint_end
+section_small p h = omega (arith, h, length_body p)
+
+-- an identifier stands where QoS is above 0
+with_id : (qos : Qos) (id : Option ℕ) → IdFits qos id → is_some id ≡ ltb 0 (level qos)
+with_id AtMostOnce None h = refl
+with_id AtMostOnce (Some n) h = absurd h
+with_id AtLeastOnce None h = absurd h
+with_id AtLeastOnce (Some n) h = refl
+with_id ExactlyOnce None h = absurd h
+with_id ExactlyOnce (Some n) h = refl
+
+-- the body of a PUBLISH has the Remaining Length
+pub remaining_is : (topic : List ℕ) (qos : Qos) (id subscription expiry : Option ℕ) (kept : PropertiesValue) (payload : List ℕ) → IdFits qos id
+    → length (publication_body (record { topic = topic; qos = qos; id = id; subscription = subscription; expiry = expiry; properties = kept; payload = payload })) ≡ publish_remaining topic qos expiry subscription kept (length payload)
+unfolding publish_remaining
+remaining_is topic qos id subscription expiry kept payload fits =
+    let p : Publication = record { topic = topic; qos = qos; id = id; subscription = subscription; expiry = expiry; properties = kept; payload = payload } in
+    let section = flat_map property_bytes (replayed expiry subscription kept) in
+    let some : ◌≡◌ {A = ℕ} (cond (is_some id) 2 0) (cond (ltb 0 (level qos)) 2 0) = ap (λ (b : Bool). cond b 2 0) (with_id qos id fits) in
+    omega (arith, length_body p, some, length-append (varint (length section)) section)
+
+-- the length of a PUBLISH, by those of its parts
+pub length_publish : (topic : List ℕ) (qos : Qos) (id subscription expiry : Option ℕ) (kept : PropertiesValue) (bytes : List ℕ) (section quality payload len digits : ℕ) → IdFits qos id
+    → section ≡ length (flat_map property_bytes (replayed expiry subscription kept)) → quality ≡ level qos → length bytes ≡ payload
+    → len ≡ 2 + length topic + cond (ltb 0 quality) 2 0 + length (varint section) + section + payload → digits ≡ length (varint len)
+    → 1 + digits + len ≡ length (reply_bytes (reply.Publish (record { topic = topic; qos = qos; id = id; subscription = subscription; expiry = expiry; properties = kept; payload = bytes })))
+length_publish topic qos id subscription expiry kept bytes section quality payload len digits fits is-section is-quality is-payload is-len is-digits =
+    let p : Publication = record { topic = topic; qos = qos; id = id; subscription = subscription; expiry = expiry; properties = kept; payload = bytes } in
+    let parts : 2 + length topic + cond (ltb 0 quality) 2 0 + length (varint section) + section + payload ≡ length (publication_body p) = rw (is-section, is-quality, ← is-payload, ← with_id qos id fits) (sym (length_body p)) in
+    let body : len ≡ length (publication_body p) = is-len ∙ parts in
+    rw (is-digits, body) (sym (length_frame (0x31 + 2 * level qos) (publication_body p)))
+
+-- ---- an accepting CONNACK, by its parts
+
+expiry_told_len : (told : Bool) → length (expiry_told told) ≡ cond told 5 0
+expiry_told_len true = refl
+expiry_told_len false = refl
+
+pub length_accepting : (a : Accepted) → length (accepting a) ≡ cond a.session_expiry_zero 5 0 + length (client_told a.assigned_client) + 10
+length_accepting a =
+    let limits : length limits_told ≡ 10 = refl in
+    omega (arith, limits, expiry_told_len a.session_expiry_zero, length-append (expiry_told a.session_expiry_zero) (client_told a.assigned_client ++ limits_told), length-append (client_told a.assigned_client) limits_told)
+
+pub length_accepted : (a : Accepted) → length (accepted_body a) ≡ 2 + length (varint (length (accepting a))) + length (accepting a)
+length_accepted a = omega (arith, length-append (varint (length (accepting a))) (accepting a))

@@ -1,0 +1,96 @@
+//! Encoding the replies: a file of `encoding/` for each kind.
+
+ghost use Rattle.std.specs.Prelude.{◌≡◌, ◌<◌, ◌++◌, length, OnOk, IfOk};
+ghost use Rattle.rs_field.specs.Forms.{varint_end};
+ghost use Rattle.rs_packet.specs.Grammar.{frame};
+ghost use Rattle.rs_packet.specs.Replies.{reply_body, reply_bytes, HasEncoding, ReplyFits, EncodesReply};
+
+use crate::encoding::acknowledgements::{acknowledgement_len, put_acknowledgement};
+use crate::encoding::codes::{codes_len, put_codes};
+use crate::encoding::connack::{accepted_len, put_accepted};
+use crate::encoding::publish::{body_len, put_publication};
+use crate::reply::Reply;
+use bytes::Bytes;
+use rs_field::{put_varint, varint_len};
+use std::alloc::{AllocError, Global};
+
+mod acknowledgements;
+mod codes;
+mod connack;
+mod publish;
+
+pub use publish::publish_len;
+
+/// Appends a packet with a body of less than 128 bytes.
+pub(crate) fn put_small(out: &mut Vec<u8>, first: u8, body: &[u8]) -> Result<(), AllocError>
+    requires { length body.now < 128 }
+    ensures { OnOk result (out.new.items ≡ out.old.items ++ frame first body.now) }
+{
+    out.push(first)?;
+    put_varint(out, body.len())?;
+    out.extend_from_slice(body)?;
+    Ok(())
+}
+
+/// Appends a reply.
+fn put(out: &mut Vec<u8>, reply: &Reply) -> Result<(), AllocError>
+    ensures { OnOk result (out.new.items ≡ out.old.items ++ reply_bytes reply.now) }
+{
+    match reply {
+        Reply::Accepted(a) => put_accepted(out, a)?,
+        Reply::Refused(code) => put_small(out, 0x20, &[0, *code, 0])?,
+        Reply::Publish(p) => put_publication(out, p)?,
+        Reply::Puback(id, code) => put_acknowledgement(out, 0x40, *id, *code)?,
+        Reply::Pubrec(id, code) => put_acknowledgement(out, 0x50, *id, *code)?,
+        Reply::Pubrel(id, code) => put_acknowledgement(out, 0x62, *id, *code)?,
+        Reply::Pubcomp(id, code) => put_acknowledgement(out, 0x70, *id, *code)?,
+        Reply::Suback(codes) => put_codes(out, 0x90, codes)?,
+        Reply::Unsuback(codes) => put_codes(out, 0xB0, codes)?,
+        Reply::Pingresp => put_small(out, 0xD0, &[])?,
+        Reply::Disconnect(code) => put_small(out, 0xE0, &[*code])?,
+    }
+    Ok(())
+}
+
+/// The number of bytes of the body of a reply.
+fn reply_len(reply: &Reply) -> usize
+    ensures value { result ≡ length (reply_body reply.now) }
+    ensures small { result < varint_end }
+    ensures fits { ReplyFits reply.now }
+{
+    match reply {
+        Reply::Accepted(a) => accepted_len(a),
+        Reply::Refused(_code) => 3,
+        Reply::Publish(p) => body_len(p).0,
+        Reply::Puback(id, code) => acknowledgement_len(*id, *code),
+        Reply::Pubrec(id, code) => acknowledgement_len(*id, *code),
+        Reply::Pubrel(id, code) => acknowledgement_len(*id, *code),
+        Reply::Pubcomp(id, code) => acknowledgement_len(*id, *code),
+        Reply::Suback(codes) => codes_len(codes),
+        Reply::Unsuback(codes) => codes_len(codes),
+        Reply::Pingresp => 0,
+        Reply::Disconnect(_code) => 1,
+    }
+}
+
+/// The number of bytes of a reply, at most 5 more than of its body (2.1.4).
+#[tactic(auto, using(crate::proofs::Lengths::length_frame))]
+pub fn encoded_len(reply: &Reply) -> usize
+    ensures value { result ≡ length (reply_bytes reply.now) }
+    ensures small { HasEncoding reply.now }
+    ensures fits { ReplyFits reply.now }
+{
+    let len = reply_len(reply);
+    1 + varint_len(len) + len
+}
+
+/// The one encoding of a reply. `AllocError` only if memory runs out.
+pub fn encode(alloc: Global, reply: &Reply) -> Result<Bytes, AllocError>
+    ensures bytes { IfOk result (λ b. b ≡ reply_bytes reply.now) }
+    // No encoding of a reply begins another one, and no two replies have one encoding (`wire_law`).
+    ensures encodes { IfOk result (λ b. EncodesReply b reply.now) }
+{
+    let mut out = Vec::with_capacity(alloc, encoded_len(reply))?;
+    put(&mut out, reply)?;
+    Ok(Bytes::from_vec(out)?)
+}

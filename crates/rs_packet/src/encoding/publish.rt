@@ -1,0 +1,88 @@
+//! PUBLISH (3.3).
+
+ghost use Rattle.std.specs.Prelude.{◌≡◌, ◌+◌, ◌*◌, ◌<◌, ◌^◌, ◌++◌, length, ℕ, List, Option, OnOk, if◌then◌else◌};
+ghost use Rattle.std.specs.List.{flat_map};
+ghost use Rattle.rs_field.specs.Forms.{varint, varint_end};
+ghost use Rattle.rs_field.specs.Properties.{property_bytes};
+ghost use Rattle.rs_field.specs.Kept.{replayed};
+ghost use Rattle.rs_packet.specs.Grammar.{IdFits, frame, id_bytes, level};
+ghost use Rattle.rs_packet.specs.Replies.{publication_body, publish_remaining, reply_bytes, PublishFits};
+
+use crate::packet::{PacketId, Qos};
+use crate::reply::{Publication, Reply};
+use rs_field::{
+    Properties, SubscriptionId, properties_len, put_binary, put_properties, put_u16, put_varint,
+    varint_len,
+};
+use rs_topic::TopicName;
+use std::alloc::AllocError;
+
+/// The number of bytes of the body of a PUBLISH, from those of its properties and of its payload.
+fn around_len(topic: &TopicName, with_id: bool, section: usize, payload: usize) -> usize
+    requires section_fits { section < varint_end }
+    requires payload_fits { payload < varint_end }
+    ensures value { result ≡ 2 + length topic.now + (if with_id then 2 else 0) + length (varint section) + section + payload }
+    ensures topic_fits { length topic.now < 2 ^ 16 }
+{
+    let id = if with_id { 2 } else { 0 };
+    2 + topic.as_bytes().len() + id + varint_len(section) + section + payload
+}
+
+/// The number of bytes of the body of a PUBLISH, and of its properties.
+#[tactic(auto, using(crate::proofs::Lengths::length_body, crate::proofs::Lengths::section_small))]
+pub(crate) fn body_len(p: &Publication) -> (usize, usize)
+    ensures section { result.1 ≡ length (flat_map property_bytes (replayed p.now.expiry p.now.subscription p.now.properties)) }
+    ensures body { result.0 ≡ length (publication_body p.now) }
+    ensures small { result.0 < varint_end }
+    ensures section_small { result.1 < varint_end }
+    ensures fits { PublishFits p.now }
+{
+    let section = properties_len(p.expiry, p.subscription, &p.properties);
+    let len = around_len(&p.topic, p.id.is_some(), section, p.payload.len());
+    (len, section)
+}
+
+/// Appends the packet identifier, if there is one.
+fn put_id(out: &mut Vec<u8>, id: Option<PacketId>) -> Result<(), AllocError>
+    ensures { OnOk result (out.new.items ≡ out.old.items ++ id_bytes id) }
+{
+    if let Some(id) = id {
+        put_u16(out, id.get())?;
+    }
+    Ok(())
+}
+
+/// Appends a PUBLISH.
+pub(crate) fn put_publication(out: &mut Vec<u8>, p: &Publication) -> Result<(), AllocError>
+    ensures { OnOk result (out.new.items ≡ out.old.items ++ frame (0x31 + 2 * level p.now.qos) (publication_body p.now)) }
+{
+    let (len, section) = body_len(p);
+    out.push(0x31 + 2 * p.qos.level())?;
+    put_varint(out, len)?;
+    put_binary(out, p.topic.as_bytes())?;
+    put_id(out, p.id)?;
+    put_varint(out, section)?;
+    put_properties(out, p.expiry, p.subscription, &p.properties)?;
+    out.extend_from_slice(p.payload.as_slice())?;
+    Ok(())
+}
+
+/// How many bytes a PUBLISH takes: `encoded_len` of each with this topic, payload length, properties,
+/// quality, interval and Subscription Identifier, and a packet identifier if QoS is 1 or 2 (3.3). Its
+/// Remaining Length (2.1.4) is at most `MAX_REMAINING_LENGTH`. Nothing is allocated.
+pub fn publish_len(
+    topic: &TopicName,
+    payload: usize,
+    properties: &Properties,
+    qos: Qos,
+    expiry: Option<u32>,
+    subscription: Option<SubscriptionId>,
+) -> usize
+    requires { publish_remaining topic.now qos expiry subscription properties.now payload < varint_end }
+    ensures value { (id : Option ℕ) (bytes : List ℕ) → IdFits qos id → length bytes ≡ payload → result ≡ length (reply_bytes (Reply.Publish (record { topic = topic.now; qos = qos; id = id; subscription = subscription; expiry = expiry; properties = properties.now; payload = bytes }))) }
+    ensures small { result < 2 ^ 29 }
+{
+    let section = properties_len(expiry, subscription, properties);
+    let len = around_len(topic, qos.level() > 0, section, payload);
+    1 + varint_len(len) + len
+}

@@ -1,0 +1,71 @@
+//! The header of a packet: its type and flags, and its length (2.1).
+
+ghost use Rattle.std.specs.Prelude.{◌≡◌, ◌<◌, ◌≤◌, ◌++◌, length, take, List, ℕ, Ok};
+ghost use Rattle.rs_packet.specs.declared.packet.Packet.{Packet};
+ghost use Rattle.rs_packet.specs.declared.packet.Decoded.{Decoded};
+ghost use Rattle.rs_packet.specs.PacketReading.{header_at, answer};
+ghost use Rattle.rs_packet.specs.Prefixes.{IsMore};
+
+use crate::limits::MAX_PACKET_SIZE;
+use crate::packet::Kind;
+use rs_field::{PacketFault, VarintFault, parse_varint};
+
+/// What the first bytes of a packet say.
+#[derive(Clone, Copy)]
+pub(crate) struct Header {
+    /// The kind of the packet, by its first byte.
+    pub(crate) kind: Kind,
+    /// The number of bytes before the body.
+    pub(crate) start: usize,
+    /// The number of bytes of the whole packet, at most `MAX_PACKET_SIZE`.
+    pub(crate) size: usize,
+}
+
+/// The header that the bytes begin with; None if they end before it does. Malformed or Protocol if the first byte is no
+/// client's, Malformed if the length has no form, TooLarge if the packet is longer than `MAX_PACKET_SIZE`.
+#[tactic(auto, unfolding(crate::specs::PacketReading::header_at))]
+pub(crate) fn parse_header(bytes: &[u8]) -> Result<Option<Header>, PacketFault>
+    ensures { result ≡ header_at bytes.now }
+{
+    let [first, behind @ ..] = bytes else {
+        return Ok(None);
+    };
+    let kind = Kind::of(*first)?;
+    match parse_varint(behind) {
+        Ok((len, rest)) => {
+            let start = bytes.len() - rest.len();
+            let size = start + len as usize;
+            if size > MAX_PACKET_SIZE as usize {
+                return Err(PacketFault::TooLarge);
+            }
+            Ok(Some(Header { kind, start, size }))
+        }
+        Err(VarintFault::Short) => Ok(None),
+        Err(VarintFault::Bad) => Err(PacketFault::Malformed),
+    }
+}
+
+/// How many bytes to hold before the next attempt to decode the packet that the bytes begin with, by their first five at
+/// most (2.1.1, 2.1.4). Until its whole length is there, that is one more than are held; from then on it is the size of the
+/// packet. If the first byte or the length is faulty, or the packet longer than `MAX_PACKET_SIZE`, it is as many as are held:
+/// `decode` names the fault.
+///
+/// A server asks again after each read, and decodes once it holds as many as were last answered: with fewer, `decode` would
+/// only answer `More`.
+pub fn needed_len(bytes: &[u8]) -> usize
+    // Fewer bytes are less than a packet, and so they stay until that many are held.
+    ensures short { length bytes.now < result → IsMore bytes.now }
+    ensures needed { (more : List ℕ) → length (bytes.now ++ more) < result → IsMore (bytes.now ++ more) }
+    // That many decide, whatever else is held.
+    ensures enough { result ≤ length bytes.now → answer (take result bytes.now) ≡ answer bytes.now }
+    ensures waits { IsMore bytes.now → length bytes.now < result }
+    ensures whole { (p : Packet) (n : ℕ) → answer bytes.now ≡ Ok (Decoded.Whole p n) → result ≡ n }
+    // Five bytes have the whole length in them, and so tell the size of whatever packet they begin.
+    ensures sized { (more : List ℕ) (p : Packet) (n : ℕ) → 5 ≤ length bytes.now → answer (bytes.now ++ more) ≡ Ok (Decoded.Whole p n) → result ≡ n }
+{
+    match parse_header(bytes) {
+        Ok(Some(header)) => header.size,
+        Ok(None) => bytes.len() + 1,
+        Err(_fault) => bytes.len(),
+    }
+}

@@ -1,0 +1,8 @@
+//! The limits of the server that a CONNACK announces.
+
+/// The Maximum Packet Size of the server, in bytes (3.2.2.3.6): no longer packet is read.
+pub const MAX_PACKET_SIZE: u32 = 262_144;
+
+/// The Receive Maximum of the server, in packets (3.2.2.3.3): how many PUBLISH packets of QoS 1 and 2 a client may have
+/// unacknowledged.
+pub const RECEIVE_MAXIMUM: u16 = 16;
