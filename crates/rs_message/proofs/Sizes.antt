@@ -1,8 +1,8 @@
 -- The size of a message that keeps no property but its interval.
 use Rattle.std.proofs.Common.{ℕ, ◌+◌, ◌/◌, ◌%◌, ◌≤◌, Bool, true, false, cond, suc, zero, List, [], ◌∷◌, length, arith, length-append, Option, Some, None}
 use Rattle.std.specs.Prelude.{nat_lt}
-use Rattle.rs_field.specs.Properties.{low_first, varint}
-use Rattle.rs_packet.specs.Grammar.{largest}
+use Rattle.rs_packet.specs.Fields.{low_first, varint}
+use Rattle.rs_packet.specs.declared.limits.TheConstants.{MAX_PACKET_SIZE}
 use Rattle.rs_packet.specs.Replies.{message_size}
 use Rattle.rs_message.specs.Bare.{no_properties}
 
@@ -15,6 +15,9 @@ digits_le (suc k) n = at (nat_lt n 128) (digits_le k (n / 128))
     at true h = omega arith
     at false h = omega (arith, h)
 
-pub small_message : (expiry : Option ℕ) (payload : List ℕ) → length payload ≤ 1000 → message_size expiry no_properties payload ≤ largest
-small_message None payload h = omega (arith, digits_le 4 0, length-append (varint 0) [])
-small_message (Some n) payload h = simp length-append (omega (arith, digits_le 4 5))
+pub large_message : (expiry : Option ℕ) (payload : List ℕ) → length payload ≤ 262000 → message_size expiry no_properties payload ≤ MAX_PACKET_SIZE
+large_message None payload h = omega (arith, digits_le 4 0, length-append (varint 0) [])
+large_message (Some n) payload h = simp length-append (omega (arith, digits_le 4 5))
+
+pub small_message : (expiry : Option ℕ) (payload : List ℕ) → length payload ≤ 1000 → message_size expiry no_properties payload ≤ MAX_PACKET_SIZE
+small_message expiry payload h = large_message expiry payload (omega (arith, h))

@@ -1,2 +1,2 @@
 -- No property at all.
-pub use Rattle.rs_field.specs.Values.{no_properties}
+pub use Rattle.rs_packet.specs.Fields.{no_properties}

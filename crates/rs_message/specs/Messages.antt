@@ -1,6 +1,6 @@
 -- Retained messages: sections 3.3.1.3 and 3.3.2.3.3 of OASIS MQTT Version 5.0.
 use Rattle.std.specs.Prelude.{◌≢◌, ℕ, ◌-◌, ◌≤◌, Bool, true, false, nat_le, if◌then◌else◌, List, [], ◌∷◌, Option, Some, None}
-use Rattle.rs_packet.specs.Grammar.{largest}
+use Rattle.rs_packet.specs.declared.limits.TheConstants.{MAX_PACKET_SIZE}
 use Rattle.rs_packet.specs.Replies.{message_size}
 use Rattle.rs_message.specs.Values.{MessageValue}
 use Rattle.rs_message.specs.declared.message.Remaining.{Remaining}
@@ -8,14 +8,14 @@ use Rattle.rs_message.specs.declared.message.Remaining.TheVariants.{Forever, Lef
 use Rattle.rs_message.specs.declared.entry.Operation.{Operation}
 use Rattle.rs_message.specs.declared.entry.Operation.TheVariants.{Set, Clear}
 
--- a message that is kept has a payload, which with its properties takes no more bytes than a packet has
+-- a retained message has a payload, which with its properties takes no more bytes than a packet may have
 pub record IsKept (m : MessageValue) : Type 0 where
   pub some : m.payload ≢ []
-  pub fits : message_size m.expiry m.properties m.payload ≤ largest
+  pub fits : message_size m.expiry m.properties m.payload ≤ MAX_PACKET_SIZE
 
 -- ---- 3.3.2.3.3: expiry
 
--- the seconds since a message came, 0 where the clock stands before that
+-- the seconds since a message came, 0 if the clock is before that
 abbrev pub waited : MessageValue → ℕ → ℕ
 waited m now = now - m.received
 

@@ -1,7 +1,7 @@
 //! The entries of the store's history.
 
 ghost use Rattle.std.specs.Prelude.{◌≡◌, ◌+◌, ◌<◌, ◌≤◌, ◌&&◌, nat_lt, nat_le, if◌then◌else◌, Some, None, IfOk, length};
-ghost use Rattle.rs_packet.specs.Grammar.{largest};
+ghost use Rattle.rs_packet.specs.declared.limits.TheConstants.{MAX_PACKET_SIZE};
 ghost use Rattle.rs_packet.specs.Replies.{message_size};
 ghost use Rattle.rs_message.specs.Messages.{operation_of};
 
@@ -12,7 +12,10 @@ use rs_topic::TopicName;
 use std::alloc::AllocError;
 use std::marker::Model;
 
-/// Where an entry came from: a place, 1 to 64, and a serial, which rises at that place from 1.
+/// The greatest number of a place (this server's choice). The first place is 1.
+pub const MAX_PLACES: u8 = 64;
+
+/// Where an entry came from: a place, 1 to [`MAX_PLACES`], and a serial number from 1 on, which rises at each place.
 #[derive(Clone, Copy, PartialEq, Eq)]
 pub struct Origin {
     place: u8,
@@ -21,38 +24,39 @@ pub struct Origin {
 
 impl Model for Origin {
     ghost use Rattle.std.specs.Prelude.{ℕ, ◌<◌, ◌≤◌};
+    ghost use Rattle.rs_message.specs.declared.entry.TheConstants.{MAX_PLACES};
     ghost use Rattle.rs_message.specs.Values.{OriginValue};
 
     ghost Value = { OriginValue };
 
     ghost view = { λ o. record { place = o.place; serial = o.serial } };
 
-    ghost invariant = { λ o. (0 < o.place) × (o.place ≤ 64) × (0 < o.serial) };
+    ghost invariant = { λ o. (0 < o.place) × (o.place ≤ MAX_PLACES) × (0 < o.serial) };
 
     ghost inverse = { λ v. record { place = v.place; serial = v.serial } };
 }
 
 impl Origin {
-    /// None where the place is not 1 to 64, or the serial is 0.
+    /// None if the place is not 1 to [`MAX_PLACES`], or the serial is 0.
     pub fn new(place: u8, serial: u64) -> Option<Origin>
-        ensures { result ≡ (if nat_lt 0 place && nat_le place 64 && nat_lt 0 serial then Some (record { place = place; serial = serial }) else None) }
+        ensures { result ≡ (if nat_lt 0 place && nat_le place MAX_PLACES && nat_lt 0 serial then Some (record { place = place; serial = serial }) else None) }
     {
-        if 0 < place && place <= 64 && 0 < serial {
+        if 0 < place && place <= MAX_PLACES && 0 < serial {
             return Some(Origin { place, serial });
         }
         None
     }
 
-    /// The place, 1 to 64.
+    /// The place, 1 to [`MAX_PLACES`].
     pub fn place(self) -> u8
         ensures value { result ≡ self.place }
         ensures some { 0 < result }
-        ensures small { result ≤ 64 }
+        ensures small { result ≤ MAX_PLACES }
     {
         self.place
     }
 
-    /// The serial, which is not 0.
+    /// The serial number, at least 1.
     pub fn serial(self) -> u64
         ensures value { result ≡ self.serial }
         ensures some { 0 < result }
@@ -61,17 +65,17 @@ impl Origin {
     }
 }
 
-/// A change of a topic's retained message: section 3.3.1.3.
+/// A change of a topic's retained message (3.3.1.3).
 #[derive(Drop, PartialEq, Eq)]
 pub enum Operation {
-    /// The message is the topic's retained message from now on, in place of any other.
+    /// The message becomes the topic's retained message, in place of any other.
     Set(TopicName, Message),
-    /// The topic has no retained message any more.
+    /// The topic has no retained message from now on.
     Clear(TopicName),
 }
 
 impl Operation {
-    /// An equal operation, which shares the bytes. Refused only for want of memory.
+    /// An equal operation, which shares the bytes. The error says that memory was refused.
     pub fn copy(&self) -> Result<Operation, AllocError>
         ensures { IfOk result (λ o. o ≡ self.now) }
     {
@@ -81,9 +85,9 @@ impl Operation {
         }
     }
 
-    /// What a PUBLISH does (3.3.1.3): with a payload its message is kept, with an empty one the topic is cleared,
-    /// without RETAIN nothing changes. `received` is the moment of the packet, in seconds. The topic, the payload and the
-    /// properties are moved into it, so it takes no memory, and holds just the bytes that they share.
+    /// What a PUBLISH changes (3.3.1.3): with a payload it sets the topic's message, with an empty one it clears the topic,
+    /// and None without RETAIN. `received` is when the packet came, and `expiry` its Message Expiry Interval, both in seconds.
+    /// Topic, payload and properties are moved, so it takes no memory.
     pub fn of(
         retain: bool,
         topic: TopicName,
@@ -93,7 +97,7 @@ impl Operation {
         expiry: Option<u32>,
         properties: Properties,
     ) -> Option<Operation>
-        requires { message_size expiry properties payload ≤ largest }
+        requires { message_size expiry properties payload ≤ MAX_PACKET_SIZE }
         ensures { result ≡ operation_of retain topic (record { payload = payload; qos = qos; received = received; expiry = expiry; properties = properties }) }
     {
         if !retain {
@@ -107,7 +111,7 @@ impl Operation {
     }
 }
 
-/// One change of the store, and where it came from.
+/// One change of the store and its origin.
 #[derive(Drop, PartialEq, Eq)]
 pub struct Entry {
     /// Where it came from.
@@ -117,7 +121,7 @@ pub struct Entry {
 }
 
 impl Entry {
-    /// An equal entry, which shares the bytes. Refused only for want of memory.
+    /// An equal entry, which shares the bytes. The error says that memory was refused.
     pub fn copy(&self) -> Result<Entry, AllocError>
         ensures { IfOk result (λ e. e ≡ self.now) }
     {

@@ -8,34 +8,28 @@ use thiserror::Error;
 /// Why a gate to the store gave no receipt for a change.
 #[derive(Clone, Copy, Debug, PartialEq, Eq, Error)]
 pub enum SubmitFault {
-    /// 40: no entry was made, since the store is full or the serials of the place are used up.
+    /// No entry was made: the store is full, or the place has used its last serial number.
     #[error("the store holds as many topics as it may, or has no number left; clear a topic or raise the limit")]
-    Full,
-    /// 41: no entry was made.
+    Full = 40,
+    /// Out of memory; no entry was made.
     #[error("memory was refused, and nothing was stored; free memory and try again")]
-    NoMemory,
-    /// 42: the change may become an entry, at most once.
+    NoMemory = 41,
+    /// No receipt came; the change may still become an entry, at most once.
     #[error("the store gave no receipt; the change may still be made, once")]
-    Open,
-    /// 43: what came back was for another change.
+    Open = 42,
+    /// The receipt was for another change.
     #[error("the store answered for another change; whether this one was made is not known")]
-    Strange,
-    /// 44: no entry was made.
+    Strange = 43,
+    /// The gate is closed; no entry was made.
     #[error("the store takes no more changes; start it again")]
-    Closed,
+    Closed = 44,
 }
 
 impl SubmitFault {
-    /// 40 to 44.
+    /// The number of the fault, 40 to 44.
     pub fn code(&self) -> u8
         ensures { result ≡ code_of self.now }
     {
-        match self {
-            SubmitFault::Full => 40,
-            SubmitFault::NoMemory => 41,
-            SubmitFault::Open => 42,
-            SubmitFault::Strange => 43,
-            SubmitFault::Closed => 44,
-        }
+        *self as u8
     }
 }

@@ -1,7 +1,7 @@
 //! Retained messages.
 
 ghost use Rattle.std.specs.Prelude.{◌≡◌, ◌≢◌, ◌≤◌, [], Some, IfOk};
-ghost use Rattle.rs_packet.specs.Grammar.{largest};
+ghost use Rattle.rs_packet.specs.declared.limits.TheConstants.{MAX_PACKET_SIZE};
 ghost use Rattle.rs_packet.specs.Replies.{message_size};
 ghost use Rattle.rs_message.specs.Messages.{left_of, remaining_of, IsKept};
 
@@ -10,8 +10,7 @@ use rs_packet::{Properties, Qos};
 use std::alloc::AllocError;
 use std::marker::Model;
 
-/// A retained message. Its payload is not empty, and payload and properties take at most 262,144
-/// bytes in a PUBLISH.
+/// A retained message. Its payload is not empty, and payload and properties together are no longer than a packet may be.
 #[derive(Drop)]
 pub struct Message {
     payload: Bytes,
@@ -28,24 +27,25 @@ impl Model for Message {
     ghost Value = { MessageValue };
 
     ghost use Rattle.rs_message.specs.Messages.{IsKept};
+    ghost use Rattle.rs_message.specs.Views.{message_view};
 
-    ghost view = { λ m. record { payload = m.payload; qos = m.qos; received = m.received; expiry = m.expiry; properties = m.properties } };
+    ghost view = { message_view };
 
-    ghost invariant = { λ m. IsKept (record { payload = m.payload; qos = m.qos; received = m.received; expiry = m.expiry; properties = m.properties }) };
+    ghost invariant = { λ m. IsKept (message_view m) };
 }
 
-/// How long a message still has: section 3.3.2.3.3.
+/// The time that a message has left (3.3.2.3.3).
 #[derive(Clone, Copy, Debug, PartialEq, Eq)]
 pub enum Remaining {
-    /// It has no Message Expiry Interval.
+    /// It has no Message Expiry Interval and does not expire.
     Forever,
-    /// The seconds that are left, at least 1.
+    /// It expires in so many seconds, at least 1.
     Left(u32),
     /// Its interval has passed.
     Expired,
 }
 
-/// What is left of an interval after so many seconds.
+/// What is left of an interval after `waited` seconds.
 fn left_of(expiry: u32, waited: u64) -> Remaining
     ensures { result ≡ left_of (Some expiry) waited }
 {
@@ -56,8 +56,8 @@ fn left_of(expiry: u32, waited: u64) -> Remaining
 }
 
 impl Message {
-    /// A message that was received at a moment, in seconds. Its payload is not empty, and payload and properties take at most
-    /// 262,144 bytes in a PUBLISH.
+    /// A message that came at `received`, in seconds, with a Message Expiry Interval of `expiry` seconds or none (3.3.2.3.3).
+    /// It takes no memory.
     pub fn new(
         payload: Bytes,
         qos: Qos,
@@ -66,7 +66,7 @@ impl Message {
         properties: Properties,
     ) -> Message
         requires some { payload ≢ [] }
-        requires fits { message_size expiry properties payload ≤ largest }
+        requires fits { message_size expiry properties payload ≤ MAX_PACKET_SIZE }
         ensures { result ≡ record { payload = payload; qos = qos; received = received; expiry = expiry; properties = properties } }
     {
         Message {
@@ -86,14 +86,14 @@ impl Message {
         &self.payload
     }
 
-    /// The quality of service that it was published with.
+    /// The QoS that it was published with.
     pub fn qos(&self) -> Qos
         ensures { result ≡ self.now.qos }
     {
         self.qos
     }
 
-    /// The moment when it came, in seconds.
+    /// When it came, in seconds.
     pub fn received(&self) -> u64
         ensures { result ≡ self.now.received }
     {
@@ -107,14 +107,14 @@ impl Message {
         self.expiry
     }
 
-    /// The other properties that it keeps.
+    /// The properties that it keeps (3.3.2.3), without its interval.
     pub fn properties(&self) -> &Properties
         ensures { result.now ≡ self.now.properties }
     {
         &self.properties
     }
 
-    /// How long it still has at a moment, in seconds (3.3.2.3.3).
+    /// The time that it has left at `now`, in seconds (3.3.2.3.3). If `now` is before it came, the whole interval is left.
     pub fn remaining(&self, now: u64) -> Remaining
         ensures { result ≡ remaining_of self.now now }
     {
@@ -124,8 +124,8 @@ impl Message {
         }
     }
 
-    /// An equal message, which shares the payload and the properties: no byte of them is copied, whatever their size.
-    /// Refused only for want of memory.
+    /// An equal message, which shares the payload and the properties: none of their bytes is copied. The error says that
+    /// memory was refused.
     pub fn copy(&self) -> Result<Message, AllocError>
         ensures { IfOk result (λ m. m ≡ self.now) }
     {

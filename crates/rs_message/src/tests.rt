@@ -2,7 +2,7 @@
 
 ghost use Rattle.std.specs.Prelude.{◌≢◌, ◌≤◌, [], length};
 
-use crate::{Entry, Message, Operation, Origin, Remaining, SubmitFault};
+use crate::{Entry, MAX_PLACES, Message, Operation, Origin, Remaining, SubmitFault};
 use bytes::Bytes;
 use rs_packet::{Properties, Qos};
 use rs_topic::TopicName;
@@ -48,9 +48,9 @@ fn interval_of_0_and_none(rt: HostRuntime) -> Result<(), Fail> {
 fn origins(rt: HostRuntime) -> Result<(), Fail> {
     assert!(rt; Origin::new(0, 1).is_none());
     assert!(rt; Origin::new(1, 0).is_none());
-    assert!(rt; Origin::new(65, 1).is_none());
-    let origin = Origin::new(64, u64::MAX).ok_or("64 is a place")?;
-    assert_eq!(rt; origin.place(), 64);
+    assert!(rt; Origin::new(MAX_PLACES + 1, 1).is_none());
+    let origin = Origin::new(MAX_PLACES, u64::MAX).ok_or("it is a place")?;
+    assert_eq!(rt; origin.place(), MAX_PLACES);
     assert_eq!(rt; origin.serial(), u64::MAX);
     Ok(())
 }
@@ -185,8 +185,62 @@ fn parts(rt: HostRuntime) -> Result<(), Fail> {
     Ok(())
 }
 
+/// A message with this payload and interval, which came as late as can be said.
+#[tactic(auto, using(crate::proofs::Sizes::large_message))]
+fn of_payload(alloc: Global, payload: &[u8], expiry: Option<u32>) -> Result<Message, AllocError>
+    requires some { payload.now ≢ [] }
+    requires fits { length payload.now ≤ 262000 }
+{
+    let payload = Bytes::copy_from_slice(alloc, payload)?;
+    Ok(Message::new(
+        payload,
+        Qos::ExactlyOnce,
+        u64::MAX,
+        expiry,
+        Properties::none(),
+    ))
+}
+
+/// The largest payload that the tests send.
+fn large_payload(alloc: Global) -> Result<Vec<u8>, AllocError> {
+    let mut bytes = Vec::new(alloc);
+    for _ in 0..262_000 {
+        bytes.push(b'x')?;
+    }
+    Ok(bytes)
+}
+
+fn large_message(alloc: Global) -> Result<Message, Fail> {
+    let payload = large_payload(alloc)?;
+    if payload.is_empty() || payload.len() > 262_000 {
+        return Err(Fail::from("the payload has another size"));
+    }
+    Ok(of_payload(alloc, &payload, Some(u32::MAX))?)
+}
+
 #[test]
-fn codes(rt: HostRuntime) -> Result<(), Fail> {
+fn a_large_message_is_copied(rt: HostRuntime) -> Result<(), Fail> {
+    let message = large_message(rt.alloc())?;
+    assert_eq!(rt; message.payload().len(), 262_000);
+    let copy = message.copy()?;
+    assert!(rt; copy == message);
+    assert_eq!(rt; copy.received(), u64::MAX);
+    assert_eq!(rt; copy.expiry(), Some(u32::MAX));
+    Ok(())
+}
+
+#[test]
+fn an_entry_of_a_large_message_is_copied(rt: HostRuntime) -> Result<(), Fail> {
+    let origin = Origin::new(MAX_PLACES, u64::MAX).ok_or("it is a place")?;
+    let topic = TopicName::read(rt.alloc(), b"a/b")?;
+    let operation = Operation::Set(topic, large_message(rt.alloc())?);
+    let entry = Entry { origin, operation };
+    assert!(rt; is_copied(&entry)?);
+    Ok(())
+}
+
+#[test]
+fn faults_have_codes_and_texts(rt: HostRuntime) -> Result<(), Fail> {
     let rows: [(SubmitFault, u8, &str); 5] = [
         (
             SubmitFault::Full,

@@ -1,16 +1,12 @@
--- Fitting, and the order of replay, as tests and as facts.
-use Rattle.std.proofs.Common.{◌≡◌, ℕ, Bool, true, false, ◌&&◌, ◌||◌, List, [], ◌∷◌, refl, sym, ◌∙◌, subst}
+-- Fitting and matching, as tests and as facts.
+use Rattle.std.proofs.Common.{◌≡◌, ℕ, Bool, true, false, not, ◌&&◌, ◌||◌, ◌⊎◌, inl, inr, ⊎_elim, List, [], ◌∷◌, refl, sym, ◌∙◌, subst}
 use Rattle.std.specs.Prelude.{◌↔◌, IsTrue}
+use Rattle.std.specs.Bool.{Decides, one_answer}
 use Rattle.std.specs.Str.{bytes_eq}
+use Rattle.std.proofs.lemmas.Bool.Decides.{Decides-eqb}
 use Rattle.std.proofs.lemmas.Slice.Eq.{bytes_eq-Decides}
-use Rattle.rs_topic.specs.Topics.{plus, hash, is_end}
-use Rattle.rs_topic.specs.Matching.{Fits, ended, all_below, any_level, same_level}
-
--- the cases of fitting, as a test
-abbrev pub fits : List (List ℕ) → List (List ℕ) → Bool
-fits [] name = is_end name
-fits (wanted ∷ more) [] = bytes_eq wanted (hash ∷ []) && is_end more
-fits (wanted ∷ more) (level ∷ below) = (bytes_eq wanted (hash ∷ []) && is_end more) || ((bytes_eq wanted (plus ∷ []) || bytes_eq wanted level) && fits more below)
+use Rattle.rs_topic.specs.Topics.{plus, hash, dollar, levels, is_end}
+use Rattle.rs_topic.specs.Matching.{Fits, ended, all_below, any_level, same_level, BeginsWild, BeginsWithDollar, Matches, fits, is_wild, begins_with_dollar, matches}
 
 both : (a b : Bool) → (a && b) ≡ true → (a ≡ true) × (b ≡ true)
 both true b e = (refl, e)
@@ -56,3 +52,48 @@ test_from_fits (wanted ∷ more) (level ∷ below) (same_level h) =
 
 pub fits_decides : (filter name : List (List ℕ)) (r : Bool) → r ≡ fits filter name → IsTrue r ↔ Fits filter name
 fits_decides filter name r e = ((λ h. fits_from_test filter name (sym e ∙ h)), (λ h. e ∙ test_from_fits filter name h))
+
+-- ---- matching
+
+either : (a b : Bool) → (a || b) ≡ true → (a ≡ true) ⊎ (b ≡ true)
+either true b e = inl refl
+either false b e = inr e
+
+or_left : (a b : Bool) → a ≡ true → (a || b) ≡ true
+or_left true b e = refl
+or_left false b e = absurd cc
+
+and_true : (a b : Bool) → a ≡ true → b ≡ true → (a && b) ≡ true
+and_true true b e h = h
+and_true false b e h = absurd cc
+
+wild_is : (parts : List (List ℕ)) → (is_wild parts ≡ true → BeginsWild parts) × (BeginsWild parts → is_wild parts ≡ true)
+wild_is [] = (λ e. absurd cc, λ h. absurd h)
+wild_is (p ∷ ps) = (
+  λ e. ⊎_elim (λ h. inl ((bytes_eq-Decides p (plus ∷ [])).0 h)) (λ h. inr ((bytes_eq-Decides p (hash ∷ [])).0 h)) (either (bytes_eq p (plus ∷ [])) (bytes_eq p (hash ∷ [])) e),
+  λ w. ⊎_elim (λ h. or_left (bytes_eq p (plus ∷ [])) (bytes_eq p (hash ∷ [])) ((bytes_eq-Decides p (plus ∷ [])).1 h)) (λ h. or_right (bytes_eq p (plus ∷ [])) (bytes_eq p (hash ∷ [])) ((bytes_eq-Decides p (hash ∷ [])).1 h)) w,
+)
+
+dollar_is : (text : List ℕ) → (begins_with_dollar text ≡ true → BeginsWithDollar text) × (BeginsWithDollar text → begins_with_dollar text ≡ true)
+dollar_is [] = (λ e. absurd cc, λ h. absurd h)
+dollar_is (c ∷ cs) = Decides-eqb c dollar
+
+neither : (a b : Bool) → not (a && b) ≡ true → a ≡ true → b ≡ true → ⊥
+neither true true e x y = cc
+neither true false e x y = cc
+neither false b e x y = cc
+
+not_both : (a b : Bool) → (a ≡ true → b ≡ true → ⊥) → not (a && b) ≡ true
+not_both true true h = absurd (h refl refl)
+not_both true false h = refl
+not_both false b h = refl
+
+pub Decides-matches : (filter topic : List ℕ) → Decides (matches filter topic) (Matches filter topic)
+Decides-matches filter topic = (
+  λ e. let h = both (fits (levels filter) (levels topic)) (not (is_wild (levels filter) && begins_with_dollar topic)) e in
+      (fits_from_test (levels filter) (levels topic) h.0, λ w. neither (is_wild (levels filter)) (begins_with_dollar topic) h.1 ((wild_is (levels filter)).1 w.0) ((dollar_is topic).1 w.1)),
+  λ m. and_true (fits (levels filter) (levels topic)) (not (is_wild (levels filter) && begins_with_dollar topic)) (test_from_fits (levels filter) (levels topic) m.0) (not_both (is_wild (levels filter)) (begins_with_dollar topic) (λ w d. m.1 ((wild_is (levels filter)).0 w, (dollar_is topic).0 d))),
+)
+
+pub matches_from_call : (filter topic : List ℕ) (r : Bool) → (IsTrue r ↔ Matches filter topic) → r ≡ matches filter topic
+matches_from_call filter topic r h = one_answer r (matches filter topic) h (Decides-matches filter topic)

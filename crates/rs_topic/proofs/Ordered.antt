@@ -10,7 +10,7 @@ use Rattle.std.proofs.lemmas.Map.Lookups.{CmpEqualImpliesEq, exact_bytes, exact_
 use Rattle.rs_topic.specs.Topics.{levels}
 use Rattle.rs_topic.specs.Order.{ComesBefore, shorter, here, later, topic_cmp, IsReplayedBefore}
 
--- a comparison answers `Less` where the relation holds, ties a value with itself, and no two others
+-- a comparison answers `Less` if the relation holds, ties a value with itself, and no two others
 before_from_less : {X : Type 0} (R : X → X → Ordering) (IsLess : X → X → Type 0) → CmpEqualImpliesEq R → ((x y : X) → R x y ≡ Less → IsLess x y) → (xs ys : List X) → slice_cmp R xs ys ≡ Less → ComesBefore IsLess xs ys
 before_from_less R IsLess exact less [] [] h = absurd (cc (h))
 before_from_less R IsLess exact less [] (y ∷ ys) h = shorter

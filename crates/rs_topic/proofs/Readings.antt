@@ -11,8 +11,9 @@ use Rattle.std.proofs.lemmas.Slice.Eq.{bytes_eq-Decides}
 use Rattle.std.proofs.lemmas.List.{take-append-drop}
 use Rattle.std.proofs.Math.Seq.{take-append_seam}
 use Rattle.rs_topic.specs.Texts.{IsText}
-use Rattle.rs_topic.specs.Topics.{plus, hash, share, levels, most_levels, has, is_end, level_fits, wildcards_fit, has_fault, first_fault, unless, text_faults, name_faults, filter_faults, name_faults_of_text, filter_faults_of_text, read_text, read_name, read_filter, name_of, filter_of}
+use Rattle.rs_topic.specs.Topics.{plus, hash, share, levels, has, is_end, level_fits, wildcards_fit, has_fault, first_fault, unless, text_faults, name_faults, filter_faults, name_faults_of_text, filter_faults_of_text, read_text, read_name, read_filter, name_of, filter_of}
 use Rattle.rs_topic.specs.Meanings.{IsTopicName, IsTopicFilter, IsShared, WildcardsFill, Faulty, IsFirst, here, later, Judges, Reads, IsReadAs}
+use Rattle.rs_topic.specs.declared.limits.TheConstants.{MAX_TEXT_SIZE, MAX_LEVELS}
 use Rattle.rs_topic.specs.declared.text.TopicFault.{TopicFault}
 use Rattle.rs_topic.specs.declared.text.TopicFault.TheVariants.{Empty, TooLong, NotUtf8, HasNul, HasWildcard, BadWildcard, TooManyLevels, Shared, NoMemory}
 
@@ -99,12 +100,12 @@ share_decides bytes = (
 
 pub tells : (bytes : List ℕ) (fault : TopicFault) → Decides (has_fault bytes fault) (Faulty bytes fault)
 tells bytes Empty = Decides-eqb (length bytes) 0
-tells bytes TooLong = Decides-like (nat_lt 65535 (length bytes)) (λ h. omega (arith, h)) (λ h. omega (arith, h)) (Decides-ltb 65535 (length bytes))
+tells bytes TooLong = Decides-like (nat_lt MAX_TEXT_SIZE (length bytes)) (λ h. omega (arith, h)) (λ h. omega (arith, h)) (Decides-ltb 65535 (length bytes))
 tells bytes NotUtf8 = Decides-not (is_utf8 bytes) (utf8_decides bytes)
 tells bytes HasNul = (λ h. h, λ h. h)
 tells bytes HasWildcard = Decides-or (has plus bytes) (has hash bytes) (λ h. h, λ h. h) (λ h. h, λ h. h)
 tells bytes BadWildcard = Decides-not (wildcards_fit (levels bytes)) (fill_decides (levels bytes))
-tells bytes TooManyLevels = Decides-ltb most_levels (length (levels bytes))
+tells bytes TooManyLevels = Decides-ltb MAX_LEVELS (length (levels bytes))
 tells bytes Shared = share_decides bytes
 tells bytes NoMemory = (λ h. absurd (cc (h)), λ h. absurd h)
 
@@ -188,7 +189,7 @@ name_when bytes t w = record {
   some = none (length bytes) w.0;
   no_plus = unsure (has plus bytes) (λ h. w.1.0 (inl h));
   no_hash = unsure (has hash bytes) (λ h. w.1.0 (inr h));
-  few_levels = at_most (length (levels bytes)) most_levels w.1.1.0;
+  few_levels = at_most (length (levels bytes)) MAX_LEVELS w.1.1.0;
 }
 
 not_empty : (n : ℕ) → 0 < n → ¬ (n ≡ 0)
@@ -202,7 +203,7 @@ no_wildcard bytes n (inl h) = not_both (has plus bytes) n.no_plus h
 no_wildcard bytes n (inr h) = not_both (has hash bytes) n.no_hash h
 
 name_without_of_text : (bytes : List ℕ) → IsTopicName bytes → Without bytes name_faults_of_text
-name_without_of_text bytes n = (not_empty (length bytes) n.some, (no_wildcard bytes n, (not_many (length (levels bytes)) most_levels n.few_levels, tt)))
+name_without_of_text bytes n = (not_empty (length bytes) n.some, (no_wildcard bytes n, (not_many (length (levels bytes)) MAX_LEVELS n.few_levels, tt)))
 
 name_from : (bytes : List ℕ) → Without bytes name_faults → IsTopicName bytes
 name_from bytes w = name_when bytes (is_text_from bytes w.1.0 w.1.1.0 w.1.1.1.0) (w.0, w.1.1.1.1)
@@ -217,7 +218,7 @@ filter_when bytes t w = record {
   is_text = t;
   some = none (length bytes) w.0;
   wildcards = fills (wildcards_fit (levels bytes)) (fill_decides (levels bytes)) w.1.1.0;
-  few_levels = at_most (length (levels bytes)) most_levels w.1.1.1.0;
+  few_levels = at_most (length (levels bytes)) MAX_LEVELS w.1.1.1.0;
   not_shared = w.1.0;
 }
   where
@@ -226,7 +227,7 @@ filter_when bytes t w = record {
     fills false d h = absurd (h (not_from_Decides false d refl))
 
 filter_without_of_text : (bytes : List ℕ) → IsTopicFilter bytes → Without bytes filter_faults_of_text
-filter_without_of_text bytes n = (not_empty (length bytes) n.some, (n.not_shared, ((λ h. h n.wildcards), (not_many (length (levels bytes)) most_levels n.few_levels, tt))))
+filter_without_of_text bytes n = (not_empty (length bytes) n.some, (n.not_shared, ((λ h. h n.wildcards), (not_many (length (levels bytes)) MAX_LEVELS n.few_levels, tt))))
 
 filter_from : (bytes : List ℕ) → Without bytes filter_faults → IsTopicFilter bytes
 filter_from bytes w = filter_when bytes (is_text_from bytes w.1.0 w.1.1.0 w.1.1.1.0) (w.0, w.1.1.1.1)
@@ -389,7 +390,7 @@ filter_denied bytes h = denied filter_faults bytes h
 pub filter_denied_for : (bytes : List ℕ) → None ≡ first_fault filter_faults bytes → Reads IsTopicFilter filter_faults bytes (Err NoMemory)
 filter_denied_for bytes h = inl (refl, filter_read_is bytes h)
 
--- a copy of the bytes of a text, or want of memory
+-- a copy of the bytes of a text, or NoMemory
 pub text_copied : (bytes : List ℕ) (copy : Result (List ℕ) TopicFault) → None ≡ first_fault text_faults bytes → MatchResult copy (λ t. t ≡ bytes) (λ fault. fault ≡ NoMemory) → IsReadAs (read_text bytes) copy
 text_copied bytes (Ok t) h m = rw m (text_found bytes h)
 text_copied bytes (Err fault) h m = rw m (text_denied bytes h)

@@ -1,9 +1,10 @@
 -- What ties the definitions to one another.
-use Rattle.std.specs.Prelude.{◌≡◌, ◌↔◌, ℕ, ◌<◌, false, List, length, All}
+use Rattle.std.specs.Prelude.{◌≡◌, ◌↔◌, ℕ, ◌<◌, false, IsTrue, List, length, All}
 use Rattle.std.specs.List.{join_with_byte}
 use Rattle.std.specs.declared.cmp.Ordering.TheVariants.{Less}
 use Rattle.rs_topic.specs.Texts.{IsText}
 use Rattle.rs_topic.specs.Topics.{slash, has, levels, name_faults_of_text, filter_faults_of_text, name_of, filter_of}
+use Rattle.rs_topic.specs.Matching.{Matches, matches}
 use Rattle.rs_topic.specs.Meanings.{IsTopicName, IsTopicFilter, Judges}
 use Rattle.rs_topic.specs.Order.{topic_cmp, IsReplayedBefore}
 
@@ -19,6 +20,10 @@ AreTheLevels = (text : List ℕ) → AreLevels text (levels text) × ((parts : L
 
 abbrev pub IsTheOrderOfReplay : Type 0
 IsTheOrderOfReplay = (a b : List ℕ) → (topic_cmp a b ≡ Less) ↔ IsReplayedBefore a b
+
+-- the test answers true for what the relation relates, and for nothing else
+abbrev pub TestsMatches : Type 0
+TestsMatches = (filter name : List ℕ) → IsTrue (matches filter name) ↔ Matches filter name
 
 -- what a text is judged to be
 abbrev pub JudgesNames : Type 0

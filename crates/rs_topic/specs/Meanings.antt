@@ -1,9 +1,10 @@
 -- Texts, topic names, topic filters and their faults, in the words of the standard. The number of a section is that of OASIS MQTT Version 5.0.
-use Rattle.std.specs.Prelude.{◌≡◌, ℕ, ◌+◌, ◌<◌, ◌≤◌, ◌^◌, false, IsTrue, ◌⊎◌, List, [], ◌∷◌, ◌++◌, length, Some, Result, Err, IsOk, MatchResult}
+use Rattle.std.specs.Prelude.{◌≡◌, ℕ, ◌+◌, ◌<◌, ◌≤◌, false, IsTrue, ◌⊎◌, List, [], ◌∷◌, ◌++◌, length, Some, Result, Err, IsOk, MatchResult}
 use Rattle.std.specs.List.{slice_get}
 use Rattle.std.specs.Str.{IsUtf8}
 use Rattle.rs_topic.specs.Texts.{IsText}
-use Rattle.rs_topic.specs.Topics.{plus, hash, share, levels, most_levels, has}
+use Rattle.rs_topic.specs.Topics.{plus, hash, share, levels, has}
+use Rattle.rs_topic.specs.declared.limits.TheConstants.{MAX_TEXT_SIZE, MAX_LEVELS}
 use Rattle.rs_topic.specs.declared.text.TopicFault.{TopicFault}
 use Rattle.rs_topic.specs.declared.text.TopicFault.TheVariants.{Empty, TooLong, NotUtf8, HasNul, HasWildcard, BadWildcard, TooManyLevels, Shared, NoMemory}
 
@@ -13,7 +14,7 @@ pub record IsTopicName (name : List ℕ) : Type 0 where
   pub some : 0 < length name
   pub no_plus : has plus name ≡ false
   pub no_hash : has hash name ≡ false
-  pub few_levels : length (levels name) ≤ most_levels
+  pub few_levels : length (levels name) ≤ MAX_LEVELS
 
 -- 4.7.1.2, 4.7.1.3: a level that contains a plus is a plus; one that contains a hash is a hash, and the last
 pub record WildcardsFill (parts : List (List ℕ)) : Type 0 where
@@ -30,18 +31,18 @@ pub record IsTopicFilter (filter : List ℕ) : Type 0 where
   pub is_text : IsText filter
   pub some : 0 < length filter
   pub wildcards : WildcardsFill (levels filter)
-  pub few_levels : length (levels filter) ≤ most_levels
+  pub few_levels : length (levels filter) ≤ MAX_LEVELS
   pub not_shared : ¬ IsShared filter
 
 -- the bytes have this fault; NoMemory is none of theirs
 abbrev pub Faulty : List ℕ → TopicFault → Type 0
 Faulty bytes Empty = length bytes ≡ 0
-Faulty bytes TooLong = 2 ^ 16 ≤ length bytes
+Faulty bytes TooLong = MAX_TEXT_SIZE < length bytes
 Faulty bytes NotUtf8 = ¬ IsUtf8 bytes
 Faulty bytes HasNul = IsTrue (has 0 bytes)
 Faulty bytes HasWildcard = IsTrue (has plus bytes) ⊎ IsTrue (has hash bytes)
 Faulty bytes BadWildcard = ¬ WildcardsFill (levels bytes)
-Faulty bytes TooManyLevels = most_levels < length (levels bytes)
+Faulty bytes TooManyLevels = MAX_LEVELS < length (levels bytes)
 Faulty bytes Shared = IsShared bytes
 Faulty bytes NoMemory = ⊥
 
@@ -54,10 +55,10 @@ pub data IsFirst {X : Type 0} (P : X → Type 0) : List X → X → Type 0 where
 abbrev pub Judges : (List ℕ → Type 0) → List TopicFault → List ℕ → Result (List ℕ) TopicFault → Type 0
 Judges Is faults text result = MatchResult result (λ got. (got ≡ text) × Is text) (λ fault. (¬ Is text) × IsFirst (Faulty text) faults fault)
 
--- the same where a copy is made, which memory may be refused for
+-- the same if a copy is made, for which memory may be refused
 abbrev pub Reads : (List ℕ → Type 0) → List TopicFault → List ℕ → Result (List ℕ) TopicFault → Type 0
 Reads Is faults bytes result = MatchResult result (λ got. (got ≡ bytes) × Is bytes) (λ fault. ((fault ≡ NoMemory) × Is bytes) ⊎ ((¬ Is bytes) × IsFirst (Faulty bytes) faults fault))
 
--- the answer that is due, or want of memory where that is Ok
+-- the answer that is due, or NoMemory if that is Ok
 abbrev pub IsReadAs : Result (List ℕ) TopicFault → Result (List ℕ) TopicFault → Type 0
 IsReadAs due result = (result ≡ due) ⊎ (IsOk due × (result ≡ Err NoMemory))

@@ -22,6 +22,6 @@ path_cmp = slice_cmp (slice_cmp nat_cmp)
 abbrev pub topic_cmp : List ℕ → List ℕ → Ordering
 topic_cmp a b = path_cmp (levels a) (levels b)
 
--- of two bytes that differ, where all before them is the same: a slash ends a level, and so comes first
+-- two texts whose bytes first differ in these: a slash ends a level, and so comes first
 abbrev pub differing_cmp : ℕ → ℕ → Ordering
 differing_cmp x y = if x == slash then Less else if y == slash then Greater else nat_cmp x y

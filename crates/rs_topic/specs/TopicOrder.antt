@@ -20,7 +20,7 @@ path_total = lists_total nat_list_cmp_total
 pub topic_total : IsTotalOrder topic_cmp
 topic_total = on_total levels path_total
 
--- lists are told apart where their elements are
+-- lists are told apart if their elements are
 pub exact_lists : {X : Type 0} (R : X → X → Ordering) → CmpEqualImpliesEq R → CmpEqualImpliesEq (slice_cmp R)
 exact_lists R exact [] [] h = refl
 exact_lists R exact [] (y ∷ ys) h = absurd (cc (h))

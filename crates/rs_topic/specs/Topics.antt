@@ -2,6 +2,7 @@
 use Rattle.std.specs.Prelude.{ℕ, Bool, true, false, ◌&&◌, ◌||◌, not, nat_lt, nat_eq, ◌==◌, if◌then◌else◌, List, [], ◌∷◌, length, Option, Some, None, Result, Ok, Err}
 use Rattle.std.specs.List.{list_any, starts_with, slice_split}
 use Rattle.std.specs.Str.{bytes_eq, is_utf8}
+use Rattle.rs_topic.specs.declared.limits.TheConstants.{MAX_TEXT_SIZE, MAX_LEVELS}
 use Rattle.rs_topic.specs.declared.text.TopicFault.{TopicFault}
 use Rattle.rs_topic.specs.declared.text.TopicFault.TheVariants.{Empty, TooLong, NotUtf8, HasNul, HasWildcard, BadWildcard, TooManyLevels, Shared, NoMemory}
 
@@ -25,10 +26,6 @@ share = 36 ∷ 115 ∷ 104 ∷ 97 ∷ 114 ∷ 101 ∷ 47 ∷ []
 -- 4.7.1.1: the texts round the slashes, one at least
 abbrev pub levels : List ℕ → List (List ℕ)
 levels text = slice_split (λ c. c == slash) text
-
--- own: a name and a filter have no more
-abbrev pub most_levels : ℕ
-most_levels = 128
 
 abbrev pub has : ℕ → List ℕ → Bool
 has c text = list_any (λ d. d == c) text
@@ -54,12 +51,12 @@ wildcards_fit (level ∷ more) = level_fits level (is_end more) && wildcards_fit
 -- the bytes have this fault; NoMemory is none of theirs
 abbrev pub has_fault : List ℕ → TopicFault → Bool
 has_fault bytes Empty = length bytes == 0
-has_fault bytes TooLong = nat_lt 65535 (length bytes)
+has_fault bytes TooLong = nat_lt MAX_TEXT_SIZE (length bytes)
 has_fault bytes NotUtf8 = not (is_utf8 bytes)
 has_fault bytes HasNul = has 0 bytes
 has_fault bytes HasWildcard = has plus bytes || has hash bytes
 has_fault bytes BadWildcard = not (wildcards_fit (levels bytes))
-has_fault bytes TooManyLevels = nat_lt most_levels (length (levels bytes))
+has_fault bytes TooManyLevels = nat_lt MAX_LEVELS (length (levels bytes))
 has_fault bytes Shared = starts_with nat_eq bytes share
 has_fault bytes NoMemory = false
 

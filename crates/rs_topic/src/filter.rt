@@ -6,6 +6,7 @@ ghost use Rattle.rs_topic.specs.Matching.{Matches};
 ghost use Rattle.rs_topic.specs.Meanings.{IsReadAs, IsTopicFilter, Reads};
 
 use crate::level::{Levels, level_count};
+use crate::limits::MAX_LEVELS;
 use crate::matching::{begins_wild, begins_with_dollar, fits, is_hash, is_plus};
 use crate::name::TopicName;
 use crate::text::{Text, TopicFault, text_fault};
@@ -13,7 +14,7 @@ use std::alloc::{AllocError, Global};
 use std::hash::{Hash, Hasher};
 use std::marker::Model;
 
-/// A wildcard in this level fills it, and a hash stands in the last level (4.7.1.2, 4.7.1.3).
+/// Whether a wildcard in this level is the whole level, and a `#` is in the last one (4.7.1.2, 4.7.1.3).
 fn level_fits(level: &[u8], is_last: bool) -> bool
     ensures { result ≡ level_fits level.now is_last }
 {
@@ -32,7 +33,7 @@ fn wildcards_fit(mut rest: Levels<'_>) -> bool
     true
 }
 
-/// Why a text is no topic filter.
+/// Why a text is not a topic filter.
 fn filter_fault(text: &[u8]) -> Option<TopicFault>
     ensures { result ≡ first_fault filter_faults_of_text text.now }
 {
@@ -45,13 +46,13 @@ fn filter_fault(text: &[u8]) -> Option<TopicFault>
     if !wildcards_fit(Levels::of(text)) {
         return Some(TopicFault::BadWildcard);
     }
-    if level_count(text) > 128 {
+    if level_count(text) > MAX_LEVELS {
         return Some(TopicFault::TooManyLevels);
     }
     None
 }
 
-/// Why bytes are no topic filter.
+/// Why bytes are not a topic filter.
 #[tactic(auto, using(crate::proofs::Readings::filter_faults_split))]
 fn fault_of(bytes: &[u8]) -> Option<TopicFault>
     ensures { result ≡ first_fault filter_faults bytes.now }
@@ -59,9 +60,10 @@ fn fault_of(bytes: &[u8]) -> Option<TopicFault>
     text_fault(bytes).or_else(|| filter_fault(bytes))
 }
 
-/// A text that selects topics: not empty, of at most 128 levels, in which `+` fills a level and `#` the last level, and which
-/// does not begin with `$share/` (4.7.1, 4.7.3, 4.8.2). Filters are compared, and hashed, by their bytes.
-#[derive(Debug, Drop)]
+/// A text that selects topics: not empty, of at most [`MAX_LEVELS`] levels, in which each `+` is a whole level and a `#` is the
+/// whole last level, and which does not begin with `$share/` (4.7.1, 4.7.3, 4.8.2). Filters are compared and hashed by their
+/// bytes.
+#[derive(Debug, Drop, PartialEq, Eq)]
 pub struct TopicFilter {
     text: Text,
 }
@@ -75,10 +77,12 @@ impl Model for TopicFilter {
     ghost view = { λ t. t.text };
 
     ghost invariant = { λ t. IsTopicFilter t.text };
+
+    ghost inverse = { λ v. record { text = v } };
 }
 
 impl TopicFilter {
-    /// The filter that a text is. The bytes are not copied. The faults are tried in the order `Empty`, `Shared`, `BadWildcard`,
+    /// The text as a topic filter. Its bytes are not copied. The error is the first of `Empty`, `Shared`, `BadWildcard`,
     /// `TooManyLevels`.
     #[tactic(auto, using(crate::proofs::Readings::filter_of_none, crate::proofs::Readings::filter_is))]
     pub fn of(text: Text) -> Result<TopicFilter, TopicFault>
@@ -90,8 +94,8 @@ impl TopicFilter {
         }
     }
 
-    /// The filter of a copy of these bytes. The faults are tried in the order `Empty`, `TooLong`, `NotUtf8`, `HasNul`, `Shared`,
-    /// `BadWildcard`, `TooManyLevels`, `NoMemory`, and only the last takes memory.
+    /// A copy of these bytes as a topic filter. The error is the first of `Empty`, `TooLong`, `NotUtf8`, `HasNul`, `Shared`,
+    /// `BadWildcard`, `TooManyLevels`, `NoMemory`; only the copy takes memory.
     #[tactic(auto, using(crate::proofs::Readings::filter_found, crate::proofs::Readings::filter_found_for, crate::proofs::Readings::filter_denied, crate::proofs::Readings::filter_denied_for, crate::proofs::Readings::filter_read_is))]
     pub fn read(alloc: Global, bytes: &[u8]) -> Result<TopicFilter, TopicFault>
         ensures exact { IsReadAs (read_filter bytes.now) result }
@@ -105,8 +109,8 @@ impl TopicFilter {
         }
     }
 
-    /// The filter selects this topic: its levels fit those of the name, and its first level is no wildcard where the name begins
-    /// with `$` (4.7.1, 4.7.2). It goes once along both texts, and takes no memory.
+    /// Whether the filter selects this topic: its levels fit those of the name, and its first level is not a wildcard if the name
+    /// begins with `$` (4.7.1, 4.7.2). It walks once along both texts and takes no memory.
     pub fn matches(&self, name: &TopicName) -> bool
         ensures { IsTrue result ↔ Matches self.now name.now }
     {
@@ -116,7 +120,7 @@ impl TopicFilter {
         fits(self.levels(), name.levels())
     }
 
-    /// An equal filter, which shares the bytes.
+    /// An equal filter, which shares the bytes. The error says that memory was refused.
     pub fn copy(&self) -> Result<TopicFilter, AllocError>
         ensures { IfOk result (λ t. t ≡ self.now) }
     {
@@ -134,33 +138,12 @@ impl TopicFilter {
         self.text.as_bytes()
     }
 
-    /// The levels in their order, at least one and at most 128. Each may be empty.
+    /// The levels in order: at least one, at most [`MAX_LEVELS`]. Each may be empty (4.7.1.1). It takes no memory.
     pub fn levels(&self) -> Levels<'_>
         ensures { result ≡ levels self.now }
     {
         Levels::of(self.text.as_bytes())
     }
-}
-
-impl PartialEq for TopicFilter {
-    ghost use Rattle.std.specs.Prelude.{nat_eq};
-    ghost use Rattle.std.specs.Cmp.Lexicographic.{pointwise};
-    ghost use Rattle.std.proofs.lemmas.Cmp.{nat_list_eq_equiv};
-    ghost use Rattle.std.specs.Cmp.{partial_equiv_from_equiv};
-
-    ghost eq = { pointwise nat_eq };
-
-    ghost laws = { partial_equiv_from_equiv nat_list_eq_equiv };
-
-    fn eq(&self, other: &TopicFilter) -> bool {
-        self.text == other.text
-    }
-}
-
-impl Eq for TopicFilter {
-    ghost use Rattle.std.proofs.lemmas.Cmp.{nat_list_eq_equiv};
-
-    ghost laws = { nat_list_eq_equiv };
 }
 
 impl Hash for TopicFilter {

@@ -8,7 +8,7 @@ ghost use Rattle.rs_topic.specs.Places.{levels_behind};
 
 use std::marker::Model;
 
-/// Where the first level ends.
+/// The index of the first slash, or the length of a text without one.
 #[tactic(auto, using(crate::proofs::LevelLemmas::ends_here, crate::proofs::LevelLemmas::ends_nowhere))]
 fn end_of_level(text: &[u8]) -> usize
     ensures { result ≡ position_or_len (λ c. c == slash) text.now }
@@ -21,7 +21,7 @@ fn end_of_level(text: &[u8]) -> usize
     text.len()
 }
 
-/// The first level of a text, and the text behind its slash.
+/// The first level of a text, and the text after its slash if it has one.
 #[tactic(auto, using(crate::proofs::LevelLemmas::one_level, crate::proofs::LevelLemmas::first_of_more))]
 fn first_level(text: &[u8]) -> (&[u8], Option<&[u8]>)
     ensures parts { levels text.now ≡ result.0.now ∷ levels_behind (option_copied result.1) }
@@ -37,10 +37,10 @@ fn first_level(text: &[u8]) -> (&[u8], Option<&[u8]>)
     }
 }
 
-/// The levels of a topic name or a topic filter in their order, from the first on.
+/// The levels of a topic name or a topic filter, in order (4.7.1.1).
 #[derive(Drop)]
 pub struct Levels<'a> {
-    // None behind the last level.
+    // None after the last level.
     rest: Option<&'a [u8]>,
 }
 
@@ -60,7 +60,7 @@ impl<'a> Levels<'a> {
         Levels { rest: Some(text) }
     }
 
-    /// No level is left.
+    /// Whether no level is left.
     #[tactic(auto, using(crate::proofs::LevelLemmas::some_level))]
     pub fn is_empty(&self) -> bool
         ensures { result ≡ is_end self.now }

@@ -1,17 +1,18 @@
 //! Topic names and topic filters of MQTT 5.0 (OASIS, sections 1.5.4 and 4.7): the lowest layer of the broker.
 //!
-//! A `Text` is UTF-8 without U+0000, of at most 65,535 bytes. A `TopicName` names one topic, a `TopicFilter` selects topics by
-//! wildcards; both have at most 128 levels. Each is made by `read`, which copies bytes, or by `of`, which copies none, and once
-//! made it stays valid. What is refused is refused with the first `TopicFault` that holds; only `read` and `copy` take memory.
+//! A [`Text`] is UTF-8 without U+0000. A [`TopicName`] names one topic, a [`TopicFilter`] selects topics by wildcards. Their
+//! sizes are limited by [`MAX_TEXT_SIZE`] and [`MAX_LEVELS`]. Each type has two constructors: `read` copies bytes, `of` copies
+//! none. Both answer the first [`TopicFault`] that the bytes have. Only `read` and `copy` take memory.
 //!
-//! Promised by contracts: `read` and `of` take exactly the texts, names and filters of the standard, and give back the same
-//! bytes; `matches` answers the match relation of 4.7.1 and 4.7.2; names are ordered as retained messages are replayed, level by
-//! level, each level by its bytes; `==` and the hash go by the bytes; `levels` gives the texts between the slashes.
+//! Contracts promise that `read` and `of` accept exactly the texts, names and filters of the standard and give back the same
+//! bytes; that `matches` answers the match relation of 4.7.1 and 4.7.2; that names are ordered level by level, each level by its
+//! bytes; that `==` and the hash go by the bytes; and that `levels` gives the texts between the slashes.
 #![tactic(auto)]
 
 mod filter;
 mod law;
 mod level;
+mod limits;
 mod matching;
 mod name;
 mod order;
@@ -20,7 +21,8 @@ mod tests;
 mod text;
 
 pub use filter::TopicFilter;
-pub use law::{level_law, order_law, reading_law};
+pub use law::{level_law, match_law, order_law, reading_law};
 pub use level::Levels;
+pub use limits::{MAX_LEVELS, MAX_TEXT_SIZE};
 pub use name::TopicName;
 pub use text::{Text, TopicFault};

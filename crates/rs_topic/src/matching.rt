@@ -1,4 +1,4 @@
-//! Which levels of a filter fit which levels of a name (4.7.1, 4.7.2).
+//! Whether the levels of a filter fit the levels of a name (4.7.1, 4.7.2).
 
 ghost use Rattle.std.specs.Prelude.{◌≡◌, ◌∷◌, [], ◌↔◌, IsTrue};
 ghost use Rattle.std.specs.Str.{bytes_eq};
@@ -19,8 +19,8 @@ pub(crate) fn is_hash(level: &[u8]) -> bool
     level == b"#".as_slice()
 }
 
+/// Whether the levels of a filter fit those of a name. `#` fits its parent level and all levels below it (4.7.1.2).
 #[tactic(auto, using(crate::proofs::Matched::fits_decides))]
-/// The levels of a filter fit those of a name. A hash fits its parent level and all below it.
 pub(crate) fn fits(mut filter: Levels<'_>, mut name: Levels<'_>) -> bool
     ensures { IsTrue result ↔ Fits filter.entry name.entry }
 {
@@ -40,7 +40,7 @@ pub(crate) fn fits(mut filter: Levels<'_>, mut name: Levels<'_>) -> bool
     name.is_empty()
 }
 
-/// The first level of a filter is a wildcard.
+/// Whether the first level of a filter is a wildcard.
 pub(crate) fn begins_wild(mut filter: Levels<'_>) -> bool
     ensures { IsTrue result ↔ BeginsWild filter.entry }
 {

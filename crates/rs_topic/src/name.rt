@@ -5,13 +5,14 @@ ghost use Rattle.rs_topic.specs.Topics.{first_fault, levels, name_faults, name_f
 ghost use Rattle.rs_topic.specs.Meanings.{IsReadAs, IsTopicName, Reads};
 
 use crate::level::{Levels, level_count};
+use crate::limits::MAX_LEVELS;
 use crate::order::compare;
 use crate::text::{Text, TopicFault, text_fault};
 use std::alloc::{AllocError, Global};
 use std::cmp::Ordering;
 use std::marker::Model;
 
-/// Why a text is no topic name.
+/// Why a text is not a topic name.
 fn name_fault(text: &[u8]) -> Option<TopicFault>
     ensures { result ≡ first_fault name_faults_of_text text.now }
 {
@@ -21,13 +22,13 @@ fn name_fault(text: &[u8]) -> Option<TopicFault>
     if text.contains(&b'+') || text.contains(&b'#') {
         return Some(TopicFault::HasWildcard);
     }
-    if level_count(text) > 128 {
+    if level_count(text) > MAX_LEVELS {
         return Some(TopicFault::TooManyLevels);
     }
     None
 }
 
-/// Why bytes are no topic name.
+/// Why bytes are not a topic name.
 #[tactic(auto, using(crate::proofs::Readings::name_faults_split))]
 fn fault_of(bytes: &[u8]) -> Option<TopicFault>
     ensures { result ≡ first_fault name_faults bytes.now }
@@ -35,10 +36,10 @@ fn fault_of(bytes: &[u8]) -> Option<TopicFault>
     text_fault(bytes).or_else(|| name_fault(bytes))
 }
 
-/// A text that names one topic: not empty, without `+` and `#`, of at most 128 levels (4.7.1, 4.7.3). Names are ordered as
-/// retained messages are replayed: level by level, each by its bytes, a list of levels before its extensions. A comparison goes
-/// once along both texts, and takes no memory.
-#[derive(Debug, Drop)]
+/// A text that names one topic: not empty, without `+` and `#`, of at most [`MAX_LEVELS`] levels (4.7.1, 4.7.3). Names are
+/// ordered as retained messages are replayed: level by level, each level by its bytes, a list of levels before its extensions. A
+/// comparison walks once along both texts and takes no memory.
+#[derive(Debug, Drop, PartialEq, Eq)]
 pub struct TopicName {
     text: Text,
 }
@@ -52,11 +53,12 @@ impl Model for TopicName {
     ghost view = { λ t. t.text };
 
     ghost invariant = { λ t. IsTopicName t.text };
+
+    ghost inverse = { λ v. record { text = v } };
 }
 
 impl TopicName {
-    /// The name that a text is. The bytes are not copied. The faults are tried in the order `Empty`, `HasWildcard`,
-    /// `TooManyLevels`.
+    /// The text as a topic name. Its bytes are not copied. The error is the first of `Empty`, `HasWildcard`, `TooManyLevels`.
     #[tactic(auto, using(crate::proofs::Readings::name_of_none, crate::proofs::Readings::name_is))]
     pub fn of(text: Text) -> Result<TopicName, TopicFault>
         ensures { result ≡ name_of text }
@@ -67,8 +69,8 @@ impl TopicName {
         }
     }
 
-    /// The name of a copy of these bytes. The faults are tried in the order `Empty`, `TooLong`, `NotUtf8`, `HasNul`,
-    /// `HasWildcard`, `TooManyLevels`, `NoMemory`, and only the last takes memory.
+    /// A copy of these bytes as a topic name. The error is the first of `Empty`, `TooLong`, `NotUtf8`, `HasNul`, `HasWildcard`,
+    /// `TooManyLevels`, `NoMemory`; only the copy takes memory.
     #[tactic(auto, using(crate::proofs::Readings::name_found, crate::proofs::Readings::name_found_for, crate::proofs::Readings::name_denied, crate::proofs::Readings::name_denied_for, crate::proofs::Readings::name_read_is))]
     pub fn read(alloc: Global, bytes: &[u8]) -> Result<TopicName, TopicFault>
         ensures exact { IsReadAs (read_name bytes.now) result }
@@ -82,7 +84,7 @@ impl TopicName {
         }
     }
 
-    /// An equal name, which shares the bytes.
+    /// An equal name, which shares the bytes. The error says that memory was refused.
     pub fn copy(&self) -> Result<TopicName, AllocError>
         ensures { IfOk result (λ t. t ≡ self.now) }
     {
@@ -100,33 +102,12 @@ impl TopicName {
         self.text.as_bytes()
     }
 
-    /// The levels in their order, at least one and at most 128. Each may be empty.
+    /// The levels in order: at least one, at most [`MAX_LEVELS`]. Each may be empty (4.7.1.1). It takes no memory.
     pub fn levels(&self) -> Levels<'_>
         ensures { result ≡ levels self.now }
     {
         Levels::of(self.text.as_bytes())
     }
-}
-
-impl PartialEq for TopicName {
-    ghost use Rattle.std.specs.Prelude.{nat_eq};
-    ghost use Rattle.std.specs.Cmp.Lexicographic.{pointwise};
-    ghost use Rattle.std.proofs.lemmas.Cmp.{nat_list_eq_equiv};
-    ghost use Rattle.std.specs.Cmp.{partial_equiv_from_equiv};
-
-    ghost eq = { pointwise nat_eq };
-
-    ghost laws = { partial_equiv_from_equiv nat_list_eq_equiv };
-
-    fn eq(&self, other: &TopicName) -> bool {
-        self.text == other.text
-    }
-}
-
-impl Eq for TopicName {
-    ghost use Rattle.std.proofs.lemmas.Cmp.{nat_list_eq_equiv};
-
-    ghost laws = { nat_list_eq_equiv };
 }
 
 impl Ord for TopicName {

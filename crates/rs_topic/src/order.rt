@@ -1,11 +1,11 @@
-//! The order of replay.
+//! The order of topic names, in which retained messages are replayed.
 
 ghost use Rattle.std.specs.Prelude.{◌≡◌};
 ghost use Rattle.rs_topic.specs.Order.{differing_cmp, topic_cmp};
 
 use std::cmp::Ordering;
 
-/// The order of two bytes that differ, where all before them is the same: a slash ends a level.
+/// The order of two texts whose bytes first differ in these: a slash ends a level, and so comes first.
 fn compare_differing(x: u8, y: u8) -> Ordering
     ensures { result ≡ differing_cmp x y }
 {
@@ -18,7 +18,7 @@ fn compare_differing(x: u8, y: u8) -> Ordering
     }
 }
 
-/// Level by level, each by its bytes, a list of levels before its extensions. One walk over the bytes of both finds it.
+/// Compares level by level, each level by its bytes, a list of levels before its extensions. One walk along both texts is enough.
 #[tactic(auto, using(crate::proofs::FirstDifference::differ_at, crate::proofs::FirstDifference::differ_nowhere))]
 pub(crate) fn compare(a: &[u8], b: &[u8]) -> Ordering
     ensures { result ≡ topic_cmp a.now b.now }

@@ -1,9 +1,13 @@
 //! Worked examples, and each public call once with ample memory.
 
-use crate::{Text, TopicFault, TopicFilter, TopicName, level_law, order_law, reading_law};
+use crate::{
+    MAX_LEVELS, MAX_TEXT_SIZE, Text, TopicFault, TopicFilter, TopicName, level_law, match_law,
+    order_law, reading_law,
+};
 use std::alloc::{AllocError, Global};
 use std::cmp::Ordering;
 use std::hash::{DefaultHasher, Hash, Hasher};
+use std::process::Abort;
 use std::test::Fail;
 
 struct Match {
@@ -207,7 +211,7 @@ fn the_first_fault_is_answered(rt: HostRuntime) {
     }
 }
 
-/// So many bytes, all the same.
+/// A list of equal bytes.
 fn repeated(alloc: Global, byte: u8, count: usize) -> Result<Vec<u8>, AllocError> {
     let mut bytes = Vec::new(alloc);
     for _ in 0..count {
@@ -216,37 +220,55 @@ fn repeated(alloc: Global, byte: u8, count: usize) -> Result<Vec<u8>, AllocError
     Ok(bytes)
 }
 
+/// What reading these bytes as a text, a name and a filter answers: the fault, or None.
+fn faults_of(alloc: Global, bytes: &[u8]) -> [Option<TopicFault>; 3] {
+    [
+        Text::read(alloc, bytes).err(),
+        TopicName::read(alloc, bytes).err(),
+        TopicFilter::read(alloc, bytes).err(),
+    ]
+}
+
 #[test]
-fn limits_are_kept(rt: HostRuntime) -> Result<(), Fail> {
-    let long = repeated(rt.alloc(), b'x', 65_536)?;
+fn a_text_of_one_byte_more_is_too_long(rt: HostRuntime) -> Result<(), Fail> {
+    let long = repeated(rt.alloc(), b'x', MAX_TEXT_SIZE + 1)?;
     assert_eq!(rt;
-        Text::read(rt.alloc(), &long).err(),
-        Some(TopicFault::TooLong)
+        faults_of(rt.alloc(), &long),
+        [Some(TopicFault::TooLong); 3]
     );
-    assert_eq!(rt;
-        TopicName::read(rt.alloc(), &long).err(),
-        Some(TopicFault::TooLong)
-    );
-    assert_eq!(rt;
-        TopicFilter::read(rt.alloc(), &long).err(),
-        Some(TopicFault::TooLong)
-    );
-    let longest = repeated(rt.alloc(), b'x', 65_535)?;
-    assert_eq!(rt; TopicName::read(rt.alloc(), &longest).err(), None);
-    assert_eq!(rt; TopicFilter::read(rt.alloc(), &longest).err(), None);
-    let levels_129 = repeated(rt.alloc(), b'/', 128)?;
-    assert_eq!(rt;
-        TopicName::read(rt.alloc(), &levels_129).err(),
-        Some(TopicFault::TooManyLevels)
-    );
-    assert_eq!(rt;
-        TopicFilter::read(rt.alloc(), &levels_129).err(),
-        Some(TopicFault::TooManyLevels)
-    );
-    let levels_128 = repeated(rt.alloc(), b'/', 127)?;
-    assert_eq!(rt; TopicName::read(rt.alloc(), &levels_128).err(), None);
-    assert_eq!(rt; TopicFilter::read(rt.alloc(), &levels_128).err(), None);
+    let longest = repeated(rt.alloc(), b'x', MAX_TEXT_SIZE)?;
+    assert_eq!(rt; faults_of(rt.alloc(), &longest), [None; 3]);
     Ok(())
+}
+
+#[test]
+fn one_level_more_is_too_many(rt: HostRuntime) -> Result<(), Fail> {
+    let many = repeated(rt.alloc(), b'/', MAX_LEVELS)?;
+    let too_many = Some(TopicFault::TooManyLevels);
+    assert_eq!(rt; faults_of(rt.alloc(), &many), [None, too_many, too_many]);
+    let most = repeated(rt.alloc(), b'/', MAX_LEVELS - 1)?;
+    assert_eq!(rt; faults_of(rt.alloc(), &most), [None; 3]);
+    Ok(())
+}
+
+/// A text, a name and a filter of these bytes are copied and read again.
+fn are_copied(rt: &impl Abort, alloc: Global, bytes: &[u8]) -> Result<(), Fail> {
+    let text = Text::read(alloc, bytes)?;
+    assert!(rt; text.copy()? == text && text.as_bytes() == bytes);
+    let name = TopicName::read(alloc, bytes)?;
+    assert!(rt; name.copy()? == name && name.as_bytes() == bytes);
+    let filter = TopicFilter::read(alloc, bytes)?;
+    assert!(rt; filter.copy()? == filter && filter.as_bytes() == bytes);
+    Ok(())
+}
+
+#[test]
+fn the_greatest_are_copied(rt: HostRuntime) -> Result<(), Fail> {
+    let longest = repeated(rt.alloc(), b'x', MAX_TEXT_SIZE)?;
+    are_copied(&rt, rt.alloc(), &longest)?;
+    let most = repeated(rt.alloc(), b'/', MAX_LEVELS - 1)?;
+    are_copied(&rt, rt.alloc(), &most)?;
+    are_copied(&rt, rt.alloc(), b"$share")
 }
 
 struct Shown {
@@ -326,6 +348,7 @@ fn names_are_ordered_as_replayed(rt: HostRuntime) -> Result<(), Fail> {
         last = name;
     }
     level_law();
+    match_law();
     order_law();
     reading_law();
     Ok(())
@@ -378,9 +401,9 @@ fn filters_are_copied_and_hashed(rt: HostRuntime) -> Result<(), Fail> {
     Ok(())
 }
 
-/// Where memory is refused the answer is NoMemory; a fault of the bytes is found first.
+/// If memory is refused the answer is NoMemory; a fault of the bytes comes first.
 #[test]
-fn want_of_memory_is_answered(rt: HostRuntime) {
+fn out_of_memory_is_answered(rt: HostRuntime) {
     let name = TopicName::read(rt.alloc(), b"a/b").err();
     assert!(rt; name.is_none() || name == Some(TopicFault::NoMemory));
     let filter = TopicFilter::read(rt.alloc(), b"a/+").err();

@@ -1,4 +1,4 @@
-//! Texts, and why bytes are no text, no topic name or no topic filter.
+//! Texts, and the faults of texts, topic names and topic filters.
 
 ghost use Rattle.std.specs.Prelude.{◌≡◌, ◌<◌, ◌^◌, length, Some, None, if◌then◌else◌, ◌==◌, IfOk, MatchResult};
 ghost use Rattle.std.specs.Str.{is_utf8};
@@ -7,39 +7,40 @@ ghost use Rattle.rs_topic.specs.Topics.{is_plain, first_fault, text_faults, read
 ghost use Rattle.rs_topic.specs.Meanings.{IsReadAs, Reads};
 ghost use Rattle.rs_topic.specs.declared.text.TopicFault.TheVariants.{NoMemory};
 
+use crate::limits::MAX_TEXT_SIZE;
 use bytes::Bytes;
 use std::alloc::{AllocError, Global};
 use std::marker::Model;
 use thiserror::Error;
 
-/// Why bytes are no text, no topic name or no topic filter.
+/// Why bytes are not a text, a topic name or a topic filter.
 #[derive(Clone, Copy, Debug, PartialEq, Eq, Error)]
 pub enum TopicFault {
-    /// There is no byte.
+    /// 1: a name or a filter has no byte (4.7.3).
     #[error("a topic is empty: give at least one character")]
     Empty,
-    /// There are more than 65,535 bytes.
+    /// 2: there are more than [`MAX_TEXT_SIZE`](crate::MAX_TEXT_SIZE) bytes (1.5.4).
     #[error("a text has more than 65,535 bytes: shorten it")]
     TooLong,
-    /// The bytes are not UTF-8.
+    /// 3: the bytes are not UTF-8 (1.5.4).
     #[error("a text is not UTF-8: encode it as UTF-8")]
     NotUtf8,
-    /// U+0000 stands inside.
+    /// 4: the text contains U+0000 (1.5.4).
     #[error("a text contains the character U+0000: leave it out")]
     HasNul,
-    /// A topic name contains `+` or `#`.
+    /// 5: a topic name contains `+` or `#` (4.7.1).
     #[error("a topic name contains the wildcard `+` or `#`: publish to one topic at a time")]
     HasWildcard,
-    /// In a topic filter `+` is not a whole level, or `#` not the whole last level.
+    /// 6: in a topic filter a level contains `+` or `#` and more, or `#` is not the last level (4.7.1.2, 4.7.1.3).
     #[error("a wildcard is misplaced: `+` has to fill a level of a topic filter, and `#` its last level")]
     BadWildcard,
-    /// There are more than 128 levels.
+    /// 7: there are more than [`MAX_LEVELS`](crate::MAX_LEVELS) levels (this server's choice).
     #[error("a topic has more than 128 levels: use fewer slashes")]
     TooManyLevels,
-    /// A topic filter begins with `$share/`.
+    /// 8: a topic filter begins with `$share/`: shared subscriptions (4.8.2) are not supported.
     #[error("shared subscriptions are not supported: leave out `$share/` and the share name")]
     Shared,
-    /// A copy was refused for want of memory.
+    /// 9: out of memory for a copy of the bytes.
     #[error("there is no memory for a copy of the text: try again later")]
     NoMemory,
 }
@@ -69,11 +70,11 @@ fn is_utf8_text(bytes: &[u8]) -> bool
     simdutf8::is_utf8(bytes)
 }
 
-/// Why these bytes are no text (1.5.4).
+/// Why these bytes are not a text (1.5.4).
 pub(crate) fn text_fault(bytes: &[u8]) -> Option<TopicFault>
     ensures { result ≡ first_fault text_faults bytes.now }
 {
-    if bytes.len() > 65_535 {
+    if bytes.len() > MAX_TEXT_SIZE {
         return Some(TopicFault::TooLong);
     }
     if !is_utf8_text(bytes) {
@@ -85,8 +86,8 @@ pub(crate) fn text_fault(bytes: &[u8]) -> Option<TopicFault>
     None
 }
 
-/// UTF-8 without U+0000, of at most 65,535 bytes (1.5.4). Texts are compared byte by byte.
-#[derive(Debug, Drop)]
+/// UTF-8 without U+0000, of at most [`MAX_TEXT_SIZE`] bytes (1.5.4). Texts are compared byte by byte.
+#[derive(Debug, Drop, PartialEq, Eq)]
 pub struct Text {
     bytes: Bytes,
 }
@@ -100,10 +101,12 @@ impl Model for Text {
     ghost view = { λ t. t.bytes };
 
     ghost invariant = { λ t. IsText t.bytes };
+
+    ghost inverse = { λ v. record { bytes = v } };
 }
 
 impl Text {
-    /// The text of these bytes, which are not copied.
+    /// The text of these bytes, which are not copied. None if they are not UTF-8, or contain U+0000. It takes no memory.
     #[tactic(auto, using(crate::proofs::TextLemmas::is_text_when_read))]
     pub fn of(bytes: Bytes) -> Option<Text>
         requires { length bytes < 2 ^ 16 }
@@ -116,8 +119,8 @@ impl Text {
         }
     }
 
-    /// The text of a copy of these bytes. The faults are tried in the order `TooLong`, `NotUtf8`, `HasNul`, `NoMemory`, and only
-    /// the last takes memory.
+    /// The text of a copy of these bytes. The error is the first of `TooLong`, `NotUtf8`, `HasNul`, `NoMemory`; only the copy
+    /// takes memory.
     #[tactic(auto, using(crate::proofs::Readings::text_copied_for, crate::proofs::Readings::text_read_is))]
     pub fn read(alloc: Global, bytes: &[u8]) -> Result<Text, TopicFault>
         ensures exact { IsReadAs (read_text bytes.now) result }
@@ -129,6 +132,7 @@ impl Text {
         }
     }
 
+    // The bytes are a text already.
     pub(crate) fn copied(alloc: Global, bytes: &[u8]) -> Result<Text, TopicFault>
         requires { IsText bytes.now }
         ensures { MatchResult result (λ t. t ≡ bytes.now) (λ fault. fault ≡ NoMemory) }
@@ -139,7 +143,7 @@ impl Text {
         }
     }
 
-    /// An equal text, which shares the bytes.
+    /// An equal text, which shares the bytes. The error says that memory was refused.
     pub fn copy(&self) -> Result<Text, AllocError>
         ensures { IfOk result (λ t. t ≡ self.now) }
     {
@@ -148,14 +152,14 @@ impl Text {
         })
     }
 
-    /// It has no byte.
+    /// Whether it has no byte.
     pub fn is_empty(&self) -> bool
         ensures { result ≡ (length self.now == 0) }
     {
         self.bytes.is_empty()
     }
 
-    /// It contains no wildcard character, `+` or `#`.
+    /// Whether it contains neither `+` nor `#` (4.7.1).
     pub fn is_plain(&self) -> bool
         ensures { result ≡ is_plain self.now }
     {
@@ -171,25 +175,4 @@ impl Text {
     {
         self.bytes.as_slice()
     }
-}
-
-impl PartialEq for Text {
-    ghost use Rattle.std.specs.Prelude.{nat_eq};
-    ghost use Rattle.std.specs.Cmp.Lexicographic.{pointwise};
-    ghost use Rattle.std.proofs.lemmas.Cmp.{nat_list_eq_equiv};
-    ghost use Rattle.std.specs.Cmp.{partial_equiv_from_equiv};
-
-    ghost eq = { pointwise nat_eq };
-
-    ghost laws = { partial_equiv_from_equiv nat_list_eq_equiv };
-
-    fn eq(&self, other: &Text) -> bool {
-        self.bytes == other.bytes
-    }
-}
-
-impl Eq for Text {
-    ghost use Rattle.std.proofs.lemmas.Cmp.{nat_list_eq_equiv};
-
-    ghost laws = { nat_list_eq_equiv };
 }

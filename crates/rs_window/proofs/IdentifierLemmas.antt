@@ -12,7 +12,7 @@ use Rattle.slab.specs.Slab as slab
 use Rattle.rs_window.specs.declared.identifiers.Kind.{Kind}
 use Rattle.rs_window.specs.Identifiers.{Kinds, kinds_of}
 
--- two numbers tie just where they are equal
+-- two numbers tie exactly if they are equal
 pub same_number : (m n : ℕ) → m ≡ n → eq_by_cmp nat_cmp m n ≡ true
 same_number m n e = unsigned_tied m n ∙ (Decides-eqb m n).1 e
 
@@ -111,7 +111,7 @@ pub on_some : (o : Option Kind) (P : Type 0) → OnSome o P → IsSome o → P
 on_some None P h i = absurd (let t : false ≡ true = i in cc)
 on_some (Some k) P h i = h
 
--- a kind that is put where it is changes nothing
+-- a kind that is put again changes nothing
 pub put_same : (m : Kinds) (id : ℕ) (kind : Kind) → get m id ≡ Some kind → insert m id kind ≡ m
 put_same m id kind e = same_kinds _ _ (λ q. get-insert nat_cmp_total m id kind q ∙ by_case q (cases_eq q id))
   where

@@ -15,13 +15,15 @@ use Rattle.rs_window.specs.declared.fault.WindowFault.{WindowFault}
 use Rattle.rs_window.specs.declared.fault.WindowFault.TheVariants.{TooManyWaiting, NoMemory, WrongKind, TooManyHeld}
 use Rattle.rs_window.specs.declared.identifiers.Kind.{Kind}
 use Rattle.rs_window.specs.declared.identifiers.Kind.TheVariants.{AtLeastOnce, ExactlyOnce}
-use Rattle.rs_window.specs.declared.waiting.Waiting.{Waiting}
+use Rattle.rs_window.specs.declared.queue.Waiting.{Waiting}
 use Rattle.rs_window.specs.Values.{PublishValue}
 use Rattle.rs_window.specs.Identifiers.{Kinds, kind_sent, kinds_put, kinds_given, IsNumbered}
 use Rattle.rs_window.specs.State.{State}
 use Rattle.rs_window.specs.Waiting.{granted_at, is_dropped, sendable, AllDropped}
-use Rattle.rs_window.specs.Calls.{Acknowledgement, Call, Queue, Next, Acknowledge, kind_acknowledged, kinds_acknowledged, answer_to, fresh, Step, NeedsQuota, waiting_maximum}
-use Rattle.rs_window.specs.Replay.{Run, kind_given, Concerns, NoneConcerns, kind_by, kind_from, kind_after, AreUnacknowledged, brought, queued, Leaves, IsFront, IsReplayed, IsFreeFor, IsHeldBack}
+use Rattle.rs_window.specs.Calls.{Acknowledgement, Call, Queue, Next, Acknowledge, kind_acknowledged, kinds_acknowledged, answer_to, fresh, Step, NeedsQuota}
+use Rattle.rs_window.specs.declared.queue.TheConstants.{MAX_WAITING}
+use Rattle.rs_window.specs.declared.window.TheConstants.{MAX_QUOTA}
+use Rattle.rs_window.specs.Replay.{Run, kind_given, Concerns, NoneConcerns, kind_by, kind_from, kind_after, AreUnacknowledged, brought, queued, Leaves, HasLeft, IsReplayed, IsFreeFor, MayGiveNothing}
 use Rattle.rs_window.proofs.IdentifierLemmas.{other_number}
 use Rattle.rs_window.proofs.WaitingLemmas.{drops, keeps, first_is_sent, sendable_fewer}
 
@@ -149,7 +151,7 @@ run_quota from (call ∷ calls) to (mid, step, rest) q =
     let here : len mid.kinds ≤ mid.quota = omega (arith, one, limit) in
     omega (arith, run_quota mid calls to rest here, limit)
 
-pub quota_holds : (receive_maximum packet_maximum : ℕ) (calls : List Call) (end : State) → Run (fresh receive_maximum packet_maximum) calls end → len end.kinds ≤ min receive_maximum 1024
+pub quota_holds : (receive_maximum packet_maximum : ℕ) (calls : List Call) (end : State) → Run (fresh receive_maximum packet_maximum) calls end → len end.kinds ≤ min receive_maximum MAX_QUOTA
 quota_holds receive_maximum packet_maximum calls end h =
     let start : len (fresh receive_maximum packet_maximum).kinds ≤ (fresh receive_maximum packet_maximum).quota = omega (arith, len-empty nat_cmp Kind) in
     run_quota (fresh receive_maximum packet_maximum) calls end h start
@@ -186,23 +188,23 @@ step_queue old (Next now (Some p)) new h =
 step_queue old (Acknowledge ack id answer) new h = ([], append-nil old.waiting ∙ sym (ap (λ (s : State). s.waiting) h.1), refl)
 
 run_queue : (packet_maximum : ℕ) (from : State) (calls : List Call) (to : State) → packet_maximum ≡ from.packet_maximum → Run from calls to
-    → (front : List Waiting) × (from.waiting ++ queued calls ≡ front ++ to.waiting) × IsFront packet_maximum calls front
+    → (prefix : List Waiting) × (from.waiting ++ queued calls ≡ prefix ++ to.waiting) × HasLeft packet_maximum calls prefix
 run_queue packet_maximum from [] to m e = ([], append-nil from.waiting ∙ sym (ap (λ (s : State). s.waiting) e), refl)
 run_queue packet_maximum from (call ∷ calls) to m (mid, step, rest) =
     let (gone, here, leaves) = step_queue from call mid step in
-    let (front, later, fronts) = run_queue packet_maximum mid calls to (m ∙ sym (step_limits from call mid step).1) rest in (
-      gone ++ front,
+    let (prefix, later, left) = run_queue packet_maximum mid calls to (m ∙ sym (step_limits from call mid step).1) rest in (
+      gone ++ prefix,
       sym (append_assoc from.waiting (brought call) (queued calls)) ∙ ap (λ (xs : List Waiting). xs ++ queued calls) here ∙ append_assoc gone mid.waiting (queued calls)
-          ∙ ap (λ (xs : List Waiting). gone ++ xs) later ∙ sym (append_assoc gone front to.waiting),
-      (gone, front, refl, subst (λ (n : ℕ). Leaves n call gone) (sym m) leaves, fronts),
+          ∙ ap (λ (xs : List Waiting). gone ++ xs) later ∙ sym (append_assoc gone prefix to.waiting),
+      (gone, prefix, refl, subst (λ (n : ℕ). Leaves n call gone) (sym m) leaves, left),
     )
 
 pub replayed : (receive_maximum packet_maximum : ℕ) (calls : List Call) (end : State) → Run (fresh receive_maximum packet_maximum) calls end → IsReplayed packet_maximum calls end.waiting
 replayed receive_maximum packet_maximum calls end h =
-    let (front, whole, fronts) = run_queue packet_maximum (fresh receive_maximum packet_maximum) calls end refl h in
-    record { front = front; whole = whole; leaves = fronts }
+    let (prefix, whole, left) = run_queue packet_maximum (fresh receive_maximum packet_maximum) calls end refl h in
+    record { prefix = prefix; whole = whole; leaves = left }
 
-pub step_few : (old : State) (call : Call) (new : State) → Step old call new → length old.waiting ≤ waiting_maximum → length new.waiting ≤ waiting_maximum
+pub step_few : (old : State) (call : Call) (new : State) → Step old call new → length old.waiting ≤ MAX_WAITING → length new.waiting ≤ MAX_WAITING
 step_few old (Queue found granted subscription (Ok done)) new h f =
     let whole : length new.waiting ≡ length old.waiting + length found =
     ap (λ (s : State). length s.waiting) h.1 ∙ length-append old.waiting (map (granted_at granted subscription) found) ∙ ap (λ n. length old.waiting + n) (length-map found (granted_at granted subscription)) in
@@ -215,11 +217,11 @@ step_few old (Next now None) new h f = omega (arith, f, sendable_fewer old.packe
 step_few old (Next now (Some p)) new h f = omega (arith, f, sendable_fewer old.packet_maximum now old.waiting, ap (λ (xs : List Waiting). length xs) h.leaves)
 step_few old (Acknowledge ack id answer) new h f = omega (arith, f, ap (λ (s : State). length s.waiting) h.1)
 
-run_few : (from : State) (calls : List Call) (to : State) → Run from calls to → length from.waiting ≤ waiting_maximum → length to.waiting ≤ waiting_maximum
+run_few : (from : State) (calls : List Call) (to : State) → Run from calls to → length from.waiting ≤ MAX_WAITING → length to.waiting ≤ MAX_WAITING
 run_few from [] to e f = omega (arith, f, ap (λ (s : State). length s.waiting) e)
 run_few from (call ∷ calls) to (mid, step, rest) f = run_few mid calls to rest (step_few from call mid step f)
 
-pub few_wait : (receive_maximum packet_maximum : ℕ) (calls : List Call) (end : State) → Run (fresh receive_maximum packet_maximum) calls end → length end.waiting ≤ waiting_maximum
+pub few_wait : (receive_maximum packet_maximum : ℕ) (calls : List Call) (end : State) → Run (fresh receive_maximum packet_maximum) calls end → length end.waiting ≤ MAX_WAITING
 few_wait receive_maximum packet_maximum calls end h = run_few (fresh receive_maximum packet_maximum) calls end h (lit≤ tt)
 
 -- ---- single calls
@@ -233,18 +235,18 @@ fresh_id receive_maximum packet_maximum before after now p end h =
     let (mid, next, begun, step, later) = run_at (fresh receive_maximum packet_maximum) before (Next now (Some p)) after end h in
     free_for before mid p.qos p.id (kinds_read receive_maximum packet_maximum before mid begun) step.numbered
 
-held : (packet_maximum now : ℕ) (mid : State) (ws : List Waiting) → sendable packet_maximum now mid.waiting ≡ ws → NeedsQuota mid.kinds mid.quota ws → IsHeldBack packet_maximum now mid.kinds mid.quota ws
-held packet_maximum now mid [] e n = tt
-held packet_maximum now mid (w ∷ ws) e n = (n.0, keeps packet_maximum now w (first_is_sent packet_maximum now w mid.waiting ws e), n.1)
+gives_nothing : (packet_maximum now : ℕ) (mid : State) (ws : List Waiting) → sendable packet_maximum now mid.waiting ≡ ws → NeedsQuota mid.kinds mid.quota ws → MayGiveNothing packet_maximum now mid.kinds mid.quota ws
+gives_nothing packet_maximum now mid [] e n = tt
+gives_nothing packet_maximum now mid (w ∷ ws) e n = (n.0, keeps packet_maximum now w (first_is_sent packet_maximum now w mid.waiting ws e), n.1)
 
-pub held_back : (receive_maximum packet_maximum : ℕ) (before : List Call) (now : ℕ) (end : State) → Run (fresh receive_maximum packet_maximum) (before ++ Next now None ∷ []) end → IsHeldBack packet_maximum now end.kinds (min receive_maximum 1024) end.waiting
-held_back receive_maximum packet_maximum before now end h =
+pub nothing_given : (receive_maximum packet_maximum : ℕ) (before : List Call) (now : ℕ) (end : State) → Run (fresh receive_maximum packet_maximum) (before ++ Next now None ∷ []) end → MayGiveNothing packet_maximum now end.kinds (min receive_maximum MAX_QUOTA) end.waiting
+nothing_given receive_maximum packet_maximum before now end h =
     let (mid, next, begun, step, later) = run_at (fresh receive_maximum packet_maximum) before (Next now None) [] end h in
     let limits = run_limits (fresh receive_maximum packet_maximum) before mid begun in
-    let at_mid : IsHeldBack mid.packet_maximum now mid.kinds mid.quota (sendable mid.packet_maximum now mid.waiting) = held mid.packet_maximum now mid (sendable mid.packet_maximum now mid.waiting) refl step.1 in
-    let at_limits : IsHeldBack packet_maximum now mid.kinds (min receive_maximum 1024) (sendable mid.packet_maximum now mid.waiting) =
-    subst (λ (n : ℕ). IsHeldBack n now mid.kinds (min receive_maximum 1024) (sendable mid.packet_maximum now mid.waiting)) limits.1 (subst (λ (n : ℕ). IsHeldBack mid.packet_maximum now mid.kinds n (sendable mid.packet_maximum now mid.waiting)) limits.0 at_mid) in
-    subst (λ (s : State). IsHeldBack packet_maximum now s.kinds (min receive_maximum 1024) s.waiting) (sym (later ∙ step.0)) at_limits
+    let at_mid : MayGiveNothing mid.packet_maximum now mid.kinds mid.quota (sendable mid.packet_maximum now mid.waiting) = gives_nothing mid.packet_maximum now mid (sendable mid.packet_maximum now mid.waiting) refl step.1 in
+    let at_limits : MayGiveNothing packet_maximum now mid.kinds (min receive_maximum MAX_QUOTA) (sendable mid.packet_maximum now mid.waiting) =
+    subst (λ (n : ℕ). MayGiveNothing n now mid.kinds (min receive_maximum MAX_QUOTA) (sendable mid.packet_maximum now mid.waiting)) limits.1 (subst (λ (n : ℕ). MayGiveNothing mid.packet_maximum now mid.kinds n (sendable mid.packet_maximum now mid.waiting)) limits.0 at_mid) in
+    subst (λ (s : State). MayGiveNothing packet_maximum now s.kinds (min receive_maximum MAX_QUOTA) s.waiting) (sym (later ∙ step.0)) at_limits
 
 pub answered : (receive_maximum packet_maximum : ℕ) (before after : List Call) (ack : Acknowledgement) (id : ℕ) (answer : Result Ack WindowFault) (end : State) → Run (fresh receive_maximum packet_maximum) (before ++ Acknowledge ack id answer ∷ after) end → answer ≡ answer_to ack (kind_after id before)
 answered receive_maximum packet_maximum before after ack id answer end h =

@@ -5,12 +5,12 @@ use Rattle.std.specs.FinMap as finite
 use Rattle.rs_packet.specs.declared.packet.Qos.{Qos}
 use Rattle.rs_packet.specs.declared.packet.Qos.TheVariants as qos
 use Rattle.rs_packet.specs.Grammar.{IdFits, id_bytes, frame}
-use Rattle.rs_field.specs.Properties.{counted, properties, varint}
-use Rattle.rs_field.specs.Kept.{replayed}
+use Rattle.rs_packet.specs.Fields.{counted, properties, varint}
+use Rattle.rs_packet.specs.Fields.{replayed}
 use Rattle.rs_packet.specs.Replies.{first_byte, reply_bytes}
 use Rattle.rs_message.specs.declared.message.Remaining.TheVariants.{Expired}
 use Rattle.rs_message.specs.Messages.{remaining_of}
-use Rattle.rs_window.specs.declared.waiting.Waiting.{Waiting}
+use Rattle.rs_window.specs.declared.queue.Waiting.{Waiting}
 use Rattle.rs_window.specs.Values.{PublishValue}
 use Rattle.rs_window.specs.Packets.{reply_of}
 use Rattle.rs_window.specs.Identifiers.{Kinds, IsNumbered, kinds_given}

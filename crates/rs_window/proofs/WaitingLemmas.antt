@@ -1,17 +1,20 @@
 -- Lemmas on messages that wait.
-use Rattle.std.proofs.Common.{◌≡◌, ◌⊎◌, ℕ, ◌<◌, ◌≤◌, ◌||◌, List, [], ◌∷◌, length, Option, Bool, true, false, cond, nat_lt, refl, sym, ap, subst, ◌∙◌, inl, inr, arith}
+use Rattle.std.specs.Prelude.{is_some}
+use Rattle.std.proofs.Common.{◌≡◌, ◌⊎◌, ℕ, ◌<◌, ◌≤◌, ◌^◌, ◌||◌, List, [], ◌∷◌, length, Option, Bool, true, false, cond, nat_lt, refl, sym, ap, subst, ◌∙◌, inl, inr, arith}
 use Rattle.std.proofs.lemmas.Bool.Decides.{nat_tests}
 use Rattle.rs_packet.specs.declared.packet.Qos.{Qos}
 use Rattle.rs_packet.specs.declared.packet.Qos.TheVariants as qos
 use Rattle.rs_packet.specs.Grammar.{IdFits}
-use Rattle.rs_packet.specs.Replies.{reply_bytes}
-use Rattle.rs_field.specs.Values.{PropertiesValue}
+use Rattle.rs_packet.specs.Replies.{message_len, publish_remaining, reply_bytes}
+use Rattle.rs_packet.specs.declared.limits.TheConstants.{MAX_PACKET_SIZE}
+use Rattle.rs_packet.proofs.Lengths.{message_len_alike, message_publish}
+use Rattle.rs_packet.specs.Fields.{PropertiesValue, varint_end}
 use Rattle.rs_packet.specs.declared.reply.Reply.{Reply}
 use Rattle.rs_packet.specs.declared.reply.Reply.TheVariants as reply
 use Rattle.rs_message.specs.declared.message.Remaining.{Remaining}
 use Rattle.rs_message.specs.declared.message.Remaining.TheVariants.{Forever, Left, Expired}
 use Rattle.rs_message.specs.Messages.{remaining_of, is_over}
-use Rattle.rs_window.specs.declared.waiting.Waiting.{Waiting}
+use Rattle.rs_window.specs.declared.queue.Waiting.{Waiting}
 use Rattle.rs_window.specs.Waiting.{is_dropped, sendable, lesser_qos, some_id, len_with, packet_len, IsDropped}
 
 pub some_id_fits : (quality : Qos) → IdFits quality (some_id quality)
@@ -28,6 +31,15 @@ unfolding len_with
 len_known w expiry len payload quality kept q k e h =
     let packet : Qos → PropertiesValue → Reply = λ x ps. reply.Publish (record { topic = w.found.topic; qos = x; id = some_id x; subscription = w.subscription; expiry = expiry; properties = ps; payload = w.found.message.payload }) in
     h (some_id quality) w.found.message.payload (some_id_fits quality) (sym e) ∙ ap (λ (x : Qos). length (reply_bytes (packet x kept))) q ∙ ap (λ (ps : PropertiesValue). length (reply_bytes (packet (lesser_qos w) ps))) k
+
+-- a message that fits a packet has a PUBLISH, with any interval
+pub packet_fits : (topic : List ℕ) (quality : Qos) (expiry own subscription : Option ℕ) (kept stored : PropertiesValue) (payload size : ℕ) → length topic < 2 ^ 16 → is_some expiry ≡ is_some own → kept ≡ stored → payload ≡ size
+    → message_len own stored size ≤ MAX_PACKET_SIZE → publish_remaining topic quality expiry subscription kept payload < varint_end
+packet_fits topic quality expiry own subscription kept stored payload size short alike k e fits =
+    let same : message_len expiry stored size ≡ message_len own stored size = message_len_alike expiry own stored size alike in
+    let small : publish_remaining topic quality expiry subscription stored size < varint_end = message_publish topic quality expiry subscription stored size short (omega (arith, same, fits)) in
+    subst (λ (ps : PropertiesValue). publish_remaining topic quality expiry subscription ps payload < varint_end) (sym k)
+    (subst (λ (n : ℕ). publish_remaining topic quality expiry subscription stored n < varint_end) (sym e) small)
 
 -- ---- the test, and what it tests
 

@@ -10,15 +10,17 @@ use Rattle.rs_window.specs.declared.fault.WindowFault.{WindowFault}
 use Rattle.rs_window.specs.declared.fault.WindowFault.TheVariants.{TooManyWaiting, NoMemory, WrongKind, TooManyHeld}
 use Rattle.rs_window.specs.declared.identifiers.Kind.{Kind}
 use Rattle.rs_window.specs.declared.identifiers.Kind.TheVariants.{AtLeastOnce, ExactlyOnce, Received}
-use Rattle.rs_window.specs.declared.waiting.Waiting.{Waiting}
+use Rattle.rs_window.specs.declared.queue.Waiting.{Waiting}
+use Rattle.rs_window.specs.declared.queue.TheConstants.{MAX_WAITING}
+use Rattle.rs_window.specs.declared.window.TheConstants.{MAX_QUOTA}
 use Rattle.rs_window.specs.Values.{PublishValue}
 use Rattle.rs_window.specs.Identifiers.{Kinds, IsNumbered, kinds_put, kinds_given}
 use Rattle.rs_window.specs.State.{State}
 use Rattle.rs_window.specs.Waiting.{lesser_qos, sendable, granted_at, Carries}
 
--- 4.9: nothing is in use and nothing waits. The quota is the lesser of the client's Receive Maximum and 1,024
+-- 4.9: nothing is in use and nothing waits. The quota is the lesser of the client's Receive Maximum and the greatest quota (own)
 abbrev pub fresh : ℕ → ℕ → State
-fresh receive_maximum packet_maximum = record { kinds = finite.empty; waiting = []; quota = min receive_maximum 1024; packet_maximum = packet_maximum }
+fresh receive_maximum packet_maximum = record { kinds = finite.empty; waiting = []; quota = min receive_maximum MAX_QUOTA; packet_maximum = packet_maximum }
 
 -- the acknowledgements of a client, and the code of a PUBREC
 pub data Acknowledgement : Type 0 where
@@ -66,16 +68,12 @@ kinds_acknowledged ack id (Some kind) kinds = kinds_put kinds id (kind_acknowled
 
 -- ---- what each call does
 
--- how many messages may wait
-abbrev pub waiting_maximum : ℕ
-waiting_maximum = 100000
-
--- all of them wait behind the others, or none of them
+-- all of them are appended in order, or none of them
 abbrev pub IsQueued : List Found → Qos → Option ℕ → State → Result (Unit {0}) WindowFault → State → Type 0
 IsQueued found granted subscription old (Ok done) new =
-    (length old.waiting + length found ≤ waiting_maximum) × (new ≡ record old { waiting = old.waiting ++ map (granted_at granted subscription) found })
-IsQueued found granted subscription old (Err TooManyWaiting) new = (waiting_maximum < length old.waiting + length found) × (new ≡ old)
-IsQueued found granted subscription old (Err NoMemory) new = (length old.waiting + length found ≤ waiting_maximum) × (new ≡ old)
+    (length old.waiting + length found ≤ MAX_WAITING) × (new ≡ record old { waiting = old.waiting ++ map (granted_at granted subscription) found })
+IsQueued found granted subscription old (Err TooManyWaiting) new = (MAX_WAITING < length old.waiting + length found) × (new ≡ old)
+IsQueued found granted subscription old (Err NoMemory) new = (length old.waiting + length found ≤ MAX_WAITING) × (new ≡ old)
 IsQueued found granted subscription old (Err WrongKind) new = ⊥
 IsQueued found granted subscription old (Err TooManyHeld) new = ⊥
 
@@ -92,7 +90,7 @@ pub record IsGiven (now : ℕ) (old : State) (p : PublishValue) (new : State) : 
   pub numbered : IsNumbered old.kinds old.quota p.qos p.id
   pub becomes : new ≡ record old { kinds = kinds_given p.qos p.id old.kinds; waiting = new.waiting }
 
--- nothing is given only where nothing is left to be sent, or the quota is used up
+-- nothing is given only if nothing is left to be sent, or the quota is used up
 abbrev pub IsNext : ℕ → State → Option PublishValue → State → Type 0
 IsNext now old None new = (new ≡ record old { waiting = sendable old.packet_maximum now old.waiting }) × NeedsQuota old.kinds old.quota (sendable old.packet_maximum now old.waiting)
 IsNext now old (Some p) new = IsGiven now old p new

@@ -2,11 +2,12 @@
 use Rattle.std.specs.Prelude.{ℕ, ◌<◌, ◌≤◌, ◌^◌, List, length}
 use Rattle.slab.specs.Slab.{Slab, slab_len}
 use Rattle.rs_window.specs.declared.identifiers.Kind.{Kind}
-use Rattle.rs_window.specs.declared.waiting.Waiting.{Waiting}
+use Rattle.rs_window.specs.declared.queue.Waiting.{Waiting}
+use Rattle.rs_window.specs.declared.queue.TheConstants.{MAX_WAITING}
 
 -- there is room for the whole quota, each slot has an identifier, and not too many wait
 pub record IsInBounds (identifiers : Slab Kind) (waiting : List Waiting) (quota : ℕ) : Type 0 where
   pub within : slab_len identifiers ≤ quota
   pub reserved : quota ≤ identifiers.capacity
   pub numbered : identifiers.capacity < 2 ^ 16
-  pub few : length waiting ≤ 100000
+  pub few : length waiting ≤ MAX_WAITING

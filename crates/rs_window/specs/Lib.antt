@@ -8,3 +8,4 @@ pub mod Fields
 pub mod Calls
 pub mod Replay
 pub mod Held
+pub mod Views

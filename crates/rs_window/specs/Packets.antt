@@ -6,7 +6,7 @@ use Rattle.rs_packet.specs.declared.reply.Reply.{Reply}
 use Rattle.rs_packet.specs.declared.reply.Reply.TheVariants as reply
 use Rattle.rs_window.specs.Values.{PublishValue}
 
--- 3.3.2.2, 3.3.2.3.3: an identifier stands where QoS is 1 or 2, and an interval where the message came with one
+-- 3.3.2.2, 3.3.2.3.3: there is an identifier if QoS is 1 or 2, and an interval if the message came with one
 pub record FieldsFit (p : PublishValue) : Type 0 where
   pub id_fits : IdFits p.qos p.id
   pub expires : is_some p.expiry ≡ is_some p.message.expiry

@@ -5,7 +5,7 @@ use Rattle.rs_packet.specs.Grammar.{IdFits}
 use Rattle.rs_packet.specs.declared.packet.Qos.{Qos}
 use Rattle.rs_packet.specs.declared.packet.Qos.TheVariants.{AtMostOnce}
 use Rattle.rs_window.specs.declared.identifiers.Kind.{Kind}
-use Rattle.rs_window.specs.declared.waiting.Waiting.{Waiting}
+use Rattle.rs_window.specs.declared.queue.Waiting.{Waiting}
 use Rattle.rs_window.specs.Identifiers.{Kinds, kind_sent}
 use Rattle.rs_window.specs.State.{State}
 use Rattle.rs_window.specs.Waiting.{lesser_qos, granted_at, Carries, IsDropped, AllDropped}
@@ -23,7 +23,7 @@ abbrev pub kind_given : ℕ → Qos → Option ℕ → Option Kind → Option Ki
 kind_given id quality None kind = kind
 kind_given id quality (Some given) kind = if id == given then kind_sent quality else kind
 
--- A call concerns an identifier where it gave a PUBLISH with it, or is an acknowledgement of it. After a PUBLISH
+-- A call concerns an identifier if it gave a PUBLISH with it, or is an acknowledgement of it. After a PUBLISH
 -- the identifier waits by its quality, whatever it waited for; after an acknowledgement, by what it waited for. No
 -- other call changes it.
 abbrev pub kind_by : ℕ → Call → Option Kind → Option Kind
@@ -69,7 +69,7 @@ abbrev pub queued : List Call → List Waiting
 queued [] = []
 queued (call ∷ calls) = brought call ++ queued calls
 
--- what leaves the front of the queue in a call: in a `next`, some that may be dropped at its moment, and then
+-- what leaves the queue in a call: in a `next`, some that may be dropped at its moment, and then
 -- the one that its PUBLISH carries
 abbrev pub Leaves : ℕ → Call → List Waiting → Type 0
 Leaves packet_maximum (Queue found granted subscription answer) gone = gone ≡ []
@@ -77,16 +77,16 @@ Leaves packet_maximum (Next now None) gone = AllDropped packet_maximum now gone
 Leaves packet_maximum (Next now (Some p)) gone = (dropped : List Waiting) × (w : Waiting) × (gone ≡ dropped ++ w ∷ []) × AllDropped packet_maximum now dropped × Carries packet_maximum now w p
 Leaves packet_maximum (Acknowledge ack id answer) gone = gone ≡ []
 
--- the front of the queue, all that left it in these calls, in order
-abbrev pub IsFront : ℕ → List Call → List Waiting → Type 0
-IsFront packet_maximum [] front = front ≡ []
-IsFront packet_maximum (call ∷ calls) front = (gone : List Waiting) × (rest : List Waiting) × (front ≡ gone ++ rest) × Leaves packet_maximum call gone × IsFront packet_maximum calls rest
+-- all that left the queue in these calls, in order
+abbrev pub HasLeft : ℕ → List Call → List Waiting → Type 0
+HasLeft packet_maximum [] prefix = prefix ≡ []
+HasLeft packet_maximum (call ∷ calls) prefix = (gone : List Waiting) × (rest : List Waiting) × (prefix ≡ gone ++ rest) × Leaves packet_maximum call gone × HasLeft packet_maximum calls rest
 
--- 4.6: what was queued is the front, each of it given once or dropped, and then what waits
+-- 4.6: what was queued is a prefix, each of it given once or dropped, and then what waits
 pub record IsReplayed (packet_maximum : ℕ) (calls : List Call) (waiting : List Waiting) : Type 0 where
-  pub front : List Waiting
-  pub whole : queued calls ≡ front ++ waiting
-  pub leaves : IsFront packet_maximum calls front
+  pub prefix : List Waiting
+  pub whole : queued calls ≡ prefix ++ waiting
+  pub leaves : HasLeft packet_maximum calls prefix
 
 -- ---- single calls of a run, after the calls before
 
@@ -96,6 +96,6 @@ pub record IsFreeFor (before : List Call) (quality : Qos) (id : Option ℕ) : Ty
   pub free : IfSome id (λ n. kind_after n before ≡ None)
 
 -- 4.9: nothing waits, or what stands first needs an identifier, is not to be dropped, and the quota is used up
-abbrev pub IsHeldBack : ℕ → ℕ → Kinds → ℕ → List Waiting → Type 0
-IsHeldBack packet_maximum now kinds quota [] = Unit {0}
-IsHeldBack packet_maximum now kinds quota (w ∷ ws) = (lesser_qos w ≢ AtMostOnce) × ¬ (IsDropped packet_maximum now w) × (finite.len kinds ≡ quota)
+abbrev pub MayGiveNothing : ℕ → ℕ → Kinds → ℕ → List Waiting → Type 0
+MayGiveNothing packet_maximum now kinds quota [] = Unit {0}
+MayGiveNothing packet_maximum now kinds quota (w ∷ ws) = (lesser_qos w ≢ AtMostOnce) × ¬ (IsDropped packet_maximum now w) × (finite.len kinds ≡ quota)

@@ -10,7 +10,7 @@ use Rattle.rs_message.specs.declared.message.Remaining.TheVariants.{Forever, Lef
 use Rattle.rs_message.specs.Messages.{remaining_of, is_expired}
 use Rattle.rs_window.specs.Values.{PublishValue}
 use Rattle.rs_window.specs.Packets.{reply_of}
-use Rattle.rs_window.specs.declared.waiting.Waiting.{Waiting}
+use Rattle.rs_window.specs.declared.queue.Waiting.{Waiting}
 
 -- a found message with what its subscription was granted
 abbrev pub granted_at : Qos → Option ℕ → Found → Waiting
@@ -58,7 +58,7 @@ len_with w expiry = length (reply_bytes (reply_of (packet_with w expiry (some_id
 abbrev pub packet_len : ℕ → Waiting → ℕ
 packet_len now w = len_with w (interval_sent (remaining_of w.found.message now))
 
--- 3.3.2.3.3, 3.1.2.11.4: it may be dropped at a moment where it has expired, or its packet is longer than the client takes
+-- 3.3.2.3.3, 3.1.2.11.4: it may be dropped at a moment if it has expired, or if its packet is longer than the client takes
 abbrev pub IsDropped : ℕ → ℕ → Waiting → Type 0
 IsDropped packet_maximum now w = (remaining_of w.found.message now ≡ Expired) ⊎ (packet_maximum < packet_len now w)
 
@@ -70,7 +70,7 @@ AllDropped packet_maximum now (w ∷ ws) = IsDropped packet_maximum now w × All
 abbrev pub is_dropped : ℕ → ℕ → Waiting → Bool
 is_dropped packet_maximum now w = is_expired now w.found.message || nat_lt packet_maximum (packet_len now w)
 
--- what still waits once the first messages are dropped, as long as they are to be
+-- what still waits after messages are dropped from the head until one is to be sent
 abbrev pub sendable : ℕ → ℕ → List Waiting → List Waiting
 sendable packet_maximum now [] = []
 sendable packet_maximum now (w ∷ ws) = if is_dropped packet_maximum now w then sendable packet_maximum now ws else w ∷ ws

@@ -1,6 +1,6 @@
-//! The identifiers of PUBLISH packets that are not yet acknowledged.
+//! The identifiers of PUBLISH packets that were sent and are not yet acknowledged.
 
-ghost use Rattle.std.specs.Prelude.{◌≡◌, ◌≢◌, ◌+◌, ◌<◌, ◌≤◌, ◌^◌, Some, None, IsSome};
+ghost use Rattle.std.specs.Prelude.{◌≡◌, ◌≢◌, ◌+◌, ◌<◌, ◌≤◌, ◌^◌, Some, None, IsSome, true, false};
 ghost use Rattle.std.specs.FinMap as map;
 ghost use Rattle.slab.specs.Slab.{slab_len, HasRoomFor};
 ghost use Rattle.rs_window.specs.Identifiers.{kinds_of, IsNumbered, kinds_given};
@@ -11,15 +11,15 @@ use slab::Slab;
 /// What an identifier in use waits for.
 #[derive(Clone, Copy, Debug, PartialEq, Eq)]
 pub enum Kind {
-    /// Sent at QoS 1: a PUBACK (4.3.2).
+    /// A PUBACK: the PUBLISH was sent at QoS 1 (4.3.2).
     AtLeastOnce,
-    /// Sent at QoS 2: a PUBREC (4.3.3).
+    /// A PUBREC: the PUBLISH was sent at QoS 2 (4.3.3).
     ExactlyOnce,
-    /// Sent at QoS 2, and a PUBREC below 0x80 came: a PUBCOMP (4.3.3).
+    /// A PUBCOMP: the PUBLISH was sent at QoS 2, and a PUBREC below 0x80 came (4.3.3).
     Received,
 }
 
-/// The slot of an identifier.
+/// The slot of an identifier: its number less 1, since no identifier is 0 (2.2.1).
 fn slot_of(id: PacketId) -> usize
     ensures { result + 1 ≡ id }
 {
@@ -34,7 +34,7 @@ pub(crate) fn kind_at(identifiers: &Slab<Kind>, id: PacketId) -> Option<Kind>
     identifiers.get(slot_of(id)).copied()
 }
 
-/// Takes a number that is no identifier in use.
+/// Takes a number from 1 to 65,535 that is not in use.
 fn take_number(identifiers: &mut Slab<Kind>, kind: Kind) -> u16
     requires room { HasRoomFor identifiers.old 1 }
     requires small { identifiers.old.capacity < 2 ^ 16 }
@@ -49,6 +49,19 @@ fn take_number(identifiers: &mut Slab<Kind>, kind: Kind) -> u16
     key as u16 + 1
 }
 
+/// Whether a message of this QoS may be sent: it needs no identifier, or the quota is not used up (4.9).
+pub(crate) fn may_be_sent(identifiers: &Slab<Kind>, qos: Qos, quota: usize) -> bool
+    ensures yes { result ≡ true → qos ≢ Qos.AtMostOnce → slab_len identifiers.now < quota }
+    ensures needs { result ≡ false → qos ≢ Qos.AtMostOnce }
+    ensures used_up { result ≡ false → quota ≤ slab_len identifiers.now }
+{
+    match qos {
+        Qos::AtMostOnce => true,
+        Qos::AtLeastOnce => identifiers.len() < quota,
+        Qos::ExactlyOnce => identifiers.len() < quota,
+    }
+}
+
 /// The identifier of a number above 0.
 fn identifier(number: u16) -> Option<PacketId>
     requires { 0 < number }
@@ -57,7 +70,7 @@ fn identifier(number: u16) -> Option<PacketId>
     PacketId::new(number)
 }
 
-/// An identifier for a PUBLISH of this QoS, or none at QoS 0.
+/// An identifier for a PUBLISH of this QoS; none at QoS 0.
 #[tactic(auto, using(crate::proofs::IdentifierLemmas::len_kinds))]
 pub(crate) fn take_identifier(
     identifiers: &mut Slab<Kind>,
@@ -90,7 +103,7 @@ pub(crate) fn free_identifier(identifiers: &mut Slab<Kind>, id: PacketId)
     let _kind = identifiers.try_remove(slot_of(id));
 }
 
-/// Says what an identifier in use waits for now.
+/// Changes what an identifier in use waits for.
 pub(crate) fn change_kind(identifiers: &mut Slab<Kind>, id: PacketId, kind: Kind)
     requires used { IsSome (map.get (kinds_of identifiers.old) id) }
     ensures kinds { kinds_of identifiers.new ≡ map.insert (kinds_of identifiers.old) id kind }

@@ -1,19 +1,76 @@
-//! Identifiers of QoS 2 packets that were received and not yet released.
+//! The identifiers of QoS 2 packets that were received and not yet released.
 
-ghost use Rattle.std.specs.Prelude.{◌≡◌, ◌≤◌, ◌==◌, ◌↔◌, IsErr, OnOk, OnErr, IfErr, false};
+ghost use Rattle.std.specs.Prelude.{◌≡◌, ◌≢◌, ℕ, ◌<◌, ◌≤◌, ◌==◌, ◌↔◌, length, slice_index, IfSome, IfNone, IsErr, OnOk, OnErr, IfErr, false};
 ghost use Rattle.std.specs.FinSet as set;
+ghost use Rattle.arrayvec.specs.ArrayVec.{array_vec_len};
+ghost use Rattle.rs_window.specs.Held.{held_of, IsDistinct};
 
 use crate::fault::WindowFault;
-use crate::held::{put_in, stands, take_out};
 use arrayvec::ArrayVec;
-use rs_packet::PacketId;
+use rs_packet::{PacketId, RECEIVE_MAXIMUM};
 use std::marker::Model;
 
-/// The identifiers of PUBLISH packets of QoS 2 that a client sent and has not yet released by a PUBREL
-/// (4.3.3), seen as a set. There are at most 16, the server's Receive Maximum (3.2.2.3.3).
+/// The size of the table: as many as the server's Receive Maximum.
+const MAX_HELD: usize = RECEIVE_MAXIMUM as usize;
+
+/// The index of an identifier in a list.
+fn position_of(ids: &[u16], id: u16) -> Option<usize>
+    ensures found { IfSome result (λ i. (i < length ids.now) × (slice_index ids.now i ≡ id)) }
+    ensures none { IfNone result ((k : ℕ) → k < length ids.now → slice_index ids.now k ≢ id) }
+{
+    for i in 0..ids.len() {
+        if ids[i] == id {
+            return Some(i);
+        }
+    }
+    None
+}
+
+/// Whether an identifier is in a list.
+#[tactic(auto, using(crate::proofs::HeldLemmas::standing, crate::proofs::HeldLemmas::not_standing))]
+fn is_in(ids: &[u16], id: u16) -> bool
+    ensures { result ≡ set.contains (held_of ids.now) id }
+{
+    match position_of(ids, id) {
+        Some(_) => true,
+        None => false,
+    }
+}
+
+/// Removes an identifier from the table, and tells whether it was there.
+fn take_out(ids: &mut ArrayVec<u16, MAX_HELD>, id: u16) -> bool
+    requires { IsDistinct ids.old.items }
+    ensures held { result ≡ set.contains (held_of ids.old.items) id }
+    ensures removed { held_of ids.new.items ≡ set.remove (held_of ids.old.items) id }
+    ensures distinct { IsDistinct ids.new.items }
+{
+    match position_of(ids.as_slice(), id) {
+        Some(i) => {
+            ids.remove(i);
+            true
+        }
+        None => false,
+    }
+}
+
+/// Appends an identifier to the table.
+fn put_in(ids: &mut ArrayVec<u16, MAX_HELD>, id: u16)
+    requires room { array_vec_len ids.old < MAX_HELD }
+    requires distinct { IsDistinct ids.old.items }
+    requires new { set.contains (held_of ids.old.items) id ≡ false }
+    ensures inserted { held_of ids.new.items ≡ set.insert (held_of ids.old.items) id }
+    ensures distinct { IsDistinct ids.new.items }
+    ensures fits { array_vec_len ids.new ≤ MAX_HELD }
+{
+    ids.push(id);
+}
+
+/// The identifiers of PUBLISH packets of QoS 2 that a client sent and has not yet released by a PUBREL (4.3.3), seen as a
+/// set. At most [`RECEIVE_MAXIMUM`] are held, the Receive Maximum that the server announces (3.2.2.3.3). The table has a
+/// fixed size: no call takes memory.
 #[derive(Drop)]
 pub struct Inbound {
-    ids: ArrayVec<u16, 16>,
+    ids: ArrayVec<u16, MAX_HELD>,
 }
 
 impl Model for Inbound {
@@ -35,7 +92,7 @@ impl Model for Inbound {
 impl Inbound {
     ghost use Rattle.rs_window.specs.declared.fault.WindowFault.TheVariants.{TooManyHeld};
 
-    /// No identifier is held. The table has a fixed size, and no call of it takes memory.
+    /// A table that holds no identifier.
     #[tactic(auto, using(crate::proofs::HeldLemmas::none_held))]
     pub fn new() -> Inbound
         ensures { result ≡ set.empty }
@@ -45,31 +102,31 @@ impl Inbound {
         }
     }
 
-    /// As many are held as may be.
+    /// Whether [`RECEIVE_MAXIMUM`] identifiers are held.
     pub fn is_full(&self) -> bool
-        ensures full { result ≡ set.len self.now == 16 }
-        ensures most { set.len self.now ≤ 16 }
+        ensures full { result ≡ set.len self.now == RECEIVE_MAXIMUM }
+        ensures most { set.len self.now ≤ RECEIVE_MAXIMUM }
     {
         self.ids.is_full()
     }
 
-    /// Whether the identifier is held: a PUBLISH with it is the same one again.
+    /// Whether the identifier is held: a PUBLISH with it is the same one again (4.3.3).
     pub fn holds(&self, id: PacketId) -> bool
         ensures { result ≡ set.contains self.now id }
     {
-        stands(self.ids.as_slice(), id.get())
+        is_in(self.ids.as_slice(), id.get())
     }
 
-    /// Holds it from now on. `TooManyHeld` where 16 others are held, and nothing changes then.
+    /// Holds the identifier from now on. `TooManyHeld` if [`RECEIVE_MAXIMUM`] others are held; nothing changes then.
     #[tactic(auto, using(crate::proofs::HeldLemmas::inserted_again))]
     pub fn begin(&mut self, id: PacketId) -> Result<(), WindowFault>
         ensures ok { OnOk result (self.new ≡ set.insert self.old id) }
         ensures refused { OnErr result (self.new ≡ self.old) }
         ensures fault { IfErr result (λ e. e ≡ TooManyHeld) }
-        ensures full { IsErr result ↔ ((set.len self.old ≡ 16) × (set.contains self.old id ≡ false)) }
-        ensures most { set.len self.new ≤ 16 }
+        ensures full { IsErr result ↔ ((set.len self.old ≡ RECEIVE_MAXIMUM) × (set.contains self.old id ≡ false)) }
+        ensures most { set.len self.new ≤ RECEIVE_MAXIMUM }
     {
-        if stands(self.ids.as_slice(), id.get()) {
+        if is_in(self.ids.as_slice(), id.get()) {
             return Ok(());
         }
         if self.ids.is_full() {
@@ -79,7 +136,7 @@ impl Inbound {
         Ok(())
     }
 
-    /// Holds it no longer. False where it was not held.
+    /// Holds the identifier no longer, and tells whether it was held.
     pub fn release(&mut self, id: PacketId) -> bool
         ensures held { result ≡ set.contains self.old id }
         ensures removed { self.new ≡ set.remove self.old id }

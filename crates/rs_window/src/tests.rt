@@ -2,10 +2,10 @@
 
 ghost use Rattle.std.specs.Prelude.{◌≢◌, ◌<◌, ◌≤◌, [], length};
 
-use crate::{Ack, Inbound, Publish, Window, WindowFault};
+use crate::{Ack, Inbound, MAX_QUOTA, MAX_WAITING, Publish, Window, WindowFault};
 use bytes::Bytes;
 use rs_message::{Found, Message};
-use rs_packet::{PacketId, Properties, Qos, SubscriptionId, encode};
+use rs_packet::{PacketId, Properties, Qos, RECEIVE_MAXIMUM, SubscriptionId, encode};
 use rs_topic::TopicName;
 use std::alloc::Global;
 use std::process::Abort;
@@ -35,7 +35,7 @@ fn one(alloc: Global, found: Option<Found>) -> Option<Vec<Found>> {
     Some(all)
 }
 
-/// So many messages under one topic, at this quality.
+/// `count` messages under one topic, at this QoS.
 fn many(alloc: Global, topic: &[u8], count: u32, qos: Qos) -> Option<Vec<Found>> {
     let mut all = Vec::new(alloc);
     for _ in 0..count {
@@ -63,7 +63,7 @@ enum Call {
     Pubcomp(u16, u8),
 }
 
-/// What a call answers. A given PUBLISH is told by its topic, of one byte, and its identifier, 0 where it has none.
+/// What a call answers. A given PUBLISH is told by its topic, of one byte, and its identifier, 0 if it has none.
 #[derive(Clone, Copy, Debug, PartialEq, Eq)]
 enum Answer {
     Gives(u8, u16),
@@ -166,7 +166,7 @@ fn too_long_for_the_client(rt: HostRuntime) -> Result<(), Fail> {
     run(&rt, &mut window, &[(Call::Next(0), Answer::Gives(b'b', 1))])
 }
 
-/// Whether the first packet that a window gives at 9 is these bytes. Nothing waits behind it.
+/// Whether the first packet that a window gives at 9 is these bytes. Nothing else waits.
 fn gives(rt: &impl Abort, alloc: Global, window: &mut Window, sent: &[u8]) -> Result<(), Fail> {
     let publish = window.next(9).ok_or("nothing is given")?;
     let packet = encode(alloc, &publish.reply())?;
@@ -175,7 +175,7 @@ fn gives(rt: &impl Abort, alloc: Global, window: &mut Window, sent: &[u8]) -> Re
     Ok(())
 }
 
-/// A message whose packet is these bytes is given where the client takes so many, and dropped where it takes one less.
+/// A message whose packet is these bytes is given if the client takes so many, and dropped if it takes one byte less.
 fn is_sent_as(
     rt: &impl Abort,
     alloc: Global,
@@ -203,7 +203,7 @@ fn is_sent_as(
 fn packets(rt: HostRuntime) -> Result<(), Fail> {
     let alloc = rt.alloc();
     let (once, twice) = (Qos::AtLeastOnce, Qos::ExactlyOnce);
-    // The lesser of the published and the granted quality.
+    // The lesser of the published and the granted QoS.
     let at_1 = b"\x33\x07\x00\x01a\x00\x01\x00x";
     is_sent_as(&rt, alloc, at_1, (b"a", once, None), once, None)?;
     is_sent_as(&rt, alloc, at_1, (b"a", once, None), twice, None)?;
@@ -258,19 +258,97 @@ fn identifiers_in_order(rt: HostRuntime) -> Result<(), Fail> {
     run(&rt, &mut window, &rows)
 }
 
-#[test]
-fn at_most_100000_wait(rt: HostRuntime) -> Result<(), Fail> {
-    let alloc = rt.alloc();
+/// A window in which as many messages wait as may.
+fn full_queue(alloc: Global) -> Result<Window, Fail> {
     let mut window = Window::new(alloc, 1, u32::MAX)?;
+    let most = many(alloc, b"a", MAX_WAITING as u32, Qos::AtLeastOnce);
+    queue(&mut window, most, Qos::AtLeastOnce)?;
+    Ok(window)
+}
+
+#[test]
+fn no_more_than_the_limit_wait(rt: HostRuntime) -> Result<(), Fail> {
+    let alloc = rt.alloc();
+    let mut window = full_queue(alloc)?;
     queue(
         &mut window,
-        many(alloc, b"a", 100_000, Qos::AtLeastOnce),
-        Qos::AtLeastOnce,
+        many(alloc, b"b", 0, Qos::AtMostOnce),
+        Qos::AtMostOnce,
     )?;
-    let more = many(alloc, b"a", 1, Qos::AtLeastOnce).ok_or("no memory")?;
+    let more = many(alloc, b"b", 1, Qos::AtLeastOnce).ok_or("no memory")?;
     let refused = window.queue(more, Qos::AtLeastOnce, None);
     assert_eq!(rt; refused, Err(WindowFault::TooManyWaiting));
-    run(&rt, &mut window, &[(Call::Next(0), Answer::Gives(b'a', 1))])
+    run(&rt, &mut window, &[(Call::Next(0), Answer::Gives(b'a', 1))])?;
+    queue(
+        &mut window,
+        many(alloc, b"b", 1, Qos::AtMostOnce),
+        Qos::AtMostOnce,
+    )
+}
+
+#[test]
+fn more_than_the_limit_at_once(rt: HostRuntime) -> Result<(), Fail> {
+    let alloc = rt.alloc();
+    let mut window = Window::new(alloc, u16::MAX, 1)?;
+    let more = many(alloc, b"a", MAX_WAITING as u32 + 1, Qos::AtMostOnce);
+    let refused = window.queue(more.ok_or("no memory")?, Qos::AtMostOnce, None);
+    assert_eq!(rt; refused, Err(WindowFault::TooManyWaiting));
+    run(&rt, &mut window, &[(Call::Next(0), Answer::Nothing)])
+}
+
+/// Whether a window with this Receive Maximum gives just so many messages of QoS 2.
+fn gives_as_many(
+    rt: &impl Abort,
+    alloc: Global,
+    receive_maximum: u16,
+    quota: u16,
+) -> Result<(), Fail>
+    requires some { 0 < receive_maximum }
+    requires few { quota < 2000 }
+{
+    let mut window = Window::new(alloc, receive_maximum, u32::MAX)?;
+    let messages = many(alloc, b"a", quota as u32 + 1, Qos::ExactlyOnce);
+    queue(&mut window, messages, Qos::ExactlyOnce)?;
+    for number in 0..quota {
+        let given = answer_of(&mut window, Call::Next(0))?;
+        assert_eq!(rt; given, Answer::Gives(b'a', number + 1), "{receive_maximum}");
+    }
+    run(rt, &mut window, &[(Call::Next(0), Answer::Nothing)])
+}
+
+#[test]
+fn every_receive_maximum_is_accepted(rt: HostRuntime) -> Result<(), Fail> {
+    let alloc = rt.alloc();
+    gives_as_many(&rt, alloc, 1, 1)?;
+    gives_as_many(&rt, alloc, 2, 2)?;
+    gives_as_many(&rt, alloc, MAX_QUOTA - 1, MAX_QUOTA - 1)?;
+    gives_as_many(&rt, alloc, MAX_QUOTA, MAX_QUOTA)?;
+    gives_as_many(&rt, alloc, MAX_QUOTA + 1, MAX_QUOTA)?;
+    gives_as_many(&rt, alloc, 40_000, MAX_QUOTA)?;
+    gives_as_many(&rt, alloc, u16::MAX, MAX_QUOTA)
+}
+
+/// Identifiers freed out of order: the last one freed is given first, and then the one freed before it.
+#[test]
+fn the_last_freed_identifier_comes_first(rt: HostRuntime) -> Result<(), Fail> {
+    let alloc = rt.alloc();
+    let mut window = Window::new(alloc, 3, u32::MAX)?;
+    queue(
+        &mut window,
+        many(alloc, b"a", 7, Qos::AtLeastOnce),
+        Qos::AtLeastOnce,
+    )?;
+    let rows = [
+        (Call::Next(0), Answer::Gives(b'a', 1)),
+        (Call::Next(0), Answer::Gives(b'a', 2)),
+        (Call::Next(0), Answer::Gives(b'a', 3)),
+        (Call::Puback(1, 0x00), Answer::Does(Ack::Freed)),
+        (Call::Puback(3, 0x80), Answer::Does(Ack::Freed)),
+        (Call::Next(0), Answer::Gives(b'a', 3)),
+        (Call::Next(0), Answer::Gives(b'a', 1)),
+        (Call::Next(0), Answer::Nothing),
+    ];
+    run(&rt, &mut window, &rows)
 }
 
 /// A window with two messages `a` that wait, and nine more to be queued, for which its queue has to grow.
@@ -281,10 +359,10 @@ fn before_a_refusal(alloc: Global) -> Option<(Window, Vec<Found>)> {
     Some((window, many(alloc, b"b", 9, Qos::AtMostOnce)?))
 }
 
-/// It passes with ample memory, and also where any one allocation is refused: a refused `queue` answers want of memory,
-/// and what waited before is given then, and nothing of the refused list.
+/// It passes with ample memory, and also if any one allocation is refused: a refused `queue` answers `NoMemory`, and then
+/// what waited before is given, and nothing of the refused list.
 #[test]
-fn queue_where_memory_may_be_refused(rt: HostRuntime) -> Result<(), Fail> {
+fn queue_if_memory_is_refused(rt: HostRuntime) -> Result<(), Fail> {
     let Some((mut window, later)) = before_a_refusal(rt.alloc()) else {
         return Ok(());
     };
@@ -301,32 +379,51 @@ fn queue_where_memory_may_be_refused(rt: HostRuntime) -> Result<(), Fail> {
 }
 
 #[test]
-fn sixteen_are_held(rt: HostRuntime) -> Result<(), Fail> {
+fn as_many_are_held_as_announced(rt: HostRuntime) -> Result<(), Fail> {
     let mut inbound = Inbound::new();
-    for number in 1..17u16 {
-        assert!(rt; inbound.begin(id(number)?).is_ok());
+    for number in 0..RECEIVE_MAXIMUM {
+        assert!(rt; !inbound.is_full());
+        assert!(rt; inbound.begin(id(number + 1)?).is_ok());
     }
+    assert!(rt; inbound.is_full());
     assert_eq!(rt; inbound.begin(id(17)?), Err(WindowFault::TooManyHeld));
     assert!(rt; !inbound.holds(id(17)?));
     assert!(rt; inbound.begin(id(16)?).is_ok());
     assert!(rt; inbound.release(id(3)?));
     assert!(rt; !inbound.release(id(3)?));
-    assert!(rt; inbound.begin(id(17)?).is_ok());
-    assert!(rt; inbound.holds(id(17)?));
+    assert!(rt; inbound.begin(id(u16::MAX)?).is_ok());
+    assert!(rt; inbound.holds(id(u16::MAX)?));
     Ok(())
 }
 
 #[test]
-fn faults(rt: HostRuntime) -> Result<(), Fail> {
+fn faults_have_codes_and_texts(rt: HostRuntime) -> Result<(), Fail> {
     let rows = [
-        (WindowFault::TooManyWaiting, 50, "subscribe to fewer topics"),
-        (WindowFault::NoMemory, 51, "subscribe again later"),
-        (WindowFault::WrongKind, 52, "answer QoS 1 by PUBACK"),
-        (WindowFault::TooManyHeld, 53, "send PUBREL"),
+        (
+            WindowFault::TooManyWaiting,
+            50,
+            "more than 100000 messages would wait for this client; subscribe to fewer topics at a time",
+        ),
+        (
+            WindowFault::NoMemory,
+            51,
+            "there is no memory for the messages that would wait; subscribe again later",
+        ),
+        (
+            WindowFault::WrongKind,
+            52,
+            "the packet identifier waits for another acknowledgement; answer QoS 1 by PUBACK, QoS 2 by PUBREC and then PUBCOMP",
+        ),
+        (
+            WindowFault::TooManyHeld,
+            53,
+            "16 messages of QoS 2 are not yet released; send PUBREL for one of them first",
+        ),
     ];
-    for (fault, code, part) in rows {
+    for (fault, code, text) in rows {
         assert_eq!(rt; fault.code(), code);
-        assert!(rt; format!(in rt.alloc(); "{fault}")?.contains(part));
+        let shown = format!(in rt.alloc(); "{fault}")?;
+        assert_eq!(rt; shown.as_str(), text);
     }
     Ok(())
 }

@@ -1,29 +1,113 @@
-//! The replay of retained messages to one client.
+//! The replay of retained messages to one client, and what is sent of each.
 
-ghost use Rattle.std.specs.Prelude.{◌≡◌, ◌<◌, ◌≤◌, IfOk, IfErr, IfSome, Ok, length};
+ghost use Rattle.std.specs.Prelude.{◌≡◌, ◌≢◌, ◌<◌, ◌≤◌, IfOk, IfErr, IfSome, Ok, length};
+ghost use Rattle.rs_packet.specs.Grammar.{IdFits};
+ghost use Rattle.rs_message.specs.Messages.{remaining_of};
+ghost use Rattle.rs_window.specs.Waiting.{lesser_qos, interval_sent, packet_at};
 ghost use Rattle.rs_window.specs.Calls.{fresh, IsQueued, IsNext, IsAcknowledged, Puback, Pubrec, Pubcomp};
 
-use crate::appending::append;
 use crate::fault::{Ack, WindowFault};
 use crate::identifiers::{Kind, change_kind, free_identifier, kind_at};
-use crate::leaving::take_first;
-use crate::publish::Publish;
-use crate::sendable::{drop_unsendable, publish_of};
-use crate::waiting::Waiting;
-use rs_message::Found;
-use rs_packet::{PacketId, Qos, SubscriptionId};
+use crate::queue::{MAX_WAITING, Waiting, append, drop_unsendable, lesser_of, take_first};
+use rs_message::{Found, Message, Remaining};
+use rs_packet::{PacketId, Publication, Qos, Reply, SubscriptionId};
+use rs_topic::TopicName;
 use slab::Slab;
 use std::alloc::{AllocError, Global};
 use std::collections::VecDeque;
 use std::marker::Model;
 
-/// The greatest quota.
-const QUOTA_MAXIMUM: u16 = 1024;
+/// The greatest initial quota: so many packets of QoS 1 and 2 wait for an acknowledgement at a time, whatever greater
+/// Receive Maximum a client names (4.9; this server's choice).
+pub const MAX_QUOTA: u16 = 1024;
 
-/// How many messages may wait.
-const WAITING_MAXIMUM: usize = 100_000;
+/// A retained message as it is sent at a moment.
+#[derive(Drop)]
+pub struct Publish {
+    /// The topic that holds the message.
+    pub topic: TopicName,
+    /// The retained message.
+    pub message: Message,
+    /// The lesser of the published and the granted QoS (3.8.4).
+    pub qos: Qos,
+    /// The packet identifier: there is one exactly if QoS is 1 or 2 (3.3.2.2).
+    pub id: Option<PacketId>,
+    /// The seconds that are left of the Message Expiry Interval (3.3.2.3.3). None if the message does not expire.
+    pub expiry: Option<u32>,
+    /// The Subscription Identifier of the subscription that it answers, None if it has none (3.3.2.3.8).
+    pub subscription: Option<SubscriptionId>,
+}
 
-/// What was sent to one client and is not yet acknowledged, and what waits to be sent to it.
+impl Model for Publish {
+    ghost use Rattle.rs_window.specs.Values.{PublishValue};
+
+    ghost Value = { PublishValue };
+
+    ghost use Rattle.rs_window.specs.Packets.{FieldsFit};
+    ghost use Rattle.rs_window.specs.Views.{publish_view};
+
+    ghost view = { publish_view };
+
+    ghost invariant = { λ p. FieldsFit (publish_view p) };
+}
+
+impl Publish {
+    ghost use Rattle.std.specs.Prelude.{◌≡◌};
+    ghost use Rattle.rs_window.specs.Packets.{reply_of};
+
+    /// Its packet, with RETAIN 1 and DUP 0 (3.3.1). It copies nothing and takes no memory.
+    pub fn reply(self) -> Reply
+        ensures { result ≡ reply_of self }
+    {
+        let Publish {
+            topic,
+            message,
+            qos,
+            id,
+            expiry,
+            subscription,
+        } = self;
+        let (payload, _qos, _received, _expiry, properties) = message.into_parts();
+        Reply::Publish(Publication::new(topic, qos, id, expiry, subscription, properties, payload))
+    }
+}
+
+/// The interval that is sent at this moment, if there is one (3.3.2.3.3).
+fn interval_at(message: &Message, now: u64) -> Option<u32>
+    ensures { result ≡ interval_sent (remaining_of message.now now) }
+{
+    match message.remaining(now) {
+        Remaining::Left(seconds) => Some(seconds),
+        Remaining::Forever => None,
+        Remaining::Expired => None,
+    }
+}
+
+/// What is sent of a message at this moment.
+fn publish_of(waiting: Waiting, now: u64, id: Option<PacketId>) -> Publish
+    requires fits { IdFits (lesser_qos waiting) id }
+    requires current { remaining_of waiting.found.message now ≢ Remaining.Expired }
+    ensures { result ≡ packet_at now waiting id }
+{
+    let qos = lesser_of(&waiting);
+    let Waiting {
+        found,
+        granted: _,
+        subscription,
+    } = waiting;
+    let Found { topic, message } = found;
+    let expiry = interval_at(&message, now);
+    Publish {
+        topic,
+        message,
+        qos,
+        id,
+        expiry,
+        subscription,
+    }
+}
+
+/// The packets that were sent to one client and are not yet acknowledged, and the messages that wait to be sent to it.
 #[derive(Drop)]
 pub struct Window {
     identifiers: Slab<Kind>,
@@ -53,9 +137,10 @@ impl Model for Window {
 }
 
 impl Window {
-    /// A window with nothing in it. `receive_maximum` is the client's Receive Maximum, 65,535 where it named none
-    /// (3.1.2.11.3); `packet_maximum` its Maximum Packet Size in bytes, 4,294,967,295 where it named none (3.1.2.11.4).
-    /// Room for all identifiers is reserved here. The error is want of memory.
+    /// An empty window. `receive_maximum` is the client's Receive Maximum, 1 to 65,535, and 65,535 if it names none
+    /// (3.1.2.11.3). `packet_maximum` is its Maximum Packet Size in bytes, 4,294,967,295 if it names none (3.1.2.11.4).
+    /// The quota is the lesser of the Receive Maximum and [`MAX_QUOTA`]; memory for that many identifiers is reserved here,
+    /// and an error says that this memory was refused.
     pub fn new(
         alloc: Global,
         receive_maximum: u16,
@@ -65,9 +150,9 @@ impl Window {
         requires takes { 0 < packet_maximum }
         ensures { IfOk result (λ w. w ≡ fresh receive_maximum packet_maximum) }
     {
-        let quota = receive_maximum.min(QUOTA_MAXIMUM) as usize;
+        let quota = receive_maximum.min(MAX_QUOTA) as usize;
         let identifiers = Slab::with_capacity(alloc, quota)?;
-        // Each slot has an identifier only where there are at most 65,535 (2.2.1).
+        // An identifier is the number of a slot plus 1, and has two bytes (2.2.1).
         if identifiers.capacity() > 65535 {
             return Err(AllocError);
         }
@@ -86,8 +171,8 @@ impl Window {
         self.packet_maximum
     }
 
-    /// All of these wait behind what waits, in this order, or none of them. `TooManyWaiting` where more than 100,000 would
-    /// wait, `NoMemory` where memory is refused. `granted` is the quality that the subscription was granted (3.8.4).
+    /// Appends all messages to what waits, in order, or none. `granted` is the QoS that the subscription was granted
+    /// (3.8.4). `TooManyWaiting` if more than [`MAX_WAITING`] would wait, `NoMemory` if memory is refused.
     pub fn queue(
         &mut self,
         found: Vec<Found>,
@@ -96,7 +181,7 @@ impl Window {
     ) -> Result<(), WindowFault>
         ensures { IsQueued found.items granted subscription self.old result self.new }
     {
-        if found.len() > WAITING_MAXIMUM - self.waiting.len() {
+        if found.len() > MAX_WAITING - self.waiting.len() {
             return Err(WindowFault::TooManyWaiting);
         }
         match append(&mut self.waiting, found, granted, subscription) {
@@ -105,8 +190,9 @@ impl Window {
         }
     }
 
-    /// The next message to be sent at this moment, in seconds. What has expired, or is longer than the client takes, is
-    /// dropped. None where nothing is left, or the first message needs an identifier and the quota is used up (4.9).
+    /// The next message to be sent, at `now` in seconds. Messages before it that have expired, or whose packets are longer
+    /// than the client takes, are dropped. None if nothing is left, or if the first message needs an identifier and the
+    /// quota is used up (4.9). It takes no memory.
     pub fn next(&mut self, now: u64) -> Option<Publish>
         ensures step { IsNext now self.old result self.new }
         ensures fewer { IfSome result (λ _. length self.new.waiting < length self.old.waiting) }
@@ -116,7 +202,7 @@ impl Window {
         Some(publish_of(first, now, id))
     }
 
-    /// A PUBACK came (4.3.2). `WrongKind` where the identifier was given at QoS 2.
+    /// Handles a PUBACK (4.3.2), whatever its reason code. `WrongKind` if the identifier was sent at QoS 2.
     #[tactic(auto, using(crate::proofs::IdentifierLemmas::put_same))]
     pub fn on_puback(&mut self, id: PacketId, _code: u8) -> Result<Ack, WindowFault>
         ensures step { IsAcknowledged Puback id self.old result self.new }
@@ -136,8 +222,8 @@ impl Window {
         }
     }
 
-    /// A PUBREC came (4.3.3). Below 0x80 a PUBREL is due; from there on the identifier is free. `WrongKind` where the
-    /// identifier was given at QoS 1.
+    /// Handles a PUBREC (4.3.3). Below 0x80 its reason code asks for a PUBREL; from 0x80 on the identifier is free.
+    /// `WrongKind` if the identifier was sent at QoS 1.
     #[tactic(auto, using(crate::proofs::IdentifierLemmas::put_same))]
     pub fn on_pubrec(&mut self, id: PacketId, code: u8) -> Result<Ack, WindowFault>
         ensures step { IsAcknowledged (Pubrec code) id self.old result self.new }
@@ -159,7 +245,8 @@ impl Window {
         }
     }
 
-    /// A PUBCOMP came (4.3.3). `WrongKind` where the identifier was given at QoS 1, or no PUBREC came before.
+    /// Handles a PUBCOMP (4.3.3), whatever its reason code. `WrongKind` if the identifier was sent at QoS 1, or no PUBREC
+    /// came before.
     #[tactic(auto, using(crate::proofs::IdentifierLemmas::put_same))]
     pub fn on_pubcomp(&mut self, id: PacketId, _code: u8) -> Result<Ack, WindowFault>
         ensures step { IsAcknowledged Pubcomp id self.old result self.new }

@@ -1,5 +1,5 @@
 use Rattle.std.proofs.Common.{◌≡◌}
-use Rattle.rs_topic.proofs.Matched.{fits}
+use Rattle.rs_topic.specs.Matching.{fits}
 use Rattle.rs_topic.proofs.matching.fits.Given as goal
 
 abbrev pub invariant-loop-wanted : goal.invariant-loop-wanted

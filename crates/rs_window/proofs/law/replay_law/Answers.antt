@@ -1,4 +1,4 @@
-use Rattle.rs_window.proofs.ReplayLemmas.{last_concerns, kinds_read, quota_holds, replayed, few_wait, fresh_id, held_back, answered}
+use Rattle.rs_window.proofs.ReplayLemmas.{last_concerns, kinds_read, quota_holds, replayed, few_wait, fresh_id, nothing_given, answered}
 use Rattle.rs_window.proofs.law.replay_law.Goals as goal
 
 pub returns-clause-last : goal.returns-clause-last
@@ -20,7 +20,7 @@ pub returns-clause-identifiers : goal.returns-clause-identifiers
 returns-clause-identifiers c = fresh_id
 
 pub returns-clause-none : goal.returns-clause-none
-returns-clause-none c = held_back
+returns-clause-none c = nothing_given
 
 pub returns-clause-answers : goal.returns-clause-answers
 returns-clause-answers c = answered
