@@ -1,5 +1,13 @@
+pub mod Choosing
+pub mod Clearing
+pub mod Copying
 pub mod Entries
+pub mod Growing
 pub mod Histories
+pub mod Looking
 pub mod Maps
-pub mod Matching
+pub mod Places
+pub mod Rooms
 pub mod Standing
+pub mod Stopping
+pub mod Trees

@@ -1,17 +1,22 @@
 -- How an operation changes the number of topics that hold a message.
-use Rattle.std.proofs.Common.{◌≡◌, ℕ, ◌+◌, ◌<◌, ◌≤◌, Bool, true, false, List, [], ◌∷◌, length, refl, sym, subst, ◌∙◌, arith, fold, Option, Some, None, is_some}
+use Rattle.std.proofs.Common.{◌≡◌, ℕ, ◌+◌, ◌<◌, ◌≤◌, inl, inr, Bool, true, false, List, [], ◌∷◌, ◌++◌, length, refl, sym, ap, subst, ◌∙◌, arith, append_assoc, fold, Option, Some, None, is_some}
 use Rattle.std.specs.Prelude.{nat_le}
 use Rattle.std.specs.Option.{unwrap_or, option_map}
 use Rattle.std.specs.List.{sum_by}
 use Rattle.std.specs.List.Sorted.{IsStrictlySortedBy}
 use Rattle.std.specs.Map.{keys_of, values_of, lookup, remove_entry}
 use Rattle.std.specs.BTreeMap.{insert_entry, is_at}
+use Rattle.std.specs.Ordering.{match_ordering, ordering_reverse}
+use Rattle.std.specs.declared.cmp.Ordering.{Ordering}
+use Rattle.std.specs.declared.cmp.Ordering.TheVariants.{Less, Equal, Greater}
+use Rattle.std.proofs.lemmas.Map.Keys.{sorted_tail}
 use Rattle.std.proofs.lemmas.Map.Entries.{sum_by-insert_entry, sum_by-remove_entry}
 use Rattle.std.proofs.lemmas.List.{length-map}
 use Rattle.std.proofs.lemmas.Bool.Decides.{nat_tests}
 use Rattle.rs_topic.specs.Order.{topic_cmp}
 use Rattle.rs_topic.specs.TopicOrder.{topic_total}
 use Rattle.rs_message.specs.Values.{MessageValue}
+use Rattle.rs_store.proofs.Entries.{Among, behind}
 
 abbrev Held : Type 0
 Held = List (List ℕ × MessageValue)
@@ -63,3 +68,47 @@ no_room held k v limit sorted full new = le_false (length (insert_entry topic_cm
 
 pub room_after_clear : (test : List ℕ → Bool) (held : Held) (limit : ℕ) → length held ≤ limit → nat_le (length (remove_entry test held)) limit ≡ true
 room_after_clear test held limit fits = le_true (length (remove_entry test held)) limit (omega (arith, fits, remove_le test held))
+
+-- ---- a removal
+
+pub remove_there : (test : List ℕ → Bool) (held : Held) → is_some (lookup test held) ≡ true → length (remove_entry test held) + 1 ≡ length held
+remove_there test [] h = absurd (cc (h))
+remove_there test (e ∷ es) h = at (test e.0) refl h (λ k. remove_there test es k)
+  where
+    at : (b : Bool) → test e.0 ≡ b → is_some (lookup test (e ∷ es)) ≡ true → (is_some (lookup test es) ≡ true → length (remove_entry test es) + 1 ≡ length es) → length (remove_entry test (e ∷ es)) + 1 ≡ length (e ∷ es)
+    at true is k more = rw is (omega arith)
+    at false is k more = let m : length (remove_entry test es) + 1 ≡ length es = more (rw is at k) in rw is (omega arith)
+
+pub remove_absent : (test : List ℕ → Bool) (held : Held) → is_some (lookup test held) ≡ false → remove_entry test held ≡ held
+remove_absent test [] h = refl
+remove_absent test (e ∷ es) h = at (test e.0) refl h (λ k. remove_absent test es k)
+  where
+    at : (b : Bool) → test e.0 ≡ b → is_some (lookup test (e ∷ es)) ≡ false → (is_some (lookup test es) ≡ false → remove_entry test es ≡ es) → remove_entry test (e ∷ es) ≡ e ∷ es
+    at true is k more = absurd (cc (is, k))
+    at false is k more = rw is (ap (λ (l : Held). e ∷ l) (more (rw is at k)))
+
+-- ---- an insertion behind all others
+
+pub insert_last : (held rest : Held) (k : List ℕ) (v : MessageValue) → IsStrictlySortedBy topic_cmp (keys_of (held ++ (k, v) ∷ rest)) → insert_entry topic_cmp held k v ≡ held ++ (k, v) ∷ []
+insert_last [] rest k v sorted = refl
+insert_last (e ∷ es) rest k v sorted =
+    let below : topic_cmp e.0 k ≡ Less = behind topic_cmp e (es ++ (k, v) ∷ rest) k v sorted (there es) in
+    at (topic_cmp k e.0) (ordered (topic_cmp k e.0) (topic_total.antisymm e.0 k) below) (insert_last es rest k v (sorted_tail topic_cmp e.0 (keys_of (es ++ (k, v) ∷ rest)) sorted))
+  where
+    there : (xs : Held) → Among (k, v) (xs ++ (k, v) ∷ rest)
+    there [] = inl refl
+    there (x ∷ xs) = inr (there xs)
+
+    ordered : (o : Ordering) → topic_cmp e.0 k ≡ ordering_reverse o → topic_cmp e.0 k ≡ Less → o ≡ Greater
+    ordered Less is less = absurd (cc (is, less))
+    ordered Equal is less = absurd (cc (is, less))
+    ordered Greater is less = refl
+
+    at : (o : Ordering) → o ≡ Greater → insert_entry topic_cmp es k v ≡ es ++ (k, v) ∷ [] → match_ordering o ((k, v) ∷ e ∷ es) ((e.0, v) ∷ es) (e ∷ insert_entry topic_cmp es k v) ≡ e ∷ es ++ (k, v) ∷ []
+    at o is more = rw is (ap (λ (w : Held). e ∷ w) more)
+
+-- what was copied, and what is left to copy
+pub insert_next : (held rest whole : Held) (k : List ℕ) (v : MessageValue) → held ++ (k, v) ∷ rest ≡ whole → IsStrictlySortedBy topic_cmp (keys_of whole) → insert_entry topic_cmp held k v ++ rest ≡ whole
+insert_next held rest whole k v is sorted =
+    let P : Held → Type 0 = λ w. IsStrictlySortedBy topic_cmp (keys_of w) in
+    ap (λ w. w ++ rest) (insert_last held rest k v (subst P (sym is) sorted)) ∙ (append_assoc held ((k, v) ∷ []) rest ∙ is)

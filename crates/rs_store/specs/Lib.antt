@@ -1,6 +1,11 @@
+pub mod Chosen
 pub mod Codes
 pub mod Contents
 pub mod History
 pub mod Law
 pub mod Maps
-pub mod Matching
+pub mod Nodes
+pub mod Room
+pub mod Spots
+pub mod Trees
+pub mod Weights

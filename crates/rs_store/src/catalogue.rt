@@ -1,9 +1,10 @@
-//! What the layers above know of a catalogue.
+//! The interface of a catalogue.
 
 ghost use Rattle.std.specs.Prelude.{◌≡◌, List, ◌∷◌, [], ◌++◌, length, slice_index, MatchResult, OnOk, OnErr, IfOk, IfErr};
+ghost use Rattle.std.specs.Option.{option_map};
 ghost use Rattle.rs_message.specs.declared.entry.Entry.{Entry};
 ghost use Rattle.rs_store.specs.declared.content.Content.{Content};
-ghost use Rattle.rs_store.specs.Contents.{Accepts, NotAddedBy, RefusedBy, answer_in, empty, followed};
+ghost use Rattle.rs_store.specs.Contents.{Accepts, NotAddedBy, RefusedBy, answer_in, answer_within, empty, followed};
 ghost use Rattle.rs_store.specs.History.{IsLegal, MayNotFollow, Stands};
 
 use crate::fault::Refusal;
@@ -12,46 +13,59 @@ use rs_message::{Entry, Found};
 use rs_topic::TopicFilter;
 use std::alloc::{AllocError, Global};
 
-/// The retained messages after a list of entries. A catalogue is seen by its content, which two catalogues of one list have in
-/// common; what a content has to do with the list is the contract of [`content_law`](crate::content_law).
+/// The retained messages after a list of entries. Contracts see a catalogue as its [`Content`](crate::Content): two catalogues of
+/// one list have the same. [`content_law`](crate::content_law) says how a content follows from the list.
 pub trait Catalogue {
     ghost content: { Self → Content };
 
-    /// The catalogue of no entry: version 0, no topic, the last serial of each place 0.
+    /// An empty catalogue: version 0, no topic, and 0 as the last serial of each place.
     fn new(alloc: Global, limit: TopicLimit) -> Result<Self, AllocError>
         ensures { IfOk result (λ c. content c ≡ empty limit) };
 
-    /// Whether the entry may come next: `Stale` where its serial is not above the last one of its place, else `Full` where the
-    /// version is the greatest u64 or a topic more would hold a message than the limit allows. It takes no memory.
+    /// Whether the entry may come next. `Stale` if its serial does not exceed the last one of its place, else `Full` if the
+    /// version is `u64::MAX` or more topics than the limit would hold a message. Allocates nothing.
     fn accepts(&self, entry: &Entry) -> Result<(), Refusal>
         ensures { MatchResult result (λ _. Accepts (content self.now) entry.now) (λ r. RefusedBy (content self.now) entry.now r) };
 
-    /// Puts an entry that is accepted behind the others. Refused for want of memory, it changes nothing.
+    /// Appends an entry that is accepted. If memory is refused, nothing changes.
     fn apply(&mut self, entry: Entry) -> Result<(), AllocError>
         requires { Accepts (content self.old) entry }
         ensures done { OnOk result (content self.new ≡ followed (content self.old) entry) }
         ensures refused { OnErr result (content self.new ≡ content self.old) };
 
-    /// Copies of the messages that the filter matches and that are not expired at a moment, in seconds, in the order of replay
-    /// (section 3.8.4).
+    /// Copies of the messages that the filter matches and that are not expired, in the order of replay (section 3.8.4).
+    /// `now` is in seconds. Copies share the bytes of topics, texts and payloads.
     fn answer(&self, filter: &TopicFilter, now: u64) -> Result<Vec<Found>, AllocError>
         ensures { IfOk result (λ found. found.items ≡ answer_in filter.now now (content self.now)) };
 
-    /// How many entries there were.
+    /// The same answer if it has at most `room` messages, else `None`. Gives up at the first message beyond the room.
+    fn answer_within(
+        &self,
+        filter: &TopicFilter,
+        now: u64,
+        room: usize,
+    ) -> Result<Option<Vec<Found>>, AllocError>
+        ensures { IfOk result (λ answer. option_map (λ found. found.items) answer ≡ answer_within room filter.now now (content self.now)) };
+
+    /// The number of entries.
     fn version(&self) -> u64
         ensures { result ≡ (content self.now).version };
 
-    /// The greatest serial of the place, or 0.
+    /// The last serial of a place, or 0 if it has none.
     fn last_serial(&self, place: u8) -> u64
         ensures { result ≡ slice_index (content self.now).serials place };
 
-    /// How many topics hold a message.
+    /// The number of topics that hold a message.
     fn count(&self) -> u32
         ensures { result ≡ length (content self.now).held };
+
+    /// A catalogue of the same content. It shares the bytes of topics, texts and payloads, which are counted references.
+    fn copy(&self) -> Result<Self, AllocError>
+        ensures { IfOk result (λ c. content c ≡ content self.now) };
 }
 
-/// Puts the entry behind the others where it may come next. Refused, it changes nothing: `Stale` and `Full` as in
-/// [`Catalogue::accepts`], without memory, and `NoMemory` for an entry that may come next.
+/// Appends an entry. Rejects it as `Stale` or `Full`, as [`Catalogue::accepts`] does and without an allocation, else as `NoMemory`
+/// if memory is refused. A rejected entry changes nothing.
 pub fn add<C: Catalogue>(catalogue: &mut C, entry: Entry) -> Result<(), Refusal>
     ensures done { OnOk result (Accepts (C.content catalogue.old) entry × (C.content catalogue.new ≡ followed (C.content catalogue.old) entry)) }
     ensures refused { IfErr result (λ r. NotAddedBy (C.content catalogue.old) entry r × (C.content catalogue.new ≡ C.content catalogue.old)) }

@@ -1,22 +1,29 @@
-//! The store of retained messages (3.3.1.3): what a list of entries leaves, which entry may come next, and what a SUBSCRIBE is
-//! answered from it.
+//! The store of retained messages (3.3.1.3): what a list of entries leaves, which entry may come next, and how a SUBSCRIBE is
+//! answered.
 //!
 //! A [`Catalogue`] keeps the content of a list of entries: the message of each topic, the last serial of each place and the number
-//! of entries. [`add`] puts one entry more behind them or says why not. [`MapCatalogue`] keeps the messages in an ordered map.
+//! of entries. [`add`] appends one entry or says why not. [`TreeCatalogue`] keeps the messages in a tree of levels, [`MapCatalogue`]
+//! in one ordered map.
 #![tactic(auto)]
 
+mod answer;
+mod branch;
 mod catalogue;
 mod content;
 mod fault;
+mod found;
 mod law;
+mod level;
 mod limit;
 mod map;
 #[cfg(test)]
 mod tests;
+mod tree;
 
 pub use catalogue::{Catalogue, add};
 pub use content::Content;
 pub use fault::Refusal;
 pub use law::content_law;
-pub use limit::TopicLimit;
+pub use limit::{MAX_TOPICS, TopicLimit};
 pub use map::MapCatalogue;
+pub use tree::TreeCatalogue;

@@ -1,37 +1,39 @@
 //! A catalogue in an ordered map.
 
-ghost use Rattle.std.specs.Prelude.{◌≡◌, ◌≤◌, nat_le, length, map, slice_index, slice_set, IfOk, OnOk, OnErr};
+ghost use Rattle.std.specs.Prelude.{◌≡◌, ◌≤◌, ◌++◌, nat_le, length, map, slice_index, slice_set, IfErr, IfOk, OnOk, OnErr};
+ghost use Rattle.std.specs.Option.{option_map};
 ghost use Rattle.std.specs.List.{filter as filter_list};
-ghost use Rattle.rs_message.specs.Messages.{is_expired};
-ghost use Rattle.rs_store.specs.Matching.{matches};
-ghost use Rattle.rs_store.specs.Contents.{after, found_of, is_answered};
+ghost use Rattle.rs_topic.specs.Matching.{matches};
+ghost use Rattle.rs_store.specs.Contents.{after, found_of, if_fits, is_answered};
+ghost use Rattle.rs_store.specs.Room.{IsStop};
 
+use crate::answer::{Answer, Stop};
 use crate::catalogue::Catalogue;
 use crate::fault::Refusal;
+use crate::found::is_expired;
 use crate::limit::TopicLimit;
-use rs_message::{Entry, Found, Message, Operation, Remaining};
+use rs_message::{Entry, Found, Message, Operation};
 use rs_topic::{TopicFilter, TopicName};
 use std::alloc::{AllocError, Global};
 use std::collections::BTreeMap;
 
-/// The messages in a map that is ordered as they are replayed.
+/// The messages in a map, in the order of replay. It is the plain catalogue: tests compare others with it.
 ///
-/// What its calls cost where n topics hold a message: `accepts` and `apply` look one topic up, by about log n comparisons, each
-/// along the levels of two topics (at most 128). `answer` matches each of the n topics, once along its levels, and copies no
-/// byte of a topic, payload or text: what it gives shares them by count. `version`, `last_serial` and `count` cost the same
-/// whatever is held.
+/// With n topics, `accepts` and `apply` look up one topic in about log n comparisons, each along the levels of two topics (at
+/// most 128). `answer` matches every topic. `copy` takes about n log n comparisons. `version`, `last_serial` and `count` take
+/// constant time.
 #[derive(Drop)]
 pub struct MapCatalogue {
     alloc: Global,
     limit: TopicLimit,
     held: BTreeMap<TopicName, Message>,
-    // By the number of the place.
+    // Indexed by place.
     serials: [u64; 65],
     version: u64,
     ghost fits: { length held.entries ≤ limit },
 }
 
-/// Sets or clears one topic. Refused, it changes nothing.
+/// Sets or clears one topic. If memory is refused, nothing changes.
 fn change(held: &mut BTreeMap<TopicName, Message>, operation: Operation) -> Result<(), AllocError>
     ensures done { OnOk result (held.new.entries ≡ after held.old.entries operation) }
     ensures refused { OnErr result (held.new.entries ≡ held.old.entries) }
@@ -48,7 +50,7 @@ fn change(held: &mut BTreeMap<TopicName, Message>, operation: Operation) -> Resu
     }
 }
 
-/// No more topics than the limit hold a message after the operation.
+/// At most `limit` topics hold a message after the operation.
 #[tactic(auto, using(crate::proofs::Maps::room_if_few, crate::proofs::Maps::room_if_there, crate::proofs::Maps::no_room, crate::proofs::Maps::room_after_clear))]
 fn has_room(held: &BTreeMap<TopicName, Message>, limit: TopicLimit, operation: &Operation) -> bool
     requires { length held.now.entries ≤ limit }
@@ -68,35 +70,55 @@ fn does_match(filter: &TopicFilter, topic: &TopicName) -> bool
     filter.matches(topic)
 }
 
-fn is_expired(message: &Message, now: u64) -> bool
-    ensures { result ≡ is_expired now message.now }
+/// Appends copies of the messages that answer the filter.
+fn answer_all(
+    held: &BTreeMap<TopicName, Message>,
+    filter: &TopicFilter,
+    now: u64,
+    answer: &mut Answer,
+) -> Result<(), Stop>
+    ensures done { OnOk result (answer.new.found.items ≡ answer.old.found.items ++ map found_of (filter_list (is_answered filter.now now) held.now.entries)) }
+    ensures stop { IfErr result (λ stop. IsStop stop answer.old.room (answer.old.found.items ++ map found_of (filter_list (is_answered filter.now now) held.now.entries))) }
+    ensures room { answer.new.room ≡ answer.old.room }
 {
-    match message.remaining(now) {
-        Remaining::Expired => true,
-        Remaining::Forever => false,
-        Remaining::Left(_) => false,
+    for (topic, message) in held {
+        if does_match(filter, topic) && !is_expired(message, now) {
+            answer.push(topic, message)?;
+        }
     }
+    Ok(())
 }
 
-/// Copies of what the filter is answered.
-fn copies(
+/// Copies of the messages that answer the filter, if they are at most `room`.
+fn answers(
     alloc: Global,
     held: &BTreeMap<TopicName, Message>,
     filter: &TopicFilter,
     now: u64,
-) -> Result<Vec<Found>, AllocError>
-    ensures { IfOk result (λ found. found.items ≡ map found_of (filter_list (is_answered filter.now now) held.now.entries)) }
+    room: usize,
+) -> Result<Option<Vec<Found>>, AllocError>
+    ensures { IfOk result (λ answer. option_map (λ found. found.items) answer ≡ if_fits room (map found_of (filter_list (is_answered filter.now now) held.now.entries))) }
 {
-    let mut found = Vec::new(alloc);
-    for (topic, message) in held {
-        if does_match(filter, topic) && !is_expired(message, now) {
-            found.push(Found {
-                topic: topic.copy()?,
-                message: message.copy()?,
-            })?;
-        }
+    let mut answer = Answer::new(alloc, room);
+    match answer_all(held, filter, now, &mut answer) {
+        Ok(()) => Ok(Some(answer.into_found())),
+        Err(Stop::Full) => Ok(None),
+        Err(Stop::NoMemory) => Err(AllocError),
     }
-    Ok(found)
+}
+
+/// An equal map, which shares the bytes.
+fn copy_of(
+    alloc: Global,
+    held: &BTreeMap<TopicName, Message>,
+) -> Result<BTreeMap<TopicName, Message>, AllocError>
+    ensures { IfOk result (λ copy. copy.entries ≡ held.now.entries) }
+{
+    let mut copy = BTreeMap::new(alloc);
+    for (topic, message) in held {
+        change(&mut copy, Operation::Set(topic.copy()?, message.copy()?))?;
+    }
+    Ok(copy)
 }
 
 impl Catalogue for MapCatalogue {
@@ -137,7 +159,20 @@ impl Catalogue for MapCatalogue {
     }
 
     fn answer(&self, filter: &TopicFilter, now: u64) -> Result<Vec<Found>, AllocError> {
-        copies(self.alloc, &self.held, filter, now)
+        match answers(self.alloc, &self.held, filter, now, self.held.len())? {
+            Some(found) => Ok(found),
+            // Never: no answer has more messages than are held.
+            None => Ok(Vec::new(self.alloc)),
+        }
+    }
+
+    fn answer_within(
+        &self,
+        filter: &TopicFilter,
+        now: u64,
+        room: usize,
+    ) -> Result<Option<Vec<Found>>, AllocError> {
+        answers(self.alloc, &self.held, filter, now, room)
     }
 
     fn version(&self) -> u64 {
@@ -154,5 +189,15 @@ impl Catalogue for MapCatalogue {
     fn count(&self) -> u32 {
         let _limit = self.limit.get();
         self.held.len() as u32
+    }
+
+    fn copy(&self) -> Result<MapCatalogue, AllocError> {
+        Ok(MapCatalogue {
+            alloc: self.alloc,
+            limit: self.limit,
+            held: copy_of(self.alloc, &self.held)?,
+            serials: self.serials,
+            version: self.version,
+        })
     }
 }

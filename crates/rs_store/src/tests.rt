@@ -1,8 +1,10 @@
-//! Worked examples, each public call once with ample memory, and want of memory.
+//! Worked examples, and each public call once with ample memory.
 
 ghost use Rattle.std.specs.Prelude.{◌≢◌, ◌≤◌, [], length};
 
-use crate::{Catalogue, MapCatalogue, Refusal, TopicLimit, add, content_law};
+use crate::{
+    Catalogue, MAX_TOPICS, MapCatalogue, Refusal, TopicLimit, TreeCatalogue, add, content_law,
+};
 use bytes::Bytes;
 use rs_message::{Entry, Message, Operation, Origin};
 use rs_packet::{Properties, Qos};
@@ -10,6 +12,8 @@ use rs_topic::{TopicFilter, TopicName};
 use std::alloc::Global;
 use std::process::Abort;
 use std::test::Fail;
+
+mod alike;
 
 /// A message that came at 100.
 #[tactic(auto, using(rs_message::proofs::Sizes::small_message))]
@@ -81,18 +85,22 @@ fn after_these<C: Catalogue>(rt: &impl Abort, catalogue: &C) {
 fn full_and_stale(rt: HostRuntime) -> Result<(), Fail> {
     let alloc = rt.alloc();
     let limit = TopicLimit::new(2).ok_or("2 is a limit")?;
-    let mut catalogue = MapCatalogue::new(alloc, limit)?;
-    limit_of_2(&rt, alloc, &mut catalogue)?;
-    after_these(&rt, &catalogue);
+    let mut map = MapCatalogue::new(alloc, limit)?;
+    limit_of_2(&rt, alloc, &mut map)?;
+    after_these(&rt, &map);
+    let mut tree = TreeCatalogue::new(alloc, limit)?;
+    limit_of_2(&rt, alloc, &mut tree)?;
+    after_these(&rt, &tree);
     Ok(())
 }
 
 #[test]
 fn limits(rt: HostRuntime) -> Result<(), Fail> {
     assert!(rt; TopicLimit::new(0).is_none());
-    assert!(rt; TopicLimit::new(65_537).is_none());
+    assert!(rt; TopicLimit::new(MAX_TOPICS + 1).is_none());
+    assert_eq!(rt; TopicLimit::new(1).ok_or("the least")?.get(), 1);
     assert_eq!(rt;
-        TopicLimit::new(65_536).ok_or("the greatest")?.get(),
+        TopicLimit::new(MAX_TOPICS).ok_or("the greatest")?.get(),
         65_536
     );
     content_law();
@@ -100,9 +108,9 @@ fn limits(rt: HostRuntime) -> Result<(), Fail> {
 }
 
 /// The topics that a filter is answered at a moment, each followed by a space.
-fn topics(
+fn topics<C: Catalogue>(
     alloc: Global,
-    catalogue: &MapCatalogue,
+    catalogue: &C,
     filter: &[u8],
     now: u64,
 ) -> Result<Vec<u8>, Fail> {
@@ -116,7 +124,7 @@ fn topics(
     Ok(all)
 }
 
-fn fill(alloc: Global, catalogue: &mut MapCatalogue) -> Result<(), Fail> {
+fn fill<C: Catalogue>(alloc: Global, catalogue: &mut C) -> Result<(), Fail> {
     set(alloc, catalogue, 1, 1, b"a.b")??;
     set(alloc, catalogue, 1, 2, b"a/b")??;
     set(alloc, catalogue, 1, 3, b"$SYS/x")??;
@@ -124,22 +132,30 @@ fn fill(alloc: Global, catalogue: &mut MapCatalogue) -> Result<(), Fail> {
     Ok(())
 }
 
-fn answered(rt: &impl Abort, alloc: Global, catalogue: &MapCatalogue) -> Result<(), Fail> {
+fn answered<C: Catalogue>(rt: &impl Abort, alloc: Global, catalogue: &C) -> Result<(), Fail> {
+    let rows: [(&[u8], u64, &[u8]); 4] = [
+        (b"#", 109, b"a/b a.b c "),
+        (b"#", 110, b""),
+        (b"$SYS/#", 100, b"$SYS/x "),
+        (b"a/+", 100, b"a/b "),
+    ];
+    for (filter, now, wanted) in rows {
+        assert_eq!(rt; topics(alloc, catalogue, filter, now)?.as_slice(), wanted);
+    }
+    Ok(())
+}
+
+fn filled_and_cleared<C: Catalogue>(
+    rt: &impl Abort,
+    alloc: Global,
+    catalogue: &mut C,
+) -> Result<(), Fail> {
+    fill(alloc, catalogue)?;
+    answered(rt, alloc, catalogue)?;
+    clear(alloc, catalogue, 2, 1, b"c")??;
     assert_eq!(rt;
-        topics(alloc, catalogue, b"#", 109)?.as_slice(),
-        b"a/b a.b c ".as_slice()
-    );
-    assert_eq!(rt;
-        topics(alloc, catalogue, b"#", 110)?.as_slice(),
-        b"".as_slice()
-    );
-    assert_eq!(rt;
-        topics(alloc, catalogue, b"$SYS/#", 100)?.as_slice(),
-        b"$SYS/x ".as_slice()
-    );
-    assert_eq!(rt;
-        topics(alloc, catalogue, b"a/+", 100)?.as_slice(),
-        b"a/b ".as_slice()
+        topics(alloc, catalogue, b"#", 100)?.as_slice(),
+        b"a/b a.b ".as_slice()
     );
     Ok(())
 }
@@ -148,14 +164,86 @@ fn answered(rt: &impl Abort, alloc: Global, catalogue: &MapCatalogue) -> Result<
 fn answers(rt: HostRuntime) -> Result<(), Fail> {
     let alloc = rt.alloc();
     let limit = TopicLimit::new(10).ok_or("10 is a limit")?;
-    let mut catalogue = MapCatalogue::new(alloc, limit)?;
-    fill(alloc, &mut catalogue)?;
-    answered(&rt, alloc, &catalogue)?;
-    clear(alloc, &mut catalogue, 2, 1, b"c")??;
-    assert_eq!(rt;
-        topics(alloc, &catalogue, b"#", 100)?.as_slice(),
-        b"a/b a.b ".as_slice()
-    );
+    filled_and_cleared(&rt, alloc, &mut MapCatalogue::new(alloc, limit)?)?;
+    filled_and_cleared(&rt, alloc, &mut TreeCatalogue::new(alloc, limit)?)?;
+    Ok(())
+}
+
+/// Topics with empty levels, with a level that is a prefix of another, and with a dollar.
+fn set_by_levels<C: Catalogue>(alloc: Global, catalogue: &mut C) -> Result<(), Fail> {
+    let names: [&[u8]; 6] = [b"a.b", b"a/b", b"$s", b"a/", b"/", b"a"];
+    let mut serial: u64 = 0;
+    for name in names {
+        serial = serial.saturating_add(1);
+        set(alloc, catalogue, 1, serial, name)??;
+    }
+    Ok(())
+}
+
+fn by_levels<C: Catalogue>(rt: &impl Abort, alloc: Global, catalogue: &C) -> Result<(), Fail> {
+    let rows: [(&[u8], &[u8]); 7] = [
+        (b"#", b"/ a a/ a/b a.b "),
+        (b"+/#", b"/ a a/ a/b a.b "),
+        (b"+/+", b"/ a/ a/b "),
+        (b"a/#", b"a a/ a/b "),
+        (b"$s/#", b"$s "),
+        (b"$s", b"$s "),
+        (b"+", b"a a.b "),
+    ];
+    for (filter, wanted) in rows {
+        assert_eq!(rt; topics(alloc, catalogue, filter, 100)?.as_slice(), wanted);
+    }
+    Ok(())
+}
+
+#[test]
+fn levels(rt: HostRuntime) -> Result<(), Fail> {
+    let alloc = rt.alloc();
+    let limit = TopicLimit::new(10).ok_or("10 is a limit")?;
+    let mut map = MapCatalogue::new(alloc, limit)?;
+    set_by_levels(alloc, &mut map)?;
+    by_levels(&rt, alloc, &map)?;
+    let mut tree = TreeCatalogue::new(alloc, limit)?;
+    set_by_levels(alloc, &mut tree)?;
+    by_levels(&rt, alloc, &tree)?;
+    by_levels(&rt, alloc, &tree.copy()?)?;
+    Ok(())
+}
+
+/// The filter is answered as many as there is room for, and not with one less.
+fn as_many<C: Catalogue>(
+    rt: &impl Abort,
+    catalogue: &C,
+    filter: &TopicFilter,
+    now: u64,
+    wanted: usize,
+) -> Result<(), Fail> {
+    let answer = catalogue.answer_within(filter, now, wanted)?;
+    assert_eq!(rt; answer.ok_or("there is room")?.len(), wanted);
+    if wanted > 0 {
+        assert!(rt; catalogue.answer_within(filter, now, wanted - 1)?.is_none());
+        assert!(rt; catalogue.answer_within(filter, now, 0)?.is_none());
+    }
+    Ok(())
+}
+
+fn within<C: Catalogue>(rt: &impl Abort, alloc: Global, catalogue: &mut C) -> Result<(), Fail> {
+    set_by_levels(alloc, catalogue)?;
+    let rows: [(&[u8], usize); 5] = [(b"#", 5), (b"+/+", 3), (b"a/#", 3), (b"$s", 1), (b"b", 0)];
+    for (filter, wanted) in rows {
+        let filter = TopicFilter::read(alloc, filter)?;
+        as_many(rt, catalogue, &filter, 100, wanted)?;
+        as_many(rt, catalogue, &filter, 110, 0)?;
+    }
+    Ok(())
+}
+
+#[test]
+fn answers_within_a_room(rt: HostRuntime) -> Result<(), Fail> {
+    let alloc = rt.alloc();
+    let limit = TopicLimit::new(10).ok_or("10 is a limit")?;
+    within(&rt, alloc, &mut MapCatalogue::new(alloc, limit)?)?;
+    within(&rt, alloc, &mut TreeCatalogue::new(alloc, limit)?)?;
     Ok(())
 }
 
@@ -183,5 +271,32 @@ fn codes(rt: HostRuntime) -> Result<(), Fail> {
         let shown = format!(in rt.alloc(); "{refusal}")?;
         assert_eq!(rt; shown.as_str(), text);
     }
+    Ok(())
+}
+
+/// A copy, by the bound alone: it keeps what the first loses.
+fn copied<C: Catalogue + Drop>(
+    rt: &impl Abort,
+    alloc: Global,
+    mut catalogue: C,
+) -> Result<(), Fail> {
+    fill(alloc, &mut catalogue)?;
+    let copy = catalogue.copy()?;
+    clear(alloc, &mut catalogue, 2, 1, b"c")??;
+    answered(rt, alloc, &copy)?;
+    assert_eq!(rt;
+        (copy.version(), copy.count(), copy.last_serial(1)),
+        (4, 4, 4)
+    );
+    assert_eq!(rt; (catalogue.version(), catalogue.count()), (5, 3));
+    Ok(())
+}
+
+#[test]
+fn copies(rt: HostRuntime) -> Result<(), Fail> {
+    let alloc = rt.alloc();
+    let limit = TopicLimit::new(10).ok_or("10 is a limit")?;
+    copied(&rt, alloc, MapCatalogue::new(alloc, limit)?)?;
+    copied(&rt, alloc, TreeCatalogue::new(alloc, limit)?)?;
     Ok(())
 }

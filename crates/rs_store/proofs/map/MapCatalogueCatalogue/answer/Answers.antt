@@ -1,0 +1,12 @@
+use Rattle.std.proofs.Common.{◌≡◌, ◌≤◌, length, map, arith, None}
+use Rattle.std.specs.List.{filter}
+use Rattle.rs_store.specs.Contents.{found_of, if_fits, is_answered}
+use Rattle.rs_store.proofs.Rooms.{always_fits}
+use Rattle.rs_store.proofs.map.MapCatalogueCatalogue.answer.Goals as goal
+
+pub returns-in-None : goal.returns-in-None
+returns-in-None c =
+    let held = c.args.self.now.held.entries in
+    let few : length held ≤ c.len.result = omega (arith, c.len.ensures.len) in
+    let none : None ≡ if_fits c.len.result (map found_of (filter (is_answered c.args.filter.now c.args.now) held)) = rw c.in-None.is at c.in_ok-found.ensures in
+    absurd (always_fits c.len.result c.args.filter.now c.args.now held few none)

@@ -1,0 +1,192 @@
+//! Both catalogues over one list of entries, drawn by a fixed generator.
+
+ghost use Rattle.std.specs.Prelude.{◌<◌};
+
+use super::{as_many, message, origin};
+use crate::{Catalogue, MapCatalogue, Refusal, TopicLimit, TreeCatalogue, add};
+use rs_message::{Entry, Operation};
+use rs_topic::{TopicFilter, TopicName};
+use std::alloc::Global;
+use std::process::Abort;
+use std::test::Fail;
+
+/// A linear congruential generator.
+#[derive(Drop)]
+struct Draw {
+    state: u64,
+}
+
+impl Draw {
+    /// A number below the bound.
+    fn below(&mut self, bound: u64) -> u64
+        requires { 0 < bound }
+        ensures { result < bound }
+    {
+        let state = self
+            .state
+            .wrapping_mul(6364136223846793005)
+            .wrapping_add(1442695040888963407);
+        self.state = state;
+        (state >> 33) % bound
+    }
+
+    /// How many levels: mostly a few, at times 128.
+    fn length(&mut self) -> u64 {
+        if self.below(8) > 0 {
+            return 1 + self.below(5);
+        }
+        120 + self.below(9)
+    }
+}
+
+/// Levels of a topic name. Long names share most of theirs.
+fn name_of(alloc: Global, draw: &mut Draw) -> Result<Vec<u8>, Fail> {
+    let levels: [&[u8]; 8] = [b"a", b"a", b"b", b"", b"$s", b"a.b", b"$", b"aa"];
+    let mut name = Vec::new(alloc);
+    let length = draw.length();
+    for i in 0..length {
+        if i > 0 {
+            name.push(b'/')?;
+        }
+        let kinds = if length > 5 && i < 118 { 2 } else { 8 };
+        name.extend_from_slice(levels[draw.below(kinds) as usize])?;
+    }
+    if name.is_empty() {
+        name.push(b'e')?;
+    }
+    Ok(name)
+}
+
+/// Levels of a topic filter.
+fn filter_of(alloc: Global, draw: &mut Draw) -> Result<Vec<u8>, Fail> {
+    let levels: [&[u8]; 8] = [b"+", b"a", b"+", b"b", b"", b"$s", b"+", b"aa"];
+    let mut filter = Vec::new(alloc);
+    let length = draw.length();
+    for i in 0..length {
+        if i > 0 {
+            filter.push(b'/')?;
+        }
+        let kinds = if length > 5 && i < 118 { 3 } else { 8 };
+        filter.extend_from_slice(levels[draw.below(kinds) as usize])?;
+    }
+    if length < 128 && draw.below(2) == 0 {
+        filter.extend_from_slice(b"/#")?;
+    }
+    if filter.is_empty() {
+        filter.push(b'#')?;
+    }
+    Ok(filter)
+}
+
+/// What an entry does: two Sets of three, with an interval or none.
+fn operation_of(alloc: Global, name: &[u8], kind: u64) -> Result<Operation, Fail> {
+    let topic = TopicName::read(alloc, name)?;
+    Ok(match kind {
+        0 => Operation::Set(topic, message(b"x", Some(10))),
+        1 => Operation::Set(topic, message(b"y", None)),
+        2 => Operation::Set(topic, message(b"z", Some(20))),
+        3 => Operation::Set(topic, message(b"z", Some(0))),
+        _ => Operation::Clear(topic),
+    })
+}
+
+fn put<C: Catalogue>(
+    alloc: Global,
+    catalogue: &mut C,
+    serial: u64,
+    name: &[u8],
+    kind: u64,
+) -> Result<Result<(), Refusal>, Fail> {
+    let origin = origin(1, serial)?;
+    let operation = operation_of(alloc, name, kind)?;
+    Ok(add(catalogue, Entry { origin, operation }))
+}
+
+/// The topics and payloads that a filter is answered at a moment.
+fn answer_of<C: Catalogue>(
+    alloc: Global,
+    catalogue: &C,
+    filter: &TopicFilter,
+    now: u64,
+) -> Result<Vec<u8>, Fail> {
+    let mut all = Vec::new(alloc);
+    for one in &catalogue.answer(filter, now)? {
+        all.extend_from_slice(one.topic.as_bytes())?;
+        all.push(b'=')?;
+        all.extend_from_slice(one.message.payload().as_slice())?;
+        all.push(b' ')?;
+    }
+    Ok(all)
+}
+
+/// The filter is answered alike. Says whether there was anything to find.
+fn is_alike<C: Catalogue, D: Catalogue>(
+    rt: &impl Abort,
+    alloc: Global,
+    first: &C,
+    second: &D,
+    filter: &[u8],
+) -> Result<bool, Fail> {
+    let filter = TopicFilter::read(alloc, filter)?;
+    let mut any = false;
+    for now in [100, 111, 125] {
+        let wanted = answer_of(alloc, first, &filter, now)?;
+        let answer = answer_of(alloc, second, &filter, now)?;
+        assert_eq!(rt; answer.as_slice(), wanted.as_slice());
+        let many = first.answer(&filter, now)?.len();
+        as_many(rt, first, &filter, now, many)?;
+        as_many(rt, second, &filter, now, many)?;
+        any = any || !wanted.is_empty();
+    }
+    Ok(any)
+}
+
+/// 50 filters are answered alike, and 20 of them at least find something.
+fn are_alike<C: Catalogue, D: Catalogue>(
+    rt: &impl Abort,
+    alloc: Global,
+    first: &C,
+    second: &D,
+) -> Result<(), Fail> {
+    let mut draw = Draw { state: 11 };
+    let mut some: u32 = 0;
+    for _ in 0..50 {
+        let filter = filter_of(alloc, &mut draw)?;
+        if is_alike(rt, alloc, first, second, filter.as_slice())? {
+            some = some.saturating_add(1);
+        }
+    }
+    assert!(rt; 20 < some);
+    Ok(())
+}
+
+/// 1,000 entries: each is taken or refused alike.
+fn entries<C: Catalogue, D: Catalogue>(
+    rt: &impl Abort,
+    alloc: Global,
+    first: &mut C,
+    second: &mut D,
+) -> Result<(), Fail> {
+    let mut draw = Draw { state: 7 };
+    for serial in 1..1001 {
+        let name = name_of(alloc, &mut draw)?;
+        let kind = draw.below(6);
+        let taken = put(alloc, first, serial, name.as_slice(), kind)?;
+        assert_eq!(rt; put(alloc, second, serial, name.as_slice(), kind)?, taken);
+        assert_eq!(rt; second.count(), first.count());
+    }
+    Ok(())
+}
+
+#[test]
+fn both_alike(rt: HostRuntime) -> Result<(), Fail> {
+    let alloc = rt.alloc();
+    let limit = TopicLimit::new(300).ok_or("300 is a limit")?;
+    let mut map = MapCatalogue::new(alloc, limit)?;
+    let mut tree = TreeCatalogue::new(alloc, limit)?;
+    entries(&rt, alloc, &mut map, &mut tree)?;
+    assert!(rt; 250 < map.count());
+    are_alike(&rt, alloc, &map, &tree)?;
+    are_alike(&rt, alloc, &map.copy()?, &tree.copy()?)?;
+    Ok(())
+}

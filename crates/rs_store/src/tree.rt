@@ -1,0 +1,255 @@
+//! A catalogue in a tree of levels.
+
+ghost use Rattle.std.specs.Prelude.{◌≡◌, ◌≤◌, nat_le, length, map, slice_index, IfOk, OnOk, OnErr};
+ghost use Rattle.std.specs.List.{filter as filter_list};
+ghost use Rattle.std.specs.List.Sorted.{IsStrictlySortedBy};
+ghost use Rattle.std.specs.BTreeMap.{insert_entry, is_at};
+ghost use Rattle.std.specs.Option.{option_map};
+ghost use Rattle.std.specs.Map.{keys_of, remove_entry};
+ghost use Rattle.rs_topic.specs.Order.{topic_cmp};
+ghost use Rattle.rs_store.specs.Contents.{after, found_of, if_fits, is_answered};
+ghost use Rattle.rs_store.specs.Spots.{ArePlaced, pairs};
+ghost use Rattle.rs_store.specs.declared.limit.TheConstants.{MAX_TOPICS};
+ghost use Rattle.rs_store.specs.Trees.{IsTree};
+
+use crate::answer::{Answer, Stop};
+use crate::branch::Branch;
+use crate::catalogue::Catalogue;
+use crate::fault::Refusal;
+use crate::limit::TopicLimit;
+use rs_message::{Entry, Found, Message, Operation};
+use rs_topic::{TopicFilter, TopicName};
+use std::alloc::{AllocError, Global};
+use std::marker::Model;
+
+/// The messages in a tree of the levels of their topics.
+///
+/// `accepts` and `apply` look up one topic, level by level. `answer` visits only the branches that the filter can match: one for a
+/// level without a wildcard, each for a `+`, all below for a `#`. It builds no list of levels and copies no byte of a topic, text
+/// or payload. `version`, `last_serial` and `count` take constant time.
+#[derive(Drop)]
+pub struct TreeCatalogue {
+    alloc: Global,
+    limit: TopicLimit,
+    root: Branch,
+    count: u32,
+    // Indexed by place.
+    serials: [u64; 65],
+    version: u64,
+}
+
+impl Model for TreeCatalogue {
+    ghost use Rattle.rs_store.specs.declared.content.Content.{Content};
+    ghost use Rattle.rs_store.specs.Trees.{IsTree};
+    ghost use Rattle.rs_store.specs.Spots.{pairs};
+
+    ghost Value = { Content };
+
+    ghost view = { λ c. record { limit = c.limit; held = pairs c.root; serials = c.serials; version = c.version } };
+
+    ghost invariant = { λ c. IsTree c.root c.count c.limit };
+}
+
+fn serial_of(serials: &[u64; 65], place: u8) -> u64
+    ensures { result ≡ slice_index serials.now place }
+{
+    if place < 65 {
+        return serials[place as usize];
+    }
+    0
+}
+
+/// Sets one topic and returns how many hold a message then. If memory is refused, nothing changes.
+fn set_one(
+    root: &mut Branch,
+    alloc: Global,
+    count: u32,
+    topic: TopicName,
+    message: Message,
+) -> Result<u32, AllocError>
+    requires placed { ArePlaced root.old }
+    requires sorted { IsStrictlySortedBy topic_cmp (keys_of (pairs root.old)) }
+    requires counted { length (pairs root.old) ≡ count }
+    requires small { count ≤ MAX_TOPICS }
+    ensures done { OnOk result (pairs root.new ≡ insert_entry topic_cmp (pairs root.old) topic message) }
+    ensures counted { IfOk result (λ n. n ≡ length (insert_entry topic_cmp (pairs root.old) topic message)) }
+    ensures placed { ArePlaced root.new }
+    ensures refused { OnErr result (root.new ≡ root.old) }
+{
+    let was = root.set(alloc, Found { topic, message }, 0)?;
+    if was { Ok(count) } else { Ok(count + 1) }
+}
+
+/// Clears one topic and returns how many hold a message then.
+fn clear_one(root: &mut Branch, count: u32, topic: &TopicName) -> u32
+    requires placed { ArePlaced root.old }
+    requires counted { length (pairs root.old) ≡ count }
+    ensures done { pairs root.new ≡ remove_entry (is_at (topic_cmp topic.now)) (pairs root.old) }
+    ensures counted { result ≡ length (remove_entry (is_at (topic_cmp topic.now)) (pairs root.old)) }
+    ensures placed { ArePlaced root.new }
+{
+    let bytes = topic.as_bytes();
+    if !root.holds(bytes, 0) {
+        return count;
+    }
+    root.clear(bytes, 0);
+    count - 1
+}
+
+/// Sets or clears one topic and returns how many hold a message then. If memory is refused, nothing changes.
+fn change(
+    root: &mut Branch,
+    alloc: Global,
+    count: u32,
+    operation: Operation,
+) -> Result<u32, AllocError>
+    requires placed { ArePlaced root.old }
+    requires sorted { IsStrictlySortedBy topic_cmp (keys_of (pairs root.old)) }
+    requires counted { length (pairs root.old) ≡ count }
+    requires small { count ≤ MAX_TOPICS }
+    ensures done { OnOk result (pairs root.new ≡ after (pairs root.old) operation) }
+    ensures counted { IfOk result (λ n. n ≡ length (after (pairs root.old) operation)) }
+    ensures placed { ArePlaced root.new }
+    ensures refused { OnErr result (root.new ≡ root.old) }
+{
+    match operation {
+        Operation::Set(topic, message) => set_one(root, alloc, count, topic, message),
+        Operation::Clear(topic) => Ok(clear_one(root, count, &topic)),
+    }
+}
+
+/// The number of topics that hold a message after the operation.
+fn count_after(root: &Branch, count: u32, operation: &Operation) -> u32
+    requires placed { ArePlaced root.now }
+    requires sorted { IsStrictlySortedBy topic_cmp (keys_of (pairs root.now)) }
+    requires counted { length (pairs root.now) ≡ count }
+    requires small { count ≤ MAX_TOPICS }
+    ensures { result ≡ length (after (pairs root.now) operation.now) }
+{
+    match operation {
+        Operation::Set(topic, _) => {
+            if root.holds(topic.as_bytes(), 0) {
+                count
+            } else {
+                count + 1
+            }
+        }
+        Operation::Clear(topic) => {
+            if root.holds(topic.as_bytes(), 0) {
+                count - 1
+            } else {
+                count
+            }
+        }
+    }
+}
+
+/// At most `limit` topics hold a message after the operation.
+#[tactic(auto, using(crate::proofs::Trees::room_below))]
+fn has_room(root: &Branch, count: u32, limit: TopicLimit, operation: &Operation) -> bool
+    requires { IsTree root.now count limit }
+    ensures { result ≡ nat_le (length (after (pairs root.now) operation.now)) limit }
+{
+    if count < limit.get() {
+        return true;
+    }
+    count_after(root, count, operation) <= limit.get()
+}
+
+/// Copies of the messages that answer the filter, if they are at most `room`.
+fn answers(
+    alloc: Global,
+    root: &Branch,
+    filter: &TopicFilter,
+    now: u64,
+    room: usize,
+) -> Result<Option<Vec<Found>>, AllocError>
+    requires { ArePlaced root.now }
+    ensures { IfOk result (λ answer. option_map (λ found. found.items) answer ≡ if_fits room (map found_of (filter_list (is_answered filter.now now) (pairs root.now)))) }
+{
+    let mut answer = Answer::new(alloc, room);
+    match root.answer_at_root(filter.as_bytes(), now, &mut answer) {
+        Ok(()) => Ok(Some(answer.into_found())),
+        Err(Stop::Full) => Ok(None),
+        Err(Stop::NoMemory) => Err(AllocError),
+    }
+}
+
+impl Catalogue for TreeCatalogue {
+    ghost content = { λ c. c };
+
+    fn new(alloc: Global, limit: TopicLimit) -> Result<TreeCatalogue, AllocError> {
+        Ok(TreeCatalogue {
+            alloc,
+            limit,
+            root: Branch::new(alloc),
+            count: 0,
+            serials: [0; 65],
+            version: 0,
+        })
+    }
+
+    fn accepts(&self, entry: &Entry) -> Result<(), Refusal> {
+        let place = entry.origin.place();
+        if entry.origin.serial() <= self.serials[place as usize] {
+            return Err(Refusal::Stale);
+        }
+        if self.version == u64::MAX {
+            return Err(Refusal::Full);
+        }
+        if !has_room(&self.root, self.count, self.limit, &entry.operation) {
+            return Err(Refusal::Full);
+        }
+        Ok(())
+    }
+
+    fn apply(&mut self, entry: Entry) -> Result<(), AllocError> {
+        let _limit = self.limit.get();
+        let origin = entry.origin;
+        let count = change(&mut self.root, self.alloc, self.count, entry.operation)?;
+        self.count = count;
+        self.serials[origin.place() as usize] = origin.serial();
+        self.version += 1;
+        Ok(())
+    }
+
+    fn answer(&self, filter: &TopicFilter, now: u64) -> Result<Vec<Found>, AllocError> {
+        match answers(self.alloc, &self.root, filter, now, self.count as usize)? {
+            Some(found) => Ok(found),
+            // Never: no answer has more messages than are held.
+            None => Ok(Vec::new(self.alloc)),
+        }
+    }
+
+    fn answer_within(
+        &self,
+        filter: &TopicFilter,
+        now: u64,
+        room: usize,
+    ) -> Result<Option<Vec<Found>>, AllocError> {
+        answers(self.alloc, &self.root, filter, now, room)
+    }
+
+    fn version(&self) -> u64 {
+        self.version
+    }
+
+    fn last_serial(&self, place: u8) -> u64 {
+        serial_of(&self.serials, place)
+    }
+
+    fn count(&self) -> u32 {
+        self.count
+    }
+
+    fn copy(&self) -> Result<TreeCatalogue, AllocError> {
+        Ok(TreeCatalogue {
+            alloc: self.alloc,
+            limit: self.limit,
+            root: self.root.copy(self.alloc)?,
+            count: self.count,
+            serials: self.serials,
+            version: self.version,
+        })
+    }
+}
