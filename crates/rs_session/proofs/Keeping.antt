@@ -14,7 +14,6 @@ use Rattle.rs_packet.specs.declared.packet.Packet.TheVariants as packet
 use Rattle.rs_packet.specs.declared.packet.Publish.{Publish}
 use Rattle.rs_packet.specs.declared.packet.Qos.{Qos}
 use Rattle.rs_packet.specs.declared.packet.Qos.TheVariants as qos
-use Rattle.rs_packet.specs.declared.packet.Subscribe.{Subscribe}
 use Rattle.rs_packet.specs.declared.reply.Reply.{Reply}
 use Rattle.rs_packet.specs.declared.reply.Reply.TheVariants as reply
 use Rattle.rs_packet.specs.Replies.{reply_bytes}
@@ -31,148 +30,73 @@ use Rattle.rs_window.specs.Values.{PublishValue}
 use Rattle.rs_session.specs.declared.open.Open.{Open}
 use Rattle.rs_session.specs.declared.open.Outcome.{Outcome}
 use Rattle.rs_session.specs.declared.open.Outcome.TheVariants.{Replies, Closes, Leaves}
-use Rattle.rs_session.specs.declared.phase.Closing.{Closing}
-use Rattle.rs_session.specs.declared.phase.Closing.TheVariants.{ByClient, ByServer, Dropped}
+use Rattle.rs_session.specs.declared.phase.Closing.TheVariants.{ByClient, ByServer}
 use Rattle.rs_session.specs.declared.phase.Input.{Input}
-use Rattle.rs_session.specs.declared.phase.Input.TheVariants.{Whole, Broken}
+use Rattle.rs_session.specs.declared.phase.Input.TheVariants.{Whole}
 use Rattle.rs_session.specs.declared.phase.Phase.{Phase}
 use Rattle.rs_session.specs.declared.phase.Phase.TheVariants as phase
-use Rattle.rs_session.specs.Gate.{Mark, BeginsWith, Uses, IsSubmitted}
-use Rattle.rs_session.specs.Reasons.{quota_exceeded, bad_authentication_method, implementation_specific_error, unsupported_protocol_version}
+use Rattle.rs_session.specs.Gate.{Mark, Extends, Uses, IsSubmitted}
+use Rattle.rs_session.specs.Reasons.{code_of}
+use Rattle.rs_session.specs.declared.reason.ReasonCode.{ReasonCode}
+use Rattle.rs_session.specs.declared.reason.ReasonCode.TheVariants.{Success, QuotaExceeded}
 use Rattle.rs_session.specs.State.{State}
-use Rattle.rs_session.specs.Table.{acknowledged_by, acknowledgement_of, change, due_for, held_id, is_held, state_after, Grants, OpenCase, OpenRow, Case, Row, With_method, With_will, Connect_refused, Accepted, Connack_too_long, Other_version, Unexpected, In_session, Over, Faulty, With_alias, Bad_topic, Sent_again, Too_many_held, Not_retained, Kept, Topic_unread, Not_kept, Uncertain, Gate_closed, Released, Wrong_acknowledgement, Acknowledged, Shared_no_local, Not_subscribed, Subscribed, Not_unsubscribed, Unsubscribed, Connected_twice, Pinged, Disconnected}
+use Rattle.rs_session.specs.Table.{acknowledged_by, acknowledgement_of, change, due_for, held_id, is_held, state_after, Grants, OpenCase, OpenRow, AnsweredInOpen, AnsweredIn, Case, SessionRow, With_method, With_will, Connect_refused, Accepted, Connack_too_long, Other_version, Unexpected, In_session, Over, Faulty, With_alias, Bad_topic, Sent_again, Too_many_held, Not_retained, Kept, Topic_unread, Not_kept, Uncertain, Gate_closed, Released, Wrong_acknowledgement, Acknowledged, Shared_no_local, Not_subscribed, Subscribed, Not_unsubscribed, Unsubscribed, Connected_twice, Pinged, Disconnected}
 use Rattle.rs_session.specs.Run.{Point, Turn, GivesAll, IsTurn, Run}
 use Rattle.rs_session.specs.Replay.{listed}
-use Rattle.rs_session.specs.Kept.{MarkGrows, answering, lists_of, AreGrowing, point_after, SerialsRiseIn, IsToldKept, StandsOnce, IsKeptIn}
-use Rattle.rs_session.proofs.Rows.{begins_trans}
-use Rattle.rs_session.proofs.Replaying.{given_calls, left_replies, shut}
+use Rattle.rs_session.specs.Kept.{MarkGrows, lists_of, AreGrowing, point_after, SerialsRiseIn, IsToldKept, StandsOnce, IsKeptIn}
+use Rattle.rs_session.proofs.Rows.{prefix_trans}
+use Rattle.rs_session.proofs.Replaying.{given_calls, left_replies, phase_of, shut}
 
 -- ---- lists that grow
 
--- each begins with the one before it, from the first to the last
+-- each is a prefix of the next, from the first to the last
 abbrev Chain : List Entry → List (List Entry) → List Entry → Type 0
-Chain first [] last = BeginsWith last first
-Chain first (list ∷ lists) last = BeginsWith list first × Chain list lists last
+Chain first [] last = Extends last first
+Chain first (list ∷ lists) last = Extends list first × Chain list lists last
 
 chain_append : (first : List Entry) (before : List (List Entry)) (mid : List Entry) (after : List (List Entry)) (last : List Entry) → Chain first before mid → Chain mid after last → Chain first (before ++ mid ∷ after) last
 chain_append first [] mid after last h g = (h, g)
 chain_append first (list ∷ before) mid after last (h, more) g = (h, chain_append list before mid after last more g)
 
-chain_all : (seen first : List Entry) (lists : List (List Entry)) (last : List Entry) → BeginsWith first seen → Chain first lists last → AllByRecursion (λ later. BeginsWith later seen) (lists ++ last ∷ [])
-chain_all seen first [] last h g = (begins_trans seen first last h g, tt)
-chain_all seen first (list ∷ lists) last h (g, more) = let here = begins_trans seen first list h g in (here, chain_all seen list lists last here more)
+chain_all : (seen first : List Entry) (lists : List (List Entry)) (last : List Entry) → Extends first seen → Chain first lists last → AllByRecursion (λ later. Extends later seen) (lists ++ last ∷ [])
+chain_all seen first [] last h g = (prefix_trans seen first last h g, tt)
+chain_all seen first (list ∷ lists) last h (g, more) = let here = prefix_trans seen first list h g in (here, chain_all seen list lists last here more)
 
-begins_itself : (list : List Entry) → BeginsWith list list
-begins_itself list = ([], sym (append-nil list))
+prefix_itself : (list : List Entry) → Extends list list
+prefix_itself list = ([], sym (append-nil list))
 
 chain_grows : (first : List Entry) (lists : List (List Entry)) (last : List Entry) → Chain first lists last → AreGrowing (first ∷ (lists ++ last ∷ []))
 chain_grows first [] last h = ((h, tt), (tt, tt))
-chain_grows first (list ∷ lists) last (h, more) = (chain_all first first (list ∷ lists) last (begins_itself first) (h, more), chain_grows list lists last more)
+chain_grows first (list ∷ lists) last (h, more) = (chain_all first first (list ∷ lists) last (prefix_itself first) (h, more), chain_grows list lists last more)
 
 grants_chain : (now : ℕ) (filters : List Asked) (identifier : Option ℕ) (seen : List Entry) (old : Open) (codes : List ℕ) (answered : List (List Entry)) (list : List Entry) (new : Open)
     → Grants now filters identifier seen old codes answered list new → Chain seen answered list
 grants_chain now [] identifier seen old codes answered list new (c, a, l, same) =
-    subst (λ (ls : List (List Entry)). Chain seen ls list) (sym a) (subst (λ (l : List Entry). BeginsWith l seen) (sym l) (begins_itself seen))
+    subst (λ (ls : List (List Entry)). Chain seen ls list) (sym a) (subst (λ (l : List Entry). Extends l seen) (sym l) (prefix_itself seen))
 grants_chain now (asked ∷ more) identifier seen old codes answered list new (code, rest, mid, later, between, c, a, begins, granted, grants) =
     subst (λ (ls : List (List Entry)). Chain seen ls list) (sym a) (begins, grants_chain now more identifier mid between rest later list new grants)
 
 -- ---- the lists of a turn
 
-abbrev IsChained : Input → List (List Entry) → List Entry → List Entry → Outcome → Type 0
-IsChained input answered seen list (Replies answer) = (to : Phase) → Chain seen (answering input to answered) list
-IsChained input answered seen list (Closes code) = Unit {0}
-IsChained input answered seen list Leaves = Unit {0}
+unanswered : (seen : List Entry) (answered : List (List Entry)) (list : List Entry) → answered ≡ [] → Extends list seen → Chain seen answered list
+unanswered seen answered list none grows = subst (λ (ls : List (List Entry)). Chain seen ls list) (sym none) grows
 
--- an input that is no SUBSCRIBE
-no_filter : (input as_read : Input) (answered : List (List Entry)) (seen list : List Entry) (outcome : Outcome) → input ≡ as_read → ((to : Phase) → answering as_read to answered ≡ []) → BeginsWith list seen
-    → IsChained input answered seen list outcome
-no_filter input as_read answered seen list (Replies answer) i none grows =
-    subst (λ (read : Input). (to : Phase) → Chain seen (answering read to answered) list) (sym i) (λ to. subst (λ (ls : List (List Entry)). Chain seen ls list) (sym (none to)) grows)
-no_filter input as_read answered seen list (Closes code) i none grows = tt
-no_filter input as_read answered seen list Leaves i none grows = tt
+row_chain : (case : OpenCase) (input : Input) (now : ℕ) (old : Open) (mark : Mark) (seen : List Entry) (answered : List (List Entry)) (list : List Entry) (used : Mark) (outcome : Outcome) (new : Open)
+    → AnsweredInOpen case answered → OpenRow case input now old mark seen answered list used outcome new → Extends list seen → Chain seen answered list
+row_chain Subscribed input now old mark seen answered list used outcome new a (s, codes, i, n, grants, out, u) g = grants_chain now s.filters s.subscription seen old codes answered list new grants
+row_chain case input now old mark seen answered list used outcome new none row g = unanswered seen answered list none g
 
-closes_chained : (input : Input) (answered : List (List Entry)) (seen list : List Entry) (outcome : Outcome) (code : ℕ) → outcome ≡ Closes code → IsChained input answered seen list outcome
-closes_chained input answered seen list outcome code out = subst (λ (o : Outcome). IsChained input answered seen list o) (sym out) tt
-
-acknowledges_none : (p : Packet) (a : window.Acknowledgement × ℕ) (answered : List (List Entry)) → acknowledgement_of p ≡ Some a → (to : Phase) → answering (Whole p) to answered ≡ []
-acknowledges_none (packet.Subscribe s) a answered is to = absurd (none-some a is)
-acknowledges_none p a answered is to = refl
-
-subscribe_chain : (s : Subscribe) (answered : List (List Entry)) (seen list : List Entry) → Chain seen answered list → BeginsWith list seen → (to : Phase) → Chain seen (answering (Whole (packet.Subscribe s)) to answered) list
-subscribe_chain s answered seen list h grows phase.Before = grows
-subscribe_chain s answered seen list h grows (phase.Open o) = h
-subscribe_chain s answered seen list h grows (phase.Ended closing) = grows
-
-row_chained : (case : OpenCase) (input : Input) (now : ℕ) (old : Open) (mark : Mark) (seen : List Entry) (answered : List (List Entry)) (list : List Entry) (used : Mark) (outcome : Outcome) (new : Open)
-    → OpenRow case input now old mark seen answered list used outcome new → BeginsWith list seen → IsChained input answered seen list outcome
-row_chained Connected_twice input now old mark seen answered list used outcome new (c, i, out, unchanged) g = closes_chained input answered seen list outcome _ out
-row_chained Faulty input now old mark seen answered list used outcome new (f, i, out, unchanged) g = closes_chained input answered seen list outcome _ out
-row_chained With_alias input now old mark seen answered list used outcome new (p, i, a, out, unchanged) g = closes_chained input answered seen list outcome _ out
-row_chained Bad_topic input now old mark seen answered list used outcome new (p, f, i, a, t, other, out, unchanged) g = closes_chained input answered seen list outcome _ out
-row_chained Sent_again input now old mark seen answered list used outcome new (p, i, a, t, held, out, unchanged) g = no_filter input _ answered seen list outcome i (λ to. refl) g
-row_chained Too_many_held input now old mark seen answered list used outcome new (p, i, a, t, many, out, unchanged) g = closes_chained input answered seen list outcome _ out
-row_chained Not_retained input now old mark seen answered list used outcome new (p, topic, i, taken, t, r, out, u, same) g = no_filter input _ answered seen list outcome i (λ to. refl) g
-row_chained Kept input now old mark seen answered list used outcome new (p, topic, operation, i, s, submitted, out, same) g = no_filter input _ answered seen list outcome i (λ to. refl) g
-row_chained Topic_unread input now old mark seen answered list used outcome new (p, i, taken, t, out, unchanged) g = no_filter input _ answered seen list outcome i (λ to. refl) g
-row_chained Not_kept input now old mark seen answered list used outcome new (p, topic, operation, i, s, out, same) g = no_filter input _ answered seen list outcome i (λ to. refl) g
-row_chained Uncertain input now old mark seen answered list used outcome new (p, topic, operation, i, s, out, same) g = closes_chained input answered seen list outcome _ out
-row_chained Gate_closed input now old mark seen answered list used outcome new (p, topic, operation, i, s, out, same) g = closes_chained input answered seen list outcome _ out
-row_chained Released input now old mark seen answered list used outcome new (a, i, out, u, same) g = no_filter input _ answered seen list outcome i (λ to. refl) g
-row_chained Wrong_acknowledgement input now old mark seen answered list used outcome new (p, ack, id, i, is, wrong, out, unchanged) g = closes_chained input answered seen list outcome _ out
-row_chained Acknowledged input now old mark seen answered list used outcome new (p, ack, id, answer, i, is, step, out, u, same) g =
-    no_filter input (Whole p) answered seen list outcome i (acknowledges_none p (ack, id) answered is) g
-row_chained Shared_no_local input now old mark seen answered list used outcome new (s, i, n, out, unchanged) g = closes_chained input answered seen list outcome _ out
-row_chained Not_subscribed input now old mark seen answered list used outcome new (s, i, n, out, unchanged) g = closes_chained input answered seen list outcome _ out
-row_chained Subscribed input now old mark seen answered list used outcome new (s, codes, i, n, grants, out, u) g =
-    let chain : Chain seen answered list = grants_chain now s.filters s.subscription seen old codes answered list new grants in
-    subst (λ (read : Input). IsChained read answered seen list outcome) (sym i) (subst (λ (o : Outcome). IsChained (Whole (packet.Subscribe s)) answered seen list o) (sym out) (subscribe_chain s answered seen list chain g))
-row_chained Not_unsubscribed input now old mark seen answered list used outcome new (u, i, out, unchanged) g = closes_chained input answered seen list outcome _ out
-row_chained Unsubscribed input now old mark seen answered list used outcome new (u, i, out, m, same) g = no_filter input _ answered seen list outcome i (λ to. refl) g
-row_chained Pinged input now old mark seen answered list used outcome new (i, out, unchanged) g = no_filter input _ answered seen list outcome i (λ to. refl) g
-row_chained Disconnected input now old mark seen answered list used outcome new (code, i, out, unchanged) g = subst (λ (o : Outcome). IsChained input answered seen list o) (sym out) tt
-
-none_at_end : (input : Input) (closing : Closing) (answered : List (List Entry)) → answering input (phase.Ended closing) answered ≡ []
-none_at_end (Whole (packet.Subscribe s)) closing answered = refl
-none_at_end (Whole p) closing answered = refl
-none_at_end (Broken fault) closing answered = refl
-
--- where the session ends, no list is one of an answer
-ended_chain : (turn : Turn) (seen : List Entry) (due : Option Reply) (mid : State) (closing : Closing) → mid.phase ≡ phase.Ended closing → GivesAll turn.now due mid turn.replies turn.to.state → BeginsWith turn.to.seen seen
-    → Chain seen (answering turn.input turn.to.state.phase turn.answered) turn.to.seen
-ended_chain turn seen due mid closing is g grows =
-    let end : turn.to.state.phase ≡ phase.Ended closing = (left_replies turn.now due mid closing turn.replies g.left g.last turn.to.state is g.given g.none_left).0 in
-    subst (λ (ls : List (List Entry)). Chain seen ls turn.to.seen) (sym (ap (λ (p : Phase). answering turn.input p turn.answered) end ∙ none_at_end turn.input closing turn.answered)) grows
-
-phase_of : (a b : State) → a ≡ b → a.phase ≡ b.phase
-phase_of a b e = ap (λ (s : State). s.phase) e
-
-led_chain : (turn : Turn) (seen : List Entry) (outcome : Outcome) (left : Open) (old mid : State) (due : Option Reply) → IsChained turn.input turn.answered seen turn.to.seen outcome → mid ≡ state_after outcome old left
-    → GivesAll turn.now due mid turn.replies turn.to.state → BeginsWith turn.to.seen seen → Chain seen (answering turn.input turn.to.state.phase turn.answered) turn.to.seen
-led_chain turn seen (Replies answer) left old mid due chained same g grows = chained turn.to.state.phase
-led_chain turn seen (Closes code) left old mid due chained same g grows = ended_chain turn seen due mid (ByServer code) (phase_of mid _ same) g grows
-led_chain turn seen Leaves left old mid due chained same g grows = ended_chain turn seen due mid ByClient (phase_of mid _ same) g grows
-
-turn_chain : (from : Point) (turn : Turn) (case : Case) (due : Option Reply) (mid : State) → Row case turn.input turn.now from.state from.mark from.seen turn.answered turn.to.seen turn.to.mark due mid
-    → GivesAll turn.now due mid turn.replies turn.to.state → BeginsWith turn.to.seen from.seen → Chain from.seen (answering turn.input turn.to.state.phase turn.answered) turn.to.seen
-turn_chain from turn With_method due mid (c, i, before, m, refused) g grows = ended_chain turn from.seen due mid (ByServer bad_authentication_method) (phase_of mid _ refused.end) g grows
-turn_chain from turn With_will due mid (c, i, before, m, k, refused) g grows = ended_chain turn from.seen due mid (ByServer implementation_specific_error) (phase_of mid _ refused.end) g grows
-turn_chain from turn Connect_refused due mid (c, i, before, m, k, refused) g grows = ended_chain turn from.seen due mid (ByServer quota_exceeded) (phase_of mid _ refused.end) g grows
-turn_chain from turn Accepted due mid (c, i, before, m, k, short, u, d, same) g grows =
-    subst (λ (read : Input). Chain from.seen (answering read turn.to.state.phase turn.answered) turn.to.seen) (sym i) grows
-turn_chain from turn Connack_too_long due mid (c, i, before, m, k, long, u, d, same) g grows = ended_chain turn from.seen due mid (ByServer 0) (phase_of mid _ same) g grows
-turn_chain from turn Other_version due mid (i, before, u, d, same) g grows = ended_chain turn from.seen due mid (ByServer unsupported_protocol_version) (phase_of mid _ same) g grows
-turn_chain from turn Unexpected due mid (i, before, u, d, same) g grows = ended_chain turn from.seen due mid Dropped (phase_of mid _ same) g grows
-turn_chain from turn In_session due mid (o, left, outcome, is, (case, row), d, same) g grows =
-    let chained : IsChained turn.input turn.answered from.seen turn.to.seen outcome =
-    row_chained case turn.input turn.now o from.mark from.seen turn.answered turn.to.seen turn.to.mark outcome left row grows in
-    led_chain turn from.seen outcome left from.state mid due chained same g grows
-turn_chain from turn Over due mid (closing, is, u, d, same) g grows = ended_chain turn from.seen due mid closing (phase_of mid from.state same ∙ is) g grows
+turn_chain : (case : Case) (input : Input) (now : ℕ) (old : State) (mark : Mark) (seen : List Entry) (answered : List (List Entry)) (list : List Entry) (used : Mark) (due : Option Reply) (new : State)
+    → AnsweredIn case answered → SessionRow case input now old mark seen answered list used due new → Extends list seen → Chain seen answered list
+turn_chain In_session input now old mark seen answered list used due new a (o, left, outcome, is, (case, by_case, row), d, same) g =
+    row_chain case input now o mark seen answered list used outcome left by_case row g
+turn_chain case input now old mark seen answered list used due new none row g = unanswered seen answered list none g
 
 run_chain : (from to : Point) (turns : List Turn) → Run from turns to → Chain from.seen (lists_of turns) to.seen
 run_chain from to [] e = ([], ap (λ (p : Point). p.seen) e ∙ sym (append-nil from.seen))
 run_chain from to (turn ∷ turns) (t, rest) =
-    chain_append from.seen (answering turn.input turn.to.state.phase turn.answered) turn.to.seen (lists_of turns) to.seen (turn_chain from turn t.case t.due t.mid t.row t.all_given t.grows)
-    (run_chain turn.to to turns rest)
+    let here = turn_chain t.case turn.input turn.now from.state from.mark from.seen turn.answered turn.to.seen turn.to.mark t.due t.mid t.row.0 t.row.1 t.grows in
+    chain_append from.seen turn.answered turn.to.seen (lists_of turns) to.seen here (run_chain turn.to to turns rest)
 
 pub run_lists : (from to : Point) (turns : List Turn) → Run from turns to → AreGrowing (from.seen ∷ (lists_of turns ++ to.seen ∷ []))
 run_lists from to turns run = chain_grows from.seen (lists_of turns) to.seen (run_chain from to turns run)
@@ -246,28 +170,28 @@ IsAck (reply.Puback n code) = Unit {0}
 IsAck (reply.Pubrec n code) = Unit {0}
 IsAck r = ⊥
 
-ack_by : (quality : Qos) (id : Option ℕ) (code : ℕ) (answer : Reply) → acknowledged_by quality id code ≡ Some answer → IsAck answer
+ack_by : (quality : Qos) (id : Option ℕ) (code : ReasonCode) (answer : Reply) → acknowledged_by quality id code ≡ Some answer → IsAck answer
 ack_by qos.AtMostOnce id code answer e = absurd (none-some answer e)
 ack_by qos.AtLeastOnce None code answer e = absurd (none-some answer e)
-ack_by qos.AtLeastOnce (Some n) code answer e = subst IsAck (same_Some (reply.Puback n code) answer e) tt
+ack_by qos.AtLeastOnce (Some n) code answer e = subst IsAck (same_Some (reply.Puback n (code_of code)) answer e) tt
 ack_by qos.ExactlyOnce None code answer e = absurd (none-some answer e)
-ack_by qos.ExactlyOnce (Some n) code answer e = subst IsAck (same_Some (reply.Pubrec n code) answer e) tt
+ack_by qos.ExactlyOnce (Some n) code answer e = subst IsAck (same_Some (reply.Pubrec n (code_of code)) answer e) tt
 
-abbrev code_of : Reply → ℕ
-code_of (reply.Puback n code) = code
-code_of (reply.Pubrec n code) = code
-code_of r = 0
+abbrev told_code : Reply → ℕ
+told_code (reply.Puback n code) = code
+told_code (reply.Pubrec n code) = code
+told_code r = 0
 
-code_by : (quality : Qos) (id : Option ℕ) (code : ℕ) (answer : Reply) → acknowledged_by quality id code ≡ Some answer → code_of answer ≡ code
+code_by : (quality : Qos) (id : Option ℕ) (code : ReasonCode) (answer : Reply) → acknowledged_by quality id code ≡ Some answer → told_code answer ≡ code_of code
 code_by qos.AtMostOnce id code answer e = absurd (none-some answer e)
 code_by qos.AtLeastOnce None code answer e = absurd (none-some answer e)
-code_by qos.AtLeastOnce (Some n) code answer e = ap code_of (sym (same_Some (reply.Puback n code) answer e))
+code_by qos.AtLeastOnce (Some n) code answer e = ap told_code (sym (same_Some (reply.Puback n (code_of code)) answer e))
 code_by qos.ExactlyOnce None code answer e = absurd (none-some answer e)
-code_by qos.ExactlyOnce (Some n) code answer e = ap code_of (sym (same_Some (reply.Pubrec n code) answer e))
+code_by qos.ExactlyOnce (Some n) code answer e = ap told_code (sym (same_Some (reply.Pubrec n (code_of code)) answer e))
 
 -- not both codes were told
-one_code : {A : Type 0} (p : Publish) (answer : Reply) → acknowledged_by p.qos p.id 0 ≡ Some answer → acknowledged_by p.qos p.id quota_exceeded ≡ Some answer → A
-one_code p answer zero full = let same : 0 ≡ quota_exceeded = sym (code_by p.qos p.id 0 answer zero) ∙ code_by p.qos p.id quota_exceeded answer full in absurd (omega (arith, same))
+one_code : {A : Type 0} (p : Publish) (answer : Reply) → acknowledged_by p.qos p.id Success ≡ Some answer → acknowledged_by p.qos p.id QuotaExceeded ≡ Some answer → A
+one_code p answer zero full = let same : 0 ≡ code_of QuotaExceeded = sym (code_by p.qos p.id Success answer zero) ∙ code_by p.qos p.id QuotaExceeded answer full in absurd (omega (arith, same))
 
 among_append : (r : Reply) (xs ys : List Reply) → Among r (xs ++ ys) → Among r xs ⊎ Among r ys
 among_append r [] ys h = inr h
@@ -292,9 +216,9 @@ due_is limit (Replies (Some first)) r ack h = by_case (leb (length (reply_bytes 
     by_case true (inl e) = ap (λ (x : Reply). let o : Outcome = Replies (Some x) in o) e
     by_case true (inr none) = absurd none
     by_case false none = absurd none
-due_is limit (Closes code) r ack h = by_case (leb (length (reply_bytes (reply.Disconnect code))) limit) h
+due_is limit (Closes code) r ack h = by_case (leb (length (reply_bytes (reply.Disconnect (code_of code)))) limit) h
   where
-    by_case : (b : Bool) → Among r (listed (cond b (Some (reply.Disconnect code)) None)) → Closes code ≡ Replies (Some r)
+    by_case : (b : Bool) → Among r (listed (cond b (Some (reply.Disconnect (code_of code))) None)) → Closes code ≡ Replies (Some r)
     by_case true (inl e) = absurd (subst IsAck (sym e) ack)
     by_case true (inr none) = absurd none
     by_case false none = absurd none
@@ -310,7 +234,7 @@ replied_by turn limit (Replies answer) left old mid due r d same g ack h =
     by_case given (inl a) = due_is limit (Replies answer) r ack (subst (λ (o : Option Reply). Among r (listed o)) d a)
     by_case given (inr b) = absurd (no_ack_given r given ack b)
 replied_by turn limit (Closes code) left old mid due r d same g ack h =
-    let whole = (left_replies turn.now due mid (ByServer code) turn.replies g.left g.last turn.to.state (phase_of mid _ same) g.given g.none_left).1 in
+    let whole = (left_replies turn.now due mid (ByServer (code_of code)) turn.replies g.left g.last turn.to.state (phase_of mid _ same) g.given g.none_left).1 in
     due_is limit (Closes code) r ack (subst (λ (o : Option Reply). Among r (listed o)) d (subst (λ (rs : List Reply). Among r rs) whole h))
 replied_by turn limit Leaves left old mid due r d same g ack h =
     let whole = (left_replies turn.now due mid ByClient turn.replies g.left g.last turn.to.state (phase_of mid _ same) g.given g.none_left).1 in
@@ -355,7 +279,7 @@ IsEntered p now mark used list = (topic : List ℕ) × (operation : Operation) �
 
 row_kept : (case : OpenCase) (input : Input) (now : ℕ) (old : Open) (mark : Mark) (seen : List Entry) (answered : List (List Entry)) (list : List Entry) (used : Mark) (outcome : Outcome) (new : Open) (p : Publish) (answer : Reply)
     → OpenRow case input now old mark seen answered list used outcome new → input ≡ Whole (packet.Publish p) → p.retain ≡ true → is_held (held_id p.qos p.id) old.inbound ≡ false
-    → acknowledged_by p.qos p.id 0 ≡ Some answer → outcome ≡ Replies (Some answer) → IsEntered p now mark used list
+    → acknowledged_by p.qos p.id Success ≡ Some answer → outcome ≡ Replies (Some answer) → IsEntered p now mark used list
 row_kept Connected_twice input now old mark seen answered list used outcome new p answer (c, i, out, unchanged) is r f a o = no_publish input _ p i refl is
 row_kept Faulty input now old mark seen answered list used outcome new p answer (k, i, out, unchanged) is r f a o = no_publish input _ p i refl is
 row_kept With_alias input now old mark seen answered list used outcome new p answer (q, i, al, out, unchanged) is r f a o = no_answer outcome _ answer out refl o
@@ -370,9 +294,9 @@ row_kept Kept input now old mark seen answered list used outcome new p answer (q
     let same_p : q ≡ p = same_publish input p q i is in
     subst (λ (x : Publish). IsEntered x now mark used list) same_p (topic, operation, s.is_topic, s.changes, submitted)
 row_kept Topic_unread input now old mark seen answered list used outcome new p answer (q, i, taken, t, out, unchanged) is r f a o =
-    one_code p answer a (sym (ap (λ (x : Publish). acknowledged_by x.qos x.id quota_exceeded) (same_publish input p q i is)) ∙ same_answer outcome _ answer out o)
+    one_code p answer a (sym (ap (λ (x : Publish). acknowledged_by x.qos x.id QuotaExceeded) (same_publish input p q i is)) ∙ same_answer outcome _ answer out o)
 row_kept Not_kept input now old mark seen answered list used outcome new p answer (q, topic, operation, i, s, out, same) is r f a o =
-    one_code p answer a (sym (ap (λ (x : Publish). acknowledged_by x.qos x.id quota_exceeded) (same_publish input p q i is)) ∙ same_answer outcome _ answer out o)
+    one_code p answer a (sym (ap (λ (x : Publish). acknowledged_by x.qos x.id QuotaExceeded) (same_publish input p q i is)) ∙ same_answer outcome _ answer out o)
 row_kept Uncertain input now old mark seen answered list used outcome new p answer (q, topic, operation, i, s, out, same) is r f a o = no_answer outcome _ answer out refl o
 row_kept Gate_closed input now old mark seen answered list used outcome new p answer (q, topic, operation, i, s, out, same) is r f a o = no_answer outcome _ answer out refl o
 row_kept Released input now old mark seen answered list used outcome new p answer (k, i, out, u, same) is r f a o = no_publish input _ p i refl is
@@ -392,7 +316,7 @@ open_or other (phase.Open o) = o
 open_or other (phase.Ended closing) = other
 
 turn_kept : (from : Point) (turn : Turn) (o : Open) (p : Publish) (answer : Reply) (case : Case) (due : Option Reply) (mid : State) → from.state.phase ≡ phase.Open o → IsToldKept o turn p answer
-    → Row case turn.input turn.now from.state from.mark from.seen turn.answered turn.to.seen turn.to.mark due mid → GivesAll turn.now due mid turn.replies turn.to.state
+    → SessionRow case turn.input turn.now from.state from.mark from.seen turn.answered turn.to.seen turn.to.mark due mid → GivesAll turn.now due mid turn.replies turn.to.state
     → IsEntered p turn.now from.mark turn.to.mark turn.to.seen
 turn_kept from turn o p answer With_method due mid is told (c, i, before, m, refused) g = shut (phase.Open o) phase.Before (sym is ∙ before) tt (λ n. n)
 turn_kept from turn o p answer With_will due mid is told (c, i, before, m, k, refused) g = shut (phase.Open o) phase.Before (sym is ∙ before) tt (λ n. n)
@@ -401,11 +325,11 @@ turn_kept from turn o p answer Accepted due mid is told (c, i, before, m, k, sho
 turn_kept from turn o p answer Connack_too_long due mid is told (c, i, before, m, k, long, u, d, same) g = shut (phase.Open o) phase.Before (sym is ∙ before) tt (λ n. n)
 turn_kept from turn o p answer Other_version due mid is told (i, before, u, d, same) g = shut (phase.Open o) phase.Before (sym is ∙ before) tt (λ n. n)
 turn_kept from turn o p answer Unexpected due mid is told (i, before, u, d, same) g = shut (phase.Open o) phase.Before (sym is ∙ before) tt (λ n. n)
-turn_kept from turn o p answer In_session due mid is told (at, left, outcome, here, (case, row), d, same) g =
+turn_kept from turn o p answer In_session due mid is told (at, left, outcome, here, (case, none, row), d, same) g =
     let same_open : o ≡ at = ap (open_or o) (sym is ∙ here) in
     let new : is_held (held_id p.qos p.id) at.inbound ≡ false = subst (λ (x : Open). is_held (held_id p.qos p.id) x.inbound ≡ false) same_open told.new in
     let out : outcome ≡ Replies (Some answer) =
-    replied_by turn at.window.packet_maximum outcome left from.state mid due answer d same g (ack_by p.qos p.id 0 answer told.code) (among answer turn.replies told.replied) in
+    replied_by turn at.window.packet_maximum outcome left from.state mid due answer d same g (ack_by p.qos p.id Success answer told.code) (among answer turn.replies told.replied) in
     row_kept case turn.input turn.now at from.mark from.seen turn.answered turn.to.seen turn.to.mark outcome left p answer row told.input told.retained new told.code out
 turn_kept from turn o p answer Over due mid is told (closing, ended, u, d, same) g = shut (phase.Open o) (phase.Ended closing) (sym is ∙ ended) tt (λ n. n)
 
@@ -419,25 +343,16 @@ all_append : {A : Type 0} (P : A → Type 0) (xs ys : List A) → AllByRecursion
 all_append P [] ys h g = g
 all_append P (x ∷ xs) ys (first, h) g = (first, all_append P xs ys h g)
 
-all_answering : (P : List Entry → Type 0) (input : Input) (to : Phase) (answered : List (List Entry)) → AllByRecursion P answered → AllByRecursion P (answering input to answered)
-all_answering P (Whole (packet.Subscribe s)) phase.Before answered h = tt
-all_answering P (Whole (packet.Subscribe s)) (phase.Open o) answered h = h
-all_answering P (Whole (packet.Subscribe s)) (phase.Ended closing) answered h = tt
-all_answering P (Whole p) to answered h = tt
-all_answering P (Broken fault) to answered h = tt
-
 lists_rise : (from to : Point) (turns : List Turn) → Run from turns to
     → SerialsRiseIn turns → SerialsRise from.seen → AllByRecursion SerialsRise (lists_of turns ++ to.seen ∷ [])
 lists_rise from to [] e of_gate rises = (subst (λ (p : Point). SerialsRise p.seen) (sym e) rises, tt)
 lists_rise from to (turn ∷ turns) (t, rest) (here, later) rises =
     let after : SerialsRise turn.to.seen = here.seen in
-    let answers = all_answering SerialsRise turn.input turn.to.state.phase turn.answered
-    (all_each SerialsRise turn.answered here.answered) in
     let more = lists_rise turn.to to turns rest later after in
-    subst (AllByRecursion SerialsRise) (sym (append_assoc (answering turn.input turn.to.state.phase turn.answered) (turn.to.seen ∷ lists_of turns) (to.seen ∷ [])))
-    (all_append SerialsRise (answering turn.input turn.to.state.phase turn.answered) (turn.to.seen ∷ (lists_of turns ++ to.seen ∷ [])) answers (after, more))
+    subst (AllByRecursion SerialsRise) (sym (append_assoc turn.answered (turn.to.seen ∷ lists_of turns) (to.seen ∷ [])))
+    (all_append SerialsRise turn.answered (turn.to.seen ∷ (lists_of turns ++ to.seen ∷ [])) (all_each SerialsRise turn.answered here.answered) (after, more))
 
-all_once : (e : Entry) (seen : List Entry) (lists : List (List Entry)) → Contains seen e → AllByRecursion (λ later. BeginsWith later seen) lists → AllByRecursion SerialsRise lists → AllByRecursion (StandsOnce e) lists
+all_once : (e : Entry) (seen : List Entry) (lists : List (List Entry)) → Contains seen e → AllByRecursion (λ later. Extends later seen) lists → AllByRecursion SerialsRise lists → AllByRecursion (StandsOnce e) lists
 all_once e seen [] there begin rise = tt
 all_once e seen (list ∷ lists) there ((more, whole), begin) (rises, rise) =
     let here : Contains list e = subst (λ (l : List Entry). Contains l e) (sym whole) (Contains-append_left seen more e there) in
@@ -458,8 +373,8 @@ run_keeps from to before turn after o p answer run rising is told =
     let (t, rest) = run_cut from to before turn after run in
     let (here, later) = rising_cut before turn after rising in
     let rises : SerialsRise turn.to.seen = here.seen in
-    let (topic, operation, is_topic, changes, submitted) = turn_kept (point_after from before) turn o p answer t.case t.due t.mid is told t.row t.all_given in
-    let begin = chain_all turn.to.seen turn.to.seen (lists_of after) to.seen (begins_itself turn.to.seen) (run_chain turn.to to after rest) in
+    let (topic, operation, is_topic, changes, submitted) = turn_kept (point_after from before) turn o p answer t.case t.due t.mid is told t.row.1 t.all_given in
+    let begin = chain_all turn.to.seen turn.to.seen (lists_of after) to.seen (prefix_itself turn.to.seen) (run_chain turn.to to after rest) in
     let rise = lists_rise turn.to to after rest later rises in
     record {
       topic = topic;
@@ -467,7 +382,7 @@ run_keeps from to before turn after o p answer run rising is told =
       is_topic = is_topic;
       changes = changes;
       used = submitted.serial;
-      kept = all_once _ turn.to.seen (turn.to.seen ∷ (lists_of after ++ to.seen ∷ [])) submitted.entry (begins_itself turn.to.seen, begin) (rises, rise);
+      kept = all_once _ turn.to.seen (turn.to.seen ∷ (lists_of after ++ to.seen ∷ [])) submitted.entry (prefix_itself turn.to.seen, begin) (rises, rise);
     }
 
 -- ---- the marks
@@ -504,7 +419,7 @@ row_marks Pinged input now old mark seen answered list used outcome new (i, out,
 row_marks Disconnected input now old mark seen answered list used outcome new (code, i, out, unchanged) = grows_itself mark used unchanged.none_used
 
 turn_marks : (case : Case) (input : Input) (now : ℕ) (old : State) (mark : Mark) (seen : List Entry) (answered : List (List Entry)) (list : List Entry) (used : Mark) (due : Option Reply) (new : State)
-    → Row case input now old mark seen answered list used due new → MarkGrows mark used
+    → SessionRow case input now old mark seen answered list used due new → MarkGrows mark used
 turn_marks With_method input now old mark seen answered list used due new (c, i, before, m, refused) = grows_itself mark used refused.none_used
 turn_marks With_will input now old mark seen answered list used due new (c, i, before, m, w, refused) = grows_itself mark used refused.none_used
 turn_marks Connect_refused input now old mark seen answered list used due new (c, i, before, m, w, refused) = grows_itself mark used refused.none_used
@@ -512,12 +427,12 @@ turn_marks Accepted input now old mark seen answered list used due new (c, i, be
 turn_marks Connack_too_long input now old mark seen answered list used due new (c, i, before, m, w, long, u, d, same) = grows_itself mark used u
 turn_marks Other_version input now old mark seen answered list used due new (i, before, u, d, same) = grows_itself mark used u
 turn_marks Unexpected input now old mark seen answered list used due new (i, before, u, d, same) = grows_itself mark used u
-turn_marks In_session input now old mark seen answered list used due new (o, left, outcome, is, (case, row), d, same) = row_marks case input now o mark seen answered list used outcome left row
+turn_marks In_session input now old mark seen answered list used due new (o, left, outcome, is, (case, none, row), d, same) = row_marks case input now o mark seen answered list used outcome left row
 turn_marks Over input now old mark seen answered list used due new (closing, is, u, d, same) = grows_itself mark used u
 
 pub run_marks : (from to : Point) (turns : List Turn) → Run from turns to → MarkGrows from.mark to.mark
 run_marks from to [] e = grows_itself from.mark to.mark (ap (λ (p : Point). p.mark) e)
 run_marks from to (turn ∷ turns) (t, rest) =
-    let here = turn_marks t.case turn.input turn.now from.state from.mark from.seen turn.answered turn.to.seen turn.to.mark t.due t.mid t.row in
+    let here = turn_marks t.case turn.input turn.now from.state from.mark from.seen turn.answered turn.to.seen turn.to.mark t.due t.mid t.row.1 in
     let later = run_marks turn.to to turns rest in
     record { place = later.place ∙ here.place; serial = omega (arith, here.serial, later.serial) }

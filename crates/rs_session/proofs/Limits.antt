@@ -25,9 +25,10 @@ use Rattle.rs_session.specs.declared.phase.Phase.{Phase}
 use Rattle.rs_session.specs.declared.phase.Phase.TheVariants as phase
 use Rattle.rs_session.specs.declared.subscriptions.Subscription.{Subscription}
 use Rattle.rs_session.specs.Gate.{Mark}
-use Rattle.rs_session.specs.Subscriptions.{Subscriptions, subscriptions_max, is_subscribed, replays}
+use Rattle.rs_session.specs.Subscriptions.{Subscriptions, is_subscribed, replays}
+use Rattle.rs_session.specs.declared.subscriptions.TheConstants.{MAX_SUBSCRIPTIONS}
 use Rattle.rs_session.specs.State.{State, fresh, IsGiven, IsReplayed}
-use Rattle.rs_session.specs.Table.{held_id, held_with, is_one_too_many, holding, open_for, IsTaken, IsSubscribed, IsQueued, IsGrantedTo, Grants, without, without_all, OpenCase, OpenRow, Case, Row, state_after, With_method, With_will, Connect_refused, Accepted, Connack_too_long, Other_version, Unexpected, In_session, Over, Faulty, With_alias, Bad_topic, Sent_again, Too_many_held, Not_retained, Kept, Topic_unread, Not_kept, Uncertain, Gate_closed, Released, Wrong_acknowledgement, Acknowledged, Shared_no_local, Not_subscribed, Subscribed, Not_unsubscribed, Unsubscribed, Connected_twice, Pinged, Disconnected}
+use Rattle.rs_session.specs.Table.{held_id, held_with, is_one_too_many, holding, open_for, IsTaken, IsSubscribed, IsQueued, IsGrantedTo, Grants, without, without_all, OpenCase, OpenRow, Case, SessionRow, state_after, With_method, With_will, Connect_refused, Accepted, Connack_too_long, Other_version, Unexpected, In_session, Over, Faulty, With_alias, Bad_topic, Sent_again, Too_many_held, Not_retained, Kept, Topic_unread, Not_kept, Uncertain, Gate_closed, Released, Wrong_acknowledgement, Acknowledged, Shared_no_local, Not_subscribed, Subscribed, Not_unsubscribed, Unsubscribed, Connected_twice, Pinged, Disconnected}
 use Rattle.rs_session.specs.Run.{Point, Turn, Gives, IsTurn, Run, IsWithinLimits}
 use Rattle.rs_session.proofs.SubscriptionLemmas.{len_inserted, len_removed}
 
@@ -69,7 +70,7 @@ called_within old call after step h =
 
 -- ---- subscriptions
 
-subscriptions_within : (o : Open) (left : Subscriptions) → finite.len left ≤ subscriptions_max → IsWithinLimits o → IsWithinLimits (record o { subscriptions = left })
+subscriptions_within : (o : Open) (left : Subscriptions) → finite.len left ≤ MAX_SUBSCRIPTIONS → IsWithinLimits o → IsWithinLimits (record o { subscriptions = left })
 subscriptions_within o left few h = record { subscriptions = few; held = h.held; waiting = h.waiting; unacknowledged = h.unacknowledged; quota = h.quota }
 
 -- what waits is as before, or more waits
@@ -83,7 +84,7 @@ subscribed_within now filter options identifier list old new s h =
     let w = queued_within (replays options.retain_handling (is_subscribed filter old.subscriptions)) now filter options identifier list old new s.replay h in
     let few = len_inserted old.subscriptions filter (record { options = options; identifier = identifier }) s.place h.subscriptions in
     record {
-      subscriptions = subst (λ (m : Subscriptions). finite.len m ≤ subscriptions_max) (sym s.kept) few;
+      subscriptions = subst (λ (m : Subscriptions). finite.len m ≤ MAX_SUBSCRIPTIONS) (sym s.kept) few;
       held = subst (λ (ids : set.FinSet nat_cmp). set.len ids ≤ 16) (sym s.inbound) h.held;
       waiting = w.waiting;
       unacknowledged = w.unacknowledged;
@@ -165,7 +166,7 @@ same_within : (old new : State) → new ≡ old → PhaseWithin old.phase → Ph
 same_within old new e h = subst (λ (s : State). PhaseWithin s.phase) (sym e) h
 
 answer_within : (case : Case) (input : Input) (now : ℕ) (old : State) (mark : Mark) (seen : List Entry) (answered : List (List Entry)) (list : List Entry) (used : Mark) (due : Option Reply) (new : State)
-    → Row case input now old mark seen answered list used due new → PhaseWithin old.phase → PhaseWithin new.phase
+    → SessionRow case input now old mark seen answered list used due new → PhaseWithin old.phase → PhaseWithin new.phase
 answer_within With_method input now old mark seen answered list used due new (c, i, before, m, refused) h = same_within _ new refused.end tt
 answer_within With_will input now old mark seen answered list used due new (c, i, before, m, w, refused) h = same_within _ new refused.end tt
 answer_within Connect_refused input now old mark seen answered list used due new (c, i, before, m, w, refused) h = same_within _ new refused.end tt
@@ -173,7 +174,7 @@ answer_within Accepted input now old mark seen answered list used due new (c, i,
 answer_within Connack_too_long input now old mark seen answered list used due new (c, i, before, m, w, long, u, d, same) h = same_within _ new same tt
 answer_within Other_version input now old mark seen answered list used due new (i, before, u, d, same) h = same_within _ new same tt
 answer_within Unexpected input now old mark seen answered list used due new (i, before, u, d, same) h = same_within _ new same tt
-answer_within In_session input now old mark seen answered list used due new (o, left, outcome, is, (case, row), d, same) h =
+answer_within In_session input now old mark seen answered list used due new (o, left, outcome, is, (case, a, row), d, same) h =
     same_within _ new same (after_within outcome old left (row_within case input now o mark seen answered list used outcome left row (subst PhaseWithin is h)))
 answer_within Over input now old mark seen answered list used due new (closing, is, u, d, same) h = same_within old new same h
 
@@ -194,7 +195,7 @@ gives_within now due old (reply ∷ replies) left new (later, mid, given, rest) 
 
 turn_within : (from : Point) (turn : Turn) → IsTurn from turn → PhaseWithin from.state.phase → PhaseWithin turn.to.state.phase
 turn_within from turn t h =
-    let after = answer_within t.case turn.input turn.now from.state from.mark from.seen turn.answered turn.to.seen turn.to.mark t.due t.mid t.row h in
+    let after = answer_within t.case turn.input turn.now from.state from.mark from.seen turn.answered turn.to.seen turn.to.mark t.due t.mid t.row.1 h in
     let given = gives_within turn.now t.due t.mid turn.replies t.all_given.left t.all_given.last t.all_given.given after in
     given_within turn.now t.all_given.left t.all_given.last None None turn.to.state t.all_given.none_left given
 

@@ -24,7 +24,7 @@ use Rattle.rs_window.specs.Replay as calls
 use Rattle.rs_window.specs.State as window_state
 use Rattle.rs_window.specs.Values.{PublishValue}
 use Rattle.rs_window.specs.Waiting.{AllDropped}
-use Rattle.rs_window.specs.declared.waiting.Waiting.{Waiting}
+use Rattle.rs_window.specs.declared.queue.Waiting.{Waiting}
 use Rattle.rs_window.specs.declared.fault.Ack.{Ack}
 use Rattle.rs_window.specs.declared.fault.Ack.TheVariants as ack_case
 use Rattle.rs_window.specs.declared.fault.Ack.TheVariants.{Freed, Unknown}
@@ -45,10 +45,12 @@ use Rattle.rs_session.specs.declared.phase.Input.TheVariants.{Whole, Broken}
 use Rattle.rs_session.specs.declared.phase.Phase.{Phase}
 use Rattle.rs_session.specs.declared.phase.Phase.TheVariants as phase
 use Rattle.rs_session.specs.Gate.{Mark}
-use Rattle.rs_session.specs.Reasons.{packet_identifier_not_found, quota_exceeded, protocol_error, bad_authentication_method, implementation_specific_error, unsupported_protocol_version}
+use Rattle.rs_session.specs.Reasons.{code_of}
+use Rattle.rs_session.specs.declared.reason.ReasonCode.{ReasonCode}
+use Rattle.rs_session.specs.declared.reason.ReasonCode.TheVariants.{Success, PacketIdentifierNotFound, QuotaExceeded, ProtocolError, BadAuthenticationMethod, ImplementationSpecificError, UnsupportedProtocolVersion}
 use Rattle.rs_session.specs.Subscriptions.{Subscriptions, none, is_subscribed, replays}
 use Rattle.rs_session.specs.State.{State, fresh, closing_of, IsGiven, IsReplayed}
-use Rattle.rs_session.specs.Table.{acknowledged_by, acknowledgement_of, released_by, IsSubscribed, IsGrantedTo, Grants, OpenCase, OpenRow, Case, Row, due_for, state_after, connack, open_for, packet_limit, receive_limit, With_method, With_will, Connect_refused, Accepted, Connack_too_long, Other_version, Unexpected, In_session, Over, Faulty, With_alias, Bad_topic, Sent_again, Too_many_held, Not_retained, Kept, Topic_unread, Not_kept, Uncertain, Gate_closed, Wrong_acknowledgement, Acknowledged, Shared_no_local, Not_subscribed, Subscribed, Not_unsubscribed, Unsubscribed, Connected_twice, Pinged, Disconnected}
+use Rattle.rs_session.specs.Table.{acknowledged_by, acknowledgement_of, released_by, IsSubscribed, IsGrantedTo, Grants, OpenCase, OpenRow, Case, SessionRow, due_for, state_after, connack, open_for, packet_limit, receive_limit, With_method, With_will, Connect_refused, Accepted, Connack_too_long, Other_version, Unexpected, In_session, Over, Faulty, With_alias, Bad_topic, Sent_again, Too_many_held, Not_retained, Kept, Topic_unread, Not_kept, Uncertain, Gate_closed, Wrong_acknowledgement, Acknowledged, Shared_no_local, Not_subscribed, Subscribed, Not_unsubscribed, Unsubscribed, Connected_twice, Pinged, Disconnected}
 use Rattle.rs_session.specs.Table as table
 use Rattle.rs_session.specs.Run.{Point, Turn, Gives, GivesAll, IsTurn, Run}
 use Rattle.rs_session.specs.Replay.{is_granted, subscribed_by, IsQueuedAt, IsQueuedFor, AreQueued, IsAcknowledged, AreCalledBy, acknowledgement_in, IsRefused, giving, listed, publications, IsNoPublish, IsServed, IsLast, AreMade, subscriptions_of, AreCalls, window_of, window_after, window_for, IsOpen, Opens, IsReplaying, AreSentOrDropped, AreSent, IsWithinQuota, IsSentInOrder}
@@ -122,13 +124,13 @@ answers input as_read now answered old outcome answer new i out same called no_p
     let led : IsLed as_read now answered old (Replies answer) new = ([], same, called, no_publish) in
     subst (λ (read : Input). IsLed read now answered old outcome new) (sym i) (subst (λ (o : Outcome). IsLed as_read now answered old o new) (sym out) led)
 
-closes : (input as_read : Input) (now : ℕ) (answered : List (List Entry)) (old : Open) (outcome : Outcome) (code : ℕ) (new : Open) → input ≡ as_read → outcome ≡ Closes code
+closes : (input as_read : Input) (now : ℕ) (answered : List (List Entry)) (old : Open) (outcome : Outcome) (code : ReasonCode) (new : Open) → input ≡ as_read → outcome ≡ Closes code
     → IsRefused (acknowledgement_in as_read) [] → IsLed input now answered old outcome new
 closes input as_read now answered old outcome code new i out refused =
     let led : IsLed as_read now answered old (Closes code) new = ([], refl, refused) in
     subst (λ (read : Input). IsLed read now answered old outcome new) (sym i) (subst (λ (o : Outcome). IsLed as_read now answered old o new) (sym out) led)
 
-no_publish_by : (quality : Qos) (id : Option ℕ) (code : ℕ) → IsNoPublish (acknowledged_by quality id code)
+no_publish_by : (quality : Qos) (id : Option ℕ) (code : ReasonCode) → IsNoPublish (acknowledged_by quality id code)
 no_publish_by qos.AtMostOnce id code = tt
 no_publish_by qos.AtLeastOnce None code = tt
 no_publish_by qos.AtLeastOnce (Some n) code = tt
@@ -144,7 +146,7 @@ no_publish_released window.Puback id answer = tt
 no_publish_released window.Pubcomp id answer = tt
 no_publish_released (window.Pubrec code) id ack_case.Released = tt
 no_publish_released (window.Pubrec code) id Freed = tt
-no_publish_released (window.Pubrec code) id Unknown = no_publish_release packet_identifier_not_found id (nat_lt code 0x80)
+no_publish_released (window.Pubrec code) id Unknown = no_publish_release (code_of PacketIdentifierNotFound) id (nat_lt code 0x80)
 
 acknowledging : (p : Packet) (now : ℕ) (answered : List (List Entry)) (there : Subscriptions) (reply : Option Reply) (ack : window.Acknowledgement) (id : ℕ) (answer : Ack) → acknowledgement_of p ≡ Some (ack, id)
     → AreCalledBy (Whole p) now answered there reply (Acknowledge ack id (Ok answer) ∷ [])
@@ -197,22 +199,22 @@ row_calls Faulty input now old mark seen answered list used outcome new (f, i, o
 row_calls With_alias input now old mark seen answered list used outcome new (p, i, a, out, unchanged) = closes input _ now answered old outcome _ new i out refl
 row_calls Bad_topic input now old mark seen answered list used outcome new (p, f, i, a, t, other, out, unchanged) = closes input _ now answered old outcome _ new i out refl
 row_calls Sent_again input now old mark seen answered list used outcome new (p, i, a, t, held, out, unchanged) =
-    answers input _ now answered old outcome _ new i out (same_window old new unchanged.same) refl (no_publish_by p.qos p.id 0)
+    answers input _ now answered old outcome _ new i out (same_window old new unchanged.same) refl (no_publish_by p.qos p.id Success)
 row_calls Too_many_held input now old mark seen answered list used outcome new (p, i, a, t, many, out, unchanged) = closes input _ now answered old outcome _ new i out refl
 row_calls Not_retained input now old mark seen answered list used outcome new (p, topic, i, taken, t, r, out, u, same) =
-    answers input _ now answered old outcome _ new i out (ap (λ (o : Open). o.window) same) refl (no_publish_by p.qos p.id 0)
+    answers input _ now answered old outcome _ new i out (ap (λ (o : Open). o.window) same) refl (no_publish_by p.qos p.id Success)
 row_calls Kept input now old mark seen answered list used outcome new (p, topic, operation, i, s, submitted, out, same) =
-    answers input _ now answered old outcome _ new i out (ap (λ (o : Open). o.window) same) refl (no_publish_by p.qos p.id 0)
+    answers input _ now answered old outcome _ new i out (ap (λ (o : Open). o.window) same) refl (no_publish_by p.qos p.id Success)
 row_calls Topic_unread input now old mark seen answered list used outcome new (p, i, taken, t, out, unchanged) =
-    answers input _ now answered old outcome _ new i out (same_window old new unchanged.same) refl (no_publish_by p.qos p.id quota_exceeded)
+    answers input _ now answered old outcome _ new i out (same_window old new unchanged.same) refl (no_publish_by p.qos p.id QuotaExceeded)
 row_calls Not_kept input now old mark seen answered list used outcome new (p, topic, operation, i, s, out, same) =
-    answers input _ now answered old outcome _ new i out (same_window old new same) refl (no_publish_by p.qos p.id quota_exceeded)
+    answers input _ now answered old outcome _ new i out (same_window old new same) refl (no_publish_by p.qos p.id QuotaExceeded)
 row_calls Uncertain input now old mark seen answered list used outcome new (p, topic, operation, i, s, out, same) = closes input _ now answered old outcome _ new i out refl
 row_calls Gate_closed input now old mark seen answered list used outcome new (p, topic, operation, i, s, out, same) = closes input _ now answered old outcome _ new i out refl
 row_calls table.Released input now old mark seen answered list used outcome new (a, i, out, u, same) =
     answers input _ now answered old outcome _ new i out (ap (λ (o : Open). o.window) same) refl tt
 row_calls Wrong_acknowledgement input now old mark seen answered list used outcome new (p, ack, id, i, is, wrong, out, unchanged) =
-    let led : IsLed (Whole p) now answered old (Closes protocol_error) new = (
+    let led : IsLed (Whole p) now answered old (Closes ProtocolError) new = (
       Acknowledge ack id (Err WrongKind) ∷ [],
       (old.window, (sym wrong, wrong_step ack id old.window (finite.get old.window.kinds id) refl wrong), refl),
       subst (λ (a : Option (window.Acknowledgement × ℕ)). IsRefused a (Acknowledge ack id (Err WrongKind) ∷ [])) (sym is) refl,
@@ -303,6 +305,10 @@ run_limit : (from : window_state.State) (made : List Call) (to : window_state.St
 run_limit from [] to e = ap (λ (s : window_state.State). s.packet_maximum) e
 run_limit from (call ∷ made) to (mid, step, rest) = run_limit mid made to rest ∙ (step_limits from call mid step).1
 
+run_quota : (from : window_state.State) (made : List Call) (to : window_state.State) → calls.Run from made to → to.quota ≡ from.quota
+run_quota from [] to e = ap (λ (s : window_state.State). s.quota) e
+run_quota from (call ∷ made) to (mid, step, rest) = run_quota mid made to rest ∙ (step_limits from call mid step).0
+
 -- the calls of a turn, from the window of an open session to that in this phase
 abbrev IsMadeTo : Open → Turn → Phase → Type 0
 IsMadeTo o turn to = (made : List Call) × calls.Run o.window made (window_of o.window to) × AreMade o.subscriptions turn to made
@@ -328,10 +334,10 @@ led_made turn o left (Replies answer) old mid due (own, run, called, no_publish)
     } in
     subst (λ (p : Phase). IsMadeTo o turn p) (sym is) (own ++ giving turn.now given, all, served)
 led_made turn o left (Closes code) old mid due (own, run, refused) d same g =
-    let (is, whole) = left_replies turn.now due mid (ByServer code) turn.replies g.left g.last turn.to.state (ap (λ (s : State). s.phase) same) g.given g.none_left in
+    let (is, whole) = left_replies turn.now due mid (ByServer (code_of code)) turn.replies g.left g.last turn.to.state (ap (λ (s : State). s.phase) same) g.given g.none_left in
     let last : IsLast turn own = record {
       refused = refused;
-      none_given = ap publications whole ∙ ap (λ (r : Option Reply). publications (listed r)) d ∙ none_within (leb (length (reply_bytes (reply.Disconnect code))) o.window.packet_maximum) code;
+      none_given = ap publications whole ∙ ap (λ (r : Option Reply). publications (listed r)) d ∙ none_within (leb (length (reply_bytes (reply.Disconnect (code_of code)))) o.window.packet_maximum) (code_of code);
     } in
     subst (λ (p : Phase). IsMadeTo o turn p) (sym is) (own, run, last)
 led_made turn o left Leaves old mid due (own, run, refused) d same g =
@@ -348,7 +354,7 @@ pub shut : {A : Type 0} (a b : Phase) → a ≡ b → IsOpen a → (IsOpen b →
 shut a b e h closed = absurd (closed (subst IsOpen e h))
 
 open_made : (w : window_state.State) (from : Point) (turn : Turn) (case : Case) (due : Option Reply) (mid : State) → IsOpen from.state.phase
-    → Row case turn.input turn.now from.state from.mark from.seen turn.answered turn.to.seen turn.to.mark due mid → GivesAll turn.now due mid turn.replies turn.to.state → IsMade w from.state.phase turn
+    → SessionRow case turn.input turn.now from.state from.mark from.seen turn.answered turn.to.seen turn.to.mark due mid → GivesAll turn.now due mid turn.replies turn.to.state → IsMade w from.state.phase turn
 open_made w from turn With_method due mid h (c, i, before, m, refused) g = shut from.state.phase phase.Before before h (λ n. n)
 open_made w from turn With_will due mid h (c, i, before, m, k, refused) g = shut from.state.phase phase.Before before h (λ n. n)
 open_made w from turn Connect_refused due mid h (c, i, before, m, k, refused) g = shut from.state.phase phase.Before before h (λ n. n)
@@ -356,7 +362,7 @@ open_made w from turn Accepted due mid h (c, i, before, m, k, short, u, d, same)
 open_made w from turn Connack_too_long due mid h (c, i, before, m, k, long, u, d, same) g = shut from.state.phase phase.Before before h (λ n. n)
 open_made w from turn Other_version due mid h (i, before, u, d, same) g = shut from.state.phase phase.Before before h (λ n. n)
 open_made w from turn Unexpected due mid h (i, before, u, d, same) g = shut from.state.phase phase.Before before h (λ n. n)
-open_made w from turn In_session due mid h (o, left, outcome, is, (case, row), d, same) g =
+open_made w from turn In_session due mid h (o, left, outcome, is, (case, a, row), d, same) g =
     let led : IsLed turn.input turn.now turn.answered o outcome left = row_calls case turn.input turn.now o from.mark from.seen turn.answered turn.to.seen turn.to.mark outcome left row in
     subst (λ (p : Phase). IsMade w p turn) (sym is) (led_made turn o left outcome from.state mid due led d same g)
 open_made w from turn Over due mid h (closing, is, u, d, same) g = shut from.state.phase (phase.Ended closing) is h (λ n. n)
@@ -370,15 +376,15 @@ ended_first : {A : Type 0} (turn : Turn) (due : Option Reply) (mid : State) (clo
 ended_first turn due mid closing is g h =
     shut turn.to.state.phase (phase.Ended closing) (left_replies turn.now due mid closing turn.replies g.left g.last turn.to.state is g.given g.none_left).0 h (λ n. n)
 
-phase_of : (a b : State) → a ≡ b → a.phase ≡ b.phase
+pub phase_of : (a b : State) → a ≡ b → a.phase ≡ b.phase
 phase_of a b e = ap (λ (s : State). s.phase) e
 
 first_made : (from : Point) (turn : Turn) (c : Connect) (case : Case) (due : Option Reply) (mid : State) → from.state.phase ≡ phase.Before → turn.input ≡ Whole (packet.Connect c) → IsOpen turn.to.state.phase
-    → Row case turn.input turn.now from.state from.mark from.seen turn.answered turn.to.seen turn.to.mark due mid → GivesAll turn.now due mid turn.replies turn.to.state
+    → SessionRow case turn.input turn.now from.state from.mark from.seen turn.answered turn.to.seen turn.to.mark due mid → GivesAll turn.now due mid turn.replies turn.to.state
     → IsMadeTo (open_for c) turn turn.to.state.phase
-first_made from turn c With_method due mid begun is h (d, i, before, m, refused) g = ended_first turn due mid (ByServer bad_authentication_method) (phase_of mid _ refused.end) g h
-first_made from turn c With_will due mid begun is h (d, i, before, m, k, refused) g = ended_first turn due mid (ByServer implementation_specific_error) (phase_of mid _ refused.end) g h
-first_made from turn c Connect_refused due mid begun is h (d, i, before, m, k, refused) g = ended_first turn due mid (ByServer quota_exceeded) (phase_of mid _ refused.end) g h
+first_made from turn c With_method due mid begun is h (d, i, before, m, refused) g = ended_first turn due mid (ByServer (code_of BadAuthenticationMethod)) (phase_of mid _ refused.end) g h
+first_made from turn c With_will due mid begun is h (d, i, before, m, k, refused) g = ended_first turn due mid (ByServer (code_of ImplementationSpecificError)) (phase_of mid _ refused.end) g h
+first_made from turn c Connect_refused due mid begun is h (d, i, before, m, k, refused) g = ended_first turn due mid (ByServer (code_of QuotaExceeded)) (phase_of mid _ refused.end) g h
 first_made from turn c Accepted due mid begun is h (d, i, before, m, k, short, u, e, same) g =
     let o : Open = open_for d in
     let answer : Reply = connack d from.state in
@@ -386,8 +392,8 @@ first_made from turn c Accepted due mid begun is h (d, i, before, m, k, short, u
     let led : IsLed turn.input turn.now turn.answered o (Replies (Some answer)) o =
     answers turn.input (Whole (packet.Connect d)) turn.now turn.answered o (Replies (Some answer)) (Some answer) o i refl refl refl tt in
     subst (λ (x : Connect). IsMadeTo (open_for x) turn turn.to.state.phase) (ap (connect_in c) (sym i ∙ is)) (led_made turn o o (Replies (Some answer)) from.state mid due led sent same g)
-first_made from turn c Connack_too_long due mid begun is h (d, i, before, m, k, long, u, e, same) g = ended_first turn due mid (ByServer 0) (phase_of mid _ same) g h
-first_made from turn c Other_version due mid begun is h (i, before, u, e, same) g = ended_first turn due mid (ByServer unsupported_protocol_version) (phase_of mid _ same) g h
+first_made from turn c Connack_too_long due mid begun is h (d, i, before, m, k, long, u, e, same) g = ended_first turn due mid (ByServer (code_of Success)) (phase_of mid _ same) g h
+first_made from turn c Other_version due mid begun is h (i, before, u, e, same) g = ended_first turn due mid (ByServer (code_of UnsupportedProtocolVersion)) (phase_of mid _ same) g h
 first_made from turn c Unexpected due mid begun is h (i, before, u, e, same) g = ended_first turn due mid Dropped (phase_of mid _ same) g h
 first_made from turn c In_session due mid begun is h (o, left, outcome, at, row, e, same) g = shut (phase.Open o) phase.Before (sym at ∙ begun) tt (λ n. n)
 first_made from turn c Over due mid begun is h (closing, at, u, e, same) g = ended_first turn due mid closing (phase_of mid from.state same ∙ at) g h
@@ -413,7 +419,7 @@ turns_made : (w : window_state.State) (from to : Point) (turns : List Turn) → 
     → (made : List Call) × calls.Run (window_of w from.state.phase) made (window_after (window_of w from.state.phase) turns) × AreCalls from.state.phase turns made
 turns_made w from to [] e h = ([], refl, refl)
 turns_made w from to (turn ∷ turns) (t, rest) h =
-    let (own, run, made) = open_made w from turn t.case t.due t.mid (is_open from.state.phase h t.goes_on) t.row t.all_given in
+    let (own, run, made) = open_made w from turn t.case t.due t.mid (is_open from.state.phase h t.goes_on) t.row.1 t.all_given in
     let at : window_state.State = window_of w from.state.phase in
     let (more, runs, are) = turns_made at turn.to to turns rest (has_begun (subscriptions_of from.state.phase) turn turn.to.state.phase own made) in (
       own ++ more,
@@ -424,7 +430,7 @@ turns_made w from to (turn ∷ turns) (t, rest) h =
 pub run_replays : (assigned : List ℕ) (from to : Point) (turns : List Turn) (c : Connect) → from.state ≡ fresh assigned → Run from turns to → Opens c turns → IsReplaying c turns
 run_replays assigned from to [] c begun run opens = absurd opens
 run_replays assigned from to (turn ∷ turns) c begun (t, rest) (is, h) =
-    let (own, run, made) = first_made from turn c t.case t.due t.mid (phase_of from.state (fresh assigned) begun) is h t.row t.all_given in
+    let (own, run, made) = first_made from turn c t.case t.due t.mid (phase_of from.state (fresh assigned) begun) is h t.row.1 t.all_given in
     let at : window_state.State = window_for c in
     let (more, runs, are) = turns_made at turn.to to turns rest (has_begun none turn turn.to.state.phase own made) in
     record {
@@ -483,13 +489,13 @@ called_gives_none (Whole p) now answered there answer own h = acknowledged_gives
 called_gives_none (Broken fault) now answered there answer own e = same_gives_none own [] e tt
 
 -- what leaves the queue in calls that give nothing and others, leaves it in the others
-front_after : (packet_maximum : ℕ) (own rest : List Call) (front : List Waiting) → GivesNone own → calls.IsFront packet_maximum (own ++ rest) front → calls.IsFront packet_maximum rest front
+front_after : (packet_maximum : ℕ) (own rest : List Call) (front : List Waiting) → GivesNone own → calls.HasLeft packet_maximum (own ++ rest) front → calls.HasLeft packet_maximum rest front
 front_after packet_maximum [] rest front h is = is
 front_after packet_maximum (Queue found granted subscription answer ∷ own) rest front h (gone, more, e, none_gone, is) =
-    front_after packet_maximum own rest front h (subst (λ (ws : List Waiting). calls.IsFront packet_maximum (own ++ rest) ws) (sym (e ∙ ap (λ (ws : List Waiting). ws ++ more) none_gone)) is)
+    front_after packet_maximum own rest front h (subst (λ (ws : List Waiting). calls.HasLeft packet_maximum (own ++ rest) ws) (sym (e ∙ ap (λ (ws : List Waiting). ws ++ more) none_gone)) is)
 front_after packet_maximum (Next now given ∷ own) rest front h is = absurd h
 front_after packet_maximum (Acknowledge ack id answer ∷ own) rest front h (gone, more, e, none_gone, is) =
-    front_after packet_maximum own rest front h (subst (λ (ws : List Waiting). calls.IsFront packet_maximum (own ++ rest) ws) (sym (e ∙ ap (λ (ws : List Waiting). ws ++ more) none_gone)) is)
+    front_after packet_maximum own rest front h (subst (λ (ws : List Waiting). calls.HasLeft packet_maximum (own ++ rest) ws) (sym (e ∙ ap (λ (ws : List Waiting). ws ++ more) none_gone)) is)
 
 dropped_first : (packet_maximum now : ℕ) (dropped ws : List Waiting) (sent : List Publication) → AllDropped packet_maximum now dropped → AreSentOrDropped packet_maximum now ws sent
     → AreSentOrDropped packet_maximum now (dropped ++ ws) sent
@@ -497,8 +503,8 @@ dropped_first packet_maximum now [] ws sent all h = h
 dropped_first packet_maximum now (w ∷ dropped) ws sent (first, all) h = inl (first, dropped_first packet_maximum now dropped ws sent all h)
 
 -- what leaves the queue while the window gives these
-front_given : (packet_maximum now : ℕ) (given : List PublishValue) (rest : List Call) (front : List Waiting) → calls.IsFront packet_maximum (giving now given ++ rest) front
-    → (gone : List Waiting) × (more : List Waiting) × (front ≡ gone ++ more) × AreSentOrDropped packet_maximum now gone (map publication_of given) × calls.IsFront packet_maximum rest more
+front_given : (packet_maximum now : ℕ) (given : List PublishValue) (rest : List Call) (front : List Waiting) → calls.HasLeft packet_maximum (giving now given ++ rest) front
+    → (gone : List Waiting) × (more : List Waiting) × (front ≡ gone ++ more) × AreSentOrDropped packet_maximum now gone (map publication_of given) × calls.HasLeft packet_maximum rest more
 front_given packet_maximum now [] rest front (gone, more, e, all, is) =
     (gone, more, e, subst (λ (ws : List Waiting). AreSentOrDropped packet_maximum now ws []) (append-nil gone) (dropped_first packet_maximum now gone [] [] all refl), is)
 front_given packet_maximum now (p ∷ given) rest front (gone, more, e, (dropped, w, whole, all, carries), is) =
@@ -524,12 +530,12 @@ answer_first limit (Some r) rs h = by_case (leb (length (reply_bytes r)) limit)
     by_case true = other_first r rs h
     by_case false = refl
 
-turn_sends : (packet_maximum : ℕ) (there : Subscriptions) (turn : Turn) (to : Phase) (made rest : List Call) (front : List Waiting) → AreMade there turn to made → calls.IsFront packet_maximum (made ++ rest) front
-    → (gone : List Waiting) × (more : List Waiting) × (front ≡ gone ++ more) × AreSentOrDropped packet_maximum turn.now gone (publications turn.replies) × calls.IsFront packet_maximum rest more
+turn_sends : (packet_maximum : ℕ) (there : Subscriptions) (turn : Turn) (to : Phase) (made rest : List Call) (front : List Waiting) → AreMade there turn to made → calls.HasLeft packet_maximum (made ++ rest) front
+    → (gone : List Waiting) × (more : List Waiting) × (front ≡ gone ++ more) × AreSentOrDropped packet_maximum turn.now gone (publications turn.replies) × calls.HasLeft packet_maximum rest more
 turn_sends packet_maximum there turn phase.Before made rest front h is = absurd h
 turn_sends packet_maximum there turn (phase.Open o) made rest front s is =
-    let apart : calls.IsFront packet_maximum (s.own ++ (giving turn.now s.given ++ rest)) front =
-    subst (λ (cs : List Call). calls.IsFront packet_maximum cs front) (ap (λ (cs : List Call). cs ++ rest) s.whole ∙ append_assoc s.own (giving turn.now s.given) rest) is in
+    let apart : calls.HasLeft packet_maximum (s.own ++ (giving turn.now s.given ++ rest)) front =
+    subst (λ (cs : List Call). calls.HasLeft packet_maximum cs front) (ap (λ (cs : List Call). cs ++ rest) s.whole ∙ append_assoc s.own (giving turn.now s.given) rest) is in
     let (gone, more, e, sent, fronts) = front_given packet_maximum turn.now s.given rest front
     (front_after packet_maximum s.own (giving turn.now s.given ++ rest) front (called_gives_none turn.input turn.now turn.answered there s.answer s.own s.called) apart) in
     let replied : publications turn.replies ≡ map publication_of s.given = ap publications s.replies ∙ answer_first o.window.packet_maximum s.answer (map reply_of s.given) s.no_publish ∙ published s.given in
@@ -537,14 +543,14 @@ turn_sends packet_maximum there turn (phase.Open o) made rest front s is =
 turn_sends packet_maximum there turn (phase.Ended closing) made rest front last is =
     ([], front, refl, last.none_given, front_after packet_maximum made rest front (refused_gives_none (acknowledgement_in turn.input) made last.refused) is)
 
-turns_send : (packet_maximum : ℕ) (from : Phase) (turns : List Turn) (made : List Call) (front : List Waiting) → AreCalls from turns made → calls.IsFront packet_maximum made front → AreSent packet_maximum turns front
-turns_send packet_maximum from [] made front e is = subst (λ (cs : List Call). calls.IsFront packet_maximum cs front) e is
+turns_send : (packet_maximum : ℕ) (from : Phase) (turns : List Turn) (made : List Call) (front : List Waiting) → AreCalls from turns made → calls.HasLeft packet_maximum made front → AreSent packet_maximum turns front
+turns_send packet_maximum from [] made front e is = subst (λ (cs : List Call). calls.HasLeft packet_maximum cs front) e is
 turns_send packet_maximum from (turn ∷ turns) made front (own, rest, e, here, later) is =
     let (gone, more, whole, sent, fronts) =
-    turn_sends packet_maximum (subscriptions_of from) turn turn.to.state.phase own rest front here (subst (λ (cs : List Call). calls.IsFront packet_maximum cs front) e is) in
+    turn_sends packet_maximum (subscriptions_of from) turn turn.to.state.phase own rest front here (subst (λ (cs : List Call). calls.HasLeft packet_maximum cs front) e is) in
     (gone, more, whole, sent, turns_send packet_maximum turn.to.state.phase turns rest more later fronts)
 
--- a run begins with a run of its first calls
+-- the first calls of a run are a run
 run_first : (from : window_state.State) (before after : List Call) (to : window_state.State) → calls.Run from (before ++ after) to → (mid : window_state.State) × calls.Run from before mid
 run_first from [] after to h = (from, refl)
 run_first from (call ∷ before) after to (next, step, rest) = let (mid, more) = run_first next before after to rest in (mid, (next, step, more))
@@ -563,10 +569,11 @@ replay_sends c turns r =
     let end : window_state.State = window_after (window_for c) turns in
     let replay : calls.IsReplayed limit r.made end.waiting = replayed quota limit r.made end r.run in
     record {
-      front = replay.front;
+      front = replay.prefix;
       whole = replay.whole;
-      sent = turns_send limit phase.Before turns r.made replay.front r.by_turns replay.leaves;
-      quota = within_quota c r.made end r.run;
+      sent = turns_send limit phase.Before turns r.made replay.prefix r.by_turns replay.leaves;
+      quota = run_quota (window_for c) r.made end r.run;
+      within = within_quota c r.made end r.run;
       unacknowledged = kinds_read quota limit r.made end r.run;
     }
 
@@ -580,16 +587,16 @@ ends_first turn due mid closing is g = inr (closing, (left_replies turn.now due 
 
 -- the first turn opens it by a CONNECT, or it ends
 first_to : (from : Point) (turn : Turn) (case : Case) (due : Option Reply) (mid : State) → from.state.phase ≡ phase.Before
-    → Row case turn.input turn.now from.state from.mark from.seen turn.answered turn.to.seen turn.to.mark due mid → GivesAll turn.now due mid turn.replies turn.to.state
+    → SessionRow case turn.input turn.now from.state from.mark from.seen turn.answered turn.to.seen turn.to.mark due mid → GivesAll turn.now due mid turn.replies turn.to.state
     → OpensOrEnds turn
-first_to from turn With_method due mid begun (d, i, before, m, refused) g = ends_first turn due mid (ByServer bad_authentication_method) (phase_of mid _ refused.end) g
-first_to from turn With_will due mid begun (d, i, before, m, k, refused) g = ends_first turn due mid (ByServer implementation_specific_error) (phase_of mid _ refused.end) g
-first_to from turn Connect_refused due mid begun (d, i, before, m, k, refused) g = ends_first turn due mid (ByServer quota_exceeded) (phase_of mid _ refused.end) g
+first_to from turn With_method due mid begun (d, i, before, m, refused) g = ends_first turn due mid (ByServer (code_of BadAuthenticationMethod)) (phase_of mid _ refused.end) g
+first_to from turn With_will due mid begun (d, i, before, m, k, refused) g = ends_first turn due mid (ByServer (code_of ImplementationSpecificError)) (phase_of mid _ refused.end) g
+first_to from turn Connect_refused due mid begun (d, i, before, m, k, refused) g = ends_first turn due mid (ByServer (code_of QuotaExceeded)) (phase_of mid _ refused.end) g
 first_to from turn Accepted due mid begun (d, i, before, m, k, short, u, e, same) g =
     let (given, n, is, run, whole) = given_calls turn.now due mid (open_for d) turn.replies g.left g.last turn.to.state (phase_of mid _ same) g.given g.none_left in
     inl (d, (i, subst IsOpen (sym is) tt))
-first_to from turn Connack_too_long due mid begun (d, i, before, m, k, long, u, e, same) g = ends_first turn due mid (ByServer 0) (phase_of mid _ same) g
-first_to from turn Other_version due mid begun (i, before, u, e, same) g = ends_first turn due mid (ByServer unsupported_protocol_version) (phase_of mid _ same) g
+first_to from turn Connack_too_long due mid begun (d, i, before, m, k, long, u, e, same) g = ends_first turn due mid (ByServer (code_of Success)) (phase_of mid _ same) g
+first_to from turn Other_version due mid begun (i, before, u, e, same) g = ends_first turn due mid (ByServer (code_of UnsupportedProtocolVersion)) (phase_of mid _ same) g
 first_to from turn Unexpected due mid begun (i, before, u, e, same) g = ends_first turn due mid Dropped (phase_of mid _ same) g
 first_to from turn In_session due mid begun (o, left, outcome, at, row, e, same) g = shut (phase.Open o) phase.Before (sym at ∙ begun) tt (λ n. n)
 first_to from turn Over due mid begun (closing, at, u, e, same) g = ends_first turn due mid closing (phase_of mid from.state same ∙ at) g
@@ -599,7 +606,7 @@ none_follow : {A : Type 0} (from : Point) (turn : Turn) (closing : Closing) → 
 none_follow from turn closing is t = absurd (none-some closing (sym t.goes_on ∙ ap closing_of is))
 
 first_opens : (assigned : List ℕ) (from : Point) (turn : Turn) → from.state ≡ fresh assigned → IsTurn from turn → OpensOrEnds turn
-first_opens assigned from turn begun t = first_to from turn t.case t.due t.mid (phase_of from.state (fresh assigned) begun) t.row t.all_given
+first_opens assigned from turn begun t = first_to from turn t.case t.due t.mid (phase_of from.state (fresh assigned) begun) t.row.1 t.all_given
 
 pub run_opens : (assigned : List ℕ) (from to : Point) (before : List Turn) (turn : Turn) (after : List Turn) → from.state ≡ fresh assigned → Run from (before ++ turn ∷ after) to → IsOpen turn.to.state.phase
     → (c : Connect) × Opens c (before ++ turn ∷ after)

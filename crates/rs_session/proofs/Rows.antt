@@ -8,8 +8,8 @@ use Rattle.std.proofs.lemmas.Bool.{lt-ltb, le-ltb}
 use Rattle.std.proofs.lemmas.List.Elements.{All-nil, All-cons, All-append}
 use Rattle.rs_topic.specs.declared.text.TopicFault.{TopicFault}
 use Rattle.rs_topic.specs.declared.text.TopicFault.TheVariants as topic_fault
-use Rattle.rs_field.specs.declared.fault.PacketFault.{PacketFault}
-use Rattle.rs_field.specs.declared.fault.PacketFault.TheVariants as fault
+use Rattle.rs_packet.specs.Faults.{PacketFault}
+use Rattle.rs_packet.specs.Faults as fault
 use Rattle.rs_packet.specs.declared.packet.Acknowledgement.{Acknowledgement}
 use Rattle.rs_packet.specs.declared.packet.Connect.{Connect}
 use Rattle.rs_packet.specs.declared.packet.Packet.{Packet}
@@ -38,8 +38,10 @@ use Rattle.rs_session.specs.declared.phase.Closing.TheVariants.{ByClient, ByServ
 use Rattle.rs_session.specs.declared.phase.Phase.TheVariants as phase
 use Rattle.rs_session.specs.declared.phase.Input.{Input}
 use Rattle.rs_session.specs.declared.phase.Input.TheVariants.{Whole, Broken}
-use Rattle.rs_session.specs.Gate.{Mark, BeginsWith, Grows, GrowsAnswering, StandsAt, Uses}
-use Rattle.rs_session.specs.Reasons.{unsupported_protocol_version, implementation_specific_error, bad_authentication_method, quota_exceeded, protocol_error, packet_identifier_not_found}
+use Rattle.rs_session.specs.Gate.{Mark, Extends, Grows, GrowsAnswering, StandsAt, Uses, IsHandedOver}
+use Rattle.rs_session.specs.Reasons.{code_of}
+use Rattle.rs_session.specs.declared.reason.ReasonCode.{ReasonCode}
+use Rattle.rs_session.specs.declared.reason.ReasonCode.TheVariants.{Success, UnsupportedProtocolVersion, ImplementationSpecificError, BadAuthenticationMethod, QuotaExceeded, ProtocolError, PacketIdentifierNotFound}
 use Rattle.rs_session.specs.State.{State, opened, ended, within, state_of, due_of, gate_of, IsGiven, IsReplayed}
 use Rattle.rs_session.specs.declared.session.Session.{Session}
 use Rattle.rs_session.specs.declared.phase.Phase.{Phase}
@@ -49,7 +51,7 @@ use Rattle.rs_session.specs.Subscriptions.{Subscriptions, is_subscribed}
 use Rattle.rs_session.specs.declared.subscriptions.Subscription.{Subscription}
 use Rattle.rs_session.proofs.SubscriptionLemmas.{remove_inserted, get_absent}
 use Rattle.rs_session.specs.Steps.{IsAccepted, connect_refusal, outcome_before, outcome_of_alias, outcome_of_topic, outcome_of_id, topic_refusal, IsSettled}
-use Rattle.rs_session.specs.Table.{Answers, LeadsTo, IsNeitherConnectNorVersion, fault_code, packet_limit, connack, open_for, change, topic_code, acknowledged_by, held_id, is_held, is_one_too_many, holding, IsTaken, IsTopicOrUnread, IsSubmittable, acknowledgement_of, released_by, released_code, is_shared_local, Grants, IsGranted, removal_code, removal_codes, without, without_all, due_for, state_after, With_method, With_will, Connect_refused, Accepted, Connack_too_long, Other_version, Unexpected, In_session, Over, Faulty, With_alias, Bad_topic, Sent_again, Too_many_held, Not_retained, Kept, Topic_unread, Not_kept, Uncertain, Gate_closed, Released, Wrong_acknowledgement, Acknowledged, Shared_no_local, Not_subscribed, Subscribed, Not_unsubscribed, Unsubscribed, Connected_twice, Pinged, Disconnected}
+use Rattle.rs_session.specs.Table.{Answers, LeadsTo, IsNeitherConnectNorVersion, fault_reason, packet_limit, connack, open_for, change, topic_reason, acknowledged_by, held_id, is_held, is_one_too_many, holding, IsTaken, IsTopicOrUnread, IsHanded, acknowledgement_of, released_by, released_reason, is_shared_local, Grants, IsGranted, removal_reason, removal_codes, without, without_all, due_for, state_after, With_method, With_will, Connect_refused, Accepted, Connack_too_long, Other_version, Unexpected, In_session, Over, Faulty, With_alias, Bad_topic, Sent_again, Too_many_held, Not_retained, Kept, Topic_unread, Not_kept, Uncertain, Gate_closed, Released, Wrong_acknowledgement, Acknowledged, Shared_no_local, Not_subscribed, Subscribed, Not_unsubscribed, Unsubscribed, Connected_twice, Pinged, Disconnected}
 
 pub Grows-weaker : (before after : List Entry → Type 0) (P Q : List Entry → List Entry → Type 0) → ((seen list : List Entry) → P seen list → Q seen list) → Grows before after P → Grows before after Q
 Grows-weaker before after P Q f h = λ seen s. let (list, stands, begins, p) = h seen s in (list, stands, begins, f seen list p)
@@ -71,17 +73,17 @@ unmoved {G} stands mark old new P e h =
 pub unexpected : (p is : Packet) (old new : State) (due : Option Reply) → p ≡ is → IsNeitherConnectNorVersion (Whole is) → old.phase ≡ phase.Before → due ≡ None → new ≡ ended old Dropped
     → (now : ℕ) (mark : Mark) (list : List Entry) → Answers (Whole p) now old mark list [] list mark due new
 unexpected p is old new due e greets before none end = λ now mark list.
-    (Unexpected, (subst (λ (x : Packet). IsNeitherConnectNorVersion (Whole x)) (sym e) greets, before, refl, none, end))
+    (Unexpected, (refl, (subst (λ (x : Packet). IsNeitherConnectNorVersion (Whole x)) (sym e) greets, before, refl, none, end)))
 
 pub unexpected_fault : (f is : PacketFault) (old new : State) (due : Option Reply) → f ≡ is → IsNeitherConnectNorVersion (Broken is) → old.phase ≡ phase.Before → due ≡ None → new ≡ ended old Dropped
     → (now : ℕ) (mark : Mark) (list : List Entry) → Answers (Broken f) now old mark list [] list mark due new
 unexpected_fault f is old new due e greets before none end = λ now mark list.
-    (Unexpected, (subst (λ (x : PacketFault). IsNeitherConnectNorVersion (Broken x)) (sym e) greets, before, refl, none, end))
+    (Unexpected, (refl, (subst (λ (x : PacketFault). IsNeitherConnectNorVersion (Broken x)) (sym e) greets, before, refl, none, end)))
 
-pub other_version : (f : PacketFault) (old new : State) (due : Option Reply) → f ≡ fault.Version → old.phase ≡ phase.Before → due ≡ Some (reply.Refused unsupported_protocol_version) → new ≡ ended old (ByServer unsupported_protocol_version)
+pub other_version : (f : PacketFault) (old new : State) (due : Option Reply) → f ≡ fault.Version → old.phase ≡ phase.Before → due ≡ Some (reply.Refused (code_of UnsupportedProtocolVersion)) → new ≡ ended old (ByServer (code_of UnsupportedProtocolVersion))
     → (now : ℕ) (mark : Mark) (list : List Entry) → Answers (Broken f) now old mark list [] list mark due new
 other_version f old new due e before is end = λ now mark list.
-    (Other_version, (ap Broken e, before, refl, is, end))
+    (Other_version, (refl, (ap Broken e, before, refl, is, end)))
 
 pub connected : (c : Connect) (p : Packet) (old new : State) (due : Option Reply) → p ≡ packet.Connect c
     → ((now : ℕ) (mark : Mark) (list : List Entry) → Answers (Whole (packet.Connect c)) now old mark list [] list mark due new)
@@ -92,49 +94,49 @@ pub accepted : (c : Connect) (method will : Bool) (old new : State) (due : Optio
     → (now : ℕ) (mark : Mark) (list : List Entry) → Answers (Whole (packet.Connect c)) now old mark list [] list mark due new
 accepted c true will old new due m w none before h = absurd (cc)
 accepted c false true old new due m w none before h = absurd (cc)
-accepted c false false old new due m w none before (inl (a, b, d)) = λ now mark list. (Accepted, (c, refl, before, m, w, a, refl, b, d))
-accepted c false false old new due m w none before (inr (a, b, d)) = λ now mark list. (Connack_too_long, (c, refl, before, m, w, a, refl, b, d))
+accepted c false false old new due m w none before (inl (a, b, d)) = λ now mark list. (Accepted, (refl, (c, refl, before, m, w, a, refl, b, d)))
+accepted c false false old new due m w none before (inr (a, b, d)) = λ now mark list. (Connack_too_long, (refl, (c, refl, before, m, w, a, refl, b, d)))
 
-pub connect_refused : (c : Connect) (method will : Bool) (code : ℕ) (old new : State) (due : Option Reply) → is_some c.method ≡ method → c.will ≡ will → connect_refusal method will ≡ Some code → old.phase ≡ phase.Before
-    → due ≡ within (packet_limit c.packet_maximum) (reply.Refused code) → new ≡ ended old (ByServer code)
+pub connect_refused : (c : Connect) (method will : Bool) (code : ReasonCode) (old new : State) (due : Option Reply) → is_some c.method ≡ method → c.will ≡ will → connect_refusal method will ≡ Some code → old.phase ≡ phase.Before
+    → due ≡ within (packet_limit c.packet_maximum) (reply.Refused (code_of code)) → new ≡ ended old (ByServer (code_of code))
     → (now : ℕ) (mark : Mark) (list : List Entry) → Answers (Whole (packet.Connect c)) now old mark list [] list mark due new
 connect_refused c true will code old new due m w is before d s = λ now mark list.
-    let e : code ≡ bad_authentication_method = cc in
-    (With_method, (c, refl, before, m, record { none_used = refl; reply = d ∙ ap (λ (n : ℕ). within (packet_limit c.packet_maximum) (reply.Refused n)) e; end = s ∙ ap (λ (n : ℕ). ended old (ByServer n)) e }))
+    let e : code ≡ BadAuthenticationMethod = cc in
+    (With_method, (refl, (c, refl, before, m, record { none_used = refl; reply = d ∙ ap (λ (n : ReasonCode). within (packet_limit c.packet_maximum) (reply.Refused (code_of n))) e; end = s ∙ ap (λ (n : ReasonCode). ended old (ByServer (code_of n))) e })))
 connect_refused c false true code old new due m w is before d s = λ now mark list.
-    let e : code ≡ implementation_specific_error = cc in
-    (With_will, (c, refl, before, m, w, record { none_used = refl; reply = d ∙ ap (λ (n : ℕ). within (packet_limit c.packet_maximum) (reply.Refused n)) e; end = s ∙ ap (λ (n : ℕ). ended old (ByServer n)) e }))
+    let e : code ≡ ImplementationSpecificError = cc in
+    (With_will, (refl, (c, refl, before, m, w, record { none_used = refl; reply = d ∙ ap (λ (n : ReasonCode). within (packet_limit c.packet_maximum) (reply.Refused (code_of n))) e; end = s ∙ ap (λ (n : ReasonCode). ended old (ByServer (code_of n))) e })))
 connect_refused c false false code old new due m w is before d s = absurd (cc)
 
 pub connect_without_memory : (c : Connect) (method will : Bool) (old new : State) (due : Option Reply) → is_some c.method ≡ method → c.will ≡ will → connect_refusal method will ≡ None → old.phase ≡ phase.Before
-    → due ≡ within (packet_limit c.packet_maximum) (reply.Refused quota_exceeded) → new ≡ ended old (ByServer quota_exceeded)
+    → due ≡ within (packet_limit c.packet_maximum) (reply.Refused (code_of QuotaExceeded)) → new ≡ ended old (ByServer (code_of QuotaExceeded))
     → (now : ℕ) (mark : Mark) (list : List Entry) → Answers (Whole (packet.Connect c)) now old mark list [] list mark due new
 connect_without_memory c true will old new due m w none before d s = absurd (cc)
 connect_without_memory c false true old new due m w none before d s = absurd (cc)
 connect_without_memory c false false old new due m w none before d s = λ now mark list.
-    (Connect_refused, (c, refl, before, m, w, record { none_used = refl; reply = d; end = s }))
+    (Connect_refused, (refl, (c, refl, before, m, w, record { none_used = refl; reply = d; end = s })))
 
 -- ---- an open session
 
 pub over : (input : Input) (old new : State) (due : Option Reply) (now : ℕ) (mark : Mark) (list : List Entry) (closing : Closing) → old.phase ≡ phase.Ended closing → due ≡ None → new ≡ old → Answers input now old mark list [] list mark due new
-over input old new due now mark list closing e d s = (Over, (closing, e, refl, d, s))
+over input old new due now mark list closing e d s = (Over, (refl, (closing, e, refl, d, s)))
 
 -- what a row leads to is due, and the state after it
 pub concluded : (input : Input) (now : ℕ) (old new : State) (o left : Open) (outcome : Outcome) (limit : ℕ) (due : Option Reply) (mark used : Mark) (seen : List Entry) (answered : List (List Entry)) (list : List Entry)
     → old.phase ≡ phase.Open o → limit ≡ o.window.packet_maximum → LeadsTo input now o mark seen answered list used outcome left → due ≡ due_for limit outcome → new ≡ state_after outcome old left
     → Answers input now old mark seen answered list used due new
 concluded input now old new o left outcome limit due mark used seen answered list p l h d s =
-    (In_session, (o, left, outcome, p, h, d ∙ ap (λ (n : ℕ). due_for n outcome) l, s))
+    (In_session, (tt, (o, left, outcome, p, h, d ∙ ap (λ (n : ℕ). due_for n outcome) l, s)))
 
-pub faulty : (f : PacketFault) (o : Open) (now code : ℕ) (mark : Mark) (list : List Entry) → code ≡ fault_code f → LeadsTo (Broken f) now o mark list [] list mark (Closes code) o
-faulty f o now code mark list e = (Faulty, (f, refl, ap Closes e, record { none_used = refl; same = refl }))
+pub faulty : (f : PacketFault) (o : Open) (now : ℕ) (code : ReasonCode) (mark : Mark) (list : List Entry) → code ≡ fault_reason f → LeadsTo (Broken f) now o mark list [] list mark (Closes code) o
+faulty f o now code mark list e = (Faulty, refl, (f, refl, ap Closes e, record { none_used = refl; same = refl }))
 
 -- ---- acknowledgements
 
 pub acknowledged : (p : Packet) (ack : window.Acknowledgement) (id : ℕ) (answer : Ack) (old new : Open) (outcome : Outcome) (now : ℕ) (mark : Mark) (list : List Entry)
     → acknowledgement_of p ≡ Some (ack, id) → window.IsAcknowledged ack id old.window (Ok answer) new.window → outcome ≡ Replies (released_by ack id answer) → new ≡ record old { window = new.window }
     → LeadsTo (Whole p) now old mark list [] list mark outcome new
-acknowledged p ack id answer old new outcome now mark list is h e s = (Acknowledged, (p, ack, id, answer, refl, is, h, e, refl, s))
+acknowledged p ack id answer old new outcome now mark list is h e s = (Acknowledged, refl, (p, ack, id, answer, refl, is, h, e, refl, s))
 
 -- an acknowledgement is refused only where it is of the wrong kind
 wrong : (ack : window.Acknowledgement) (before : Option Kind) (fault : WindowFault) → Err fault ≡ window.answer_to ack before → fault ≡ window_fault.WrongKind
@@ -151,35 +153,35 @@ wrong ack (Some k) fault e = left ack (window.kind_acknowledged ack k) e
 
 pub not_acknowledged : (p : Packet) (ack : window.Acknowledgement) (id : ℕ) (fault : WindowFault) (old new : Open) (now : ℕ) (mark : Mark) (list : List Entry)
     → acknowledgement_of p ≡ Some (ack, id) → window.IsAcknowledged ack id old.window (Err fault) new.window → new ≡ old
-    → LeadsTo (Whole p) now old mark list [] list mark (Closes protocol_error) new
+    → LeadsTo (Whole p) now old mark list [] list mark (Closes ProtocolError) new
 not_acknowledged p ack id fault old new now mark list is h s =
-    (Wrong_acknowledgement, (p, ack, id, refl, is, sym h.0 ∙ ap (λ (f : WindowFault). Err f) (wrong ack _ fault h.0), refl, record { none_used = refl; same = s }))
+    (Wrong_acknowledgement, refl, (p, ack, id, refl, is, sym h.0 ∙ ap (λ (f : WindowFault). Err f) (wrong ack _ fault h.0), refl, record { none_used = refl; same = s }))
 
 -- a PUBREC for an identifier that is not in use
-pub unknown_low : (code id : ℕ) → code < 128 → Replies (Some (reply.Pubrel id packet_identifier_not_found)) ≡ Replies (released_by (window.Pubrec code) id Ack.Unknown)
+pub unknown_low : (code id : ℕ) → code < 128 → Replies (Some (reply.Pubrel id (code_of PacketIdentifierNotFound))) ≡ Replies (released_by (window.Pubrec code) id Ack.Unknown)
 unknown_low code id h = let s : ltb code 128 ≡ true = lt-ltb _ _ h in rw s refl
 
 pub unknown_high : (code id : ℕ) → 128 ≤ code → Replies None ≡ Replies (released_by (window.Pubrec code) id Ack.Unknown)
 unknown_high code id h = let s : ltb code 128 ≡ false = le-ltb _ _ h in rw s refl
 
-pub released : (a : Acknowledgement) (code : ℕ) (old new : Open) (now : ℕ) (mark : Mark) (list : List Entry) → code ≡ released_code a.id old.inbound → new ≡ record old { inbound = set.remove old.inbound a.id }
-    → LeadsTo (Whole (packet.Pubrel a)) now old mark list [] list mark (Replies (Some (reply.Pubcomp a.id code))) new
-released a code old new now mark list e s = (Released, (a, refl, ap (λ (n : ℕ). Replies (Some (reply.Pubcomp a.id n))) e, refl, s))
+pub released : (a : Acknowledgement) (byte : ℕ) (code : ReasonCode) (old new : Open) (now : ℕ) (mark : Mark) (list : List Entry) → byte ≡ code_of code → code ≡ released_reason a.id old.inbound → new ≡ record old { inbound = set.remove old.inbound a.id }
+    → LeadsTo (Whole (packet.Pubrel a)) now old mark list [] list mark (Replies (Some (reply.Pubcomp a.id byte))) new
+released a byte code old new now mark list b e s = (Released, refl, (a, refl, ap (λ (n : ℕ). Replies (Some (reply.Pubcomp a.id n))) b ∙ ap (λ (r : ReasonCode). Replies (Some (reply.Pubcomp a.id (code_of r)))) e, refl, s))
 
 -- ---- PUBLISH
 
 some_outcome : (a b : Outcome) → Some a ≡ Some b → b ≡ a
 some_outcome a b e = cc
 
-bad_topic : (p : Publish) (f : TopicFault) (outcome : Outcome) (o : Open) (now : ℕ) (mark : Mark) (list : List Entry) → is_some p.alias ≡ false → p.topic ≡ Err f → f ≢ topic_fault.NoMemory → Some (Closes (topic_code f)) ≡ Some outcome
+bad_topic : (p : Publish) (f : TopicFault) (outcome : Outcome) (o : Open) (now : ℕ) (mark : Mark) (list : List Entry) → is_some p.alias ≡ false → p.topic ≡ Err f → f ≢ topic_fault.NoMemory → Some (Closes (topic_reason f)) ≡ Some outcome
     → LeadsTo (Whole (packet.Publish p)) now o mark list [] list mark outcome o
-bad_topic p f outcome o now mark list a t other e = (Bad_topic, (p, f, refl, a, t, other, some_outcome _ _ e, record { none_used = refl; same = refl }))
+bad_topic p f outcome o now mark list a t other e = (Bad_topic, refl, (p, f, refl, a, t, other, some_outcome _ _ e, record { none_used = refl; same = refl }))
 
 by_id : (p : Publish) (held many : Bool) (outcome : Outcome) (o : Open) (now : ℕ) (mark : Mark) (list : List Entry) → is_some p.alias ≡ false → IsTopicOrUnread p.topic
-    → is_held (held_id p.qos p.id) o.inbound ≡ held → is_one_too_many (held_id p.qos p.id) o.inbound ≡ many → outcome_of_id held many (acknowledged_by p.qos p.id 0) ≡ Some outcome
+    → is_held (held_id p.qos p.id) o.inbound ≡ held → is_one_too_many (held_id p.qos p.id) o.inbound ≡ many → outcome_of_id held many (acknowledged_by p.qos p.id Success) ≡ Some outcome
     → LeadsTo (Whole (packet.Publish p)) now o mark list [] list mark outcome o
-by_id p true many outcome o now mark list a t h m e = (Sent_again, (p, refl, a, t, h, some_outcome _ _ e, record { none_used = refl; same = refl }))
-by_id p false true outcome o now mark list a t h m e = (Too_many_held, (p, refl, a, t, m, some_outcome _ _ e, record { none_used = refl; same = refl }))
+by_id p true many outcome o now mark list a t h m e = (Sent_again, refl, (p, refl, a, t, h, some_outcome _ _ e, record { none_used = refl; same = refl }))
+by_id p false true outcome o now mark list a t h m e = (Too_many_held, refl, (p, refl, a, t, m, some_outcome _ _ e, record { none_used = refl; same = refl }))
 by_id p false false outcome o now mark list a t h m e = absurd (cc)
 
 by_topic : (p : Publish) (topic : Result (List ℕ) TopicFault) (rest : Option Outcome) (outcome : Outcome) (o : Open) (now : ℕ) (mark : Mark) (list : List Entry) → is_some p.alias ≡ false → p.topic ≡ topic
@@ -199,7 +201,7 @@ by_topic p (Err topic_fault.Shared) rest outcome o now mark list a t more e = ba
 by_alias : (p : Publish) (alias : Option ℕ) (rest : Option Outcome) (outcome : Outcome) (o : Open) (now : ℕ) (mark : Mark) (list : List Entry) → p.alias ≡ alias
     → (is_some p.alias ≡ false → rest ≡ Some outcome → LeadsTo (Whole (packet.Publish p)) now o mark list [] list mark outcome o)
     → outcome_of_alias alias rest ≡ Some outcome → LeadsTo (Whole (packet.Publish p)) now o mark list [] list mark outcome o
-by_alias p (Some x) rest outcome o now mark list a more e = (With_alias, (p, refl, ap is_some a, some_outcome _ _ e, record { none_used = refl; same = refl }))
+by_alias p (Some x) rest outcome o now mark list a more e = (With_alias, refl, (p, refl, ap is_some a, some_outcome _ _ e, record { none_used = refl; same = refl }))
 by_alias p None rest outcome o now mark list a more e = more (ap is_some a) e
 
 -- what a PUBLISH leads to before its topic is used
@@ -214,7 +216,7 @@ by_no_id true many again e = absurd (cc)
 by_no_id false true again e = absurd (cc)
 by_no_id false false again e = (refl, refl)
 
-by_no_topic : (code : Option ℕ) (rest : Option Outcome) → outcome_of_topic code rest ≡ None → (code ≡ None) × (rest ≡ None)
+by_no_topic : (code : Option ReasonCode) (rest : Option Outcome) → outcome_of_topic code rest ≡ None → (code ≡ None) × (rest ≡ None)
 by_no_topic (Some x) rest e = absurd (cc)
 by_no_topic None rest e = (refl, e)
 
@@ -244,65 +246,64 @@ taken p o e =
 pub has_room : (p : Publish) (o : Open) → outcome_before p o ≡ None → is_one_too_many (held_id p.qos p.id) o.inbound ≡ false
 has_room p o e = (taken p o e).0.has_room
 
-pub topic_unread : (p : Publish) (f : TopicFault) (outcome : Outcome) (o : Open) (now : ℕ) (mark : Mark) (list : List Entry) → outcome_before p o ≡ None → p.topic ≡ Err f → outcome ≡ Replies (acknowledged_by p.qos p.id quota_exceeded)
+pub topic_unread : (p : Publish) (f : TopicFault) (outcome : Outcome) (o : Open) (now : ℕ) (mark : Mark) (list : List Entry) → outcome_before p o ≡ None → p.topic ≡ Err f → outcome ≡ Replies (acknowledged_by p.qos p.id QuotaExceeded)
     → LeadsTo (Whole (packet.Publish p)) now o mark list [] list mark outcome o
 topic_unread p f outcome o now mark list e t d =
     let h = taken p o e in
     let is : f ≡ topic_fault.NoMemory = subst IsTopicOrUnread t h.1 in
-    (Topic_unread, (p, refl, h.0, t ∙ ap (λ (x : TopicFault). Err x) is, d, record { none_used = refl; same = refl }))
+    (Topic_unread, refl, (p, refl, h.0, t ∙ ap (λ (x : TopicFault). Err x) is, d, record { none_used = refl; same = refl }))
 
 unretained : (retain : Bool) (topic : List ℕ) (m : MessageValue) → operation_of retain topic m ≡ None → retain ≡ false
 unretained true topic m c = absurd (cc)
 unretained false topic m c = refl
 
 pub not_retained : (p : Publish) (topic : List ℕ) (outcome : Outcome) (old new : Open) (now : ℕ) (mark : Mark) (list : List Entry) → outcome_before p old ≡ None → p.topic ≡ Ok topic → change p topic now ≡ None
-    → outcome ≡ Replies (acknowledged_by p.qos p.id 0) → new ≡ holding p old → LeadsTo (Whole (packet.Publish p)) now old mark list [] list mark outcome new
+    → outcome ≡ Replies (acknowledged_by p.qos p.id Success) → new ≡ holding p old → LeadsTo (Whole (packet.Publish p)) now old mark list [] list mark outcome new
 not_retained p topic outcome old new now mark list e t c d s =
-    (Not_retained, (p, topic, refl, (taken p old e).0, t, unretained p.retain topic _ c, d, refl, s))
+    (Not_retained, refl, (p, topic, refl, (taken p old e).0, t, unretained p.retain topic _ c, d, refl, s))
 
 settled : (p : Publish) (topic : List ℕ) (operation : Operation) (now : ℕ) (outcome : Outcome) (old new : Open) (mark used : Mark) (seen list : List Entry)
-    → IsSubmittable p topic now operation old mark used → IsSettled operation p.qos p.id old mark used list outcome new → LeadsTo (Whole (packet.Publish p)) now old mark seen [] list used outcome new
+    → IsHanded p topic now operation old mark seen list used → IsSettled operation p.qos p.id old mark used list outcome new → LeadsTo (Whole (packet.Publish p)) now old mark seen [] list used outcome new
 settled p topic operation now outcome old new mark used seen list may h =
     elim h as (λ h. LeadsTo (Whole (packet.Publish p)) now old mark seen [] list used outcome new) [
-      | inl k ↦ (Kept, (p, topic, operation, refl, may, k.0, k.1, k.2))
+      | inl k ↦ (Kept, refl, (p, topic, operation, refl, may, k.0, k.1, k.2))
       | inr h ↦ elim h as (λ h. LeadsTo (Whole (packet.Publish p)) now old mark seen [] list used outcome new) [
-        | inl k ↦ (Not_kept, (p, topic, operation, refl, may, k.0, k.1))
+        | inl k ↦ (Not_kept, refl, (p, topic, operation, refl, may, k.0, k.1))
         | inr h ↦ elim h as (λ h. LeadsTo (Whole (packet.Publish p)) now old mark seen [] list used outcome new) [
-          | inl k ↦ (Uncertain, (p, topic, operation, refl, may, k.0, k.1))
-          | inr k ↦ (Gate_closed, (p, topic, operation, refl, may, k.0, k.1))
+          | inl k ↦ (Uncertain, refl, (p, topic, operation, refl, may, k.0, k.1))
+          | inr k ↦ (Gate_closed, refl, (p, topic, operation, refl, may, k.0, k.1))
         ]
       ]
     ]
 
 pub submitted : {G : Type 0} (stands : G → List Entry → Type 0) (mark : G → Mark) (before after : G) (p : Publish) (topic : List ℕ) (operation : Operation) (now : ℕ) (outcome : Outcome) (old new : Open)
     → outcome_before p old ≡ None → p.topic ≡ Ok topic → change p topic now ≡ Some operation → Uses (mark before) (mark after)
-    → Grows (stands before) (stands after) (λ seen list. IsSettled operation p.qos p.id old (mark before) (mark after) list outcome new)
+    → Grows (stands before) (stands after) (λ seen list. IsHandedOver operation (mark after) seen list × IsSettled operation p.qos p.id old (mark before) (mark after) list outcome new)
     → GrowsAnswering stands mark before after (λ seen answered list. LeadsTo (Whole (packet.Publish p)) now old (mark before) seen answered list (mark after) outcome new)
 submitted stands mark before after p topic operation now outcome old new e t c u h =
-    let may : IsSubmittable p topic now operation old (mark before) (mark after) = record { taken = (taken p old e).0; is_topic = t; changes = c; one_used = u } in
     none_answered stands mark before after (λ seen answered list. LeadsTo (Whole (packet.Publish p)) now old (mark before) seen answered list (mark after) outcome new)
-    (Grows-weaker (stands before) (stands after) (λ seen list. IsSettled operation p.qos p.id old (mark before) (mark after) list outcome new) _
-    (λ seen list k. settled p topic operation now outcome old new (mark before) (mark after) seen list may k) h)
+    (Grows-weaker (stands before) (stands after) (λ seen list. IsHandedOver operation (mark after) seen list × IsSettled operation p.qos p.id old (mark before) (mark after) list outcome new) _
+    (λ seen list k. settled p topic operation now outcome old new (mark before) (mark after) seen list (record { taken = (taken p old e).0; is_topic = t; changes = c; one_used = u; no_other = k.0 }) k.1) h)
 
 -- ---- the filters of a SUBSCRIBE and of an UNSUBSCRIBE
 
-pub begins_itself : (a : List Entry) → BeginsWith a a
-begins_itself a = ([], sym (append-nil a))
+pub prefix_itself : (a : List Entry) → Extends a a
+prefix_itself a = ([], sym (append-nil a))
 
-pub begins_trans : (a b c : List Entry) → BeginsWith b a → BeginsWith c b → BeginsWith c a
-begins_trans a b c (x, p) (y, q) = (x ++ y, q ∙ ap (λ l. l ++ y) p ∙ append_assoc a x y)
+pub prefix_trans : (a b c : List Entry) → Extends b a → Extends c b → Extends c a
+prefix_trans a b c (x, p) (y, q) = (x ++ y, q ∙ ap (λ l. l ++ y) p ∙ append_assoc a x y)
 
 -- one more filter
 pub grants_more : (now : ℕ) (filters : List Asked) (identifier : Option ℕ) (seen : List Entry) (old : Open) (codes : List ℕ) (answered : List (List Entry)) (mid : List Entry) (between : Open) (asked : Asked) (list : List Entry) (code : ℕ) (new : Open)
-    → Grants now filters identifier seen old codes answered mid between → BeginsWith list mid → IsGranted now asked identifier list between code new → Grants now (filters ++ asked ∷ []) identifier seen old (codes ++ code ∷ []) (answered ++ list ∷ []) list new
+    → Grants now filters identifier seen old codes answered mid between → Extends list mid → IsGranted now asked identifier list between code new → Grants now (filters ++ asked ∷ []) identifier seen old (codes ++ code ∷ []) (answered ++ list ∷ []) list new
 grants_more now [] identifier seen old codes answered mid between asked list code new (a, n, b, c) begins step =
-    (code, [], list, [], new, ap (λ l. l ++ code ∷ []) a, ap (λ l. l ++ list ∷ []) n, subst (BeginsWith list) b begins, subst (λ (m : Open). IsGranted now asked identifier list m code new) c step, (refl, refl, refl, refl))
+    (code, [], list, [], new, ap (λ l. l ++ code ∷ []) a, ap (λ l. l ++ list ∷ []) n, subst (Extends list) b begins, subst (λ (m : Open). IsGranted now asked identifier list m code new) c step, (refl, refl, refl, refl))
 grants_more now (f ∷ fs) identifier seen old codes answered mid between asked list code new (x, rest, m, later, between', e, n, begun, first, h) begins step =
     (x, rest ++ code ∷ [], m, later ++ list ∷ [], between', ap (λ l. l ++ code ∷ []) e, ap (λ l. l ++ list ∷ []) n, begun, first, grants_more now fs identifier m between' rest later mid between asked list code new h begins step)
 
-pub grants_grow : (now : ℕ) (filters : List Asked) (identifier : Option ℕ) (seen : List Entry) (old : Open) (codes : List ℕ) (answered : List (List Entry)) (list : List Entry) (new : Open) → Grants now filters identifier seen old codes answered list new → BeginsWith list seen
-grants_grow now [] identifier seen old codes answered list new (a, n, b, c) = subst (BeginsWith list) b (begins_itself list)
-grants_grow now (f ∷ fs) identifier seen old codes answered list new (x, rest, m, later, between, e, n, begun, first, h) = begins_trans seen m list begun (grants_grow now fs identifier m between rest later list new h)
+pub grants_grow : (now : ℕ) (filters : List Asked) (identifier : Option ℕ) (seen : List Entry) (old : Open) (codes : List ℕ) (answered : List (List Entry)) (list : List Entry) (new : Open) → Grants now filters identifier seen old codes answered list new → Extends list seen
+grants_grow now [] identifier seen old codes answered list new (a, n, b, c) = subst (Extends list) b (prefix_itself list)
+grants_grow now (f ∷ fs) identifier seen old codes answered list new (x, rest, m, later, between, e, n, begun, first, h) = prefix_trans seen m list begun (grants_grow now fs identifier m between rest later list new h)
 
 -- a gate stood for one more
 pub stood_more : {G : Type 0} (stands : G → List Entry → Type 0) (mark_of : G → Mark) (mark : Mark) (answered : List (List Entry)) (list : List Entry)
@@ -310,11 +311,11 @@ pub stood_more : {G : Type 0} (stands : G → List Entry → Type 0) (mark_of : 
 stood_more stands mark_of mark answered list each one =
     All-append (StandsAt stands mark_of mark) answered (list ∷ []) each (All-cons (StandsAt stands mark_of mark) list [] one (All-nil (StandsAt stands mark_of mark)))
 
-pub shared_refused : (s : Subscribe) (o : Open) (now : ℕ) (mark : Mark) (list : List Entry) → list_any is_shared_local s.filters ≡ true → LeadsTo (Whole (packet.Subscribe s)) now o mark list [] list mark (Closes protocol_error) o
-shared_refused s o now mark list h = (Shared_no_local, (s, refl, h, refl, record { none_used = refl; same = refl }))
+pub shared_refused : (s : Subscribe) (o : Open) (now : ℕ) (mark : Mark) (list : List Entry) → list_any is_shared_local s.filters ≡ true → LeadsTo (Whole (packet.Subscribe s)) now o mark list [] list mark (Closes ProtocolError) o
+shared_refused s o now mark list h = (Shared_no_local, refl, (s, refl, h, refl, record { none_used = refl; same = refl }))
 
-pub not_subscribed : (s : Subscribe) (o : Open) (now : ℕ) (mark : Mark) (list : List Entry) → list_any is_shared_local s.filters ≡ false → LeadsTo (Whole (packet.Subscribe s)) now o mark list [] list mark (Closes quota_exceeded) o
-not_subscribed s o now mark list h = (Not_subscribed, (s, refl, h, refl, record { none_used = refl; same = refl }))
+pub not_subscribed : (s : Subscribe) (o : Open) (now : ℕ) (mark : Mark) (list : List Entry) → list_any is_shared_local s.filters ≡ false → LeadsTo (Whole (packet.Subscribe s)) now o mark list [] list mark (Closes QuotaExceeded) o
+not_subscribed s o now mark list h = (Not_subscribed, refl, (s, refl, h, refl, record { none_used = refl; same = refl }))
 
 pub same_codes : (id other : ℕ) (codes more : List ℕ) → id ≡ other → codes ≡ more → (let a : CodesValue = record { id = id; codes = codes } in a) ≡ (record { id = other; codes = more })
 same_codes id other codes more e f = λ j. record { id = e j; codes = f j }
@@ -324,22 +325,22 @@ pub subscribed : (s : Subscribe) (codes : List ℕ) (c : CodesValue) (old new : 
     → list_any is_shared_local s.filters ≡ false → used ≡ mark → c ≡ record { id = s.id; codes = codes } → Grants now s.filters s.subscription seen old codes answered list new
     → LeadsTo (Whole (packet.Subscribe s)) now old mark seen answered list used (Replies (Some (reply.Suback c))) new
 subscribed s codes c old new now mark used seen answered list n u e h =
-    (Subscribed, (s, codes, refl, n, h, ap (λ (x : CodesValue). Replies (Some (reply.Suback x))) e, u))
+    (Subscribed, tt, (s, codes, refl, n, h, ap (λ (x : CodesValue). Replies (Some (reply.Suback x))) e, u))
 
 -- one more filter to be removed
-pub codes_more : (filters : List Filter) (filter : Filter) (subscriptions : Subscriptions) → removal_codes (filters ++ filter ∷ []) subscriptions ≡ removal_codes filters subscriptions ++ removal_code filter (without_all filters subscriptions) ∷ []
+pub codes_more : (filters : List Filter) (filter : Filter) (subscriptions : Subscriptions) → removal_codes (filters ++ filter ∷ []) subscriptions ≡ removal_codes filters subscriptions ++ code_of (removal_reason filter (without_all filters subscriptions)) ∷ []
 codes_more [] filter subscriptions = refl
-codes_more (f ∷ fs) filter subscriptions = ap (λ (l : List ℕ). removal_code f subscriptions ∷ l) (codes_more fs filter (without f subscriptions))
+codes_more (f ∷ fs) filter subscriptions = ap (λ (l : List ℕ). code_of (removal_reason f subscriptions) ∷ l) (codes_more fs filter (without f subscriptions))
 
 pub without_more : (filters : List Filter) (filter : Filter) (subscriptions : Subscriptions) → without_all (filters ++ filter ∷ []) subscriptions ≡ without filter (without_all filters subscriptions)
 without_more [] filter subscriptions = refl
 without_more (f ∷ fs) filter subscriptions = without_more fs filter (without f subscriptions)
 
-pub removed_code : (so_far all : List Filter) (filter : Filter) (first mid : Open) (codes more : List ℕ) (code : ℕ) → all ≡ so_far ++ filter ∷ [] → codes ≡ removal_codes so_far first.subscriptions
-    → mid ≡ record first { subscriptions = without_all so_far first.subscriptions } → code ≡ removal_code filter mid.subscriptions → more ≡ codes ++ code ∷ [] → more ≡ removal_codes all first.subscriptions
+pub removed_code : (so_far all : List Filter) (filter : Filter) (first mid : Open) (codes more : List ℕ) (code : ReasonCode) → all ≡ so_far ++ filter ∷ [] → codes ≡ removal_codes so_far first.subscriptions
+    → mid ≡ record first { subscriptions = without_all so_far first.subscriptions } → code ≡ removal_reason filter mid.subscriptions → more ≡ codes ++ code_of code ∷ [] → more ≡ removal_codes all first.subscriptions
 removed_code so_far all filter first mid codes more code a c m k e =
-    let is : code ≡ removal_code filter (without_all so_far first.subscriptions) = k ∙ ap (λ (o : Open). removal_code filter o.subscriptions) m in
-    e ∙ (ap (λ (l : List ℕ). l ++ code ∷ []) c ∙ (ap (λ (n : ℕ). removal_codes so_far first.subscriptions ++ n ∷ []) is
+    let is : code ≡ removal_reason filter (without_all so_far first.subscriptions) = k ∙ ap (λ (o : Open). removal_reason filter o.subscriptions) m in
+    e ∙ (ap (λ (l : List ℕ). l ++ code_of code ∷ []) c ∙ (ap (λ (n : ReasonCode). removal_codes so_far first.subscriptions ++ code_of n ∷ []) is
     ∙ (sym (codes_more so_far filter first.subscriptions) ∙ ap (λ (l : List Filter). removal_codes l first.subscriptions) (sym a))))
 
 pub removed_all : (so_far all : List Filter) (filter : Filter) (first mid new : Open) → all ≡ so_far ++ filter ∷ [] → mid ≡ record first { subscriptions = without_all so_far first.subscriptions }
@@ -349,14 +350,14 @@ removed_all so_far all filter first mid new a m e =
     let Take : Open → Open = λ o. record o { subscriptions = without filter o.subscriptions } in
     e ∙ (ap Take m ∙ (ap Set (sym (without_more so_far filter first.subscriptions)) ∙ ap (λ (l : List Filter). Set (without_all l first.subscriptions)) (sym a)))
 
-pub not_unsubscribed : (u : Unsubscribe) (o : Open) (now : ℕ) (mark : Mark) (list : List Entry) → LeadsTo (Whole (packet.Unsubscribe u)) now o mark list [] list mark (Closes quota_exceeded) o
-not_unsubscribed u o now mark list = (Not_unsubscribed, (u, refl, refl, record { none_used = refl; same = refl }))
+pub not_unsubscribed : (u : Unsubscribe) (o : Open) (now : ℕ) (mark : Mark) (list : List Entry) → LeadsTo (Whole (packet.Unsubscribe u)) now o mark list [] list mark (Closes QuotaExceeded) o
+not_unsubscribed u o now mark list = (Not_unsubscribed, refl, (u, refl, refl, record { none_used = refl; same = refl }))
 
 pub unsubscribed : (u : Unsubscribe) (c : CodesValue) (old new : Open) (now : ℕ) (mark : Mark) (list : List Entry)
     → c ≡ record { id = u.id; codes = removal_codes u.filters old.subscriptions } → new ≡ record old { subscriptions = without_all u.filters old.subscriptions }
     → LeadsTo (Whole (packet.Unsubscribe u)) now old mark list [] list mark (Replies (Some (reply.Unsuback c))) new
 unsubscribed u c old new now mark list e s =
-    (Unsubscribed, (u, refl, ap (λ (x : CodesValue). Replies (Some (reply.Unsuback x))) e, refl, s))
+    (Unsubscribed, refl, (u, refl, ap (λ (x : CodesValue). Replies (Some (reply.Unsuback x))) e, refl, s))
 
 -- a new subscription that is taken out again leaves all as before
 pub taken_out : (old mid new : Open) (filter key : List ℕ) (subscription : Subscription) (kept left : Subscriptions) → is_subscribed filter old.subscriptions ≡ false → key ≡ filter
@@ -370,14 +371,14 @@ taken_out old mid new filter key subscription kept left absent k e m n l =
 
 -- ---- the other packets
 
-pub connected_twice : (p : Packet) (c : Connect) (o : Open) (now : ℕ) (mark : Mark) (list : List Entry) → p ≡ packet.Connect c → LeadsTo (Whole p) now o mark list [] list mark (Closes protocol_error) o
-connected_twice p c o now mark list e = (Connected_twice, (c, ap Whole e, refl, record { none_used = refl; same = refl }))
+pub connected_twice : (p : Packet) (c : Connect) (o : Open) (now : ℕ) (mark : Mark) (list : List Entry) → p ≡ packet.Connect c → LeadsTo (Whole p) now o mark list [] list mark (Closes ProtocolError) o
+connected_twice p c o now mark list e = (Connected_twice, refl, (c, ap Whole e, refl, record { none_used = refl; same = refl }))
 
 pub pinged : (p : Packet) (o : Open) (now : ℕ) (mark : Mark) (list : List Entry) → p ≡ packet.Pingreq → LeadsTo (Whole p) now o mark list [] list mark (Replies (Some reply.Pingresp)) o
-pinged p o now mark list e = (Pinged, (ap Whole e, refl, record { none_used = refl; same = refl }))
+pinged p o now mark list e = (Pinged, refl, (ap Whole e, refl, record { none_used = refl; same = refl }))
 
 pub disconnected : (p : Packet) (code : ℕ) (o : Open) (now : ℕ) (mark : Mark) (list : List Entry) → p ≡ packet.Disconnect code → LeadsTo (Whole p) now o mark list [] list mark Leaves o
-disconnected p code o now mark list e = (Disconnected, (code, ap Whole e, refl, record { none_used = refl; same = refl }))
+disconnected p code o now mark list e = (Disconnected, refl, (code, ap Whole e, refl, record { none_used = refl; same = refl }))
 
 -- ---- a session
 
@@ -392,7 +393,7 @@ stays {G} stands mark input now old mid new e g h =
 -- what an outcome leaves does not depend on the phase before
 pub after_same : (outcome : Outcome) (a b : State) (o : Open) → a.assigned ≡ b.assigned → state_after outcome a o ≡ state_after outcome b o
 after_same (Replies r) a b o e = ap (λ (l : List ℕ). let s : State = record { phase = phase.Open o; assigned = l } in s) e
-after_same (Closes code) a b o e = ap (λ (l : List ℕ). let s : State = record { phase = phase.Ended (ByServer code); assigned = l } in s) e
+after_same (Closes code) a b o e = ap (λ (l : List ℕ). let s : State = record { phase = phase.Ended (ByServer (code_of code)); assigned = l } in s) e
 after_same Leaves a b o e = ap (λ (l : List ℕ). let s : State = record { phase = phase.Ended ByClient; assigned = l } in s) e
 
 -- an open session took a packet

@@ -3,14 +3,14 @@ use Rattle.std.proofs.Common.{ℕ, List, [], ◌∷◌, ◌++◌, refl, sym, sub
 use Rattle.std.proofs.lemmas.List.Elements.{All-weaker}
 use Rattle.rs_packet.specs.declared.reply.Reply.{Reply}
 use Rattle.rs_message.specs.declared.entry.Entry.{Entry}
-use Rattle.rs_session.specs.Gate.{Mark, BeginsWith}
+use Rattle.rs_session.specs.Gate.{Mark, Extends}
 use Rattle.rs_session.specs.State.{State, IsGiven}
-use Rattle.rs_session.proofs.Rows.{begins_trans}
+use Rattle.rs_session.proofs.Rows.{prefix_trans}
 use Rattle.rs_session.specs.Run.{Point, Turn, Gives, IsTurn, Run, IsOfGate, AreOfGate}
 
-pub run_grows : (from to : Point) (turns : List Turn) → Run from turns to → BeginsWith to.seen from.seen
+pub run_grows : (from to : Point) (turns : List Turn) → Run from turns to → Extends to.seen from.seen
 run_grows from to [] e = ([], ap (λ (p : Point). p.seen) e ∙ sym (append-nil from.seen))
-run_grows from to (turn ∷ turns) h = begins_trans from.seen turn.to.seen to.seen h.0.grows (run_grows turn.to to turns h.1)
+run_grows from to (turn ∷ turns) h = prefix_trans from.seen turn.to.seen to.seen h.0.grows (run_grows turn.to to turns h.1)
 
 -- a run goes on by one turn
 pub run_more : (from mid : Point) (turns : List Turn) (turn : Turn) → Run from turns mid → IsTurn mid turn → Run from (turns ++ turn ∷ []) turn.to

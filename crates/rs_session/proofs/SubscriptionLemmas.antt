@@ -9,7 +9,8 @@ use Rattle.std.proofs.lemmas.Cmp.{nat_list_cmp_total, nat_list_eq_equiv}
 use Rattle.std.proofs.lemmas.Map.Keys.{IsDistinct-head, IsDistinct-tail}
 use Rattle.std.specs.FinMap.{get, insert, remove, len, from_entries, find, get-from_entries, get-insert, get-remove, len-insert, len-remove, len-empty, same_map, nat_cmp-IsAntisymmetric, slice_cmp-IsAntisymmetric}
 use Rattle.rs_session.specs.declared.subscriptions.Subscription.{Subscription}
-use Rattle.rs_session.specs.Subscriptions.{Subscriptions, is_subscribed, has_place, subscriptions_max}
+use Rattle.rs_session.specs.Subscriptions.{Subscriptions, is_subscribed, has_place}
+use Rattle.rs_session.specs.declared.subscriptions.TheConstants.{MAX_SUBSCRIPTIONS}
 
 abbrev Entries : Type 0
 Entries = List (List ℕ × Subscription)
@@ -105,10 +106,10 @@ one_more true n most place few = few
 one_more false n most place few = omega (arith, ltb-true n most place)
 
 -- one that has a place keeps the limit
-pub len_inserted : (m : Subscriptions) (k : List ℕ) (v : Subscription) → has_place k m ≡ true → len m ≤ subscriptions_max → len (insert m k v) ≤ subscriptions_max
+pub len_inserted : (m : Subscriptions) (k : List ℕ) (v : Subscription) → has_place k m ≡ true → len m ≤ MAX_SUBSCRIPTIONS → len (insert m k v) ≤ MAX_SUBSCRIPTIONS
 len_inserted m k v place few =
-    let kept : cond (is_subscribed k m) (len m) (len m + 1) ≤ subscriptions_max = one_more (is_subscribed k m) (len m) subscriptions_max place few in
-    subst (λ n. n ≤ subscriptions_max) (sym (len-insert nat_list_cmp_total m k v)) kept
+    let kept : cond (is_subscribed k m) (len m) (len m + 1) ≤ MAX_SUBSCRIPTIONS = one_more (is_subscribed k m) (len m) MAX_SUBSCRIPTIONS place few in
+    subst (λ n. n ≤ MAX_SUBSCRIPTIONS) (sym (len-insert nat_list_cmp_total m k v)) kept
 
 one_less : (b : Bool) (n : ℕ) → cond b (n - 1) n ≤ n
 one_less true n = omega arith

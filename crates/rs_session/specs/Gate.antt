@@ -1,21 +1,27 @@
 -- What a session knows of the store behind its gate.
-use Rattle.std.specs.Prelude.{◌≡◌, ℕ, ◌+◌, ◌<◌, ◌≤◌, List, ◌++◌, Contains}
+use Rattle.std.specs.Prelude.{◌≡◌, ℕ, ◌+◌, ◌<◌, ◌≤◌, List, ◌++◌, Contains, Result, OnOk}
 use Rattle.std.specs.List.{All}
+use Rattle.rs_message.specs.Values.{OriginValue}
 use Rattle.rs_message.specs.declared.entry.Entry.{Entry}
 use Rattle.rs_message.specs.declared.entry.Operation.{Operation}
+use Rattle.rs_message.specs.declared.fault.SubmitFault.{SubmitFault}
 
 -- a place, and the last serial that it used
 pub record Mark : Type 0 where
   pub place : ℕ
   pub serial : ℕ
 
--- the list begins with the front
-abbrev pub BeginsWith : List Entry → List Entry → Type 0
-BeginsWith list front = (more : List Entry) × (list ≡ front ++ more)
+-- the origin of the last entry that the gate made
+abbrev pub last_origin : Mark → OriginValue
+last_origin mark = record { place = mark.place; serial = mark.serial }
 
--- for each list that was stood for there is now one that begins with it, and P holds of the two
+-- the list extends the one before, which is a prefix of it
+abbrev pub Extends : List Entry → List Entry → Type 0
+Extends list seen = (more : List Entry) × (list ≡ seen ++ more)
+
+-- for each list that was stood for there is now one of which it is a prefix, and P holds of the two
 abbrev pub Grows : (List Entry → Type 0) → (List Entry → Type 0) → (List Entry → List Entry → Type 0) → Type 0
-Grows before after P = (seen : List Entry) → before seen → (list : List Entry) × after list × BeginsWith list seen × P seen list
+Grows before after P = (seen : List Entry) → before seen → (list : List Entry) × after list × Extends list seen × P seen list
 
 -- the place stays, and at most one serial is used
 pub record Uses (old new : Mark) : Type 0 where
@@ -25,14 +31,25 @@ pub record Uses (old new : Mark) : Type 0 where
 
 -- the list has an entry with this operation, under the new mark's serial, which was not used before
 pub record IsSubmitted (operation : Operation) (old new : Mark) (list : List Entry) : Type 0 where
-  pub entry : Contains list (record { origin = record { place = new.place; serial = new.serial }; operation = operation })
+  pub entry : Contains list (record { origin = last_origin new; operation = operation })
   pub serial : old.serial < new.serial
+
+-- What is handed over is this operation: of the entries that came behind the list before, each of the gate's place with
+-- the serial of its new mark has it.
+abbrev pub IsHandedOver : Operation → Mark → List Entry → List Entry → Type 0
+IsHandedOver operation new seen list = (more : List Entry) → list ≡ seen ++ more → All (λ e. e.origin ≡ last_origin new → e.operation ≡ operation) more
+
+-- what a submit leaves, from a list before to one after: whatever it answers, no other operation is handed over, and at
+-- `Ok` this one is an entry
+pub record Submits (operation : Operation) (old new : Mark) (answer : Result (Unit {0}) SubmitFault) (seen list : List Entry) : Type 0 where
+  pub handed_over : IsHandedOver operation new seen list
+  pub kept : OnOk answer (IsSubmitted operation old new list)
 
 -- of gates of one type: one of them stands for the list while it has the mark
 abbrev pub StandsAt : {G : Type 0} → (G → List Entry → Type 0) → (G → Mark) → Mark → List Entry → Type 0
 StandsAt {G} stands mark_of mark list = (gate : G) × stands gate list × (mark_of gate ≡ mark)
 
--- Grows from the old gate to the new one, where P holds also of the lists by which filters were answered between.
+-- Grows from the old gate to the new one, and P holds also of the lists by which filters were answered between.
 -- For each of these a gate stood while it had the mark of the new one.
 abbrev pub GrowsAnswering : {G : Type 0} → (G → List Entry → Type 0) → (G → Mark) → G → G → (List Entry → List (List Entry) → List Entry → Type 0) → Type 0
 GrowsAnswering stands mark_of old new P =

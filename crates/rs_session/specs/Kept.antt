@@ -8,33 +8,26 @@ use Rattle.rs_packet.specs.declared.reply.Reply.{Reply}
 use Rattle.rs_message.specs.declared.entry.Entry.{Entry}
 use Rattle.rs_message.specs.declared.entry.Operation.{Operation}
 use Rattle.rs_store.specs.History.{SerialsRise}
-use Rattle.rs_session.specs.Gate.{Mark, BeginsWith}
+use Rattle.rs_session.specs.Gate.{Mark, Extends}
 use Rattle.rs_session.specs.Run.{Point, Turn, AreOfGate}
 use Rattle.rs_session.specs.Table.{acknowledged_by, change, held_id, is_held}
 use Rattle.rs_session.specs.declared.open.Open.{Open}
-use Rattle.rs_session.specs.declared.phase.Input.{Input}
 use Rattle.rs_session.specs.declared.phase.Input.TheVariants.{Whole}
-use Rattle.rs_session.specs.declared.phase.Phase.{Phase}
-use Rattle.rs_session.specs.declared.phase.Phase.TheVariants as phase
+use Rattle.rs_session.specs.declared.reason.ReasonCode.TheVariants.{Success}
 
 -- ---- the lists
 
--- the lists by which the filters of a SUBSCRIBE were answered, where the session goes on
-abbrev pub answering : Input → Phase → List (List Entry) → List (List Entry)
-answering (Whole (packet.Subscribe s)) (phase.Open o) answered = answered
-answering input to answered = []
-
--- in order, those of each turn, and then the list after it
+-- in order, those by which the filters of each turn were answered, and then the one that it leaves
 abbrev pub lists_of : List Turn → List (List Entry)
 lists_of [] = []
-lists_of (turn ∷ turns) = answering turn.input turn.to.state.phase turn.answered ++ turn.to.seen ∷ lists_of turns
+lists_of (turn ∷ turns) = turn.answered ++ turn.to.seen ∷ lists_of turns
 
--- each begins with every one before it
+-- of each list, every one before it is a prefix
 abbrev pub AreGrowing : List (List Entry) → Type 0
 AreGrowing [] = Unit {0}
-AreGrowing (list ∷ lists) = AllByRecursion (λ later. BeginsWith later list) lists × AreGrowing lists
+AreGrowing (list ∷ lists) = AllByRecursion (λ later. Extends later list) lists × AreGrowing lists
 
--- the serials of each place rise in each list, as they do where the gate stands for legal lists alone
+-- the serials of each place rise in each list, as they do if the gate stands for legal lists alone
 abbrev pub SerialsRiseIn : List Turn → Type 0
 SerialsRiseIn turns = AreOfGate (λ mark list. SerialsRise list) turns
 
@@ -56,7 +49,7 @@ pub record IsToldKept (o : Open) (turn : Turn) (p : Publish) (answer : Reply) : 
   pub input : turn.input ≡ Whole (packet.Publish p)
   pub retained : p.retain ≡ true
   pub new : is_held (held_id p.qos p.id) o.inbound ≡ false
-  pub code : acknowledged_by p.qos p.id 0 ≡ Some answer
+  pub code : acknowledged_by p.qos p.id Success ≡ Some answer
   pub replied : Contains turn.replies answer
 
 -- the entry stands in the list, and no other there has its origin

@@ -1,44 +1,21 @@
--- Reason codes: section 2.4 of OASIS MQTT Version 5.0.
+-- The bytes of the Reason Codes: section 2.4 of OASIS MQTT Version 5.0.
 use Rattle.std.specs.Prelude.{ℕ}
+use Rattle.rs_session.specs.declared.reason.ReasonCode.{ReasonCode}
+use Rattle.rs_session.specs.declared.reason.ReasonCode.TheVariants.{Success, NoSubscriptionExisted, MalformedPacket, ProtocolError, ImplementationSpecificError, UnsupportedProtocolVersion, BadAuthenticationMethod, TopicFilterInvalid, TopicNameInvalid, PacketIdentifierNotFound, ReceiveMaximumExceeded, TopicAliasInvalid, PacketTooLarge, QuotaExceeded, SharedSubscriptionsNotSupported}
 
-abbrev pub no_subscription_existed : ℕ
-no_subscription_existed = 0x11
-
-abbrev pub malformed_packet : ℕ
-malformed_packet = 0x81
-
-abbrev pub protocol_error : ℕ
-protocol_error = 0x82
-
-abbrev pub implementation_specific_error : ℕ
-implementation_specific_error = 0x83
-
-abbrev pub unsupported_protocol_version : ℕ
-unsupported_protocol_version = 0x84
-
-abbrev pub bad_authentication_method : ℕ
-bad_authentication_method = 0x8C
-
-abbrev pub topic_filter_invalid : ℕ
-topic_filter_invalid = 0x8F
-
-abbrev pub topic_name_invalid : ℕ
-topic_name_invalid = 0x90
-
-abbrev pub packet_identifier_not_found : ℕ
-packet_identifier_not_found = 0x92
-
-abbrev pub receive_maximum_exceeded : ℕ
-receive_maximum_exceeded = 0x93
-
-abbrev pub topic_alias_invalid : ℕ
-topic_alias_invalid = 0x94
-
-abbrev pub packet_too_large : ℕ
-packet_too_large = 0x95
-
-abbrev pub quota_exceeded : ℕ
-quota_exceeded = 0x97
-
-abbrev pub shared_subscriptions_not_supported : ℕ
-shared_subscriptions_not_supported = 0x9E
+abbrev pub code_of : ReasonCode → ℕ
+code_of Success = 0x00
+code_of NoSubscriptionExisted = 0x11
+code_of MalformedPacket = 0x81
+code_of ProtocolError = 0x82
+code_of ImplementationSpecificError = 0x83
+code_of UnsupportedProtocolVersion = 0x84
+code_of BadAuthenticationMethod = 0x8C
+code_of TopicFilterInvalid = 0x8F
+code_of TopicNameInvalid = 0x90
+code_of PacketIdentifierNotFound = 0x92
+code_of ReceiveMaximumExceeded = 0x93
+code_of TopicAliasInvalid = 0x94
+code_of PacketTooLarge = 0x95
+code_of QuotaExceeded = 0x97
+code_of SharedSubscriptionsNotSupported = 0x9E

@@ -21,7 +21,7 @@ use Rattle.rs_window.specs.Replay as calls
 use Rattle.rs_window.specs.State as window_state
 use Rattle.rs_window.specs.Values.{PublishValue}
 use Rattle.rs_window.specs.Waiting.{Carries, IsDropped}
-use Rattle.rs_window.specs.declared.waiting.Waiting.{Waiting}
+use Rattle.rs_window.specs.declared.queue.Waiting.{Waiting}
 use Rattle.rs_window.specs.declared.fault.Ack.{Ack}
 use Rattle.rs_window.specs.declared.fault.WindowFault.TheVariants.{WrongKind}
 use Rattle.rs_session.specs.Subscriptions.{Subscriptions, none, is_subscribed, replays}
@@ -68,8 +68,8 @@ abbrev pub IsAcknowledged : Option (window.Acknowledgement × ℕ) → List Call
 IsAcknowledged None own = own ≡ []
 IsAcknowledged (Some (ack, id)) own = (answer : Ack) × (own ≡ Acknowledge ack id (Ok answer) ∷ [])
 
--- What an input calls where the session goes on, with the answer to it: a SUBSCRIBE for its filters, by the codes of its
--- SUBACK, an acknowledgement for itself, and another nothing.
+-- The calls of an input after which the session goes on, and the answer to it: a SUBSCRIBE queues for its filters, by the
+-- codes of its SUBACK, an acknowledgement is one call, and no other input calls anything.
 abbrev pub AreCalledBy : Input → ℕ → List (List Entry) → Subscriptions → Option Reply → List Call → Type 0
 AreCalledBy (Whole (packet.Subscribe s)) now answered there answer own =
     (codes : List ℕ) × (answer ≡ Some (reply.Suback (record { id = s.id; codes = codes }))) × AreQueued now s.filters s.subscription codes answered there own
@@ -80,7 +80,7 @@ abbrev pub acknowledgement_in : Input → Option (window.Acknowledgement × ℕ)
 acknowledgement_in (Whole p) = acknowledgement_of p
 acknowledgement_in (Broken fault) = None
 
--- 4.3: where the session ends, an acknowledgement was not the one that its identifier waits for
+-- 4.3: an acknowledgement that ends the session is not the one that its identifier waits for
 abbrev pub IsRefused : Option (window.Acknowledgement × ℕ) → List Call → Type 0
 IsRefused None own = own ≡ []
 IsRefused (Some (ack, id)) own = own ≡ Acknowledge ack id (Err WrongKind) ∷ []
@@ -104,7 +104,7 @@ abbrev pub IsNoPublish : Option Reply → Type 0
 IsNoPublish (Some (reply.Publish p)) = ⊥
 IsNoPublish answer = Unit {0}
 
--- The answer to the input, where the client takes so long a packet, and then each that the window gave and no other
+-- The replies are the answer to the input, if the client takes so long a packet, and then each PUBLISH that the window gave.
 pub record IsServed (there : Subscriptions) (packet_maximum : ℕ) (turn : Turn) (made : List Call) : Type 0 where
   pub answer : Option Reply
   pub own : List Call
@@ -169,15 +169,15 @@ pub record IsReplaying (c : Connect) (turns : List Turn) : Type 0 where
 
 -- ---- what was queued, and what became of it
 
--- What leaves the front of the queue at a moment, and what is sent of it: each as its packet, in order, or it is dropped, since
--- it has expired or its packet is longer than the client takes.
+-- These messages leave the queue at a moment, in order. Each is sent as its packet, or it is dropped, since it has expired or
+-- its packet is longer than the client takes.
 abbrev pub AreSentOrDropped : ℕ → ℕ → List Waiting → List Publication → Type 0
 AreSentOrDropped packet_maximum now [] sent = sent ≡ []
 AreSentOrDropped packet_maximum now (w ∷ ws) sent =
     (IsDropped packet_maximum now w × AreSentOrDropped packet_maximum now ws sent)
     ⊎ ((p : PublishValue) × (more : List Publication) × (sent ≡ publication_of p ∷ more) × Carries packet_maximum now w p × AreSentOrDropped packet_maximum now ws more)
 
--- turn by turn, the PUBLISH packets among its replies
+-- turn by turn, these leave the queue, and the PUBLISH packets among the replies are what is sent of them
 abbrev pub AreSent : ℕ → List Turn → List Waiting → Type 0
 AreSent packet_maximum [] front = front ≡ []
 AreSent packet_maximum (turn ∷ turns) front =
@@ -189,12 +189,13 @@ pub record IsWithinQuota (c : Connect) (before : List Call) : Type 0 where
   pub unacknowledged : calls.AreUnacknowledged before kinds
   pub few : finite.len kinds ≤ min (receive_limit c.receive_maximum) 1024
 
--- What these calls queued is a front and then what waits. The PUBLISH replies of the run are the front, each once, in order,
--- less what was dropped. After each of the calls no more identifiers wait for an acknowledgement than the client takes, and
--- at the end just those of the window do.
+-- A prefix of what these calls queued has left the queue, and the rest waits. The PUBLISH replies of the run are this prefix, in
+-- order, each message once, less what was dropped. The quota is the lesser of the client's Receive Maximum and 1,024: after each of the calls no more
+-- identifiers wait for an acknowledgement, and at the end just those of the window do.
 pub record IsSentInOrder (c : Connect) (turns : List Turn) (made : List Call) : Type 0 where
   pub front : List Waiting
   pub whole : calls.queued made ≡ front ++ (window_after (window_for c) turns).waiting
   pub sent : AreSent (packet_limit c.packet_maximum) turns front
-  pub quota : (before after : List Call) → made ≡ before ++ after → IsWithinQuota c before
+  pub quota : (window_after (window_for c) turns).quota ≡ min (receive_limit c.receive_maximum) 1024
+  pub within : (before after : List Call) → made ≡ before ++ after → IsWithinQuota c before
   pub unacknowledged : calls.AreUnacknowledged made (window_after (window_for c) turns).kinds

@@ -5,11 +5,11 @@ use Rattle.std.specs.FinMap as finite
 use Rattle.std.specs.FinSet as set
 use Rattle.rs_packet.specs.declared.reply.Reply.{Reply}
 use Rattle.rs_message.specs.declared.entry.Entry.{Entry}
-use Rattle.rs_window.specs.Calls.{waiting_maximum}
+use Rattle.rs_window.specs.declared.queue.TheConstants.{MAX_WAITING}
 use Rattle.rs_session.specs.declared.open.Open.{Open}
 use Rattle.rs_session.specs.declared.phase.Input.{Input}
-use Rattle.rs_session.specs.Subscriptions.{subscriptions_max}
-use Rattle.rs_session.specs.Gate.{Mark, BeginsWith}
+use Rattle.rs_session.specs.declared.subscriptions.TheConstants.{MAX_SUBSCRIPTIONS}
+use Rattle.rs_session.specs.Gate.{Mark, Extends}
 use Rattle.rs_session.specs.State.{State, closing_of, waiting_of, IsGiven}
 use Rattle.rs_session.specs.Table.{Case, Row}
 
@@ -46,7 +46,7 @@ pub record IsTurn (from : Point) (turn : Turn) : Type 0 where
   pub case : Case
   pub due : Option Reply
   pub mid : State
-  pub grows : BeginsWith turn.to.seen from.seen
+  pub grows : Extends turn.to.seen from.seen
   pub row : Row case turn.input turn.now from.state from.mark from.seen turn.answered turn.to.seen turn.to.mark due mid
   pub all_given : GivesAll turn.now due mid turn.replies turn.to.state
 
@@ -76,8 +76,8 @@ replies_left due state = due_count due + length (waiting_of state.phase)
 -- 3.2.2.3.3, 4.9: an open session keeps at most so many subscriptions, identifiers of QoS 2, messages that wait, and
 -- messages that are not acknowledged
 pub record IsWithinLimits (o : Open) : Type 0 where
-  pub subscriptions : finite.len o.subscriptions ≤ subscriptions_max
+  pub subscriptions : finite.len o.subscriptions ≤ MAX_SUBSCRIPTIONS
   pub held : set.len o.inbound ≤ 16
-  pub waiting : length o.window.waiting ≤ waiting_maximum
+  pub waiting : length o.window.waiting ≤ MAX_WAITING
   pub unacknowledged : finite.len o.window.kinds ≤ o.window.quota
   pub quota : o.window.quota ≤ 1024

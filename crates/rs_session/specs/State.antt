@@ -5,7 +5,7 @@ use Rattle.rs_packet.specs.Replies.{reply_bytes}
 use Rattle.rs_window.specs.Calls.{IsNext}
 use Rattle.rs_window.specs.Packets.{reply_of}
 use Rattle.rs_window.specs.Values.{PublishValue}
-use Rattle.rs_window.specs.declared.waiting.Waiting.{Waiting}
+use Rattle.rs_window.specs.declared.queue.Waiting.{Waiting}
 use Rattle.rs_session.specs.declared.open.Open.{Open}
 use Rattle.rs_session.specs.declared.phase.Closing.{Closing}
 use Rattle.rs_session.specs.declared.phase.Phase.{Phase}

@@ -12,32 +12,34 @@ use Rattle.rs_message.specs.declared.fault.SubmitFault.{SubmitFault}
 use Rattle.rs_message.specs.declared.fault.SubmitFault.TheVariants.{Full, NoMemory, Strange, Closed}
 use Rattle.rs_message.specs.declared.fault.SubmitFault.TheVariants as submit_fault
 use Rattle.rs_session.specs.Gate.{Mark, IsSubmitted}
-use Rattle.rs_session.specs.Reasons.{bad_authentication_method, implementation_specific_error, quota_exceeded, receive_maximum_exceeded, topic_alias_invalid}
+use Rattle.rs_session.specs.Reasons.{code_of}
+use Rattle.rs_session.specs.declared.reason.ReasonCode.{ReasonCode}
+use Rattle.rs_session.specs.declared.reason.ReasonCode.TheVariants.{Success, BadAuthenticationMethod, ImplementationSpecificError, QuotaExceeded, ReceiveMaximumExceeded, TopicAliasInvalid}
 use Rattle.rs_session.specs.State.{State, opened, ended}
-use Rattle.rs_session.specs.Table.{acknowledged_by, held_id, held_with, is_held, is_one_too_many, topic_code}
+use Rattle.rs_session.specs.Table.{acknowledged_by, held_id, held_with, is_held, is_one_too_many, topic_reason}
 use Rattle.rs_session.specs.declared.open.Open.{Open}
 use Rattle.rs_session.specs.declared.open.Outcome.{Outcome}
 use Rattle.rs_session.specs.declared.open.Outcome.TheVariants.{Replies, Closes}
 use Rattle.rs_session.specs.declared.phase.Closing.TheVariants.{ByServer}
 
 -- the code of a CONNECT with an Authentication Method, or else with a will
-abbrev pub connect_refusal : Bool → Bool → Option ℕ
-connect_refusal true will = Some bad_authentication_method
-connect_refusal false true = Some implementation_specific_error
+abbrev pub connect_refusal : Bool → Bool → Option ReasonCode
+connect_refusal true will = Some BadAuthenticationMethod
+connect_refusal false true = Some ImplementationSpecificError
 connect_refusal false false = None
 
 -- the session is open, or the CONNACK was too long
 abbrev pub IsAccepted : Reply → ℕ → Open → State → Option Reply → State → Type 0
 IsAccepted connack limit open_ old due new =
     ((length (reply_bytes connack) ≤ limit) × (due ≡ Some connack) × (new ≡ opened old open_))
-    ⊎ ((limit < length (reply_bytes connack)) × (due ≡ None) × (new ≡ ended old (ByServer 0)))
+    ⊎ ((limit < length (reply_bytes connack)) × (due ≡ None) × (new ≡ ended old (ByServer (code_of Success))))
 
 -- the code of a topic that is no topic name
-abbrev pub fault_refusal : TopicFault → Option ℕ
+abbrev pub fault_refusal : TopicFault → Option ReasonCode
 fault_refusal topic_fault.NoMemory = None
-fault_refusal fault = Some (topic_code fault)
+fault_refusal fault = Some (topic_reason fault)
 
-abbrev pub topic_refusal : Result (List ℕ) TopicFault → Option ℕ
+abbrev pub topic_refusal : Result (List ℕ) TopicFault → Option ReasonCode
 topic_refusal (Ok topic) = None
 topic_refusal (Err fault) = fault_refusal fault
 
@@ -45,35 +47,35 @@ topic_refusal (Err fault) = fault_refusal fault
 -- an identifier that is held, then one too many
 abbrev pub outcome_of_id : Bool → Bool → Option Reply → Option Outcome
 outcome_of_id true many again = Some (Replies again)
-outcome_of_id false true again = Some (Closes receive_maximum_exceeded)
+outcome_of_id false true again = Some (Closes ReceiveMaximumExceeded)
 outcome_of_id false false again = None
 
-abbrev pub outcome_of_topic : Option ℕ → Option Outcome → Option Outcome
+abbrev pub outcome_of_topic : Option ReasonCode → Option Outcome → Option Outcome
 outcome_of_topic (Some code) rest = Some (Closes code)
 outcome_of_topic None rest = rest
 
 abbrev pub outcome_of_alias : Option ℕ → Option Outcome → Option Outcome
-outcome_of_alias (Some alias) rest = Some (Closes topic_alias_invalid)
+outcome_of_alias (Some alias) rest = Some (Closes TopicAliasInvalid)
 outcome_of_alias None rest = rest
 
 abbrev pub outcome_before : Publish → Open → Option Outcome
 outcome_before p o =
     outcome_of_alias p.alias (outcome_of_topic (topic_refusal p.topic)
-    (outcome_of_id (is_held (held_id p.qos p.id) o.inbound) (is_one_too_many (held_id p.qos p.id) o.inbound) (acknowledged_by p.qos p.id 0)))
+    (outcome_of_id (is_held (held_id p.qos p.id) o.inbound) (is_one_too_many (held_id p.qos p.id) o.inbound) (acknowledged_by p.qos p.id Success)))
 
 -- the outcome by what the gate answered to a change
 abbrev pub outcome_of_answer : Result (Unit {0}) SubmitFault → Qos → Option ℕ → Outcome
-outcome_of_answer (Ok done) qos id = Replies (acknowledged_by qos id 0)
-outcome_of_answer (Err Full) qos id = Replies (acknowledged_by qos id quota_exceeded)
-outcome_of_answer (Err NoMemory) qos id = Replies (acknowledged_by qos id quota_exceeded)
-outcome_of_answer (Err submit_fault.Open) qos id = Closes quota_exceeded
-outcome_of_answer (Err Strange) qos id = Closes implementation_specific_error
-outcome_of_answer (Err Closed) qos id = Closes implementation_specific_error
+outcome_of_answer (Ok done) qos id = Replies (acknowledged_by qos id Success)
+outcome_of_answer (Err Full) qos id = Replies (acknowledged_by qos id QuotaExceeded)
+outcome_of_answer (Err NoMemory) qos id = Replies (acknowledged_by qos id QuotaExceeded)
+outcome_of_answer (Err submit_fault.Open) qos id = Closes QuotaExceeded
+outcome_of_answer (Err Strange) qos id = Closes ImplementationSpecificError
+outcome_of_answer (Err Closed) qos id = Closes ImplementationSpecificError
 
 -- what a submit leads to
 abbrev pub IsSettled : Operation → Qos → Option ℕ → Open → Mark → Mark → List Entry → Outcome → Open → Type 0
 IsSettled operation qos id old mark used list outcome new =
-    (IsSubmitted operation mark used list × (outcome ≡ Replies (acknowledged_by qos id 0)) × (new ≡ record old { inbound = held_with (held_id qos id) old.inbound }))
-    ⊎ (((outcome ≡ Replies (acknowledged_by qos id quota_exceeded)) × (new ≡ old))
-    ⊎ (((outcome ≡ Closes quota_exceeded) × (new ≡ old))
-    ⊎ ((outcome ≡ Closes implementation_specific_error) × (new ≡ old))))
+    (IsSubmitted operation mark used list × (outcome ≡ Replies (acknowledged_by qos id Success)) × (new ≡ record old { inbound = held_with (held_id qos id) old.inbound }))
+    ⊎ (((outcome ≡ Replies (acknowledged_by qos id QuotaExceeded)) × (new ≡ old))
+    ⊎ (((outcome ≡ Closes QuotaExceeded) × (new ≡ old))
+    ⊎ ((outcome ≡ Closes ImplementationSpecificError) × (new ≡ old))))

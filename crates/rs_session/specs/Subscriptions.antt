@@ -6,6 +6,7 @@ use Rattle.std.specs.FinMap as finite
 use Rattle.rs_packet.specs.declared.packet.RetainHandling.{RetainHandling}
 use Rattle.rs_packet.specs.declared.packet.RetainHandling.TheVariants.{Always, IfNew, Never}
 use Rattle.rs_session.specs.declared.subscriptions.Subscription.{Subscription}
+use Rattle.rs_session.specs.declared.subscriptions.TheConstants.{MAX_SUBSCRIPTIONS}
 
 -- by the bytes of the filter
 abbrev pub Subscriptions : Type 0
@@ -14,16 +15,12 @@ Subscriptions = finite.FinMap (slice_cmp nat_cmp) Subscription
 abbrev pub none : Subscriptions
 none = finite.empty
 
--- own: how many a session may have
-abbrev pub subscriptions_max : ℕ
-subscriptions_max = 256
-
 abbrev pub is_subscribed : List ℕ → Subscriptions → Bool
 is_subscribed filter subscriptions = is_some (finite.get subscriptions filter)
 
 -- it is there, or there is room for it
 abbrev pub has_place : List ℕ → Subscriptions → Bool
-has_place filter subscriptions = is_subscribed filter subscriptions || nat_lt (finite.len subscriptions) subscriptions_max
+has_place filter subscriptions = is_subscribed filter subscriptions || nat_lt (finite.len subscriptions) MAX_SUBSCRIPTIONS
 
 -- 3.8.3.1: whether the retained messages are sent, to a subscription that was there before or was not
 abbrev pub replays : RetainHandling → Bool → Bool

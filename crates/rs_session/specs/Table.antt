@@ -6,8 +6,8 @@ use Rattle.std.specs.FinSet as set
 use Rattle.std.specs.Ordering.{nat_cmp}
 use Rattle.rs_topic.specs.declared.text.TopicFault.{TopicFault}
 use Rattle.rs_topic.specs.declared.text.TopicFault.TheVariants as topic_fault
-use Rattle.rs_field.specs.declared.fault.PacketFault.{PacketFault}
-use Rattle.rs_field.specs.declared.fault.PacketFault.TheVariants.{Malformed, Protocol, TooLarge, Version, NoMemory}
+use Rattle.rs_packet.specs.Faults.{PacketFault}
+use Rattle.rs_packet.specs.Faults.{Malformed, Protocol, TooLarge, Version, NoMemory}
 use Rattle.rs_packet.specs.declared.packet.Qos.{Qos}
 use Rattle.rs_packet.specs.declared.packet.Qos.TheVariants.{AtMostOnce, AtLeastOnce, ExactlyOnce}
 use Rattle.rs_packet.specs.declared.packet.Options.{Options}
@@ -31,8 +31,10 @@ use Rattle.rs_store.specs.History.{IsAnswer}
 use Rattle.rs_window.specs.Calls as window
 use Rattle.rs_window.specs.declared.fault.Ack.{Ack}
 use Rattle.rs_window.specs.declared.fault.WindowFault.TheVariants.{WrongKind}
-use Rattle.rs_session.specs.Gate.{Mark, BeginsWith, Uses, IsSubmitted}
-use Rattle.rs_session.specs.Reasons.{malformed_packet, protocol_error, implementation_specific_error, unsupported_protocol_version, bad_authentication_method, topic_filter_invalid, topic_name_invalid, packet_identifier_not_found, receive_maximum_exceeded, topic_alias_invalid, packet_too_large, quota_exceeded, shared_subscriptions_not_supported, no_subscription_existed}
+use Rattle.rs_session.specs.Gate.{Mark, Extends, Uses, IsSubmitted, IsHandedOver}
+use Rattle.rs_session.specs.Reasons.{code_of}
+use Rattle.rs_session.specs.declared.reason.ReasonCode.{ReasonCode}
+use Rattle.rs_session.specs.declared.reason.ReasonCode.TheVariants.{Success, MalformedPacket, ProtocolError, ImplementationSpecificError, UnsupportedProtocolVersion, BadAuthenticationMethod, TopicFilterInvalid, TopicNameInvalid, PacketIdentifierNotFound, ReceiveMaximumExceeded, TopicAliasInvalid, PacketTooLarge, QuotaExceeded, SharedSubscriptionsNotSupported, NoSubscriptionExisted}
 use Rattle.rs_session.specs.Subscriptions.{Subscriptions, is_subscribed, has_place, replays}
 use Rattle.rs_session.specs.State.{State, opened, ended, within}
 use Rattle.rs_session.specs.declared.open.Open.{Open}
@@ -69,7 +71,7 @@ assigned_for (Some client) assigned = if length client == 0 then Some assigned e
 abbrev pub connack : Connect → State → Reply
 connack c old = reply.Accepted (record { session_expiry_zero = is_longer c.session_expiry; assigned_client = assigned_for c.client old.assigned })
 
--- an open session at its beginning
+-- a session that was just opened
 abbrev pub open_for : Connect → Open
 open_for c = record { subscriptions = finite.empty; inbound = set.empty; window = window.fresh (receive_limit c.receive_maximum) (packet_limit c.packet_maximum) }
 
@@ -80,9 +82,9 @@ abbrev pub change : Publish → List ℕ → ℕ → Option Operation
 change p topic now = operation_of p.retain topic (record { payload = p.payload; qos = p.qos; received = now; expiry = p.expiry; properties = p.properties })
 
 -- the code for a topic that is no topic name
-abbrev pub topic_code : TopicFault → ℕ
-topic_code topic_fault.Empty = protocol_error
-topic_code _ = topic_name_invalid
+abbrev pub topic_reason : TopicFault → ReasonCode
+topic_reason topic_fault.Empty = ProtocolError
+topic_reason _ = TopicNameInvalid
 
 -- a name, or one for which memory was refused
 abbrev pub IsTopicOrUnread : Result (List ℕ) TopicFault → Type 0
@@ -90,10 +92,10 @@ IsTopicOrUnread (Ok topic) = Unit {0}
 IsTopicOrUnread (Err fault) = fault ≡ topic_fault.NoMemory
 
 -- nothing at QoS 0, a PUBACK at QoS 1, a PUBREC at QoS 2
-abbrev pub acknowledged_by : Qos → Option ℕ → ℕ → Option Reply
+abbrev pub acknowledged_by : Qos → Option ℕ → ReasonCode → Option Reply
 acknowledged_by AtMostOnce id code = None
-acknowledged_by AtLeastOnce id code = option_map (λ n. reply.Puback n code) id
-acknowledged_by ExactlyOnce id code = option_map (λ n. reply.Pubrec n code) id
+acknowledged_by AtLeastOnce id code = option_map (λ n. reply.Puback n (code_of code)) id
+acknowledged_by ExactlyOnce id code = option_map (λ n. reply.Pubrec n (code_of code)) id
 
 -- 4.3.3: the identifier of a PUBLISH of QoS 2 is held until its PUBREL
 abbrev pub held_id : Qos → Option ℕ → Option ℕ
@@ -135,13 +137,13 @@ acknowledgement_of _ = None
 abbrev pub released_by : window.Acknowledgement → ℕ → Ack → Option Reply
 released_by window.Puback id ack = None
 released_by window.Pubcomp id ack = None
-released_by (window.Pubrec code) id Ack.Released = Some (reply.Pubrel id 0)
+released_by (window.Pubrec code) id Ack.Released = Some (reply.Pubrel id (code_of Success))
 released_by (window.Pubrec code) id Ack.Freed = None
-released_by (window.Pubrec code) id Ack.Unknown = if nat_lt code 0x80 then Some (reply.Pubrel id packet_identifier_not_found) else None
+released_by (window.Pubrec code) id Ack.Unknown = if nat_lt code 0x80 then Some (reply.Pubrel id (code_of PacketIdentifierNotFound)) else None
 
 -- 3.7.2.1: a PUBREL for an identifier that is held, or is not
-abbrev pub released_code : ℕ → set.FinSet nat_cmp → ℕ
-released_code id held = if set.contains held id then 0 else packet_identifier_not_found
+abbrev pub released_reason : ℕ → set.FinSet nat_cmp → ReasonCode
+released_reason id held = if set.contains held id then Success else PacketIdentifierNotFound
 
 -- ---- 3.8, 3.9: SUBSCRIBE and SUBACK
 
@@ -155,10 +157,10 @@ abbrev pub is_shared_local : Asked → Bool
 is_shared_local asked = is_shared asked.0 && asked.1.no_local
 
 -- 3.9.3: the code for a filter that is no topic filter
-abbrev pub filter_code : TopicFault → ℕ
-filter_code topic_fault.Shared = shared_subscriptions_not_supported
-filter_code topic_fault.NoMemory = quota_exceeded
-filter_code _ = topic_filter_invalid
+abbrev pub filter_reason : TopicFault → ReasonCode
+filter_reason topic_fault.Shared = SharedSubscriptionsNotSupported
+filter_reason topic_fault.NoMemory = QuotaExceeded
+filter_reason _ = TopicFilterInvalid
 
 -- what waits after a replay: behind the rest, all that the list answers
 abbrev pub IsQueued : ℕ → List ℕ → Qos → Option ℕ → List Entry → Open → Open → Type 0
@@ -173,30 +175,30 @@ pub record IsSubscribed (now : ℕ) (filter : List ℕ) (options : Options) (ide
   pub replay : MatchBool (replays options.retain_handling (is_subscribed filter old.subscriptions)) (IsQueued now filter options.qos identifier list old new) (new.window ≡ old.window)
   pub inbound : new.inbound ≡ old.inbound
 
--- One filter: its fault, its subscription, or a refusal, after which all is as before. A refusal comes where
--- there is no place, where too many would wait, or for want of memory, which may come at any time.
+-- One filter: its fault, its subscription, or a refusal, after which all is as before. A refusal comes if
+-- there is no place, if too many would wait, or if memory is refused, which may be at any time.
 abbrev pub IsGrantedTo : Filter → Options → Option ℕ → ℕ → List Entry → Open → ℕ → Open → Type 0
-IsGrantedTo (Err fault) options identifier now list old code new = (code ≡ filter_code fault) × (new ≡ old)
-IsGrantedTo (Ok filter) options identifier now list old code new = ((code ≡ level options.qos) × IsSubscribed now filter options identifier list old new) ⊎ ((code ≡ quota_exceeded) × (new ≡ old))
+IsGrantedTo (Err fault) options identifier now list old code new = (code ≡ code_of (filter_reason fault)) × (new ≡ old)
+IsGrantedTo (Ok filter) options identifier now list old code new = ((code ≡ level options.qos) × IsSubscribed now filter options identifier list old new) ⊎ ((code ≡ code_of QuotaExceeded) × (new ≡ old))
 
 -- by the list that the gate stands for when it is asked
 abbrev pub IsGranted : ℕ → Asked → Option ℕ → List Entry → Open → ℕ → Open → Type 0
 IsGranted now asked identifier list old code new = IsGrantedTo asked.0 asked.1 identifier now list old code new
 
--- one filter after the other, each by the next of the answered lists, which begins with the one before
+-- one filter after the other, each by the next of the answered lists, of which the one before is a prefix
 abbrev pub Grants : ℕ → List Asked → Option ℕ → List Entry → Open → List ℕ → List (List Entry) → List Entry → Open → Type 0
 Grants now [] identifier seen old codes answered list new = (codes ≡ []) × (answered ≡ []) × (list ≡ seen) × (new ≡ old)
 Grants now (asked ∷ more) identifier seen old codes answered list new =
     (code : ℕ) × (rest : List ℕ) × (mid : List Entry) × (later : List (List Entry)) × (between : Open) × (codes ≡ code ∷ rest) × (answered ≡ mid ∷ later)
-    × BeginsWith mid seen × IsGranted now asked identifier mid old code between × Grants now more identifier mid between rest later list new
+    × Extends mid seen × IsGranted now asked identifier mid old code between × Grants now more identifier mid between rest later list new
 
 -- ---- 3.10, 3.11: UNSUBSCRIBE and UNSUBACK
 
 -- one filter
-abbrev pub removal_code : Filter → Subscriptions → ℕ
-removal_code (Err topic_fault.Shared) subscriptions = no_subscription_existed
-removal_code (Err fault) subscriptions = topic_filter_invalid
-removal_code (Ok filter) subscriptions = if is_subscribed filter subscriptions then 0 else no_subscription_existed
+abbrev pub removal_reason : Filter → Subscriptions → ReasonCode
+removal_reason (Err topic_fault.Shared) subscriptions = NoSubscriptionExisted
+removal_reason (Err fault) subscriptions = TopicFilterInvalid
+removal_reason (Ok filter) subscriptions = if is_subscribed filter subscriptions then Success else NoSubscriptionExisted
 
 abbrev pub without : Filter → Subscriptions → Subscriptions
 without (Err fault) subscriptions = subscriptions
@@ -205,7 +207,7 @@ without (Ok filter) subscriptions = finite.remove subscriptions filter
 -- one filter after the other
 abbrev pub removal_codes : List Filter → Subscriptions → List ℕ
 removal_codes [] subscriptions = []
-removal_codes (filter ∷ more) subscriptions = removal_code filter subscriptions ∷ removal_codes more (without filter subscriptions)
+removal_codes (filter ∷ more) subscriptions = code_of (removal_reason filter subscriptions) ∷ removal_codes more (without filter subscriptions)
 
 abbrev pub without_all : List Filter → Subscriptions → Subscriptions
 without_all [] subscriptions = subscriptions
@@ -214,12 +216,12 @@ without_all (filter ∷ more) subscriptions = without_all more (without filter s
 -- ---- an open session
 
 -- 4.13
-abbrev pub fault_code : PacketFault → ℕ
-fault_code Malformed = malformed_packet
-fault_code Protocol = protocol_error
-fault_code TooLarge = packet_too_large
-fault_code Version = protocol_error
-fault_code NoMemory = quota_exceeded
+abbrev pub fault_reason : PacketFault → ReasonCode
+fault_reason Malformed = MalformedPacket
+fault_reason Protocol = ProtocolError
+fault_reason TooLarge = PacketTooLarge
+fault_reason Version = ProtocolError
+fault_reason NoMemory = QuotaExceeded
 
 -- The names of the rows. Each row's conditions also leave out the inputs of the rows above it.
 pub data OpenCase : Type 0 where
@@ -246,12 +248,14 @@ pub data OpenCase : Type 0 where
   Pinged : OpenCase
   Disconnected : OpenCase
 
--- a PUBLISH that the rows before those of a submit let pass
-pub record IsSubmittable (p : Publish) (topic : List ℕ) (now : ℕ) (operation : Operation) (old : Open) (mark used : Mark) : Type 0 where
+-- A PUBLISH that the rows before those of a submit let pass. It is handed to the store at most once, and no other change
+-- than its own is; so at QoS 0 too, and if it is refused.
+pub record IsHanded (p : Publish) (topic : List ℕ) (now : ℕ) (operation : Operation) (old : Open) (mark : Mark) (seen list : List Entry) (used : Mark) : Type 0 where
   pub taken : IsTaken p old
   pub is_topic : p.topic ≡ Ok topic
   pub changes : change p topic now ≡ Some operation
   pub one_used : Uses mark used
+  pub no_other : IsHandedOver operation used seen list
 
 -- the session stays as it was, and no serial is used
 pub record IsUnchanged (mark used : Mark) (old new : Open) : Type 0 where
@@ -260,75 +264,75 @@ pub record IsUnchanged (mark used : Mark) (old new : Open) : Type 0 where
 
 -- What a row does in an open session, from what it keeps, the mark and the gate's list before to those after,
 -- and what it leads to: a reply or none, a DISCONNECT with this code, or the end by the client. `answered` are the
--- lists by which the filters of a SUBSCRIBE are answered, one for each; the other rows say nothing of it.
+-- lists by which the filters of a SUBSCRIBE are answered, one for each.
 abbrev pub OpenRow : OpenCase → Input → ℕ → Open → Mark → List Entry → List (List Entry) → List Entry → Mark → Outcome → Open → Type 0
 -- 3.1: a second CONNECT
 OpenRow Connected_twice input now old mark seen answered list used outcome new =
-    (c : Connect) × (input ≡ Whole (packet.Connect c)) × (outcome ≡ Closes protocol_error) × IsUnchanged mark used old new
+    (c : Connect) × (input ≡ Whole (packet.Connect c)) × (outcome ≡ Closes ProtocolError) × IsUnchanged mark used old new
 OpenRow Faulty input now old mark seen answered list used outcome new =
-    (fault : PacketFault) × (input ≡ Broken fault) × (outcome ≡ Closes (fault_code fault)) × IsUnchanged mark used old new
+    (fault : PacketFault) × (input ≡ Broken fault) × (outcome ≡ Closes (fault_reason fault)) × IsUnchanged mark used old new
 -- 3.3.2.3.4: CONNACK allowed none
 OpenRow With_alias input now old mark seen answered list used outcome new =
-    (p : Publish) × (input ≡ Whole (packet.Publish p)) × (is_some p.alias ≡ true) × (outcome ≡ Closes topic_alias_invalid) × IsUnchanged mark used old new
+    (p : Publish) × (input ≡ Whole (packet.Publish p)) × (is_some p.alias ≡ true) × (outcome ≡ Closes TopicAliasInvalid) × IsUnchanged mark used old new
 -- 3.3.2.1
 OpenRow Bad_topic input now old mark seen answered list used outcome new =
     (p : Publish) × (fault : TopicFault) × (input ≡ Whole (packet.Publish p)) × (is_some p.alias ≡ false) × (p.topic ≡ Err fault) × (fault ≢ topic_fault.NoMemory)
-    × (outcome ≡ Closes (topic_code fault)) × IsUnchanged mark used old new
+    × (outcome ≡ Closes (topic_reason fault)) × IsUnchanged mark used old new
 -- 4.3.3: it is the same publication
 OpenRow Sent_again input now old mark seen answered list used outcome new =
     (p : Publish) × (input ≡ Whole (packet.Publish p)) × (is_some p.alias ≡ false) × IsTopicOrUnread p.topic × (is_held (held_id p.qos p.id) old.inbound ≡ true)
-    × (outcome ≡ Replies (acknowledged_by p.qos p.id 0)) × IsUnchanged mark used old new
+    × (outcome ≡ Replies (acknowledged_by p.qos p.id Success)) × IsUnchanged mark used old new
 -- 3.3.4
 OpenRow Too_many_held input now old mark seen answered list used outcome new =
     (p : Publish) × (input ≡ Whole (packet.Publish p)) × (is_some p.alias ≡ false) × IsTopicOrUnread p.topic × (is_one_too_many (held_id p.qos p.id) old.inbound ≡ true)
-    × (outcome ≡ Closes receive_maximum_exceeded) × IsUnchanged mark used old new
+    × (outcome ≡ Closes ReceiveMaximumExceeded) × IsUnchanged mark used old new
 -- 3.3.1.3: RETAIN 0 changes nothing
 OpenRow Not_retained input now old mark seen answered list used outcome new =
     (p : Publish) × (topic : List ℕ) × (input ≡ Whole (packet.Publish p)) × IsTaken p old × (p.topic ≡ Ok topic) × (p.retain ≡ false)
-    × (outcome ≡ Replies (acknowledged_by p.qos p.id 0)) × (used ≡ mark) × (new ≡ holding p old)
+    × (outcome ≡ Replies (acknowledged_by p.qos p.id Success)) × (used ≡ mark) × (new ≡ holding p old)
 OpenRow Kept input now old mark seen answered list used outcome new =
-    (p : Publish) × (topic : List ℕ) × (operation : Operation) × (input ≡ Whole (packet.Publish p)) × IsSubmittable p topic now operation old mark used × IsSubmitted operation mark used list
-    × (outcome ≡ Replies (acknowledged_by p.qos p.id 0)) × (new ≡ holding p old)
--- want of memory for the topic, which may come at any time
+    (p : Publish) × (topic : List ℕ) × (operation : Operation) × (input ≡ Whole (packet.Publish p)) × IsHanded p topic now operation old mark seen list used × IsSubmitted operation mark used list
+    × (outcome ≡ Replies (acknowledged_by p.qos p.id Success)) × (new ≡ holding p old)
+-- no memory for the topic, which may be at any time
 OpenRow Topic_unread input now old mark seen answered list used outcome new =
     (p : Publish) × (input ≡ Whole (packet.Publish p)) × IsTaken p old × (p.topic ≡ Err topic_fault.NoMemory)
-    × (outcome ≡ Replies (acknowledged_by p.qos p.id quota_exceeded)) × IsUnchanged mark used old new
+    × (outcome ≡ Replies (acknowledged_by p.qos p.id QuotaExceeded)) × IsUnchanged mark used old new
 -- the store or memory is full
 OpenRow Not_kept input now old mark seen answered list used outcome new =
-    (p : Publish) × (topic : List ℕ) × (operation : Operation) × (input ≡ Whole (packet.Publish p)) × IsSubmittable p topic now operation old mark used
-    × (outcome ≡ Replies (acknowledged_by p.qos p.id quota_exceeded)) × (new ≡ old)
+    (p : Publish) × (topic : List ℕ) × (operation : Operation) × (input ≡ Whole (packet.Publish p)) × IsHanded p topic now operation old mark seen list used
+    × (outcome ≡ Replies (acknowledged_by p.qos p.id QuotaExceeded)) × (new ≡ old)
 -- the store gave no receipt
 OpenRow Uncertain input now old mark seen answered list used outcome new =
-    (p : Publish) × (topic : List ℕ) × (operation : Operation) × (input ≡ Whole (packet.Publish p)) × IsSubmittable p topic now operation old mark used
-    × (outcome ≡ Closes quota_exceeded) × (new ≡ old)
+    (p : Publish) × (topic : List ℕ) × (operation : Operation) × (input ≡ Whole (packet.Publish p)) × IsHanded p topic now operation old mark seen list used
+    × (outcome ≡ Closes QuotaExceeded) × (new ≡ old)
 -- the store takes no more, or answered for another
 OpenRow Gate_closed input now old mark seen answered list used outcome new =
-    (p : Publish) × (topic : List ℕ) × (operation : Operation) × (input ≡ Whole (packet.Publish p)) × IsSubmittable p topic now operation old mark used
-    × (outcome ≡ Closes implementation_specific_error) × (new ≡ old)
+    (p : Publish) × (topic : List ℕ) × (operation : Operation) × (input ≡ Whole (packet.Publish p)) × IsHanded p topic now operation old mark seen list used
+    × (outcome ≡ Closes ImplementationSpecificError) × (new ≡ old)
 -- 3.6, 4.3.3
 OpenRow Released input now old mark seen answered list used outcome new =
-    (a : Acknowledgement) × (input ≡ Whole (packet.Pubrel a)) × (outcome ≡ Replies (Some (reply.Pubcomp a.id (released_code a.id old.inbound))))
+    (a : Acknowledgement) × (input ≡ Whole (packet.Pubrel a)) × (outcome ≡ Replies (Some (reply.Pubcomp a.id (code_of (released_reason a.id old.inbound)))))
     × (used ≡ mark) × (new ≡ record old { inbound = set.remove old.inbound a.id })
 -- 4.3: an acknowledgement that the PUBLISH with this identifier does not await
 OpenRow Wrong_acknowledgement input now old mark seen answered list used outcome new =
     (p : Packet) × (ack : window.Acknowledgement) × (id : ℕ) × (input ≡ Whole p) × (acknowledgement_of p ≡ Some (ack, id)) × (window.answer_to ack (finite.get old.window.kinds id) ≡ Err WrongKind)
-    × (outcome ≡ Closes protocol_error) × IsUnchanged mark used old new
+    × (outcome ≡ Closes ProtocolError) × IsUnchanged mark used old new
 OpenRow Acknowledged input now old mark seen answered list used outcome new =
     (p : Packet) × (ack : window.Acknowledgement) × (id : ℕ) × (answer : Ack) × (input ≡ Whole p) × (acknowledgement_of p ≡ Some (ack, id)) × window.IsAcknowledged ack id old.window (Ok answer) new.window
     × (outcome ≡ Replies (released_by ack id answer)) × (used ≡ mark) × (new ≡ record old { window = new.window })
 -- 3.8.3.1
 OpenRow Shared_no_local input now old mark seen answered list used outcome new =
-    (s : Subscribe) × (input ≡ Whole (packet.Subscribe s)) × (list_any is_shared_local s.filters ≡ true) × (outcome ≡ Closes protocol_error) × IsUnchanged mark used old new
--- want of memory for the codes, which may come at any time
+    (s : Subscribe) × (input ≡ Whole (packet.Subscribe s)) × (list_any is_shared_local s.filters ≡ true) × (outcome ≡ Closes ProtocolError) × IsUnchanged mark used old new
+-- no memory for the codes, which may be at any time
 OpenRow Not_subscribed input now old mark seen answered list used outcome new =
-    (s : Subscribe) × (input ≡ Whole (packet.Subscribe s)) × (list_any is_shared_local s.filters ≡ false) × (outcome ≡ Closes quota_exceeded) × IsUnchanged mark used old new
+    (s : Subscribe) × (input ≡ Whole (packet.Subscribe s)) × (list_any is_shared_local s.filters ≡ false) × (outcome ≡ Closes QuotaExceeded) × IsUnchanged mark used old new
 -- 3.8.4
 OpenRow Subscribed input now old mark seen answered list used outcome new =
     (s : Subscribe) × (codes : List ℕ) × (input ≡ Whole (packet.Subscribe s)) × (list_any is_shared_local s.filters ≡ false) × Grants now s.filters s.subscription seen old codes answered list new
     × (outcome ≡ Replies (Some (reply.Suback (record { id = s.id; codes = codes })))) × (used ≡ mark)
--- want of memory for the codes, which may come at any time
+-- no memory for the codes, which may be at any time
 OpenRow Not_unsubscribed input now old mark seen answered list used outcome new =
-    (u : Unsubscribe) × (input ≡ Whole (packet.Unsubscribe u)) × (outcome ≡ Closes quota_exceeded) × IsUnchanged mark used old new
+    (u : Unsubscribe) × (input ≡ Whole (packet.Unsubscribe u)) × (outcome ≡ Closes QuotaExceeded) × IsUnchanged mark used old new
 -- 3.10.4
 OpenRow Unsubscribed input now old mark seen answered list used outcome new =
     (u : Unsubscribe) × (input ≡ Whole (packet.Unsubscribe u)) × (outcome ≡ Replies (Some (reply.Unsuback (record { id = u.id; codes = removal_codes u.filters old.subscriptions }))))
@@ -340,9 +344,14 @@ OpenRow Pinged input now old mark seen answered list used outcome new =
 OpenRow Disconnected input now old mark seen answered list used outcome new =
     (code : ℕ) × (input ≡ Whole (packet.Disconnect code)) × (outcome ≡ Leaves) × IsUnchanged mark used old new
 
+-- no filter is answered in a row but that of an accepted SUBSCRIBE
+abbrev pub AnsweredInOpen : OpenCase → List (List Entry) → Type 0
+AnsweredInOpen Subscribed answered = Unit {0}
+AnsweredInOpen case answered = answered ≡ []
+
 -- one of the rows
 abbrev pub LeadsTo : Input → ℕ → Open → Mark → List Entry → List (List Entry) → List Entry → Mark → Outcome → Open → Type 0
-LeadsTo input now old mark seen answered list used outcome new = (case : OpenCase) × OpenRow case input now old mark seen answered list used outcome new
+LeadsTo input now old mark seen answered list used outcome new = (case : OpenCase) × AnsweredInOpen case answered × OpenRow case input now old mark seen answered list used outcome new
 
 -- ---- any session
 
@@ -350,12 +359,12 @@ LeadsTo input now old mark seen answered list used outcome new = (case : OpenCas
 abbrev pub due_for : ℕ → Outcome → Option Reply
 due_for limit (Replies None) = None
 due_for limit (Replies (Some r)) = within limit r
-due_for limit (Closes code) = within limit (reply.Disconnect code)
+due_for limit (Closes code) = within limit (reply.Disconnect (code_of code))
 due_for limit Leaves = None
 
 abbrev pub state_after : Outcome → State → Open → State
 state_after (Replies r) old o = opened old o
-state_after (Closes code) old o = ended old (ByServer code)
+state_after (Closes code) old o = ended old (ByServer (code_of code))
 state_after Leaves old o = ended old ByClient
 
 -- what is no CONNECT and no fault of the version
@@ -379,40 +388,50 @@ pub data Case : Type 0 where
   -- after the end
   Over : Case
 
--- 3.2: a CONNACK that refuses, and the end. It is not sent where the client does not take so long a packet
-pub record IsRefused (code : ℕ) (c : Connect) (old : State) (mark used : Mark) (due : Option Reply) (new : State) : Type 0 where
+-- 3.2: a CONNACK that refuses, and the end. It is not sent if the client does not take so long a packet
+pub record IsRefused (code : ReasonCode) (c : Connect) (old : State) (mark used : Mark) (due : Option Reply) (new : State) : Type 0 where
   pub none_used : used ≡ mark
-  pub reply : due ≡ within (packet_limit c.packet_maximum) (reply.Refused code)
-  pub end : new ≡ ended old (ByServer code)
+  pub reply : due ≡ within (packet_limit c.packet_maximum) (reply.Refused (code_of code))
+  pub end : new ≡ ended old (ByServer (code_of code))
 
 -- what a row does, from the state, the mark and the gate's list before to those after, with the reply that is then due
-abbrev pub Row : Case → Input → ℕ → State → Mark → List Entry → List (List Entry) → List Entry → Mark → Option Reply → State → Type 0
+abbrev pub SessionRow : Case → Input → ℕ → State → Mark → List Entry → List (List Entry) → List Entry → Mark → Option Reply → State → Type 0
 -- 4.12: enhanced authentication is not there
-Row With_method input now old mark seen answered list used due new =
-    (c : Connect) × (input ≡ Whole (packet.Connect c)) × (old.phase ≡ phase.Before) × (is_some c.method ≡ true) × IsRefused bad_authentication_method c old mark used due new
+SessionRow With_method input now old mark seen answered list used due new =
+    (c : Connect) × (input ≡ Whole (packet.Connect c)) × (old.phase ≡ phase.Before) × (is_some c.method ≡ true) × IsRefused BadAuthenticationMethod c old mark used due new
 -- 3.1.2.5: no will is taken
-Row With_will input now old mark seen answered list used due new =
-    (c : Connect) × (input ≡ Whole (packet.Connect c)) × (old.phase ≡ phase.Before) × (is_some c.method ≡ false) × (c.will ≡ true) × IsRefused implementation_specific_error c old mark used due new
--- want of memory, which may come at any time
-Row Connect_refused input now old mark seen answered list used due new =
-    (c : Connect) × (input ≡ Whole (packet.Connect c)) × (old.phase ≡ phase.Before) × (is_some c.method ≡ false) × (c.will ≡ false) × IsRefused quota_exceeded c old mark used due new
-Row Accepted input now old mark seen answered list used due new =
+SessionRow With_will input now old mark seen answered list used due new =
+    (c : Connect) × (input ≡ Whole (packet.Connect c)) × (old.phase ≡ phase.Before) × (is_some c.method ≡ false) × (c.will ≡ true) × IsRefused ImplementationSpecificError c old mark used due new
+-- no memory, which may be at any time
+SessionRow Connect_refused input now old mark seen answered list used due new =
+    (c : Connect) × (input ≡ Whole (packet.Connect c)) × (old.phase ≡ phase.Before) × (is_some c.method ≡ false) × (c.will ≡ false) × IsRefused QuotaExceeded c old mark used due new
+SessionRow Accepted input now old mark seen answered list used due new =
     (c : Connect) × (input ≡ Whole (packet.Connect c)) × (old.phase ≡ phase.Before) × (is_some c.method ≡ false) × (c.will ≡ false)
     × (length (reply_bytes (connack c old)) ≤ packet_limit c.packet_maximum) × (used ≡ mark) × (due ≡ Some (connack c old)) × (new ≡ opened old (open_for c))
-Row Connack_too_long input now old mark seen answered list used due new =
+SessionRow Connack_too_long input now old mark seen answered list used due new =
     (c : Connect) × (input ≡ Whole (packet.Connect c)) × (old.phase ≡ phase.Before) × (is_some c.method ≡ false) × (c.will ≡ false)
-    × (packet_limit c.packet_maximum < length (reply_bytes (connack c old))) × (used ≡ mark) × (due ≡ None) × (new ≡ ended old (ByServer 0))
+    × (packet_limit c.packet_maximum < length (reply_bytes (connack c old))) × (used ≡ mark) × (due ≡ None) × (new ≡ ended old (ByServer (code_of Success)))
 -- 3.1.2.2
-Row Other_version input now old mark seen answered list used due new =
-    (input ≡ Broken Version) × (old.phase ≡ phase.Before) × (used ≡ mark) × (due ≡ Some (reply.Refused unsupported_protocol_version)) × (new ≡ ended old (ByServer unsupported_protocol_version))
+SessionRow Other_version input now old mark seen answered list used due new =
+    (input ≡ Broken Version) × (old.phase ≡ phase.Before) × (used ≡ mark) × (due ≡ Some (reply.Refused (code_of UnsupportedProtocolVersion))) × (new ≡ ended old (ByServer (code_of UnsupportedProtocolVersion)))
 -- 3.1: the first packet is a CONNECT
-Row Unexpected input now old mark seen answered list used due new =
+SessionRow Unexpected input now old mark seen answered list used due new =
     IsNeitherConnectNorVersion input × (old.phase ≡ phase.Before) × (used ≡ mark) × (due ≡ None) × (new ≡ ended old Dropped)
-Row In_session input now old mark seen answered list used due new =
+SessionRow In_session input now old mark seen answered list used due new =
     (o : Open) × (left : Open) × (outcome : Outcome) × (old.phase ≡ phase.Open o) × LeadsTo input now o mark seen answered list used outcome left
     × (due ≡ due_for o.window.packet_maximum outcome) × (new ≡ state_after outcome old left)
-Row Over input now old mark seen answered list used due new =
+SessionRow Over input now old mark seen answered list used due new =
     (closing : Closing) × (old.phase ≡ phase.Ended closing) × (used ≡ mark) × (due ≡ None) × (new ≡ old)
 
+-- no filter is answered outside an open session
+abbrev pub AnsweredIn : Case → List (List Entry) → Type 0
+AnsweredIn In_session answered = Unit {0}
+AnsweredIn case answered = answered ≡ []
+
+-- a row, with the lists by which filters are answered
+abbrev pub Row : Case → Input → ℕ → State → Mark → List Entry → List (List Entry) → List Entry → Mark → Option Reply → State → Type 0
+Row case input now old mark seen answered list used due new = AnsweredIn case answered × SessionRow case input now old mark seen answered list used due new
+
+-- one of the rows
 abbrev pub Answers : Input → ℕ → State → Mark → List Entry → List (List Entry) → List Entry → Mark → Option Reply → State → Type 0
 Answers input now old mark seen answered list used due new = (case : Case) × Row case input now old mark seen answered list used due new

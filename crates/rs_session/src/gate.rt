@@ -1,16 +1,16 @@
 //! The store as a session sees it.
 
-ghost use Rattle.std.specs.Prelude.{◌≡◌, List, IfOk, OnOk};
+ghost use Rattle.std.specs.Prelude.{◌≡◌, List, IfOk};
 ghost use Rattle.rs_message.specs.declared.entry.Entry.{Entry};
 ghost use Rattle.rs_store.specs.History.{IsAnswer};
-ghost use Rattle.rs_session.specs.Gate.{Mark, Grows, Uses, IsSubmitted};
+ghost use Rattle.rs_session.specs.Gate.{Mark, Grows, Uses, Submits};
 
 use rs_message::{Found, Operation, SubmitFault};
 use rs_topic::TopicFilter;
 use std::alloc::AllocError;
 
-/// A session's way to the store, seen by the lists of entries that it may stand for. Each call leaves
-/// a list that begins with the one before: what a session saw or was told stays.
+/// A session's way to the store, seen by the lists of entries that it may stand for. Of each list that it stood for
+/// before a call, it stands after it for one of which that list is a prefix: what a session saw or was told stays.
 pub trait Gate {
     /// The lists that it stands for.
     ghost stands: { Self → List Entry → Type 0 };
@@ -19,14 +19,14 @@ pub trait Gate {
     ghost mark: { Self → Mark };
 
     /// Hands a change to the store. At `Ok` the list has it as an entry of its own. The faults say what stands
-    /// otherwise; the list may have grown by entries of others.
+    /// otherwise; the list may have grown by entries of others. Whatever is answered, no other change than this one
+    /// becomes an entry under the serial that the gate used last.
     fn submit(&mut self, operation: Operation) -> Result<(), SubmitFault>
-        ensures list { Grows (stands self.old) (stands self.new)
-            (λ seen list. OnOk result (IsSubmitted operation (mark self.old) (mark self.new) list)) }
+        ensures list { Grows (stands self.old) (stands self.new) (Submits operation (mark self.old) (mark self.new) result) }
         ensures mark { Uses (mark self.old) (mark self.new) };
 
     /// The retained messages that a filter matches and that have not expired at this moment, in the
-    /// order of replay. `now` is in seconds. `AllocError` where memory was refused; the list may have grown
+    /// order of replay. `now` is in seconds. `AllocError` if memory was refused; the list may have grown
     /// all the same.
     fn answer(&mut self, filter: &TopicFilter, now: u64) -> Result<Vec<Found>, AllocError>
         ensures list { Grows (stands self.old) (stands self.new)

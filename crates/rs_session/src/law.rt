@@ -1,7 +1,7 @@
 //! What holds of every run.
 
 ghost use Rattle.std.specs.Prelude.{◌≡◌, ℕ, List, [], ◌∷◌, ◌++◌};
-ghost use Rattle.rs_session.specs.Gate.{BeginsWith};
+ghost use Rattle.rs_session.specs.Gate.{Extends};
 ghost use Rattle.rs_packet.specs.declared.packet.Connect.{Connect};
 ghost use Rattle.rs_packet.specs.declared.packet.Publish.{Publish};
 ghost use Rattle.rs_packet.specs.declared.reply.Reply.{Reply};
@@ -12,40 +12,42 @@ ghost use Rattle.rs_session.specs.State.{fresh};
 ghost use Rattle.rs_session.specs.declared.open.Open.{Open};
 ghost use Rattle.rs_session.specs.declared.phase.Phase.TheVariants as phase;
 
-/// Does nothing, and says that along a run the gate's list only grows at its end, so what was
-/// acknowledged stays in it.
+/// Does nothing. Its contract says that along a run the gate's list only grows at its end, so what was acknowledged stays
+/// in it.
 #[tactic(auto, using(crate::proofs::Runs::run_grows))]
 pub fn lists_grow()
-    ensures { (from to : Point) (turns : List Turn) → Run from turns to → BeginsWith to.seen from.seen }
+    ensures { (from to : Point) (turns : List Turn) → Run from turns to → Extends to.seen from.seen }
 {}
 
-/// Does nothing, and says of every run of a new session that is open after its last turn: it keeps at most
-/// 256 subscriptions, 16 identifiers of QoS 2 and 100,000 messages that wait, and no more messages are
+/// Does nothing. Its contract says of every run of a new session that is open after its last turn: it keeps at most
+/// `MAX_SUBSCRIPTIONS` subscriptions, 16 identifiers of QoS 2 and 100,000 messages that wait, and no more messages are
 /// unacknowledged than the quota, which is at most 1,024.
 pub fn limits_kept()
     ensures { (assigned : List ℕ) (from to : Point) (turns : List Turn) (o : Open) → from.state ≡ fresh assigned → Run from turns to
         → to.state.phase ≡ phase.Open o → IsWithinLimits o }
 {}
 
-/// Does nothing, and says of every run of a new session that a CONNECT opened: the PUBLISH packets of its replies are what
-/// its window gave, in a run of the window's calls that the inputs and the lists make, turn by turn.
+/// Does nothing. Its contract says of every run of a new session that a CONNECT opened: the PUBLISH packets among its
+/// replies are those that its window gave, in a run of window calls that the inputs and the lists make, turn by turn.
 pub fn replay_of_run()
     // A session that is open after some turn was opened by the first one.
     ensures opened { (assigned : List ℕ) (from to : Point) (before : List Turn) (turn : Turn) (after : List Turn) → from.state ≡ fresh assigned → Run from (before ++ turn ∷ after) to
         → IsOpen turn.to.state.phase → (c : Connect) × Opens c (before ++ turn ∷ after) }
-    // What the turns call of the window is a run of its calls, so `replay_law` speaks of it.
+    // The calls that the turns make are a run of the window, so `replay_law` holds of them.
     ensures calls { (assigned : List ℕ) (from to : Point) (turns : List Turn) (c : Connect) → from.state ≡ fresh assigned → Run from turns to
         → Opens c turns → IsReplaying c turns }
-    // What they queued is a front and then what waits, and the PUBLISH replies are the front, in order, each once, less
-    // what was dropped; and no more is unacknowledged than the lesser of the client's Receive Maximum and 1,024.
+    // A prefix of what they queued left the queue, and the rest waits. The PUBLISH replies are this prefix, in order, each
+    // message once, less what was dropped. Never more is unacknowledged than the quota, the lesser of the client's Receive
+    // Maximum and 1,024.
     ensures sent { (c : Connect) (turns : List Turn) (r : IsReplaying c turns) → IsSentInOrder c turns r.made }
 {}
 
-/// Does nothing, and says of every run, from any point, how its lists grow, and that what it acknowledged stays in them.
+/// Does nothing. Its contract says of every run, from any point, how its lists grow, and that what it acknowledged stays in
+/// them.
 pub fn kept_of_run()
-    // Each list by which a filter was answered, and each that a turn leaves, begins with every one before it.
+    // Of each list by which a filter was answered, and of each that a turn leaves, every one before it is a prefix.
     ensures lists { (from to : Point) (turns : List Turn) → Run from turns to → AreGrowing (from.seen ∷ (lists_of turns ++ to.seen ∷ [])) }
-    // Where the serials of each place rise in the lists, a retained publication that the client was told is kept stands
+    // If the serials of each place rise in the lists, a retained publication that the client was told is kept stands
     // once in the list that its turn leaves, and in every later one.
     ensures publications { (from to : Point) (before : List Turn) (turn : Turn) (after : List Turn) (o : Open) (p : Publish) (answer : Reply) → Run from (before ++ turn ∷ after) to
         → SerialsRiseIn (before ++ turn ∷ after) → (point_after from before).state.phase ≡ phase.Open o → IsToldKept o turn p answer

@@ -3,7 +3,7 @@
 ghost use Rattle.std.specs.Prelude.{◌≡◌, ◌↔◌, [], List, IfOk, IfErr, OnErr, OnOk, Err, ◌⊎◌};
 ghost use Rattle.rs_store.specs.Contents.{empty, followed};
 ghost use Rattle.rs_store.specs.History.{IsAnswer, Stands};
-ghost use Rattle.rs_session.specs.Gate.{Grows, Uses, IsSubmitted};
+ghost use Rattle.rs_session.specs.Gate.{Grows, Uses, Submits};
 ghost use Rattle.rs_session.specs.Local.{catalogue_of, local_mark, next_entry, IsFull};
 
 use crate::gate::Gate;
@@ -23,7 +23,7 @@ pub struct LocalGate<C> {
 }
 
 impl<C: Catalogue> LocalGate<C> {
-    /// A gate to an empty store of at most so many topics. Refused only for want of memory.
+    /// A gate to an empty store of at most so many topics. Refused only if memory is.
     pub fn new(alloc: Global, limit: TopicLimit) -> Result<LocalGate<C>, AllocError>
         ensures content { IfOk result (λ gate. C.content (catalogue_of gate) ≡ empty limit) }
         ensures list { IfOk result (λ gate. Stands (C.content (catalogue_of gate)) []) }
@@ -49,11 +49,11 @@ impl<C: Catalogue> Gate for LocalGate<C> {
 
     ghost mark = { λ gate. local_mark (C.content (catalogue_of gate)) };
 
-    /// `Full` where no serial is left or the store has no room, `NoMemory` where memory is refused.
+    /// `Full` if no serial is left or the store has no room, `NoMemory` if memory is refused.
     /// Refused, the store is as before.
     fn submit(&mut self, operation: Operation) -> Result<(), SubmitFault>
         ensures list { Grows (Stands (C.content (catalogue_of self.old))) (Stands (C.content (catalogue_of self.new)))
-            (λ seen list. OnOk result (IsSubmitted operation (local_mark (C.content (catalogue_of self.old))) (local_mark (C.content (catalogue_of self.new))) list)) }
+            (Submits operation (local_mark (C.content (catalogue_of self.old))) (local_mark (C.content (catalogue_of self.new))) result) }
         ensures mark { Uses (local_mark (C.content (catalogue_of self.old))) (local_mark (C.content (catalogue_of self.new))) }
         ensures full { (result ≡ Err SubmitFault.Full) ↔ IsFull (C.content (catalogue_of self.old)) operation }
         ensures faults { IfErr result (λ fault. (fault ≡ SubmitFault.Full) ⊎ (fault ≡ SubmitFault.NoMemory)) }
@@ -75,7 +75,7 @@ impl<C: Catalogue> Gate for LocalGate<C> {
         }
     }
 
-    /// Refused only for want of memory. The store stays as it is.
+    /// Refused only if memory is. The store stays as it is.
     fn answer(&mut self, filter: &TopicFilter, now: u64) -> Result<Vec<Found>, AllocError>
         ensures list { Grows (Stands (C.content (catalogue_of self.old))) (Stands (C.content (catalogue_of self.new)))
             (λ seen list. IfOk result (λ found. IsAnswer list filter.now now found.items)) }

@@ -12,7 +12,7 @@ ghost use Rattle.rs_session.specs.Table.{LeadsTo, open_for};
 
 use crate::gate::Gate;
 use crate::phase::Input;
-use crate::reason;
+use crate::reason::ReasonCode;
 use crate::subscriptions::Subscriptions;
 use rs_packet::{Packet, Reply};
 use rs_window::{Inbound, Window};
@@ -35,14 +35,14 @@ pub enum Outcome {
     /// It goes on, with this reply or none.
     Replies(Option<Reply>),
     /// A DISCONNECT with this Reason Code, and the end.
-    Closes(u8),
+    Closes(ReasonCode),
     /// The end, by the client.
     Leaves,
 }
 
 impl Open {
-    /// What a packet leads to. `now` is in seconds.
-    pub fn take<G: Gate>(
+    /// Handles a packet, and says what it leads to. `now` is in seconds.
+    pub fn handle<G: Gate>(
         &mut self,
         alloc: Global,
         gate: &mut G,
@@ -53,7 +53,7 @@ impl Open {
             LeadsTo (Input.Whole packet) now self.old (G.mark gate.old) seen answered list (G.mark gate.new) result self.new) }
     {
         match packet {
-            Packet::Connect(_c) => Outcome::Closes(reason::PROTOCOL_ERROR),
+            Packet::Connect(_c) => Outcome::Closes(ReasonCode::ProtocolError),
             Packet::Publish(p) => self.publish(gate, p, now),
             Packet::Puback(a) => self.puback(a),
             Packet::Pubrec(a) => self.pubrec(a),

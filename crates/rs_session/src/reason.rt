@@ -1,29 +1,48 @@
 //! Reason codes: section 2.4.
 
-pub const NO_SUBSCRIPTION_EXISTED: u8 = 0x11;
+ghost use Rattle.std.specs.Prelude.{◌≡◌};
+ghost use Rattle.rs_session.specs.Reasons.{code_of};
 
-pub const MALFORMED_PACKET: u8 = 0x81;
+/// The Reason Codes that a session chooses, each with the sections that say when it is sent.
+#[derive(Clone, Copy, Debug, PartialEq, Eq)]
+pub enum ReasonCode {
+    /// 3.2.2.2, 3.4.2.1, 3.5.2.1, 3.6.2.1, 3.7.2.1, 3.11.3.
+    Success = 0x00,
+    /// 3.11.3.
+    NoSubscriptionExisted = 0x11,
+    /// 3.14.2.1, 4.13.
+    MalformedPacket = 0x81,
+    /// 3.14.2.1, 4.13.
+    ProtocolError = 0x82,
+    /// 3.2.2.2, 3.14.2.1.
+    ImplementationSpecificError = 0x83,
+    /// 3.1.2.2, 3.2.2.2.
+    UnsupportedProtocolVersion = 0x84,
+    /// 3.2.2.2, 4.12.
+    BadAuthenticationMethod = 0x8C,
+    /// 3.9.3, 3.11.3.
+    TopicFilterInvalid = 0x8F,
+    /// 3.14.2.1.
+    TopicNameInvalid = 0x90,
+    /// 3.6.2.1, 3.7.2.1.
+    PacketIdentifierNotFound = 0x92,
+    /// 3.3.4, 3.14.2.1.
+    ReceiveMaximumExceeded = 0x93,
+    /// 3.3.2.3.4, 3.14.2.1.
+    TopicAliasInvalid = 0x94,
+    /// 3.14.2.1.
+    PacketTooLarge = 0x95,
+    /// 3.2.2.2, 3.4.2.1, 3.5.2.1, 3.9.3, 3.14.2.1.
+    QuotaExceeded = 0x97,
+    /// 3.9.3, 4.8.2.
+    SharedSubscriptionsNotSupported = 0x9E,
+}
 
-pub const PROTOCOL_ERROR: u8 = 0x82;
-
-pub const IMPLEMENTATION_SPECIFIC_ERROR: u8 = 0x83;
-
-pub const UNSUPPORTED_PROTOCOL_VERSION: u8 = 0x84;
-
-pub const BAD_AUTHENTICATION_METHOD: u8 = 0x8C;
-
-pub const TOPIC_FILTER_INVALID: u8 = 0x8F;
-
-pub const TOPIC_NAME_INVALID: u8 = 0x90;
-
-pub const PACKET_IDENTIFIER_NOT_FOUND: u8 = 0x92;
-
-pub const RECEIVE_MAXIMUM_EXCEEDED: u8 = 0x93;
-
-pub const TOPIC_ALIAS_INVALID: u8 = 0x94;
-
-pub const PACKET_TOO_LARGE: u8 = 0x95;
-
-pub const QUOTA_EXCEEDED: u8 = 0x97;
-
-pub const SHARED_SUBSCRIPTIONS_NOT_SUPPORTED: u8 = 0x9E;
+impl ReasonCode {
+    /// Its byte.
+    pub fn code(self) -> u8
+        ensures { result ≡ code_of self }
+    {
+        self as u8
+    }
+}

@@ -10,12 +10,12 @@ ghost use Rattle.rs_session.specs.Gate.{GrowsAnswering};
 ghost use Rattle.rs_session.specs.Run.{replies_left};
 ghost use Rattle.rs_session.specs.State.{state_of, due_of, gate_of, closing_of, step_of, fresh, ended, within, IsGiven};
 ghost use Rattle.rs_session.specs.declared.open.Open.{Open};
-ghost use Rattle.rs_session.specs.Table.{Answers, due_for, fault_code, state_after};
+ghost use Rattle.rs_session.specs.Table.{Answers, due_for, fault_reason, state_after};
 
 use crate::gate::Gate;
 use crate::open::Outcome;
 use crate::phase::{Closing, Input, Phase, Step};
-use crate::reason;
+use crate::reason::ReasonCode;
 use rs_packet::{Packet, PacketFault, Reply, encoded_len};
 use rs_topic::Text;
 use std::alloc::Global;
@@ -47,8 +47,8 @@ impl<G: Gate> Session<G> {
         }
     }
 
-    /// What a packet at this moment leads to, where the reply that was due has been taken. `now` is in
-    /// seconds. Over a session that has ended it changes nothing.
+    /// Handles a packet at this moment, once the reply that was due is taken. `now` is in seconds. A session that has
+    /// ended stays as it is.
     pub fn on_packet(&mut self, packet: Packet, now: u64) -> Step
         requires { due_of self.old ≡ None }
         ensures row { GrowsAnswering G.stands G.mark (gate_of self.old) (gate_of self.new) (λ seen answered list.
@@ -61,7 +61,7 @@ impl<G: Gate> Session<G> {
             Phase::Before => self.first_packet(packet),
             Phase::Open(open) => {
                 let limit = open.window.packet_maximum();
-                let outcome = open.take(self.alloc, &mut self.gate, packet, now);
+                let outcome = open.handle(self.alloc, &mut self.gate, packet, now);
                 self.conclude(outcome, limit);
             }
             Phase::Ended(_) => {}
@@ -69,8 +69,8 @@ impl<G: Gate> Session<G> {
         self.step()
     }
 
-    /// What a fault in place of a packet leads to, where the reply that was due has been taken: a
-    /// DISCONNECT with its Reason Code (4.13). Before an accepted CONNECT only another protocol version is
+    /// Handles a fault in place of a packet, once the reply that was due is taken: a DISCONNECT with its Reason Code (4.13)
+    /// is due. Before an accepted CONNECT only another protocol version is
     /// answered, by a CONNACK with 0x84 (3.1.2.2).
     pub fn on_fault(&mut self, fault: PacketFault) -> Step
         requires { due_of self.old ≡ None }
@@ -91,7 +91,7 @@ impl<G: Gate> Session<G> {
         self.step()
     }
 
-    /// What a packet, or a fault in its place, leads to: `on_packet` or `on_fault`.
+    /// Handles a packet, or a fault in its place, as `on_packet` or `on_fault` does.
     pub fn on_input(&mut self, input: Input, now: u64) -> Step
         requires { due_of self.old ≡ None }
         ensures row { GrowsAnswering G.stands G.mark (gate_of self.old) (gate_of self.new) (λ seen answered list.
@@ -106,8 +106,8 @@ impl<G: Gate> Session<G> {
         }
     }
 
-    /// The next reply at this moment, which is that of the input and in seconds. None where there is none any
-    /// more: after at most as many replies as are due and wait.
+    /// The next reply. `now` is the moment of the input, in seconds. None once no reply is left: after at most as many
+    /// replies as are due and wait.
     pub fn next_reply(&mut self, now: u64) -> Option<Reply>
         ensures given { IsGiven now (due_of self.old) (state_of self.old) result
             (due_of self.new) (state_of self.new) }
@@ -170,6 +170,7 @@ impl<G: Gate> Session<G> {
             Outcome::Replies(None) => {}
             Outcome::Replies(Some(reply)) => self.due = within(limit, reply),
             Outcome::Closes(code) => {
+                let code = code.code();
                 self.due = within(limit, Reply::Disconnect(code));
                 self.end(Closing::ByServer(code));
             }
@@ -186,7 +187,7 @@ impl<G: Gate> Session<G> {
     }
 }
 
-/// The reply where the client takes so long a packet (3.1.2.11.4).
+/// The reply, if the client takes so long a packet (3.1.2.11.4).
 fn within(limit: u32, reply: Reply) -> Option<Reply>
     ensures { result ≡ within limit reply }
 {
@@ -197,14 +198,14 @@ fn within(limit: u32, reply: Reply) -> Option<Reply>
 }
 
 /// The Reason Code of a DISCONNECT for a fault: section 4.13.
-fn fault_reason(fault: PacketFault) -> u8
-    ensures { result ≡ fault_code fault }
+fn fault_reason(fault: PacketFault) -> ReasonCode
+    ensures { result ≡ fault_reason fault }
 {
     match fault {
-        PacketFault::Malformed => reason::MALFORMED_PACKET,
-        PacketFault::Protocol => reason::PROTOCOL_ERROR,
-        PacketFault::TooLarge => reason::PACKET_TOO_LARGE,
-        PacketFault::Version => reason::PROTOCOL_ERROR,
-        PacketFault::NoMemory => reason::QUOTA_EXCEEDED,
+        PacketFault::Malformed => ReasonCode::MalformedPacket,
+        PacketFault::Protocol => ReasonCode::ProtocolError,
+        PacketFault::TooLarge => ReasonCode::PacketTooLarge,
+        PacketFault::Version => ReasonCode::ProtocolError,
+        PacketFault::NoMemory => ReasonCode::QuotaExceeded,
     }
 }

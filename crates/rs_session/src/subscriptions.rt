@@ -10,12 +10,15 @@ use rs_topic::TopicFilter;
 use std::alloc::{AllocError, Global};
 use std::marker::Model;
 
+/// How many subscriptions a session may have. One more is answered with Reason Code 0x97, quota exceeded (3.9.3).
+pub const MAX_SUBSCRIPTIONS: usize = 256;
+
 /// What a session keeps of a filter (3.8.4).
 #[derive(Clone, Copy)]
 pub struct Subscription {
     /// How its messages are sent (3.8.3.1).
     pub options: Options,
-    /// Sent with each of its messages, where the SUBSCRIBE had one (3.8.2.1.2).
+    /// Sent with each of its messages, if the SUBSCRIBE had one (3.8.2.1.2).
     pub identifier: Option<SubscriptionId>,
 }
 
@@ -65,7 +68,7 @@ impl Subscriptions {
     }
 
     /// Puts this one in the place of the one with the same filter, or adds it (3.8.4). Only a new filter takes memory:
-    /// where that is refused, nothing changes.
+    /// if that is refused, nothing changes.
     #[tactic(auto, using(crate::proofs::SubscriptionLemmas::get_by_filter, crate::proofs::SubscriptionLemmas::inserted))]
     pub fn insert(
         &mut self,

@@ -3,11 +3,11 @@
 ghost use Rattle.std.specs.Prelude.{◌≡◌, ℕ, List, []};
 ghost use Rattle.rs_message.specs.declared.entry.Entry.{Entry};
 ghost use Rattle.rs_session.specs.Gate.{Mark};
-ghost use Rattle.rs_session.specs.Table.{LeadsTo, released_code};
+ghost use Rattle.rs_session.specs.Table.{LeadsTo, released_reason};
 
 use super::{Open, Outcome};
 use crate::phase::Input;
-use crate::reason;
+use crate::reason::ReasonCode;
 use rs_packet::{Acknowledgement, Packet, Reply};
 use rs_window::Ack;
 
@@ -17,7 +17,7 @@ impl Open {
     {
         match self.window.on_puback(a.id, a.code) {
             Ok(_ack) => Outcome::Replies(None),
-            Err(_) => Outcome::Closes(reason::PROTOCOL_ERROR),
+            Err(_) => Outcome::Closes(ReasonCode::ProtocolError),
         }
     }
 
@@ -26,16 +26,19 @@ impl Open {
         ensures { (now : ℕ) (mark : Mark) (list : List Entry) → LeadsTo (Input.Whole (Packet.Pubrec a)) now self.old mark list [] list mark result self.new }
     {
         match self.window.on_pubrec(a.id, a.code) {
-            Ok(Ack::Released) => Outcome::Replies(Some(Reply::Pubrel(a.id, 0))),
+            Ok(Ack::Released) => Outcome::Replies(Some(Reply::Pubrel(
+                a.id,
+                ReasonCode::Success.code(),
+            ))),
             Ok(Ack::Freed) => Outcome::Replies(None),
             Ok(Ack::Unknown) => {
                 if a.code < 0x80 {
-                    let code = reason::PACKET_IDENTIFIER_NOT_FOUND;
+                    let code = ReasonCode::PacketIdentifierNotFound.code();
                     return Outcome::Replies(Some(Reply::Pubrel(a.id, code)));
                 }
                 Outcome::Replies(None)
             }
-            Err(_) => Outcome::Closes(reason::PROTOCOL_ERROR),
+            Err(_) => Outcome::Closes(ReasonCode::ProtocolError),
         }
     }
 
@@ -44,7 +47,7 @@ impl Open {
     {
         match self.window.on_pubcomp(a.id, a.code) {
             Ok(_ack) => Outcome::Replies(None),
-            Err(_) => Outcome::Closes(reason::PROTOCOL_ERROR),
+            Err(_) => Outcome::Closes(ReasonCode::ProtocolError),
         }
     }
 
@@ -52,11 +55,11 @@ impl Open {
     pub(super) fn pubrel(&mut self, a: Acknowledgement) -> Outcome
         ensures { (now : ℕ) (mark : Mark) (list : List Entry) → LeadsTo (Input.Whole (Packet.Pubrel a)) now self.old mark list [] list mark result self.new }
     {
-        let code = if self.inbound.release(a.id) {
-            0
+        let reason = if self.inbound.release(a.id) {
+            ReasonCode::Success
         } else {
-            reason::PACKET_IDENTIFIER_NOT_FOUND
+            ReasonCode::PacketIdentifierNotFound
         };
-        Outcome::Replies(Some(Reply::Pubcomp(a.id, code)))
+        Outcome::Replies(Some(Reply::Pubcomp(a.id, reason.code())))
     }
 }

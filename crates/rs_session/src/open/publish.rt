@@ -2,14 +2,14 @@
 
 ghost use Rattle.std.specs.Prelude.{◌≡◌, ℕ, List, None, Some, Ok, Err, true, false, option_map};
 ghost use Rattle.rs_message.specs.declared.entry.Operation.{Operation};
-ghost use Rattle.rs_session.specs.Gate.{Grows, GrowsAnswering, Uses};
+ghost use Rattle.rs_session.specs.Gate.{Grows, GrowsAnswering, IsHandedOver, Uses};
 ghost use Rattle.rs_session.specs.Steps.{IsSettled, outcome_before, outcome_of_answer, outcome_of_id, topic_refusal};
 ghost use Rattle.rs_session.specs.Table.{LeadsTo, acknowledged_by, held_id, held_with, is_held, is_one_too_many};
 
 use super::{Open, Outcome};
 use crate::gate::Gate;
 use crate::phase::Input;
-use crate::reason;
+use crate::reason::ReasonCode;
 use rs_message::{Operation, SubmitFault};
 use rs_packet::{Packet, PacketId, Publish, Qos, Reply};
 use rs_topic::{TopicFault, TopicName};
@@ -30,25 +30,25 @@ impl Open {
         ensures { result ≡ outcome_before p.now self.now }
     {
         if p.alias.is_some() {
-            return Some(Outcome::Closes(reason::TOPIC_ALIAS_INVALID));
+            return Some(Outcome::Closes(ReasonCode::TopicAliasInvalid));
         }
-        if let Some(code) = topic_code(&p.topic) {
+        if let Some(code) = topic_reason(&p.topic) {
             return Some(Outcome::Closes(code));
         }
         self.outcome_of_id(p.qos, p.id)
     }
 
-    /// What the identifier of a PUBLISH leads to, where it is held already or is one too many.
+    /// What the identifier of a PUBLISH leads to, if it is held already or is one too many.
     fn outcome_of_id(&self, qos: Qos, id: Option<PacketId>) -> Option<Outcome>
-        ensures { result ≡ outcome_of_id (is_held (held_id qos id) self.now.inbound) (is_one_too_many (held_id qos id) self.now.inbound) (acknowledged_by qos id 0) }
+        ensures { result ≡ outcome_of_id (is_held (held_id qos id) self.now.inbound) (is_one_too_many (held_id qos id) self.now.inbound) (acknowledged_by qos id ReasonCode.Success) }
     {
         let answered = id;
         let held = held_id(qos, id)?;
         if self.inbound.holds(held) {
-            return Some(Outcome::Replies(acknowledged_by(qos, answered, 0)));
+            return Some(Outcome::Replies(acknowledged_by(qos, answered, ReasonCode::Success)));
         }
         if self.inbound.is_full() {
-            return Some(Outcome::Closes(reason::RECEIVE_MAXIMUM_EXCEEDED));
+            return Some(Outcome::Closes(ReasonCode::ReceiveMaximumExceeded));
         }
         None
     }
@@ -71,14 +71,14 @@ impl Open {
             payload,
         } = p;
         let Ok(topic) = topic else {
-            return Outcome::Replies(acknowledged_by(qos, id, reason::QUOTA_EXCEEDED));
+            return Outcome::Replies(acknowledged_by(qos, id, ReasonCode::QuotaExceeded));
         };
         match Operation::of(retain, topic, payload, qos, now, expiry, properties) {
             Some(operation) => self.submit(gate, operation, qos, id),
             None => {
                 let held = id;
                 self.hold(qos, held);
-                Outcome::Replies(acknowledged_by(qos, id, 0))
+                Outcome::Replies(acknowledged_by(qos, id, ReasonCode::Success))
             }
         }
     }
@@ -92,7 +92,7 @@ impl Open {
     ) -> Outcome
         requires { is_one_too_many (held_id qos id) self.old.inbound ≡ false }
         ensures list { Grows (G.stands gate.old) (G.stands gate.new) (λ seen list.
-            IsSettled operation qos id self.old (G.mark gate.old) (G.mark gate.new) list result self.new) }
+            IsHandedOver operation (G.mark gate.new) seen list × IsSettled operation qos id self.old (G.mark gate.old) (G.mark gate.new) list result self.new) }
         ensures mark { Uses (G.mark gate.old) (G.mark gate.new) }
     {
         let answer = gate.submit(operation);
@@ -122,26 +122,26 @@ fn outcome_of_answer(answer: Result<(), SubmitFault>, qos: Qos, id: Option<Packe
     ensures { result ≡ outcome_of_answer answer qos id }
 {
     match answer {
-        Ok(()) => Outcome::Replies(acknowledged_by(qos, id, 0)),
+        Ok(()) => Outcome::Replies(acknowledged_by(qos, id, ReasonCode::Success)),
         Err(SubmitFault::Full | SubmitFault::NoMemory) => {
-            Outcome::Replies(acknowledged_by(qos, id, reason::QUOTA_EXCEEDED))
+            Outcome::Replies(acknowledged_by(qos, id, ReasonCode::QuotaExceeded))
         }
-        Err(SubmitFault::Open) => Outcome::Closes(reason::QUOTA_EXCEEDED),
+        Err(SubmitFault::Open) => Outcome::Closes(ReasonCode::QuotaExceeded),
         Err(SubmitFault::Strange | SubmitFault::Closed) => {
-            Outcome::Closes(reason::IMPLEMENTATION_SPECIFIC_ERROR)
+            Outcome::Closes(ReasonCode::ImplementationSpecificError)
         }
     }
 }
 
 /// The Reason Code for a topic that is no topic name: sections 3.3.2.1 and 4.7.3.
-fn topic_code(topic: &Result<TopicName, TopicFault>) -> Option<u8>
+fn topic_reason(topic: &Result<TopicName, TopicFault>) -> Option<ReasonCode>
     ensures { result ≡ topic_refusal topic.now }
 {
     match topic {
         Ok(_topic) => None,
         Err(TopicFault::NoMemory) => None,
-        Err(TopicFault::Empty) => Some(reason::PROTOCOL_ERROR),
-        Err(_fault) => Some(reason::TOPIC_NAME_INVALID),
+        Err(TopicFault::Empty) => Some(ReasonCode::ProtocolError),
+        Err(_fault) => Some(ReasonCode::TopicNameInvalid),
     }
 }
 
@@ -156,12 +156,12 @@ fn held_id(qos: Qos, id: Option<PacketId>) -> Option<PacketId>
 }
 
 /// The answer to a PUBLISH: none, a PUBACK or a PUBREC.
-fn acknowledged_by(qos: Qos, id: Option<PacketId>, code: u8) -> Option<Reply>
-    ensures { result ≡ acknowledged_by qos id code }
+fn acknowledged_by(qos: Qos, id: Option<PacketId>, reason: ReasonCode) -> Option<Reply>
+    ensures { result ≡ acknowledged_by qos id reason }
 {
     match qos {
         Qos::AtMostOnce => None,
-        Qos::AtLeastOnce => Some(Reply::Puback(id?, code)),
-        Qos::ExactlyOnce => Some(Reply::Pubrec(id?, code)),
+        Qos::AtLeastOnce => Some(Reply::Puback(id?, reason.code())),
+        Qos::ExactlyOnce => Some(Reply::Pubrec(id?, reason.code())),
     }
 }

@@ -4,19 +4,16 @@ ghost use Rattle.std.specs.Prelude.{◌≡◌, ◌≤◌, ◌⊎◌, ℕ, List, 
 ghost use Rattle.std.specs.List.{list_any};
 ghost use Rattle.rs_session.specs.Gate.{Grows, GrowsAnswering};
 ghost use Rattle.rs_session.specs.Subscriptions.{is_subscribed, replays};
-ghost use Rattle.rs_session.specs.Table.{LeadsTo, IsGranted, IsQueued, IsSubscribed, filter_code, is_shared, is_shared_local};
+ghost use Rattle.rs_session.specs.Table.{LeadsTo, IsGranted, IsQueued, IsSubscribed, filter_reason, is_shared, is_shared_local};
 
 use super::{Open, Outcome};
 use crate::gate::Gate;
 use crate::phase::Input;
-use crate::reason;
-use crate::subscriptions::Subscription;
+use crate::reason::ReasonCode;
+use crate::subscriptions::{MAX_SUBSCRIPTIONS, Subscription};
 use rs_packet::{Codes, Options, Packet, Reply, RetainHandling, Subscribe, SubscriptionId};
 use rs_topic::{TopicFault, TopicFilter};
 use std::alloc::Global;
-
-/// How many subscriptions a session may have.
-const SUBSCRIPTIONS_MAX: usize = 256;
 
 impl Open {
     pub(super) fn subscribe<G: Gate>(
@@ -30,10 +27,10 @@ impl Open {
             LeadsTo (Input.Whole (Packet.Subscribe s)) now self.old (G.mark gate.old) seen answered list (G.mark gate.new) result self.new) }
     {
         if any_shared_local(s.filters.as_slice()) {
-            return Outcome::Closes(reason::PROTOCOL_ERROR);
+            return Outcome::Closes(ReasonCode::ProtocolError);
         }
         let Ok(mut codes) = Vec::with_capacity(alloc, s.filters.len()) else {
-            return Outcome::Closes(reason::QUOTA_EXCEEDED);
+            return Outcome::Closes(ReasonCode::QuotaExceeded);
         };
         let Subscribe {
             id,
@@ -63,7 +60,7 @@ impl Open {
     {
         let (filter, options) = asked;
         match filter {
-            Err(fault) => filter_code(fault),
+            Err(fault) => filter_reason(fault).code(),
             Ok(filter) => {
                 let subscription = Subscription {
                     options,
@@ -77,7 +74,7 @@ impl Open {
                 if is_granted {
                     options.qos.level()
                 } else {
-                    reason::QUOTA_EXCEEDED
+                    ReasonCode::QuotaExceeded.code()
                 }
             }
         }
@@ -103,7 +100,7 @@ impl Open {
         self.subscriptions.insert(filter, kept).is_ok()
     }
 
-    /// A new subscription, which goes again where its replay is refused.
+    /// A new subscription, which is removed again if its replay is refused.
     fn add<G: Gate>(
         &mut self,
         alloc: Global,
@@ -117,7 +114,7 @@ impl Open {
             MatchBool result (IsSubscribed now filter subscription.options subscription.identifier list self.old self.new) (self.new ≡ self.old)) }
         ensures mark { G.mark gate.new ≡ G.mark gate.old }
     {
-        if self.subscriptions.len() >= SUBSCRIPTIONS_MAX {
+        if self.subscriptions.len() >= MAX_SUBSCRIPTIONS {
             return false;
         }
         let Ok(key) = own_copy(alloc, &filter) else {
@@ -134,8 +131,8 @@ impl Open {
         false
     }
 
-    /// Where Retain Handling says so, what the store answers waits behind the rest; otherwise nothing more
-    /// waits. Refused, all is as before.
+    /// If Retain Handling says so, what the store answers waits behind the rest; otherwise nothing more waits. Refused, all
+    /// is as before.
     fn replay<G: Gate>(
         &mut self,
         gate: &mut G,
@@ -195,12 +192,12 @@ fn is_shared_local(asked: &(Result<TopicFilter, TopicFault>, Options)) -> bool
 }
 
 /// The code of a filter that is no topic filter: section 3.9.3.
-fn filter_code(fault: TopicFault) -> u8
-    ensures { result ≡ filter_code fault }
+fn filter_reason(fault: TopicFault) -> ReasonCode
+    ensures { result ≡ filter_reason fault }
 {
     match fault {
-        TopicFault::Shared => reason::SHARED_SUBSCRIPTIONS_NOT_SUPPORTED,
-        TopicFault::NoMemory => reason::QUOTA_EXCEEDED,
-        _ => reason::TOPIC_FILTER_INVALID,
+        TopicFault::Shared => ReasonCode::SharedSubscriptionsNotSupported,
+        TopicFault::NoMemory => ReasonCode::QuotaExceeded,
+        _ => ReasonCode::TopicFilterInvalid,
     }
 }

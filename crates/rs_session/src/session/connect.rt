@@ -4,6 +4,7 @@ ghost use Rattle.std.specs.Prelude.{◌≡◌, ◌≤◌, ◌<◌, ℕ, List, []
 ghost use Rattle.rs_message.specs.declared.entry.Entry.{Entry};
 ghost use Rattle.rs_packet.specs.declared.reply.Reply.{Reply};
 ghost use Rattle.rs_session.specs.Gate.{Mark};
+ghost use Rattle.rs_session.specs.Reasons.{code_of};
 ghost use Rattle.rs_session.specs.State.{state_of, ended, within};
 ghost use Rattle.rs_session.specs.Steps.{IsAccepted, connect_refusal};
 ghost use Rattle.rs_session.specs.Table.{Answers, connack, open_for, packet_limit, receive_limit, is_longer, assigned_for};
@@ -13,7 +14,7 @@ use super::Session;
 use crate::gate::Gate;
 use crate::open::Open;
 use crate::phase::{Closing, Input, Phase};
-use crate::reason;
+use crate::reason::ReasonCode;
 use crate::session::within;
 use crate::subscriptions::Subscriptions;
 use rs_packet::{Accepted, Connect, Packet, PacketFault, Reply, encoded_len};
@@ -52,8 +53,9 @@ impl<G: Gate> Session<G> {
     {
         match fault {
             PacketFault::Version => {
-                self.due = Some(Reply::Refused(reason::UNSUPPORTED_PROTOCOL_VERSION));
-                self.end(Closing::ByServer(reason::UNSUPPORTED_PROTOCOL_VERSION));
+                let code = ReasonCode::UnsupportedProtocolVersion.code();
+                self.due = Some(Reply::Refused(code));
+                self.end(Closing::ByServer(code));
             }
             PacketFault::Malformed => self.end(Closing::Dropped),
             PacketFault::Protocol => self.end(Closing::Dropped),
@@ -69,13 +71,13 @@ impl<G: Gate> Session<G> {
         ensures gate { self.new.gate ≡ self.old.gate }
     {
         let limit = packet_limit(c);
-        if let Some(code) = refusal(c) {
-            self.refuse(code, limit);
+        if let Some(reason) = refusal(c) {
+            self.refuse(reason, limit);
             return;
         }
         match self.begin(c) {
             Ok((connack, begun)) => self.accept(connack, begun, limit),
-            Err(_) => self.refuse(reason::QUOTA_EXCEEDED, limit),
+            Err(_) => self.refuse(ReasonCode::QuotaExceeded, limit),
         }
     }
 
@@ -101,11 +103,12 @@ impl<G: Gate> Session<G> {
     }
 
     /// A CONNACK that refuses, to a client that takes it, and the end.
-    fn refuse(&mut self, code: u8, limit: u32)
-        ensures state { state_of self.new ≡ ended (state_of self.old) (Closing.ByServer code) }
-        ensures due { self.new.due ≡ within limit (Reply.Refused code) }
+    fn refuse(&mut self, reason: ReasonCode, limit: u32)
+        ensures state { state_of self.new ≡ ended (state_of self.old) (Closing.ByServer (code_of reason)) }
+        ensures due { self.new.due ≡ within limit (Reply.Refused (code_of reason)) }
         ensures gate { self.new.gate ≡ self.old.gate }
     {
+        let code = reason.code();
         self.due = within(limit, Reply::Refused(code));
         self.end(Closing::ByServer(code));
     }
@@ -137,7 +140,7 @@ impl<G: Gate> Session<G> {
         ensures gate { self.new.gate ≡ self.old.gate }
     {
         if encoded_len(&connack) > limit as usize {
-            self.end(Closing::ByServer(0));
+            self.end(Closing::ByServer(ReasonCode::Success.code()));
         } else {
             self.due = Some(connack);
             self.phase = Phase::Open(begun);
@@ -168,14 +171,14 @@ fn receive_limit(c: &Connect) -> u16
 }
 
 /// The Reason Code of a CONNECT that asks for what is not served.
-fn refusal(c: &Connect) -> Option<u8>
+fn refusal(c: &Connect) -> Option<ReasonCode>
     ensures { result ≡ connect_refusal (is_some c.now.method) c.now.will }
 {
     if c.method.is_some() {
-        return Some(reason::BAD_AUTHENTICATION_METHOD);
+        return Some(ReasonCode::BadAuthenticationMethod);
     }
     if c.will {
-        return Some(reason::IMPLEMENTATION_SPECIFIC_ERROR);
+        return Some(ReasonCode::ImplementationSpecificError);
     }
     None
 }

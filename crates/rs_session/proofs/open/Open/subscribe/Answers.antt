@@ -7,7 +7,7 @@ use Rattle.rs_packet.specs.declared.packet.Packet.TheVariants as packet
 use Rattle.rs_session.specs.declared.open.Outcome.TheVariants.{Closes}
 use Rattle.rs_session.specs.declared.phase.Input.TheVariants.{Whole}
 use Rattle.rs_session.specs.Gate.{Mark, StandsAt}
-use Rattle.rs_session.specs.Reasons.{protocol_error, quota_exceeded}
+use Rattle.rs_session.specs.declared.reason.ReasonCode.TheVariants.{ProtocolError, QuotaExceeded}
 use Rattle.rs_session.specs.Table.{LeadsTo, Grants, is_shared_local}
 use Rattle.rs_session.proofs.Rows.{unmoved, stood_more, grants_more, grants_grow, shared_refused, not_subscribed, subscribed, same_codes}
 use Rattle.rs_session.proofs.open.Open.subscribe.Goals as goal
@@ -16,14 +16,14 @@ pub returns-then-any_shared_local : goal.returns-then-any_shared_local
 returns-then-any_shared_local g c =
     let o = c.args.self.now in
     let same = c.as_slice.ensures.value ∙ ap (λ (v : SubscribeValue). v.filters) c.s.view_is in
-    unmoved g.G.Gate.stands g.G.Gate.mark c.args.gate.now c.args.gate.now (λ seen answered list used. LeadsTo (Whole (packet.Subscribe c.args.s)) c.args.now o (g.G.Gate.mark c.args.gate.now) seen answered list used (Closes protocol_error) o) refl
+    unmoved g.G.Gate.stands g.G.Gate.mark c.args.gate.now c.args.gate.now (λ seen answered list used. LeadsTo (Whole (packet.Subscribe c.args.s)) c.args.now o (g.G.Gate.mark c.args.gate.now) seen answered list used (Closes ProtocolError) o) refl
     (λ list. shared_refused c.args.s o c.args.now _ list (ap (λ (l : List Asked). list_any is_shared_local l) (sym same) ∙ sym c.if-any_shared_local.ensures))
 
 pub returns-in_default : goal.returns-in_default
 returns-in_default g c =
     let o = c.args.self.now in
     let same = c.as_slice.ensures.value ∙ ap (λ (v : SubscribeValue). v.filters) c.s.view_is in
-    unmoved g.G.Gate.stands g.G.Gate.mark c.args.gate.now c.args.gate.now (λ seen answered list used. LeadsTo (Whole (packet.Subscribe c.args.s)) c.args.now o (g.G.Gate.mark c.args.gate.now) seen answered list used (Closes quota_exceeded) o) refl
+    unmoved g.G.Gate.stands g.G.Gate.mark c.args.gate.now c.args.gate.now (λ seen answered list used. LeadsTo (Whole (packet.Subscribe c.args.s)) c.args.now o (g.G.Gate.mark c.args.gate.now) seen answered list used (Closes QuotaExceeded) o) refl
     (λ list. not_subscribed c.args.s o c.args.now _ list (ap (λ (l : List Asked). list_any is_shared_local l) (sym same) ∙ sym c.if-any_shared_local.ensures))
 
 pub filters-preserved : goal.filters-preserved

@@ -1,4 +1,4 @@
-use Rattle.std.proofs.Common.{◌≡◌, ◌∙◌, ◌+◌, ◌++◌, ◌∷◌, [], take, sym, ap, arith, List}
+use Rattle.std.proofs.Common.{◌≡◌, ◌∙◌, ◌+◌, ◌++◌, ◌∷◌, [], take, sym, ap, arith, ℕ, List}
 use Rattle.std.proofs.lemmas.List.{take_more, take_all}
 use Rattle.rs_packet.specs.Values.{Filter, UnsubscribeValue}
 use Rattle.rs_session.specs.declared.open.Open.{Open}
@@ -16,8 +16,8 @@ loop-filter-preserved c =
     let more : take (i + 1) items ≡ take i items ++ c.filter-item.result ∷ [] =
     take_more items i c.filter-item.result c.loop-filter-test.true ∙ ap (λ (a : Filter). take i items ++ a ∷ []) (sym c.filter-item.is) in
     record {
-      coded = removed_code (take i items) _ c.filter-item.result c.args.self.now c.loop-filter.self c.loop-filter.codes.items _ c.remove-code.result more c.loop-filter.invariant.coded c.loop-filter.invariant.removed c.remove-code.ensures.code c.push_reserved.ensures.items;
-      removed = removed_all (take i items) _ c.filter-item.result c.args.self.now c.loop-filter.self _ more c.loop-filter.invariant.removed c.remove-code.ensures.removed;
+      coded = removed_code (take i items) _ c.filter-item.result c.args.self.now c.loop-filter.self c.loop-filter.codes.items _ c.remove-reason.result more c.loop-filter.invariant.coded c.loop-filter.invariant.removed c.remove-reason.ensures.code (c.push_reserved.ensures.items ∙ ap (λ (n : ℕ). c.loop-filter.codes.items ++ n ∷ []) c.code.ensures);
+      removed = removed_all (take i items) _ c.filter-item.result c.args.self.now c.loop-filter.self _ more c.loop-filter.invariant.removed c.remove-reason.ensures.removed;
       count = omega arith;
       room = omega arith;
     }

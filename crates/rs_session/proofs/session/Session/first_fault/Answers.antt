@@ -1,9 +1,13 @@
-use Rattle.std.proofs.Common.{◌∙◌}
+use Rattle.std.proofs.Common.{ℕ, Some, ap, ◌∙◌}
+use Rattle.rs_packet.specs.declared.reply.Reply.TheVariants as reply
+use Rattle.rs_session.specs.State.{ended, state_of}
+use Rattle.rs_session.specs.declared.phase.Closing.TheVariants.{ByServer}
 use Rattle.rs_session.proofs.Rows.{unexpected_fault, other_version}
 use Rattle.rs_session.proofs.session.Session.first_fault.Goals as goal
 
 pub returns-in-Version-clause-row : goal.returns-in-Version-clause-row
-returns-in-Version-clause-row g c = other_version c.args.fault _ _ _ c.in-Version.is c.requires.before c.end.ensures.due c.end.ensures.state
+returns-in-Version-clause-row g c = other_version c.args.fault _ _ _ c.in-Version.is c.requires.before (c.end.ensures.due ∙ ap (λ (n : ℕ). Some (reply.Refused n)) c.code-code.ensures)
+    (c.end.ensures.state ∙ ap (λ (n : ℕ). ended (state_of c.args.self.now) (ByServer n)) c.code-code.ensures)
 
 pub returns-in-Malformed-clause-row : goal.returns-in-Malformed-clause-row
 returns-in-Malformed-clause-row g c = unexpected_fault c.args.fault _ _ _ _ c.in-Malformed.is tt c.requires.before (c.end-in-Malformed.ensures.due ∙ c.requires.due) c.end-in-Malformed.ensures.state

@@ -13,8 +13,8 @@ returns-clause-row g c =
     elim c.match-self.branch [
       | in-Before w ↦ stays g.G.Gate.stands g.G.Gate.mark (Whole c.args.packet) now old w.first_packet.new.self c.match-self.self w.self-is w.first_packet.ensures.gate (λ list. w.first_packet.ensures.row now mark list)
       | in-Open w ↦
-          took g.G.Gate.stands g.G.Gate.mark (Whole c.args.packet) now old w.conclude.new.self c.match-self.self w.in-Open.open w.take-outcome.new.self w.take-outcome.new.gate w.take-outcome.result _ w.self-is w.conclude.ensures.gate w.in-Open.is w.packet_maximum-limit.ensures w.conclude.ensures.due
-          (w.conclude.ensures.state w.take-outcome.new.self refl ∙ after_same w.take-outcome.result _ (state_of old) w.take-outcome.new.self refl)
-          w.take-outcome.ensures
+          took g.G.Gate.stands g.G.Gate.mark (Whole c.args.packet) now old w.conclude.new.self c.match-self.self w.in-Open.open w.handle-outcome.new.self w.handle-outcome.new.gate w.handle-outcome.result _ w.self-is w.conclude.ensures.gate w.in-Open.is w.packet_maximum-limit.ensures w.conclude.ensures.due
+          (w.conclude.ensures.state w.handle-outcome.new.self refl ∙ after_same w.handle-outcome.result _ (state_of old) w.handle-outcome.new.self refl)
+          w.handle-outcome.ensures
       | in-Ended w ↦ stays g.G.Gate.stands g.G.Gate.mark (Whole c.args.packet) now old old c.match-self.self w.self-is refl (λ list. over _ (state_of old) (state_of old) _ now mark list _ w.in-Ended.is c.requires refl)
     ]

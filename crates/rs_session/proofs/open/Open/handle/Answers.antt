@@ -1,17 +1,17 @@
 use Rattle.std.proofs.Common.{refl, sym, subst, Some, []}
 use Rattle.rs_packet.specs.declared.packet.Packet.{Packet}
 use Rattle.rs_packet.specs.declared.reply.Reply.TheVariants as reply
-use Rattle.rs_session.specs.Reasons.{protocol_error}
+use Rattle.rs_session.specs.declared.reason.ReasonCode.TheVariants.{ProtocolError}
 use Rattle.rs_session.specs.declared.open.Outcome.TheVariants.{Replies, Closes, Leaves}
 use Rattle.rs_session.specs.declared.phase.Input.TheVariants.{Whole}
 use Rattle.rs_session.specs.Table.{LeadsTo}
 use Rattle.rs_session.proofs.Rows.{unmoved, connected_twice, pinged, disconnected}
-use Rattle.rs_session.proofs.open.Open.take.Goals as goal
+use Rattle.rs_session.proofs.open.Open.handle.Goals as goal
 
 pub returns-in-Connect : goal.returns-in-Connect
 returns-in-Connect g c =
     let o = c.args.self.now in
-    unmoved g.G.Gate.stands g.G.Gate.mark c.args.gate.now c.args.gate.now (λ seen answered list used. LeadsTo (Whole c.args.packet) c.args.now o (g.G.Gate.mark c.args.gate.now) seen answered list used (Closes protocol_error) o) refl
+    unmoved g.G.Gate.stands g.G.Gate.mark c.args.gate.now c.args.gate.now (λ seen answered list used. LeadsTo (Whole c.args.packet) c.args.now o (g.G.Gate.mark c.args.gate.now) seen answered list used (Closes ProtocolError) o) refl
     (λ list. connected_twice c.args.packet c.in-Connect._c o c.args.now _ list c.in-Connect.is)
 
 pub returns-in-Puback : goal.returns-in-Puback
