@@ -3,7 +3,7 @@ use Rattle.std.proofs.Common.{◌≡◌, ℕ, suc, List, [], ◌∷◌, ◌++◌
 use Rattle.std.proofs.lemmas.List.{map-append, flat_map_more}
 use Rattle.std.proofs.KnownBytes.{Consumes-trans, Appends-trans, Appends-nil, Consumes-nil}
 use Rattle.std.specs.Io.KnownBytes.{Appends, Consumes, IsAtEnd}
-use Rattle.rs_packet.proofs.Fronts.{fault_stays}
+use Rattle.rs_packet.proofs.Prefixes.{fault_stays}
 use Rattle.rs_packet.specs.declared.reply.Reply.{Reply}
 use Rattle.rs_message.specs.declared.entry.Entry.{Entry}
 use Rattle.rs_session.specs.declared.phase.Input.{Input}
@@ -18,7 +18,7 @@ use Rattle.rs_server.specs.declared.writing.ServeFault.{ServeFault}
 use Rattle.rs_server.specs.declared.writing.ServeFault.TheVariants.{Read, Write, NoMemory}
 use Rattle.rs_server.specs.Clock.{TellsAll, Told, Tells}
 use Rattle.rs_server.specs.Writing.{Writes, AppendsFront, all_reply_bytes}
-use Rattle.rs_server.specs.Conversation.{InputsOf, inputs_of, moments_of, replies_of, point_at, start, AppendsReplies, AppendsIntoLast, WritesTurns, Conversation, TakesTurn, IsFront, IsReadCause, IsConnection, Ends}
+use Rattle.rs_server.specs.Conversation.{InputsOf, inputs_of, moments_of, replies_of, point_at, start, AppendsReplies, AppendsIntoLast, WritesTurns, Conversation, TakesTurn, TakesInput, IsReadCause, IsConnection, Ends}
 
 -- ---- the clock
 
@@ -46,11 +46,11 @@ inputs_with_more (Whole p ∷ inputs) bytes held more (text, rest, e, s, h) =
 inputs_with_more (Broken f ∷ inputs) bytes held more (a, h) = (fault_stays f bytes more a, inputs_with_more inputs bytes held more h)
 
 -- the input at the front of what is held comes next
-front_inputs : (input : Input) (old new : List ℕ) → IsFront old (Some input) new → InputsOf (input ∷ []) old new
+front_inputs : (input : Input) (old new : List ℕ) → TakesInput old (Some input) new → InputsOf (input ∷ []) old new
 front_inputs (Whole p) old new (n, a, s, e) = (take n old, drop n old, sym (take-append-drop n old), s, sym e)
 front_inputs (Broken f) old new (a, e) = (a, sym e)
 
-pub inputs_with_next : (inputs : List Input) (input : Input) (bytes old new : List ℕ) → InputsOf inputs bytes old → IsFront old (Some input) new → InputsOf (inputs ++ input ∷ []) bytes new
+pub inputs_with_next : (inputs : List Input) (input : Input) (bytes old new : List ℕ) → InputsOf inputs bytes old → TakesInput old (Some input) new → InputsOf (inputs ++ input ∷ []) bytes new
 inputs_with_next [] input bytes old new e f = subst (λ (l : List ℕ). InputsOf (input ∷ []) l new) (sym e) (front_inputs input old new f)
 inputs_with_next (Whole p ∷ inputs) input bytes old new (text, rest, e, s, h) f = (text, rest, e, s, inputs_with_next inputs input rest old new h f)
 inputs_with_next (Broken x ∷ inputs) input bytes old new (a, h) f = (a, inputs_with_next inputs input bytes old new h f)
@@ -95,7 +95,7 @@ writes_turn (Err NoMemory) a b c turns turn p q = front_written a b c turns turn
 
 -- a conversation goes on by one turn
 pub conversation_turn : {T : Type 0} (from : Point) (stands_at : Mark → List Entry → Type 0) (s1 s2 : List Entry → Type 0) (m1 m2 : Mark) (st1 st2 : State) (consumed : List ℕ → Type 0) (held1 held2 : List ℕ) (told c1 c2 : Option (ℕ → ℕ)) (r : Result T ServeFault) (wrote w1 w2 : Option (List ℕ)) (input : Input) (now : ℕ)
-    → IsFront held1 (Some input) held2 → Tells c1 c2 now
+    → TakesInput held1 (Some input) held2 → Tells c1 c2 now
     → ((seen : List Entry) → s1 seen → TakesTurn (point_at st1 seen m1) input now stands_at s2 m2 st2 (Writes r w1 w2))
     → Conversation from stands_at s1 m1 st1 consumed held1 (Told told c1) (AppendsReplies wrote w1)
     → Conversation from stands_at s2 m2 st2 consumed held2 (Told told c2) (WritesTurns r wrote w2)
@@ -172,7 +172,7 @@ conversation_as T U f from stands_at stands mark state consumed held told a b t 
 
 -- a turn, where the fault is given on in a result of another type
 pub conversation_turn_err : (T U : Type 0) (from : Point) (stands_at : Mark → List Entry → Type 0) (s1 s2 : List Entry → Type 0) (m1 m2 : Mark) (st1 st2 : State) (consumed : List ℕ → Type 0) (held1 held2 : List ℕ) (told c1 c2 : Option (ℕ → ℕ)) (f : ServeFault) (wrote w1 w2 : Option (List ℕ)) (input : Input) (now : ℕ)
-    → IsFront held1 (Some input) held2 → Tells c1 c2 now
+    → TakesInput held1 (Some input) held2 → Tells c1 c2 now
     → ((seen : List Entry) → s1 seen → TakesTurn (point_at st1 seen m1) input now stands_at s2 m2 st2 (Writes {T = T} (Err f) w1 w2))
     → Conversation from stands_at s1 m1 st1 consumed held1 (Told told c1) (AppendsReplies wrote w1)
     → Conversation from stands_at s2 m2 st2 consumed held2 (Told told c2) (WritesTurns {T = U} (Err f) wrote w2)

@@ -1,20 +1,20 @@
 -- The inputs of a list of bytes are determined.
 use Rattle.std.proofs.Common.{◌≡◌, ℕ, List, [], ◌∷◌, ◌++◌, refl, sym, subst, ap, ◌∙◌, append_assoc, inl, inr, ◌⊎◌, Result, Err}
 use Rattle.std.proofs.lemmas.List.{append_cancel_left}
-use Rattle.rs_packet.specs.Grammar.{Spells}
-use Rattle.rs_packet.specs.Fronts.{IsFaulty}
+use Rattle.rs_packet.specs.Grammar.{Encodes}
+use Rattle.rs_packet.specs.Prefixes.{IsFaulty}
 use Rattle.rs_packet.specs.PacketReading.{answer}
 use Rattle.rs_packet.specs.declared.packet.Decoded.{Decoded}
 use Rattle.rs_packet.specs.declared.packet.Packet.{Packet}
-use Rattle.rs_field.specs.declared.fault.PacketFault.{PacketFault}
-use Rattle.rs_field.specs.declared.fault.PacketFault.TheVariants as faults
-use Rattle.rs_packet.proofs.Fronts.{one_spelling, no_fault, fault_stays}
+use Rattle.rs_packet.specs.Faults.{PacketFault}
+use Rattle.rs_packet.specs.Faults as faults
+use Rattle.rs_packet.proofs.Prefixes.{one_encoding, no_fault, fault_stays}
 use Rattle.rs_session.specs.declared.phase.Input.{Input}
 use Rattle.rs_session.specs.declared.phase.Input.TheVariants.{Whole, Broken}
 use Rattle.rs_server.specs.Conversation.{InputsOf, Agree}
 
 -- a fault where a packet stands is want of memory
-only_memory : (text rest x same y : List ℕ) (p : Packet) (f : PacketFault) → Spells text p → IsFaulty same f → (text ++ rest) ++ x ≡ same ++ y → f ≡ faults.NoMemory
+only_memory : (text rest x same y : List ℕ) (p : Packet) (f : PacketFault) → Encodes text p → IsFaulty same f → (text ++ rest) ++ x ≡ same ++ y → f ≡ faults.NoMemory
 only_memory text rest x same y p f s h e =
     no_fault text (rest ++ x) p f s (subst (λ (l : List ℕ). IsFaulty l f) (sym e ∙ append_assoc text rest x) (fault_stays f same y h))
 
@@ -45,7 +45,7 @@ inputs_agree [] others bytes held same kept x y h k e = tt
 inputs_agree (input ∷ inputs) [] bytes held same kept x y h k e = tt
 inputs_agree (Whole p ∷ inputs) (Whole q ∷ others) bytes held same kept x y (text, rest, a, s, h) (text', rest', b, t, k) e =
     let joined : text ++ (rest ++ x) ≡ text' ++ (rest' ++ y) = sym (append_assoc text rest x) ∙ sym (ap (λ (l : List ℕ). l ++ x) a) ∙ e ∙ ap (λ (l : List ℕ). l ++ y) b ∙ append_assoc text' rest' y in
-    let one = one_spelling text text' (rest ++ x) (rest' ++ y) p q s t joined in
+    let one = one_encoding text text' (rest ++ x) (rest' ++ y) p q s t joined in
     (one.1, inputs_agree inputs others rest held rest' kept x y h k (append_cancel_left text (rest ++ x) (rest' ++ y) (joined ∙ sym (ap (λ (l : List ℕ). l ++ (rest' ++ y)) one.0))))
 inputs_agree (Whole p ∷ inputs) (Broken f ∷ others) bytes held same kept x y (text, rest, a, s, h) (b, k) e =
     only_memory text rest x same y p f s b (sym (ap (λ (l : List ℕ). l ++ x) a) ∙ e)

@@ -3,9 +3,9 @@ use Rattle.std.specs.Prelude.{◌⊎◌, ◌≡◌, ◌≢◌, ℕ, ◌<◌, ◌
 use Rattle.std.specs.List.{flat_map}
 use Rattle.std.specs.Io.KnownBytes.{Consumes, Appends, IsAtEnd}
 use Rattle.std.specs.Fmt.{decimal}
-use Rattle.rs_packet.specs.Grammar.{Spells}
-use Rattle.rs_packet.specs.Fronts.{IsMore, IsFaulty}
-use Rattle.rs_field.specs.declared.fault.PacketFault.TheVariants as faults
+use Rattle.rs_packet.specs.Grammar.{Encodes}
+use Rattle.rs_packet.specs.Prefixes.{IsMore, IsFaulty}
+use Rattle.rs_packet.specs.Faults as faults
 use Rattle.rs_message.specs.declared.entry.Entry.{Entry}
 use Rattle.rs_session.specs.declared.phase.Input.{Input}
 use Rattle.rs_session.specs.declared.phase.Input.TheVariants.{Whole, Broken}
@@ -25,7 +25,7 @@ use Rattle.rs_server.specs.Writing.{all_reply_bytes}
 -- These bytes are the inputs, one after the other, and then what is held. A fault takes no byte.
 abbrev pub InputsOf : List Input → List ℕ → List ℕ → Type 0
 InputsOf [] bytes held = bytes ≡ held
-InputsOf (Whole packet ∷ inputs) bytes held = (text : List ℕ) × (rest : List ℕ) × (bytes ≡ text ++ rest) × Spells text packet × InputsOf inputs rest held
+InputsOf (Whole packet ∷ inputs) bytes held = (text : List ℕ) × (rest : List ℕ) × (bytes ≡ text ++ rest) × Encodes text packet × InputsOf inputs rest held
 InputsOf (Broken fault ∷ inputs) bytes held = IsFaulty bytes fault × InputsOf inputs bytes held
 
 -- The inputs are the same as far as both go, up to the first fault. Want of memory may stand in the place
@@ -39,10 +39,10 @@ Agree (Broken fault ∷ inputs) (Whole q ∷ others) = fault ≡ faults.NoMemory
 Agree (Broken fault ∷ inputs) (Broken other ∷ others) = (fault ≡ faults.NoMemory) ⊎ ((other ≡ faults.NoMemory) ⊎ (fault ≡ other))
 
 -- the input at the front of what is held, and what is held without it
-abbrev pub IsFront : List ℕ → Option Input → List ℕ → Type 0
-IsFront old None new = IsMore old × (new ≡ old)
-IsFront old (Some (Whole packet)) new = (n : ℕ) × (n ≤ length old) × Spells (take n old) packet × (new ≡ drop n old)
-IsFront old (Some (Broken fault)) new = IsFaulty old fault × (new ≡ old)
+abbrev pub TakesInput : List ℕ → Option Input → List ℕ → Type 0
+TakesInput old None new = IsMore old × (new ≡ old)
+TakesInput old (Some (Whole packet)) new = (n : ℕ) × (n ≤ length old) × Encodes (take n old) packet × (new ≡ drop n old)
+TakesInput old (Some (Broken fault)) new = IsFaulty old fault × (new ≡ old)
 
 -- ---- the run
 

@@ -1,12 +1,5 @@
 pub mod Clock
 pub mod Moments
 pub mod Counts
-pub mod HexLines
 pub mod Writing
 pub mod Conversation
-pub mod OwnStores
-pub mod Memory
-pub mod Statuses
-pub mod Piping
-pub mod CommandLine
-pub mod HexStreams

@@ -1,9 +1,9 @@
-//! One connection.
+//! One connection: packets are read, and the session's replies are written.
 
 ghost use Rattle.std.specs.Prelude.{◌≡◌, ◌<◌, ◌-◌, ◌^◌, ◌++◌, ℕ, Option, List, None, Some, IfOk};
 ghost use Rattle.std.specs.Io.KnownBytes.{Consumes, IsAtEnd};
 ghost use Rattle.rs_message.specs.declared.entry.Entry.{Entry};
-ghost use Rattle.rs_packet.specs.Grammar.{IsAtFront};
+ghost use Rattle.rs_packet.specs.Grammar.{HasPrefix};
 ghost use Rattle.rs_packet.specs.PacketReading.{Gives, answer};
 ghost use Rattle.rs_session.specs.Gate.{StandsAt};
 ghost use Rattle.rs_session.specs.State.{state_of, due_of, gate_of, closing_of, State};
@@ -11,18 +11,27 @@ ghost use Rattle.rs_session.specs.Run.{Point};
 ghost use Rattle.rs_server.specs.Clock.{Told};
 ghost use Rattle.rs_server.specs.Counts.{inner_of, failures_of};
 ghost use Rattle.rs_server.specs.Writing.{IsWriteCause, Writes};
-ghost use Rattle.rs_server.specs.Conversation.{IsFront, TakesTurn, Closes, Causes, Conversation, AppendsReplies, WritesTurns, IsConnection, IsReadCause, IsEnd, assigned_of, start, point_at, served_as};
+ghost use Rattle.rs_server.specs.Conversation.{TakesInput, TakesTurn, Closes, Causes, Conversation, AppendsReplies, WritesTurns, IsConnection, IsReadCause, IsEnd, assigned_of, start, point_at, served_as};
 
 use crate::assigned::assigned_client;
 use crate::clock::Clock;
 use crate::counted::Counted;
 use crate::writing::{ServeFault, write_replies};
 use bytes::{Bytes, BytesMut};
-use rs_packet::{Decoded, PacketFault, decode, front_len};
+use rs_packet::{Decoded, PacketFault, decode, needed_len};
 use rs_session::{Closing, Gate, Input, Session};
 use std::alloc::Global;
 use std::io::{Read, Write};
 use std::sync::Wait;
+
+/// Which connection of the server this is.
+#[derive(Clone, Copy, Debug, PartialEq, Eq)]
+pub struct ConnectionId {
+    /// The place that serves it, 1 to 64.
+    pub place: u8,
+    /// Its number among the connections of its place, from 1.
+    pub number: u64,
+}
 
 /// How a connection ended.
 #[derive(Clone, Copy, Debug, PartialEq, Eq)]
@@ -33,41 +42,43 @@ pub enum Served {
     EndOfInput,
     /// The input ended inside a packet.
     CutInput,
-    /// A DISCONNECT or a CONNACK with this Reason Code was due. It was not sent only where the client's
-    /// Maximum Packet Size forbids it.
+    /// A DISCONNECT or a CONNACK with this Reason Code was due. It was sent unless it exceeds the client's
+    /// Maximum Packet Size (3.1.2.11.4).
     ServerClosed(u8),
     /// The server ended the connection without such a reply.
     Dropped,
 }
 
-/// The room for one read, in bytes.
+/// How many bytes one read may give.
 const READ_ROOM: usize = 8192;
 
 /// Serves one connection: reads packets and writes the session's replies, each of which is flushed, until
 /// the session or the input ends.
 ///
-/// `number` counts the connections at `place` from 1; both name a client that gives no identifier. The
-/// clock is asked once for each packet, and once for a fault. The gate comes back in every case.
+/// A client that gives no identifier is assigned one that names the place and the number of `id`
+/// (3.2.2.3.7). The clock is asked once for each packet, and once for a fault. The gate is returned in
+/// every case.
 ///
-/// It is broken off by [`ServeFault`] where the reader failed, where the writer failed or took nothing, or
-/// where memory was refused. No packet is handled after one whose replies were written only in part. Both
-/// counts of failures have to be below the greatest u64.
+/// # Errors
+///
+/// [`ServeFault`], if the reader fails, if the writer fails or takes nothing, or if memory is refused. No
+/// packet is handled after one whose replies were written only in part. Both counts of failures must be
+/// below [`u64::MAX`].
 pub fn serve<H: Wait, R: Read, W: Write, G: Gate, C: Clock>(
     rt: &H,
     alloc: Global,
     reader: &mut Counted<R>,
     writer: &mut Counted<W>,
     gate: G,
-    number: u64,
-    place: u8,
+    id: ConnectionId,
     clock: &mut C,
 ) -> (Result<Served, ServeFault>, G)
     requires reader_room { failures_of reader.old < 2 ^ 64 - 1 }
     requires writer_room { failures_of writer.old < 2 ^ 64 - 1 }
 
-    // What was written are the replies of a session over the packets that the bytes read spell.
+    // What was written are the replies of a session to the packets that the bytes read encode.
     ensures conversation { (seen : List Entry) → G.stands gate seen
-        → IsConnection (start (assigned_of place number) seen (G.mark gate)) (StandsAt G.stands G.mark) (G.stands result.1) (G.mark result.1)
+        → IsConnection (start (assigned_of id.place id.number) seen (G.mark gate)) (StandsAt G.stands G.mark) (G.stands result.1) (G.mark result.1)
         (Told (C.moments clock.old) (C.moments clock.new))
         (R.remaining (inner_of reader.old)) (R.remaining (inner_of reader.new))
         (W.contents (inner_of writer.old)) (W.contents (inner_of writer.new)) result.0 }
@@ -76,7 +87,7 @@ pub fn serve<H: Wait, R: Read, W: Write, G: Gate, C: Clock>(
     ensures cause { Causes result.0 (failures_of reader.old) (failures_of reader.new)
         (failures_of writer.old) (failures_of writer.new) }
 {
-    let Ok(assigned) = assigned_client(alloc, place, number) else {
+    let Ok(assigned) = assigned_client(alloc, id) else {
         return (Err(ServeFault::NoMemory), gate);
     };
     let mut session = Session::new(alloc, gate, assigned);
@@ -91,7 +102,7 @@ pub fn serve<H: Wait, R: Read, W: Write, G: Gate, C: Clock>(
     unreachable!()
 }
 
-/// One input and all that is replied to it, or one read.
+/// Handles one input and writes all replies to it, or reads once.
 fn serve_once<R: Read, W: Write, G: Gate, C: Clock>(
     alloc: Global,
     reader: &mut Counted<R>,
@@ -105,7 +116,7 @@ fn serve_once<R: Read, W: Write, G: Gate, C: Clock>(
     requires none_due { due_of session.old ≡ None }
     requires goes_on { closing_of (state_of session.old).phase ≡ None }
 
-    // What was so before goes on.
+    // Extends every conversation that led to the state before.
     ensures conversation { (from : Point) (read wrote : Option (List ℕ)) (told : Option (ℕ → ℕ))
         → Conversation from (StandsAt G.stands G.mark) (G.stands (gate_of session.old)) (G.mark (gate_of session.old)) (state_of session.old)
         (Consumes read (R.remaining (inner_of reader.old))) held.old.items
@@ -130,11 +141,11 @@ fn serve_once<R: Read, W: Write, G: Gate, C: Clock>(
     }
 }
 
-/// The input at the front, which is taken off. None where less than a packet is held.
+/// Removes the first input from what is held. None if less than a packet is held.
 fn next_input(alloc: Global, held: &mut BytesMut) -> Option<Input>
-    ensures { IsFront held.old.items result held.new.items }
+    ensures { TakesInput held.old.items result held.new.items }
 {
-    let size = front_len(held.as_slice());
+    let size = needed_len(held.as_slice());
     if held.len() < size {
         return None;
     }
@@ -148,16 +159,16 @@ fn next_input(alloc: Global, held: &mut BytesMut) -> Option<Input>
     }
 }
 
-/// The packet, in bytes of its own, so that a message that is kept holds no more than its packet.
+/// Decodes the packet from bytes of its own, so that a kept message holds no more than its packet.
 fn decode_copy(alloc: Global, packet: &[u8]) -> Result<Decoded, PacketFault>
-    ensures found { IfOk result (λ d. IsAtFront packet.now d) }
+    ensures found { IfOk result (λ d. HasPrefix packet.now d) }
     ensures exact { Gives (λ d. d) result (answer packet.now) }
 {
     let bytes = Bytes::copy_from_slice(alloc, packet)?;
     decode(alloc, &bytes)
 }
 
-/// One read behind what is held.
+/// Reads once and appends to what is held.
 fn read_more<R: Read>(
     reader: &mut Counted<R>,
     held: &mut BytesMut,
@@ -183,7 +194,7 @@ fn read_more<R: Read>(
     Ok(Some(Served::CutInput))
 }
 
-/// One turn of the session: an input at its moment, and all that is replied to it.
+/// One turn of the session: hands over an input and writes all replies to it.
 fn take_turn<G: Gate, W: Write>(
     alloc: Global,
     session: &mut Session<G>,
@@ -201,12 +212,12 @@ fn take_turn<G: Gate, W: Write>(
     ensures due { due_of session.new ≡ None }
     ensures cause { IsWriteCause result (failures_of writer.old) (failures_of writer.new) }
 {
-    // Whether it goes on is asked once its last reply is written.
+    // Whether the session goes on is asked after its last reply is written.
     let _step = session.on_input(input, now);
     write_replies(alloc, session, writer, now)
 }
 
-/// How a session that ended so was served.
+/// How the connection of a session with this closing ended.
 fn outcome(closing: Option<Closing>) -> Option<Served>
     ensures { result ≡ served_as closing }
 {

@@ -1,69 +1,35 @@
 mod counted;
-mod faults;
 mod gate;
-mod lines;
-mod refusals;
+mod handed;
+mod long;
 mod streams;
 
-use crate::words::{Run, WordsFault, read_words};
-use std::alloc::Global;
+use crate::writing::ServeFault;
 use std::test::Fail;
 
-// What the words of a line ask for.
-fn read(alloc: Global, line: &str) -> Result<Result<Run, WordsFault>, Fail> {
-    let mut words = Vec::new(alloc);
-    for word in line.split_whitespace() {
-        words.push(String::from_str(alloc, word)?)?;
-    }
-    Ok(read_words(alloc, words.as_slice()))
-}
-
 #[test]
-fn words_ask_for_a_pipe(rt: HostRuntime) -> Result<(), Fail> {
-    let alloc = rt.alloc();
-    let hex = read(alloc, "pipe --hex --at 7")?.ok();
-    assert!(rt; hex == Some(Run::Pipe { hex: true, at: 7 }));
-    let raw = read(alloc, "pipe --at 18446744073709551615")?.ok();
-    assert!(rt;
-        raw == Some(Run::Pipe {
-            hex: false,
-            at: u64::MAX
-        })
-    );
-    let plus = read(alloc, "pipe --at +007")?.ok();
-    assert!(rt; plus == Some(Run::Pipe { hex: false, at: 7 }));
-    Ok(())
-}
-
-#[test]
-fn words_are_refused(rt: HostRuntime) -> Result<(), Fail> {
-    let refused = [
-        "",
-        "pipe",
-        "pipe --at",
-        "pipe --at x",
-        "pipe --at -1",
-        "pipe --at 18446744073709551616",
-        "pipe --hex",
-        "pipe --at 1 more",
-        "listen",
+fn faults_have_a_code_and_a_text(rt: HostRuntime) -> Result<(), Fail> {
+    let faults = [
+        (
+            ServeFault::Read,
+            60,
+            "reading from the client failed; check the connection",
+        ),
+        (
+            ServeFault::Write,
+            61,
+            "writing to the client failed; check that it still reads",
+        ),
+        (
+            ServeFault::NoMemory,
+            62,
+            "out of memory to serve the connection; try again with fewer clients",
+        ),
     ];
-    for line in refused {
-        let status = read(rt.alloc(), line)?.err().map(|fault| fault.status());
-        assert_eq!(rt; status, Some(2), "{line}");
-    }
-    Ok(())
-}
-
-#[test]
-fn help_is_shown(rt: HostRuntime) -> Result<(), Fail> {
-    for line in ["--help", "pipe --help"] {
-        let text = match read(rt.alloc(), line)? {
-            Err(WordsFault::Help(text)) => text,
-            Err(_fault) => String::new(rt.alloc()),
-            Ok(_run) => String::new(rt.alloc()),
-        };
-        assert!(rt; text.as_str().contains("Usage: rstored"), "{line}");
+    for (fault, code, text) in faults {
+        assert_eq!(rt; fault.code(), code);
+        let found = format!(in rt.alloc(); "{fault}")?;
+        assert_eq!(rt; found.as_str(), text);
     }
     Ok(())
 }

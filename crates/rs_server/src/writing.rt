@@ -25,7 +25,7 @@ pub enum ServeFault {
     #[error("writing to the client failed; check that it still reads")]
     Write,
     /// Memory was refused.
-    #[error("there was no memory to serve the connection; try again with fewer clients")]
+    #[error("out of memory to serve the connection; try again with fewer clients")]
     NoMemory,
 }
 

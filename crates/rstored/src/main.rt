@@ -4,5 +4,5 @@
 use std::process::ExitCode;
 
 fn main(rt: HostRuntime) -> ExitCode {
-    ExitCode::from(rs_server::run(&rt, rt.stdin(), rt.stdout()))
+    ExitCode::from(rs_program::run(&rt, rt.stdin(), rt.stdout()))
 }

@@ -1,6 +1,6 @@
 use super::gate::FULL;
 use crate::clock::Moments;
-use crate::connection::{Served, serve};
+use crate::connection::{ConnectionId, Served, serve};
 use crate::counted::Counted;
 use crate::writing::ServeFault;
 use std::alloc::Global;
@@ -85,7 +85,11 @@ fn run<H: Wait>(rt: &H, alloc: Global, slow: Slow, room: usize) -> Outcome {
         flushed_at: Vec::new(alloc),
     });
     let mut clock = Moments::new(0, Vec::new(alloc));
-    let (served, _gate) = serve(rt, alloc, &mut reader, &mut writer, FULL, 1, 1, &mut clock);
+    let id = ConnectionId {
+        place: 1,
+        number: 1,
+    };
+    let (served, _gate) = serve(rt, alloc, &mut reader, &mut writer, FULL, id, &mut clock);
     let failures = (reader.failures(), writer.failures());
     let Narrow {
         bytes,

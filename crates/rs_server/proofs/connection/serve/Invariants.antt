@@ -12,7 +12,7 @@ use Rattle.rs_server.proofs.connection.serve.Given as goal
 abbrev pub invariant-turns : goal.invariant-turns
 invariant-turns g l =
     record {
-      conversation : (seen : List Entry) → g.G.Gate.stands l.fn.gate seen → Conversation (start (assigned_of l.fn.place l.fn.number) seen (g.G.Gate.mark l.fn.gate)) (StandsAt g.G.Gate.stands g.G.Gate.mark) (g.G.Gate.stands (gate_of l.session)) (g.G.Gate.mark (gate_of l.session)) (state_of l.session)
+      conversation : (seen : List Entry) → g.G.Gate.stands l.fn.gate seen → Conversation (start (assigned_of l.fn.id.place l.fn.id.number) seen (g.G.Gate.mark l.fn.gate)) (StandsAt g.G.Gate.stands g.G.Gate.mark) (g.G.Gate.stands (gate_of l.session)) (g.G.Gate.mark (gate_of l.session)) (state_of l.session)
           (Consumes (g.R.Read.remaining (inner_of l.initial.reader)) (g.R.Read.remaining (inner_of l.reader))) l.held.items
           (Told (g.C.Clock.moments l.initial.clock) (g.C.Clock.moments l.clock))
           (AppendsReplies (g.W.Write.contents (inner_of l.initial.writer)) (g.W.Write.contents (inner_of l.writer)));

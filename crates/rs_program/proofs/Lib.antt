@@ -1,0 +1,2 @@
+pub mod Submits
+pub mod OwnStores

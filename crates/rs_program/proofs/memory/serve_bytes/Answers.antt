@@ -1,0 +1,37 @@
+use Rattle.std.proofs.Common.{sym, ◌∙◌, ◌++◌, [], List, ℕ, ap, subst}
+use Rattle.std.specs.declared.vec.Vec.{Vec}
+use Rattle.std.specs.declared.alloc.Global.{Global}
+use Rattle.rs_session.specs.Gate.{Mark}
+use Rattle.rs_session.specs.Local.{local_mark}
+use Rattle.rs_session.specs.Run.{Run}
+use Rattle.rs_server.specs.Conversation.{start, assigned_of, point_at, replies_of}
+use Rattle.rs_server.specs.Moments.{told_by}
+use Rattle.rs_program.specs.OwnStores.{content_of}
+use Rattle.rs_session.proofs.Runs.{of_gate_weaker}
+use Rattle.rs_program.specs.Memory.{IsOfMark}
+use Rattle.rs_program.proofs.OwnStores.{of_mark}
+use Rattle.rs_server.proofs.Clocks.{one_moment}
+use Rattle.rs_program.proofs.memory.serve_bytes.Goals as goal
+
+pub returns-in-Ok-0₀ : goal.returns-in-Ok-0₀
+returns-in-Ok-0₀ g c =
+    let (state, held, conversation, ends) = c.serve.ensures.conversation [] c.in-Ok.ensures.list in
+    let to = point_at state conversation.seen (local_mark (content_of c.serve.result.1)) in
+    let read = rw c.new-reader.ensures.inner at conversation.read in
+    let written = rw (c.in-Ok-0₀.is, c.new-writer.ensures.inner) at conversation.replies in
+    let closes = rw c.in-Ok-0₀.is at ends in
+    record {
+      turns = conversation.turns;
+      to = to;
+      taken = conversation.bytes;
+      held = held;
+      rest = _;
+      run = subst (λ (m : Mark). Run (start (assigned_of 1 1) [] m) conversation.turns to) c.in-Ok.ensures.mark conversation.run;
+      split = read;
+      inputs = conversation.inputs;
+      moments = one_moment c.args.now (told_by c.new-clock.result) _ c.new-3.result.items _ c.new-clock.ensures c.new-3.ensures.items conversation.moments;
+      replies = ap (λ (v : Vec ℕ Global). v.items) c.into_inner.ensures ∙ written ∙ ap (λ (l : List ℕ). l ++ replies_of conversation.turns) c.new-2.ensures.items;
+      closes = closes;
+      each = of_gate_weaker _ IsOfMark conversation.turns (λ mark list h. of_mark h.0 mark list h.1 h.2) conversation.of_gate;
+      last = record { legal = conversation.stood_for.legal; places = conversation.stood_for.places; serial = sym (conversation.stood_for.stands.serials 1) };
+    }

@@ -1,0 +1,37 @@
+-- The faults of the program, and its exit statuses.
+use Rattle.std.specs.Prelude.{ℕ, Option, Some, None, Result, Ok, Err}
+use Rattle.rs_server.specs.declared.writing.ServeFault.{ServeFault}
+use Rattle.rs_server.specs.declared.writing.ServeFault.TheVariants as serve
+use Rattle.rs_program.specs.declared.piping.PipeFault.{PipeFault}
+use Rattle.rs_program.specs.declared.piping.PipeFault.TheVariants.{Read, Write, NoMemory, NotHex}
+use Rattle.rs_program.specs.declared.words.WordsFault.{WordsFault}
+use Rattle.rs_program.specs.declared.words.WordsFault.TheVariants as words
+use Rattle.rs_program.specs.declared.program.RunFault.{RunFault}
+use Rattle.rs_program.specs.declared.program.RunFault.TheVariants as run
+
+-- a read that failed for a line that is not hex is told by that line
+abbrev pub pipe_fault : ServeFault → Option ℕ → PipeFault
+pipe_fault serve.Read (Some line) = NotHex line
+pipe_fault serve.Read None = Read
+pipe_fault serve.Write not_hex = Write
+pipe_fault serve.NoMemory not_hex = NoMemory
+
+abbrev pub pipe_status : PipeFault → ℕ
+pipe_status Read = 1
+pipe_status Write = 1
+pipe_status NoMemory = 1
+pipe_status (NotHex line) = 2
+
+abbrev pub words_status : WordsFault → ℕ
+words_status (words.Help text) = 0
+words_status (words.Refused text) = 2
+words_status words.NoMemory = 1
+
+abbrev pub fault_status : RunFault → ℕ
+fault_status (run.Words fault) = words_status fault
+fault_status (run.Pipe fault) = pipe_status fault
+
+-- 0 where the connection ended, however
+abbrev pub run_status : {T : Type 0} → Result T RunFault → ℕ
+run_status (Ok ended) = 0
+run_status (Err fault) = fault_status fault

@@ -1,0 +1,73 @@
+//! The calls of the store.
+
+ghost use Rattle.std.specs.Prelude.{◌≡◌, ◌↔◌, [], IfOk, IfErr, OnErr, OnOk, Err, ◌⊎◌};
+ghost use Rattle.rs_store.specs.Contents.{empty, followed};
+ghost use Rattle.rs_store.specs.History.{IsAnswer};
+ghost use Rattle.rs_session.specs.Gate.{Grows, Uses, Submits};
+ghost use Rattle.rs_session.specs.Local.{local_mark, next_entry, IsFull};
+ghost use Rattle.rs_program.specs.OwnStores.{IsOwn, content_of};
+
+use super::OwnStore;
+use rs_message::{Found, Operation, SubmitFault};
+use rs_session::{Gate, LocalGate};
+use rs_store::TopicLimit;
+use rs_topic::TopicFilter;
+use std::alloc::{AllocError, Global};
+
+/// How many topics may hold a message.
+const TOPICS: u32 = 10_000;
+
+impl OwnStore {
+    /// A gate to an empty store. Refused only for want of memory.
+    pub fn new(alloc: Global) -> Result<OwnStore, AllocError>
+        ensures content { IfOk result (λ store. content_of store ≡ empty 10000) }
+        ensures list { IfOk result (λ store. IsOwn (content_of store) []) }
+        ensures mark { IfOk result (λ store. local_mark (content_of store) ≡ record { place = 1; serial = 0 }) }
+    {
+        match TopicLimit::new(TOPICS) {
+            Some(limit) => Ok(OwnStore {
+                gate: LocalGate::new(alloc, limit)?,
+            }),
+            None => unreachable!(),
+        }
+    }
+}
+
+impl Gate for OwnStore {
+    ghost use Rattle.rs_session.specs.Local.{local_mark};
+    ghost use Rattle.rs_program.specs.OwnStores.{IsOwn, content_of};
+
+    ghost stands = { λ store list. IsOwn (content_of store) list };
+
+    ghost mark = { λ store. local_mark (content_of store) };
+
+    /// `Full` where no serial is left or the store has no room, `NoMemory` where memory is refused.
+    /// Refused, the store is as before.
+    fn submit(&mut self, operation: Operation) -> Result<(), SubmitFault>
+        ensures list { Grows (IsOwn (content_of self.old)) (IsOwn (content_of self.new))
+            (Submits operation (local_mark (content_of self.old)) (local_mark (content_of self.new)) result) }
+        ensures mark { Uses (local_mark (content_of self.old)) (local_mark (content_of self.new)) }
+        ensures full { (result ≡ Err SubmitFault.Full) ↔ IsFull (content_of self.old) operation }
+        ensures faults { IfErr result (λ fault. (fault ≡ SubmitFault.Full) ⊎ (fault ≡ SubmitFault.NoMemory)) }
+        ensures done { OnOk result (content_of self.new ≡ followed (content_of self.old) (next_entry (content_of self.old) operation)) }
+        ensures refused { OnErr result (content_of self.new ≡ content_of self.old) }
+    {
+        match self.gate.submit(operation) {
+            Ok(()) => Ok(()),
+            Err(fault) => Err(fault),
+        }
+    }
+
+    /// Refused only for want of memory. The store stays as it is.
+    fn answer(&mut self, filter: &TopicFilter, now: u64) -> Result<Vec<Found>, AllocError>
+        ensures list { Grows (IsOwn (content_of self.old)) (IsOwn (content_of self.new))
+            (λ seen list. IfOk result (λ found. IsAnswer list filter.now now found.items)) }
+        ensures mark { local_mark (content_of self.new) ≡ local_mark (content_of self.old) }
+        ensures same { content_of self.new ≡ content_of self.old }
+    {
+        match self.gate.answer(filter, now) {
+            Ok(found) => Ok(found),
+            Err(error) => Err(error),
+        }
+    }
+}

@@ -1,0 +1,224 @@
+//! One failing read, write or flush, and what a second connection by the same gate gets then, over the
+//! program's store and over a bare gate.
+
+use crate::own_store::OwnStore;
+use rs_server::{ConnectionId, Counted, Moments, ServeFault, Served, serve};
+use rs_session::{Gate, LocalGate};
+use rs_store::{MapCatalogue, TopicLimit};
+use std::alloc::Global;
+use std::io;
+use std::io::{ErrorKind, Read, Write};
+use std::process::Abort;
+use std::sync::Wait;
+use std::test::Fail;
+
+// CONNECT (16 bytes), a retained PUBLISH of QoS 1 (11 bytes), DISCONNECT.
+const FIRST: &[u8] =
+    b"\x10\x0E\x00\x04MQTT\x05\x02\x00\x3C\x00\x00\x01a\x33\x09\x00\x03a/b\x00\x01\x00x\xE0\x00";
+
+// CONNACK (15 bytes), PUBACK.
+const FIRST_REPLIES: &[u8] =
+    b"\x20\x0D\x00\x00\x0A\x21\x00\x10\x27\x00\x04\x00\x00\x2A\x00\x40\x02\x00\x01";
+
+// CONNECT, SUBSCRIBE.
+const SECOND: &[u8] =
+    b"\x10\x0E\x00\x04MQTT\x05\x02\x00\x3C\x00\x00\x01a\x82\x09\x00\x01\x00\x00\x03a/#\x00";
+
+// CONNACK, SUBACK, and the PUBLISH if it was kept.
+const SECOND_REPLIES: &[u8] =
+    b"\x20\x0D\x00\x00\x0A\x21\x00\x10\x27\x00\x04\x00\x00\x2A\x00\x90\x04\x00\x01\x00\x00\x31\x07\x00\x03a/b\x00x";
+
+const ID: ConnectionId = ConnectionId {
+    place: 1,
+    number: 1,
+};
+
+const READ: Result<Served, ServeFault> = Err(ServeFault::Read);
+
+const WRITE: Result<Served, ServeFault> = Err(ServeFault::Write);
+
+const CLOSED: Result<Served, ServeFault> = Ok(Served::ClientClosed);
+
+// Which calls fail, from the first to the last, one in each run; how the first connection ends then; how
+// many bytes of its replies are written where the first of these calls fails, one more for each later
+// write; and whether the PUBLISH was kept.
+type Row = (Call, usize, usize, Result<Served, ServeFault>, usize, bool);
+
+const READS: [Row; 4] = [
+    (Call::Read, 1, 16, READ, 0, false),
+    (Call::Read, 17, 27, READ, 15, false),
+    (Call::Read, 28, 29, READ, 19, true),
+    (Call::Read, 30, 31, CLOSED, 19, true),
+];
+
+const WRITES: [Row; 6] = [
+    (Call::Write, 1, 15, WRITE, 0, false),
+    (Call::Write, 16, 19, WRITE, 15, true),
+    (Call::Write, 20, 20, CLOSED, 19, true),
+    (Call::Flush, 1, 1, WRITE, 15, false),
+    (Call::Flush, 2, 2, WRITE, 19, true),
+    (Call::Flush, 3, 3, CLOSED, 19, true),
+];
+
+#[derive(Clone, Copy, Debug, PartialEq, Eq)]
+enum Call {
+    Read,
+    Write,
+    Flush,
+}
+
+// The call that fails, counted from 1 among those of its kind. None does at 0.
+#[derive(Clone, Copy)]
+struct Failing {
+    call: Call,
+    at: usize,
+}
+
+impl Failing {
+    fn meets(self, call: Call, at: usize) -> io::Result<()> {
+        if self.call == call && self.at == at {
+            return Err(io::Error::from(ErrorKind::Interrupted));
+        }
+        Ok(())
+    }
+}
+
+// Gives at most `step` bytes a call.
+#[derive(Drop)]
+struct StepReader {
+    input: &'static [u8],
+    step: usize,
+    calls: usize,
+    failing: Failing,
+}
+
+impl Read for StepReader {
+    fn read(&mut self, buf: &mut [u8]) -> io::Result<usize> {
+        self.calls = self.calls.saturating_add(1);
+        self.failing.meets(Call::Read, self.calls)?;
+        let n = buf.len().min(self.step);
+        self.input.read(&mut buf[..n])
+    }
+}
+
+// Takes one byte a call.
+#[derive(Drop)]
+struct ByteWriter {
+    bytes: Vec<u8>,
+    calls: usize,
+    flushes: usize,
+    failing: Failing,
+}
+
+impl Write for ByteWriter {
+    fn write(&mut self, buf: &[u8]) -> io::Result<usize> {
+        self.calls = self.calls.saturating_add(1);
+        self.failing.meets(Call::Write, self.calls)?;
+        let n = buf.len().min(1);
+        self.bytes.extend_from_slice(&buf[..n])?;
+        Ok(n)
+    }
+
+    fn flush(&mut self) -> io::Result<()> {
+        self.flushes = self.flushes.saturating_add(1);
+        self.failing.meets(Call::Flush, self.flushes)
+    }
+}
+
+fn outcome<H: Wait, G: Gate>(
+    rt: &H,
+    alloc: Global,
+    gate: G,
+    input: &'static [u8],
+    step: usize,
+    failing: Failing,
+) -> (Result<Served, ServeFault>, Vec<u8>, G) {
+    let mut reader = Counted::new(StepReader {
+        input,
+        step,
+        calls: 0,
+        failing,
+    });
+    let mut writer = Counted::new(ByteWriter {
+        bytes: Vec::new(alloc),
+        calls: 0,
+        flushes: 0,
+        failing,
+    });
+    let mut clock = Moments::new(0, Vec::new(alloc));
+    let (served, gate) = serve(rt, alloc, &mut reader, &mut writer, gate, ID, &mut clock);
+    let ByteWriter {
+        bytes,
+        calls: _,
+        flushes: _,
+        failing: _,
+    } = writer.into_inner();
+    (served, bytes, gate)
+}
+
+// How the first connection ends and what is written to it, and what the second one gets.
+fn check<H: Abort + Wait, G: Gate + Drop>(
+    rt: &H,
+    alloc: Global,
+    gate: G,
+    step: usize,
+    failing: Failing,
+    ends: Result<Served, ServeFault>,
+    written: &[u8],
+    got: &[u8],
+) -> Result<(), Fail> {
+    let Failing { call, at } = failing;
+    let (end, bytes, gate) = outcome(rt, alloc, gate, FIRST, step, failing);
+    assert!(rt; end == ends, "{call:?} {at}");
+    assert!(rt; bytes.as_slice() == written, "{call:?} {at}");
+    let none = Failing { call, at: 0 };
+    let (end, bytes, _gate) = outcome(rt, alloc, gate, SECOND, step, none);
+    assert!(rt; end == Ok(Served::EndOfInput), "after {call:?} {at}");
+    assert!(rt; bytes.as_slice() == got, "after {call:?} {at}");
+    Ok(())
+}
+
+fn local_gate(alloc: Global) -> Result<LocalGate<MapCatalogue>, Fail> {
+    let limit = TopicLimit::new(7).ok_or("the limit")?;
+    Ok(LocalGate::new(alloc, limit)?)
+}
+
+fn check_row<H: Abort + Wait>(rt: &H, alloc: Global, step: usize, row: Row) -> Result<(), Fail> {
+    let (call, first, last, ends, written, kept) = row;
+    for at in first..=last {
+        let more = if call == Call::Write {
+            at.saturating_sub(first)
+        } else {
+            0
+        };
+        let written = written.saturating_add(more).min(19);
+        let got = if kept { 30 } else { 21 };
+        let failing = Failing { call, at };
+        let written = &FIRST_REPLIES[..written];
+        let got = &SECOND_REPLIES[..got];
+        let store = OwnStore::new(alloc)?;
+        check(rt, alloc, store, step, failing, ends, written, got)?;
+        let local = local_gate(alloc)?;
+        check(rt, alloc, local, step, failing, ends, written, got)?;
+    }
+    Ok(())
+}
+
+#[test]
+fn one_read_fails(rt: HostRuntime) -> Result<(), Fail> {
+    for row in READS {
+        check_row(&rt, rt.alloc(), 1, row)?;
+    }
+    Ok(())
+}
+
+// Where all packets come in one read, those behind the failed write are held, and are not handled.
+#[test]
+fn one_write_or_flush_fails(rt: HostRuntime) -> Result<(), Fail> {
+    for step in [1, FIRST.len()] {
+        for row in WRITES {
+            check_row(&rt, rt.alloc(), step, row)?;
+        }
+    }
+    Ok(())
+}

@@ -1,0 +1,33 @@
+//! A gate to a store that takes no change and never has the memory to answer.
+
+ghost use Rattle.std.specs.Prelude.{◌≡◌, []};
+
+use rs_message::{Found, Operation, SubmitFault};
+use rs_session::Gate;
+use rs_topic::TopicFilter;
+use std::alloc::AllocError;
+
+#[derive(Drop)]
+pub struct Refusing {
+    /// What each change is answered.
+    pub fault: SubmitFault,
+}
+
+/// A store that is full.
+pub const FULL: Refusing = Refusing {
+    fault: SubmitFault::Full,
+};
+
+impl Gate for Refusing {
+    ghost stands = { λ _ seen. seen ≡ [] };
+
+    ghost mark = { λ _. record { place = 1; serial = 0 } };
+
+    fn submit(&mut self, _operation: Operation) -> Result<(), SubmitFault> {
+        Err(self.fault)
+    }
+
+    fn answer(&mut self, _filter: &TopicFilter, _now: u64) -> Result<Vec<Found>, AllocError> {
+        Err(AllocError)
+    }
+}

@@ -1,0 +1,81 @@
+//! What a client is answered where the gate gives no receipt for its publication.
+
+use super::gate::Refusing;
+use crate::piping::pipe;
+use rs_message::SubmitFault;
+use rs_server::Served;
+use std::alloc::Global;
+use std::process::Abort;
+use std::sync::Wait;
+use std::test::Fail;
+
+const CONNECT: &[u8] = b"\x10\x0E\x00\x04MQTT\x05\x02\x00\x3C\x00\x00\x01a";
+
+const CONNACK: &[u8] = b"\x20\x0D\x00\x00\x0A\x21\x00\x10\x27\x00\x04\x00\x00\x2A\x00";
+
+const PINGREQ: &[u8] = b"\xC0\x00";
+
+// A retained PUBLISH at QoS 0, 1 and 2, and what answers it where the session goes on, with the PINGRESP.
+const GOING_ON: [(&[u8], &[u8]); 3] = [
+    (b"\x31\x05\x00\x01a\x00x", b"\xD0\x00"),
+    (
+        b"\x33\x07\x00\x01a\x00\x01\x00x",
+        b"\x40\x03\x00\x01\x97\xD0\x00",
+    ),
+    (
+        b"\x35\x07\x00\x01a\x00\x01\x00x",
+        b"\x50\x03\x00\x01\x97\xD0\x00",
+    ),
+];
+
+// The code of the DISCONNECT, in which each of these ends the session.
+const ENDING: [(SubmitFault, u8); 3] = [
+    (SubmitFault::Open, 0x97),
+    (SubmitFault::Strange, 0x83),
+    (SubmitFault::Closed, 0x83),
+];
+
+fn joined(alloc: Global, first: &[u8], second: &[u8], third: &[u8]) -> Result<Vec<u8>, Fail> {
+    let mut all = first.to_vec(alloc)?;
+    all.extend_from_slice(second)?;
+    all.extend_from_slice(third)?;
+    Ok(all)
+}
+
+fn check<H: Abort + Wait>(
+    rt: &H,
+    alloc: Global,
+    fault: SubmitFault,
+    publish: &[u8],
+    replies: &[u8],
+    ends: Served,
+) -> Result<(), Fail> {
+    let input = joined(alloc, CONNECT, publish, PINGREQ)?;
+    let wanted = joined(alloc, CONNACK, replies, b"")?;
+    let gate = Refusing { fault };
+    let ended = pipe(rt, alloc, input.as_slice(), Vec::new(alloc), gate, false, 0);
+    assert_eq!(rt; ended.served, Ok(ends));
+    assert!(rt; ended.output.as_slice() == wanted.as_slice());
+    Ok(())
+}
+
+#[test]
+fn a_full_store_goes_on(rt: HostRuntime) -> Result<(), Fail> {
+    for fault in [SubmitFault::Full, SubmitFault::NoMemory] {
+        for (publish, replies) in GOING_ON {
+            check(&rt, rt.alloc(), fault, publish, replies, Served::EndOfInput)?;
+        }
+    }
+    Ok(())
+}
+
+#[test]
+fn a_store_without_receipt_ends_the_session(rt: HostRuntime) -> Result<(), Fail> {
+    for (fault, code) in ENDING {
+        for (publish, _) in GOING_ON {
+            let ends = Served::ServerClosed(code);
+            check(&rt, rt.alloc(), fault, publish, &[0xE0, 0x01, code], ends)?;
+        }
+    }
+    Ok(())
+}

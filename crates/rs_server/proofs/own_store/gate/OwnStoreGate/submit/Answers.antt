@@ -1,7 +1,0 @@
-use Rattle.rs_server.specs.OwnStores.{content_of}
-use Rattle.rs_server.proofs.Submits.{own_submitted}
-use Rattle.rs_server.proofs.own_store.gate.OwnStoreGate.submit.Goals as goal
-
-pub returns-in-Ok-clause-list : goal.returns-in-Ok-clause-list
-returns-in-Ok-clause-list c = λ seen own.
-    own_submitted (content_of c.args.self.now) _ c.args.operation seen c.args.self.now.limit (λ full. let e = c.in-Ok.ensures.full.1 full in absurd cc) c.in-Ok.ensures.done own
