@@ -1,0 +1,5 @@
+pub mod HistoryRule
+pub mod Origins
+pub mod Prefixes
+pub mod VersionRule
+pub mod WriterState

@@ -1,0 +1,9 @@
+pub mod Prefixes
+pub mod Receipts
+pub mod Catalogues
+pub mod Codes
+pub mod Copies
+pub mod VersionRule
+pub mod HistoryRule
+pub mod Values
+pub mod Writer

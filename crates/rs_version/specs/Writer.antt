@@ -1,0 +1,72 @@
+-- What the writer has published and what it holds.
+use Rattle.std.specs.Prelude.{ℕ, ◌≡◌, ◌≢◌, ◌<◌, ◌≤◌, ◌++◌, ◌∷◌, ◌⊎◌, [], List, Option, Some, None}
+use Rattle.logbook.specs.Pages.{Book}
+use Rattle.rs_message.specs.declared.entry.Entry.{Entry}
+use Rattle.rs_store.specs.declared.content.Content.{Content}
+use Rattle.rs_store.specs.declared.fault.Refusal.{Refusal}
+use Rattle.rs_store.specs.declared.fault.Refusal.TheVariants as refusal
+use Rattle.rs_store.specs.Contents.{followed}
+use Rattle.rs_store.specs.History.{IsLegal, MayNotFollow, Stands, extended}
+use Rattle.rs_version.specs.declared.catalogue_copy.CatalogueCopy.{CatalogueCopy}
+use Rattle.rs_version.specs.declared.catalogue_copy.Step.{Step}
+use Rattle.rs_version.specs.declared.copies.Copies.{Copies}
+use Rattle.rs_version.specs.declared.fault.PutFault.{PutFault}
+use Rattle.rs_version.specs.declared.fault.PutFault.TheVariants as fault
+use Rattle.rs_version.specs.Catalogues.{KeptCatalogue, content_of}
+use Rattle.rs_version.specs.VersionRule.{IsSound, Follows}
+use Rattle.rs_version.specs.Copies.{listed, shown, steps_of}
+
+pub record Written : Type 0 where
+  pub published : List Entry
+  pub held : Option Entry
+
+-- the kept list: the published list, followed by the held entry, if there is one
+abbrev pub kept_of : Written → List Entry
+kept_of w = w.published ++ listed w.held
+
+-- all of it published
+abbrev pub settled : Written → Written
+settled w = record { published = kept_of w; held = None }
+
+-- the steps that are not published are those of the held entry
+abbrev pub StepsFor : CatalogueCopy → Option Entry → List Step → Type 0
+StepsFor x None ss = ss ≡ []
+StepsFor x (Some e) ss = (s : Step) × (ss ≡ s ∷ []) × (s.entry ≡ e) × Follows x s
+
+-- what holds of a writer's parts: the two copies, the kept list, its own catalogue and the held entry
+pub record IsWriting (history : Book) (limit : ℕ) (copies : Copies) (list : List Entry) (own : KeptCatalogue) (held : Option Entry) : Type 0 where
+  pub history_is : (shown copies).prefix.history ≡ history
+  pub limit_is : (content_of (shown copies).catalogue).limit ≡ limit
+  pub own_limit : (content_of own).limit ≡ limit
+  pub sound : IsSound (shown copies)
+  pub list_is : list ≡ (shown copies).prefix.log ++ listed held
+  pub own_is : Stands (content_of own) list ⊎ Stands (content_of own) (shown copies).prefix.log
+  pub steps : StepsFor (shown copies) held (steps_of copies)
+
+-- why the entry is not appended behind the published list, where nothing is held
+abbrev pub Declines : ℕ → List Entry → Entry → PutFault → Type 0
+Declines limit history e fault.Stale = MayNotFollow limit history e refusal.Stale
+Declines limit history e fault.Full = MayNotFollow limit history e refusal.Full
+Declines limit history e fault.NoMemory = MayNotFollow limit history e refusal.NoMemory
+Declines limit history e fault.Held = ⊥
+
+-- the entry is not appended behind the kept list, all of which is published
+abbrev pub IsDeclined : ℕ → Written → Entry → Refusal → Written → Type 0
+IsDeclined limit w e r w' = MayNotFollow limit (kept_of w) e r × (w' ≡ settled w)
+
+-- What a refusal says, and what it leaves. 31, 30: the held entry, if any, is published. 32: the same, and the entry may come next;
+-- or the held entry could not be published, and nothing changed. 33: what was kept is published, and the entry is held
+abbrev pub Refuses : ℕ → Written → Entry → PutFault → Written → Type 0
+Refuses limit w e fault.Stale w' = IsDeclined limit w e refusal.Stale w'
+Refuses limit w e fault.Full w' = IsDeclined limit w e refusal.Full w'
+Refuses limit w e fault.NoMemory w' = IsDeclined limit w e refusal.NoMemory w' ⊎ ((w.held ≢ None) × (w' ≡ w))
+Refuses limit w e fault.Held w' = IsLegal limit (extended (kept_of w) e) × (w' ≡ record { published = kept_of w; held = Some e })
+
+-- a copy of the held entry, if there is one
+abbrev pub IsSpare : Option Entry → Option Entry → Type 0
+IsSpare held None = Unit {0}
+IsSpare held (Some e) = held ≡ Some e
+
+-- the content was made one entry longer, if it was of fewer than `number` entries
+abbrev pub CatchesUp : Content → ℕ → Entry → Content → Type 0
+CatchesUp c number e c' = ((number ≤ c.version) × (c' ≡ c)) ⊎ ((c.version < number) × (c' ≡ followed c e))

@@ -1,0 +1,179 @@
+//! A store before it has a name.
+
+ghost use Rattle.std.specs.Prelude.{◌≡◌, ◌<◌, ◌≤◌, [], drop, Some, None, All, IfOk, vec_len};
+ghost use Rattle.left_right.specs.Sides.{view};
+ghost use Rattle.rs_store.specs.Contents.{empty};
+ghost use Rattle.rs_store.specs.History.{Stands};
+ghost use Rattle.rs_version.specs.Catalogues.{content_of};
+ghost use Rattle.rs_version.specs.VersionRule.{Names, known, state};
+ghost use Rattle.rs_version.specs.Writer.{Written};
+
+use crate::catalogue_copy::CatalogueCopy;
+use crate::copies::{CopyWriter, inform, publish_once};
+use crate::history::StoreName;
+use crate::kept::Kept;
+use crate::known::{HistoryWord, KnownList, NewHistory};
+use crate::seat::Seat;
+use crate::writer::VersionWriter;
+use left_right::writer::Writer;
+use rs_store::{Catalogue, TopicLimit};
+use std::alloc::{AllocError, Global};
+use std::marker::Model;
+use std::sync::Wait;
+
+/// A store without entries, before it has a name. Contracts see it as its history, its limit and the number of its places.
+#[derive(Drop)]
+pub struct Blank {
+    alloc: Global,
+    new_history: NewHistory,
+    limit: TopicLimit,
+    places: u8,
+    own: Kept,
+    first: Kept,
+    second: Kept,
+}
+
+impl Model for Blank {
+    ghost use Rattle.std.specs.Prelude.{◌≡◌, ◌<◌};
+    ghost use Rattle.rs_store.specs.Contents.{empty};
+    ghost use Rattle.rs_version.specs.Catalogues.{content_of};
+    ghost use Rattle.rs_version.specs.Values.{BlankValue};
+
+    ghost Value = { BlankValue };
+
+    ghost view = { λ b. record { history = b.new_history.prefix.history; limit = b.limit; places = b.places } };
+
+    ghost invariant = { λ b. (0 < b.places) × (content_of b.own ≡ empty b.limit) × (content_of b.first ≡ empty b.limit) × (content_of b.second ≡ empty b.limit) };
+}
+
+/// What writes the two copies. It knows nothing of them yet.
+fn copy_writer(
+    alloc: Global,
+    first: CatalogueCopy,
+    second: CatalogueCopy,
+    places: u8,
+) -> Result<CopyWriter, AllocError>
+    requires places { 0 < places }
+    requires alike { state second ≡ state first }
+    requires sound { Stands (content_of first.catalogue) first.prefix.log }
+    ensures { IfOk result (λ w. (w.desk.shown.value ≡ first) × (drop w.behind w.log.items ≡ [])) }
+{
+    Writer::new(alloc, first, second, places as usize)
+}
+
+/// The same, once it knows the published copy.
+fn informed<R: Wait>(rt: &R, writer: CopyWriter) -> Result<CopyWriter, AllocError>
+    requires { drop writer.behind writer.log.items ≡ [] }
+    ensures { IfOk result (λ w. (state w.desk.shown.value ≡ state writer.desk.shown.value) × (view w.desk.place ≡ Some (known w.desk.shown.value)) × (drop w.behind w.log.items ≡ [])) }
+{
+    match publish_once(rt, writer) {
+        (writer, Ok(())) => Ok(writer),
+        (writer, Err(_)) => {
+            drop(writer.take(rt));
+            Err(AllocError)
+        }
+    }
+}
+
+/// A seat that knows what the writer knows.
+fn seat<N: StoreName>(writer: &mut CopyWriter, list: &KnownList<N>) -> Result<Seat<N>, AllocError>
+    requires { Names N.history N.limit (view writer.old.desk.place) }
+    ensures seat { IfOk result (λ s. s ≡ list.now) }
+    ensures kept { (view writer.new.desk.place ≡ view writer.old.desk.place) × (writer.new.desk.shown ≡ writer.old.desk.shown) × (writer.new.log ≡ writer.old.log) × (writer.new.behind ≡ writer.old.behind) }
+{
+    let mut reader = writer.factory().reader()?;
+    inform(writer, &mut reader);
+    Ok(Seat::new(reader, list.again()))
+}
+
+/// A seat for each place.
+fn seats<N: StoreName>(
+    alloc: Global,
+    writer: &mut CopyWriter,
+    list: &KnownList<N>,
+    places: u8,
+) -> Result<Vec<Seat<N>>, AllocError>
+    requires { Names N.history N.limit (view writer.old.desk.place) }
+    ensures seats { IfOk result (λ v. (vec_len v ≡ places) × All (λ s. s ≡ list.now) v.items) }
+    ensures kept { (writer.new.desk.shown ≡ writer.old.desk.shown) × (writer.new.log ≡ writer.old.log) × (writer.new.behind ≡ writer.old.behind) }
+{
+    let mut all = Vec::new(alloc);
+    for _place in 0..places {
+        all.push(seat(writer, list)?).map_err(|_| AllocError)?;
+    }
+    Ok(all)
+}
+
+impl Blank {
+    /// A store of at most `limit` topics, with 1 to 64 `places`.
+    ///
+    /// # Errors
+    ///
+    /// [`AllocError`] if memory is refused.
+    pub fn new(alloc: Global, limit: TopicLimit, places: u8) -> Result<Blank, AllocError>
+        requires { (0 < places) × (places ≤ 64) }
+        ensures { IfOk result (λ b. (b.limit ≡ limit) × (b.places ≡ places)) }
+    {
+        let own = Kept::new(alloc, limit)?;
+        let first = own.copy()?;
+        let second = own.copy()?;
+        Ok(Blank {
+            alloc,
+            new_history: NewHistory::new(),
+            limit,
+            places,
+            own,
+            first,
+            second,
+        })
+    }
+
+    /// The writer of the store, and a seat for each place, under a name that names this store.
+    ///
+    /// It publishes the empty copy once, so that the rule of the published copy names this history. No reader is there yet that
+    /// it would wait for.
+    ///
+    /// # Errors
+    ///
+    /// [`AllocError`] if memory is refused, or the copies give no further reader.
+    pub fn open<N: StoreName, R: Wait + Drop>(
+        self,
+        rt: R,
+    ) -> Result<(VersionWriter<N, R>, Vec<Seat<N>>), AllocError>
+        requires { (self.history ≡ N.history) × (self.limit ≡ N.limit) }
+        ensures writer { IfOk result (λ r. r.0 ≡ record { published = []; held = None }) }
+        ensures seats { IfOk result (λ r. (vec_len r.1 ≡ self.places) × All (λ s. s ≡ []) r.1.items) }
+    {
+        let Blank {
+            alloc,
+            new_history,
+            limit: _,
+            places,
+            own,
+            first,
+            second,
+        } = self;
+        let NewHistory { word, prefix } = new_history;
+        let first = CatalogueCopy {
+            catalogue: first,
+            prefix: prefix.again(),
+        };
+        let second = CatalogueCopy {
+            catalogue: second,
+            prefix: prefix.again(),
+        };
+        let writer = copy_writer(alloc, first, second, places)?;
+        let mut writer = informed(&rt, writer)?;
+        let list: KnownList<N> = KnownList::of(prefix);
+        match seats(alloc, &mut writer, &list, places) {
+            Ok(seats) => Ok((
+                VersionWriter::over(rt, writer, HistoryWord::of(word), list, own),
+                seats,
+            )),
+            Err(_) => {
+                drop(writer.take(&rt));
+                Err(AllocError)
+            }
+        }
+    }
+}

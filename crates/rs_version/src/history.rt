@@ -1,0 +1,72 @@
+//! The history of a store: the list of its entries, which exists in proofs alone. What runs is one word, the length of the list.
+
+use logbook::{Gain, Plain, Play, Rule};
+use rs_message::Entry;
+use std::marker::Brand;
+
+/// Names a store: the history of its entries, and how many topics may hold a message.
+///
+/// It ties the writer, the seats and the tokens of one store together, and has no calls. A program calls a function over a name
+/// with [`Brand`], and picks the two members there, after the store was made (see [`Blank::open`](crate::Blank::open)).
+pub trait StoreName {
+    ghost use Rattle.std.specs.Prelude.{ℕ};
+    ghost use Rattle.logbook.specs.Pages.{Book};
+
+    ghost history: { Book };
+
+    ghost limit: { ℕ };
+}
+
+impl StoreName for Brand {
+    ghost history = { record { number = 0; log_name = 0; cells_name = 0 } };
+
+    ghost limit = { 0 };
+}
+
+/// The rule of the word: it is the length of the history.
+pub struct LengthRule;
+
+impl Rule<Entry, u64> for LengthRule {
+    ghost use Rattle.std.specs.Prelude.{[]};
+    ghost use base.Fml.{ftrue};
+    ghost use Rattle.rs_version.specs.HistoryRule.{IsLength};
+
+    ghost holds = { λ cells log. IsLength cells log };
+
+    ghost first = { [] };
+
+    ghost hinted = { λ n log. Unit {0} };
+
+    ghost shows = { λ log. [] };
+
+    ghost keeps = { λ names log. ftrue };
+
+    ghost moves = { λ ask before after answer. Unit {0} };
+}
+
+/// What the writer gains by a step: nothing.
+pub struct NoGain;
+
+impl Gain<Entry, u64> for NoGain {
+    ghost use base.Fml.{ftrue};
+
+    ghost after = { λ names about answer. ftrue };
+}
+
+/// The step that adds an entry.
+pub struct AddsEntry;
+
+impl Play<Entry, u64> for AddsEntry {
+    ghost use Rattle.rs_version.specs.HistoryRule.{AddsOne};
+
+    ghost then = { AddsOne };
+}
+
+/// What that step asks for: the entry.
+impl Plain<Entry, Entry, u64> for AddsEntry {
+    ghost use Rattle.std.specs.Prelude.{None};
+
+    ghost ask = { λ entry. entry };
+
+    ghost state = { λ entry. None };
+}

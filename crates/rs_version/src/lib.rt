@@ -1,0 +1,38 @@
+//! Versions of the store: one writer publishes them, and seats read them without waiting.
+//!
+//! The history of a store is the list of its entries, which exists in proofs alone. [`VersionWriter::put`] adds one entry to it
+//! and publishes the list with that entry, a version. [`Seat::answer`] answers from a version whose list has the list that the
+//! seat knows as a prefix. A token ([`Told`]) names a published list; a seat that learned it ([`Seat::learn`]) never reads less
+//! from then on. A [`Receipt`] says where an entry stands. A type that implements [`StoreName`] ties the writer, the seats and
+//! the tokens of one store together, and [`Blank::open`] makes them.
+//!
+//! The catalogue stands in two copies. Seats read one while the writer changes the other, and a publish swaps them. Before a
+//! copy is changed, the writer waits for the seats that still read it.
+//!
+//! Not promised: that a publish returns, since it waits for seats; that a seat which learned nothing reads what was published
+//! last; that memory is there.
+#![tactic(auto)]
+
+mod blank;
+mod catalogue_copy;
+mod copies;
+mod fault;
+mod history;
+mod kept;
+mod known;
+mod law;
+mod prefix;
+mod receipt;
+mod rule;
+mod seat;
+#[cfg(test)]
+mod tests;
+mod writer;
+
+pub use blank::Blank;
+pub use fault::PutFault;
+pub use history::StoreName;
+pub use law::origin_law;
+pub use receipt::{Receipt, Told};
+pub use seat::{Seat, Snapshot};
+pub use writer::VersionWriter;

@@ -1,0 +1,134 @@
+//! Seats, which read the published copy.
+
+ghost use Rattle.std.specs.Prelude.{◌≡◌, ◌⊎◌, length, IfOk, OnErr, OnOk};
+ghost use mathlib.Core.List.{IsPrefix};
+ghost use Rattle.left_right.specs.Sides.{view};
+ghost use Rattle.rs_store.specs.History.{IsAnswer, IsLegal};
+ghost use Rattle.rs_version.specs.Catalogues.{content_of};
+ghost use Rattle.rs_version.specs.VersionRule.{Names, IsSound};
+
+use crate::catalogue_copy::CatalogueCopy;
+use crate::copies::CopyReader;
+use crate::history::StoreName;
+use crate::known::KnownList;
+use crate::receipt::Told;
+use crate::rule::Sees;
+use rs_message::Found;
+use rs_store::Catalogue;
+use rs_topic::TopicFilter;
+use std::alloc::AllocError;
+use std::marker::Model;
+
+/// An answer, and the version that it is of.
+#[derive(Drop)]
+pub struct Snapshot {
+    /// The number of entries of the list that was read.
+    pub version: u64,
+    /// The messages that match and have not expired, in the order of replay.
+    pub found: Vec<Found>,
+}
+
+/// A reader of the store. Contracts see it as its known list: the longest list that it read or learned.
+///
+/// It reads the published copy without waiting, whatever the writer does. It never reads less than it knows.
+#[derive(Drop)]
+pub struct Seat<N: StoreName> {
+    reader: Option<CopyReader>,
+    known: KnownList<N>,
+}
+
+impl<N: StoreName> Model for Seat<N> {
+    ghost use Rattle.std.specs.Prelude.{List, MatchOption};
+    ghost use Rattle.left_right.specs.Sides.{view as known_by};
+    ghost use Rattle.rs_message.specs.declared.entry.Entry.{Entry};
+    ghost use Rattle.rs_version.specs.VersionRule.{Names};
+
+    ghost Value = { List Entry };
+
+    ghost view = { λ s. s.known };
+
+    ghost invariant = { λ s. MatchOption s.reader (Unit {0}) (λ r. Names N.history N.limit (known_by r.place)) };
+}
+
+/// What the copy answers, with the list that the copy is of. An error if that list is shorter than the known one.
+fn look<N: StoreName>(
+    copy: &CatalogueCopy,
+    known: &KnownList<N>,
+    filter: &TopicFilter,
+    now: u64,
+) -> Result<(KnownList<N>, Snapshot), AllocError>
+    requires sound { IsSound copy.now }
+    requires history { copy.now.prefix.history ≡ N.history }
+    requires limit { (content_of copy.now.catalogue).limit ≡ N.limit }
+    ensures later { IfOk result (λ r. IsPrefix known.now r.0) }
+    ensures version { IfOk result (λ r. r.1.version ≡ length r.0) }
+    ensures legal { IfOk result (λ r. IsLegal N.limit r.0) }
+    ensures found { IfOk result (λ r. IsAnswer r.0 filter.now now r.1.found.items) }
+{
+    let list: KnownList<N> = KnownList::of(copy.prefix.again());
+    // Never: a publish is no shorter than what was published before. The rule of the published copy says so of what was read,
+    // and not of what was learned from a token.
+    if !list.reaches(known) {
+        return Err(AllocError);
+    }
+    let version = list.version();
+    let found = copy.catalogue.answer(filter, now)?;
+    Ok((list, Snapshot { version, found }))
+}
+
+impl<N: StoreName> Seat<N> {
+    /// A seat whose reader knows something of this store.
+    pub(crate) fn new(reader: CopyReader, known: KnownList<N>) -> Seat<N>
+        requires { Names N.history N.limit (view reader.place) }
+        ensures { result ≡ known }
+    {
+        Seat {
+            reader: Some(reader),
+            known,
+        }
+    }
+
+    /// Makes the known list the longer of itself and the token's list. It takes no memory and waits for nobody.
+    pub fn learn(&mut self, told: Told<N>)
+        ensures one { (self.new ≡ self.old) ⊎ (self.new ≡ told) }
+        ensures own { IsPrefix self.old self.new }
+        ensures told { IsPrefix told self.new }
+        ensures legal { IsLegal N.limit self.new }
+    {
+        let Told { list } = told;
+        if !self.known.reaches(&list) {
+            self.known = list;
+        }
+    }
+
+    /// Reads the published copy, and answers from it: copies of the messages that the filter matches and that have not expired
+    /// at `now`, in seconds, in the order of replay (3.8.4). It waits for nobody.
+    ///
+    /// # Errors
+    ///
+    /// [`AllocError`] if memory is refused, or the writer has ended. The known list is as before.
+    pub fn answer(&mut self, filter: &TopicFilter, now: u64) -> Result<Snapshot, AllocError>
+        ensures later { IsPrefix self.old self.new }
+        ensures refused { OnErr result (self.new ≡ self.old) }
+        ensures version { IfOk result (λ s. s.version ≡ length self.new) }
+        ensures legal { OnOk result (IsLegal N.limit self.new) }
+        ensures found { IfOk result (λ s. IsAnswer self.new filter.now now s.found.items) }
+    {
+        let Some(reader) = self.reader.take() else {
+            return Err(AllocError);
+        };
+        match reader.enter_as::<Sees>() {
+            Ok(reading) => {
+                let looked = look(reading.get(), &self.known, filter, now);
+                self.reader = Some(reading.leave());
+                let (list, snapshot) = looked?;
+                self.known = list;
+                Ok(snapshot)
+            }
+            Err(reader) => {
+                self.reader = Some(reader);
+                Err(AllocError)
+            }
+        }
+    }
+}

@@ -1,0 +1,362 @@
+//! Worked examples, with ample memory, and readers beside a writer.
+
+ghost use Rattle.std.specs.Prelude.{◌≡◌, ◌≢◌, ◌<◌, ◌≤◌, [], length};
+
+use super::*;
+use bytes::Bytes;
+use rs_message::{Entry, Message, Operation, Origin};
+use rs_packet::{Properties, Qos};
+use rs_store::TopicLimit;
+use rs_topic::{TopicFilter, TopicName};
+use std::alloc::Global;
+use std::marker::Brand;
+use std::process::Abort;
+use std::sync::Wait;
+use std::test::Fail;
+use std::thread::{Threads, join, spawn};
+
+#[tactic(auto, using(rs_message::proofs::Sizes::small_message))]
+fn message(payload: &'static [u8], expiry: Option<u32>) -> Message
+    requires some { payload.now ≢ [] }
+    requires small { length payload.now ≤ 1000 }
+{
+    Message::new(
+        Bytes::from_static(payload),
+        Qos::AtMostOnce,
+        0,
+        expiry,
+        Properties::none(),
+    )
+}
+
+fn entry_of(place: u8, serial: u64, operation: Operation) -> Option<Entry> {
+    let origin = Origin::new(place, serial)?;
+    Some(Entry { origin, operation })
+}
+
+fn set(alloc: Global, place: u8, serial: u64, topic: &[u8]) -> Option<Entry> {
+    let topic = TopicName::read(alloc, topic).ok()?;
+    entry_of(place, serial, Operation::Set(topic, message(b"x", None)))
+}
+
+fn clear(alloc: Global, place: u8, serial: u64, topic: &[u8]) -> Option<Entry> {
+    let topic = TopicName::read(alloc, topic).ok()?;
+    entry_of(place, serial, Operation::Clear(topic))
+}
+
+fn blank(alloc: Global, limit: u32, places: u8) -> Result<Blank, Fail>
+    requires { (0 < places) × (places ≤ 64) }
+{
+    let limit = TopicLimit::new(limit).ok_or("no limit")?;
+    Ok(Blank::new(alloc, limit, places)?)
+}
+
+/// The version that a seat reads, and the topics that hold a message, each followed by a space.
+fn seen<N: StoreName>(alloc: Global, seat: &mut Seat<N>) -> Result<(u64, Vec<u8>), Fail> {
+    let filter = TopicFilter::read(alloc, b"#")?;
+    let snapshot = seat.answer(&filter, 0)?;
+    let mut topics = Vec::new(alloc);
+    for found in &snapshot.found {
+        topics.extend_from_slice(found.topic.as_bytes())?;
+        topics.push(b' ')?;
+    }
+    Ok((snapshot.version, topics))
+}
+
+fn receipt_of<N: StoreName, R: Wait + Drop>(
+    writer: &mut VersionWriter<N, R>,
+    entry: Option<Entry>,
+) -> Result<Receipt<N>, Fail> {
+    Ok(writer.put(entry.ok_or("an entry")?)?)
+}
+
+fn fault_of<N: StoreName, R: Wait + Drop>(
+    writer: &mut VersionWriter<N, R>,
+    entry: Option<Entry>,
+) -> Result<Option<PutFault>, Fail> {
+    Ok(writer.put(entry.ok_or("an entry")?).err())
+}
+
+fn refusals<N: StoreName, R: Wait + Drop>(
+    rt: &impl Abort,
+    alloc: Global,
+    writer: &mut VersionWriter<N, R>,
+) -> Result<(), Fail> {
+    let full = fault_of(writer, set(alloc, 1, 2, b"b"))?;
+    assert_eq!(rt; full, Some(PutFault::Full));
+    let stale = fault_of(writer, set(alloc, 1, 1, b"a"))?;
+    assert_eq!(rt; stale, Some(PutFault::Stale));
+    assert!(rt; writer.held().is_none());
+    assert!(rt; writer.retry()?.is_none());
+    Ok(())
+}
+
+fn learn_both<N: StoreName>(
+    rt: &impl Abort,
+    alloc: Global,
+    seat: &mut Seat<N>,
+    first: Receipt<N>,
+    second: Receipt<N>,
+) -> Result<(), Fail> {
+    assert_eq!(rt; (first.number(), second.number()), (1, 2));
+    seat.learn(second.told());
+    seat.learn(first.told());
+    let (version, topics) = seen(alloc, seat)?;
+    assert_eq!(rt; version, 2);
+    assert_eq!(rt; topics.as_slice(), b"a ".as_slice());
+    Ok(())
+}
+
+fn puts_in_order<N: StoreName, R: Wait + Drop>(
+    rt: &impl Abort,
+    alloc: Global,
+    writer: &mut VersionWriter<N, R>,
+    seat: &mut Seat<N>,
+) -> Result<(), Fail> {
+    let first = receipt_of(writer, set(alloc, 1, 1, b"a"))?;
+    refusals(rt, alloc, writer)?;
+    let second = receipt_of(writer, clear(alloc, 2, 1, b"b"))?;
+    learn_both(rt, alloc, seat, first, second)
+}
+
+fn limit_of_1_named<N: StoreName, R: Wait + Abort>(
+    rt: &R,
+    alloc: Global,
+    blank: Blank,
+) -> Result<(), Fail>
+    requires { (blank.history ≡ N.history) × (blank.limit ≡ N.limit) }
+{
+    let (mut writer, mut seats) = blank.open::<N, &R>(rt)?;
+    let mut seat = seats.pop().ok_or("there are two seats")?;
+    puts_in_order(rt, alloc, &mut writer, &mut seat)
+}
+
+#[test]
+fn limit_of_1(rt: HostRuntime) -> Result<(), Fail> {
+    let alloc = rt.alloc();
+    limit_of_1_named::<Brand, _>(&rt, alloc, blank(alloc, 1, 2)?)
+}
+
+/// A seat that learned the token reads the topic.
+fn reads_told<N: StoreName>(
+    rt: &impl Abort,
+    alloc: Global,
+    told: Told<N>,
+    seat: &mut Seat<N>,
+) -> Result<u64, Fail> {
+    seat.learn(told);
+    let (version, topics) = seen(alloc, seat)?;
+    assert!(rt; version >= 1);
+    assert_eq!(rt; topics.as_slice(), b"x ".as_slice());
+    Ok(version)
+}
+
+/// Each seat reads what this writer published.
+fn told<N: StoreName, R: Wait + Drop>(
+    rt: &impl Abort,
+    alloc: Global,
+    writer: &mut VersionWriter<N, R>,
+    seats: Vec<Seat<N>>,
+) -> Result<(), Fail> {
+    let receipt = receipt_of(writer, set(alloc, 1, 1, b"x"))?;
+    assert_eq!(rt; receipt.entry().origin.place(), 1);
+    assert_eq!(rt; (receipt.number(), receipt.told().version()), (1, 1));
+    for seat in seats {
+        let mut seat = seat;
+        let version = reads_told(rt, alloc, receipt.told(), &mut seat)?;
+        let next = reads_told(rt, alloc, writer.tell(), &mut seat)?;
+        assert!(rt; next >= version);
+    }
+    Ok(())
+}
+
+fn told_seat_named<N: StoreName, R: Wait + Abort>(
+    rt: &R,
+    alloc: Global,
+    blank: Blank,
+) -> Result<(), Fail>
+    requires { (blank.history ≡ N.history) × (blank.limit ≡ N.limit) }
+{
+    let (mut writer, seats) = blank.open::<N, &R>(rt)?;
+    assert_eq!(rt; seats.len(), 2);
+    told(rt, alloc, &mut writer, seats)
+}
+
+#[test]
+fn told_seat(rt: HostRuntime) -> Result<(), Fail> {
+    let alloc = rt.alloc();
+    told_seat_named::<Brand, _>(&rt, alloc, blank(alloc, 10, 2)?)
+}
+
+/// The writer, once it has put a hundred entries, and whether it did.
+fn put_all<N: StoreName, R: Wait + Drop>(
+    alloc: Global,
+    writer: VersionWriter<N, R>,
+) -> (VersionWriter<N, R>, bool) {
+    let mut writer = writer;
+    for serial in 1..101u64 {
+        let Some(entry) = set(alloc, 1, serial, b"a") else {
+            return (writer, false);
+        };
+        if writer.put(entry).is_err() {
+            return (writer, false);
+        }
+    }
+    (writer, true)
+}
+
+/// The seat, once it has answered many times, and whether its versions never fell.
+fn read_all<N: StoreName>(alloc: Global, seat: Seat<N>) -> (Seat<N>, bool) {
+    let mut seat = seat;
+    let Ok(filter) = TopicFilter::read(alloc, b"#") else {
+        return (seat, false);
+    };
+    let mut last = 0;
+    for _ in 0..500 {
+        match seat.answer(&filter, 0) {
+            Ok(snapshot) if snapshot.version >= last => last = snapshot.version,
+            _ => return (seat, false),
+        }
+    }
+    (seat, true)
+}
+
+/// The version that the seat reads, which has learned nothing. An error if its versions fell before.
+fn last_version<N: StoreName>(alloc: Global, read: (Seat<N>, bool)) -> Result<u64, Fail> {
+    let (mut seat, rose) = read;
+    if !rose {
+        return Err(Fail::from("a version fell"));
+    }
+    Ok(seen(alloc, &mut seat)?.0)
+}
+
+/// One thread puts and three read. The writer and each seat move into their threads, and come back.
+fn side_by_side<N: StoreName + Send + Sync, T: Threads, R: Wait + Drop + Send>(
+    rt: &T,
+    alloc: Global,
+    writer: VersionWriter<N, R>,
+    seats: (Seat<N>, Seat<N>, Seat<N>),
+) -> Result<[u64; 3], Fail> {
+    let (one, two, three) = seats;
+    let ((_writer, put), (one, (two, three))) = join(
+        rt,
+        move || put_all(alloc, writer),
+        move || {
+            join(
+                rt,
+                move || read_all(alloc, one),
+                move || {
+                    join(
+                        rt,
+                        move || read_all(alloc, two),
+                        move || read_all(alloc, three),
+                    )
+                },
+            )
+        },
+    );
+    if !put {
+        return Err(Fail::from("a put was refused"));
+    }
+    Ok([
+        last_version(alloc, one)?,
+        last_version(alloc, two)?,
+        last_version(alloc, three)?,
+    ])
+}
+
+fn readers_beside_a_writer_named<N: StoreName + Send + Sync, R: Threads + Wait + Abort + Sync>(
+    rt: &R,
+    alloc: Global,
+    blank: Blank,
+) -> Result<(), Fail>
+    requires { (blank.history ≡ N.history) × (blank.limit ≡ N.limit) }
+{
+    let (writer, mut seats) = blank.open::<N, &R>(rt)?;
+    match (seats.pop(), seats.pop(), seats.pop()) {
+        (Some(one), Some(two), Some(three)) => {
+            let versions = side_by_side(rt, alloc, writer, (one, two, three))?;
+            assert_eq!(rt; versions, [100, 100, 100]);
+            Ok(())
+        }
+        _ => Err(Fail::from("there are three seats")),
+    }
+}
+
+#[test]
+fn readers_beside_a_writer(rt: HostRuntime) -> Result<(), Fail> {
+    let alloc = rt.alloc();
+    readers_beside_a_writer_named::<Brand, _>(&rt, alloc, blank(alloc, 4, 3)?)
+}
+
+/// The version that the seat reads. `None` if it is answered an error.
+fn read_version<N: StoreName>(alloc: Global, seat: &mut Seat<N>) -> Option<u64> {
+    let filter = TopicFilter::read(alloc, b"#").ok()?;
+    Some(seat.answer(&filter, 0).ok()?.version)
+}
+
+/// Puts one entry, and gives what the seat reads, once it has learned the token, and what it reads without a writer.
+fn put_and_end<N: StoreName, R: Wait + Drop>(
+    alloc: Global,
+    writer: VersionWriter<N, R>,
+    seat: Seat<N>,
+) -> Option<(Option<u64>, Option<u64>)> {
+    let mut writer = writer;
+    let mut seat = seat;
+    let receipt = writer.put(set(alloc, 1, 1, b"x")?).ok()?;
+    seat.learn(receipt.told());
+    let read = read_version(alloc, &mut seat);
+    drop(writer);
+    Some((read, read_version(alloc, &mut seat)))
+}
+
+fn in_a_thread_named<
+    N: StoreName + Send + Sync + 'static,
+    R: Threads + Wait + Abort + Copy + Send + 'static,
+>(rt: R, alloc: Global, blank: Blank) -> Result<(), Fail>
+    requires { (blank.history ≡ N.history) × (blank.limit ≡ N.limit) }
+{
+    let (writer, mut seats) = blank.open::<N, R>(rt)?;
+    let seat = seats.pop().ok_or("there is a seat")?;
+    let thread = spawn(&rt, move || put_and_end(alloc, writer, seat))?;
+    assert_eq!(rt; thread.join(&rt), Some((Some(1), None)));
+    Ok(())
+}
+
+#[test]
+fn in_a_thread(rt: HostRuntime) -> Result<(), Fail> {
+    let alloc = rt.alloc();
+    in_a_thread_named::<Brand, _>(rt, alloc, blank(alloc, 4, 1)?)
+}
+
+#[test]
+fn codes(rt: HostRuntime) -> Result<(), Fail> {
+    let rows: [(PutFault, u8, &str); 4] = [
+        (
+            PutFault::Full,
+            30,
+            "the store holds as many topics as it may, or has no number left; clear a topic or raise the limit",
+        ),
+        (
+            PutFault::Stale,
+            31,
+            "the serial is not above the last one of its place; number the entries of a place in rising order",
+        ),
+        (
+            PutFault::NoMemory,
+            32,
+            "memory was refused, and the entry was not stored; free memory and try again",
+        ),
+        (
+            PutFault::Held,
+            33,
+            "memory was refused before the entry could be published; it is kept, so free memory and retry it",
+        ),
+    ];
+    for (fault, code, text) in rows {
+        assert_eq!(rt; fault.code(), code);
+        let shown = format!(in rt.alloc(); "{fault}")?;
+        assert_eq!(rt; shown.as_str(), text);
+    }
+    Ok(())
+}

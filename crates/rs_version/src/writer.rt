@@ -1,0 +1,270 @@
+//! The one writer of a store.
+
+ghost use Rattle.std.specs.Prelude.{◌≡◌, ◌≢◌, ◌<◌, ◌+◌, [], length, drop, Some, None, MatchResult, IfOk, IfErr, IfNone, IfSome, OnErr, OnOk, OnSome};
+ghost use Rattle.std.specs.Option.{option_map};
+ghost use Rattle.rs_store.specs.Contents.{Accepts, empty};
+ghost use Rattle.rs_store.specs.History.{IsLegal, extended};
+ghost use Rattle.rs_version.specs.Catalogues.{content_of};
+ghost use Rattle.rs_version.specs.Receipts.{StandsAt};
+ghost use Rattle.rs_version.specs.Writer.{Written, CatchesUp, Declines, IsSpare, Refuses, kept_of, settled};
+
+use crate::catalogue_copy::Step;
+use crate::copies::{Copies, CopyWriter};
+use crate::fault::PutFault;
+use crate::history::StoreName;
+use crate::kept::Kept;
+use crate::known::{HistoryWord, KnownList};
+use crate::receipt::{Receipt, Told};
+use rs_message::{Entry, Origin};
+use rs_store::{Catalogue, Refusal};
+use std::alloc::AllocError;
+use std::marker::Model;
+use std::sync::Wait;
+
+/// The one writer of a store. Contracts see it as the published list and the held entry, if there is one. The kept list is the
+/// published list, followed by the held entry.
+///
+/// It keeps the handle `rt`, by which a publish waits for seats that still read the older copy. When it is dropped it waits until
+/// no seat reads. A held entry is dropped with it, and from then on [`Seat::answer`](crate::Seat::answer) is an error.
+pub struct VersionWriter<N: StoreName, R: Wait + Drop> {
+    rt: R,
+    copies: Copies,
+    history_word: HistoryWord<N>,
+    // The kept list.
+    list: KnownList<N>,
+    // A third catalogue, on which entries are judged, so that no copy that seats read is touched by that.
+    own: Kept,
+    held: Option<Entry>,
+    // A copy of the held entry for `own`, until `own` takes it.
+    spare: Option<Entry>,
+}
+
+impl<N: StoreName, R: Wait + Drop> Model for VersionWriter<N, R> {
+    ghost use Rattle.rs_version.specs.Writer.{Written, IsSpare, IsWriting};
+    ghost use Rattle.rs_version.specs.Copies.{shown};
+
+    ghost Value = { Written };
+
+    ghost view = { λ w. record { published = (shown w.copies).prefix.log; held = w.held } };
+
+    ghost invariant = { λ w. IsWriting N.history N.limit w.copies w.list w.own w.held × IsSpare w.held w.spare };
+}
+
+/// The spare copy of the entry, or a new one.
+fn copy_of(entry: &Entry, spare: Option<Entry>) -> Result<Entry, AllocError>
+    requires { IsSpare (Some entry.now) spare }
+    ensures { IfOk result (λ copy. copy ≡ entry.now) }
+{
+    match spare {
+        Some(copy) => Ok(copy),
+        None => entry.copy(),
+    }
+}
+
+/// Applies the entry, if the catalogue has fewer than `number`.
+fn catch_up(
+    own: &mut Kept,
+    number: u64,
+    entry: &Entry,
+    spare: Option<Entry>,
+) -> Result<(), AllocError>
+    requires accepts { (content_of own.old).version < number → Accepts (content_of own.old) entry.now }
+    requires spare { IsSpare (Some entry.now) spare }
+    ensures { MatchResult result
+        (λ _. CatchesUp (content_of own.old) number entry.now (content_of own.new))
+        (λ _. content_of own.new ≡ content_of own.old) }
+{
+    if own.version() < number {
+        own.apply(copy_of(entry, spare)?)?;
+    }
+    Ok(())
+}
+
+impl<N: StoreName, R: Wait + Drop> Drop for VersionWriter<N, R> {
+    fn drop(self) {
+        let VersionWriter {
+            rt,
+            copies,
+            history_word: _word,
+            list: _list,
+            own: _own,
+            held: _held,
+            spare: _spare,
+        } = self;
+        copies.end(&rt);
+    }
+}
+
+impl<N: StoreName, R: Wait + Drop> VersionWriter<N, R> {
+    /// Over copies without entries.
+    pub(crate) fn over(
+        rt: R,
+        writer: CopyWriter,
+        history_word: HistoryWord<N>,
+        list: KnownList<N>,
+        own: Kept,
+    ) -> VersionWriter<N, R>
+        requires steps { drop writer.behind writer.log.items ≡ [] }
+        requires history { (writer.desk.shown.value.prefix.history ≡ N.history) × (list ≡ []) × (writer.desk.shown.value.prefix.log ≡ []) }
+        requires content { (content_of writer.desk.shown.value.catalogue ≡ empty N.limit) × (content_of own ≡ empty N.limit) }
+        ensures { result ≡ record { published = []; held = None } }
+    {
+        VersionWriter {
+            rt,
+            copies: Copies {
+                writer,
+                waiting: None,
+            },
+            history_word,
+            list,
+            own,
+            held: None,
+            spare: None,
+        }
+    }
+
+    /// Publishes the held entry, if there is one, and gives it back. Refused, it is held as before.
+    fn release(&mut self) -> Result<Option<Entry>, AllocError>
+        ensures { MatchResult result (λ o. (o ≡ self.old.held) × (self.new ≡ settled self.old)) (λ _. (self.old.held ≢ None) × (self.new ≡ self.old)) }
+    {
+        let number = self.list.version();
+        let Some(entry) = &self.held else {
+            return Ok(None);
+        };
+        let spare = self.spare.take();
+        catch_up(&mut self.own, number, entry, spare)?;
+        self.copies.publish(&self.rt)?;
+        Ok(self.held.take())
+    }
+
+    /// Whether the entry may come next.
+    fn judge(&self, entry: &Entry) -> Result<(), PutFault>
+        requires { self.now.held ≡ None }
+        ensures { MatchResult result (λ _. IsLegal N.limit (extended self.now.published entry.now)) (λ f. Declines N.limit self.now.published entry.now f) }
+    {
+        // For the proof: these calls say that the place is at most 64 and the serial at least 1.
+        let (_place, _serial) = (entry.origin.place(), entry.origin.serial());
+        match self.own.accepts(entry) {
+            Ok(()) => Ok(()),
+            Err(Refusal::Stale) => Err(PutFault::Stale),
+            Err(Refusal::Full) => Err(PutFault::Full),
+            Err(Refusal::NoMemory) => Err(PutFault::NoMemory),
+        }
+    }
+
+    /// Appends the entry, which is held from then on. Its copies are made first, so a refusal leaves the history as it was.
+    fn append(&mut self, entry: Entry) -> Result<(), AllocError>
+        requires none { self.old.held ≡ None }
+        requires legal { IsLegal N.limit (extended self.old.published entry) }
+        ensures { MatchResult result (λ _. self.new ≡ record { published = self.old.published; held = Some entry }) (λ _. self.new ≡ self.old) }
+    {
+        // For the proof: these calls say that the place is at most 64 and the serial at least 1.
+        let (_place, _serial) = (entry.origin.place(), entry.origin.serial());
+        let copy = entry.copy()?;
+        let spare = entry.copy()?;
+        let Some(list) = self.list.followed(&self.history_word, &entry) else {
+            return Err(AllocError);
+        };
+        self.copies.push(Step {
+            entry: copy,
+            after: list.prefix(),
+        });
+        self.list = list;
+        self.spare = Some(spare);
+        self.held = Some(entry);
+        Ok(())
+    }
+
+    /// Appends the entry, if it may come next.
+    fn accept(&mut self, entry: Entry) -> Result<(), PutFault>
+        requires { self.old.held ≡ None }
+        ensures { MatchResult result
+            (λ _. IsLegal N.limit (extended self.old.published entry) × (self.new ≡ record { published = self.old.published; held = Some entry }))
+            (λ f. Declines N.limit self.old.published entry f × (self.new ≡ self.old)) }
+    {
+        self.judge(&entry)?;
+        match self.append(entry) {
+            Ok(()) => Ok(()),
+            Err(_) => Err(PutFault::NoMemory),
+        }
+    }
+
+    /// For the last entry that was published.
+    fn receipt(&self, entry: Entry) -> Receipt<N>
+        requires { StandsAt entry (length self.now.published) self.now.published }
+        ensures { result ≡ record { entry = entry; number = length self.now.published; told = self.now.published } }
+    {
+        Receipt::of_last(entry, self.tell())
+    }
+
+    /// Publishes the entry behind all that is kept. A held entry is published first.
+    ///
+    /// # Errors
+    ///
+    /// - [`Stale`](PutFault::Stale) and [`Full`](PutFault::Full) as in [`rs_store::Catalogue::accepts`]. What was held is
+    ///   published.
+    /// - [`NoMemory`](PutFault::NoMemory): the entry is not kept. Either a held entry could not be published, and nothing
+    ///   changed; or what was held is published, and there was no memory for a copy of the entry, which may come next.
+    /// - [`Held`](PutFault::Held): what was kept is published, and the entry is held.
+    pub fn put(&mut self, entry: Entry) -> Result<Receipt<N>, PutFault>
+        ensures published { OnOk result (self.new ≡ record { published = extended (kept_of self.old) entry; held = None }) }
+        ensures entry { IfOk result (λ r. r.entry ≡ entry) }
+        ensures number { IfOk result (λ r. r.number ≡ length (kept_of self.old) + 1) }
+        ensures told { IfOk result (λ r. r.told ≡ self.new.published) }
+        ensures legal { OnOk result (IsLegal N.limit self.new.published) }
+        ensures refused { IfErr result (λ f. Refuses N.limit self.old entry f self.new) }
+    {
+        match self.release() {
+            Ok(published) => drop(published),
+            Err(_) => return Err(PutFault::NoMemory),
+        }
+        if let Err(fault) = self.accept(entry) {
+            return Err(fault);
+        }
+        match self.retry() {
+            Ok(Some(receipt)) => Ok(receipt),
+            Ok(None) => unreachable!(),
+            Err(_) => Err(PutFault::Held),
+        }
+    }
+
+    /// Publishes the held entry. `Ok(None)` if nothing is held.
+    ///
+    /// # Errors
+    ///
+    /// [`AllocError`] if it could not be published. It is held as before.
+    pub fn retry(&mut self) -> Result<Option<Receipt<N>>, AllocError>
+        ensures published { OnOk result (self.new ≡ settled self.old) }
+        ensures none { IfOk result (λ o. IfNone o ((self.old.held ≡ None) × (self.new ≡ self.old))) }
+        ensures entry { IfOk result (λ o. IfSome o (λ r. self.old.held ≡ Some r.entry)) }
+        ensures number { IfOk result (λ o. IfSome o (λ r. r.number ≡ length (kept_of self.old))) }
+        ensures told { IfOk result (λ o. IfSome o (λ r. r.told ≡ self.new.published)) }
+        ensures legal { IfOk result (λ o. OnSome o (IsLegal N.limit self.new.published)) }
+        ensures refused { OnErr result ((self.old.held ≢ None) × (self.new ≡ self.old)) }
+    {
+        let Some(entry) = self.release()? else {
+            return Ok(None);
+        };
+        Ok(Some(self.receipt(entry)))
+    }
+
+    /// A token of the published list, which a held entry is no part of. It takes no memory.
+    pub fn tell(&self) -> Told<N>
+        ensures told { result ≡ self.now.published }
+        ensures legal { IsLegal N.limit self.now.published }
+    {
+        Told {
+            list: KnownList::of(self.copies.published()),
+        }
+    }
+
+    /// The origin of the held entry.
+    pub fn held(&self) -> Option<Origin>
+        ensures { result ≡ option_map (λ e. e.origin) self.now.held }
+    {
+        match &self.held {
+            Some(entry) => Some(entry.origin),
+            None => None,
+        }
+    }
+}
