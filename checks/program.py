@@ -12,7 +12,7 @@ def crate(name="rstored"):
 
 
 def program(name="rstored"):
-    """The path of a program, which has to be built."""
+    """The path of a program, which `rt ci` or `rt run` has built."""
     path = os.path.join(crate(name), "out", name)
     if not os.path.exists(path):
         sys.exit(f"build {name} first: rt run in crates/{name}")

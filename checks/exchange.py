@@ -1,0 +1,138 @@
+"""What a client sends in a session, and what it may be answered if memory is refused once.
+
+The packets are those of OASIS MQTT Version 5.0, section 3. A topic is one letter below `a/`, and each message is `x`.
+"""
+
+CONNACK = bytes.fromhex("200D00000A21001027000400002A00")
+OUT_OF_MEMORY = b"\x97"
+
+
+def reason(refused):
+    return OUT_OF_MEMORY if refused else b""
+
+
+class Store:
+    """What a session with ample memory keeps, and whether it has ended."""
+
+    def __init__(self):
+        self.letters = set()
+        self.filters = set()
+        self.held = set()
+        self.has_ended = False
+
+    def replay(self):
+        return b"".join(b"\x31\x07\x00\x03a/" + letter + b"\x00x" for letter in sorted(self.letters))
+
+
+def packet(first, body):
+    return bytes([first, len(body)]) + body
+
+
+class Connect:
+    kind = "a CONNECT"
+    sent = bytes.fromhex("100E00044D5154540502003C00000161")
+
+    def replies(self, store, refused):
+        store.has_ended = refused
+        return bytes.fromhex("2003009700") if refused else CONNACK
+
+
+class Publish:
+    """A retained PUBLISH of this QoS. At QoS 0 a refusal has no answer."""
+
+    def __init__(self, letter, qos, number):
+        self.letter, self.qos, self.number = letter, qos, number
+        self.kind = f"a PUBLISH of QoS {qos}"
+        identifier = bytes([0, number]) if qos else b""
+        self.sent = packet(0x31 + 2 * qos, b"\x00\x03a/" + letter + identifier + b"\x00x")
+
+    def replies(self, store, refused):
+        if not refused:
+            store.letters.add(self.letter)
+            if self.qos == 2:
+                store.held.add(self.number)
+        if self.qos == 0:
+            return b""
+        return packet(0x30 + 0x10 * self.qos, bytes([0, self.number]) + reason(refused))
+
+
+class Pubrel:
+    """Completes a publication of QoS 2. Its answer is the code 0x92 if the PUBLISH was refused (3.7.2.1)."""
+
+    kind = "a PUBREL"
+
+    def __init__(self, number):
+        self.number = number
+        self.sent = packet(0x62, bytes([0, number]))
+
+    def replies(self, store, refused):
+        unknown = b"" if self.number in store.held else b"\x92"
+        store.held.discard(self.number)
+        return packet(0x70, bytes([0, self.number]) + unknown)
+
+
+class Subscribe:
+    """A SUBSCRIBE at QoS 0 to one filter that matches every topic. With Retain Handling 1 it replays only if it is new (3.8.3.1)."""
+
+    kind = "a SUBSCRIBE"
+
+    def __init__(self, text, handling, number):
+        self.text, self.handling, self.number = text, handling, number
+        self.sent = packet(0x82, bytes([0, number, 0, 0, len(text)]) + text + bytes([0x10 * handling]))
+
+    def replies(self, store, refused):
+        if refused:
+            return packet(0x90, bytes([0, self.number, 0]) + OUT_OF_MEMORY)
+        is_new = self.text not in store.filters
+        store.filters.add(self.text)
+        granted = packet(0x90, bytes([0, self.number, 0, 0]))
+        return granted + (store.replay() if self.handling == 0 or is_new else b"")
+
+
+class Disconnect:
+    kind = "a DISCONNECT"
+    sent = bytes.fromhex("E000")
+
+    def replies(self, store, refused):
+        store.has_ended = True
+        return b""
+
+
+def replies(steps, refused_at=None, is_read=True):
+    """All that is answered if memory is refused to the step of this number: to its work, or already when it is read."""
+    store, answered = Store(), b""
+    for number, step in enumerate(steps):
+        if store.has_ended:
+            break
+        if number == refused_at and not is_read:
+            # No packet is answered before a CONNECT is accepted; then it is a DISCONNECT (3.14).
+            return answered + (bytes.fromhex("E00197") if number else b"")
+        answered += step.replies(store, number == refused_at)
+    return answered
+
+
+def possible(steps):
+    """Each answer that one refusal may give, with the kind of packet that was refused in its work, if one was."""
+    answers = {replies(steps): None}
+    for number, step in enumerate(steps):
+        answers.setdefault(replies(steps, number), step.kind)
+        answers.setdefault(replies(steps, number, is_read=False), None)
+    return answers
+
+
+# Topics, so many that the store and its answers grow more than once.
+LETTERS = [bytes([letter]) for letter in b"abcdefghijklmnopqrst"]
+
+def short_exchange(qos):
+    """A publication of this QoS, the first of its store, and a subscription that replays it."""
+    publication = [Publish(b"b", qos, qos), *([Pubrel(qos)] if qos == 2 else [])]
+    return [Connect(), *publication, Subscribe(b"a/#", 0, 3), Disconnect()]
+
+
+def long_exchange():
+    """Each topic is published and looked at, and published again; then there is a subscription, twice."""
+    steps = [Connect()]
+    for number, letter in enumerate(LETTERS, 1):
+        steps += [Publish(letter, 1, number), Subscribe(b"#", 0, 100 + number)]
+    steps += [Publish(letter, 1, 50 + number) for number, letter in enumerate(LETTERS, 1)]
+    return [*steps, Subscribe(b"a/#", 1, 200), Subscribe(b"a/#", 1, 201), Disconnect()]

@@ -1,0 +1,75 @@
+//! Why the program ends without its answer.
+
+use rs_topic::TopicFault;
+use rs_window::WindowFault;
+use std::alloc::{AllocError, AllocFailed};
+use std::io;
+use thiserror::Error;
+
+#[derive(Clone, Copy, Debug, Error)]
+pub enum Failure {
+    #[error("give catalogue or window")]
+    Words,
+    #[error("out of memory")]
+    NoMemory,
+    #[error("a call gave a wrong answer")]
+    Wrong,
+    #[error("the words cannot be read, or the output cannot be written")]
+    Io,
+}
+
+impl Failure {
+    /// The exit status: 1 if memory, the words or the output failed, 2 for words that are refused, 3 for a wrong answer.
+    pub fn status(&self) -> u8 {
+        match self {
+            Failure::NoMemory | Failure::Io => 1,
+            Failure::Words => 2,
+            Failure::Wrong => 3,
+        }
+    }
+}
+
+/// Fails if an answer is wrong.
+pub fn expect(is_right: bool) -> Result<(), Failure> {
+    if is_right {
+        Ok(())
+    } else {
+        Err(Failure::Wrong)
+    }
+}
+
+impl From<AllocError> for Failure {
+    fn from(_error: AllocError) -> Failure {
+        Failure::NoMemory
+    }
+}
+
+impl<T: Drop> From<AllocFailed<T>> for Failure {
+    fn from(_error: AllocFailed<T>) -> Failure {
+        Failure::NoMemory
+    }
+}
+
+impl From<io::Error> for Failure {
+    fn from(_error: io::Error) -> Failure {
+        Failure::Io
+    }
+}
+
+impl From<TopicFault> for Failure {
+    fn from(fault: TopicFault) -> Failure {
+        match fault {
+            TopicFault::NoMemory => Failure::NoMemory,
+            _ => Failure::Wrong,
+        }
+    }
+}
+
+impl From<WindowFault> for Failure {
+    fn from(fault: WindowFault) -> Failure {
+        match fault {
+            WindowFault::NoMemory => Failure::NoMemory,
+            _ => Failure::Wrong,
+        }
+    }
+}

@@ -1,0 +1,62 @@
+//! Rounds of a window: a message is given, acknowledged, and queued again behind the others.
+
+use crate::failure::Failure;
+use crate::samples::found;
+use rs_message::Found;
+use rs_packet::{PacketId, Qos};
+use rs_topic::TopicName;
+use rs_window::{Publish, Window};
+use std::alloc::Global;
+
+/// So many messages, of QoS 1 and 2 in turn, as one answer of the store.
+fn messages(alloc: Global, count: u32) -> Result<Vec<Found>, Failure> {
+    let topic = TopicName::read(alloc, b"a/b")?;
+    let mut all = Vec::with_capacity(alloc, count as usize)?;
+    for n in 0..count {
+        let qos = if n % 2 == 0 {
+            Qos::AtLeastOnce
+        } else {
+            Qos::ExactlyOnce
+        };
+        all.push(found(&topic, qos)?)?;
+    }
+    Ok(all)
+}
+
+/// Acknowledges a PUBLISH as its quality asks.
+fn acknowledge(window: &mut Window, qos: Qos, id: PacketId) -> Result<(), Failure> {
+    match qos {
+        Qos::AtMostOnce => {}
+        Qos::AtLeastOnce => {
+            window.on_puback(id, 0)?;
+        }
+        Qos::ExactlyOnce => {
+            window.on_pubrec(id, 0)?;
+            window.on_pubcomp(id, 0)?;
+        }
+    }
+    Ok(())
+}
+
+/// Gives one message, acknowledges it and queues it again.
+fn round(alloc: Global, window: &mut Window) -> Result<(), Failure> {
+    let publish = window.next(0).ok_or(Failure::Wrong)?;
+    let id = publish.id.ok_or(Failure::Wrong)?;
+    acknowledge(window, publish.qos, id)?;
+    let Publish { topic, message, .. } = publish;
+    let mut again = Vec::with_capacity(alloc, 1)?;
+    again.push(Found { topic, message })?;
+    window.queue(again, Qos::ExactlyOnce, None)?;
+    Ok(())
+}
+
+/// Makes so many rounds in a window in which so many messages wait, and prints their number.
+pub fn work(rt: &impl Print, alloc: Global, count: u32, rounds: u32) -> Result<(), Failure> {
+    let mut window = Window::new(alloc, 65535, u32::MAX)?;
+    window.queue(messages(alloc, count)?, Qos::ExactlyOnce, None)?;
+    for _ in 0..rounds {
+        round(alloc, &mut window)?;
+    }
+    println!(rt; "{rounds}")?;
+    Ok(())
+}
