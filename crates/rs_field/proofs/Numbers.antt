@@ -50,7 +50,7 @@ cut all rest n h =
     let k : length all - length rest + n - (length all - length rest) ≡ n = omega arith in
     rw (k, h.same) refl
 
--- what is behind the length, of the whole packet
+-- what follows the length, of the whole packet
 pub digits_end : (all : List ℕ) (n : ℕ) (rest : List ℕ) → digits_at 4 (take (length all - 1) (drop 1 all)) ≡ Ok (n, rest) → IsEnd rest all
 unfolding digits_at
 digits_end [] n rest e = absurd cc

@@ -16,7 +16,7 @@ pub replayed_parts : (old : List ℕ) (expiry subscription : Option ℕ) (p : Pr
     ≡ old ++ flat_map property_bytes (replayed expiry subscription p)
 replayed_parts old expiry subscription p = simp (flat_map-append, append_assoc) refl
 
--- where there is no other property
+-- if there is no other property
 pub replayed_bare : (old : List ℕ) (expiry subscription : Option ℕ) →
     (old ++ flat_map property_bytes (optional property.Expiry expiry)) ++ flat_map property_bytes (optional property.Subscription subscription)
     ≡ old ++ flat_map property_bytes (replayed expiry subscription no_properties)

@@ -1,4 +1,4 @@
--- What the properties of a packet say is no longer than the properties, and stays in their ranges.
+-- The values of the properties of a packet are no longer than the properties, and are in their ranges.
 use Rattle.std.proofs.Common.{◌≡◌, ℕ, zero, suc, ◌+◌, ◌/◌, ◌≤◌, Bool, true, false, cond, ltb, List, [], ◌∷◌, ◌++◌, length, Result, Ok, Err, sym, ap, subst, ◌∙◌, arith, inl, inr}
 use Rattle.std.specs.Prelude.{map, is_some, IfOk, None}
 use Rattle.std.specs.List.{flat_map}

@@ -4,7 +4,7 @@ use Rattle.std.specs.List.{All}
 use Rattle.rs_field.specs.Values.{PropertiesValue, FoundValue}
 use Rattle.rs_field.specs.Forms.{IsShort, IsSubscriptionId}
 
--- 3.3.2.3.6: correlation data are a binary
+-- 3.3.2.3.6: correlation data are binary data
 abbrev pub AreKept : PropertiesValue → Type 0
 AreKept p = IfSome p.correlation IsShort
 
@@ -16,7 +16,7 @@ pub record MaximaFit (receive packet : Option ℕ) : Type 0 where
   pub receive_fits : IfSome receive IsSome
   pub packet_fits : IfSome packet IsSome
 
--- what the properties of a packet say, each in its range
+-- the values of the properties of a packet, each in its range
 pub record IsFound (f : FoundValue) : Type 0 where
   pub short : IfSome f.correlation IsShort
   pub maxima : MaximaFit f.receive_maximum f.packet_maximum

@@ -1,4 +1,4 @@
--- The numbers of the faults of a packet.
+-- The numbers of the faults of a packet. The order of the faults of a property is in Reading.antt.
 use Rattle.std.specs.Prelude.{ℕ}
 use Rattle.rs_field.specs.declared.fault.PacketFault.{PacketFault}
 use Rattle.rs_field.specs.declared.fault.PacketFault.TheVariants.{Malformed, Protocol, TooLarge, Version, NoMemory}

@@ -26,7 +26,7 @@ four n = to_be_bytes w32 n
 abbrev pub counted : List ℕ → List ℕ
 counted bytes = two (length bytes) ++ bytes
 
--- 1.5.6: a binary has at most 65,535 bytes
+-- 1.5.6: binary data have at most as many bytes as two bytes of length can say
 abbrev pub IsShort : List ℕ → Type 0
 IsShort bytes = length bytes < 2 ^ 16
 

@@ -99,7 +99,7 @@ IsInRange (property.PacketMaximum n) = (0 < n) × (n < 2 ^ 32)
 abbrev pub property_bytes : Property → List ℕ
 property_bytes p = number (identifier p) ∷ value p
 
--- table 2-4: which packet a client's property may stand in
+-- table 2-4: which packet may have which property of a client
 abbrev pub may_stand : Place → Identifier → Bool
 may_stand place.Connect id.SessionExpiry = true
 may_stand place.Connect id.AuthenticationMethod = true
@@ -127,12 +127,12 @@ may_stand place.Disconnect id.ReasonString = true
 may_stand place.Disconnect id.UserProperty = true
 may_stand _ _ = false
 
--- only the user property may stand twice
+-- only a user property may occur more than once
 abbrev pub may_repeat : Identifier → Bool
 may_repeat id.UserProperty = true
 may_repeat _ = false
 
--- whether each identifier has stood before, by its number
+-- whether each identifier has occurred before, by its number
 abbrev pub none_yet : List Bool
 none_yet = replicate 40 false
 
@@ -148,7 +148,7 @@ abbrev pub AreOnce : List Property → Type 0
 AreOnce [] = Unit {0}
 AreOnce (p ∷ ps) = MayStandBeside p ps × AreOnce ps
 
--- each may stand in the packet, with a value in its range
+-- the packet may have each, with a value in its range
 abbrev pub AreAllowed : Place → List Property → Type 0
 AreAllowed where_ [] = Unit {0}
 AreAllowed where_ (p ∷ ps) = (may_stand where_ (identifier p) ≡ true) × IsInRange p × AreAllowed where_ ps
@@ -162,7 +162,7 @@ pub record AreProperties (where_ : Place) (ps : List Property) : Type 0 where
 abbrev pub properties : List Property → List ℕ
 properties ps = varint (length (flat_map property_bytes ps)) ++ flat_map property_bytes ps
 
--- ---- what they say
+-- ---- their values
 
 abbrev pub nothing : FoundValue
 nothing = record {

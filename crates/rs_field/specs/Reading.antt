@@ -67,7 +67,7 @@ byte_at (b ∷ bytes) = Ok (b, bytes)
 abbrev pub number_at : Width → List ℕ → Result (ℕ × List ℕ) PacketFault
 number_at w bytes = if nat_lt (length bytes) (byte_len w) then Err Malformed else Ok (from_be_bytes w (take (byte_len w) bytes), drop (byte_len w) bytes)
 
--- that many bytes
+-- a part of this length
 abbrev pub part_at : ℕ → List ℕ → Result (List ℕ × List ℕ) PacketFault
 part_at n bytes = if nat_lt (length bytes) n then Err Malformed else Ok (take n bytes, drop n bytes)
 
@@ -99,7 +99,7 @@ unfoldable pub identifier_of : ℕ → Option Identifier
 identifier_of n = find (λ i. number i == n) identifiers
 
 -- a property in another packet than its own is malformed (2.2.2.2), but no client may send a Subscription Identifier in a PUBLISH
--- (3.3.4); for a Server Reference in a client's DISCONNECT the standard names no code, and this one is the project's own
+-- (3.3.4); for a Server Reference in a client's DISCONNECT the standard names no code, and this one is ours
 abbrev pub misplaced : Place → Identifier → PacketFault
 misplaced place.Publish id.SubscriptionIdentifier = Protocol
 misplaced place.Disconnect id.ServerReference = Protocol
@@ -155,7 +155,7 @@ properties_at where_ bytes = do
   ps ← properties_in (length section.0) where_ none_yet section.0
   Ok (ps, section.1)
 
--- what the properties say
+-- the values of the properties
 abbrev pub gather_on : FoundValue → Result (List Property) PacketFault → Result FoundValue PacketFault
 gather_on f read = read >>= λ ps. Ok (gathered f ps)
 

@@ -1,4 +1,4 @@
--- What properties say that are shared by count.
+-- The values of properties that are shared by count.
 use Rattle.std.specs.Prelude.{Option, Some, None}
 use Rattle.std.specs.declared.alloc.Global.{Global}
 use Rattle.std.specs.declared.sync.Arc.{Arc}

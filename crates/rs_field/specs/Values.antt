@@ -23,6 +23,6 @@ pub record PropertiesValue : Type 0 where
   pub correlation : Option (List ℕ)
   pub user : List (List ℕ × List ℕ)
 
--- no property at all
+-- without any property
 abbrev pub no_properties : PropertiesValue
 no_properties = record { format = None; content_type = None; response_topic = None; correlation = None; user = [] }

@@ -22,7 +22,7 @@ pub fn read_part(rest: &mut Bytes, len: usize) -> Result<Bytes, PacketFault>
     Ok(rest.split_to(len)?)
 }
 
-/// Reads binary data (1.5.6) of at most 65,535 bytes. Malformed if the bytes end before.
+/// Reads binary data (1.5.6). Malformed if the bytes end before it does.
 #[tactic(auto, unfolding(crate::specs::Reading::binary_at))]
 pub fn read_binary(rest: &mut Bytes) -> Result<Bytes, PacketFault>
     ensures binary { Gives (λ b. (b, rest.new)) result (binary_at rest.old) }
@@ -34,7 +34,7 @@ pub fn read_binary(rest: &mut Bytes) -> Result<Bytes, PacketFault>
     read_part(rest, usize::from(len))
 }
 
-/// Reads a UTF-8 encoded string (1.5.4) without U+0000. Malformed if there is none.
+/// Reads a UTF-8 encoded string (1.5.4). Malformed if the bytes end before it does, are not UTF-8 or contain U+0000.
 #[tactic(auto, unfolding(crate::specs::Reading::text_at))]
 pub fn read_string(rest: &mut Bytes) -> Result<Text, PacketFault>
     ensures read { Gives (λ t. (t, rest.new)) result (text_at rest.old) }

@@ -1,4 +1,4 @@
-//! Why bytes are no packet.
+//! Why bytes are not a packet.
 
 ghost use Rattle.std.specs.Prelude.{◌≡◌};
 ghost use Rattle.rs_field.specs.declared.fault.PacketFault.TheVariants.{NoMemory};
@@ -12,7 +12,7 @@ pub enum PacketFault {
     /// The bytes break the form of a packet: reason code 0x81 (1.2, 4.13).
     #[error("the packet is malformed: see that its length, flags and fields have the form of MQTT 5.0")]
     Malformed,
-    /// They have the form, and say what no client may say: reason code 0x82 (4.13).
+    /// They have the form, and say something that a client may not say: reason code 0x82 (4.13).
     #[error("the packet breaks the protocol: see that a client may send its type, properties and values")]
     Protocol,
     /// The packet is longer than the server reads: reason code 0x95 (3.2.2.3.6).
@@ -21,7 +21,7 @@ pub enum PacketFault {
     /// A CONNECT of another protocol, or of another version: reason code 0x84 (3.1.2.2).
     #[error("the protocol is not MQTT 5.0: connect with protocol version 5")]
     Version,
-    /// Memory was refused, whatever the bytes say.
+    /// Memory was refused.
     #[error("memory ran out while the packet was read: try again later")]
     NoMemory,
 }

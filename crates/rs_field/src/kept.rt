@@ -8,8 +8,8 @@ use std::alloc::{AllocError, Global};
 use std::marker::Model;
 use std::sync::Arc;
 
-/// What the properties that a message keeps say, one by one (3.3.2.3). The correlation data take less than 65,536
-/// bytes, and the user properties stand in the order received.
+/// The values of the properties that a message keeps, one by one (3.3.2.3). The correlation data have at most as many bytes as
+/// two bytes of length can say, and the user properties stand in the order received.
 #[derive(Drop)]
 pub struct PropertyFields {
     /// The Payload Format Indicator (3.3.2.3.2): 0 for bytes, 1 for UTF-8.
@@ -18,9 +18,9 @@ pub struct PropertyFields {
     pub content_type: Option<Text>,
     /// The Response Topic (3.3.2.3.5).
     pub response_topic: Option<Text>,
-    /// The Correlation Data (3.3.2.3.6), of 0 to 65,535 bytes.
+    /// The Correlation Data (3.3.2.3.6).
     pub correlation: Option<Bytes>,
-    /// The User Properties (3.3.2.3.7): names and values; a name may stand more than once.
+    /// The User Properties (3.3.2.3.7): names and values; a name may occur more than once.
     pub user: Vec<(Text, Text)>,
 }
 
@@ -52,7 +52,7 @@ impl PropertyFields {
     ghost use Rattle.rs_field.specs.Values.{no_properties};
     ghost use Rattle.rs_field.specs.Equality.{properties_eq};
 
-    /// None of them is there.
+    /// Whether none of them is there.
     fn are_none(&self) -> bool
         ensures { result ≡ properties_eq no_properties self.now }
     {
@@ -81,7 +81,7 @@ impl PartialEq for PropertyFields {
     }
 }
 
-/// The properties that a message keeps (3.3.2.3). Copies share what they say, and no property takes no memory.
+/// The properties that a message keeps (3.3.2.3). Copies share their values. Without any property it takes no memory.
 #[derive(Drop)]
 pub struct Properties {
     fields: Option<Arc<PropertyFields>>,
@@ -101,14 +101,14 @@ impl Properties {
     ghost use Rattle.std.specs.Prelude.{IsOk, MatchOption};
     ghost use Rattle.rs_field.specs.Values.{no_properties};
 
-    /// No property at all.
+    /// Creates a value without any property.
     pub fn none() -> Properties
         ensures { result ≡ no_properties }
     {
         Properties { fields: None }
     }
 
-    /// These properties. No property takes no memory.
+    /// Creates a value with these properties. It takes no memory if there are none.
     pub fn new(alloc: Global, fields: PropertyFields) -> Result<Properties, AllocError>
         ensures ok { IfOk result (λ p. p ≡ fields) }
         ensures none { fields ≡ no_properties → IsOk result }
@@ -131,7 +131,7 @@ impl Properties {
         }
     }
 
-    /// An equal value, which shares what they say; refused only for out of memory. It takes none.
+    /// An equal value, which shares the values. The error says that the count of their owners is full.
     pub fn copy(&self) -> Result<Properties, AllocError>
         ensures { IfOk result (λ p. p ≡ self.now) }
     {

@@ -1,14 +1,14 @@
-//! The fields of the packets of MQTT 5.0 (OASIS, sections 1.5 and 2.2.2): integers, strings, binary data and properties. A file
-//! of `src/` has each form: how it is read, how it is written, and how many bytes it takes.
+//! The fields of the packets of MQTT 5.0 (OASIS, sections 1.5 and 2.2.2): integers, strings, binary data and properties. Each form
+//! has a file in `src/`, with how it is read, how it is written, and how many bytes it takes. docs/WIRE.md has the rules in words.
 //!
 //! A reader takes its field off the start of `Bytes`; the strings and binary data that it gives share their memory. After a fault
 //! what is left has no meaning. A writer appends to a `Vec`.
 //!
 //! Promised by contracts: a reader gives the field, or the first fault from left to right, exactly as the definition that its
-//! contract names says; only out of memory comes in place of these answers. `read_properties` takes each property once, but User
-//! Properties, if its packet may have it, with a value in its range. A writer appends just the bytes of the form, and a length is
-//! their number. Copies of `Properties` are equal, and share what they say; `==` goes field by field. A `SubscriptionId` is never
-//! 0 and always has a form of at most four bytes.
+//! contract names says; only out of memory comes in place of these answers. `read_properties` accepts a property if its packet
+//! may have it and its value is in range, and accepts only User Properties more than once. A writer appends just the bytes of
+//! the form, and a length is their number. Copies of `Properties` are equal, and share their values; `==` goes field by field. A
+//! `SubscriptionId` is never 0 and always has a form of at most four bytes.
 #![tactic(auto)]
 
 mod binary;

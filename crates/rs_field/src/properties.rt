@@ -20,7 +20,7 @@ use bytes::Bytes;
 use rs_topic::Text;
 use std::alloc::{AllocError, Global};
 
-/// The identifier, if it may stand here. Malformed or Protocol if not (2.2.2.2).
+/// The identifier, if this packet may have it. Malformed or Protocol if not (2.2.2.2).
 fn judge(id: Option<Identifier>, place: Place, seen: &[bool; 40]) -> Result<Identifier, PacketFault>
     ensures { Gives (λ i. i) result (judged place seen.now id) }
 {
@@ -268,7 +268,7 @@ fn put_fields(
     Ok(())
 }
 
-/// Appends what a message sends that keeps no field.
+/// Appends what a message without fields sends.
 #[tactic(auto, using(crate::proofs::Replayed::replayed_bare))]
 fn put_bare(
     out: &mut Vec<u8>,

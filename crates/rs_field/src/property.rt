@@ -53,7 +53,7 @@ pub enum Property {
     PacketMaximum(u32),
 }
 
-/// The packet that properties stand in.
+/// The packet that properties belong to.
 #[derive(Clone, Copy)]
 pub enum Place {
     Connect,
@@ -136,7 +136,7 @@ impl Identifier {
         }
     }
 
-    /// Its number (2.2.2.2).
+    /// The number of this identifier (2.2.2.2).
     pub fn number(self) -> u8
         ensures value { result ≡ number self }
         ensures small { result < 40 }
@@ -163,7 +163,7 @@ impl Identifier {
         }
     }
 
-    /// Only a user property may stand twice.
+    /// Whether a packet may have it more than once: only a user property.
     pub fn may_repeat(self) -> bool
         ensures { result ≡ may_repeat self }
     {
@@ -246,7 +246,7 @@ impl Property {
 impl Found {
     ghost use Rattle.rs_field.specs.Properties.{put, nothing};
 
-    /// Of no property.
+    /// Creates the values of a packet without properties.
     pub fn new(alloc: Global) -> Found
         ensures { result ≡ nothing }
     {
@@ -267,7 +267,7 @@ impl Found {
         }
     }
 
-    /// Adds what a property says.
+    /// Adds the value of a property.
     pub fn put(&mut self, property: Property) -> Result<(), AllocError>
         ensures { OnOk result (self.new ≡ put self.old property) }
     {

@@ -13,7 +13,7 @@ use std::alloc::AllocError;
 pub enum VarintFault {
     /// They end before it does.
     Short,
-    /// It takes more than four bytes, or more than its number needs.
+    /// It has more than four bytes, or more than its number needs.
     Bad,
 }
 
@@ -88,7 +88,7 @@ pub fn parse_varint(bytes: &[u8]) -> Result<(u32, &[u8]), VarintFault>
     }
 }
 
-/// Reads a variable byte integer, at most `MAX_REMAINING_LENGTH`. Malformed if there is none; then nothing is taken.
+/// Reads a variable byte integer, at most `MAX_REMAINING_LENGTH`. Malformed if there is none; then nothing is read.
 #[tactic(auto, unfolding(crate::specs::Reading::varint_at), using(crate::proofs::Numbers::digits_rest))]
 pub fn read_varint(rest: &mut Bytes) -> Result<u32, PacketFault>
     ensures number { Gives (λ n. (n, rest.new)) result (varint_at rest.old) }

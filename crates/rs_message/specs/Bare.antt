@@ -1,2 +1,2 @@
--- No property at all.
+-- A message without properties.
 pub use Rattle.rs_packet.specs.Fields.{no_properties}

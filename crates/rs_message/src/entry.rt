@@ -75,7 +75,7 @@ pub enum Operation {
 }
 
 impl Operation {
-    /// An equal operation, which shares the bytes. The error says that memory was refused.
+    /// An equal operation, which shares the bytes. The error says that the count of their owners is full.
     pub fn copy(&self) -> Result<Operation, AllocError>
         ensures { IfOk result (λ o. o ≡ self.now) }
     {
@@ -121,7 +121,7 @@ pub struct Entry {
 }
 
 impl Entry {
-    /// An equal entry, which shares the bytes. The error says that memory was refused.
+    /// An equal entry, which shares the bytes. The error says that the count of their owners is full.
     pub fn copy(&self) -> Result<Entry, AllocError>
         ensures { IfOk result (λ e. e ≡ self.now) }
     {

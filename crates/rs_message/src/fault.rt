@@ -17,7 +17,7 @@ pub enum SubmitFault {
     /// No receipt came; the change may still become an entry, at most once.
     #[error("the store gave no receipt; the change may still be made, once")]
     Open = 42,
-    /// The receipt was for another change.
+    /// The receipt was for another change; whether this one is an entry is not known.
     #[error("the store answered for another change; whether this one was made is not known")]
     Strange = 43,
     /// The gate is closed; no entry was made.

@@ -1,7 +1,7 @@
 //! Retained messages, and the entries of the store's history.
 //!
-//! A PUBLISH with RETAIN 1 sets its topic's message or clears it ([`Operation::of`]). [`Message::remaining`] tells the time that
-//! a message has left. An [`Entry`] of the history is one operation and its [`Origin`].
+//! A PUBLISH with RETAIN 1 sets its topic's message or clears it ([`Operation::of`]). [`Message::remaining`] says how much
+//! time a message has left. An [`Entry`] of the history is one operation and its [`Origin`].
 //!
 //! A message owns no bytes: its payload and its texts are parts of the bytes that its packet was decoded from, and all copies
 //! share these by count. So a message keeps the bytes of its packet in memory, and no others. A caller that decodes from a

@@ -39,7 +39,7 @@ impl Model for Message {
 pub enum Remaining {
     /// It has no Message Expiry Interval and does not expire.
     Forever,
-    /// It expires in so many seconds, at least 1.
+    /// It expires in this many seconds, at least 1.
     Left(u32),
     /// Its interval has passed.
     Expired,
@@ -124,8 +124,8 @@ impl Message {
         }
     }
 
-    /// An equal message, which shares the payload and the properties: none of their bytes is copied. The error says that
-    /// memory was refused.
+    /// An equal message, which shares the payload and the properties: none of their bytes is copied. The error says that the
+    /// count of their owners is full.
     pub fn copy(&self) -> Result<Message, AllocError>
         ensures { IfOk result (λ m. m ≡ self.now) }
     {

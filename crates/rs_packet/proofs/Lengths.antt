@@ -92,7 +92,7 @@ remaining_parts topic qos expiry subscription kept payload section quality is-se
 pub section_small : (p : Publication) → length (publication_body p) < varint_end → length (flat_map property_bytes (replayed p.expiry p.subscription p.properties)) < varint_end
 section_small p h = omega (arith, h, length_body p)
 
--- an identifier stands where QoS is above 0
+-- there is an identifier if QoS is above 0
 with_id : (qos : Qos) (id : Option ℕ) → IdFits qos id → is_some id ≡ ltb 0 (level qos)
 with_id AtMostOnce None h = refl
 with_id AtMostOnce (Some n) h = absurd h

@@ -47,7 +47,7 @@ not_more a x p h e = let is : ◌≡◌ {A = Result Decoded PacketFault} (Ok (Wh
 
 -- ---- what follows
 
--- a number that was read, with more behind it
+-- a number that was read, with more after it
 abbrev pub extended : List ℕ → Result (ℕ × List ℕ) VarintFault → Result (ℕ × List ℕ) VarintFault
 extended more (Ok x) = Ok (x.0, x.1 ++ more)
 extended more (Err c) = Err c
@@ -355,7 +355,7 @@ answer_by_header (first ∷ bytes) = by (kind_of first)
     by (Err f) = refl
     by (Ok k) = sized_in first bytes k (digits_at 4 bytes) refl
 
--- where the body stands
+-- the place of the body
 pub record HasBody (bytes : List ℕ) (h : Header) : Type 0 where
   pub start_fits : h.start ≤ h.size
   pub body_fits : h.size - h.start ≤ MAX_PACKET_SIZE

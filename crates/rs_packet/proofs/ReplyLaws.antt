@@ -74,7 +74,7 @@ level_is ExactlyOnce ExactlyOnce e = refl
 
 -- ---- the other replies, from the first byte and the body
 
--- a number of two bytes, and what is behind it
+-- a number of two bytes, and what follows it
 abbrev with_number : (ℕ → List ℕ → Reply) → Result (ℕ × List ℕ) PacketFault → Reply
 with_number make (Ok x) = make x.0 x.1
 with_number make (Err f) = reply.Pingresp
@@ -115,7 +115,7 @@ abbrev with_section : Result (ℕ × List ℕ) PacketFault → Reply
 with_section (Ok x) = reply.Accepted (accepted_of x.1)
 with_section (Err f) = reply.Pingresp
 
--- a CONNACK that refuses has three bytes behind its length
+-- a CONNACK that refuses has three bytes after its length
 abbrev connack : List ℕ → Reply
 connack body = cond (eqb (length body) 3) (reply.Refused (slice_index_or body 1 0)) (with_section (varint_at (drop 2 body)))
 

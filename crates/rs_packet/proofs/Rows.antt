@@ -29,7 +29,7 @@ padded_length : answer (0xC0 ∷ 0x80 ∷ 0x00 ∷ []) ≡ Err Malformed
 unfolding answer kind_of digits_at
 padded_length = refl
 
--- a SUBACK is no client's packet
+-- no client sends a SUBACK
 from_a_server : answer (0x90 ∷ []) ≡ Err Protocol
 unfolding answer kind_of
 from_a_server = refl

@@ -1,4 +1,4 @@
--- What the types of packets and replies keep. The numbers of sections are those of OASIS MQTT Version 5.0.
+-- What the types of packets and replies keep.
 use Rattle.std.specs.Prelude.{ℕ, ◌<◌, ◌≤◌, length, IfSome}
 use Rattle.rs_field.specs.Bounds.{MaximaFit}
 use Rattle.rs_packet.specs.Values.{PublishValue, ConnectValue, PublicationValue, SubscribeValue, UnsubscribeValue, CodesValue}

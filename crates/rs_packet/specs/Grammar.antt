@@ -100,7 +100,7 @@ pub record EncodesPublish (duplicate : Bool) (qos : Qos) (retain : Bool) (body :
 
 -- ---- 3.4 to 3.7: PUBACK, PUBREC, PUBREL, PUBCOMP
 
--- 3.4.2.1: an absent code is 0, and absent properties are none
+-- 3.4.2.1: an absent code is 0; absent properties are as an empty list of them
 pub data EncodesCode (where_ : Place) : List ℕ → ℕ → Type 0 where
   no_code : EncodesCode where_ [] 0
   no_properties : {code : ℕ} → code < 256 → EncodesCode where_ (code ∷ []) code
@@ -169,7 +169,7 @@ protocol = 0 ∷ 4 ∷ 77 ∷ 81 ∷ 84 ∷ 84 ∷ 5 ∷ []
 abbrev pub flags_byte : Flags → ℕ
 flags_byte f = 128 * bit f.user_name + 64 * bit f.password + 32 * bit f.will_retain + 8 * level f.will_qos + 4 * bit f.will + 2 * bit f.clean_start
 
--- 3.1.2.6, 3.1.2.7: with no will its flags are 0
+-- 3.1.2.6, 3.1.2.7: without a will its flags are 0
 abbrev pub FlagsFit : Flags → Type 0
 FlagsFit f = f.will ≡ false → (f.will_retain ≡ false) × (f.will_qos ≡ AtMostOnce)
 
@@ -178,13 +178,13 @@ pub data EncodesIf (P : List ℕ → Type 0) : Bool → List ℕ → Type 0 wher
   absent : EncodesIf P false []
   present : {field : List ℕ} → P field → EncodesIf P true (counted field)
 
--- 3.1.3: the client identifier, the user name and the password. Where there is a will, nothing of it is read
+-- 3.1.3: the client identifier, the user name and the password. If there is a will, nothing of it is read
 pub data EncodesPayload : Flags → List ℕ → Option (List ℕ) → Type 0 where
   with_will : {f : Flags} {payload : List ℕ} → f.will ≡ true → EncodesPayload f payload None
   with_client : {f : Flags} {client name password : List ℕ} → f.will ≡ false → IsText client → EncodesIf IsText f.user_name name → EncodesIf IsShort f.password password
       → EncodesPayload f (counted client ++ (name ++ password)) (Some client)
 
--- 3.1.2.11.10: authentication data stand with a method
+-- 3.1.2.11.10: authentication data need a method
 abbrev pub MethodFits : FoundValue → Type 0
 MethodFits f = f.authentication ≡ true → (t : List ℕ) × (f.method ≡ Some t)
 
@@ -213,7 +213,7 @@ pub record EncodesConnect (body : List ℕ) (c : Connect) : Type 0 where
 
 pub data EncodesBody : Kind → List ℕ → Packet → Type 0 where
   connect : {body : List ℕ} {c : Connect} → EncodesConnect body c → EncodesBody kind.Connect body (packet.Connect c)
-  -- 3.3.1.1: a packet of QoS 0 is no duplicate
+  -- 3.3.1.1: a packet of QoS 0 is not a duplicate
   publish : {duplicate retain : Bool} {qos : Qos} {body : List ℕ} {p : Publish} → (qos ≡ AtMostOnce → duplicate ≡ false) → EncodesPublish duplicate qos retain body p
       → EncodesBody (kind.Publish duplicate qos retain) body (packet.Publish p)
   puback : {body : List ℕ} {a : Acknowledgement} → EncodesAcknowledgement body a → EncodesBody kind.Puback body (packet.Puback a)

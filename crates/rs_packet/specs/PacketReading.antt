@@ -44,7 +44,7 @@ kinds =
     ∷ kind.Publish true ExactlyOnce false ∷ kind.Publish true ExactlyOnce true
     ∷ kind.Puback ∷ kind.Pubrec ∷ kind.Pubrel ∷ kind.Pubcomp ∷ kind.Subscribe ∷ kind.Unsubscribe ∷ kind.Pingreq ∷ kind.Disconnect ∷ []
 
--- the first bytes of CONNACK, SUBACK, UNSUBACK, PINGRESP and AUTH, which no client sends here
+-- the first bytes of CONNACK, SUBACK, UNSUBACK, PINGRESP and AUTH, which a client may not send here
 abbrev pub others : List ℕ
 others = 0x20 ∷ 0x90 ∷ 0xB0 ∷ 0xD0 ∷ 0xF0 ∷ []
 
@@ -158,7 +158,7 @@ flags_of b =
       clean_start = b / 2 % 2 == 1;
     })))
 
--- a field that a flag announces, passed over
+-- a field that a flag announces, which is skipped
 abbrev pub past_text : Bool → List ℕ → Result (List ℕ) PacketFault
 past_text false bytes = Ok bytes
 past_text true bytes = text_at bytes >>= λ t. Ok t.1
@@ -173,7 +173,7 @@ client_at f bytes =
     if f.will then Ok None
     else (text_at bytes >>= λ client. past_text f.user_name client.1 >>= λ name. past_binary f.password name >>= λ rest. ended (Some client.0) rest)
 
--- nothing behind another name or another version is read
+-- nothing after another name or another version is read
 unfoldable pub version_at : List ℕ → Result (List ℕ) PacketFault
 version_at body = do
   name ← text_at body
@@ -214,14 +214,14 @@ packet_at kind.Disconnect body = code_at place.Disconnect body >>= λ code. Ok (
 
 -- ---- the whole
 
--- a packet whose length is n, with these bytes behind the length, and so many before
+-- a packet whose header takes `before` bytes and says the length n; `rest` is what follows
 abbrev pub body_at : Kind → ℕ → ℕ → List ℕ → Result Decoded PacketFault
 body_at k before n rest =
     if nat_lt MAX_PACKET_SIZE (before + n) then Err TooLarge
     else (if nat_lt (length rest) n then Ok More
     else (packet_at k (take n rest) >>= λ p. Ok (Whole p (before + n))))
 
--- 2.1: the header, by the kind of the packet, the bytes behind the first one, and the length that they begin with
+-- 2.1: the header, by the kind of the packet, the bytes after the first one, and the length that they begin with
 abbrev pub header_in : Kind → List ℕ → Result (ℕ × List ℕ) VarintFault → Result (Option Header) PacketFault
 header_in k bytes (Err Short) = Ok None
 header_in k bytes (Err Bad) = Err Malformed

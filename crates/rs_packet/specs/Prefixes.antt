@@ -1,4 +1,4 @@
--- What the bytes held so far say of the packet that they begin, whatever follows them.
+-- What the first bytes of a packet say of it, whatever follows them.
 use Rattle.std.specs.Prelude.{◌≡◌, ℕ, List, Ok, Err}
 use Rattle.rs_field.specs.declared.fault.PacketFault.{PacketFault}
 use Rattle.rs_field.specs.declared.fault.PacketFault.TheVariants.{Malformed, Protocol, TooLarge, Version, NoMemory}

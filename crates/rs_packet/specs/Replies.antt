@@ -20,7 +20,7 @@ message_len expiry kept payload = payload + length (properties (replayed expiry 
 abbrev pub message_size : Option ℕ → PropertiesValue → List ℕ → ℕ
 message_size expiry kept payload = message_len expiry kept (length payload)
 
--- 3.2.2.3.2: an interval of 0, told if the client asked for another
+-- 3.2.2.3.2: an interval of 0, sent if the client asked for another
 abbrev pub expiry_told : Bool → List ℕ
 expiry_told false = []
 expiry_told true = 0x11 ∷ four 0
@@ -109,7 +109,7 @@ ReplyFits (reply.Unsuback codes) = codes.id < 2 ^ 16
 ReplyFits reply.Pingresp = Unit {0}
 ReplyFits (reply.Disconnect code) = Unit {0}
 
--- what has a encoding
+-- a reply has an encoding if its body has a length that can be written
 abbrev pub HasEncoding : Reply → Type 0
 HasEncoding r = length (reply_body r) < varint_end
 

@@ -364,7 +364,7 @@ pub fn decode(alloc: Global, bytes: &Bytes) -> Result<Decoded, PacketFault>
     decoded(alloc, bytes)
 }
 
-/// The encodings of packets are prefix-free, and so are those of replies (2.1); no two replies have one encoding.
+/// The encodings of packets are prefix-free, and so are those of replies (2.1); no two replies have the same.
 pub fn wire_law()
     ensures packets { (a b x y : List ℕ) (p q : Packet) → Encodes a p → Encodes b q → a ++ x ≡ b ++ y → (a ≡ b) × (x ≡ y) }
     ensures replies { (a b x y : List ℕ) (r s : Reply) → EncodesReply a r → EncodesReply b s → a ++ x ≡ b ++ y → (a ≡ b) × (x ≡ y) }

@@ -1,4 +1,4 @@
-//! Encoding the replies: a file of `encoding/` for each kind.
+//! Encoding the replies. Those of a fixed form are encoded here, the others in a file of `encoding/` each.
 
 ghost use Rattle.std.specs.Prelude.{◌≡◌, ◌<◌, ◌++◌, length, OnOk, IfOk};
 ghost use Rattle.rs_field.specs.Forms.{varint_end};
@@ -73,7 +73,7 @@ fn reply_len(reply: &Reply) -> usize
     }
 }
 
-/// The number of bytes of a reply, at most 5 more than of its body (2.1.4).
+/// The number of bytes of a reply: at most 5 more than its body has (2.1.4).
 #[tactic(auto, using(crate::proofs::Lengths::length_frame))]
 pub fn encoded_len(reply: &Reply) -> usize
     ensures value { result ≡ length (reply_bytes reply.now) }
@@ -87,7 +87,7 @@ pub fn encoded_len(reply: &Reply) -> usize
 /// The one encoding of a reply. `AllocError` only if memory runs out.
 pub fn encode(alloc: Global, reply: &Reply) -> Result<Bytes, AllocError>
     ensures bytes { IfOk result (λ b. b ≡ reply_bytes reply.now) }
-    // No encoding of a reply begins another one, and no two replies have one encoding (`wire_law`).
+    // No encoding of a reply is a prefix of another, and no two replies have the same (`wire_law`).
     ensures encodes { IfOk result (λ b. EncodesReply b reply.now) }
 {
     let mut out = Vec::with_capacity(alloc, encoded_len(reply))?;

@@ -10,18 +10,18 @@ use rs_field::{PacketFault, read_string, read_u8};
 use rs_topic::{TopicFault, TopicFilter};
 use std::alloc::Global;
 
-/// One entry of the payload of a SUBSCRIBE or an UNSUBSCRIBE.
+/// One item of the payload of a SUBSCRIBE or an UNSUBSCRIBE: a filter, and in a SUBSCRIBE its options.
 pub trait Item {
-    /// The entry that some bytes begin with, and the bytes after it.
+    /// The item that some bytes begin with, and the bytes after it.
     ghost item_at: { List ℕ → Result (Self × List ℕ) PacketFault };
 
-    /// Reads one entry.
+    /// Reads one item.
     fn item_of(rest: &mut Bytes) -> Result<Self, PacketFault>
         ensures read { Gives (λ a. (a, rest.new)) result (item_at rest.old) }
         ensures shorter { OnOk result (length rest.new < length rest.old) };
 }
 
-/// In an UNSUBSCRIBE: the filter, or why the string is none.
+/// In an UNSUBSCRIBE: the filter, or why the string is not one.
 impl Item for Result<TopicFilter, TopicFault> {
     ghost item_at = { filter_at };
 
@@ -32,7 +32,7 @@ impl Item for Result<TopicFilter, TopicFault> {
     }
 }
 
-/// In a SUBSCRIBE: the filter, or why the string is none, and the options.
+/// In a SUBSCRIBE: the filter, or why the string is not one, and the options.
 impl Item for (Result<TopicFilter, TopicFault>, Options) {
     ghost item_at = { asked_at };
 
@@ -47,7 +47,7 @@ impl Item for (Result<TopicFilter, TopicFault>, Options) {
     }
 }
 
-/// Reads all entries of a payload.
+/// Reads all items of a payload.
 pub fn all_items<I: Item + Drop>(alloc: Global, body: Bytes) -> Result<Vec<I>, PacketFault>
     ensures read { Gives (λ v. v.items) result (all_in I.item_at (length body) body) }
     ensures few { IfOk result (λ v. length v.items ≤ length body) }

@@ -21,8 +21,8 @@ pub(crate) struct Header {
     pub(crate) size: usize,
 }
 
-/// The header that the bytes begin with; None if they end before it does. Malformed or Protocol if the first byte is no
-/// client's, Malformed if the length has no form, TooLarge if the packet is longer than `MAX_PACKET_SIZE`.
+/// The header that the bytes begin with; None if they end before it does. Malformed or Protocol if a client's packet does not
+/// begin with the first byte, Malformed if the length has no form, TooLarge if the packet is longer than `MAX_PACKET_SIZE`.
 #[tactic(auto, unfolding(crate::specs::PacketReading::header_at))]
 pub(crate) fn parse_header(bytes: &[u8]) -> Result<Option<Header>, PacketFault>
     ensures { result ≡ header_at bytes.now }
@@ -45,22 +45,21 @@ pub(crate) fn parse_header(bytes: &[u8]) -> Result<Option<Header>, PacketFault>
     }
 }
 
-/// How many bytes to hold before the next attempt to decode the packet that the bytes begin with, by their first five at
-/// most (2.1.1, 2.1.4). Until its whole length is there, that is one more than are held; from then on it is the size of the
-/// packet. If the first byte or the length is faulty, or the packet longer than `MAX_PACKET_SIZE`, it is as many as are held:
-/// `decode` names the fault.
+/// How many bytes to collect before `decode` is called again. Reads at most the first five bytes (2.1.1, 2.1.4). As long as the
+/// Remaining Length is incomplete, this is one more than there are; then it is the size of the packet. If the first byte or the
+/// length is faulty, or the packet longer than `MAX_PACKET_SIZE`, it is as many as there are: `decode` names the fault.
 ///
-/// A server asks again after each read, and decodes once it holds as many as were last answered: with fewer, `decode` would
-/// only answer `More`.
+/// A server calls this again after each read, and calls `decode` if it has as many bytes as this says: with fewer, `decode`
+/// would only answer `More`.
 pub fn needed_len(bytes: &[u8]) -> usize
-    // Fewer bytes are less than a packet, and so they stay until that many are held.
+    // Fewer bytes are less than a packet, whatever follows.
     ensures short { length bytes.now < result → IsMore bytes.now }
     ensures needed { (more : List ℕ) → length (bytes.now ++ more) < result → IsMore (bytes.now ++ more) }
-    // That many decide, whatever else is held.
+    // That many decide, whatever follows.
     ensures enough { result ≤ length bytes.now → answer (take result bytes.now) ≡ answer bytes.now }
     ensures waits { IsMore bytes.now → length bytes.now < result }
     ensures whole { (p : Packet) (n : ℕ) → answer bytes.now ≡ Ok (Decoded.Whole p n) → result ≡ n }
-    // Five bytes have the whole length in them, and so tell the size of whatever packet they begin.
+    // Five bytes have the whole length in them, and so say the size of any packet that begins with them.
     ensures sized { (more : List ℕ) (p : Packet) (n : ℕ) → 5 ≤ length bytes.now → answer (bytes.now ++ more) ≡ Ok (Decoded.Whole p n) → result ≡ n }
 {
     match parse_header(bytes) {

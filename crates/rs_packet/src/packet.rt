@@ -61,7 +61,7 @@ impl Qos {
     ghost use Rattle.std.specs.Prelude.{◌≡◌, ◌<◌};
     ghost use Rattle.rs_packet.specs.Grammar.{level};
 
-    /// 0, 1 or 2, as a packet has it.
+    /// The number of the QoS in a packet: 0, 1 or 2.
     pub fn level(self) -> u8
         ensures value { result ≡ level self }
         ensures small { result < 3 }
@@ -81,7 +81,7 @@ pub enum RetainHandling {
     Always,
     /// 1: only if the subscription is new.
     IfNew,
-    /// 2: at no SUBSCRIBE.
+    /// 2: never.
     Never,
 }
 
@@ -117,7 +117,7 @@ impl Kind {
     ghost use Rattle.std.specs.Prelude.{◌≡◌};
     ghost use Rattle.rs_packet.specs.PacketReading.{Gives, kind_of};
 
-    /// The kind of packet that begins with this byte. Protocol if only a server sends it, Malformed if it is no packet's.
+    /// The kind of packet that begins with this byte. Protocol if only a server sends it, Malformed if no packet begins with it.
     #[tactic(auto, unfolding(crate::specs::PacketReading::kind_of))]
     pub fn of(head: u8) -> Result<Kind, PacketFault>
         ensures { result ≡ kind_of head }
@@ -158,7 +158,7 @@ pub struct Publish {
     pub qos: Qos,
     /// RETAIN: the message is to be kept for its topic (3.3.1.3).
     pub retain: bool,
-    /// The topic name, or why the string is none (3.3.2.1).
+    /// The topic name, or why the string is not one (3.3.2.1).
     pub topic: Result<TopicName, TopicFault>,
     /// The packet identifier, if QoS is 1 or 2 (3.3.2.2).
     pub id: Option<PacketId>,
@@ -220,7 +220,7 @@ pub struct Subscribe {
     pub id: PacketId,
     /// The Subscription Identifier (3.8.2.1.2), of all the filters.
     pub subscription: Option<SubscriptionId>,
-    /// Each filter, or why the string is none, and its options (3.8.3).
+    /// Each filter, or why the string is not one, and its options (3.8.3).
     pub filters: Vec<(Result<TopicFilter, TopicFault>, Options)>,
 }
 
@@ -241,7 +241,7 @@ impl Model for Subscribe {
 pub struct Unsubscribe {
     /// The packet identifier (3.10.2), which the UNSUBACK repeats.
     pub id: PacketId,
-    /// Each filter, or why the string is none (3.10.3).
+    /// Each filter, or why the string is not one (3.10.3).
     pub filters: Vec<Result<TopicFilter, TopicFault>>,
 }
 
@@ -271,7 +271,7 @@ pub struct Flags {
 /// A CONNECT (3.1), the first packet of a client. Neither maximum is 0.
 #[derive(Drop)]
 pub struct Connect {
-    /// Clean Start: no earlier session is taken up (3.1.2.4).
+    /// Clean Start: no earlier session is continued (3.1.2.4).
     pub clean_start: bool,
     /// The Will Flag: the payload begins a will (3.1.2.5), of which nothing is read.
     pub will: bool,

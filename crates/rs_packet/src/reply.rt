@@ -15,7 +15,7 @@ use std::marker::Model;
 pub struct Accepted {
     /// The client asked for a Session Expiry Interval that is not 0, and is told 0 (3.2.2.3.2).
     pub session_expiry_zero: bool,
-    /// The identifier that a client gets which sent an empty one (3.2.2.3.7).
+    /// The identifier for a client that sent an empty one (3.2.2.3.7).
     pub assigned_client: Option<Text>,
 }
 
@@ -155,8 +155,8 @@ impl Codes {
 pub enum Reply {
     /// A CONNACK with the reason code 0x00 (3.2).
     Accepted(Accepted),
-    /// A CONNACK with this reason code and no properties (3.2.2.2). It refuses if the code is 0x80
-    /// or more, which the caller sees to.
+    /// A CONNACK with this reason code and no properties (3.2.2.2). The caller gives a code of 0x80 or
+    /// more.
     Refused(u8),
     /// A PUBLISH with RETAIN set (3.3).
     Publish(Publication),

@@ -1,4 +1,4 @@
--- What ties the definitions to one another.
+-- How the definitions are related.
 use Rattle.std.specs.Prelude.{◌≡◌, ◌↔◌, ℕ, ◌<◌, false, IsTrue, List, length, All}
 use Rattle.std.specs.List.{join_with_byte}
 use Rattle.std.specs.declared.cmp.Ordering.TheVariants.{Less}
@@ -21,7 +21,7 @@ AreTheLevels = (text : List ℕ) → AreLevels text (levels text) × ((parts : L
 abbrev pub IsTheOrderOfReplay : Type 0
 IsTheOrderOfReplay = (a b : List ℕ) → (topic_cmp a b ≡ Less) ↔ IsReplayedBefore a b
 
--- the test answers true for what the relation relates, and for nothing else
+-- the test is true exactly if the relation holds
 abbrev pub TestsMatches : Type 0
 TestsMatches = (filter name : List ℕ) → IsTrue (matches filter name) ↔ Matches filter name
 

@@ -1,4 +1,4 @@
--- Which filter matches which name, as a relation and as a test. The number of a section is that of OASIS MQTT Version 5.0.
+-- Which filter matches which name, as a relation and as a test.
 use Rattle.std.specs.Prelude.{◌≡◌, ℕ, ◌⊎◌, Bool, false, ◌&&◌, ◌||◌, not, ◌==◌, List, [], ◌∷◌}
 use Rattle.std.specs.Str.{bytes_eq}
 use Rattle.rs_topic.specs.Topics.{plus, hash, dollar, levels, is_end}

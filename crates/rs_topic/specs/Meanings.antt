@@ -1,4 +1,4 @@
--- Texts, topic names, topic filters and their faults, in the words of the standard. The number of a section is that of OASIS MQTT Version 5.0.
+-- Texts, topic names, topic filters and their faults, in the words of the standard.
 use Rattle.std.specs.Prelude.{◌≡◌, ℕ, ◌+◌, ◌<◌, ◌≤◌, false, IsTrue, ◌⊎◌, List, [], ◌∷◌, ◌++◌, length, Some, Result, Err, IsOk, MatchResult}
 use Rattle.std.specs.List.{slice_get}
 use Rattle.std.specs.Str.{IsUtf8}
@@ -34,7 +34,7 @@ pub record IsTopicFilter (filter : List ℕ) : Type 0 where
   pub few_levels : length (levels filter) ≤ MAX_LEVELS
   pub not_shared : ¬ IsShared filter
 
--- the bytes have this fault; NoMemory is none of theirs
+-- the bytes have this fault; NoMemory is not a fault of bytes
 abbrev pub Faulty : List ℕ → TopicFault → Type 0
 Faulty bytes Empty = length bytes ≡ 0
 Faulty bytes TooLong = MAX_TEXT_SIZE < length bytes

@@ -6,7 +6,7 @@ use Rattle.std.specs.declared.cmp.Ordering.{Ordering}
 use Rattle.std.specs.declared.cmp.Ordering.TheVariants.{Less, Greater}
 use Rattle.rs_topic.specs.Topics.{levels, slash}
 
--- own: level by level, each by its bytes, a list before its extensions
+-- ours: level by level, each by its bytes, a list before its extensions
 pub data ComesBefore {X : Type 0} (IsLess : X → X → Type 0) : List X → List X → Type 0 where
   shorter : {y : X} {ys : List X} → ComesBefore IsLess [] (y ∷ ys)
   here : {x y : X} {xs ys : List X} → IsLess x y → ComesBefore IsLess (x ∷ xs) (y ∷ ys)

@@ -1,4 +1,4 @@
--- That the order of topics is total, and tells all topics apart.
+-- The order of topics is total: of two different topics one comes first.
 use Rattle.std.proofs.Common.{◌≡◌, ℕ, true, List, [], ◌∷◌, refl, sym, ap, subst, ◌∙◌}
 use Rattle.std.specs.Prelude.{nat_eq}
 use Rattle.std.specs.Cmp.{IsTotalOrder, Equal-is}
@@ -20,7 +20,7 @@ path_total = lists_total nat_list_cmp_total
 pub topic_total : IsTotalOrder topic_cmp
 topic_total = on_total levels path_total
 
--- lists are told apart if their elements are
+-- only equal lists compare as equal, if that holds for their elements
 pub exact_lists : {X : Type 0} (R : X → X → Ordering) → CmpEqualImpliesEq R → CmpEqualImpliesEq (slice_cmp R)
 exact_lists R exact [] [] h = refl
 exact_lists R exact [] (y ∷ ys) h = absurd (cc (h))

@@ -1,4 +1,4 @@
--- Levels, faults, and what a text is as a topic name and as a topic filter. The number of a section is that of OASIS MQTT Version 5.0.
+-- Levels, faults, and what a text is as a topic name and as a topic filter.
 use Rattle.std.specs.Prelude.{ℕ, Bool, true, false, ◌&&◌, ◌||◌, not, nat_lt, nat_eq, ◌==◌, if◌then◌else◌, List, [], ◌∷◌, length, Option, Some, None, Result, Ok, Err}
 use Rattle.std.specs.List.{list_any, starts_with, slice_split}
 use Rattle.std.specs.Str.{bytes_eq, is_utf8}
@@ -23,7 +23,7 @@ dollar = 36
 abbrev pub share : List ℕ
 share = 36 ∷ 115 ∷ 104 ∷ 97 ∷ 114 ∷ 101 ∷ 47 ∷ []
 
--- 4.7.1.1: the texts round the slashes, one at least
+-- 4.7.1.1: the texts between the slashes, at least one
 abbrev pub levels : List ℕ → List (List ℕ)
 levels text = slice_split (λ c. c == slash) text
 
@@ -48,7 +48,7 @@ wildcards_fit (level ∷ more) = level_fits level (is_end more) && wildcards_fit
 
 -- ---- faults
 
--- the bytes have this fault; NoMemory is none of theirs
+-- the bytes have this fault; NoMemory is not a fault of bytes
 abbrev pub has_fault : List ℕ → TopicFault → Bool
 has_fault bytes Empty = length bytes == 0
 has_fault bytes TooLong = nat_lt MAX_TEXT_SIZE (length bytes)

@@ -120,7 +120,7 @@ impl TopicFilter {
         fits(self.levels(), name.levels())
     }
 
-    /// An equal filter, which shares the bytes. The error says that memory was refused.
+    /// An equal filter, which shares the bytes. The error says that the count of their owners is full.
     pub fn copy(&self) -> Result<TopicFilter, AllocError>
         ensures { IfOk result (λ t. t ≡ self.now) }
     {

@@ -2,11 +2,13 @@
 //!
 //! A [`Text`] is UTF-8 without U+0000. A [`TopicName`] names one topic, a [`TopicFilter`] selects topics by wildcards. Their
 //! sizes are limited by [`MAX_TEXT_SIZE`] and [`MAX_LEVELS`]. Each type has two constructors: `read` copies bytes, `of` copies
-//! none. Both answer the first [`TopicFault`] that the bytes have. Only `read` and `copy` take memory.
+//! none. Both answer the first [`TopicFault`] that the bytes have. Only `read` takes memory: `copy` shares the bytes, and is refused
+//! only if the count of their owners is full.
 //!
 //! Contracts promise that `read` and `of` accept exactly the texts, names and filters of the standard and give back the same
 //! bytes; that `matches` answers the match relation of 4.7.1 and 4.7.2; that names are ordered level by level, each level by its
-//! bytes; that `==` and the hash go by the bytes; and that `levels` gives the texts between the slashes.
+//! bytes; that `==` and the hash go by the bytes; and that `levels` gives the texts between the slashes. docs/TOPICS.md has the
+//! rules in words.
 #![tactic(auto)]
 
 mod filter;

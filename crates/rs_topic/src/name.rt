@@ -84,7 +84,7 @@ impl TopicName {
         }
     }
 
-    /// An equal name, which shares the bytes. The error says that memory was refused.
+    /// An equal name, which shares the bytes. The error says that the count of their owners is full.
     pub fn copy(&self) -> Result<TopicName, AllocError>
         ensures { IfOk result (λ t. t ≡ self.now) }
     {

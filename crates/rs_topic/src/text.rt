@@ -143,7 +143,7 @@ impl Text {
         }
     }
 
-    /// An equal text, which shares the bytes. The error says that memory was refused.
+    /// An equal text, which shares the bytes. The error says that the count of their owners is full.
     pub fn copy(&self) -> Result<Text, AllocError>
         ensures { IfOk result (λ t. t ≡ self.now) }
     {
@@ -152,7 +152,7 @@ impl Text {
         })
     }
 
-    /// Whether it has no byte.
+    /// Whether it is empty.
     pub fn is_empty(&self) -> bool
         ensures { result ≡ (length self.now == 0) }
     {

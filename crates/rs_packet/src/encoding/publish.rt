@@ -68,8 +68,8 @@ pub(crate) fn put_publication(out: &mut Vec<u8>, p: &Publication) -> Result<(), 
 }
 
 /// How many bytes a PUBLISH takes: `encoded_len` of each with this topic, payload length, properties,
-/// quality, interval and Subscription Identifier, and a packet identifier if QoS is 1 or 2 (3.3). Its
-/// Remaining Length (2.1.4) is at most `MAX_REMAINING_LENGTH`. Nothing is allocated.
+/// QoS, interval and Subscription Identifier, and a packet identifier if QoS is 1 or 2 (3.3). Its
+/// Remaining Length (2.1.4) is at most `MAX_REMAINING_LENGTH`. It takes no memory.
 pub fn publish_len(
     topic: &TopicName,
     payload: usize,

@@ -20,7 +20,7 @@ fn packet(alloc: Global, first: u8, body: &[u8]) -> Result<Bytes, AllocError> {
     Ok(Bytes::from_vec(bytes)?)
 }
 
-// A CONNECT with these properties, behind their length, and a client identifier of so many bytes.
+// A CONNECT with these properties, after their length, and a client identifier of `client` bytes.
 fn connect_with(alloc: Global, properties: &[u8], client: u16) -> Result<Bytes, AllocError> {
     let mut body = b"\x00\x04MQTT\x05\x02\x00\x3C".to_vec(alloc)?;
     body.extend_from_slice(properties)?;
@@ -61,7 +61,7 @@ fn large_receive_maxima_are_read(rt: HostRuntime) -> Result<(), Fail> {
     Ok(())
 }
 
-// A PUBLISH of QoS 0, retained, with so many User Properties and a payload of so many bytes.
+// A PUBLISH of QoS 0, retained, with `users` User Properties and a payload of `payload` bytes.
 fn publish_with(alloc: Global, users: u16, payload: usize) -> Result<Bytes, AllocError> {
     let mut body = vec![in alloc; 0, 1, 0x61]?;
     put_varint(&mut body, 7 * usize::from(users))?;
@@ -93,7 +93,7 @@ fn sizes(publish: &Publish) -> (usize, usize, usize) {
     (users, copied, publish.payload.len())
 }
 
-// Whether it is read with so many User Properties and bytes of payload, and encoded again just as it came.
+// Whether it is read with this many User Properties and bytes of payload, and encoded again just as it came.
 fn is_sent_on(rt: &HostRuntime, users: u16, payload: usize) -> Result<bool, AllocError> {
     let bytes = publish_with(rt.alloc(), users, payload)?;
     let Some(publish) = published(rt, &bytes) else {
@@ -125,7 +125,7 @@ fn long_payloads_are_sent_on(rt: HostRuntime) -> Result<(), Fail> {
     Ok(())
 }
 
-// Appends a string or binary data of so many bytes.
+// Appends a string or binary data of `len` bytes.
 fn put_long(alloc: Global, body: &mut Vec<u8>, len: u16) -> Result<(), AllocError> {
     body.extend_from_slice(&len.to_be_bytes())?;
     let text = vec![in alloc; 0x61; usize::from(len)]?;
@@ -133,7 +133,7 @@ fn put_long(alloc: Global, body: &mut Vec<u8>, len: u16) -> Result<(), AllocErro
     Ok(())
 }
 
-// A retained PUBLISH of QoS 0 whose topic, Content Type, Response Topic and Correlation Data have so many bytes each.
+// A retained PUBLISH of QoS 0 whose topic, Content Type, Response Topic and Correlation Data have `len` bytes each.
 fn publish_of_long(alloc: Global, len: u16) -> Result<Bytes, AllocError> {
     let mut body = Vec::new(alloc);
     put_long(alloc, &mut body, len)?;
@@ -164,7 +164,7 @@ fn long_strings_are_sent_on(rt: HostRuntime) -> Result<(), Fail> {
     Ok(())
 }
 
-// A CONNECT with a client identifier, a user name and a password of so many bytes each.
+// A CONNECT with a client identifier, a user name and a password of `len` bytes each.
 fn connect_of_long(alloc: Global, len: u16) -> Result<Bytes, AllocError> {
     let mut body = b"\x00\x04MQTT\x05\xC2\x00\x3C\x00".to_vec(alloc)?;
     put_long(alloc, &mut body, len)?;
@@ -182,7 +182,7 @@ fn long_passwords_are_passed_over(rt: HostRuntime) -> Result<(), Fail> {
     Ok(())
 }
 
-// A packet of this kind with the identifier 1, a reason code if it has one, and so many User Properties.
+// A packet of this kind with the identifier 1, a reason code if it has one, and `users` User Properties.
 fn with_users(
     alloc: Global,
     first: u8,
@@ -223,7 +223,7 @@ fn user_properties_are_passed_over(rt: HostRuntime) -> Result<(), Fail> {
     Ok(())
 }
 
-// A SUBSCRIBE or an UNSUBSCRIBE with so many times this entry.
+// A SUBSCRIBE or an UNSUBSCRIBE with `count` times this item.
 fn filters(alloc: Global, first: u8, entry: &[u8], count: u16) -> Result<Bytes, AllocError> {
     let mut body = vec![in alloc; 0, 1, 0]?;
     for _ in 0..count {
@@ -251,7 +251,7 @@ fn many_filters_are_read(rt: HostRuntime) -> Result<(), Fail> {
     Ok(())
 }
 
-// A DISCONNECT with a Reason String of so many bytes.
+// A DISCONNECT with a Reason String of `reason` bytes.
 fn disconnect(alloc: Global, reason: u16) -> Result<Bytes, AllocError> {
     let mut body = vec![in alloc; 4]?;
     put_varint(&mut body, 3 + usize::from(reason))?;
@@ -272,7 +272,7 @@ fn long_reason_strings_are_read(rt: HostRuntime) -> Result<(), Fail> {
     Ok(())
 }
 
-// The SUBACK with so many codes takes so many bytes.
+// Whether the SUBACK with `count` codes takes `want` bytes.
 fn suback_takes(
     rt: &HostRuntime,
     id: PacketId,
@@ -301,7 +301,7 @@ fn many_codes_are_encoded(rt: HostRuntime) -> Result<(), Fail> {
     Ok(())
 }
 
-// Whether a CONNACK that assigns an identifier of so many bytes is encoded.
+// Whether a CONNACK that assigns an identifier of `client` bytes is encoded.
 fn is_assigned(rt: &HostRuntime, client: u16) -> Result<bool, AllocError> {
     let client = vec![in rt.alloc(); 0x61; usize::from(client)]?;
     let want = 18 + client.len();
