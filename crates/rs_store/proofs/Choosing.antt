@@ -1,13 +1,13 @@
 -- What a filter chooses of a branch, child by child.
-use Rattle.std.proofs.Common.{◌≡◌, ◌==◌, ℕ, ◌+◌, Bool, true, false, not, ◌&&◌, ◌||◌, cond, List, [], ◌∷◌, ◌++◌, refl, sym, ap, subst, ◌∙◌, arith, append_assoc, Option, Some, None}
+use Rattle.std.proofs.Common.{◌≡◌, ℕ, Bool, true, false, not, ◌&&◌, ◌||◌, List, [], ◌∷◌, ◌++◌, refl, sym, ap, subst, ◌∙◌, append_assoc, Option, Some, None}
 use Rattle.std.specs.Str.{bytes_eq}
 use Rattle.rs_message.specs.declared.entry.Found.{Found}
 use Rattle.rs_topic.specs.Topics.{hash, plus}
 use Rattle.rs_topic.specs.Matching.{fits, is_wild, begins_with_dollar}
 use Rattle.rs_topic.specs.Topics.{is_end}
 use Rattle.rs_message.specs.Messages.{is_expired}
-use Rattle.rs_store.specs.Spots.{Spot, under, below, own, spots}
-use Rattle.rs_store.specs.Chosen.{chosen_by, chosen, chosen_at_root, is_matched, is_dollar, is_plain_below, own_chosen}
+use Rattle.rs_store.specs.Spots.{under, below, own, spots}
+use Rattle.rs_store.specs.Chosen.{chosen_by, chosen, chosen_at_root, is_matched, is_plain_below, own_chosen}
 use Rattle.std.specs.declared.vec.Vec.{Vec}
 use Rattle.rs_store.proofs.Places.{fits_here}
 use Rattle.std.proofs.lemmas.List.{append-nil}
@@ -31,7 +31,7 @@ chosen-append test now (s ∷ ss) ys = at (test s.0 && not (is_expired now s.1.m
     at true is more = rw (is, more) refl
     at false is more = rw (is, more) refl
 
--- two tests that tell the same choose the same
+-- two tests with equal results choose the same messages
 pub chosen_same : (test other : Test) (now : ℕ) (ss : Held) → ((p : List (List ℕ)) → test p ≡ other p) → chosen_by test now ss ≡ chosen_by other now ss
 chosen_same test other now [] same = refl
 chosen_same test other now (s ∷ ss) same = rw (same s.0, chosen_same test other now ss same) refl
@@ -56,7 +56,7 @@ ended {A} held es now = at held
         by true is = rw (is, none es) refl
         by false is = rw (is, none es) refl
 
--- a test that goes on below a child as another
+-- a test of paths that becomes another test below a child
 pub child_goes : (test further : Test) (now : ℕ) (k : List ℕ) → ((p : List (List ℕ)) → test (k ∷ p) ≡ further p) → (w rest : Held) → chosen_by test now (under k w ++ rest) ≡ chosen_by further now w ++ chosen_by test now rest
 child_goes test further now k same w rest = chosen-append test now (under k w) rest ∙ ap (λ (l : List Found). l ++ chosen_by test now rest) (one w)
   where
@@ -69,7 +69,7 @@ pub child_passed : (test : Test) (now : ℕ) (k : List ℕ) → ((p : List (List
 child_passed test now k fails [] rest = refl
 child_passed test now k fails (s ∷ ss) rest = rw (fails s.0) (child_passed test now k fails ss rest)
 
--- one turn of a loop over the children
+-- one step of a loop over the children
 pub one_turn : {A : Type 0} (test further : Test) (now : ℕ) (e : Vec ℕ A × Held) → ((p : List (List ℕ)) → test (e.0.items ∷ p) ≡ further p)
     → (left rest : Children A) (before after all : List Found) → left ≡ e ∷ rest
     → after ≡ before ++ chosen_by further now e.1 → before ++ chosen_by test now (below left) ≡ all → after ++ chosen_by test now (below rest) ≡ all
@@ -77,7 +77,7 @@ one_turn test further now e same left rest before after all is more so =
     let split : chosen_by test now (below left) ≡ chosen_by further now e.1 ++ chosen_by test now (below rest) = rw is (child_goes test further now e.0.items same e.1 (below rest)) in
     rw more (append_assoc before (chosen_by further now e.1) (chosen_by test now (below rest)) ∙ (ap (λ (l : List Found). before ++ l) (sym split) ∙ so))
 
--- one that leaves a child out
+-- a step that skips a child
 pub no_turn : {A : Type 0} (test : Test) (now : ℕ) (e : Vec ℕ A × Held) → ((p : List (List ℕ)) → test (e.0.items ∷ p) ≡ false)
     → (left rest : Children A) (before all : List Found) → left ≡ e ∷ rest → before ++ chosen_by test now (below left) ≡ all → before ++ chosen_by test now (below rest) ≡ all
 no_turn test now e fails left rest before all is so =
@@ -172,7 +172,7 @@ exact_none {A} wanted more now held es p f is = at held
     at None = below_none es is
     at (Some g) = rw f (below_none es is)
 
--- what stands when a loop over the children ends
+-- the answer at the end of a loop over the children
 pub after_all : {A : Type 0} (test : Test) (now : ℕ) (held : Option Found) (es left : Children A) (old before after mine : List Found) (view : Held)
     → spots held es ≡ view → left ≡ [] → chosen_by test now (own held) ≡ mine → after ++ chosen_by test now (below left) ≡ before ++ chosen_by test now (below es)
     → before ≡ old ++ mine → after ≡ old ++ chosen_by test now view
@@ -181,9 +181,9 @@ after_all {A} test now held es left old before after mine view is none first so 
     let last : after ++ [] ≡ before ++ chosen_by test now (below es) = (let P : Children A → Type 0 = λ l. after ++ chosen_by test now (below l) ≡ before ++ chosen_by test now (below es) in subst P none so) in
     sym (append-nil after) ∙ (last ∙ (ap (λ (l : List Found). l ++ chosen_by test now (below es)) starts ∙ (append_assoc old mine (chosen_by test now (below es)) ∙ (ap (λ (l : List Found). old ++ l) (sym split) ∙ ap (λ (l : Held). old ++ chosen_by test now l) is))))
 
--- ---- the branch that a catalogue begins with
+-- ---- the root
 
--- below the branch itself only what a test tells of longer paths counts
+-- below the children, two tests choose the same if they agree on paths with a level
 below_same : {A : Type 0} (test other : Test) (now : ℕ) → ((k : List ℕ) (p : List (List ℕ)) → test (k ∷ p) ≡ other (k ∷ p)) → (es : Children A) → chosen_by test now (below es) ≡ chosen_by other now (below es)
 below_same test other now same [] = refl
 below_same test other now same (e ∷ es) = chosen-append test now (under e.0.items e.1) (below es) ∙ (cc (inner e.1, below_same test other now same es) ∙ sym (chosen-append other now (under e.0.items e.1) (below es)))
@@ -192,7 +192,7 @@ below_same test other now same (e ∷ es) = chosen-append test now (under e.0.it
     inner [] = refl
     inner (s ∷ ss) = rw (same e.0.items s.0, inner ss) refl
 
--- a level that a loop goes into, and one that it leaves out
+-- a child that a loop visits, and one that it skips
 pub plain_goes : (pattern : List (List ℕ)) (k : List ℕ) → begins_with_dollar k ≡ false → (p : List (List ℕ)) → is_plain_below pattern (k ∷ p) ≡ fits pattern p
 plain_goes pattern k h p = rw h refl
 

@@ -1,20 +1,16 @@
 -- Copying children one after the other, from the first on.
-use Rattle.std.proofs.Common.{◌≡◌, ℕ, List, [], ◌∷◌, ◌++◌, refl, sym, ap, subst, ◌∙◌, inl, inr}
+use Rattle.std.proofs.Common.{◌≡◌, ℕ, List, [], ◌∷◌, ◌++◌, refl, sym, ap, subst, ◌∙◌}
 use Rattle.std.specs.Cmp.Lexicographic.{slice_cmp}
 use Rattle.std.specs.Cmp.{IsTotalOrder}
-use Rattle.std.specs.Ordering.{nat_cmp, ordering_reverse}
+use Rattle.std.specs.Ordering.{nat_cmp}
 use Rattle.std.specs.BTreeMap.{insert_entry}
-use Rattle.std.specs.Map.{keys_of}
-use Rattle.std.specs.List.Sorted.{IsStrictlySortedBy}
 use Rattle.std.specs.declared.cmp.Ordering.{Ordering}
-use Rattle.std.specs.declared.cmp.Ordering.TheVariants.{Less, Equal, Greater}
+use Rattle.std.specs.declared.cmp.Ordering.TheVariants.{Less, Greater}
 use Rattle.std.specs.declared.vec.Vec.{Vec}
 use Rattle.std.proofs.lemmas.Cmp.{nat_list_cmp_total}
 use Rattle.std.proofs.lemmas.List.{append-nil}
-use Rattle.std.proofs.lemmas.Map.Keys.{sorted_head, sorted_tail}
-use Rattle.rs_store.specs.Spots.{under, below, IsFull, AreFull}
+use Rattle.rs_store.specs.Spots.{under, below, AreFull}
 use Rattle.rs_store.proofs.Growing.{level_cmp, Held, Children, Above, Rising}
-use Rattle.rs_store.proofs.Entries.{Among, all_among}
 
 greater : {K : Type 0} (R : K → K → Ordering) → IsTotalOrder R → (a b : K) → R a b ≡ Less → R b a ≡ Greater
 greater R total a b h = rw (total.antisymm b a, h) refl
@@ -23,7 +19,7 @@ above_at : {A : Type 0} (q : List ℕ) (xs : Children A) (e : Vec ℕ A × Held)
 above_at q [] e rest a = a.0
 above_at q (x ∷ xs) e rest a = above_at q xs e rest a.1
 
--- a child that is above all is put behind them
+-- a child whose level is above all others comes last
 pub put_last : {A : Type 0} (xs : Children A) (e : Vec ℕ A × Held) (rest : Children A) (key : Vec ℕ A) (w : Held) → Rising (xs ++ e ∷ rest) → key.items ≡ e.0.items
     → insert_entry (λ (x y : Vec ℕ A). slice_cmp nat_cmp x.items y.items) xs key w ≡ xs ++ (key, w) ∷ []
 put_last [] e rest key w r same = refl
@@ -38,7 +34,7 @@ pub record Copied {A : Type 0} (done left all : Children A) : Type 0 where
   pub full : AreFull (done ++ left)
   pub whole : below (done ++ left) ≡ below all
 
--- a copy stands where its child stood
+-- a copy has the place of the child that it is a copy of
 renamed_above : {A : Type 0} (q : List ℕ) (xs : Children A) (e : Vec ℕ A × Held) (rest : Children A) (key : Vec ℕ A) (w : Held) → key.items ≡ e.0.items → Above q (xs ++ e ∷ rest) → Above q (xs ++ (key, w) ∷ rest)
 renamed_above q [] e rest key w same a = (rw same a.0, a.1)
 renamed_above q (x ∷ xs) e rest key w same a = (a.0, renamed_above q xs e rest key w same a.1)

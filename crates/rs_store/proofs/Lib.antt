@@ -1,3 +1,4 @@
+pub mod Chains
 pub mod Choosing
 pub mod Clearing
 pub mod Copying
@@ -9,5 +10,6 @@ pub mod Maps
 pub mod Places
 pub mod Rooms
 pub mod Standing
+pub mod Stems
 pub mod Stopping
 pub mod Trees

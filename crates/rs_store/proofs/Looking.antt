@@ -1,8 +1,7 @@
 -- Whether a branch has a message at a path, child by child.
-use Rattle.std.proofs.Common.{◌≡◌, ℕ, Bool, true, false, cond, List, [], ◌∷◌, ◌++◌, refl, sym, ap, subst, ◌∙◌, Option, Some, None, is_some, Result, Ok, Err}
+use Rattle.std.proofs.Common.{◌≡◌, ℕ, Bool, true, false, List, [], ◌∷◌, ◌++◌, refl, ◌∙◌, Option, Some, None, is_some, Result, Ok, Err}
 use Rattle.std.specs.Prelude.{IfOk}
 use Rattle.std.specs.Map.{lookup}
-use Rattle.std.specs.BTreeMap.{is_at}
 use Rattle.std.specs.Ordering.{is_eq}
 use Rattle.std.specs.declared.cmp.Ordering.{Ordering}
 use Rattle.std.specs.declared.cmp.Ordering.TheVariants.{Less, Equal, Greater}
@@ -12,11 +11,11 @@ use Rattle.std.proofs.lemmas.Cmp.{nat_list_cmp_total, tied_itself}
 use Rattle.std.proofs.lemmas.Map.Lookups.{exact_bytes}
 use Rattle.rs_message.specs.declared.entry.Found.{Found}
 use Rattle.rs_topic.specs.Order.{path_cmp}
-use Rattle.rs_store.specs.Spots.{under, below, own, spots, is_there, held_found}
+use Rattle.rs_store.specs.Spots.{under, below, spots, is_there, held_found}
 use Rattle.rs_store.proofs.Growing.{level_cmp, Held, Children, Above, Rising, above_more, no_entry}
 
 -- other children have none of a child's paths
-other_child : (q k : List ℕ) (p : List (List ℕ)) (w rest : Held) → is_eq (level_cmp q k) ≡ false → is_there (q ∷ p) (under k w ++ rest) ≡ is_there (q ∷ p) rest
+pub other_child : (q k : List ℕ) (p : List (List ℕ)) (w rest : Held) → is_eq (level_cmp q k) ≡ false → is_there (q ∷ p) (under k w ++ rest) ≡ is_there (q ∷ p) rest
 other_child q k p [] rest h = refl
 other_child q k p (s ∷ ss) rest h = at (level_cmp q k) refl (other_child q k p ss rest h)
   where
@@ -32,7 +31,7 @@ none_above : {A : Type 0} (q : List ℕ) (p : List (List ℕ)) (es : Children A)
 none_above q p [] a = refl
 none_above q p (e ∷ es) a = other_child q e.0.items p e.1 (below es) (unequal q e.0.items Less a.0 refl) ∙ none_above q p es a.1
 
-same_child : (q : List ℕ) (p : List (List ℕ)) (w rest : Held) → is_there (q ∷ p) rest ≡ false → is_there (q ∷ p) (under q w ++ rest) ≡ is_there p w
+pub same_child : (q : List ℕ) (p : List (List ℕ)) (w rest : Held) → is_there (q ∷ p) rest ≡ false → is_there (q ∷ p) (under q w ++ rest) ≡ is_there p w
 same_child q p [] rest h = h
 same_child q p (s ∷ ss) rest h = at (path_cmp p s.0) refl (same_child q p ss rest h)
   where

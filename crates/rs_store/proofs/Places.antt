@@ -1,16 +1,19 @@
 -- The levels of a text from a byte on.
-use Rattle.std.proofs.Common.{◌≡◌, ◌==◌, ℕ, ◌+◌, ◌<◌, ◌≤◌, ◌⊎◌, inl, inr, Bool, true, false, not, ◌&&◌, ◌||◌, nat_le, if◌then◌else◌, List, [], ◌∷◌, length, take, drop, refl, sym, ap, ◌∙◌, arith, length-drop}
+use Rattle.std.proofs.Common.{◌≡◌, ◌==◌, ℕ, ◌+◌, ◌<◌, ◌≤◌, ◌⊎◌, inl, inr, Bool, true, false, not, ◌&&◌, ◌||◌, nat_le, List, [], ◌∷◌, length, take, drop, refl, sym, ap, ◌∙◌, arith, length-drop}
 use Rattle.std.proofs.lemmas.Bool.{le-leb, cases_lt}
 use Rattle.std.proofs.lemmas.Bool.Decides.{leb_tells}
 use Rattle.std.proofs.lemmas.List.{drop-drop}
 use Rattle.std.proofs.Math.Seq.{take-length}
 use Rattle.std.proofs.Math.Dec.{leb}
-use Rattle.std.specs.List.{slice_split, position_or_len}
+use Rattle.std.proofs.lemmas.Grind.{common_steps}
+use Rattle.std.proofs.lemmas.List.Splits.{slice_split_none}
+use Rattle.std.proofs.lemmas.List.Sums.{fails_before_first}
+use Rattle.std.specs.List.{All, position_or_len}
 use Rattle.std.specs.Str.{bytes_eq}
 use Rattle.rs_topic.specs.Topics.{levels, slash, hash, plus, is_end}
 use Rattle.rs_topic.proofs.LevelLemmas.{one_level, first_of_more, some_level}
 use Rattle.std.specs.BTreeMap.{is_at}
-use Rattle.std.specs.declared.cmp.Ordering.TheVariants.{Less, Equal, Greater}
+use Rattle.std.specs.declared.cmp.Ordering.TheVariants.{Less, Greater}
 use Rattle.rs_topic.specs.Order.{path_cmp}
 use Rattle.rs_topic.specs.TopicOrder.{topic_matches_eq}
 use Rattle.rs_topic.specs.Matching.{fits}
@@ -41,6 +44,12 @@ one_more text at end h is small = by (cases_lt end (length (drop at text)))
         let same : end ≡ length (drop at text) = omega arith in
         let whole : take end (drop at text) ≡ drop at text = rw same (take-length (drop at text)) in
         from_within text at h ∙ (one_level (drop at text) (rw (← is) all) ∙ (ap (λ (w : List ℕ). w ∷ []) (sym whole) ∙ ap (λ (w : List (List ℕ)). take end (drop at text) ∷ w) (sym (no_more text (at + end + 1) gone))))
+
+-- a level is a text of one level
+pub is_level : (text : List ℕ) (end : ℕ) → end ≡ position_or_len (λ c. c == slash) text → levels (take end text) ≡ take end text ∷ []
+is_level text end is =
+    let free : All (λ c. (c == slash) ≡ false) (take end text) = rw is (λ k e m. let k' = fails_before_first (λ c. c == slash) text k e (grind (arith, common_steps)) in grind (arith, common_steps)) in
+    slice_split_none (λ c. c == slash) (take end text) free
 
 last_from : (text : List ℕ) (at : ℕ) → is_end (levels_from at text) ≡ not (nat_le at (length text))
 last_from text at = by (nat_le at (length text)) refl

@@ -1,5 +1,5 @@
 -- Whether an answer fits into the room for it.
-use Rattle.std.proofs.Common.{◌≡◌, ℕ, ◌<◌, ◌≤◌, Bool, true, false, cond, nat_le, List, [], ◌∷◌, length, map, refl, sym, ap, ◌∙◌, arith, Option, Some, None}
+use Rattle.std.proofs.Common.{◌≡◌, ℕ, ◌<◌, ◌≤◌, Bool, true, false, cond, nat_le, List, [], ◌∷◌, length, map, refl, arith, Some, None}
 use Rattle.std.specs.List.{filter}
 use Rattle.std.proofs.lemmas.Bool.{le-leb}
 use Rattle.std.proofs.lemmas.Bool.Decides.{leb_tells}
@@ -33,7 +33,7 @@ fewer p (e ∷ es) = at (p e) (fewer p es)
     at true more = omega (arith, more)
     at false more = omega (arith, more)
 
--- there is room for an answer where there is room for all that is held
+-- there is room for an answer if there is room for all messages that are held
 pub always_fits : (room : ℕ) (pattern : List ℕ) (now : ℕ) (es : List (List ℕ × MessageValue)) → length es ≤ room → None ≡ if_fits room (map found_of (filter (is_answered pattern now) es)) → ⊥
 always_fits room pattern now es few e =
     let short : length (map found_of (filter (is_answered pattern now) es)) ≤ room = omega (arith, few, fewer (is_answered pattern now) es, length-map (filter (is_answered pattern now) es) found_of) in

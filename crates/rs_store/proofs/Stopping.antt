@@ -1,5 +1,5 @@
 -- What an answer that is given up would have become: more than there is room for.
-use Rattle.std.proofs.Common.{◌≡◌, ℕ, ◌<◌, Bool, true, false, List, [], ◌∷◌, ◌++◌, length, refl, sym, ap, subst, ◌∙◌, arith, append_assoc, length-append, Option, Result, Ok, Err, IfErr, IsErrAnd}
+use Rattle.std.proofs.Common.{◌≡◌, ℕ, List, ◌∷◌, ◌++◌, sym, ap, subst, ◌∙◌, arith, append_assoc, length-append, Option, Result, Ok, Err, IfErr, IsErrAnd}
 use Rattle.rs_message.specs.declared.entry.Found.{Found}
 use Rattle.rs_store.specs.declared.answer.Stop.{Stop}
 use Rattle.rs_store.specs.declared.answer.Stop.TheVariants.{Full, NoMemory}

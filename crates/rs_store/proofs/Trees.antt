@@ -1,5 +1,5 @@
 -- The tree's messages, each with its path, as a list of topics and messages.
-use Rattle.std.proofs.Common.{◌≡◌, ◌==◌, ℕ, ◌+◌, ◌<◌, ◌≤◌, Bool, true, false, not, ◌&&◌, ◌||◌, cond, List, [], ◌∷◌, ◌++◌, map, length, refl, sym, ap, subst, ◌∙◌, arith, Option, Some, None, is_some, Result, Ok, Err, OnOk, OnErr}
+use Rattle.std.proofs.Common.{◌≡◌, ◌==◌, ℕ, ◌+◌, ◌<◌, ◌≤◌, Bool, true, false, not, ◌&&◌, List, [], ◌∷◌, map, length, refl, sym, ap, ◌∙◌, arith, is_some, Result, Ok, Err, OnOk, OnErr}
 use Rattle.std.specs.List.{filter, slice_split}
 use Rattle.std.specs.List.Sorted.{IsStrictlySortedBy}
 use Rattle.std.specs.Map.{keys_of, lookup, remove_entry}
@@ -14,12 +14,12 @@ use Rattle.rs_topic.specs.TopicOrder.{exact_paths, exact_topics, topic_total}
 use Rattle.rs_message.specs.Values.{MessageValue}
 use Rattle.rs_message.specs.Messages.{is_expired}
 use Rattle.rs_message.specs.declared.entry.Found.{Found}
-use Rattle.rs_topic.specs.Matching.{matches, fits, is_wild, begins_with_dollar}
+use Rattle.rs_topic.specs.Matching.{begins_with_dollar}
 use Rattle.rs_message.specs.declared.entry.Operation.{Operation}
 use Rattle.rs_message.specs.declared.entry.Operation.TheVariants.{Set, Clear}
 use Rattle.rs_store.specs.Contents.{after, found_of, is_answered}
 use Rattle.rs_store.specs.Trees.{IsTree}
-use Rattle.rs_store.specs.Chosen.{chosen_by, chosen_at_root, is_matched, is_dollar}
+use Rattle.rs_store.specs.Chosen.{chosen_at_root, is_matched, is_dollar}
 use Rattle.rs_store.proofs.Places.{from_start}
 use Rattle.rs_store.specs.Spots.{Spot, ArePlaced, levels_from, pair_of, pairs, is_there}
 use Rattle.std.specs.Prelude.{nat_le}

@@ -1,5 +1,5 @@
 -- What a filter chooses of a branch's messages.
-use Rattle.std.specs.Prelude.{ℕ, Bool, true, false, ◌&&◌, not, cond, List, [], ◌∷◌, Option, Some, None}
+use Rattle.std.specs.Prelude.{ℕ, Bool, false, ◌&&◌, not, cond, List, [], ◌∷◌, Option, Some, None}
 use Rattle.rs_message.specs.declared.entry.Found.{Found}
 use Rattle.rs_message.specs.Messages.{is_expired}
 use Rattle.rs_topic.specs.Matching.{fits, is_wild, begins_with_dollar}
@@ -30,7 +30,7 @@ abbrev pub is_plain_below : List (List ℕ) → List (List ℕ) → Bool
 is_plain_below pattern [] = false
 is_plain_below pattern (level ∷ more) = not (begins_with_dollar level) && fits pattern more
 
--- the message of the place itself
+-- the message of the node itself
 abbrev pub own_chosen : ℕ → Option Found → List Found
 own_chosen now None = []
 own_chosen now (Some f) = cond (not (is_expired now f.message)) (f ∷ []) []

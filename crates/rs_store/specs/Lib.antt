@@ -1,6 +1,8 @@
+pub mod Chains
 pub mod Chosen
 pub mod Codes
 pub mod Contents
+pub mod Depths
 pub mod History
 pub mod Law
 pub mod Maps

@@ -8,7 +8,7 @@ use rs_message::{Found, Message};
 use rs_topic::TopicName;
 use std::alloc::{AllocError, Global};
 
-/// Why an answer is given up.
+/// Why an answer was abandoned.
 #[derive(Clone, Copy, PartialEq, Eq)]
 pub enum Stop {
     /// It would have more messages than it may.

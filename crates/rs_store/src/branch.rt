@@ -1,30 +1,28 @@
-//! The retained messages as a tree of levels.
+//! The retained messages as a tree of levels. Levels that all messages below a place share are one text, so there are at most as
+//! many branches as Sets of new topics, and the root. A Clear, or a Set that is refused memory, can leave a branch with one child.
 
-ghost use Rattle.std.specs.Prelude.{◌≡◌, [], ◌∷◌, ◌++◌, ◌<◌, ◌^◌, length, IfErr, IfOk, OnOk, OnErr};
+ghost use Rattle.std.specs.Prelude.{◌≡◌, [], ◌∷◌, ◌++◌, ◌≤◌, IfErr, IfOk, IsSome, OnOk, OnErr};
 ghost use Rattle.std.specs.BTreeMap.{insert_entry, is_at};
 ghost use Rattle.std.specs.Cmp.Lexicographic.{slice_cmp};
-ghost use Rattle.std.specs.Map.{remove_entry};
-ghost use Rattle.std.specs.Ordering.{nat_cmp};
+ghost use Rattle.std.specs.Map.{lookup, remove_entry, set_value};
+ghost use Rattle.std.specs.Ordering.{is_eq, nat_cmp};
 ghost use Rattle.rs_topic.specs.Order.{path_cmp};
-ghost use Rattle.rs_store.specs.Chosen.{chosen, chosen_at_root, chosen_by, is_plain_below, own_chosen};
+ghost use Rattle.rs_store.specs.Chosen.{chosen, chosen_at_root, chosen_by, is_plain_below};
+ghost use Rattle.rs_store.specs.Nodes.{stem_spots};
 ghost use Rattle.rs_store.specs.Room.{IsStop};
-ghost use Rattle.rs_store.specs.Spots.{below, held_found, is_nothing, is_there, levels_from, spot_of};
+ghost use Rattle.rs_store.specs.Spots.{IsFull, below, held_found, is_nothing, is_there, levels_from, spot_of};
 
 use crate::answer::{Answer, Stop};
-use crate::found::{copied, is_expired};
-use crate::level::{begins_with_dollar, is_all_below, is_plus, is_same_rest, level_at, levels_fit};
+use crate::chain::{behind, past, shared_levels};
+use crate::found::copied;
+use crate::held::{answer_held, copied_held};
+use crate::leaf::Leaf;
+use crate::level::{begins_with_dollar, is_all_below, is_plus, level_at};
 use rs_message::Found;
 use std::alloc::{AllocError, Global};
 use std::collections::BTreeMap;
 use std::marker::Model;
-
-/// The only message below a place, however many levels are left of its topic.
-#[derive(Drop)]
-pub struct Leaf {
-    found: Found,
-    // The byte at which the rest of the topic begins.
-    at: usize,
-}
+use std::mem::swap;
 
 #[cycle(tree)]
 #[derive(Drop)]
@@ -34,7 +32,16 @@ pub enum Node {
     /// One message.
     Leaf(Box<Leaf>),
     /// More than one message, or one that had others beside it.
-    Inner(Box<Branch>),
+    Inner(Box<Stem>),
+}
+
+/// A branch below a chain of levels that all of its messages share.
+#[cycle(tree)]
+#[derive(Drop)]
+pub struct Stem {
+    // The levels, a slash before each.
+    chain: Vec<u8>,
+    branch: Branch,
 }
 
 /// The messages below one level of a branch.
@@ -44,7 +51,7 @@ pub struct Child {
     node: Node,
 }
 
-/// The messages below one place: the one of the place itself, and the others by their next level.
+/// The messages below one node: the one of the node itself, and the others by their next level.
 #[cycle(tree)]
 #[derive(Drop)]
 pub struct Branch {
@@ -60,13 +67,14 @@ impl Model for Child {
 
     ghost use Rattle.rs_store.specs.Nodes.{spots_of};
     ghost use Rattle.rs_store.specs.Weights.{child_weight};
-    ghost use Rattle.std.proofs.Common.{arith};
 
     ghost view = { λ c. spots_of c.node };
 
     ghost size = { child_weight };
 
-    ghost size_decreases = { λ a h. Prim.grind arith };
+    ghost use Rattle.rs_store.specs.Depths.{node_falls};
+
+    ghost size_decreases = { λ a h. node_falls a.node };
 }
 
 impl Model for Branch {
@@ -85,32 +93,6 @@ impl Model for Branch {
     ghost size = { branch_weight };
 
     ghost size_decreases = { λ a h. lighter a.held a.children.entries h };
-}
-
-/// Appends a copy of the message of one place, unless it is expired.
-fn answer_held(held: &Option<Box<Found>>, now: u64, answer: &mut Answer) -> Result<(), Stop>
-    ensures done { OnOk result (answer.new.found.items ≡ answer.old.found.items ++ own_chosen now (held_found held.now)) }
-    ensures stop { IfErr result (λ stop. IsStop stop answer.old.room (answer.old.found.items ++ own_chosen now (held_found held.now))) }
-    ensures room { answer.new.room ≡ answer.old.room }
-{
-    match held {
-        None => Ok(()),
-        Some(kept) => {
-            if is_expired(&kept.message, now) {
-                return Ok(());
-            }
-            answer.push(&kept.topic, &kept.message)
-        }
-    }
-}
-
-fn copied_held(alloc: Global, held: &Option<Box<Found>>) -> Result<Option<Box<Found>>, AllocError>
-    ensures { IfOk result (λ h. held_found h ≡ held_found held.now) }
-{
-    match held {
-        None => Ok(None),
-        Some(kept) => Ok(Some(Box::new(alloc, copied(kept)?)?)),
-    }
 }
 
 fn hang(
@@ -132,7 +114,6 @@ fn answer_plain(
     now: u64,
     answer: &mut Answer,
 ) -> Result<(), Stop>
-    requires { length filter.now < 2 ^ 16 }
     ensures done { OnOk result (answer.new.found.items ≡ answer.old.found.items ++ chosen_by (is_plain_below (levels_from at filter.now)) now (below children.now.entries)) }
     ensures stop { IfErr result (λ stop. IsStop stop answer.old.room (answer.old.found.items ++ chosen_by (is_plain_below (levels_from at filter.now)) now (below children.now.entries))) }
     ensures room { answer.new.room ≡ answer.old.room }
@@ -145,43 +126,6 @@ fn answer_plain(
     Ok(())
 }
 
-impl Leaf {
-    fn new(alloc: Global, found: Found, at: usize) -> Result<Box<Leaf>, AllocError>
-        ensures { IfOk result (λ b. (b.value.found ≡ found) × (b.value.at ≡ at)) }
-    {
-        Ok(Box::new(alloc, Leaf { found, at })?)
-    }
-
-    fn put(&mut self, found: Found, at: usize)
-        ensures { self.new ≡ record { found = found; at = at } }
-    {
-        self.found = found;
-        self.at = at;
-    }
-
-    /// The rest of its topic is the rest of this one.
-    fn is_at(&self, topic: &[u8], at: usize) -> bool
-        requires { length topic.now < 2 ^ 16 }
-        ensures { result ≡ is_at (path_cmp (levels_from at topic.now)) (levels_from self.now.at self.now.found.topic) }
-    {
-        is_same_rest(topic, at, self.found.topic.as_bytes(), self.at)
-    }
-
-    /// Appends a copy of the message if the filter fits the rest of its topic and it is not expired.
-    fn answer(&self, filter: &[u8], at: usize, now: u64, answer: &mut Answer) -> Result<(), Stop>
-        requires { length filter.now < 2 ^ 16 }
-        ensures done { OnOk result (answer.new.found.items ≡ answer.old.found.items ++ chosen (levels_from at filter.now) now (spot_of self.now.at self.now.found ∷ [])) }
-        ensures stop { IfErr result (λ stop. IsStop stop answer.old.room (answer.old.found.items ++ chosen (levels_from at filter.now) now (spot_of self.now.at self.now.found ∷ []))) }
-        ensures room { answer.new.room ≡ answer.old.room }
-    {
-        let topic = self.found.topic.as_bytes();
-        if !levels_fit(filter, at, topic, self.at) || is_expired(&self.found.message, now) {
-            return Ok(());
-        }
-        answer.push(&self.found.topic, &self.found.message)
-    }
-}
-
 impl Child {
     fn leaf(alloc: Global, found: Found, at: usize) -> Result<Child, AllocError>
         ensures { IfOk result (λ c. c ≡ spot_of at found ∷ []) }
@@ -191,29 +135,39 @@ impl Child {
         })
     }
 
+    fn put(&mut self, stem: Box<Stem>)
+        ensures { self.new ≡ stem_spots stem.value }
+    {
+        self.node = Node::Inner(stem);
+    }
+
     pub fn is_empty(&self) -> bool
         ensures { result ≡ is_nothing self.now }
     {
         match &self.node {
             Node::Bare => true,
             Node::Leaf(_) => false,
-            Node::Inner(branch) => branch.is_empty(),
+            Node::Inner(stem) => stem.branch.is_empty(),
         }
     }
 
     /// Sets the message at the rest of its topic, and returns whether there was one. If memory is refused, nothing changes.
     #[cycle(set)]
     pub fn set(&mut self, alloc: Global, found: Found, at: usize) -> Result<bool, AllocError>
+        requires { IsFull self.old }
         ensures done { OnOk result (self.new ≡ insert_entry path_cmp self.old (levels_from at found.topic) found) }
         ensures told { IfOk result (λ was. was ≡ is_there (levels_from at found.topic) self.old) }
         ensures refused { OnErr result (self.new ≡ self.old) }
     {
-        let branch = match &mut self.node {
+        let stem = match &mut self.node {
             Node::Bare => {
                 self.node = Node::Leaf(Leaf::new(alloc, found, at)?);
                 return Ok(false);
             }
-            Node::Inner(branch) => return branch.set(alloc, found, at),
+            Node::Inner(stem) => {
+                let next = stem.reach(alloc, found.topic.as_bytes(), at)?;
+                return stem.branch.set(alloc, found, next);
+            }
             Node::Leaf(leaf) => {
                 if leaf.is_at(found.topic.as_bytes(), at) {
                     leaf.put(found, at);
@@ -222,14 +176,13 @@ impl Child {
                 forked(alloc, leaf, found, at)?
             }
         };
-        self.node = Node::Inner(Box::new(alloc, branch)?);
+        self.node = Node::Inner(Box::new(alloc, stem)?);
         Ok(false)
     }
 
     /// Removes the message at this rest of a topic, and the branches that are empty then.
     #[cycle(clear)]
     pub fn clear(&mut self, topic: &[u8], at: usize)
-        requires { length topic.now < 2 ^ 16 }
         ensures { self.new ≡ remove_entry (is_at (path_cmp (levels_from at topic.now))) self.old }
     {
         match &mut self.node {
@@ -239,7 +192,11 @@ impl Child {
                     self.node = Node::Bare;
                 }
             }
-            Node::Inner(branch) => branch.clear(topic, at),
+            Node::Inner(stem) => {
+                if let Some(next) = behind(stem.chain.as_slice(), topic, at) {
+                    stem.branch.clear(topic, next);
+                }
+            }
         }
     }
 
@@ -252,7 +209,6 @@ impl Child {
         now: u64,
         answer: &mut Answer,
     ) -> Result<(), Stop>
-        requires { length filter.now < 2 ^ 16 }
         ensures done { OnOk result (answer.new.found.items ≡ answer.old.found.items ++ chosen (levels_from at filter.now) now self.now) }
         ensures stop { IfErr result (λ stop. IsStop stop answer.old.room (answer.old.found.items ++ chosen (levels_from at filter.now) now self.now)) }
         ensures room { answer.new.room ≡ answer.old.room }
@@ -260,20 +216,25 @@ impl Child {
         match &self.node {
             Node::Bare => Ok(()),
             Node::Leaf(leaf) => leaf.answer(filter, at, now, answer),
-            Node::Inner(branch) => branch.answer(filter, at, now, answer),
+            Node::Inner(stem) => match past(stem.chain.as_slice(), filter, at) {
+                Some(next) => stem.branch.answer(filter, next, now, answer),
+                None => Ok(()),
+            },
         }
     }
 
     /// There is a message at this rest of a topic.
     #[cycle(holds)]
     pub fn holds(&self, topic: &[u8], at: usize) -> bool
-        requires { length topic.now < 2 ^ 16 }
         ensures { result ≡ is_there (levels_from at topic.now) self.now }
     {
         match &self.node {
             Node::Bare => false,
             Node::Leaf(leaf) => leaf.is_at(topic, at),
-            Node::Inner(branch) => branch.holds(topic, at),
+            Node::Inner(stem) => match behind(stem.chain.as_slice(), topic, at) {
+                Some(next) => stem.branch.holds(topic, next),
+                None => false,
+            },
         }
     }
 
@@ -285,20 +246,96 @@ impl Child {
         let node = match &self.node {
             Node::Bare => Node::Bare,
             Node::Leaf(leaf) => Node::Leaf(Leaf::new(alloc, copied(&leaf.found)?, leaf.at)?),
-            Node::Inner(branch) => Node::Inner(Box::new(alloc, branch.copy(alloc)?)?),
+            Node::Inner(stem) => {
+                let chain = Vec::from_slice(alloc, stem.chain.as_slice())?;
+                let branch = stem.branch.copy(alloc)?;
+                Node::Inner(Box::new(alloc, Stem { chain, branch })?)
+            }
         };
         Ok(Child { node })
     }
 }
 
-/// A branch of two messages, the first of which is copied.
+/// A chain of the levels that two topics share, and a branch of both messages. The first one is copied.
 #[cycle(set)]
-fn forked(alloc: Global, leaf: &Leaf, found: Found, at: usize) -> Result<Branch, AllocError>
-    ensures { IfOk result (λ b. b ≡ insert_entry path_cmp (spot_of leaf.now.at leaf.now.found ∷ []) (levels_from at found.topic) found) }
+fn forked(alloc: Global, leaf: &Leaf, found: Found, at: usize) -> Result<Stem, AllocError>
+    ensures { IfOk result (λ s. stem_spots s ≡ insert_entry path_cmp (spot_of leaf.now.at leaf.now.found ∷ []) (levels_from at found.topic) found) }
 {
-    let mut branch = Branch::of(alloc, copied(&leaf.found)?, leaf.at)?;
-    branch.set(alloc, found, at)?;
-    Ok(branch)
+    let shared = shared_levels(
+        alloc,
+        leaf.found.topic.as_bytes(),
+        leaf.at,
+        found.topic.as_bytes(),
+        at,
+    )?;
+    let mut branch = Branch::of(alloc, copied(&leaf.found)?, shared.at)?;
+    branch.set(alloc, found, shared.from)?;
+    Ok(Stem {
+        chain: shared.chain,
+        branch,
+    })
+}
+
+/// Puts a chain and its branch in the place of the child of a level.
+fn put_child(children: &mut BTreeMap<Vec<u8>, Child>, level: &[u8], stem: Box<Stem>)
+    requires { IsSome (lookup (λ k. is_eq (slice_cmp nat_cmp level.now k.items)) children.old.entries) }
+    ensures { children.new.entries ≡ set_value (λ k. is_eq (slice_cmp nat_cmp level.now k.items)) children.old.entries (stem_spots stem.value) }
+{
+    if let Some(child) = children.get_mut(level) {
+        child.put(stem);
+    }
+}
+
+impl Stem {
+    /// Where the rest of a topic goes on behind the chain, which is cut to the levels that they share. If memory is refused,
+    /// nothing changes.
+    fn reach(&mut self, alloc: Global, topic: &[u8], at: usize) -> Result<usize, AllocError>
+        requires { IsFull self.old.branch }
+        ensures same { stem_spots self.new ≡ stem_spots self.old }
+        ensures reached { IfOk result (λ i. levels_from at topic.now ≡ levels_from 1 self.new.chain.items ++ levels_from i topic.now) }
+        ensures further { IfOk result (λ i. at ≤ i) }
+    {
+        if let Some(next) = behind(self.chain.as_slice(), topic, at) {
+            return Ok(next);
+        }
+        let shared = shared_levels(alloc, self.chain.as_slice(), 1, topic, at)?;
+        self.cut(alloc, shared.chain, shared.at)?;
+        Ok(shared.from)
+    }
+
+    /// Ends the chain before the level at a byte, and puts a branch with that level in between. If memory is refused, nothing
+    /// changes.
+    fn cut(&mut self, alloc: Global, upper: Vec<u8>, at: usize) -> Result<(), AllocError>
+        requires full { IsFull self.old.branch }
+        requires upper { levels_from 1 self.old.chain.items ≡ levels_from 1 upper.items ++ levels_from at self.old.chain.items }
+        ensures done { OnOk result (self.new.chain ≡ upper) }
+        ensures same { stem_spots self.new ≡ stem_spots self.old }
+    {
+        let Some((level, next)) = level_at(self.chain.as_slice(), at) else {
+            self.chain = upper;
+            return Ok(());
+        };
+        let key = Vec::from_slice(alloc, level)?;
+        let (_, rest) = self.chain.as_slice().split_at(next - 1);
+        let mut lower = Box::new(
+            alloc,
+            Stem {
+                chain: Vec::from_slice(alloc, rest)?,
+                branch: Branch::new(alloc),
+            },
+        )?;
+        let mut children = BTreeMap::new(alloc);
+        hang(&mut children, key, Child { node: Node::Bare })?;
+        // No memory is asked for from here on.
+        swap(&mut self.branch, &mut lower.branch);
+        put_child(&mut children, level, lower);
+        self.branch = Branch {
+            held: None,
+            children,
+        };
+        self.chain = upper;
+        Ok(())
+    }
 }
 
 impl Branch {
@@ -361,7 +398,6 @@ impl Branch {
     /// Removes the message at this rest of a topic, and the branches that are empty then.
     #[cycle(clear)]
     pub fn clear(&mut self, topic: &[u8], at: usize)
-        requires { length topic.now < 2 ^ 16 }
         ensures { self.new ≡ remove_entry (is_at (path_cmp (levels_from at topic.now))) self.old }
     {
         let Some((level, next)) = level_at(topic, at) else {
@@ -387,7 +423,6 @@ impl Branch {
         now: u64,
         answer: &mut Answer,
     ) -> Result<(), Stop>
-        requires { length filter.now < 2 ^ 16 }
         ensures done { OnOk result (answer.new.found.items ≡ answer.old.found.items ++ chosen (levels_from at filter.now) now self.now) }
         ensures stop { IfErr result (λ stop. IsStop stop answer.old.room (answer.old.found.items ++ chosen (levels_from at filter.now) now self.now)) }
         ensures room { answer.new.room ≡ answer.old.room }
@@ -417,7 +452,6 @@ impl Branch {
 
     /// The same for a whole filter: a wildcard in its first level leaves out topics that begin with a dollar (4.7.2).
     pub fn answer_at_root(&self, filter: &[u8], now: u64, answer: &mut Answer) -> Result<(), Stop>
-        requires { length filter.now < 2 ^ 16 }
         ensures done { OnOk result (answer.new.found.items ≡ answer.old.found.items ++ chosen_at_root (levels_from 0 filter.now) now self.now) }
         ensures stop { IfErr result (λ stop. IsStop stop answer.old.room (answer.old.found.items ++ chosen_at_root (levels_from 0 filter.now) now self.now)) }
         ensures room { answer.new.room ≡ answer.old.room }
@@ -438,7 +472,6 @@ impl Branch {
     /// There is a message at this rest of a topic.
     #[cycle(holds)]
     pub fn holds(&self, topic: &[u8], at: usize) -> bool
-        requires { length topic.now < 2 ^ 16 }
         ensures { result ≡ is_there (levels_from at topic.now) self.now }
     {
         let Some((level, next)) = level_at(topic, at) else {

@@ -1,10 +1,10 @@
 //! A walk along the levels of a text, as the byte at which the next level begins. Past the end of the text no level is left.
 
-ghost use Rattle.std.specs.Prelude.{◌≡◌, ◌==◌, ◌∷◌, [], ◌+◌, ◌<◌, ◌≤◌, ◌^◌, length, IfSome, IfNone};
+ghost use Rattle.std.specs.Prelude.{◌≡◌, ◌==◌, ◌∷◌, [], ◌+◌, ◌<◌, ◌≤◌, length, IfSome, IfNone};
 ghost use Rattle.std.specs.List.{position_or_len};
 ghost use Rattle.std.specs.Str.{bytes_eq};
 ghost use Rattle.std.specs.BTreeMap.{is_at};
-ghost use Rattle.rs_topic.specs.Topics.{slash, plus};
+ghost use Rattle.rs_topic.specs.Topics.{levels, slash, plus};
 ghost use Rattle.rs_topic.specs.Order.{path_cmp};
 ghost use Rattle.rs_topic.specs.Matching.{begins_with_dollar, fits};
 ghost use Rattle.rs_store.specs.Spots.{levels_from};
@@ -24,11 +24,11 @@ fn end_of_level(text: &[u8]) -> usize
 }
 
 /// The level that begins at a byte, and where the next one begins.
-#[tactic(auto, using(crate::proofs::Places::one_more, crate::proofs::Places::no_more))]
+#[tactic(auto, using(crate::proofs::Places::one_more, crate::proofs::Places::no_more, crate::proofs::Places::is_level))]
 pub fn level_at(text: &[u8], at: usize) -> Option<(&[u8], usize)>
-    requires { length text.now < 2 ^ 16 }
     ensures more { IfSome result (λ r. levels_from at text.now ≡ r.0.now ∷ levels_from r.1 text.now) }
     ensures further { IfSome result (λ r. (at < r.1) × (r.1 ≤ length text.now + 1)) }
+    ensures single { IfSome result (λ r. levels r.0.now ≡ r.0.now ∷ []) }
     ensures ended { IfNone result (levels_from at text.now ≡ []) }
 {
     if at > text.len() {
@@ -62,8 +62,6 @@ pub fn begins_with_dollar(level: &[u8]) -> bool
 
 /// The rest of a filter fits the rest of a topic (4.7.1).
 pub fn levels_fit(filter: &[u8], mut at: usize, topic: &[u8], mut from: usize) -> bool
-    requires filter { length filter.now < 2 ^ 16 }
-    requires topic { length topic.now < 2 ^ 16 }
     ensures { result ≡ fits (levels_from at filter.now) (levels_from from topic.now) }
 {
     while let Some((wanted, next)) = level_at(filter, at) {

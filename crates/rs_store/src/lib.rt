@@ -1,4 +1,4 @@
-//! The store of retained messages (3.3.1.3): what a list of entries leaves, which entry may come next, and how a SUBSCRIBE is
+//! The store of retained messages (3.3.1.3): what it holds after a list of entries, which entry may come next, and how a SUBSCRIBE is
 //! answered.
 //!
 //! A [`Catalogue`] keeps the content of a list of entries: the message of each topic, the last serial of each place and the number
@@ -9,10 +9,13 @@
 mod answer;
 mod branch;
 mod catalogue;
+mod chain;
 mod content;
 mod fault;
 mod found;
+mod held;
 mod law;
+mod leaf;
 mod level;
 mod limit;
 mod map;

@@ -107,7 +107,7 @@ fn limits(rt: HostRuntime) -> Result<(), Fail> {
     Ok(())
 }
 
-/// The topics that a filter is answered at a moment, each followed by a space.
+/// The topics that a filter is answered at a given time, each followed by a space.
 fn topics<C: Catalogue>(
     alloc: Global,
     catalogue: &C,

@@ -102,7 +102,7 @@ fn put<C: Catalogue>(
     Ok(add(catalogue, Entry { origin, operation }))
 }
 
-/// The topics and payloads that a filter is answered at a moment.
+/// The topics and payloads that a filter is answered at a given time.
 fn answer_of<C: Catalogue>(
     alloc: Global,
     catalogue: &C,
@@ -160,7 +160,7 @@ fn are_alike<C: Catalogue, D: Catalogue>(
     Ok(())
 }
 
-/// 1,000 entries: each is taken or refused alike.
+/// 1,000 entries: each is accepted or rejected alike.
 fn entries<C: Catalogue, D: Catalogue>(
     rt: &impl Abort,
     alloc: Global,
@@ -188,5 +188,56 @@ fn both_alike(rt: HostRuntime) -> Result<(), Fail> {
     assert!(rt; 250 < map.count());
     are_alike(&rt, alloc, &map, &tree)?;
     are_alike(&rt, alloc, &map.copy()?, &tree.copy()?)?;
+    Ok(())
+}
+
+/// A topic that ends, or differs, behind so many levels that are the same in all.
+fn below(alloc: Global, levels: u64, last: &[u8]) -> Result<Vec<u8>, Fail> {
+    let mut name = Vec::new(alloc);
+    for _ in 0..levels {
+        name.extend_from_slice(b"a/")?;
+    }
+    name.extend_from_slice(last)?;
+    Ok(name)
+}
+
+/// Sets or clears a topic at each level, in a mixed order.
+fn at_each_level<C: Catalogue, D: Catalogue>(
+    rt: &impl Abort,
+    alloc: Global,
+    first: &mut C,
+    second: &mut D,
+    kind: u64,
+) -> Result<(), Fail> {
+    for i in 0..127 {
+        let last: &[u8] = if i % 2 == 0 { b"a" } else { b"b" };
+        let name = below(alloc, i * 37 % 127, last)?;
+        let serial = first.last_serial(1).saturating_add(1);
+        put(alloc, first, serial, name.as_slice(), kind)??;
+        put(alloc, second, serial, name.as_slice(), kind)??;
+        if i % 16 == 0 {
+            is_alike(rt, alloc, first, second, b"#")?;
+        }
+    }
+    Ok(())
+}
+
+#[test]
+fn shared_levels(rt: HostRuntime) -> Result<(), Fail> {
+    let alloc = rt.alloc();
+    let limit = TopicLimit::new(300).ok_or("300 is a limit")?;
+    let mut map = MapCatalogue::new(alloc, limit)?;
+    let mut tree = TreeCatalogue::new(alloc, limit)?;
+    for (serial, last) in [(1, b"c".as_slice()), (2, b"d".as_slice())] {
+        let name = below(alloc, 127, last)?;
+        put(alloc, &mut map, serial, name.as_slice(), 1)??;
+        put(alloc, &mut tree, serial, name.as_slice(), 1)??;
+    }
+    at_each_level(&rt, alloc, &mut map, &mut tree, 1)?;
+    at_each_level(&rt, alloc, &mut map, &mut tree, 4)?;
+    for filter in [b"a/#".as_slice(), b"+/a/#".as_slice(), b"a/a/+".as_slice()] {
+        is_alike(&rt, alloc, &map, &tree, filter)?;
+    }
+    assert_eq!(rt; tree.count(), 2);
     Ok(())
 }

@@ -1,4 +1,4 @@
-use Rattle.std.proofs.Common.{◌≡◌, ◌∷◌, [], ◌++◌, sym, refl, ap, subst, ◌∙◌}
+use Rattle.std.proofs.Common.{◌≡◌, [], ◌++◌, sym, ap, ◌∙◌}
 use Rattle.std.specs.Option.{option_copied}
 use Rattle.std.proofs.lemmas.Result.{on_ok_weaker}
 use Rattle.std.proofs.lemmas.Map.Iter.{rest_more}
@@ -11,6 +11,12 @@ use Rattle.rs_store.proofs.Growing.{rising}
 use Rattle.rs_store.proofs.Choosing.{ended, one_turn, hash_goes, plus_goes, exact_child, exact_none, all_here, plus_not_here}
 use Rattle.rs_store.proofs.Stopping.{if_err_at, given_on, stop_turn, both_chosen}
 use Rattle.rs_store.proofs.branch.+answer.Goals as goal
+use Rattle.std.proofs.Common.{Some, None}
+use Rattle.std.specs.Prelude.{IfErr, OnOk}
+use Rattle.rs_store.specs.Chains.{past}
+use Rattle.rs_store.specs.Nodes.{spots_of, stem_spots}
+use Rattle.rs_store.specs.Room.{IsStop}
+use Rattle.rs_store.proofs.Stems.{chosen_past, none_past}
 
 pub Branch::answer-returns-in_default-clause-done : goal.Branch::answer-returns-in_default-clause-done
 Branch::answer-returns-in_default-clause-done t c =
@@ -102,3 +108,28 @@ Branch::answer-returns-in-None-get-clause-done t c =
     let gone = sym c.get.ensures.value ∙ ap option_copied c.in-None-get.is in
     let ends = sym c.is_all_below.ensures ∙ c.if-is_all_below.false in
     rw (c.in-Some.ensures.more, ← c.self.view_is) (sym (append-nil c.args.answer.now.found.items) ∙ ap (λ l. c.args.answer.now.found.items ++ l) (sym (exact_none c.in-Some.level.now (levels_from c.in-Some.next filter) c.args.now (held_found c.self.inside.held) c.self.inside.children.entries (sym c.is_plus.ensures ∙ c.if-is_plus.false) ends gone)))
+
+pub Child::answer-returns-in-Some-clause-done : goal.Child::answer-returns-in-Some-clause-done
+Child::answer-returns-in-Some-clause-done t c =
+    let stem = c.in-Inner.stem.value in
+    let view : stem_spots c.in-Inner.stem.value ≡ c.args.self.now = sym (ap spots_of c.in-Inner.is) ∙ c.self.view_is in
+    let there : Some (levels_from c.in-Some.next c.args.filter.now) ≡ past (levels_from 1 stem.chain.items) (levels_from c.args.at c.args.filter.now) = rw (c.as_slice.ensures.value, c.deref-in-Inner.ensures) at c.in-Some.ensures in
+    let same = chosen_past (levels_from 1 stem.chain.items) (levels_from c.args.at c.args.filter.now) (levels_from c.in-Some.next c.args.filter.now) c.args.now stem.branch (sym there) in
+    let more : OnOk c.answer-in-Some.result (c.answer-in-Some.new.answer.found.items ≡ c.args.answer.now.found.items ++ chosen (levels_from c.in-Some.next c.args.filter.now) c.args.now stem.branch) = rw c.deref-in-Some.ensures at c.answer-in-Some.ensures.done in
+    rw (← view) (on_ok_weaker c.answer-in-Some.result (λ h. h ∙ ap (λ l. c.args.answer.now.found.items ++ l) (sym same)) more)
+
+pub Child::answer-returns-in-Some-clause-stop : goal.Child::answer-returns-in-Some-clause-stop
+Child::answer-returns-in-Some-clause-stop t c =
+    let stem = c.in-Inner.stem.value in
+    let view : stem_spots c.in-Inner.stem.value ≡ c.args.self.now = sym (ap spots_of c.in-Inner.is) ∙ c.self.view_is in
+    let there : Some (levels_from c.in-Some.next c.args.filter.now) ≡ past (levels_from 1 stem.chain.items) (levels_from c.args.at c.args.filter.now) = rw (c.as_slice.ensures.value, c.deref-in-Inner.ensures) at c.in-Some.ensures in
+    let same = chosen_past (levels_from 1 stem.chain.items) (levels_from c.args.at c.args.filter.now) (levels_from c.in-Some.next c.args.filter.now) c.args.now stem.branch (sym there) in
+    let more : IfErr c.answer-in-Some.result (λ s. IsStop s c.args.answer.now.room (c.args.answer.now.found.items ++ chosen (levels_from c.in-Some.next c.args.filter.now) c.args.now stem.branch)) = rw c.deref-in-Some.ensures at c.answer-in-Some.ensures.stop in
+    rw (← view) (if_err_at c.answer-in-Some.result c.args.answer.now.room _ _ (ap (λ l. c.args.answer.now.found.items ++ l) (sym same)) more)
+
+pub Child::answer-returns-in-None-clause-done : goal.Child::answer-returns-in-None-clause-done
+Child::answer-returns-in-None-clause-done t c =
+    let stem = c.in-Inner.stem.value in
+    let view : stem_spots c.in-Inner.stem.value ≡ c.args.self.now = sym (ap spots_of c.in-Inner.is) ∙ c.self.view_is in
+    let none : None ≡ past (levels_from 1 stem.chain.items) (levels_from c.args.at c.args.filter.now) = rw (c.as_slice.ensures.value, c.deref-in-Inner.ensures) at c.in-None.ensures in
+    rw (← view) (sym (append-nil c.args.answer.now.found.items) ∙ ap (λ l. c.args.answer.now.found.items ++ l) (sym (none_past (levels_from 1 stem.chain.items) (levels_from c.args.at c.args.filter.now) c.args.now stem.branch (sym none))))

@@ -1,4 +1,4 @@
-use Rattle.std.proofs.Common.{◌≡◌, ◌∷◌, [], sym, refl, ap, ◌∙◌}
+use Rattle.std.proofs.Common.{rules, ◌≡◌, ◌∷◌, [], sym, refl, ap, ◌∙◌}
 use Rattle.std.specs.Option.{option_copied_mut}
 use Rattle.std.proofs.lemmas.Result.{on_ok_weaker, on_err_weaker}
 use Rattle.std.specs.Cmp.Lexicographic.{slice_cmp}
@@ -10,6 +10,14 @@ use Rattle.rs_store.specs.Spots.{held_found, levels_from, spot_of}
 use Rattle.rs_store.proofs.Growing.{own_first, rising, grown_whole, same_whole, sprouted_whole, full_grown, full_sprouted, replaced}
 use Rattle.rs_store.proofs.Looking.{there_child, there_none, there_own, told_by}
 use Rattle.rs_store.proofs.branch.+set.Goals as goal
+use Rattle.rs_store.proofs.Growing.{full_there}
+use Rattle.std.proofs.Common.{◌++◌, subst}
+use Rattle.std.specs.Prelude.{IfOk, OnOk}
+use Rattle.std.specs.BTreeMap.{insert_entry}
+use Rattle.rs_store.specs.Chains.{under_all}
+use Rattle.rs_store.specs.Nodes.{stem_spots}
+use Rattle.rs_store.specs.Spots.{IsFull, is_there}
+use Rattle.rs_store.proofs.Stems.{full_inside, set_whole, told_whole, forked_whole}
 
 pub Branch::set-returns-in_default-clause-done : goal.Branch::set-returns-in_default-clause-done
 Branch::set-returns-in_default-clause-done t c =
@@ -51,7 +59,7 @@ pub Child::set-returns-then-is_at-clause-done : goal.Child::set-returns-then-is_
 Child::set-returns-then-is_at-clause-done t c =
     let old = c.in-Leaf.leaf.value in
     let view : spot_of old.at old.found ∷ [] ≡ c.args.self.now = sym (ap spots_of c.in-Leaf.is) ∙ c.self.view_is in
-    let tells : c.is_at.result ≡ is_at (path_cmp (levels_from c.args.at c.args.found.topic)) (levels_from old.at old.found.topic) = rw (c.as_bytes.ensures.bytes, c.deref.ensures) at c.is_at.ensures in
+    let tells : c.is_at.result ≡ is_at (path_cmp (levels_from c.args.at c.args.found.topic)) (levels_from old.at old.found.topic) = rw (c.as_bytes-in-Leaf.ensures.bytes, c.deref.ensures) at c.is_at.ensures in
     rw (c.put.ensures, ← view) (replaced (levels_from old.at old.found.topic) old.found (levels_from c.args.at c.args.found.topic) c.args.found c.is_at.result tells c.if-is_at.true)
 
 pub Branch::set-returns-in_default-clause-told : goal.Branch::set-returns-in_default-clause-told
@@ -76,5 +84,48 @@ pub Child::set-returns-then-is_at-clause-told : goal.Child::set-returns-then-is_
 Child::set-returns-then-is_at-clause-told t c =
     let old = c.in-Leaf.leaf.value in
     let view : spot_of old.at old.found ∷ [] ≡ c.args.self.now = sym (ap spots_of c.in-Leaf.is) ∙ c.self.view_is in
-    let tells : c.is_at.result ≡ is_at (path_cmp (levels_from c.args.at c.args.found.topic)) (levels_from old.at old.found.topic) = rw (c.as_bytes.ensures.bytes, c.deref.ensures) at c.is_at.ensures in
+    let tells : c.is_at.result ≡ is_at (path_cmp (levels_from c.args.at c.args.found.topic)) (levels_from old.at old.found.topic) = rw (c.as_bytes-in-Leaf.ensures.bytes, c.deref.ensures) at c.is_at.ensures in
     rw (← view, ← tells, c.if-is_at.true) refl
+
+pub Branch::set-set-requires : goal.Branch::set-set-requires
+Branch::set-set-requires t c =
+    let there = sym c.get_mut.ensures.value ∙ ap option_copied_mut c.in-Some-get_mut.is in
+    (search rules, full_there _ c.self.inside.children.entries _ c.self.invariant there)
+
+pub Child::set-reach-requires : goal.Child::set-reach-requires
+Child::set-reach-requires t c =
+    let stem = c.in-Inner.stem.value in
+    let view : stem_spots stem ≡ c.args.self.now = sym (ap spots_of c.in-Inner.is) ∙ c.self.view_is in
+    let full : IsFull (under_all (levels_from 1 stem.chain.items) stem.branch) = subst IsFull (sym view) c.requires in
+    rw c.deref_mut.ensures.value (full_inside (levels_from 1 stem.chain.items) stem.branch full)
+
+pub Child::set-returns-in-Inner-clause-done : goal.Child::set-returns-in-Inner-clause-done
+Child::set-returns-in-Inner-clause-done t c =
+    let stem = c.reach.new.self in
+    let next = c.in_ok-next-in-Inner.next in
+    let view : stem_spots c.in-Inner.stem.value ≡ c.args.self.now = sym (ap spots_of c.in-Inner.is) ∙ c.self.view_is in
+    let same : stem_spots stem ≡ c.args.self.now = c.in_ok-next-in-Inner.ensures.same ∙ (ap stem_spots c.deref_mut.ensures.value ∙ view) in
+    let reached : levels_from c.args.at c.args.found.topic ≡ levels_from 1 stem.chain.items ++ levels_from next c.args.found.topic = rw c.as_bytes.ensures.bytes at c.in_ok-next-in-Inner.ensures.reached in
+    let done : OnOk c.set.result (c.set.new.self ≡ insert_entry path_cmp stem.branch (levels_from next c.args.found.topic) c.args.found) = rw c.deref_mut-in-Inner.ensures.value at c.set.ensures.done in
+    rw c.deref_mut-in-Inner.ensures.value
+    (on_ok_weaker c.set.result (set_whole (levels_from 1 stem.chain.items) (levels_from c.args.at c.args.found.topic) (levels_from next c.args.found.topic) c.args.found stem.branch c.set.new.self c.args.self.now same reached) done)
+
+pub Child::set-returns-in-Inner-clause-told : goal.Child::set-returns-in-Inner-clause-told
+Child::set-returns-in-Inner-clause-told t c =
+    let stem = c.reach.new.self in
+    let next = c.in_ok-next-in-Inner.next in
+    let view : stem_spots c.in-Inner.stem.value ≡ c.args.self.now = sym (ap spots_of c.in-Inner.is) ∙ c.self.view_is in
+    let same : stem_spots stem ≡ c.args.self.now = c.in_ok-next-in-Inner.ensures.same ∙ (ap stem_spots c.deref_mut.ensures.value ∙ view) in
+    let reached : levels_from c.args.at c.args.found.topic ≡ levels_from 1 stem.chain.items ++ levels_from next c.args.found.topic = rw c.as_bytes.ensures.bytes at c.in_ok-next-in-Inner.ensures.reached in
+    let told : IfOk c.set.result (λ was. was ≡ is_there (levels_from next c.args.found.topic) stem.branch) = rw c.deref_mut-in-Inner.ensures.value at c.set.ensures.told in
+    told_by c.set.result _ _ told (told_whole (levels_from 1 stem.chain.items) (levels_from c.args.at c.args.found.topic) (levels_from next c.args.found.topic) stem.branch c.args.self.now same reached)
+
+pub forked-returns : goal.forked-returns
+forked-returns t c =
+    let first = c.args.leaf.now.found in
+    let shared = c.in_ok-shared.shared in
+    let text : levels_from c.args.leaf.now.at first.topic ≡ levels_from 1 shared.chain.items ++ levels_from shared.at first.topic = rw c.as_bytes.ensures.bytes at c.in_ok-shared.ensures.text in
+    let other : levels_from c.args.at c.args.found.topic ≡ levels_from 1 shared.chain.items ++ levels_from shared.from c.args.found.topic = rw c.as_bytes-2.ensures.bytes at c.in_ok-shared.ensures.other in
+    let one : c.in_ok-branch.branch ≡ spot_of shared.at first ∷ [] = rw c.in_ok-copied.ensures at c.in_ok-branch.ensures in
+    let both : c.set.new.self ≡ insert_entry path_cmp (spot_of shared.at first ∷ []) (levels_from shared.from c.args.found.topic) c.args.found = rw one at c.in_ok-set.ensures.done in
+    forked_whole (levels_from 1 shared.chain.items) (levels_from c.args.leaf.now.at first.topic) (levels_from shared.at first.topic) (levels_from c.args.at c.args.found.topic) (levels_from shared.from c.args.found.topic) first c.args.found c.set.new.self text other both

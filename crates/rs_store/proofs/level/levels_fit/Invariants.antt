@@ -1,4 +1,4 @@
-use Rattle.std.proofs.Common.{◌≡◌, ℕ, ◌+◌, ◌-◌, ◌≤◌, length}
+use Rattle.std.proofs.Common.{◌≡◌, ◌+◌, ◌-◌, length}
 use Rattle.rs_topic.specs.Matching.{fits}
 use Rattle.rs_store.specs.Spots.{levels_from}
 use Rattle.rs_store.proofs.level.levels_fit.Given as goal

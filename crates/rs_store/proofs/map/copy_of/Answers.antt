@@ -1,4 +1,4 @@
-use Rattle.std.proofs.Common.{◌≡◌, ◌++◌, ◌∷◌, sym, ap, ◌∙◌}
+use Rattle.std.proofs.Common.{◌++◌, sym, ap, ◌∙◌}
 use Rattle.rs_store.proofs.Maps.{insert_next}
 use Rattle.rs_store.proofs.map.copy_of.Goals as goal
 

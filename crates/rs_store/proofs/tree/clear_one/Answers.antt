@@ -1,5 +1,5 @@
-use Rattle.std.proofs.Common.{◌≡◌, sym, refl, ap, ◌∙◌, arith, is_some, false}
-use Rattle.std.specs.Map.{lookup, remove_entry}
+use Rattle.std.proofs.Common.{◌≡◌, sym, ap, ◌∙◌, arith}
+use Rattle.std.specs.Map.{remove_entry}
 use Rattle.std.specs.BTreeMap.{is_at}
 use Rattle.rs_topic.specs.Order.{path_cmp, topic_cmp}
 use Rattle.rs_store.specs.Spots.{is_there, levels_from, pairs}

@@ -1,5 +1,4 @@
-use Rattle.std.proofs.Common.{◌≡◌, sym, refl, ap, ◌∙◌}
-use Rattle.rs_message.specs.declared.entry.Found.{Found}
+use Rattle.std.proofs.Common.{ap, ◌∙◌}
 use Rattle.rs_store.specs.Spots.{levels_from, pairs}
 use Rattle.rs_store.proofs.Places.{from_start}
 use Rattle.rs_store.proofs.Trees.{pairs_insert, placed_insert, set_old, set_new}

@@ -1,9 +1,9 @@
-use Rattle.std.proofs.Common.{◌≡◌, ◌++◌, refl, sym, ap, ◌∙◌}
+use Rattle.std.proofs.Common.{◌++◌, refl, sym, ap, ◌∙◌}
 use Rattle.std.proofs.lemmas.Result.{on_ok_weaker}
-use Rattle.rs_store.specs.Chosen.{chosen_by, chosen_at_root, is_plain_below, own_chosen}
-use Rattle.rs_store.specs.Spots.{below, held_found, levels_from, spots}
+use Rattle.rs_store.specs.Chosen.{chosen_by, is_plain_below, own_chosen}
+use Rattle.rs_store.specs.Spots.{below, held_found, levels_from}
 use Rattle.rs_store.proofs.Choosing.{root_all, root_plus, root_exact, root_none, joined}
-use Rattle.rs_store.proofs.Stopping.{if_err_at, stop_more}
+use Rattle.rs_store.proofs.Stopping.{if_err_at}
 use Rattle.rs_store.proofs.branch.Branch.answer_at_root.Goals as goal
 
 pub returns-in_default-clause-done : goal.returns-in_default-clause-done

@@ -1,0 +1,63 @@
+//! A message that is alone below its place.
+
+ghost use Rattle.std.specs.Prelude.{◌≡◌, [], ◌∷◌, ◌++◌, IfErr, IfOk, OnOk};
+ghost use Rattle.std.specs.BTreeMap.{is_at};
+ghost use Rattle.rs_topic.specs.Order.{path_cmp};
+ghost use Rattle.rs_store.specs.Chosen.{chosen};
+ghost use Rattle.rs_store.specs.Room.{IsStop};
+ghost use Rattle.rs_store.specs.Spots.{levels_from, spot_of};
+
+use crate::answer::{Answer, Stop};
+use crate::found::is_expired;
+use crate::level::{is_same_rest, levels_fit};
+use rs_message::Found;
+use std::alloc::{AllocError, Global};
+
+/// The only message below a place, however many levels are left of its topic.
+#[derive(Drop)]
+pub struct Leaf {
+    pub found: Found,
+    /// The byte at which the rest of the topic begins.
+    pub at: usize,
+}
+
+impl Leaf {
+    pub fn new(alloc: Global, found: Found, at: usize) -> Result<Box<Leaf>, AllocError>
+        ensures { IfOk result (λ b. (b.value.found ≡ found) × (b.value.at ≡ at)) }
+    {
+        Ok(Box::new(alloc, Leaf { found, at })?)
+    }
+
+    pub fn put(&mut self, found: Found, at: usize)
+        ensures { self.new ≡ record { found = found; at = at } }
+    {
+        self.found = found;
+        self.at = at;
+    }
+
+    /// The rest of its topic is the rest of this one.
+    pub fn is_at(&self, topic: &[u8], at: usize) -> bool
+        ensures { result ≡ is_at (path_cmp (levels_from at topic.now)) (levels_from self.now.at self.now.found.topic) }
+    {
+        is_same_rest(topic, at, self.found.topic.as_bytes(), self.at)
+    }
+
+    /// Appends a copy of the message if the filter fits the rest of its topic and it is not expired.
+    pub fn answer(
+        &self,
+        filter: &[u8],
+        at: usize,
+        now: u64,
+        answer: &mut Answer,
+    ) -> Result<(), Stop>
+        ensures done { OnOk result (answer.new.found.items ≡ answer.old.found.items ++ chosen (levels_from at filter.now) now (spot_of self.now.at self.now.found ∷ [])) }
+        ensures stop { IfErr result (λ stop. IsStop stop answer.old.room (answer.old.found.items ++ chosen (levels_from at filter.now) now (spot_of self.now.at self.now.found ∷ []))) }
+        ensures room { answer.new.room ≡ answer.old.room }
+    {
+        let topic = self.found.topic.as_bytes();
+        if !levels_fit(filter, at, topic, self.at) || is_expired(&self.found.message, now) {
+            return Ok(());
+        }
+        answer.push(&self.found.topic, &self.found.message)
+    }
+}
