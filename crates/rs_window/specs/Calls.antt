@@ -18,7 +18,7 @@ use Rattle.rs_window.specs.Identifiers.{Kinds, IsNumbered, kinds_put, kinds_give
 use Rattle.rs_window.specs.State.{State}
 use Rattle.rs_window.specs.Waiting.{lesser_qos, sendable, granted_at, Carries}
 
--- 4.9: nothing is in use and nothing waits. The quota is the lesser of the client's Receive Maximum and the greatest quota (own)
+-- 4.9: nothing is in use and nothing waits. The quota is the lesser of the client's Receive Maximum and the greatest quota (ours)
 abbrev pub fresh : ℕ → ℕ → State
 fresh receive_maximum packet_maximum = record { kinds = finite.empty; waiting = []; quota = min receive_maximum MAX_QUOTA; packet_maximum = packet_maximum }
 

@@ -5,7 +5,8 @@ use Rattle.rs_window.specs.declared.identifiers.Kind.{Kind}
 use Rattle.rs_window.specs.declared.queue.Waiting.{Waiting}
 use Rattle.rs_window.specs.declared.queue.TheConstants.{MAX_WAITING}
 
--- there is room for the whole quota, each slot has an identifier, and not too many wait
+-- no more identifiers than the quota are in use, slots are reserved for all of it, the number of each slot plus 1 is an identifier,
+-- and not too many messages wait
 pub record IsInBounds (identifiers : Slab Kind) (waiting : List Waiting) (quota : ℕ) : Type 0 where
   pub within : slab_len identifiers ≤ quota
   pub reserved : quota ≤ identifiers.capacity

@@ -18,13 +18,13 @@ Run from (call ∷ calls) to = (mid : State) × Step from call mid × Run mid ca
 
 -- ---- what an identifier waits for, read from the calls
 
--- after a PUBLISH was given at this quality, with this identifier or none
+-- after a PUBLISH was given at this QoS, with this identifier or none
 abbrev pub kind_given : ℕ → Qos → Option ℕ → Option Kind → Option Kind
 kind_given id quality None kind = kind
 kind_given id quality (Some given) kind = if id == given then kind_sent quality else kind
 
 -- A call concerns an identifier if it gave a PUBLISH with it, or is an acknowledgement of it. After a PUBLISH
--- the identifier waits by its quality, whatever it waited for; after an acknowledgement, by what it waited for. No
+-- its QoS decides what the identifier waits for; after an acknowledgement, what it waited for before. No
 -- other call changes it.
 abbrev pub kind_by : ℕ → Call → Option Kind → Option Kind
 kind_by id (Queue found granted subscription answer) kind = kind
@@ -69,7 +69,7 @@ abbrev pub queued : List Call → List Waiting
 queued [] = []
 queued (call ∷ calls) = brought call ++ queued calls
 
--- what leaves the queue in a call: in a `next`, some that may be dropped at its moment, and then
+-- what leaves the queue in a call: in a `next`, some that may be dropped at its time, and then
 -- the one that its PUBLISH carries
 abbrev pub Leaves : ℕ → Call → List Waiting → Type 0
 Leaves packet_maximum (Queue found granted subscription answer) gone = gone ≡ []
@@ -95,7 +95,7 @@ pub record IsFreeFor (before : List Call) (quality : Qos) (id : Option ℕ) : Ty
   pub fits : IdFits quality id
   pub free : IfSome id (λ n. kind_after n before ≡ None)
 
--- 4.9: nothing waits, or what stands first needs an identifier, is not to be dropped, and the quota is used up
+-- 4.9: nothing waits, or the first message needs an identifier, is not to be dropped, and the quota is used up
 abbrev pub MayGiveNothing : ℕ → ℕ → Kinds → ℕ → List Waiting → Type 0
 MayGiveNothing packet_maximum now kinds quota [] = Unit {0}
 MayGiveNothing packet_maximum now kinds quota (w ∷ ws) = (lesser_qos w ≢ AtMostOnce) × ¬ (IsDropped packet_maximum now w) × (finite.len kinds ≡ quota)

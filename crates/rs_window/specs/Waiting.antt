@@ -16,7 +16,7 @@ use Rattle.rs_window.specs.declared.queue.Waiting.{Waiting}
 abbrev pub granted_at : Qos → Option ℕ → Found → Waiting
 granted_at granted subscription found = record { found = found; granted = granted; subscription = subscription }
 
--- 3.8.4: it is sent at the lesser of the published and the granted quality
+-- 3.8.4: it is sent at the lesser of the published and the granted QoS
 abbrev pub lesser : Qos → Qos → Qos
 lesser published granted = if nat_le (level published) (level granted) then published else granted
 
@@ -40,11 +40,11 @@ packet_with w expiry id = record {
   subscription = w.subscription;
 }
 
--- its packet at a moment
+-- its packet at a given time
 abbrev pub packet_at : ℕ → Waiting → Option ℕ → PublishValue
 packet_at now w id = packet_with w (interval_sent (remaining_of w.found.message now)) id
 
--- 3.3.2.2: whether there is an identifier goes by the quality, and each has the same length
+-- 3.3.2.2: the QoS decides whether there is an identifier, and each has the same length
 abbrev pub some_id : Qos → Option ℕ
 some_id qos.AtMostOnce = None
 some_id qos.AtLeastOnce = Some 1
@@ -54,11 +54,11 @@ some_id qos.ExactlyOnce = Some 1
 unfoldable pub len_with : Waiting → Option ℕ → ℕ
 len_with w expiry = length (reply_bytes (reply_of (packet_with w expiry (some_id (lesser_qos w)))))
 
--- how many bytes its packet takes at a moment
+-- how many bytes its packet takes at a given time
 abbrev pub packet_len : ℕ → Waiting → ℕ
 packet_len now w = len_with w (interval_sent (remaining_of w.found.message now))
 
--- 3.3.2.3.3, 3.1.2.11.4: it may be dropped at a moment if it has expired, or if its packet is longer than the client takes
+-- 3.3.2.3.3, 3.1.2.11.4: it may be dropped at a time if it has expired then, or if its packet is longer than the client takes
 abbrev pub IsDropped : ℕ → ℕ → Waiting → Type 0
 IsDropped packet_maximum now w = (remaining_of w.found.message now ≡ Expired) ⊎ (packet_maximum < packet_len now w)
 
@@ -75,7 +75,7 @@ abbrev pub sendable : ℕ → ℕ → List Waiting → List Waiting
 sendable packet_maximum now [] = []
 sendable packet_maximum now (w ∷ ws) = if is_dropped packet_maximum now w then sendable packet_maximum now ws else w ∷ ws
 
--- a given PUBLISH is this message's packet at this moment; the message has not expired, and the client takes the packet
+-- a given PUBLISH is this message's packet at this time; the message has not expired, and the client takes the packet
 pub record Carries (packet_maximum now : ℕ) (w : Waiting) (p : PublishValue) : Type 0 where
   pub packet : p ≡ packet_at now w p.id
   pub current : remaining_of w.found.message now ≢ Expired

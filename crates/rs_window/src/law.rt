@@ -14,7 +14,7 @@ ghost use Rattle.rs_window.specs.Replay.{Run, NoneConcerns, kind_by, AreUnacknow
 /// What holds after every list of calls of a new window, refused calls included. The function does nothing: its contract is
 /// the law.
 pub fn replay_law()
-    // what an identifier waits for goes by the last call that concerns it
+    // the last call that concerns an identifier decides what it waits for
     ensures last { (id : ℕ) (before : List Call) (call : Call) (after : List Call) → NoneConcerns id after → kind_after id (before ++ call ∷ after) ≡ kind_by id call (kind_after id before) }
     // the kinds that the calls leave are those read from the list of calls
     ensures kinds { (receive_maximum packet_maximum : ℕ) (calls : List Call) (end : State) → Run (fresh receive_maximum packet_maximum) calls end
@@ -22,7 +22,7 @@ pub fn replay_law()
     // no more are unacknowledged than the initial quota
     ensures quota { (receive_maximum packet_maximum : ℕ) (calls : List Call) (end : State) → Run (fresh receive_maximum packet_maximum) calls end
         → finite.len end.kinds ≤ min receive_maximum MAX_QUOTA }
-    // each that was queued is given once, in order, or dropped, or it waits
+    // each message that was queued was given once, in order, or dropped, or it waits
     ensures replay { (receive_maximum packet_maximum : ℕ) (calls : List Call) (end : State) → Run (fresh receive_maximum packet_maximum) calls end
         → IsReplayed packet_maximum calls end.waiting }
     ensures few { (receive_maximum packet_maximum : ℕ) (calls : List Call) (end : State) → Run (fresh receive_maximum packet_maximum) calls end

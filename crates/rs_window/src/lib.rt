@@ -1,7 +1,7 @@
 //! The replay of retained messages to one client: packet identifiers, the quota, and what waits to be sent (OASIS MQTT
 //! Version 5.0, sections 4.3, 4.4, 4.6 and 4.9). docs/WINDOW.md has the rules in words.
 //!
-//! [`Window::queue`] appends messages to what waits, [`Window::next`] gives the first that is to be sent at a moment, and the
+//! [`Window::queue`] appends messages to what waits, [`Window::next`] gives the first that is to be sent at a given time, and the
 //! acknowledgements give identifiers back. [`Inbound`] holds the identifiers of QoS 2 packets that were received.
 //!
 //! Contracts promise that each call is one step on what the identifiers wait for and on the list of what waits; a refused call

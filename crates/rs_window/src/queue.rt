@@ -79,7 +79,7 @@ fn is_too_long(waiting: &Waiting, expiry: Option<u32>, packet_maximum: u32) -> b
     len > packet_maximum as usize
 }
 
-/// Whether it is dropped at this moment: it has expired (3.3.2.3.3), or its packet is too long (3.1.2.11.4).
+/// Whether it is dropped at this time: it has expired (3.3.2.3.3), or its packet is too long (3.1.2.11.4).
 fn is_unsendable(waiting: &Waiting, now: u64, packet_maximum: u32) -> bool
     ensures { result ≡ is_dropped packet_maximum now waiting.now }
 {
@@ -90,7 +90,7 @@ fn is_unsendable(waiting: &Waiting, now: u64, packet_maximum: u32) -> bool
     }
 }
 
-/// Drops messages from the head until one is to be sent at this moment, in seconds.
+/// Drops messages from the head until one is to be sent at `now`, in seconds.
 pub(crate) fn drop_unsendable(waiting: &mut VecDeque<Waiting>, now: u64, packet_maximum: u32)
     ensures { waiting.new.items ≡ sendable packet_maximum now waiting.old.items }
 {

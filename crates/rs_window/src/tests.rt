@@ -54,7 +54,7 @@ fn id(number: u16) -> Result<PacketId, Fail> {
     Ok(PacketId::new(number).ok_or("0 is no identifier")?)
 }
 
-/// A call at a moment, or an acknowledgement of an identifier with its code.
+/// A call at a given time, or an acknowledgement of an identifier with its code.
 #[derive(Clone, Copy, Debug)]
 enum Call {
     Next(u64),
@@ -63,7 +63,7 @@ enum Call {
     Pubcomp(u16, u8),
 }
 
-/// What a call answers. A given PUBLISH is told by its topic, of one byte, and its identifier, 0 if it has none.
+/// What a call answers. A given PUBLISH is named by its topic, of one byte, and its identifier, 0 if it has none.
 #[derive(Clone, Copy, Debug, PartialEq, Eq)]
 enum Answer {
     Gives(u8, u16),
@@ -175,7 +175,7 @@ fn gives(rt: &impl Abort, alloc: Global, window: &mut Window, sent: &[u8]) -> Re
     Ok(())
 }
 
-/// A message whose packet is these bytes is given if the client takes so many, and dropped if it takes one byte less.
+/// A message whose packet is these bytes is given if the client takes as many, and dropped if it takes one byte less.
 fn is_sent_as(
     rt: &impl Abort,
     alloc: Global,
@@ -258,7 +258,7 @@ fn identifiers_in_order(rt: HostRuntime) -> Result<(), Fail> {
     run(&rt, &mut window, &rows)
 }
 
-/// A window in which as many messages wait as may.
+/// A window in which `MAX_WAITING` messages wait.
 fn full_queue(alloc: Global) -> Result<Window, Fail> {
     let mut window = Window::new(alloc, 1, u32::MAX)?;
     let most = many(alloc, b"a", MAX_WAITING as u32, Qos::AtLeastOnce);
@@ -296,7 +296,7 @@ fn more_than_the_limit_at_once(rt: HostRuntime) -> Result<(), Fail> {
     run(&rt, &mut window, &[(Call::Next(0), Answer::Nothing)])
 }
 
-/// Whether a window with this Receive Maximum gives just so many messages of QoS 2.
+/// Whether a window with this Receive Maximum gives exactly as many messages of QoS 2.
 fn gives_as_many(
     rt: &impl Abort,
     alloc: Global,

@@ -1,6 +1,6 @@
 //! The replay of retained messages to one client, and what is sent of each.
 
-ghost use Rattle.std.specs.Prelude.{◌≡◌, ◌≢◌, ◌<◌, ◌≤◌, IfOk, IfErr, IfSome, Ok, length};
+ghost use Rattle.std.specs.Prelude.{◌≡◌, ◌≢◌, ◌+◌, ◌<◌, ◌≤◌, IfOk, IfErr, IfSome, Ok, length};
 ghost use Rattle.rs_packet.specs.Grammar.{IdFits};
 ghost use Rattle.rs_message.specs.Messages.{remaining_of};
 ghost use Rattle.rs_window.specs.Waiting.{lesser_qos, interval_sent, packet_at};
@@ -17,11 +17,11 @@ use std::alloc::{AllocError, Global};
 use std::collections::VecDeque;
 use std::marker::Model;
 
-/// The greatest initial quota: so many packets of QoS 1 and 2 wait for an acknowledgement at a time, whatever greater
-/// Receive Maximum a client names (4.9; this server's choice).
+/// The greatest initial quota: at most this many packets of QoS 1 and 2 are unacknowledged at a time, even if the client's
+/// Receive Maximum is greater (4.9; this server's choice).
 pub const MAX_QUOTA: u16 = 1024;
 
-/// A retained message as it is sent at a moment.
+/// A retained message as it is sent at a given time.
 #[derive(Drop)]
 pub struct Publish {
     /// The topic that holds the message.
@@ -72,7 +72,7 @@ impl Publish {
     }
 }
 
-/// The interval that is sent at this moment, if there is one (3.3.2.3.3).
+/// The interval that is sent at this time, if there is one (3.3.2.3.3).
 fn interval_at(message: &Message, now: u64) -> Option<u32>
     ensures { result ≡ interval_sent (remaining_of message.now now) }
 {
@@ -83,7 +83,7 @@ fn interval_at(message: &Message, now: u64) -> Option<u32>
     }
 }
 
-/// What is sent of a message at this moment.
+/// What is sent of a message at this time.
 fn publish_of(waiting: Waiting, now: u64, id: Option<PacketId>) -> Publish
     requires fits { IdFits (lesser_qos waiting) id }
     requires current { remaining_of waiting.found.message now ≢ Remaining.Expired }
@@ -171,6 +171,13 @@ impl Window {
         self.packet_maximum
     }
 
+    /// How many more messages may wait.
+    pub fn room(&self) -> usize
+        ensures { length self.now.waiting + result ≡ MAX_WAITING }
+    {
+        MAX_WAITING - self.waiting.len()
+    }
+
     /// Appends all messages to what waits, in order, or none. `granted` is the QoS that the subscription was granted
     /// (3.8.4). `TooManyWaiting` if more than [`MAX_WAITING`] would wait, `NoMemory` if memory is refused.
     pub fn queue(
@@ -181,7 +188,7 @@ impl Window {
     ) -> Result<(), WindowFault>
         ensures { IsQueued found.items granted subscription self.old result self.new }
     {
-        if found.len() > MAX_WAITING - self.waiting.len() {
+        if found.len() > self.room() {
             return Err(WindowFault::TooManyWaiting);
         }
         match append(&mut self.waiting, found, granted, subscription) {
@@ -222,7 +229,7 @@ impl Window {
         }
     }
 
-    /// Handles a PUBREC (4.3.3). Below 0x80 its reason code asks for a PUBREL; from 0x80 on the identifier is free.
+    /// Handles a PUBREC (4.3.3). If its reason code is below 0x80, a PUBREL is due; from 0x80 on the identifier is free.
     /// `WrongKind` if the identifier was sent at QoS 1.
     #[tactic(auto, using(crate::proofs::IdentifierLemmas::put_same))]
     pub fn on_pubrec(&mut self, id: PacketId, code: u8) -> Result<Ack, WindowFault>
