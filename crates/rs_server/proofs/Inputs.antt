@@ -13,12 +13,12 @@ use Rattle.rs_session.specs.declared.phase.Input.{Input}
 use Rattle.rs_session.specs.declared.phase.Input.TheVariants.{Whole, Broken}
 use Rattle.rs_server.specs.Conversation.{InputsOf, Agree}
 
--- a fault where a packet stands is want of memory
+-- a fault in the place of a packet is out of memory
 only_memory : (text rest x same y : List ℕ) (p : Packet) (f : PacketFault) → Encodes text p → IsFaulty same f → (text ++ rest) ++ x ≡ same ++ y → f ≡ faults.NoMemory
 only_memory text rest x same y p f s h e =
     no_fault text (rest ++ x) p f s (subst (λ (l : List ℕ). IsFaulty l f) (sym e ∙ append_assoc text rest x) (fault_stays f same y h))
 
--- a fault is what the bytes are answered with, or want of memory
+-- a fault is what the bytes are answered with, or out of memory
 is_answer : (f : PacketFault) (bytes : List ℕ) → IsFaulty bytes f → (f ≡ faults.NoMemory) ⊎ (answer bytes ≡ Err f)
 is_answer faults.NoMemory bytes h = inl refl
 is_answer faults.Malformed bytes h = inr h

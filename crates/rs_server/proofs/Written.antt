@@ -1,5 +1,5 @@
 -- Lemmas on what was written.
-use Rattle.std.proofs.Common.{◌≡◌, ℕ, ◌<◌, ◌-◌, List, [], ◌∷◌, ◌++◌, length, take, drop, sym, subst, ap, ◌∙◌, append_assoc, append-nil, take-append-drop, Option, Some, None, Result, Ok, Err, OnOk, OnErr, arith}
+use Rattle.std.proofs.Common.{◌≡◌, ℕ, ◌<◌, ◌-◌, ◌^◌, List, [], ◌∷◌, ◌++◌, length, take, drop, sym, subst, ap, ◌∙◌, append_assoc, append-nil, take-append-drop, Option, Some, None, Result, Ok, Err, OnOk, OnErr, arith}
 use Rattle.std.proofs.lemmas.List.{take_rest, flat_map_more}
 use Rattle.std.proofs.KnownBytes.{Appends-trans}
 use Rattle.std.specs.Io.KnownBytes.{Appends, Keeps}
@@ -11,7 +11,7 @@ use Rattle.rs_server.specs.declared.counted.Counted.{Counted}
 use Rattle.rs_server.specs.Counts.{inner_of, failures_of}
 use Rattle.rs_server.specs.Writing.{Writes, AppendsFront, IsWriteCause, all_reply_bytes}
 
--- the front of the rest goes behind what is done
+-- the first part of the rest goes behind what is done
 pub moves_front : (all done rest : List ℕ) (n : ℕ) → all ≡ done ++ rest → all ≡ (done ++ take n rest) ++ take (length rest - n) (drop n rest)
 moves_front all done rest n e =
     e ∙ ap (λ l. done ++ l) (sym (take-append-drop n rest)) ∙ sym (append_assoc done (take n rest) (drop n rest)) ∙ ap (λ l. (done ++ take n rest) ++ l) (sym (take_rest rest n))
@@ -47,8 +47,8 @@ writes_next contents (Err Write) r first old new replies reply before p w h k =
 writes_next contents (Err NoMemory) r first old new replies reply before p w h k =
     rw (k.0, k.1) (longer first _ replies reply p, w)
 
--- the writer has not failed where nothing failed
-pub room_left : {T : Type 0} (written : Result T ServeFault) (before after : ℕ) → before < 18446744073709551615 → IsWriteCause written before after → OnOk written (after < 18446744073709551615)
+-- the writer has not failed if nothing failed
+pub room_left : {T : Type 0} (written : Result T ServeFault) (before after : ℕ) → before < 2 ^ 64 - 1 → IsWriteCause written before after → OnOk written (after < 2 ^ 64 - 1)
 room_left (Ok x) before after h e = omega arith
 room_left (Err f) before after h e = tt
 

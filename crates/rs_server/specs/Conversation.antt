@@ -13,7 +13,8 @@ use Rattle.rs_session.specs.declared.phase.Closing.{Closing}
 use Rattle.rs_session.specs.declared.phase.Closing.TheVariants as closing
 use Rattle.rs_session.specs.Gate.{Mark}
 use Rattle.rs_session.specs.State.{State, fresh, closing_of}
-use Rattle.rs_session.specs.Run.{Point, Turn, IsTurn, Run, IsOfGate, AreOfGate}
+use Rattle.rs_session.specs.Points.{Given, Point, point_at}
+use Rattle.rs_session.specs.Run.{Turn, IsTurn, Run, IsOfGate, AreOfGate}
 use Rattle.rs_server.specs.declared.connection.Served.{Served}
 use Rattle.rs_server.specs.declared.connection.Served.TheVariants.{ClientClosed, EndOfInput, CutInput, ServerClosed, Dropped}
 use Rattle.rs_server.specs.declared.writing.ServeFault.{ServeFault}
@@ -28,8 +29,8 @@ InputsOf [] bytes held = bytes ≡ held
 InputsOf (Whole packet ∷ inputs) bytes held = (text : List ℕ) × (rest : List ℕ) × (bytes ≡ text ++ rest) × Encodes text packet × InputsOf inputs rest held
 InputsOf (Broken fault ∷ inputs) bytes held = IsFaulty bytes fault × InputsOf inputs bytes held
 
--- The inputs are the same as far as both go, up to the first fault. Want of memory may stand in the place
--- of any.
+-- The inputs are the same as far as both go, up to the first fault. Out of memory may stand in the
+-- place of any.
 abbrev pub Agree : List Input → List Input → Type 0
 Agree [] others = Unit {0}
 Agree (input ∷ inputs) [] = Unit {0}
@@ -38,7 +39,7 @@ Agree (Whole p ∷ inputs) (Broken fault ∷ others) = fault ≡ faults.NoMemory
 Agree (Broken fault ∷ inputs) (Whole q ∷ others) = fault ≡ faults.NoMemory
 Agree (Broken fault ∷ inputs) (Broken other ∷ others) = (fault ≡ faults.NoMemory) ⊎ ((other ≡ faults.NoMemory) ⊎ (fault ≡ other))
 
--- the input at the front of what is held, and what is held without it
+-- the input that is the first part of what is held, and what is held without it
 abbrev pub TakesInput : List ℕ → Option Input → List ℕ → Type 0
 TakesInput old None new = IsMore old × (new ≡ old)
 TakesInput old (Some (Whole packet)) new = (n : ℕ) × (n ≤ length old) × Encodes (take n old) packet × (new ≡ drop n old)
@@ -51,26 +52,23 @@ abbrev pub assigned_of : ℕ → ℕ → List ℕ
 assigned_of place number = codes "rs" ++ (decimal place ++ (codes "-" ++ decimal number))
 
 abbrev pub inputs_of : List Turn → List Input
-inputs_of turns = map (λ turn. turn.input) turns
+inputs_of turns = map (λ turn. turn.given.input) turns
 
 abbrev pub moments_of : List Turn → List ℕ
-moments_of turns = map (λ turn. turn.now) turns
+moments_of turns = map (λ turn. turn.given.now) turns
 
 abbrev pub replies_of : List Turn → List ℕ
 replies_of turns = flat_map (λ turn. all_reply_bytes turn.replies) turns
 
-abbrev pub point_at : State → List Entry → Mark → Point
-point_at state seen mark = record { state = state; seen = seen; mark = mark }
-
--- where a connection begins
-abbrev pub start : List ℕ → List Entry → Mark → Point
+-- the first point of a connection
+abbrev pub start : List ℕ → List Entry → Mark → Point State
 start assigned seen mark = point_at (fresh assigned) seen mark
 
 -- known bytes grow by the replies of all turns
 abbrev pub AppendsReplies : Option (List ℕ) → Option (List ℕ) → List Turn → Type 0
 AppendsReplies old new turns = Appends old new (replies_of turns)
 
--- known bytes grow by the replies of every turn but the last, and by a beginning of the last one's
+-- known bytes grow by the replies of every turn but the last, and by a prefix of the last one's
 abbrev pub AppendsIntoLast : Option (List ℕ) → Option (List ℕ) → List Turn → Type 0
 AppendsIntoLast old new turns = (before : List Turn) × (last : List Turn) × (turns ≡ before ++ last) × (length last ≤ 1)
     × (front : List ℕ) × (back : List ℕ) × (replies_of last ≡ front ++ back) × Appends old new (replies_of before ++ front)
@@ -83,9 +81,9 @@ WritesTurns (Err Write) old new turns = AppendsIntoLast old new turns
 WritesTurns (Err NoMemory) old new turns = AppendsIntoLast old new turns
 
 -- From this point there was a run of a session, whose lists and marks are those of a gate. It ends in this
--- state, at a list that the gate stands for, with the gate's mark. The bytes that were consumed are its inputs and what is held; the moments that
--- were told are its moments, one for each input; what was written are the replies of its turns.
-pub record Conversation (from : Point) (stands_at : Mark → List Entry → Type 0) (stands : List Entry → Type 0) (mark : Mark) (state : State) (consumed : List ℕ → Type 0) (held : List ℕ) (told : List ℕ → Type 0) (written : List Turn → Type 0) : Type 0 where
+-- state, at a list that the gate stands for, with the gate's mark. The bytes that were consumed are its inputs and what is held; the times that
+-- were told are its times, one for each input; what was written is the replies of its turns.
+pub record Conversation (from : Point State) (stands_at : Mark → List Entry → Type 0) (stands : List Entry → Type 0) (mark : Mark) (state : State) (consumed : List ℕ → Type 0) (held : List ℕ) (told : List ℕ → Type 0) (written : List Turn → Type 0) : Type 0 where
   pub turns : List Turn
   pub seen : List Entry
   pub bytes : List ℕ
@@ -98,13 +96,12 @@ pub record Conversation (from : Point) (stands_at : Mark → List Entry → Type
   pub replies : written turns
 
 -- one turn of it
-pub record TakesTurn (from : Point) (input : Input) (now : ℕ) (stands_at : Mark → List Entry → Type 0) (stands : List Entry → Type 0) (mark : Mark) (state : State) (written : List ℕ → Type 0) : Type 0 where
+pub record TakesTurn (from : Point State) (given : Given) (stands_at : Mark → List Entry → Type 0) (stands : List Entry → Type 0) (mark : Mark) (state : State) (written : List ℕ → Type 0) : Type 0 where
   pub turn : Turn
   pub seen : List Entry
   pub is_turn : IsTurn from turn
   pub of_gate : IsOfGate stands_at turn
-  pub input_is : turn.input ≡ input
-  pub now_is : turn.now ≡ now
+  pub given_is : turn.given ≡ given
   pub to_is : turn.to ≡ point_at state seen mark
   pub stood_for : stands seen
   pub replies : written (all_reply_bytes turn.replies)
@@ -128,7 +125,7 @@ ClosesAs CutInput state held at_end = (closing_of state.phase ≡ None) × (held
 ClosesAs (ServerClosed code) state held at_end = closing_of state.phase ≡ Some (closing.ByServer code)
 ClosesAs Dropped state held at_end = closing_of state.phase ≡ Some closing.Dropped
 
--- where a fault broke it off: all that was whole had been answered when the reader failed
+-- the state in which a fault broke it off: all that was whole had been answered when the reader failed
 abbrev pub BreaksAt : ServeFault → State → List ℕ → Type 0
 BreaksAt Read state held = (closing_of state.phase ≡ None) × IsMore held
 BreaksAt Write state held = Unit {0}
@@ -138,10 +135,10 @@ abbrev pub Ends : Result Served ServeFault → State → List ℕ → Type 0 →
 Ends (Ok served) state held at_end = ClosesAs served state held at_end
 Ends (Err fault) state held at_end = BreaksAt fault state held
 
--- From this point a session was run over the bytes that were consumed, at the moments that were told. What was
--- written are its replies, at a fault the last turn's perhaps in part, and it ended so. The bytes that the reader
--- has left and those that the writer holds are those before and after, where they are known.
-abbrev pub IsConnection : Point → (Mark → List Entry → Type 0) → (List Entry → Type 0) → Mark → (List ℕ → Type 0) → Option (List ℕ) → Option (List ℕ) → Option (List ℕ) → Option (List ℕ) → Result Served ServeFault → Type 0
+-- From this point a session was run over the bytes that were consumed, at the times that were told. What was
+-- written is its replies, at a fault the last turn's perhaps in part, and it ended so. The bytes that the reader
+-- has left and those that the writer holds are those before and after, if they are known.
+abbrev pub IsConnection : Point State → (Mark → List Entry → Type 0) → (List Entry → Type 0) → Mark → (List ℕ → Type 0) → Option (List ℕ) → Option (List ℕ) → Option (List ℕ) → Option (List ℕ) → Result Served ServeFault → Type 0
 IsConnection from stands_at stands mark told unread rest written more result = (state : State) × (held : List ℕ)
     × Conversation from stands_at stands mark state (Consumes unread rest) held told (WritesTurns result written more)
     × Ends result state held (IsAtEnd rest)

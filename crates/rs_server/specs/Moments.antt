@@ -1,8 +1,8 @@
--- What known moments tell.
+-- What a clock of known times tells.
 use Rattle.std.specs.Prelude.{ℕ}
 use Rattle.rs_server.specs.Clock.{moment_at}
 use Rattle.rs_server.specs.declared.clock.Moments.{Moments}
 
--- the moments that are told from now on, by their index
+-- the times that are told from now on, by their index
 abbrev pub told_by : Moments → ℕ → ℕ
 told_by moments = moment_at moments.first moments.rest.items

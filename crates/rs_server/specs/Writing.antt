@@ -11,11 +11,11 @@ use Rattle.rs_server.specs.declared.writing.ServeFault.TheVariants.{Read, Write,
 abbrev pub all_reply_bytes : List Reply → List ℕ
 all_reply_bytes replies = flat_map reply_bytes replies
 
--- known bytes grow by a beginning of these
+-- known bytes grow by a prefix of these
 abbrev pub AppendsFront : Option (List ℕ) → Option (List ℕ) → List ℕ → Type 0
 AppendsFront old new bytes = (front : List ℕ) × (back : List ℕ) × (bytes ≡ front ++ back) × Appends old new front
 
--- All of the bytes were written, or a beginning of them before the writer or memory failed.
+-- All of the bytes were written, or a prefix of them before the writer or memory failed.
 abbrev pub Writes : {T : Type 0} → Result T ServeFault → Option (List ℕ) → Option (List ℕ) → List ℕ → Type 0
 Writes (Ok x) old new bytes = Appends old new bytes
 Writes (Err Read) old new bytes = Appends old new bytes

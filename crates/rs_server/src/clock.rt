@@ -1,4 +1,4 @@
-//! What tells the moments.
+//! Clocks.
 
 ghost use Rattle.std.specs.Prelude.{◌≡◌, ℕ, Option, None, Some};
 ghost use Rattle.rs_server.specs.Clock.{Tells, moment_at};
@@ -6,16 +6,16 @@ ghost use Rattle.rs_server.specs.Moments.{told_by};
 
 use std::collections::VecDeque;
 
-/// A clock, by the moments that it will tell, where they are known.
+/// A clock, by the moments that it will tell, if they are known.
 pub trait Clock {
     ghost moments: { Self → Option (ℕ → ℕ) } = { λ _. None };
 
-    /// The moment, in whole seconds.
+    /// The time, in whole seconds.
     fn now(&mut self) -> u64
         ensures { Tells (moments self.old) (moments self.new) result };
 }
 
-/// Moments that are known. The last one is told again and again.
+/// Times that are known. The last one is told again and again.
 #[derive(Drop)]
 pub struct Moments {
     first: u64,

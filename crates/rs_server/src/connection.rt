@@ -6,12 +6,12 @@ ghost use Rattle.rs_message.specs.declared.entry.Entry.{Entry};
 ghost use Rattle.rs_packet.specs.Grammar.{HasPrefix};
 ghost use Rattle.rs_packet.specs.PacketReading.{Gives, answer};
 ghost use Rattle.rs_session.specs.Gate.{StandsAt};
-ghost use Rattle.rs_session.specs.State.{state_of, due_of, gate_of, closing_of, State};
-ghost use Rattle.rs_session.specs.Run.{Point};
+ghost use Rattle.rs_session.specs.Points.{Point, given_at};
+ghost use Rattle.rs_session.specs.State.{session_at, state_of, due_of, gate_of, closing_of, State};
 ghost use Rattle.rs_server.specs.Clock.{Told};
 ghost use Rattle.rs_server.specs.Counts.{inner_of, failures_of};
 ghost use Rattle.rs_server.specs.Writing.{IsWriteCause, Writes};
-ghost use Rattle.rs_server.specs.Conversation.{TakesInput, TakesTurn, Closes, Causes, Conversation, AppendsReplies, WritesTurns, IsConnection, IsReadCause, IsEnd, assigned_of, start, point_at, served_as};
+ghost use Rattle.rs_server.specs.Conversation.{TakesInput, TakesTurn, Closes, Causes, Conversation, AppendsReplies, WritesTurns, IsConnection, IsReadCause, IsEnd, assigned_of, start, served_as};
 
 use crate::assigned::assigned_client;
 use crate::clock::Clock;
@@ -27,7 +27,7 @@ use std::sync::Wait;
 /// Which connection of the server this is.
 #[derive(Clone, Copy, Debug, PartialEq, Eq)]
 pub struct ConnectionId {
-    /// The place that serves it, 1 to 64.
+    /// The place that serves it: 1 to [`MAX_PLACES`](rs_message::MAX_PLACES) if its gate makes entries. Not checked.
     pub place: u8,
     /// Its number among the connections of its place, from 1.
     pub number: u64,
@@ -117,7 +117,7 @@ fn serve_once<R: Read, W: Write, G: Gate, C: Clock>(
     requires goes_on { closing_of (state_of session.old).phase ≡ None }
 
     // Extends every conversation that led to the state before.
-    ensures conversation { (from : Point) (read wrote : Option (List ℕ)) (told : Option (ℕ → ℕ))
+    ensures conversation { (from : Point State) (read wrote : Option (List ℕ)) (told : Option (ℕ → ℕ))
         → Conversation from (StandsAt G.stands G.mark) (G.stands (gate_of session.old)) (G.mark (gate_of session.old)) (state_of session.old)
         (Consumes read (R.remaining (inner_of reader.old))) held.old.items
         (Told told (C.moments clock.old))
@@ -206,7 +206,7 @@ fn take_turn<G: Gate, W: Write>(
     requires none_due { due_of session.old ≡ None }
     requires goes_on { closing_of (state_of session.old).phase ≡ None }
     ensures turn { (seen : List Entry) → G.stands (gate_of session.old) seen
-        → TakesTurn (point_at (state_of session.old) seen (G.mark (gate_of session.old))) input now (StandsAt G.stands G.mark)
+        → TakesTurn (session_at G.mark session.old seen) (given_at input now) (StandsAt G.stands G.mark)
         (G.stands (gate_of session.new)) (G.mark (gate_of session.new)) (state_of session.new)
         (Writes result (W.contents (inner_of writer.old)) (W.contents (inner_of writer.new))) }
     ensures due { due_of session.new ≡ None }

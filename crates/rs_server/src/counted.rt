@@ -25,8 +25,7 @@ impl<T> Counted<T> {
         Counted { inner, failures: 0 }
     }
 
-    /// How many calls ended in an error, or wrote nothing of a slice that is not empty. The greatest u64
-    /// stands for itself and more.
+    /// How many calls ended in an error, or wrote nothing of a slice that is not empty. The count stays at [`u64::MAX`].
     pub fn failures(&self) -> u64
         ensures { result ≡ failures_of self.now }
     {
@@ -44,7 +43,7 @@ impl<T> Counted<T> {
 }
 
 impl<R: Read> Counted<R> {
-    /// One read behind the bytes that are held, into their spare room.
+    /// One read after the bytes that are held, into their spare room.
     pub fn read_into(&mut self, held: &mut BytesMut) -> io::Result<usize>
         ensures ok { IfOk result (λ n. (more : List ℕ) × (length more ≡ n)
             × (held.new.items ≡ held.old.items ++ more)

@@ -1,14 +1,14 @@
 //! Connections: bytes in, bytes out.
 //!
 //! [`serve`] reads the packets of one client, runs its session over a gate to the store, and writes and
-//! flushes the replies. The reader and the writer are [`Counted`], and a [`Clock`] tells the moments.
+//! flushes the replies. The reader and the writer are [`Counted`], and a [`Clock`] tells the times.
 //!
 //! However the input is split into reads, the bytes written are exactly the replies of the session to the
 //! packets decoded from it; if a write or an allocation fails, a prefix of them. [`Served`] says how the
 //! connection ended, and [`ServeFault`] what failed. The bytes determine the packets
 //! ([`inputs_determined`]).
 //!
-//! The contracts do not say that a call returns, or that memory is available.
+//! The contracts do not say that a call returns, or that memory is available. docs/SESSION.md has the rules in words.
 #![tactic(auto)]
 
 mod assigned;

@@ -1,3 +1,4 @@
+mod assigned;
 mod counted;
 mod gate;
 mod handed;

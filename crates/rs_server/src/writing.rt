@@ -97,7 +97,7 @@ fn write_next_reply<W: Write>(
     write_reply(alloc, writer, &reply)
 }
 
-/// Writes all that the session replies at this moment. The session is asked to the end in every case.
+/// Writes all that the session replies at this time. The session is asked to the end in every case.
 pub(crate) fn write_replies<G: Gate, W: Write>(
     alloc: Global,
     session: &mut Session<G>,

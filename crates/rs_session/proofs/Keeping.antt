@@ -41,7 +41,8 @@ use Rattle.rs_session.specs.declared.reason.ReasonCode.{ReasonCode}
 use Rattle.rs_session.specs.declared.reason.ReasonCode.TheVariants.{Success, QuotaExceeded}
 use Rattle.rs_session.specs.State.{State}
 use Rattle.rs_session.specs.Table.{acknowledged_by, acknowledgement_of, change, due_for, held_id, is_held, state_after, Grants, OpenCase, OpenRow, AnsweredInOpen, AnsweredIn, Case, SessionRow, With_method, With_will, Connect_refused, Accepted, Connack_too_long, Other_version, Unexpected, In_session, Over, Faulty, With_alias, Bad_topic, Sent_again, Too_many_held, Not_retained, Kept, Topic_unread, Not_kept, Uncertain, Gate_closed, Released, Wrong_acknowledgement, Acknowledged, Shared_no_local, Not_subscribed, Subscribed, Not_unsubscribed, Unsubscribed, Connected_twice, Pinged, Disconnected}
-use Rattle.rs_session.specs.Run.{Point, Turn, GivesAll, IsTurn, Run}
+use Rattle.rs_session.specs.Points.{Given, Point, with_state}
+use Rattle.rs_session.specs.Run.{Turn, GivesAll, IsTurn, Run}
 use Rattle.rs_session.specs.Replay.{listed}
 use Rattle.rs_session.specs.Kept.{MarkGrows, lists_of, AreGrowing, point_after, SerialsRiseIn, IsToldKept, StandsOnce, IsKeptIn}
 use Rattle.rs_session.proofs.Rows.{prefix_trans}
@@ -69,36 +70,36 @@ chain_grows : (first : List Entry) (lists : List (List Entry)) (last : List Entr
 chain_grows first [] last h = ((h, tt), (tt, tt))
 chain_grows first (list ∷ lists) last (h, more) = (chain_all first first (list ∷ lists) last (prefix_itself first) (h, more), chain_grows list lists last more)
 
-grants_chain : (now : ℕ) (filters : List Asked) (identifier : Option ℕ) (seen : List Entry) (old : Open) (codes : List ℕ) (answered : List (List Entry)) (list : List Entry) (new : Open)
-    → Grants now filters identifier seen old codes answered list new → Chain seen answered list
-grants_chain now [] identifier seen old codes answered list new (c, a, l, same) =
-    subst (λ (ls : List (List Entry)). Chain seen ls list) (sym a) (subst (λ (l : List Entry). Extends l seen) (sym l) (prefix_itself seen))
-grants_chain now (asked ∷ more) identifier seen old codes answered list new (code, rest, mid, later, between, c, a, begins, granted, grants) =
-    subst (λ (ls : List (List Entry)). Chain seen ls list) (sym a) (begins, grants_chain now more identifier mid between rest later list new grants)
+grants_chain : (now : ℕ) (filters : List Asked) (identifier : Option ℕ) (from : Point Open) (codes : List ℕ) (answered : List (List Entry)) (to : Point Open)
+    → Grants now filters identifier from codes answered to → Chain from.seen answered to.seen
+grants_chain now [] identifier from codes answered to (c, a, seen, same) =
+    subst (λ (ls : List (List Entry)). Chain from.seen ls to.seen) (sym a) (subst (λ (l : List Entry). Extends l from.seen) (sym seen) (prefix_itself from.seen))
+grants_chain now (asked ∷ more) identifier from codes answered to (code, rest, later, between, c, a, begins, granted, grants) =
+    subst (λ (ls : List (List Entry)). Chain from.seen ls to.seen) (sym a) (begins, grants_chain now more identifier between rest later to grants)
 
 -- ---- the lists of a turn
 
 unanswered : (seen : List Entry) (answered : List (List Entry)) (list : List Entry) → answered ≡ [] → Extends list seen → Chain seen answered list
 unanswered seen answered list none grows = subst (λ (ls : List (List Entry)). Chain seen ls list) (sym none) grows
 
-row_chain : (case : OpenCase) (input : Input) (now : ℕ) (old : Open) (mark : Mark) (seen : List Entry) (answered : List (List Entry)) (list : List Entry) (used : Mark) (outcome : Outcome) (new : Open)
-    → AnsweredInOpen case answered → OpenRow case input now old mark seen answered list used outcome new → Extends list seen → Chain seen answered list
-row_chain Subscribed input now old mark seen answered list used outcome new a (s, codes, i, n, grants, out, u) g = grants_chain now s.filters s.subscription seen old codes answered list new grants
-row_chain case input now old mark seen answered list used outcome new none row g = unanswered seen answered list none g
+row_chain : (case : OpenCase) (given : Given) (from : Point Open) (answered : List (List Entry)) (outcome : Outcome) (to : Point Open)
+    → AnsweredInOpen case answered → OpenRow case given from answered outcome to → Extends to.seen from.seen → Chain from.seen answered to.seen
+row_chain Subscribed given from answered outcome to a (s, codes, i, n, grants, out, u) g = grants_chain given.now s.filters s.subscription from codes answered to grants
+row_chain case given from answered outcome to none row g = unanswered from.seen answered to.seen none g
 
-turn_chain : (case : Case) (input : Input) (now : ℕ) (old : State) (mark : Mark) (seen : List Entry) (answered : List (List Entry)) (list : List Entry) (used : Mark) (due : Option Reply) (new : State)
-    → AnsweredIn case answered → SessionRow case input now old mark seen answered list used due new → Extends list seen → Chain seen answered list
-turn_chain In_session input now old mark seen answered list used due new a (o, left, outcome, is, (case, by_case, row), d, same) g =
-    row_chain case input now o mark seen answered list used outcome left by_case row g
-turn_chain case input now old mark seen answered list used due new none row g = unanswered seen answered list none g
+turn_chain : (case : Case) (given : Given) (from : Point State) (answered : List (List Entry)) (due : Option Reply) (to : Point State)
+    → AnsweredIn case answered → SessionRow case given from answered due to → Extends to.seen from.seen → Chain from.seen answered to.seen
+turn_chain In_session given from answered due to a (o, left, outcome, is, (case, by_case, row), d, same) g =
+    row_chain case given (with_state from o) answered outcome (with_state to left) by_case row g
+turn_chain case given from answered due to none row g = unanswered from.seen answered to.seen none g
 
-run_chain : (from to : Point) (turns : List Turn) → Run from turns to → Chain from.seen (lists_of turns) to.seen
-run_chain from to [] e = ([], ap (λ (p : Point). p.seen) e ∙ sym (append-nil from.seen))
+run_chain : (from to : Point State) (turns : List Turn) → Run from turns to → Chain from.seen (lists_of turns) to.seen
+run_chain from to [] e = ([], ap (λ (p : Point State). p.seen) e ∙ sym (append-nil from.seen))
 run_chain from to (turn ∷ turns) (t, rest) =
-    let here = turn_chain t.case turn.input turn.now from.state from.mark from.seen turn.answered turn.to.seen turn.to.mark t.due t.mid t.row.0 t.row.1 t.grows in
+    let here = turn_chain t.case turn.given from turn.answered t.due (with_state turn.to t.mid) t.row.0 t.row.1 t.grows in
     chain_append from.seen turn.answered turn.to.seen (lists_of turns) to.seen here (run_chain turn.to to turns rest)
 
-pub run_lists : (from to : Point) (turns : List Turn) → Run from turns to → AreGrowing (from.seen ∷ (lists_of turns ++ to.seen ∷ []))
+pub run_lists : (from to : Point State) (turns : List Turn) → Run from turns to → AreGrowing (from.seen ∷ (lists_of turns ++ to.seen ∷ []))
 run_lists from to turns run = chain_grows from.seen (lists_of turns) to.seen (run_chain from to turns run)
 
 -- ---- an origin that stands once
@@ -225,19 +226,19 @@ due_is limit (Closes code) r ack h = by_case (leb (length (reply_bytes (reply.Di
 due_is limit Leaves r ack h = absurd h
 
 replied_by : (turn : Turn) (limit : ℕ) (outcome : Outcome) (left : Open) (old mid : State) (due : Option Reply) (r : Reply) → due ≡ due_for limit outcome → mid ≡ state_after outcome old left
-    → GivesAll turn.now due mid turn.replies turn.to.state → IsAck r → Among r turn.replies → outcome ≡ Replies (Some r)
+    → GivesAll turn.given.now due mid turn.replies turn.to.state → IsAck r → Among r turn.replies → outcome ≡ Replies (Some r)
 replied_by turn limit (Replies answer) left old mid due r d same g ack h =
-    let (given, n, is, run, whole) = given_calls turn.now due mid left turn.replies g.left g.last turn.to.state (phase_of mid _ same) g.given g.none_left in
+    let (given, n, is, run, whole) = given_calls turn.given.now due mid left turn.replies g.left g.last turn.to.state (phase_of mid _ same) g.given g.none_left in
     by_case given (among_append r (listed due) (map reply_of given) (subst (λ (rs : List Reply). Among r rs) whole h))
   where
     by_case : (given : List PublishValue) → Among r (listed due) ⊎ Among r (map reply_of given) → Replies answer ≡ Replies (Some r)
     by_case given (inl a) = due_is limit (Replies answer) r ack (subst (λ (o : Option Reply). Among r (listed o)) d a)
     by_case given (inr b) = absurd (no_ack_given r given ack b)
 replied_by turn limit (Closes code) left old mid due r d same g ack h =
-    let whole = (left_replies turn.now due mid (ByServer (code_of code)) turn.replies g.left g.last turn.to.state (phase_of mid _ same) g.given g.none_left).1 in
+    let whole = (left_replies turn.given.now due mid (ByServer (code_of code)) turn.replies g.left g.last turn.to.state (phase_of mid _ same) g.given g.none_left).1 in
     due_is limit (Closes code) r ack (subst (λ (o : Option Reply). Among r (listed o)) d (subst (λ (rs : List Reply). Among r rs) whole h))
 replied_by turn limit Leaves left old mid due r d same g ack h =
-    let whole = (left_replies turn.now due mid ByClient turn.replies g.left g.last turn.to.state (phase_of mid _ same) g.given g.none_left).1 in
+    let whole = (left_replies turn.given.now due mid ByClient turn.replies g.left g.last turn.to.state (phase_of mid _ same) g.given g.none_left).1 in
     due_is limit Leaves r ack (subst (λ (o : Option Reply). Among r (listed o)) d (subst (λ (rs : List Reply). Among r rs) whole h))
 
 -- ---- the row that keeps it
@@ -277,47 +278,47 @@ acknowledges_no_publish p a is = refl
 abbrev IsEntered : Publish → ℕ → Mark → Mark → List Entry → Type 0
 IsEntered p now mark used list = (topic : List ℕ) × (operation : Operation) × (p.topic ≡ Ok topic) × (change p topic now ≡ Some operation) × IsSubmitted operation mark used list
 
-row_kept : (case : OpenCase) (input : Input) (now : ℕ) (old : Open) (mark : Mark) (seen : List Entry) (answered : List (List Entry)) (list : List Entry) (used : Mark) (outcome : Outcome) (new : Open) (p : Publish) (answer : Reply)
-    → OpenRow case input now old mark seen answered list used outcome new → input ≡ Whole (packet.Publish p) → p.retain ≡ true → is_held (held_id p.qos p.id) old.inbound ≡ false
-    → acknowledged_by p.qos p.id Success ≡ Some answer → outcome ≡ Replies (Some answer) → IsEntered p now mark used list
-row_kept Connected_twice input now old mark seen answered list used outcome new p answer (c, i, out, unchanged) is r f a o = no_publish input _ p i refl is
-row_kept Faulty input now old mark seen answered list used outcome new p answer (k, i, out, unchanged) is r f a o = no_publish input _ p i refl is
-row_kept With_alias input now old mark seen answered list used outcome new p answer (q, i, al, out, unchanged) is r f a o = no_answer outcome _ answer out refl o
-row_kept Bad_topic input now old mark seen answered list used outcome new p answer (q, k, i, al, t, other, out, unchanged) is r f a o = no_answer outcome _ answer out refl o
-row_kept Sent_again input now old mark seen answered list used outcome new p answer (q, i, al, t, held, out, unchanged) is r f a o =
-    let same : q ≡ p = same_publish input p q i is in
-    true_false (is_held (held_id q.qos q.id) old.inbound) held (ap (λ (x : Publish). is_held (held_id x.qos x.id) old.inbound) same ∙ f)
-row_kept Too_many_held input now old mark seen answered list used outcome new p answer (q, i, al, t, many, out, unchanged) is r f a o = no_answer outcome _ answer out refl o
-row_kept Not_retained input now old mark seen answered list used outcome new p answer (q, topic, i, taken, t, not_retained, out, u, same) is r f a o =
-    true_false p.retain r (sym (ap (λ (x : Publish). x.retain) (same_publish input p q i is)) ∙ not_retained)
-row_kept Kept input now old mark seen answered list used outcome new p answer (q, topic, operation, i, s, submitted, out, same) is r f a o =
-    let same_p : q ≡ p = same_publish input p q i is in
-    subst (λ (x : Publish). IsEntered x now mark used list) same_p (topic, operation, s.is_topic, s.changes, submitted)
-row_kept Topic_unread input now old mark seen answered list used outcome new p answer (q, i, taken, t, out, unchanged) is r f a o =
-    one_code p answer a (sym (ap (λ (x : Publish). acknowledged_by x.qos x.id QuotaExceeded) (same_publish input p q i is)) ∙ same_answer outcome _ answer out o)
-row_kept Not_kept input now old mark seen answered list used outcome new p answer (q, topic, operation, i, s, out, same) is r f a o =
-    one_code p answer a (sym (ap (λ (x : Publish). acknowledged_by x.qos x.id QuotaExceeded) (same_publish input p q i is)) ∙ same_answer outcome _ answer out o)
-row_kept Uncertain input now old mark seen answered list used outcome new p answer (q, topic, operation, i, s, out, same) is r f a o = no_answer outcome _ answer out refl o
-row_kept Gate_closed input now old mark seen answered list used outcome new p answer (q, topic, operation, i, s, out, same) is r f a o = no_answer outcome _ answer out refl o
-row_kept Released input now old mark seen answered list used outcome new p answer (k, i, out, u, same) is r f a o = no_publish input _ p i refl is
-row_kept Wrong_acknowledgement input now old mark seen answered list used outcome new p answer (q, ack, id, i, at, wrong, out, unchanged) is r f a o = no_answer outcome _ answer out refl o
-row_kept Acknowledged input now old mark seen answered list used outcome new p answer (q, ack, id, k, i, at, step, out, u, same) is r f a o = no_publish input (Whole q) p i (acknowledges_no_publish q (ack, id) at) is
-row_kept Shared_no_local input now old mark seen answered list used outcome new p answer (s, i, n, out, unchanged) is r f a o = no_publish input _ p i refl is
-row_kept Not_subscribed input now old mark seen answered list used outcome new p answer (s, i, n, out, unchanged) is r f a o = no_publish input _ p i refl is
-row_kept Subscribed input now old mark seen answered list used outcome new p answer (s, codes, i, n, grants, out, u) is r f a o = no_publish input _ p i refl is
-row_kept Not_unsubscribed input now old mark seen answered list used outcome new p answer (u, i, out, unchanged) is r f a o = no_publish input _ p i refl is
-row_kept Unsubscribed input now old mark seen answered list used outcome new p answer (u, i, out, m, same) is r f a o = no_publish input _ p i refl is
-row_kept Pinged input now old mark seen answered list used outcome new p answer (i, out, unchanged) is r f a o = no_publish input _ p i refl is
-row_kept Disconnected input now old mark seen answered list used outcome new p answer (code, i, out, unchanged) is r f a o = no_publish input _ p i refl is
+row_kept : (case : OpenCase) (given : Given) (from : Point Open) (answered : List (List Entry)) (outcome : Outcome) (to : Point Open) (p : Publish) (answer : Reply)
+    → OpenRow case given from answered outcome to → given.input ≡ Whole (packet.Publish p) → p.retain ≡ true → is_held (held_id p.qos p.id) from.state.inbound ≡ false
+    → acknowledged_by p.qos p.id Success ≡ Some answer → outcome ≡ Replies (Some answer) → IsEntered p given.now from.mark to.mark to.seen
+row_kept Connected_twice given from answered outcome to p answer (c, i, out, unchanged) is r f a o = no_publish given.input _ p i refl is
+row_kept Faulty given from answered outcome to p answer (k, i, out, unchanged) is r f a o = no_publish given.input _ p i refl is
+row_kept With_alias given from answered outcome to p answer (q, i, al, out, unchanged) is r f a o = no_answer outcome _ answer out refl o
+row_kept Bad_topic given from answered outcome to p answer (q, k, i, al, t, other, out, unchanged) is r f a o = no_answer outcome _ answer out refl o
+row_kept Sent_again given from answered outcome to p answer (q, i, al, t, held, out, unchanged) is r f a o =
+    let same : q ≡ p = same_publish given.input p q i is in
+    true_false (is_held (held_id q.qos q.id) from.state.inbound) held (ap (λ (x : Publish). is_held (held_id x.qos x.id) from.state.inbound) same ∙ f)
+row_kept Too_many_held given from answered outcome to p answer (q, i, al, t, many, out, unchanged) is r f a o = no_answer outcome _ answer out refl o
+row_kept Not_retained given from answered outcome to p answer (q, topic, i, taken, t, not_retained, out, u, same) is r f a o =
+    true_false p.retain r (sym (ap (λ (x : Publish). x.retain) (same_publish given.input p q i is)) ∙ not_retained)
+row_kept Kept given from answered outcome to p answer (q, topic, operation, i, s, submitted, out, same) is r f a o =
+    let same_p : q ≡ p = same_publish given.input p q i is in
+    subst (λ (x : Publish). IsEntered x given.now from.mark to.mark to.seen) same_p (topic, operation, s.is_topic, s.changes, submitted)
+row_kept Topic_unread given from answered outcome to p answer (q, i, taken, t, out, unchanged) is r f a o =
+    one_code p answer a (sym (ap (λ (x : Publish). acknowledged_by x.qos x.id QuotaExceeded) (same_publish given.input p q i is)) ∙ same_answer outcome _ answer out o)
+row_kept Not_kept given from answered outcome to p answer (q, topic, operation, i, s, out, same) is r f a o =
+    one_code p answer a (sym (ap (λ (x : Publish). acknowledged_by x.qos x.id QuotaExceeded) (same_publish given.input p q i is)) ∙ same_answer outcome _ answer out o)
+row_kept Uncertain given from answered outcome to p answer (q, topic, operation, i, s, out, same) is r f a o = no_answer outcome _ answer out refl o
+row_kept Gate_closed given from answered outcome to p answer (q, topic, operation, i, s, out, same) is r f a o = no_answer outcome _ answer out refl o
+row_kept Released given from answered outcome to p answer (k, i, out, u, same) is r f a o = no_publish given.input _ p i refl is
+row_kept Wrong_acknowledgement given from answered outcome to p answer (q, ack, id, i, at, wrong, out, unchanged) is r f a o = no_answer outcome _ answer out refl o
+row_kept Acknowledged given from answered outcome to p answer (q, ack, id, k, i, at, step, out, u, same) is r f a o = no_publish given.input (Whole q) p i (acknowledges_no_publish q (ack, id) at) is
+row_kept Shared_no_local given from answered outcome to p answer (s, i, n, out, unchanged) is r f a o = no_publish given.input _ p i refl is
+row_kept Not_subscribed given from answered outcome to p answer (s, i, n, out, unchanged) is r f a o = no_publish given.input _ p i refl is
+row_kept Subscribed given from answered outcome to p answer (s, codes, i, n, grants, out, u) is r f a o = no_publish given.input _ p i refl is
+row_kept Not_unsubscribed given from answered outcome to p answer (u, i, out, unchanged) is r f a o = no_publish given.input _ p i refl is
+row_kept Unsubscribed given from answered outcome to p answer (u, i, out, m, same) is r f a o = no_publish given.input _ p i refl is
+row_kept Pinged given from answered outcome to p answer (i, out, unchanged) is r f a o = no_publish given.input _ p i refl is
+row_kept Disconnected given from answered outcome to p answer (code, i, out, unchanged) is r f a o = no_publish given.input _ p i refl is
 
 abbrev open_or : Open → Phase → Open
 open_or other phase.Before = other
 open_or other (phase.Open o) = o
 open_or other (phase.Ended closing) = other
 
-turn_kept : (from : Point) (turn : Turn) (o : Open) (p : Publish) (answer : Reply) (case : Case) (due : Option Reply) (mid : State) → from.state.phase ≡ phase.Open o → IsToldKept o turn p answer
-    → SessionRow case turn.input turn.now from.state from.mark from.seen turn.answered turn.to.seen turn.to.mark due mid → GivesAll turn.now due mid turn.replies turn.to.state
-    → IsEntered p turn.now from.mark turn.to.mark turn.to.seen
+turn_kept : (from : Point State) (turn : Turn) (o : Open) (p : Publish) (answer : Reply) (case : Case) (due : Option Reply) (mid : State) → from.state.phase ≡ phase.Open o → IsToldKept o turn p answer
+    → SessionRow case turn.given from turn.answered due (with_state turn.to mid) → GivesAll turn.given.now due mid turn.replies turn.to.state
+    → IsEntered p turn.given.now from.mark turn.to.mark turn.to.seen
 turn_kept from turn o p answer With_method due mid is told (c, i, before, m, refused) g = shut (phase.Open o) phase.Before (sym is ∙ before) tt (λ n. n)
 turn_kept from turn o p answer With_will due mid is told (c, i, before, m, k, refused) g = shut (phase.Open o) phase.Before (sym is ∙ before) tt (λ n. n)
 turn_kept from turn o p answer Connect_refused due mid is told (c, i, before, m, k, refused) g = shut (phase.Open o) phase.Before (sym is ∙ before) tt (λ n. n)
@@ -330,7 +331,7 @@ turn_kept from turn o p answer In_session due mid is told (at, left, outcome, he
     let new : is_held (held_id p.qos p.id) at.inbound ≡ false = subst (λ (x : Open). is_held (held_id p.qos p.id) x.inbound ≡ false) same_open told.new in
     let out : outcome ≡ Replies (Some answer) =
     replied_by turn at.window.packet_maximum outcome left from.state mid due answer d same g (ack_by p.qos p.id Success answer told.code) (among answer turn.replies told.replied) in
-    row_kept case turn.input turn.now at from.mark from.seen turn.answered turn.to.seen turn.to.mark outcome left p answer row told.input told.retained new told.code out
+    row_kept case turn.given (with_state from at) turn.answered outcome (with_state turn.to left) p answer row told.input told.retained new told.code out
 turn_kept from turn o p answer Over due mid is told (closing, ended, u, d, same) g = shut (phase.Open o) (phase.Ended closing) (sym is ∙ ended) tt (λ n. n)
 
 -- ---- the lists of a gate
@@ -343,9 +344,9 @@ all_append : {A : Type 0} (P : A → Type 0) (xs ys : List A) → AllByRecursion
 all_append P [] ys h g = g
 all_append P (x ∷ xs) ys (first, h) g = (first, all_append P xs ys h g)
 
-lists_rise : (from to : Point) (turns : List Turn) → Run from turns to
+lists_rise : (from to : Point State) (turns : List Turn) → Run from turns to
     → SerialsRiseIn turns → SerialsRise from.seen → AllByRecursion SerialsRise (lists_of turns ++ to.seen ∷ [])
-lists_rise from to [] e of_gate rises = (subst (λ (p : Point). SerialsRise p.seen) (sym e) rises, tt)
+lists_rise from to [] e of_gate rises = (subst (λ (p : Point State). SerialsRise p.seen) (sym e) rises, tt)
 lists_rise from to (turn ∷ turns) (t, rest) (here, later) rises =
     let after : SerialsRise turn.to.seen = here.seen in
     let more = lists_rise turn.to to turns rest later after in
@@ -358,7 +359,7 @@ all_once e seen (list ∷ lists) there ((more, whole), begin) (rises, rise) =
     let here : Contains list e = subst (λ (l : List Entry). Contains l e) (sym whole) (Contains-append_left seen more e there) in
     (once e list (rises e.origin.place) (among e list here), all_once e seen lists there begin rise)
 
-run_cut : (from to : Point) (before : List Turn) (turn : Turn) (after : List Turn) → Run from (before ++ turn ∷ after) to → IsTurn (point_after from before) turn × Run turn.to after to
+run_cut : (from to : Point State) (before : List Turn) (turn : Turn) (after : List Turn) → Run from (before ++ turn ∷ after) to → IsTurn (point_after from before) turn × Run turn.to after to
 run_cut from to [] turn after run = run
 run_cut from to (first ∷ before) turn after (t, rest) = run_cut first.to to before turn after rest
 
@@ -366,7 +367,7 @@ rising_cut : (before : List Turn) (turn : Turn) (after : List Turn) → SerialsR
 rising_cut [] turn after h = h
 rising_cut (first ∷ before) turn after (t, rest) = rising_cut before turn after rest
 
-pub run_keeps : (from to : Point) (before : List Turn) (turn : Turn) (after : List Turn) (o : Open) (p : Publish) (answer : Reply)
+pub run_keeps : (from to : Point State) (before : List Turn) (turn : Turn) (after : List Turn) (o : Open) (p : Publish) (answer : Reply)
     → Run from (before ++ turn ∷ after) to → SerialsRiseIn (before ++ turn ∷ after) → (point_after from before).state.phase ≡ phase.Open o → IsToldKept o turn p answer
     → IsKeptIn (point_after from before).mark turn p (turn.to.seen ∷ (lists_of after ++ to.seen ∷ []))
 run_keeps from to before turn after o p answer run rising is told =
@@ -393,46 +394,46 @@ grows_itself mark used e = record { place = ap (λ (m : Mark). m.place) e; seria
 uses_grows : (mark used : Mark) → Uses mark used → MarkGrows mark used
 uses_grows mark used u = record { place = u.place; serial = u.no_lower }
 
-row_marks : (case : OpenCase) (input : Input) (now : ℕ) (old : Open) (mark : Mark) (seen : List Entry) (answered : List (List Entry)) (list : List Entry) (used : Mark) (outcome : Outcome) (new : Open)
-    → OpenRow case input now old mark seen answered list used outcome new → MarkGrows mark used
-row_marks Connected_twice input now old mark seen answered list used outcome new (c, i, out, unchanged) = grows_itself mark used unchanged.none_used
-row_marks Faulty input now old mark seen answered list used outcome new (f, i, out, unchanged) = grows_itself mark used unchanged.none_used
-row_marks With_alias input now old mark seen answered list used outcome new (p, i, a, out, unchanged) = grows_itself mark used unchanged.none_used
-row_marks Bad_topic input now old mark seen answered list used outcome new (p, f, i, a, t, other, out, unchanged) = grows_itself mark used unchanged.none_used
-row_marks Sent_again input now old mark seen answered list used outcome new (p, i, a, t, held, out, unchanged) = grows_itself mark used unchanged.none_used
-row_marks Too_many_held input now old mark seen answered list used outcome new (p, i, a, t, many, out, unchanged) = grows_itself mark used unchanged.none_used
-row_marks Not_retained input now old mark seen answered list used outcome new (p, topic, i, taken, t, r, out, u, same) = grows_itself mark used u
-row_marks Kept input now old mark seen answered list used outcome new (p, topic, operation, i, s, submitted, out, same) = uses_grows mark used s.one_used
-row_marks Topic_unread input now old mark seen answered list used outcome new (p, i, taken, t, out, unchanged) = grows_itself mark used unchanged.none_used
-row_marks Not_kept input now old mark seen answered list used outcome new (p, topic, operation, i, s, out, same) = uses_grows mark used s.one_used
-row_marks Uncertain input now old mark seen answered list used outcome new (p, topic, operation, i, s, out, same) = uses_grows mark used s.one_used
-row_marks Gate_closed input now old mark seen answered list used outcome new (p, topic, operation, i, s, out, same) = uses_grows mark used s.one_used
-row_marks Released input now old mark seen answered list used outcome new (a, i, out, u, same) = grows_itself mark used u
-row_marks Wrong_acknowledgement input now old mark seen answered list used outcome new (p, ack, id, i, is, wrong, out, unchanged) = grows_itself mark used unchanged.none_used
-row_marks Acknowledged input now old mark seen answered list used outcome new (p, ack, id, answer, i, is, step, out, u, same) = grows_itself mark used u
-row_marks Shared_no_local input now old mark seen answered list used outcome new (s, i, n, out, unchanged) = grows_itself mark used unchanged.none_used
-row_marks Not_subscribed input now old mark seen answered list used outcome new (s, i, n, out, unchanged) = grows_itself mark used unchanged.none_used
-row_marks Subscribed input now old mark seen answered list used outcome new (s, codes, i, n, grants, out, u) = grows_itself mark used u
-row_marks Not_unsubscribed input now old mark seen answered list used outcome new (u, i, out, unchanged) = grows_itself mark used unchanged.none_used
-row_marks Unsubscribed input now old mark seen answered list used outcome new (u, i, out, m, same) = grows_itself mark used m
-row_marks Pinged input now old mark seen answered list used outcome new (i, out, unchanged) = grows_itself mark used unchanged.none_used
-row_marks Disconnected input now old mark seen answered list used outcome new (code, i, out, unchanged) = grows_itself mark used unchanged.none_used
+row_marks : (case : OpenCase) (given : Given) (from : Point Open) (answered : List (List Entry)) (outcome : Outcome) (to : Point Open)
+    → OpenRow case given from answered outcome to → MarkGrows from.mark to.mark
+row_marks Connected_twice given from answered outcome to (c, i, out, unchanged) = grows_itself from.mark to.mark unchanged.none_used
+row_marks Faulty given from answered outcome to (f, i, out, unchanged) = grows_itself from.mark to.mark unchanged.none_used
+row_marks With_alias given from answered outcome to (p, i, a, out, unchanged) = grows_itself from.mark to.mark unchanged.none_used
+row_marks Bad_topic given from answered outcome to (p, f, i, a, t, other, out, unchanged) = grows_itself from.mark to.mark unchanged.none_used
+row_marks Sent_again given from answered outcome to (p, i, a, t, held, out, unchanged) = grows_itself from.mark to.mark unchanged.none_used
+row_marks Too_many_held given from answered outcome to (p, i, a, t, many, out, unchanged) = grows_itself from.mark to.mark unchanged.none_used
+row_marks Not_retained given from answered outcome to (p, topic, i, taken, t, r, out, u, same) = grows_itself from.mark to.mark u
+row_marks Kept given from answered outcome to (p, topic, operation, i, s, submitted, out, same) = uses_grows from.mark to.mark s.one_used
+row_marks Topic_unread given from answered outcome to (p, i, taken, t, out, unchanged) = grows_itself from.mark to.mark unchanged.none_used
+row_marks Not_kept given from answered outcome to (p, topic, operation, i, s, out, same) = uses_grows from.mark to.mark s.one_used
+row_marks Uncertain given from answered outcome to (p, topic, operation, i, s, out, same) = uses_grows from.mark to.mark s.one_used
+row_marks Gate_closed given from answered outcome to (p, topic, operation, i, s, out, same) = uses_grows from.mark to.mark s.one_used
+row_marks Released given from answered outcome to (a, i, out, u, same) = grows_itself from.mark to.mark u
+row_marks Wrong_acknowledgement given from answered outcome to (p, ack, id, i, is, wrong, out, unchanged) = grows_itself from.mark to.mark unchanged.none_used
+row_marks Acknowledged given from answered outcome to (p, ack, id, answer, i, is, step, out, u, same) = grows_itself from.mark to.mark u
+row_marks Shared_no_local given from answered outcome to (s, i, n, out, unchanged) = grows_itself from.mark to.mark unchanged.none_used
+row_marks Not_subscribed given from answered outcome to (s, i, n, out, unchanged) = grows_itself from.mark to.mark unchanged.none_used
+row_marks Subscribed given from answered outcome to (s, codes, i, n, grants, out, u) = grows_itself from.mark to.mark u
+row_marks Not_unsubscribed given from answered outcome to (u, i, out, unchanged) = grows_itself from.mark to.mark unchanged.none_used
+row_marks Unsubscribed given from answered outcome to (u, i, out, m, same) = grows_itself from.mark to.mark m
+row_marks Pinged given from answered outcome to (i, out, unchanged) = grows_itself from.mark to.mark unchanged.none_used
+row_marks Disconnected given from answered outcome to (code, i, out, unchanged) = grows_itself from.mark to.mark unchanged.none_used
 
-turn_marks : (case : Case) (input : Input) (now : ℕ) (old : State) (mark : Mark) (seen : List Entry) (answered : List (List Entry)) (list : List Entry) (used : Mark) (due : Option Reply) (new : State)
-    → SessionRow case input now old mark seen answered list used due new → MarkGrows mark used
-turn_marks With_method input now old mark seen answered list used due new (c, i, before, m, refused) = grows_itself mark used refused.none_used
-turn_marks With_will input now old mark seen answered list used due new (c, i, before, m, w, refused) = grows_itself mark used refused.none_used
-turn_marks Connect_refused input now old mark seen answered list used due new (c, i, before, m, w, refused) = grows_itself mark used refused.none_used
-turn_marks Accepted input now old mark seen answered list used due new (c, i, before, m, w, short, u, d, same) = grows_itself mark used u
-turn_marks Connack_too_long input now old mark seen answered list used due new (c, i, before, m, w, long, u, d, same) = grows_itself mark used u
-turn_marks Other_version input now old mark seen answered list used due new (i, before, u, d, same) = grows_itself mark used u
-turn_marks Unexpected input now old mark seen answered list used due new (i, before, u, d, same) = grows_itself mark used u
-turn_marks In_session input now old mark seen answered list used due new (o, left, outcome, is, (case, none, row), d, same) = row_marks case input now o mark seen answered list used outcome left row
-turn_marks Over input now old mark seen answered list used due new (closing, is, u, d, same) = grows_itself mark used u
+turn_marks : (case : Case) (given : Given) (from : Point State) (answered : List (List Entry)) (due : Option Reply) (to : Point State)
+    → SessionRow case given from answered due to → MarkGrows from.mark to.mark
+turn_marks With_method given from answered due to (c, i, before, m, refused) = grows_itself from.mark to.mark refused.none_used
+turn_marks With_will given from answered due to (c, i, before, m, w, refused) = grows_itself from.mark to.mark refused.none_used
+turn_marks Connect_refused given from answered due to (c, i, before, m, w, refused) = grows_itself from.mark to.mark refused.none_used
+turn_marks Accepted given from answered due to (c, i, before, m, w, short, u, d, same) = grows_itself from.mark to.mark u
+turn_marks Connack_too_long given from answered due to (c, i, before, m, w, long, u, d, same) = grows_itself from.mark to.mark u
+turn_marks Other_version given from answered due to (i, before, u, d, same) = grows_itself from.mark to.mark u
+turn_marks Unexpected given from answered due to (i, before, u, d, same) = grows_itself from.mark to.mark u
+turn_marks In_session given from answered due to (o, left, outcome, is, (case, none, row), d, same) = row_marks case given (with_state from o) answered outcome (with_state to left) row
+turn_marks Over given from answered due to (closing, is, u, d, same) = grows_itself from.mark to.mark u
 
-pub run_marks : (from to : Point) (turns : List Turn) → Run from turns to → MarkGrows from.mark to.mark
-run_marks from to [] e = grows_itself from.mark to.mark (ap (λ (p : Point). p.mark) e)
+pub run_marks : (from to : Point State) (turns : List Turn) → Run from turns to → MarkGrows from.mark to.mark
+run_marks from to [] e = grows_itself from.mark to.mark (ap (λ (p : Point State). p.mark) e)
 run_marks from to (turn ∷ turns) (t, rest) =
-    let here = turn_marks t.case turn.input turn.now from.state from.mark from.seen turn.answered turn.to.seen turn.to.mark t.due t.mid t.row.1 in
+    let here = turn_marks t.case turn.given from turn.answered t.due (with_state turn.to t.mid) t.row.1 in
     let later = run_marks turn.to to turns rest in
     record { place = later.place ∙ here.place; serial = omega (arith, here.serial, later.serial) }

@@ -7,9 +7,9 @@ use Rattle.std.specs.Cmp.Lexicographic.{slice_cmp}
 use Rattle.std.specs.Ordering.{nat_cmp}
 use Rattle.std.specs.FinMap as finite
 use Rattle.std.specs.FinSet as set
+use Rattle.rs_packet.specs.declared.limits.TheConstants.{RECEIVE_MAXIMUM}
 use Rattle.rs_packet.specs.Values.{Asked, Filter}
 use Rattle.rs_packet.specs.declared.packet.Connect.{Connect}
-use Rattle.rs_packet.specs.declared.packet.Options.{Options}
 use Rattle.rs_packet.specs.declared.packet.Publish.{Publish}
 use Rattle.rs_packet.specs.declared.reply.Reply.{Reply}
 use Rattle.rs_message.specs.declared.entry.Entry.{Entry}
@@ -20,36 +20,35 @@ use Rattle.rs_window.proofs.ReplayLemmas.{step_limits, step_quota, step_few}
 use Rattle.rs_session.specs.declared.open.Open.{Open}
 use Rattle.rs_session.specs.declared.open.Outcome.{Outcome}
 use Rattle.rs_session.specs.declared.open.Outcome.TheVariants.{Replies, Closes, Leaves}
-use Rattle.rs_session.specs.declared.phase.Input.{Input}
 use Rattle.rs_session.specs.declared.phase.Phase.{Phase}
 use Rattle.rs_session.specs.declared.phase.Phase.TheVariants as phase
 use Rattle.rs_session.specs.declared.subscriptions.Subscription.{Subscription}
-use Rattle.rs_session.specs.Gate.{Mark}
 use Rattle.rs_session.specs.Subscriptions.{Subscriptions, is_subscribed, replays}
 use Rattle.rs_session.specs.declared.subscriptions.TheConstants.{MAX_SUBSCRIPTIONS}
 use Rattle.rs_session.specs.State.{State, fresh, IsGiven, IsReplayed}
-use Rattle.rs_session.specs.Table.{held_id, held_with, is_one_too_many, holding, open_for, IsTaken, IsSubscribed, IsQueued, IsGrantedTo, Grants, without, without_all, OpenCase, OpenRow, Case, SessionRow, state_after, With_method, With_will, Connect_refused, Accepted, Connack_too_long, Other_version, Unexpected, In_session, Over, Faulty, With_alias, Bad_topic, Sent_again, Too_many_held, Not_retained, Kept, Topic_unread, Not_kept, Uncertain, Gate_closed, Released, Wrong_acknowledgement, Acknowledged, Shared_no_local, Not_subscribed, Subscribed, Not_unsubscribed, Unsubscribed, Connected_twice, Pinged, Disconnected}
-use Rattle.rs_session.specs.Run.{Point, Turn, Gives, IsTurn, Run, IsWithinLimits}
+use Rattle.rs_session.specs.Table.{subscription_for, held_id, held_with, is_one_too_many, holding, open_for, IsTaken, IsSubscribed, IsQueued, IsGrantedTo, Grants, without, without_all, OpenCase, OpenRow, Case, SessionRow, state_after, With_method, With_will, Connect_refused, Accepted, Connack_too_long, Other_version, Unexpected, In_session, Over, Faulty, With_alias, Bad_topic, Sent_again, Too_many_held, Not_retained, Kept, Topic_unread, Not_kept, Uncertain, Gate_closed, Released, Wrong_acknowledgement, Acknowledged, Shared_no_local, Not_subscribed, Subscribed, Not_unsubscribed, Unsubscribed, Connected_twice, Pinged, Disconnected}
+use Rattle.rs_session.specs.Points.{Given, Point, with_state}
+use Rattle.rs_session.specs.Run.{Turn, Gives, IsTurn, Run, IsWithinLimits}
 use Rattle.rs_session.proofs.SubscriptionLemmas.{len_inserted, len_removed}
 
 -- ---- identifiers of QoS 2
 
-insert_within : (there : Bool) (n : ℕ) → (not there && n == 16) ≡ false → n ≤ 16 → cond there n (n + 1) ≤ 16
+insert_within : (there : Bool) (n : ℕ) → (not there && n == RECEIVE_MAXIMUM) ≡ false → n ≤ RECEIVE_MAXIMUM → cond there n (n + 1) ≤ RECEIVE_MAXIMUM
 insert_within true n room few = few
 insert_within false n room few = grind (arith, nat_tests)
 
-held_within : (id : Option ℕ) (held : set.FinSet nat_cmp) → is_one_too_many id held ≡ false → set.len held ≤ 16 → set.len (held_with id held) ≤ 16
+held_within : (id : Option ℕ) (held : set.FinSet nat_cmp) → is_one_too_many id held ≡ false → set.len held ≤ RECEIVE_MAXIMUM → set.len (held_with id held) ≤ RECEIVE_MAXIMUM
 held_within None held room few = few
 held_within (Some id) held room few =
-    let inserted : cond (set.contains held id) (set.len held) (set.len held + 1) ≤ 16 = insert_within (set.contains held id) (set.len held) room few in
-    subst (λ n. n ≤ 16) (sym (set.len-insert nat_cmp_total held id)) inserted
+    let inserted : cond (set.contains held id) (set.len held) (set.len held + 1) ≤ RECEIVE_MAXIMUM = insert_within (set.contains held id) (set.len held) room few in
+    subst (λ n. n ≤ RECEIVE_MAXIMUM) (sym (set.len-insert nat_cmp_total held id)) inserted
 
-remove_within : (there : Bool) (n : ℕ) → n ≤ 16 → cond there (n - 1) n ≤ 16
+remove_within : (there : Bool) (n : ℕ) → n ≤ RECEIVE_MAXIMUM → cond there (n - 1) n ≤ RECEIVE_MAXIMUM
 remove_within true n few = omega arith
 remove_within false n few = few
 
-released_within : (held : set.FinSet nat_cmp) (id : ℕ) → set.len held ≤ 16 → set.len (set.remove held id) ≤ 16
-released_within held id few = subst (λ n. n ≤ 16) (sym (set.len-remove nat_cmp_total held id)) (remove_within (set.contains held id) (set.len held) few)
+released_within : (held : set.FinSet nat_cmp) (id : ℕ) → set.len held ≤ RECEIVE_MAXIMUM → set.len (set.remove held id) ≤ RECEIVE_MAXIMUM
+released_within held id few = subst (λ n. n ≤ RECEIVE_MAXIMUM) (sym (set.len-remove nat_cmp_total held id)) (remove_within (set.contains held id) (set.len held) few)
 
 holding_within : (p : Publish) (o : Open) → IsTaken p o → IsWithinLimits o → IsWithinLimits (holding p o)
 holding_within p o taken h =
@@ -74,32 +73,32 @@ subscriptions_within : (o : Open) (left : Subscriptions) → finite.len left ≤
 subscriptions_within o left few h = record { subscriptions = few; held = h.held; waiting = h.waiting; unacknowledged = h.unacknowledged; quota = h.quota }
 
 -- what waits is as before, or more waits
-queued_within : (replayed : Bool) (now : ℕ) (filter : List ℕ) (options : Options) (identifier : Option ℕ) (list : List Entry) (old new : Open)
-    → MatchBool replayed (IsQueued now filter options.qos identifier list old new) (new.window ≡ old.window) → IsWithinLimits old → IsWithinLimits (record old { window = new.window })
-queued_within true now filter options identifier list old new (found, answer, queued) h = called_within old (window.Queue found options.qos identifier (Ok tt)) new.window queued h
-queued_within false now filter options identifier list old new same h = subst (λ (w : window_state.State). IsWithinLimits (record old { window = w })) (sym same) h
+queued_within : (replayed : Bool) (now : ℕ) (filter : List ℕ) (subscription : Subscription) (list : List Entry) (old new : Open)
+    → MatchBool replayed (IsQueued now filter subscription list old new) (new.window ≡ old.window) → IsWithinLimits old → IsWithinLimits (record old { window = new.window })
+queued_within true now filter subscription list old new (found, answer, queued) h = called_within old (window.Queue found subscription.options.qos subscription.identifier (Ok tt)) new.window queued h
+queued_within false now filter subscription list old new same h = subst (λ (w : window_state.State). IsWithinLimits (record old { window = w })) (sym same) h
 
-subscribed_within : (now : ℕ) (filter : List ℕ) (options : Options) (identifier : Option ℕ) (list : List Entry) (old new : Open) → IsSubscribed now filter options identifier list old new → IsWithinLimits old → IsWithinLimits new
-subscribed_within now filter options identifier list old new s h =
-    let w = queued_within (replays options.retain_handling (is_subscribed filter old.subscriptions)) now filter options identifier list old new s.replay h in
-    let few = len_inserted old.subscriptions filter (record { options = options; identifier = identifier }) s.place h.subscriptions in
+subscribed_within : (now : ℕ) (filter : List ℕ) (subscription : Subscription) (list : List Entry) (old new : Open) → IsSubscribed now filter subscription list old new → IsWithinLimits old → IsWithinLimits new
+subscribed_within now filter subscription list old new s h =
+    let w = queued_within (replays subscription.options.retain_handling (is_subscribed filter old.subscriptions)) now filter subscription list old new s.replay h in
+    let few = len_inserted old.subscriptions filter subscription s.place h.subscriptions in
     record {
       subscriptions = subst (λ (m : Subscriptions). finite.len m ≤ MAX_SUBSCRIPTIONS) (sym s.kept) few;
-      held = subst (λ (ids : set.FinSet nat_cmp). set.len ids ≤ 16) (sym s.inbound) h.held;
+      held = subst (λ (ids : set.FinSet nat_cmp). set.len ids ≤ RECEIVE_MAXIMUM) (sym s.inbound) h.held;
       waiting = w.waiting;
       unacknowledged = w.unacknowledged;
       quota = w.quota;
     }
 
-granted_within : (asked : Filter) (options : Options) (identifier : Option ℕ) (now : ℕ) (list : List Entry) (old : Open) (code : ℕ) (new : Open) → IsGrantedTo asked options identifier now list old code new → IsWithinLimits old → IsWithinLimits new
-granted_within (Err fault) options identifier now list old code new (c, same) h = subst IsWithinLimits (sym same) h
-granted_within (Ok filter) options identifier now list old code new (inl (c, s)) h = subscribed_within now filter options identifier list old new s h
-granted_within (Ok filter) options identifier now list old code new (inr (c, same)) h = subst IsWithinLimits (sym same) h
+granted_within : (asked : Filter) (subscription : Subscription) (now : ℕ) (list : List Entry) (old : Open) (code : ℕ) (new : Open) → IsGrantedTo asked subscription now list old code new → IsWithinLimits old → IsWithinLimits new
+granted_within (Err fault) subscription now list old code new (c, same) h = subst IsWithinLimits (sym same) h
+granted_within (Ok filter) subscription now list old code new (inl (c, s)) h = subscribed_within now filter subscription list old new s h
+granted_within (Ok filter) subscription now list old code new (inr (c, same)) h = subst IsWithinLimits (sym same) h
 
-grants_within : (now : ℕ) (filters : List Asked) (identifier : Option ℕ) (seen : List Entry) (old : Open) (codes : List ℕ) (answered : List (List Entry)) (list : List Entry) (new : Open) → Grants now filters identifier seen old codes answered list new → IsWithinLimits old → IsWithinLimits new
-grants_within now [] identifier seen old codes answered list new (a, n, b, same) h = subst IsWithinLimits (sym same) h
-grants_within now (asked ∷ more) identifier seen old codes answered list new (code, rest, mid, later, between, c, a, begins, granted, grants) h =
-    grants_within now more identifier mid between rest later list new grants (granted_within asked.0 asked.1 identifier now mid old code between granted h)
+grants_within : (now : ℕ) (filters : List Asked) (identifier : Option ℕ) (from : Point Open) (codes : List ℕ) (answered : List (List Entry)) (to : Point Open) → Grants now filters identifier from codes answered to → IsWithinLimits from.state → IsWithinLimits to.state
+grants_within now [] identifier from codes answered to (c, a, seen, same) h = subst IsWithinLimits (sym same) h
+grants_within now (asked ∷ more) identifier from codes answered to (code, rest, later, between, c, a, begins, granted, grants) h =
+    grants_within now more identifier between rest later to grants (granted_within asked.0 (subscription_for asked identifier) now between.seen from.state code between.state granted h)
 
 without_fewer : (filter : Filter) (m : Subscriptions) → finite.len (without filter m) ≤ finite.len m
 without_fewer (Err fault) m = omega arith
@@ -111,35 +110,35 @@ all_fewer (filter ∷ more) m = omega (arith, without_fewer filter m, all_fewer 
 
 -- ---- the rows of an open session
 
-row_within : (case : OpenCase) (input : Input) (now : ℕ) (old : Open) (mark : Mark) (seen : List Entry) (answered : List (List Entry)) (list : List Entry) (used : Mark) (outcome : Outcome) (new : Open)
-    → OpenRow case input now old mark seen answered list used outcome new → IsWithinLimits old → IsWithinLimits new
-row_within Connected_twice input now old mark seen answered list used outcome new (c, i, out, unchanged) h = subst IsWithinLimits (sym unchanged.same) h
-row_within Faulty input now old mark seen answered list used outcome new (f, i, out, unchanged) h = subst IsWithinLimits (sym unchanged.same) h
-row_within With_alias input now old mark seen answered list used outcome new (p, i, a, out, unchanged) h = subst IsWithinLimits (sym unchanged.same) h
-row_within Bad_topic input now old mark seen answered list used outcome new (p, f, i, a, t, other, out, unchanged) h = subst IsWithinLimits (sym unchanged.same) h
-row_within Sent_again input now old mark seen answered list used outcome new (p, i, a, t, held, out, unchanged) h = subst IsWithinLimits (sym unchanged.same) h
-row_within Too_many_held input now old mark seen answered list used outcome new (p, i, a, t, many, out, unchanged) h = subst IsWithinLimits (sym unchanged.same) h
-row_within Not_retained input now old mark seen answered list used outcome new (p, topic, i, taken, t, r, out, u, same) h = subst IsWithinLimits (sym same) (holding_within p old taken h)
-row_within Kept input now old mark seen answered list used outcome new (p, topic, operation, i, s, submitted, out, same) h = subst IsWithinLimits (sym same) (holding_within p old s.taken h)
-row_within Topic_unread input now old mark seen answered list used outcome new (p, i, taken, t, out, unchanged) h = subst IsWithinLimits (sym unchanged.same) h
-row_within Not_kept input now old mark seen answered list used outcome new (p, topic, operation, i, s, out, same) h = subst IsWithinLimits (sym same) h
-row_within Uncertain input now old mark seen answered list used outcome new (p, topic, operation, i, s, out, same) h = subst IsWithinLimits (sym same) h
-row_within Gate_closed input now old mark seen answered list used outcome new (p, topic, operation, i, s, out, same) h = subst IsWithinLimits (sym same) h
-row_within Released input now old mark seen answered list used outcome new (a, i, out, u, same) h =
-    let left : IsWithinLimits (record old { inbound = set.remove old.inbound a.id }) =
-    record { subscriptions = h.subscriptions; held = released_within old.inbound a.id h.held; waiting = h.waiting; unacknowledged = h.unacknowledged; quota = h.quota } in
+row_within : (case : OpenCase) (given : Given) (from : Point Open) (answered : List (List Entry)) (outcome : Outcome) (to : Point Open)
+    → OpenRow case given from answered outcome to → IsWithinLimits from.state → IsWithinLimits to.state
+row_within Connected_twice given from answered outcome to (c, i, out, unchanged) h = subst IsWithinLimits (sym unchanged.same) h
+row_within Faulty given from answered outcome to (f, i, out, unchanged) h = subst IsWithinLimits (sym unchanged.same) h
+row_within With_alias given from answered outcome to (p, i, a, out, unchanged) h = subst IsWithinLimits (sym unchanged.same) h
+row_within Bad_topic given from answered outcome to (p, f, i, a, t, other, out, unchanged) h = subst IsWithinLimits (sym unchanged.same) h
+row_within Sent_again given from answered outcome to (p, i, a, t, held, out, unchanged) h = subst IsWithinLimits (sym unchanged.same) h
+row_within Too_many_held given from answered outcome to (p, i, a, t, many, out, unchanged) h = subst IsWithinLimits (sym unchanged.same) h
+row_within Not_retained given from answered outcome to (p, topic, i, taken, t, r, out, u, same) h = subst IsWithinLimits (sym same) (holding_within p from.state taken h)
+row_within Kept given from answered outcome to (p, topic, operation, i, s, submitted, out, same) h = subst IsWithinLimits (sym same) (holding_within p from.state s.taken h)
+row_within Topic_unread given from answered outcome to (p, i, taken, t, out, unchanged) h = subst IsWithinLimits (sym unchanged.same) h
+row_within Not_kept given from answered outcome to (p, topic, operation, i, s, out, same) h = subst IsWithinLimits (sym same) h
+row_within Uncertain given from answered outcome to (p, topic, operation, i, s, out, same) h = subst IsWithinLimits (sym same) h
+row_within Gate_closed given from answered outcome to (p, topic, operation, i, s, out, same) h = subst IsWithinLimits (sym same) h
+row_within Released given from answered outcome to (a, i, out, u, same) h =
+    let left : IsWithinLimits (record from.state { inbound = set.remove from.state.inbound a.id }) =
+    record { subscriptions = h.subscriptions; held = released_within from.state.inbound a.id h.held; waiting = h.waiting; unacknowledged = h.unacknowledged; quota = h.quota } in
     subst IsWithinLimits (sym same) left
-row_within Wrong_acknowledgement input now old mark seen answered list used outcome new (p, ack, id, i, is, wrong, out, unchanged) h = subst IsWithinLimits (sym unchanged.same) h
-row_within Acknowledged input now old mark seen answered list used outcome new (p, ack, id, answer, i, is, step, out, u, same) h =
-    subst IsWithinLimits (sym same) (called_within old (window.Acknowledge ack id (Ok answer)) new.window step h)
-row_within Shared_no_local input now old mark seen answered list used outcome new (s, i, n, out, unchanged) h = subst IsWithinLimits (sym unchanged.same) h
-row_within Not_subscribed input now old mark seen answered list used outcome new (s, i, n, out, unchanged) h = subst IsWithinLimits (sym unchanged.same) h
-row_within Subscribed input now old mark seen answered list used outcome new (s, codes, i, n, grants, out, u) h = grants_within now s.filters s.subscription seen old codes answered list new grants h
-row_within Not_unsubscribed input now old mark seen answered list used outcome new (u, i, out, unchanged) h = subst IsWithinLimits (sym unchanged.same) h
-row_within Unsubscribed input now old mark seen answered list used outcome new (u, i, out, m, same) h =
-    subst IsWithinLimits (sym same) (subscriptions_within old (without_all u.filters old.subscriptions) (omega (arith, all_fewer u.filters old.subscriptions, h.subscriptions)) h)
-row_within Pinged input now old mark seen answered list used outcome new (i, out, unchanged) h = subst IsWithinLimits (sym unchanged.same) h
-row_within Disconnected input now old mark seen answered list used outcome new (code, i, out, unchanged) h = subst IsWithinLimits (sym unchanged.same) h
+row_within Wrong_acknowledgement given from answered outcome to (p, ack, id, i, is, wrong, out, unchanged) h = subst IsWithinLimits (sym unchanged.same) h
+row_within Acknowledged given from answered outcome to (p, ack, id, answer, i, is, step, out, u, same) h =
+    subst IsWithinLimits (sym same) (called_within from.state (window.Acknowledge ack id (Ok answer)) to.state.window step h)
+row_within Shared_no_local given from answered outcome to (s, i, n, out, unchanged) h = subst IsWithinLimits (sym unchanged.same) h
+row_within Not_subscribed given from answered outcome to (s, i, n, out, unchanged) h = subst IsWithinLimits (sym unchanged.same) h
+row_within Subscribed given from answered outcome to (s, codes, i, n, grants, out, u) h = grants_within given.now s.filters s.subscription from codes answered to grants h
+row_within Not_unsubscribed given from answered outcome to (u, i, out, unchanged) h = subst IsWithinLimits (sym unchanged.same) h
+row_within Unsubscribed given from answered outcome to (u, i, out, m, same) h =
+    subst IsWithinLimits (sym same) (subscriptions_within from.state (without_all u.filters from.state.subscriptions) (omega (arith, all_fewer u.filters from.state.subscriptions, h.subscriptions)) h)
+row_within Pinged given from answered outcome to (i, out, unchanged) h = subst IsWithinLimits (sym unchanged.same) h
+row_within Disconnected given from answered outcome to (code, i, out, unchanged) h = subst IsWithinLimits (sym unchanged.same) h
 
 -- ---- a session
 
@@ -165,18 +164,18 @@ after_within Leaves old left h = tt
 same_within : (old new : State) → new ≡ old → PhaseWithin old.phase → PhaseWithin new.phase
 same_within old new e h = subst (λ (s : State). PhaseWithin s.phase) (sym e) h
 
-answer_within : (case : Case) (input : Input) (now : ℕ) (old : State) (mark : Mark) (seen : List Entry) (answered : List (List Entry)) (list : List Entry) (used : Mark) (due : Option Reply) (new : State)
-    → SessionRow case input now old mark seen answered list used due new → PhaseWithin old.phase → PhaseWithin new.phase
-answer_within With_method input now old mark seen answered list used due new (c, i, before, m, refused) h = same_within _ new refused.end tt
-answer_within With_will input now old mark seen answered list used due new (c, i, before, m, w, refused) h = same_within _ new refused.end tt
-answer_within Connect_refused input now old mark seen answered list used due new (c, i, before, m, w, refused) h = same_within _ new refused.end tt
-answer_within Accepted input now old mark seen answered list used due new (c, i, before, m, w, short, u, d, same) h = same_within _ new same (begun_within c)
-answer_within Connack_too_long input now old mark seen answered list used due new (c, i, before, m, w, long, u, d, same) h = same_within _ new same tt
-answer_within Other_version input now old mark seen answered list used due new (i, before, u, d, same) h = same_within _ new same tt
-answer_within Unexpected input now old mark seen answered list used due new (i, before, u, d, same) h = same_within _ new same tt
-answer_within In_session input now old mark seen answered list used due new (o, left, outcome, is, (case, a, row), d, same) h =
-    same_within _ new same (after_within outcome old left (row_within case input now o mark seen answered list used outcome left row (subst PhaseWithin is h)))
-answer_within Over input now old mark seen answered list used due new (closing, is, u, d, same) h = same_within old new same h
+answer_within : (case : Case) (given : Given) (from : Point State) (answered : List (List Entry)) (due : Option Reply) (to : Point State)
+    → SessionRow case given from answered due to → PhaseWithin from.state.phase → PhaseWithin to.state.phase
+answer_within With_method given from answered due to (c, i, before, m, refused) h = same_within _ to.state refused.end tt
+answer_within With_will given from answered due to (c, i, before, m, w, refused) h = same_within _ to.state refused.end tt
+answer_within Connect_refused given from answered due to (c, i, before, m, w, refused) h = same_within _ to.state refused.end tt
+answer_within Accepted given from answered due to (c, i, before, m, w, short, u, d, same) h = same_within _ to.state same (begun_within c)
+answer_within Connack_too_long given from answered due to (c, i, before, m, w, long, u, d, same) h = same_within _ to.state same tt
+answer_within Other_version given from answered due to (i, before, u, d, same) h = same_within _ to.state same tt
+answer_within Unexpected given from answered due to (i, before, u, d, same) h = same_within _ to.state same tt
+answer_within In_session given from answered due to (o, left, outcome, is, (case, a, row), d, same) h =
+    same_within _ to.state same (after_within outcome from.state left (row_within case given (with_state from o) answered outcome (with_state to left) row (subst PhaseWithin is h)))
+answer_within Over given from answered due to (closing, is, u, d, same) h = same_within from.state to.state same h
 
 replayed_within : (now : ℕ) (old : Phase) (given : Option Reply) (new : Phase) → IsReplayed now old given new → PhaseWithin old → PhaseWithin new
 replayed_within now phase.Before given new (none, same) h = subst PhaseWithin (sym same) tt
@@ -193,15 +192,15 @@ gives_within now due old [] left new (d, same) h = same_within old new same h
 gives_within now due old (reply ∷ replies) left new (later, mid, given, rest) h =
     gives_within now later mid replies left new rest (given_within now due old (Some reply) later mid given h)
 
-turn_within : (from : Point) (turn : Turn) → IsTurn from turn → PhaseWithin from.state.phase → PhaseWithin turn.to.state.phase
+turn_within : (from : Point State) (turn : Turn) → IsTurn from turn → PhaseWithin from.state.phase → PhaseWithin turn.to.state.phase
 turn_within from turn t h =
-    let after = answer_within t.case turn.input turn.now from.state from.mark from.seen turn.answered turn.to.seen turn.to.mark t.due t.mid t.row.1 h in
-    let given = gives_within turn.now t.due t.mid turn.replies t.all_given.left t.all_given.last t.all_given.given after in
-    given_within turn.now t.all_given.left t.all_given.last None None turn.to.state t.all_given.none_left given
+    let after = answer_within t.case turn.given from turn.answered t.due (with_state turn.to t.mid) t.row.1 h in
+    let given = gives_within turn.given.now t.due t.mid turn.replies t.all_given.left t.all_given.last t.all_given.given after in
+    given_within turn.given.now t.all_given.left t.all_given.last None None turn.to.state t.all_given.none_left given
 
-turns_within : (from to : Point) (turns : List Turn) → Run from turns to → PhaseWithin from.state.phase → PhaseWithin to.state.phase
-turns_within from to [] e h = same_within from.state to.state (ap (λ (p : Point). p.state) e) h
+turns_within : (from to : Point State) (turns : List Turn) → Run from turns to → PhaseWithin from.state.phase → PhaseWithin to.state.phase
+turns_within from to [] e h = same_within from.state to.state (ap (λ (p : Point State). p.state) e) h
 turns_within from to (turn ∷ turns) (first, rest) h = turns_within turn.to to turns rest (turn_within from turn first h)
 
-pub run_within : (assigned : List ℕ) (from to : Point) (turns : List Turn) (o : Open) → from.state ≡ fresh assigned → Run from turns to → to.state.phase ≡ phase.Open o → IsWithinLimits o
+pub run_within : (assigned : List ℕ) (from to : Point State) (turns : List Turn) (o : Open) → from.state ≡ fresh assigned → Run from turns to → to.state.phase ≡ phase.Open o → IsWithinLimits o
 run_within assigned from to turns o begun run is = subst PhaseWithin is (turns_within from to turns run (same_within (fresh assigned) from.state begun tt))

@@ -5,7 +5,6 @@ use Rattle.std.specs.FinMap as finite
 use Rattle.std.proofs.lemmas.Bool.{le-leb}
 use Rattle.std.proofs.lemmas.Option.{none-some, same_Some}
 use Rattle.rs_packet.specs.declared.packet.Connect.{Connect}
-use Rattle.rs_packet.specs.declared.packet.Options.{Options}
 use Rattle.rs_packet.specs.declared.packet.Packet.{Packet}
 use Rattle.rs_packet.specs.declared.packet.Packet.TheVariants as packet
 use Rattle.rs_packet.specs.declared.packet.Qos.{Qos}
@@ -44,15 +43,16 @@ use Rattle.rs_session.specs.declared.phase.Input.{Input}
 use Rattle.rs_session.specs.declared.phase.Input.TheVariants.{Whole, Broken}
 use Rattle.rs_session.specs.declared.phase.Phase.{Phase}
 use Rattle.rs_session.specs.declared.phase.Phase.TheVariants as phase
-use Rattle.rs_session.specs.Gate.{Mark}
 use Rattle.rs_session.specs.Reasons.{code_of}
 use Rattle.rs_session.specs.declared.reason.ReasonCode.{ReasonCode}
 use Rattle.rs_session.specs.declared.reason.ReasonCode.TheVariants.{Success, PacketIdentifierNotFound, QuotaExceeded, ProtocolError, BadAuthenticationMethod, ImplementationSpecificError, UnsupportedProtocolVersion}
+use Rattle.rs_session.specs.declared.subscriptions.Subscription.{Subscription}
 use Rattle.rs_session.specs.Subscriptions.{Subscriptions, none, is_subscribed, replays}
 use Rattle.rs_session.specs.State.{State, fresh, closing_of, IsGiven, IsReplayed}
-use Rattle.rs_session.specs.Table.{acknowledged_by, acknowledgement_of, released_by, IsSubscribed, IsGrantedTo, Grants, OpenCase, OpenRow, Case, SessionRow, due_for, state_after, connack, open_for, packet_limit, receive_limit, With_method, With_will, Connect_refused, Accepted, Connack_too_long, Other_version, Unexpected, In_session, Over, Faulty, With_alias, Bad_topic, Sent_again, Too_many_held, Not_retained, Kept, Topic_unread, Not_kept, Uncertain, Gate_closed, Wrong_acknowledgement, Acknowledged, Shared_no_local, Not_subscribed, Subscribed, Not_unsubscribed, Unsubscribed, Connected_twice, Pinged, Disconnected}
+use Rattle.rs_session.specs.Table.{subscription_for, acknowledged_by, acknowledgement_of, released_by, IsSubscribed, IsGrantedTo, Grants, OpenCase, OpenRow, Case, SessionRow, due_for, state_after, connack, open_for, packet_limit, receive_limit, With_method, With_will, Connect_refused, Accepted, Connack_too_long, Other_version, Unexpected, In_session, Over, Faulty, With_alias, Bad_topic, Sent_again, Too_many_held, Not_retained, Kept, Topic_unread, Not_kept, Uncertain, Gate_closed, Wrong_acknowledgement, Acknowledged, Shared_no_local, Not_subscribed, Subscribed, Not_unsubscribed, Unsubscribed, Connected_twice, Pinged, Disconnected}
 use Rattle.rs_session.specs.Table as table
-use Rattle.rs_session.specs.Run.{Point, Turn, Gives, GivesAll, IsTurn, Run}
+use Rattle.rs_session.specs.Points.{Given, Point, with_state}
+use Rattle.rs_session.specs.Run.{Turn, Gives, GivesAll, IsTurn, Run}
 use Rattle.rs_session.specs.Replay.{is_granted, subscribed_by, IsQueuedAt, IsQueuedFor, AreQueued, IsAcknowledged, AreCalledBy, acknowledgement_in, IsRefused, giving, listed, publications, IsNoPublish, IsServed, IsLast, AreMade, subscriptions_of, AreCalls, window_of, window_after, window_for, IsOpen, Opens, IsReplaying, AreSentOrDropped, AreSent, IsWithinQuota, IsSentInOrder}
 
 -- ---- a SUBSCRIBE
@@ -67,46 +67,46 @@ run_append from mid [] after to e h = subst (λ (s : window_state.State). calls.
 run_append from mid (call ∷ before) after to (next, step, rest) h = (next, step, run_append next mid before after to rest h)
 
 -- what waits is as before, or all that is found waits behind it
-queued_calls : (replayed : Bool) (filter : List ℕ) (options : Options) (identifier : Option ℕ) (now : ℕ) (list : List Entry) (code : ℕ) (old new : Open) → code ≡ level options.qos
-    → MatchBool replayed (table.IsQueued now filter options.qos identifier list old new) (new.window ≡ old.window)
-    → (own : List Call) × calls.Run old.window own new.window × MatchBool replayed (IsQueuedAt filter options identifier now list code own) (own ≡ [])
-queued_calls true filter options identifier now list code old new c (found, answer, queued) =
-    (Queue found options.qos identifier (Ok tt) ∷ [], (new.window, queued, refl), (found, answer, c, refl))
-queued_calls false filter options identifier now list code old new c same = ([], same, refl)
+queued_calls : (replayed : Bool) (filter : List ℕ) (subscription : Subscription) (now : ℕ) (list : List Entry) (code : ℕ) (old new : Open) → code ≡ level subscription.options.qos
+    → MatchBool replayed (table.IsQueued now filter subscription list old new) (new.window ≡ old.window)
+    → (own : List Call) × calls.Run old.window own new.window × MatchBool replayed (IsQueuedAt filter subscription now list code own) (own ≡ [])
+queued_calls true filter subscription now list code old new c (found, answer, queued) =
+    (Queue found subscription.options.qos subscription.identifier (Ok tt) ∷ [], (new.window, queued, refl), (found, answer, c, refl))
+queued_calls false filter subscription now list code old new c same = ([], same, refl)
 
-granted_calls : (asked : Filter) (options : Options) (identifier : Option ℕ) (now : ℕ) (list : List Entry) (old : Open) (code : ℕ) (new : Open) → IsGrantedTo asked options identifier now list old code new
-    → (own : List Call) × calls.Run old.window own new.window × IsQueuedFor asked options identifier now list code old.subscriptions own
-    × (new.subscriptions ≡ subscribed_by asked options identifier code old.subscriptions)
-granted_calls (Err fault) options identifier now list old code new (c, same) = ([], ap (λ (o : Open). o.window) same, refl, ap (λ (o : Open). o.subscriptions) same)
-granted_calls (Ok filter) options identifier now list old code new (inl (c, s)) =
-    let r : Bool = replays options.retain_handling (is_subscribed filter old.subscriptions) in
-    let e : is_granted code ≡ true = ap is_granted c ∙ level_granted options.qos in
-    let (own, run, queued) = queued_calls r filter options identifier now list code old new c s.replay in (
+granted_calls : (asked : Filter) (subscription : Subscription) (now : ℕ) (list : List Entry) (old : Open) (code : ℕ) (new : Open) → IsGrantedTo asked subscription now list old code new
+    → (own : List Call) × calls.Run old.window own new.window × IsQueuedFor asked subscription now list code old.subscriptions own
+    × (new.subscriptions ≡ subscribed_by asked subscription code old.subscriptions)
+granted_calls (Err fault) subscription now list old code new (c, same) = ([], ap (λ (o : Open). o.window) same, refl, ap (λ (o : Open). o.subscriptions) same)
+granted_calls (Ok filter) subscription now list old code new (inl (c, s)) =
+    let r : Bool = replays subscription.options.retain_handling (is_subscribed filter old.subscriptions) in
+    let e : is_granted code ≡ true = ap is_granted c ∙ level_granted subscription.options.qos in
+    let (own, run, queued) = queued_calls r filter subscription now list code old new c s.replay in (
       own,
       run,
-      subst (λ (b : Bool). MatchBool (b && r) (IsQueuedAt filter options identifier now list code own) (own ≡ [])) (sym e) queued,
-      s.kept ∙ sym (ap (λ (b : Bool). cond b (finite.insert old.subscriptions filter (record { options = options; identifier = identifier })) old.subscriptions) e),
+      subst (λ (b : Bool). MatchBool (b && r) (IsQueuedAt filter subscription now list code own) (own ≡ [])) (sym e) queued,
+      s.kept ∙ sym (ap (λ (b : Bool). cond b (finite.insert old.subscriptions filter subscription) old.subscriptions) e),
     )
-granted_calls (Ok filter) options identifier now list old code new (inr (c, same)) =
-    let r : Bool = replays options.retain_handling (is_subscribed filter old.subscriptions) in
+granted_calls (Ok filter) subscription now list old code new (inr (c, same)) =
+    let r : Bool = replays subscription.options.retain_handling (is_subscribed filter old.subscriptions) in
     let e : is_granted code ≡ false = ap is_granted c in
     let nothing : List Call = [] in (
       [],
       ap (λ (o : Open). o.window) same,
-      subst (λ (b : Bool). MatchBool (b && r) (IsQueuedAt filter options identifier now list code []) (nothing ≡ [])) (sym e) refl,
+      subst (λ (b : Bool). MatchBool (b && r) (IsQueuedAt filter subscription now list code []) (nothing ≡ [])) (sym e) refl,
       ap (λ (o : Open). o.subscriptions) same
-          ∙ sym (ap (λ (b : Bool). cond b (finite.insert old.subscriptions filter (record { options = options; identifier = identifier })) old.subscriptions) e),
+          ∙ sym (ap (λ (b : Bool). cond b (finite.insert old.subscriptions filter subscription) old.subscriptions) e),
     )
 
-grants_calls : (now : ℕ) (filters : List Asked) (identifier : Option ℕ) (seen : List Entry) (old : Open) (codes : List ℕ) (answered : List (List Entry)) (list : List Entry) (new : Open)
-    → Grants now filters identifier seen old codes answered list new → (own : List Call) × calls.Run old.window own new.window × AreQueued now filters identifier codes answered old.subscriptions own
-grants_calls now [] identifier seen old codes answered list new (c, a, l, same) = ([], ap (λ (o : Open). o.window) same, (c, a, refl))
-grants_calls now (asked ∷ more) identifier seen old codes answered list new (code, rest, mid, later, between, c, a, begins, granted, grants) =
-    let (own, run, queued, kept) = granted_calls asked.0 asked.1 identifier now mid old code between granted in
-    let (others, runs, are) = grants_calls now more identifier mid between rest later list new grants in (
+grants_calls : (now : ℕ) (filters : List Asked) (identifier : Option ℕ) (from : Point Open) (codes : List ℕ) (answered : List (List Entry)) (to : Point Open)
+    → Grants now filters identifier from codes answered to → (own : List Call) × calls.Run from.state.window own to.state.window × AreQueued now filters identifier codes answered from.state.subscriptions own
+grants_calls now [] identifier from codes answered to (c, a, seen, same) = ([], ap (λ (o : Open). o.window) same, (c, a, refl))
+grants_calls now (asked ∷ more) identifier from codes answered to (code, rest, later, between, c, a, begins, granted, grants) =
+    let (own, run, queued, kept) = granted_calls asked.0 (subscription_for asked identifier) now between.seen from.state code between.state granted in
+    let (others, runs, are) = grants_calls now more identifier between rest later to grants in (
       own ++ others,
-      run_append old.window between.window own others new.window run runs,
-      (code, rest, mid, later, own, others, c, a, refl, queued, subst (λ (there : Subscriptions). AreQueued now more identifier rest later there others) kept are),
+      run_append from.state.window between.state.window own others to.state.window run runs,
+      (code, rest, between.seen, later, own, others, c, a, refl, queued, subst (λ (there : Subscriptions). AreQueued now more identifier rest later there others) kept are),
     )
 
 -- ---- the rows of an open session
@@ -192,56 +192,56 @@ wrong_step ack id old (Some kind) is e =
 same_window : (old new : Open) → new ≡ old → new.window ≡ old.window
 same_window old new e = ap (λ (o : Open). o.window) e
 
-row_calls : (case : OpenCase) (input : Input) (now : ℕ) (old : Open) (mark : Mark) (seen : List Entry) (answered : List (List Entry)) (list : List Entry) (used : Mark) (outcome : Outcome) (new : Open)
-    → OpenRow case input now old mark seen answered list used outcome new → IsLed input now answered old outcome new
-row_calls Connected_twice input now old mark seen answered list used outcome new (c, i, out, unchanged) = closes input _ now answered old outcome _ new i out refl
-row_calls Faulty input now old mark seen answered list used outcome new (f, i, out, unchanged) = closes input _ now answered old outcome _ new i out refl
-row_calls With_alias input now old mark seen answered list used outcome new (p, i, a, out, unchanged) = closes input _ now answered old outcome _ new i out refl
-row_calls Bad_topic input now old mark seen answered list used outcome new (p, f, i, a, t, other, out, unchanged) = closes input _ now answered old outcome _ new i out refl
-row_calls Sent_again input now old mark seen answered list used outcome new (p, i, a, t, held, out, unchanged) =
-    answers input _ now answered old outcome _ new i out (same_window old new unchanged.same) refl (no_publish_by p.qos p.id Success)
-row_calls Too_many_held input now old mark seen answered list used outcome new (p, i, a, t, many, out, unchanged) = closes input _ now answered old outcome _ new i out refl
-row_calls Not_retained input now old mark seen answered list used outcome new (p, topic, i, taken, t, r, out, u, same) =
-    answers input _ now answered old outcome _ new i out (ap (λ (o : Open). o.window) same) refl (no_publish_by p.qos p.id Success)
-row_calls Kept input now old mark seen answered list used outcome new (p, topic, operation, i, s, submitted, out, same) =
-    answers input _ now answered old outcome _ new i out (ap (λ (o : Open). o.window) same) refl (no_publish_by p.qos p.id Success)
-row_calls Topic_unread input now old mark seen answered list used outcome new (p, i, taken, t, out, unchanged) =
-    answers input _ now answered old outcome _ new i out (same_window old new unchanged.same) refl (no_publish_by p.qos p.id QuotaExceeded)
-row_calls Not_kept input now old mark seen answered list used outcome new (p, topic, operation, i, s, out, same) =
-    answers input _ now answered old outcome _ new i out (same_window old new same) refl (no_publish_by p.qos p.id QuotaExceeded)
-row_calls Uncertain input now old mark seen answered list used outcome new (p, topic, operation, i, s, out, same) = closes input _ now answered old outcome _ new i out refl
-row_calls Gate_closed input now old mark seen answered list used outcome new (p, topic, operation, i, s, out, same) = closes input _ now answered old outcome _ new i out refl
-row_calls table.Released input now old mark seen answered list used outcome new (a, i, out, u, same) =
-    answers input _ now answered old outcome _ new i out (ap (λ (o : Open). o.window) same) refl tt
-row_calls Wrong_acknowledgement input now old mark seen answered list used outcome new (p, ack, id, i, is, wrong, out, unchanged) =
-    let led : IsLed (Whole p) now answered old (Closes ProtocolError) new = (
+row_calls : (case : OpenCase) (given : Given) (from : Point Open) (answered : List (List Entry)) (outcome : Outcome) (to : Point Open)
+    → OpenRow case given from answered outcome to → IsLed given.input given.now answered from.state outcome to.state
+row_calls Connected_twice given from answered outcome to (c, i, out, unchanged) = closes given.input _ given.now answered from.state outcome _ to.state i out refl
+row_calls Faulty given from answered outcome to (f, i, out, unchanged) = closes given.input _ given.now answered from.state outcome _ to.state i out refl
+row_calls With_alias given from answered outcome to (p, i, a, out, unchanged) = closes given.input _ given.now answered from.state outcome _ to.state i out refl
+row_calls Bad_topic given from answered outcome to (p, f, i, a, t, other, out, unchanged) = closes given.input _ given.now answered from.state outcome _ to.state i out refl
+row_calls Sent_again given from answered outcome to (p, i, a, t, held, out, unchanged) =
+    answers given.input _ given.now answered from.state outcome _ to.state i out (same_window from.state to.state unchanged.same) refl (no_publish_by p.qos p.id Success)
+row_calls Too_many_held given from answered outcome to (p, i, a, t, many, out, unchanged) = closes given.input _ given.now answered from.state outcome _ to.state i out refl
+row_calls Not_retained given from answered outcome to (p, topic, i, taken, t, r, out, u, same) =
+    answers given.input _ given.now answered from.state outcome _ to.state i out (ap (λ (o : Open). o.window) same) refl (no_publish_by p.qos p.id Success)
+row_calls Kept given from answered outcome to (p, topic, operation, i, s, submitted, out, same) =
+    answers given.input _ given.now answered from.state outcome _ to.state i out (ap (λ (o : Open). o.window) same) refl (no_publish_by p.qos p.id Success)
+row_calls Topic_unread given from answered outcome to (p, i, taken, t, out, unchanged) =
+    answers given.input _ given.now answered from.state outcome _ to.state i out (same_window from.state to.state unchanged.same) refl (no_publish_by p.qos p.id QuotaExceeded)
+row_calls Not_kept given from answered outcome to (p, topic, operation, i, s, out, same) =
+    answers given.input _ given.now answered from.state outcome _ to.state i out (same_window from.state to.state same) refl (no_publish_by p.qos p.id QuotaExceeded)
+row_calls Uncertain given from answered outcome to (p, topic, operation, i, s, out, same) = closes given.input _ given.now answered from.state outcome _ to.state i out refl
+row_calls Gate_closed given from answered outcome to (p, topic, operation, i, s, out, same) = closes given.input _ given.now answered from.state outcome _ to.state i out refl
+row_calls table.Released given from answered outcome to (a, i, out, u, same) =
+    answers given.input _ given.now answered from.state outcome _ to.state i out (ap (λ (o : Open). o.window) same) refl tt
+row_calls Wrong_acknowledgement given from answered outcome to (p, ack, id, i, is, wrong, out, unchanged) =
+    let led : IsLed (Whole p) given.now answered from.state (Closes ProtocolError) to.state = (
       Acknowledge ack id (Err WrongKind) ∷ [],
-      (old.window, (sym wrong, wrong_step ack id old.window (finite.get old.window.kinds id) refl wrong), refl),
+      (from.state.window, (sym wrong, wrong_step ack id from.state.window (finite.get from.state.window.kinds id) refl wrong), refl),
       subst (λ (a : Option (window.Acknowledgement × ℕ)). IsRefused a (Acknowledge ack id (Err WrongKind) ∷ [])) (sym is) refl,
     ) in
-    subst (λ (read : Input). IsLed read now answered old outcome new) (sym i) (subst (λ (o : Outcome). IsLed (Whole p) now answered old o new) (sym out) led)
-row_calls Acknowledged input now old mark seen answered list used outcome new (p, ack, id, answer, i, is, step, out, u, same) =
-    let led : IsLed (Whole p) now answered old (Replies (released_by ack id answer)) new = (
+    subst (λ (read : Input). IsLed read given.now answered from.state outcome to.state) (sym i) (subst (λ (o : Outcome). IsLed (Whole p) given.now answered from.state o to.state) (sym out) led)
+row_calls Acknowledged given from answered outcome to (p, ack, id, answer, i, is, step, out, u, same) =
+    let led : IsLed (Whole p) given.now answered from.state (Replies (released_by ack id answer)) to.state = (
       Acknowledge ack id (Ok answer) ∷ [],
-      (new.window, step, refl),
-      acknowledging p now answered old.subscriptions (released_by ack id answer) ack id answer is,
+      (to.state.window, step, refl),
+      acknowledging p given.now answered from.state.subscriptions (released_by ack id answer) ack id answer is,
       no_publish_released ack id answer,
     ) in
-    subst (λ (read : Input). IsLed read now answered old outcome new) (sym i) (subst (λ (o : Outcome). IsLed (Whole p) now answered old o new) (sym out) led)
-row_calls Shared_no_local input now old mark seen answered list used outcome new (s, i, n, out, unchanged) = closes input _ now answered old outcome _ new i out refl
-row_calls Not_subscribed input now old mark seen answered list used outcome new (s, i, n, out, unchanged) = closes input _ now answered old outcome _ new i out refl
-row_calls Subscribed input now old mark seen answered list used outcome new (s, codes, i, n, grants, out, u) =
-    let (own, run, queued) = grants_calls now s.filters s.subscription seen old codes answered list new grants in
-    let led : IsLed (Whole (packet.Subscribe s)) now answered old (Replies (Some (reply.Suback (record { id = s.id; codes = codes })))) new = (own, run, (codes, refl, queued), tt) in
-    subst (λ (read : Input). IsLed read now answered old outcome new) (sym i) (subst (λ (o : Outcome). IsLed (Whole (packet.Subscribe s)) now answered old o new) (sym out) led)
-row_calls Not_unsubscribed input now old mark seen answered list used outcome new (u, i, out, unchanged) = closes input _ now answered old outcome _ new i out refl
-row_calls Unsubscribed input now old mark seen answered list used outcome new (u, i, out, m, same) =
-    answers input _ now answered old outcome _ new i out (ap (λ (o : Open). o.window) same) refl tt
-row_calls Pinged input now old mark seen answered list used outcome new (i, out, unchanged) =
-    answers input _ now answered old outcome _ new i out (same_window old new unchanged.same) refl tt
-row_calls Disconnected input now old mark seen answered list used outcome new (code, i, out, unchanged) =
-    let led : IsLed (Whole (packet.Disconnect code)) now answered old Leaves new = ([], refl, refl) in
-    subst (λ (read : Input). IsLed read now answered old outcome new) (sym i) (subst (λ (o : Outcome). IsLed (Whole (packet.Disconnect code)) now answered old o new) (sym out) led)
+    subst (λ (read : Input). IsLed read given.now answered from.state outcome to.state) (sym i) (subst (λ (o : Outcome). IsLed (Whole p) given.now answered from.state o to.state) (sym out) led)
+row_calls Shared_no_local given from answered outcome to (s, i, n, out, unchanged) = closes given.input _ given.now answered from.state outcome _ to.state i out refl
+row_calls Not_subscribed given from answered outcome to (s, i, n, out, unchanged) = closes given.input _ given.now answered from.state outcome _ to.state i out refl
+row_calls Subscribed given from answered outcome to (s, codes, i, n, grants, out, u) =
+    let (own, run, queued) = grants_calls given.now s.filters s.subscription from codes answered to grants in
+    let led : IsLed (Whole (packet.Subscribe s)) given.now answered from.state (Replies (Some (reply.Suback (record { id = s.id; codes = codes })))) to.state = (own, run, (codes, refl, queued), tt) in
+    subst (λ (read : Input). IsLed read given.now answered from.state outcome to.state) (sym i) (subst (λ (o : Outcome). IsLed (Whole (packet.Subscribe s)) given.now answered from.state o to.state) (sym out) led)
+row_calls Not_unsubscribed given from answered outcome to (u, i, out, unchanged) = closes given.input _ given.now answered from.state outcome _ to.state i out refl
+row_calls Unsubscribed given from answered outcome to (u, i, out, m, same) =
+    answers given.input _ given.now answered from.state outcome _ to.state i out (ap (λ (o : Open). o.window) same) refl tt
+row_calls Pinged given from answered outcome to (i, out, unchanged) =
+    answers given.input _ given.now answered from.state outcome _ to.state i out (same_window from.state to.state unchanged.same) refl tt
+row_calls Disconnected given from answered outcome to (code, i, out, unchanged) =
+    let led : IsLed (Whole (packet.Disconnect code)) given.now answered from.state Leaves to.state = ([], refl, refl) in
+    subst (λ (read : Input). IsLed read given.now answered from.state outcome to.state) (sym i) (subst (λ (o : Outcome). IsLed (Whole (packet.Disconnect code)) given.now answered from.state o to.state) (sym out) led)
 
 -- ---- the replies
 
@@ -317,12 +317,12 @@ none_within : (b : Bool) (code : ℕ) → publications (listed (cond b (Some (re
 none_within true code = refl
 none_within false code = refl
 
-led_made : (turn : Turn) (o left : Open) (outcome : Outcome) (old mid : State) (due : Option Reply) → IsLed turn.input turn.now turn.answered o outcome left → due ≡ due_for o.window.packet_maximum outcome
-    → mid ≡ state_after outcome old left → GivesAll turn.now due mid turn.replies turn.to.state → IsMadeTo o turn turn.to.state.phase
+led_made : (turn : Turn) (o left : Open) (outcome : Outcome) (old mid : State) (due : Option Reply) → IsLed turn.given.input turn.given.now turn.answered o outcome left → due ≡ due_for o.window.packet_maximum outcome
+    → mid ≡ state_after outcome old left → GivesAll turn.given.now due mid turn.replies turn.to.state → IsMadeTo o turn turn.to.state.phase
 led_made turn o left (Replies answer) old mid due (own, run, called, no_publish) d same g =
-    let (given, n, is, runs, whole) = given_calls turn.now due mid left turn.replies g.left g.last turn.to.state (ap (λ (s : State). s.phase) same) g.given g.none_left in
-    let all : calls.Run o.window (own ++ giving turn.now given) n.window = run_append o.window left.window own (giving turn.now given) n.window run runs in
-    let served : IsServed o.subscriptions n.window.packet_maximum turn (own ++ giving turn.now given) = record {
+    let (given, n, is, runs, whole) = given_calls turn.given.now due mid left turn.replies g.left g.last turn.to.state (ap (λ (s : State). s.phase) same) g.given g.none_left in
+    let all : calls.Run o.window (own ++ giving turn.given.now given) n.window = run_append o.window left.window own (giving turn.given.now given) n.window run runs in
+    let served : IsServed o.subscriptions n.window.packet_maximum turn (own ++ giving turn.given.now given) = record {
       answer = answer;
       own = own;
       given = given;
@@ -330,18 +330,18 @@ led_made turn o left (Replies answer) old mid due (own, run, called, no_publish)
       no_publish = no_publish;
       whole = refl;
       replies = whole ∙ ap (λ (r : Option Reply). listed r ++ map reply_of given) d
-          ∙ ap (λ (limit : ℕ). listed (due_for limit (Replies answer)) ++ map reply_of given) (sym (run_limit o.window (own ++ giving turn.now given) n.window all));
+          ∙ ap (λ (limit : ℕ). listed (due_for limit (Replies answer)) ++ map reply_of given) (sym (run_limit o.window (own ++ giving turn.given.now given) n.window all));
     } in
-    subst (λ (p : Phase). IsMadeTo o turn p) (sym is) (own ++ giving turn.now given, all, served)
+    subst (λ (p : Phase). IsMadeTo o turn p) (sym is) (own ++ giving turn.given.now given, all, served)
 led_made turn o left (Closes code) old mid due (own, run, refused) d same g =
-    let (is, whole) = left_replies turn.now due mid (ByServer (code_of code)) turn.replies g.left g.last turn.to.state (ap (λ (s : State). s.phase) same) g.given g.none_left in
+    let (is, whole) = left_replies turn.given.now due mid (ByServer (code_of code)) turn.replies g.left g.last turn.to.state (ap (λ (s : State). s.phase) same) g.given g.none_left in
     let last : IsLast turn own = record {
       refused = refused;
       none_given = ap publications whole ∙ ap (λ (r : Option Reply). publications (listed r)) d ∙ none_within (leb (length (reply_bytes (reply.Disconnect (code_of code)))) o.window.packet_maximum) (code_of code);
     } in
     subst (λ (p : Phase). IsMadeTo o turn p) (sym is) (own, run, last)
 led_made turn o left Leaves old mid due (own, run, refused) d same g =
-    let (is, whole) = left_replies turn.now due mid ByClient turn.replies g.left g.last turn.to.state (ap (λ (s : State). s.phase) same) g.given g.none_left in
+    let (is, whole) = left_replies turn.given.now due mid ByClient turn.replies g.left g.last turn.to.state (ap (λ (s : State). s.phase) same) g.given g.none_left in
     let last : IsLast turn own = record { refused = refused; none_given = ap publications whole ∙ ap (λ (r : Option Reply). publications (listed r)) d } in
     subst (λ (p : Phase). IsMadeTo o turn p) (sym is) (own, run, last)
 
@@ -353,8 +353,8 @@ IsMade w from turn =
 pub shut : {A : Type 0} (a b : Phase) → a ≡ b → IsOpen a → (IsOpen b → ⊥) → A
 shut a b e h closed = absurd (closed (subst IsOpen e h))
 
-open_made : (w : window_state.State) (from : Point) (turn : Turn) (case : Case) (due : Option Reply) (mid : State) → IsOpen from.state.phase
-    → SessionRow case turn.input turn.now from.state from.mark from.seen turn.answered turn.to.seen turn.to.mark due mid → GivesAll turn.now due mid turn.replies turn.to.state → IsMade w from.state.phase turn
+open_made : (w : window_state.State) (from : Point State) (turn : Turn) (case : Case) (due : Option Reply) (mid : State) → IsOpen from.state.phase
+    → SessionRow case turn.given from turn.answered due (with_state turn.to mid) → GivesAll turn.given.now due mid turn.replies turn.to.state → IsMade w from.state.phase turn
 open_made w from turn With_method due mid h (c, i, before, m, refused) g = shut from.state.phase phase.Before before h (λ n. n)
 open_made w from turn With_will due mid h (c, i, before, m, k, refused) g = shut from.state.phase phase.Before before h (λ n. n)
 open_made w from turn Connect_refused due mid h (c, i, before, m, k, refused) g = shut from.state.phase phase.Before before h (λ n. n)
@@ -363,24 +363,24 @@ open_made w from turn Connack_too_long due mid h (c, i, before, m, k, long, u, d
 open_made w from turn Other_version due mid h (i, before, u, d, same) g = shut from.state.phase phase.Before before h (λ n. n)
 open_made w from turn Unexpected due mid h (i, before, u, d, same) g = shut from.state.phase phase.Before before h (λ n. n)
 open_made w from turn In_session due mid h (o, left, outcome, is, (case, a, row), d, same) g =
-    let led : IsLed turn.input turn.now turn.answered o outcome left = row_calls case turn.input turn.now o from.mark from.seen turn.answered turn.to.seen turn.to.mark outcome left row in
+    let led : IsLed turn.given.input turn.given.now turn.answered o outcome left = row_calls case turn.given (with_state from o) turn.answered outcome (with_state turn.to left) row in
     subst (λ (p : Phase). IsMade w p turn) (sym is) (led_made turn o left outcome from.state mid due led d same g)
 open_made w from turn Over due mid h (closing, is, u, d, same) g = shut from.state.phase (phase.Ended closing) is h (λ n. n)
 
--- the first turn, where it opens the session
+-- the first turn, if it opens the session
 abbrev connect_in : Connect → Input → Connect
 connect_in other (Whole (packet.Connect c)) = c
 connect_in other input = other
 
-ended_first : {A : Type 0} (turn : Turn) (due : Option Reply) (mid : State) (closing : Closing) → mid.phase ≡ phase.Ended closing → GivesAll turn.now due mid turn.replies turn.to.state → IsOpen turn.to.state.phase → A
+ended_first : {A : Type 0} (turn : Turn) (due : Option Reply) (mid : State) (closing : Closing) → mid.phase ≡ phase.Ended closing → GivesAll turn.given.now due mid turn.replies turn.to.state → IsOpen turn.to.state.phase → A
 ended_first turn due mid closing is g h =
-    shut turn.to.state.phase (phase.Ended closing) (left_replies turn.now due mid closing turn.replies g.left g.last turn.to.state is g.given g.none_left).0 h (λ n. n)
+    shut turn.to.state.phase (phase.Ended closing) (left_replies turn.given.now due mid closing turn.replies g.left g.last turn.to.state is g.given g.none_left).0 h (λ n. n)
 
 pub phase_of : (a b : State) → a ≡ b → a.phase ≡ b.phase
 phase_of a b e = ap (λ (s : State). s.phase) e
 
-first_made : (from : Point) (turn : Turn) (c : Connect) (case : Case) (due : Option Reply) (mid : State) → from.state.phase ≡ phase.Before → turn.input ≡ Whole (packet.Connect c) → IsOpen turn.to.state.phase
-    → SessionRow case turn.input turn.now from.state from.mark from.seen turn.answered turn.to.seen turn.to.mark due mid → GivesAll turn.now due mid turn.replies turn.to.state
+first_made : (from : Point State) (turn : Turn) (c : Connect) (case : Case) (due : Option Reply) (mid : State) → from.state.phase ≡ phase.Before → turn.given.input ≡ Whole (packet.Connect c) → IsOpen turn.to.state.phase
+    → SessionRow case turn.given from turn.answered due (with_state turn.to mid) → GivesAll turn.given.now due mid turn.replies turn.to.state
     → IsMadeTo (open_for c) turn turn.to.state.phase
 first_made from turn c With_method due mid begun is h (d, i, before, m, refused) g = ended_first turn due mid (ByServer (code_of BadAuthenticationMethod)) (phase_of mid _ refused.end) g h
 first_made from turn c With_will due mid begun is h (d, i, before, m, k, refused) g = ended_first turn due mid (ByServer (code_of ImplementationSpecificError)) (phase_of mid _ refused.end) g h
@@ -389,8 +389,8 @@ first_made from turn c Accepted due mid begun is h (d, i, before, m, k, short, u
     let o : Open = open_for d in
     let answer : Reply = connack d from.state in
     let sent : due ≡ due_for o.window.packet_maximum (Replies (Some answer)) = e ∙ sym (ap (λ (b : Bool). cond b (Some answer) None) (le-leb (length (reply_bytes answer)) o.window.packet_maximum short)) in
-    let led : IsLed turn.input turn.now turn.answered o (Replies (Some answer)) o =
-    answers turn.input (Whole (packet.Connect d)) turn.now turn.answered o (Replies (Some answer)) (Some answer) o i refl refl refl tt in
+    let led : IsLed turn.given.input turn.given.now turn.answered o (Replies (Some answer)) o =
+    answers turn.given.input (Whole (packet.Connect d)) turn.given.now turn.answered o (Replies (Some answer)) (Some answer) o i refl refl refl tt in
     subst (λ (x : Connect). IsMadeTo (open_for x) turn turn.to.state.phase) (ap (connect_in c) (sym i ∙ is)) (led_made turn o o (Replies (Some answer)) from.state mid due led sent same g)
 first_made from turn c Connack_too_long due mid begun is h (d, i, before, m, k, long, u, e, same) g = ended_first turn due mid (ByServer (code_of Success)) (phase_of mid _ same) g h
 first_made from turn c Other_version due mid begun is h (i, before, u, e, same) g = ended_first turn due mid (ByServer (code_of UnsupportedProtocolVersion)) (phase_of mid _ same) g h
@@ -415,7 +415,7 @@ has_begun there turn phase.Before made h = h
 has_begun there turn (phase.Open o) made h = tt
 has_begun there turn (phase.Ended closing) made h = tt
 
-turns_made : (w : window_state.State) (from to : Point) (turns : List Turn) → Run from turns to → HasBegun from.state.phase
+turns_made : (w : window_state.State) (from to : Point State) (turns : List Turn) → Run from turns to → HasBegun from.state.phase
     → (made : List Call) × calls.Run (window_of w from.state.phase) made (window_after (window_of w from.state.phase) turns) × AreCalls from.state.phase turns made
 turns_made w from to [] e h = ([], refl, refl)
 turns_made w from to (turn ∷ turns) (t, rest) h =
@@ -427,7 +427,7 @@ turns_made w from to (turn ∷ turns) (t, rest) h =
       (own, more, refl, made, are),
     )
 
-pub run_replays : (assigned : List ℕ) (from to : Point) (turns : List Turn) (c : Connect) → from.state ≡ fresh assigned → Run from turns to → Opens c turns → IsReplaying c turns
+pub run_replays : (assigned : List ℕ) (from to : Point State) (turns : List Turn) (c : Connect) → from.state ≡ fresh assigned → Run from turns to → Opens c turns → IsReplaying c turns
 run_replays assigned from to [] c begun run opens = absurd opens
 run_replays assigned from to (turn ∷ turns) c begun (t, rest) (is, h) =
     let (own, run, made) = first_made from turn c t.case t.due t.mid (phase_of from.state (fresh assigned) begun) is h t.row.1 t.all_given in
@@ -457,23 +457,23 @@ gives_none_append (Acknowledge ack id answer ∷ before) after h g = gives_none_
 same_gives_none : (a b : List Call) → a ≡ b → GivesNone b → GivesNone a
 same_gives_none a b e h = subst GivesNone (sym e) h
 
-queued_gives_none : (replayed : Bool) (filter : List ℕ) (options : Options) (identifier : Option ℕ) (now : ℕ) (list : List Entry) (code : ℕ) (own : List Call)
-    → MatchBool replayed (IsQueuedAt filter options identifier now list code own) (own ≡ []) → GivesNone own
-queued_gives_none true filter options identifier now list code own (found, answer, c, e) = same_gives_none own (Queue found options.qos identifier (Ok tt) ∷ []) e tt
-queued_gives_none false filter options identifier now list code own e = same_gives_none own [] e tt
+queued_gives_none : (replayed : Bool) (filter : List ℕ) (subscription : Subscription) (now : ℕ) (list : List Entry) (code : ℕ) (own : List Call)
+    → MatchBool replayed (IsQueuedAt filter subscription now list code own) (own ≡ []) → GivesNone own
+queued_gives_none true filter subscription now list code own (found, answer, c, e) = same_gives_none own (Queue found subscription.options.qos subscription.identifier (Ok tt) ∷ []) e tt
+queued_gives_none false filter subscription now list code own e = same_gives_none own [] e tt
 
-filter_gives_none : (asked : Filter) (options : Options) (identifier : Option ℕ) (now : ℕ) (list : List Entry) (code : ℕ) (there : Subscriptions) (own : List Call)
-    → IsQueuedFor asked options identifier now list code there own → GivesNone own
-filter_gives_none (Err fault) options identifier now list code there own e = same_gives_none own [] e tt
-filter_gives_none (Ok filter) options identifier now list code there own h =
-    queued_gives_none (is_granted code && replays options.retain_handling (is_subscribed filter there)) filter options identifier now list code own h
+filter_gives_none : (asked : Filter) (subscription : Subscription) (now : ℕ) (list : List Entry) (code : ℕ) (there : Subscriptions) (own : List Call)
+    → IsQueuedFor asked subscription now list code there own → GivesNone own
+filter_gives_none (Err fault) subscription now list code there own e = same_gives_none own [] e tt
+filter_gives_none (Ok filter) subscription now list code there own h =
+    queued_gives_none (is_granted code && replays subscription.options.retain_handling (is_subscribed filter there)) filter subscription now list code own h
 
 filters_give_none : (now : ℕ) (filters : List Asked) (identifier : Option ℕ) (codes : List ℕ) (answered : List (List Entry)) (there : Subscriptions) (own : List Call) → AreQueued now filters identifier codes answered there own
     → GivesNone own
 filters_give_none now [] identifier codes answered there own (c, a, e) = same_gives_none own [] e tt
 filters_give_none now (asked ∷ more) identifier codes answered there own (code, rest, list, later, first, others, c, a, e, queued, are) =
-    same_gives_none own (first ++ others) e (gives_none_append first others (filter_gives_none asked.0 asked.1 identifier now list code there first queued)
-    (filters_give_none now more identifier rest later (subscribed_by asked.0 asked.1 identifier code there) others are))
+    same_gives_none own (first ++ others) e (gives_none_append first others (filter_gives_none asked.0 (subscription_for asked identifier) now list code there first queued)
+    (filters_give_none now more identifier rest later (subscribed_by asked.0 (subscription_for asked identifier) code there) others are))
 
 acknowledged_gives_none : (a : Option (window.Acknowledgement × ℕ)) (own : List Call) → IsAcknowledged a own → GivesNone own
 acknowledged_gives_none None own e = same_gives_none own [] e tt
@@ -531,17 +531,17 @@ answer_first limit (Some r) rs h = by_case (leb (length (reply_bytes r)) limit)
     by_case false = refl
 
 turn_sends : (packet_maximum : ℕ) (there : Subscriptions) (turn : Turn) (to : Phase) (made rest : List Call) (front : List Waiting) → AreMade there turn to made → calls.HasLeft packet_maximum (made ++ rest) front
-    → (gone : List Waiting) × (more : List Waiting) × (front ≡ gone ++ more) × AreSentOrDropped packet_maximum turn.now gone (publications turn.replies) × calls.HasLeft packet_maximum rest more
+    → (gone : List Waiting) × (more : List Waiting) × (front ≡ gone ++ more) × AreSentOrDropped packet_maximum turn.given.now gone (publications turn.replies) × calls.HasLeft packet_maximum rest more
 turn_sends packet_maximum there turn phase.Before made rest front h is = absurd h
 turn_sends packet_maximum there turn (phase.Open o) made rest front s is =
-    let apart : calls.HasLeft packet_maximum (s.own ++ (giving turn.now s.given ++ rest)) front =
-    subst (λ (cs : List Call). calls.HasLeft packet_maximum cs front) (ap (λ (cs : List Call). cs ++ rest) s.whole ∙ append_assoc s.own (giving turn.now s.given) rest) is in
-    let (gone, more, e, sent, fronts) = front_given packet_maximum turn.now s.given rest front
-    (front_after packet_maximum s.own (giving turn.now s.given ++ rest) front (called_gives_none turn.input turn.now turn.answered there s.answer s.own s.called) apart) in
+    let apart : calls.HasLeft packet_maximum (s.own ++ (giving turn.given.now s.given ++ rest)) front =
+    subst (λ (cs : List Call). calls.HasLeft packet_maximum cs front) (ap (λ (cs : List Call). cs ++ rest) s.whole ∙ append_assoc s.own (giving turn.given.now s.given) rest) is in
+    let (gone, more, e, sent, fronts) = front_given packet_maximum turn.given.now s.given rest front
+    (front_after packet_maximum s.own (giving turn.given.now s.given ++ rest) front (called_gives_none turn.given.input turn.given.now turn.answered there s.answer s.own s.called) apart) in
     let replied : publications turn.replies ≡ map publication_of s.given = ap publications s.replies ∙ answer_first o.window.packet_maximum s.answer (map reply_of s.given) s.no_publish ∙ published s.given in
-    (gone, more, e, subst (λ (ps : List Publication). AreSentOrDropped packet_maximum turn.now gone ps) (sym replied) sent, fronts)
+    (gone, more, e, subst (λ (ps : List Publication). AreSentOrDropped packet_maximum turn.given.now gone ps) (sym replied) sent, fronts)
 turn_sends packet_maximum there turn (phase.Ended closing) made rest front last is =
-    ([], front, refl, last.none_given, front_after packet_maximum made rest front (refused_gives_none (acknowledgement_in turn.input) made last.refused) is)
+    ([], front, refl, last.none_given, front_after packet_maximum made rest front (refused_gives_none (acknowledgement_in turn.given.input) made last.refused) is)
 
 turns_send : (packet_maximum : ℕ) (from : Phase) (turns : List Turn) (made : List Call) (front : List Waiting) → AreCalls from turns made → calls.HasLeft packet_maximum made front → AreSent packet_maximum turns front
 turns_send packet_maximum from [] made front e is = subst (λ (cs : List Call). calls.HasLeft packet_maximum cs front) e is
@@ -582,18 +582,18 @@ replay_sends c turns r =
 abbrev OpensOrEnds : Turn → Type 0
 OpensOrEnds turn = ((c : Connect) × Opens c (turn ∷ [])) ⊎ ((closing : Closing) × (turn.to.state.phase ≡ phase.Ended closing))
 
-ends_first : (turn : Turn) (due : Option Reply) (mid : State) (closing : Closing) → mid.phase ≡ phase.Ended closing → GivesAll turn.now due mid turn.replies turn.to.state → OpensOrEnds turn
-ends_first turn due mid closing is g = inr (closing, (left_replies turn.now due mid closing turn.replies g.left g.last turn.to.state is g.given g.none_left).0)
+ends_first : (turn : Turn) (due : Option Reply) (mid : State) (closing : Closing) → mid.phase ≡ phase.Ended closing → GivesAll turn.given.now due mid turn.replies turn.to.state → OpensOrEnds turn
+ends_first turn due mid closing is g = inr (closing, (left_replies turn.given.now due mid closing turn.replies g.left g.last turn.to.state is g.given g.none_left).0)
 
 -- the first turn opens it by a CONNECT, or it ends
-first_to : (from : Point) (turn : Turn) (case : Case) (due : Option Reply) (mid : State) → from.state.phase ≡ phase.Before
-    → SessionRow case turn.input turn.now from.state from.mark from.seen turn.answered turn.to.seen turn.to.mark due mid → GivesAll turn.now due mid turn.replies turn.to.state
+first_to : (from : Point State) (turn : Turn) (case : Case) (due : Option Reply) (mid : State) → from.state.phase ≡ phase.Before
+    → SessionRow case turn.given from turn.answered due (with_state turn.to mid) → GivesAll turn.given.now due mid turn.replies turn.to.state
     → OpensOrEnds turn
 first_to from turn With_method due mid begun (d, i, before, m, refused) g = ends_first turn due mid (ByServer (code_of BadAuthenticationMethod)) (phase_of mid _ refused.end) g
 first_to from turn With_will due mid begun (d, i, before, m, k, refused) g = ends_first turn due mid (ByServer (code_of ImplementationSpecificError)) (phase_of mid _ refused.end) g
 first_to from turn Connect_refused due mid begun (d, i, before, m, k, refused) g = ends_first turn due mid (ByServer (code_of QuotaExceeded)) (phase_of mid _ refused.end) g
 first_to from turn Accepted due mid begun (d, i, before, m, k, short, u, e, same) g =
-    let (given, n, is, run, whole) = given_calls turn.now due mid (open_for d) turn.replies g.left g.last turn.to.state (phase_of mid _ same) g.given g.none_left in
+    let (given, n, is, run, whole) = given_calls turn.given.now due mid (open_for d) turn.replies g.left g.last turn.to.state (phase_of mid _ same) g.given g.none_left in
     inl (d, (i, subst IsOpen (sym is) tt))
 first_to from turn Connack_too_long due mid begun (d, i, before, m, k, long, u, e, same) g = ends_first turn due mid (ByServer (code_of Success)) (phase_of mid _ same) g
 first_to from turn Other_version due mid begun (i, before, u, e, same) g = ends_first turn due mid (ByServer (code_of UnsupportedProtocolVersion)) (phase_of mid _ same) g
@@ -602,13 +602,13 @@ first_to from turn In_session due mid begun (o, left, outcome, at, row, e, same)
 first_to from turn Over due mid begun (closing, at, u, e, same) g = ends_first turn due mid closing (phase_of mid from.state same ∙ at) g
 
 -- nothing follows the end
-none_follow : {A : Type 0} (from : Point) (turn : Turn) (closing : Closing) → from.state.phase ≡ phase.Ended closing → IsTurn from turn → A
+none_follow : {A : Type 0} (from : Point State) (turn : Turn) (closing : Closing) → from.state.phase ≡ phase.Ended closing → IsTurn from turn → A
 none_follow from turn closing is t = absurd (none-some closing (sym t.goes_on ∙ ap closing_of is))
 
-first_opens : (assigned : List ℕ) (from : Point) (turn : Turn) → from.state ≡ fresh assigned → IsTurn from turn → OpensOrEnds turn
+first_opens : (assigned : List ℕ) (from : Point State) (turn : Turn) → from.state ≡ fresh assigned → IsTurn from turn → OpensOrEnds turn
 first_opens assigned from turn begun t = first_to from turn t.case t.due t.mid (phase_of from.state (fresh assigned) begun) t.row.1 t.all_given
 
-pub run_opens : (assigned : List ℕ) (from to : Point) (before : List Turn) (turn : Turn) (after : List Turn) → from.state ≡ fresh assigned → Run from (before ++ turn ∷ after) to → IsOpen turn.to.state.phase
+pub run_opens : (assigned : List ℕ) (from to : Point State) (before : List Turn) (turn : Turn) (after : List Turn) → from.state ≡ fresh assigned → Run from (before ++ turn ∷ after) to → IsOpen turn.to.state.phase
     → (c : Connect) × Opens c (before ++ turn ∷ after)
 run_opens assigned from to [] turn after begun (t, rest) h = by_case (first_opens assigned from turn begun t)
   where

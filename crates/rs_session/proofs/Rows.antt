@@ -36,13 +36,13 @@ use Rattle.rs_session.specs.declared.open.Outcome.TheVariants.{Replies, Closes, 
 use Rattle.rs_session.specs.declared.phase.Closing.{Closing}
 use Rattle.rs_session.specs.declared.phase.Closing.TheVariants.{ByClient, ByServer, Dropped}
 use Rattle.rs_session.specs.declared.phase.Phase.TheVariants as phase
-use Rattle.rs_session.specs.declared.phase.Input.{Input}
 use Rattle.rs_session.specs.declared.phase.Input.TheVariants.{Whole, Broken}
 use Rattle.rs_session.specs.Gate.{Mark, Extends, Grows, GrowsAnswering, StandsAt, Uses, IsHandedOver}
+use Rattle.rs_session.specs.Points.{Given, Point, given_at, point_at, with_state}
 use Rattle.rs_session.specs.Reasons.{code_of}
 use Rattle.rs_session.specs.declared.reason.ReasonCode.{ReasonCode}
 use Rattle.rs_session.specs.declared.reason.ReasonCode.TheVariants.{Success, UnsupportedProtocolVersion, ImplementationSpecificError, BadAuthenticationMethod, QuotaExceeded, ProtocolError, PacketIdentifierNotFound}
-use Rattle.rs_session.specs.State.{State, opened, ended, within, state_of, due_of, gate_of, IsGiven, IsReplayed}
+use Rattle.rs_session.specs.State.{State, session_at, opened, ended, within, state_of, due_of, gate_of, IsGiven, IsReplayed}
 use Rattle.rs_session.specs.declared.session.Session.{Session}
 use Rattle.rs_session.specs.declared.phase.Phase.{Phase}
 use Rattle.rs_window.specs.Packets.{reply_of}
@@ -51,12 +51,12 @@ use Rattle.rs_session.specs.Subscriptions.{Subscriptions, is_subscribed}
 use Rattle.rs_session.specs.declared.subscriptions.Subscription.{Subscription}
 use Rattle.rs_session.proofs.SubscriptionLemmas.{remove_inserted, get_absent}
 use Rattle.rs_session.specs.Steps.{IsAccepted, connect_refusal, outcome_before, outcome_of_alias, outcome_of_topic, outcome_of_id, topic_refusal, IsSettled}
-use Rattle.rs_session.specs.Table.{Answers, LeadsTo, IsNeitherConnectNorVersion, fault_reason, packet_limit, connack, open_for, change, topic_reason, acknowledged_by, held_id, is_held, is_one_too_many, holding, IsTaken, IsTopicOrUnread, IsHanded, acknowledgement_of, released_by, released_reason, is_shared_local, Grants, IsGranted, removal_reason, removal_codes, without, without_all, due_for, state_after, With_method, With_will, Connect_refused, Accepted, Connack_too_long, Other_version, Unexpected, In_session, Over, Faulty, With_alias, Bad_topic, Sent_again, Too_many_held, Not_retained, Kept, Topic_unread, Not_kept, Uncertain, Gate_closed, Released, Wrong_acknowledgement, Acknowledged, Shared_no_local, Not_subscribed, Subscribed, Not_unsubscribed, Unsubscribed, Connected_twice, Pinged, Disconnected}
+use Rattle.rs_session.specs.Table.{Answers, AnswersWithoutGate, LeadsTo, IsNeitherConnectNorVersion, fault_reason, packet_limit, connack, open_for, change, topic_reason, acknowledged_by, held_id, is_held, is_one_too_many, holding, IsTaken, IsTopicOrUnread, IsHanded, acknowledgement_of, released_by, released_reason, is_shared_local, Grants, IsGranted, removal_reason, removal_codes, without, without_all, due_for, state_after, With_method, With_will, Connect_refused, Accepted, Connack_too_long, Other_version, Unexpected, In_session, Over, Faulty, With_alias, Bad_topic, Sent_again, Too_many_held, Not_retained, Kept, Topic_unread, Not_kept, Uncertain, Gate_closed, Released, Wrong_acknowledgement, Acknowledged, Shared_no_local, Not_subscribed, Subscribed, Not_unsubscribed, Unsubscribed, Connected_twice, Pinged, Disconnected}
 
 pub Grows-weaker : (before after : List Entry → Type 0) (P Q : List Entry → List Entry → Type 0) → ((seen list : List Entry) → P seen list → Q seen list) → Grows before after P → Grows before after Q
 Grows-weaker before after P Q f h = λ seen s. let (list, stands, begins, p) = h seen s in (list, stands, begins, f seen list p)
 
--- where no filter is answered
+-- if no filter is answered
 none_answered : {G : Type 0} (stands : G → List Entry → Type 0) (mark : G → Mark) (old new : G) (P : List Entry → List (List Entry) → List Entry → Type 0)
     → Grows (stands old) (stands new) (λ seen list. P seen [] list) → GrowsAnswering stands mark old new P
 none_answered stands mark old new P h = Grows-weaker (stands old) (stands new) (λ seen list. P seen [] list) _ (λ seen list p. ([], All-nil (StandsAt stands mark (mark new)), p)) h
@@ -71,27 +71,27 @@ unmoved {G} stands mark old new P e h =
 -- ---- before an accepted CONNECT
 
 pub unexpected : (p is : Packet) (old new : State) (due : Option Reply) → p ≡ is → IsNeitherConnectNorVersion (Whole is) → old.phase ≡ phase.Before → due ≡ None → new ≡ ended old Dropped
-    → (now : ℕ) (mark : Mark) (list : List Entry) → Answers (Whole p) now old mark list [] list mark due new
+    → AnswersWithoutGate (Whole p) old due new
 unexpected p is old new due e greets before none end = λ now mark list.
     (Unexpected, (refl, (subst (λ (x : Packet). IsNeitherConnectNorVersion (Whole x)) (sym e) greets, before, refl, none, end)))
 
 pub unexpected_fault : (f is : PacketFault) (old new : State) (due : Option Reply) → f ≡ is → IsNeitherConnectNorVersion (Broken is) → old.phase ≡ phase.Before → due ≡ None → new ≡ ended old Dropped
-    → (now : ℕ) (mark : Mark) (list : List Entry) → Answers (Broken f) now old mark list [] list mark due new
+    → AnswersWithoutGate (Broken f) old due new
 unexpected_fault f is old new due e greets before none end = λ now mark list.
     (Unexpected, (refl, (subst (λ (x : PacketFault). IsNeitherConnectNorVersion (Broken x)) (sym e) greets, before, refl, none, end)))
 
 pub other_version : (f : PacketFault) (old new : State) (due : Option Reply) → f ≡ fault.Version → old.phase ≡ phase.Before → due ≡ Some (reply.Refused (code_of UnsupportedProtocolVersion)) → new ≡ ended old (ByServer (code_of UnsupportedProtocolVersion))
-    → (now : ℕ) (mark : Mark) (list : List Entry) → Answers (Broken f) now old mark list [] list mark due new
+    → AnswersWithoutGate (Broken f) old due new
 other_version f old new due e before is end = λ now mark list.
     (Other_version, (refl, (ap Broken e, before, refl, is, end)))
 
 pub connected : (c : Connect) (p : Packet) (old new : State) (due : Option Reply) → p ≡ packet.Connect c
-    → ((now : ℕ) (mark : Mark) (list : List Entry) → Answers (Whole (packet.Connect c)) now old mark list [] list mark due new)
-    → (now : ℕ) (mark : Mark) (list : List Entry) → Answers (Whole p) now old mark list [] list mark due new
-connected c p old new due e h = λ now mark list. subst (λ (x : Packet). Answers (Whole x) now old mark list [] list mark due new) (sym e) (h now mark list)
+    → (AnswersWithoutGate (Whole (packet.Connect c)) old due new)
+    → AnswersWithoutGate (Whole p) old due new
+connected c p old new due e h = λ now mark list. subst (λ (x : Packet). Answers (given_at (Whole x) now) (point_at old list mark) [] due (point_at new list mark)) (sym e) (h now mark list)
 
 pub accepted : (c : Connect) (method will : Bool) (old new : State) (due : Option Reply) → is_some c.method ≡ method → c.will ≡ will → connect_refusal method will ≡ None → old.phase ≡ phase.Before → IsAccepted (connack c old) (packet_limit c.packet_maximum) (open_for c) old due new
-    → (now : ℕ) (mark : Mark) (list : List Entry) → Answers (Whole (packet.Connect c)) now old mark list [] list mark due new
+    → AnswersWithoutGate (Whole (packet.Connect c)) old due new
 accepted c true will old new due m w none before h = absurd (cc)
 accepted c false true old new due m w none before h = absurd (cc)
 accepted c false false old new due m w none before (inl (a, b, d)) = λ now mark list. (Accepted, (refl, (c, refl, before, m, w, a, refl, b, d)))
@@ -99,7 +99,7 @@ accepted c false false old new due m w none before (inr (a, b, d)) = λ now mark
 
 pub connect_refused : (c : Connect) (method will : Bool) (code : ReasonCode) (old new : State) (due : Option Reply) → is_some c.method ≡ method → c.will ≡ will → connect_refusal method will ≡ Some code → old.phase ≡ phase.Before
     → due ≡ within (packet_limit c.packet_maximum) (reply.Refused (code_of code)) → new ≡ ended old (ByServer (code_of code))
-    → (now : ℕ) (mark : Mark) (list : List Entry) → Answers (Whole (packet.Connect c)) now old mark list [] list mark due new
+    → AnswersWithoutGate (Whole (packet.Connect c)) old due new
 connect_refused c true will code old new due m w is before d s = λ now mark list.
     let e : code ≡ BadAuthenticationMethod = cc in
     (With_method, (refl, (c, refl, before, m, record { none_used = refl; reply = d ∙ ap (λ (n : ReasonCode). within (packet_limit c.packet_maximum) (reply.Refused (code_of n))) e; end = s ∙ ap (λ (n : ReasonCode). ended old (ByServer (code_of n))) e })))
@@ -110,7 +110,7 @@ connect_refused c false false code old new due m w is before d s = absurd (cc)
 
 pub connect_without_memory : (c : Connect) (method will : Bool) (old new : State) (due : Option Reply) → is_some c.method ≡ method → c.will ≡ will → connect_refusal method will ≡ None → old.phase ≡ phase.Before
     → due ≡ within (packet_limit c.packet_maximum) (reply.Refused (code_of QuotaExceeded)) → new ≡ ended old (ByServer (code_of QuotaExceeded))
-    → (now : ℕ) (mark : Mark) (list : List Entry) → Answers (Whole (packet.Connect c)) now old mark list [] list mark due new
+    → AnswersWithoutGate (Whole (packet.Connect c)) old due new
 connect_without_memory c true will old new due m w none before d s = absurd (cc)
 connect_without_memory c false true old new due m w none before d s = absurd (cc)
 connect_without_memory c false false old new due m w none before d s = λ now mark list.
@@ -118,27 +118,27 @@ connect_without_memory c false false old new due m w none before d s = λ now ma
 
 -- ---- an open session
 
-pub over : (input : Input) (old new : State) (due : Option Reply) (now : ℕ) (mark : Mark) (list : List Entry) (closing : Closing) → old.phase ≡ phase.Ended closing → due ≡ None → new ≡ old → Answers input now old mark list [] list mark due new
-over input old new due now mark list closing e d s = (Over, (refl, (closing, e, refl, d, s)))
+pub over : (given : Given) (at : Point State) (due : Option Reply) (closing : Closing) → at.state.phase ≡ phase.Ended closing → due ≡ None → Answers given at [] due at
+over given at due closing e d = (Over, (refl, (closing, e, refl, d, refl)))
 
 -- what a row leads to is due, and the state after it
-pub concluded : (input : Input) (now : ℕ) (old new : State) (o left : Open) (outcome : Outcome) (limit : ℕ) (due : Option Reply) (mark used : Mark) (seen : List Entry) (answered : List (List Entry)) (list : List Entry)
-    → old.phase ≡ phase.Open o → limit ≡ o.window.packet_maximum → LeadsTo input now o mark seen answered list used outcome left → due ≡ due_for limit outcome → new ≡ state_after outcome old left
-    → Answers input now old mark seen answered list used due new
-concluded input now old new o left outcome limit due mark used seen answered list p l h d s =
+pub concluded : (given : Given) (from : Point State) (o : Open) (answered : List (List Entry)) (outcome : Outcome) (limit : ℕ) (left : Open) (due : Option Reply) (to : Point State)
+    → from.state.phase ≡ phase.Open o → limit ≡ o.window.packet_maximum → LeadsTo given (with_state from o) answered outcome (with_state to left) → due ≡ due_for limit outcome → to.state ≡ state_after outcome from.state left
+    → Answers given from answered due to
+concluded given from o answered outcome limit left due to p l h d s =
     (In_session, (tt, (o, left, outcome, p, h, d ∙ ap (λ (n : ℕ). due_for n outcome) l, s)))
 
-pub faulty : (f : PacketFault) (o : Open) (now : ℕ) (code : ReasonCode) (mark : Mark) (list : List Entry) → code ≡ fault_reason f → LeadsTo (Broken f) now o mark list [] list mark (Closes code) o
-faulty f o now code mark list e = (Faulty, refl, (f, refl, ap Closes e, record { none_used = refl; same = refl }))
+pub faulty : (f : PacketFault) (now : ℕ) (code : ReasonCode) (at : Point Open) → code ≡ fault_reason f → LeadsTo (given_at (Broken f) now) at [] (Closes code) at
+faulty f now code at e = (Faulty, refl, (f, refl, ap Closes e, record { none_used = refl; same = refl }))
 
 -- ---- acknowledgements
 
-pub acknowledged : (p : Packet) (ack : window.Acknowledgement) (id : ℕ) (answer : Ack) (old new : Open) (outcome : Outcome) (now : ℕ) (mark : Mark) (list : List Entry)
-    → acknowledgement_of p ≡ Some (ack, id) → window.IsAcknowledged ack id old.window (Ok answer) new.window → outcome ≡ Replies (released_by ack id answer) → new ≡ record old { window = new.window }
-    → LeadsTo (Whole p) now old mark list [] list mark outcome new
-acknowledged p ack id answer old new outcome now mark list is h e s = (Acknowledged, refl, (p, ack, id, answer, refl, is, h, e, refl, s))
+pub acknowledged : (p : Packet) (ack : window.Acknowledgement) (id : ℕ) (answer : Ack) (now : ℕ) (from : Point Open) (outcome : Outcome) (new : Open)
+    → acknowledgement_of p ≡ Some (ack, id) → window.IsAcknowledged ack id from.state.window (Ok answer) new.window → outcome ≡ Replies (released_by ack id answer) → new ≡ record from.state { window = new.window }
+    → LeadsTo (given_at (Whole p) now) from [] outcome (with_state from new)
+acknowledged p ack id answer now from outcome new is h e s = (Acknowledged, refl, (p, ack, id, answer, refl, is, h, e, refl, s))
 
--- an acknowledgement is refused only where it is of the wrong kind
+-- an acknowledgement is refused only if it is of the wrong kind
 wrong : (ack : window.Acknowledgement) (before : Option Kind) (fault : WindowFault) → Err fault ≡ window.answer_to ack before → fault ≡ window_fault.WrongKind
 wrong ack None fault e = absurd (cc)
 wrong ack (Some k) fault e = left ack (window.kind_acknowledged ack k) e
@@ -151,66 +151,66 @@ wrong ack (Some k) fault e = left ack (window.kind_acknowledged ack k) e
     left (window.Pubrec code) (Some kind.ExactlyOnce) e = cc
     left (window.Pubrec code) (Some kind.Received) e = absurd (cc)
 
-pub not_acknowledged : (p : Packet) (ack : window.Acknowledgement) (id : ℕ) (fault : WindowFault) (old new : Open) (now : ℕ) (mark : Mark) (list : List Entry)
-    → acknowledgement_of p ≡ Some (ack, id) → window.IsAcknowledged ack id old.window (Err fault) new.window → new ≡ old
-    → LeadsTo (Whole p) now old mark list [] list mark (Closes ProtocolError) new
-not_acknowledged p ack id fault old new now mark list is h s =
+pub not_acknowledged : (p : Packet) (ack : window.Acknowledgement) (id : ℕ) (fault : WindowFault) (now : ℕ) (from : Point Open) (new : Open)
+    → acknowledgement_of p ≡ Some (ack, id) → window.IsAcknowledged ack id from.state.window (Err fault) new.window → new ≡ from.state
+    → LeadsTo (given_at (Whole p) now) from [] (Closes ProtocolError) (with_state from new)
+not_acknowledged p ack id fault now from new is h s =
     (Wrong_acknowledgement, refl, (p, ack, id, refl, is, sym h.0 ∙ ap (λ (f : WindowFault). Err f) (wrong ack _ fault h.0), refl, record { none_used = refl; same = s }))
 
 -- a PUBREC for an identifier that is not in use
-pub unknown_low : (code id : ℕ) → code < 128 → Replies (Some (reply.Pubrel id (code_of PacketIdentifierNotFound))) ≡ Replies (released_by (window.Pubrec code) id Ack.Unknown)
-unknown_low code id h = let s : ltb code 128 ≡ true = lt-ltb _ _ h in rw s refl
+pub unknown_low : (code id : ℕ) → code < 0x80 → Replies (Some (reply.Pubrel id (code_of PacketIdentifierNotFound))) ≡ Replies (released_by (window.Pubrec code) id Ack.Unknown)
+unknown_low code id h = let s : ltb code 0x80 ≡ true = lt-ltb _ _ h in rw s refl
 
-pub unknown_high : (code id : ℕ) → 128 ≤ code → Replies None ≡ Replies (released_by (window.Pubrec code) id Ack.Unknown)
-unknown_high code id h = let s : ltb code 128 ≡ false = le-ltb _ _ h in rw s refl
+pub unknown_high : (code id : ℕ) → 0x80 ≤ code → Replies None ≡ Replies (released_by (window.Pubrec code) id Ack.Unknown)
+unknown_high code id h = let s : ltb code 0x80 ≡ false = le-ltb _ _ h in rw s refl
 
-pub released : (a : Acknowledgement) (byte : ℕ) (code : ReasonCode) (old new : Open) (now : ℕ) (mark : Mark) (list : List Entry) → byte ≡ code_of code → code ≡ released_reason a.id old.inbound → new ≡ record old { inbound = set.remove old.inbound a.id }
-    → LeadsTo (Whole (packet.Pubrel a)) now old mark list [] list mark (Replies (Some (reply.Pubcomp a.id byte))) new
-released a byte code old new now mark list b e s = (Released, refl, (a, refl, ap (λ (n : ℕ). Replies (Some (reply.Pubcomp a.id n))) b ∙ ap (λ (r : ReasonCode). Replies (Some (reply.Pubcomp a.id (code_of r)))) e, refl, s))
+pub released : (a : Acknowledgement) (byte : ℕ) (code : ReasonCode) (now : ℕ) (from : Point Open) (new : Open) → byte ≡ code_of code → code ≡ released_reason a.id from.state.inbound → new ≡ record from.state { inbound = set.remove from.state.inbound a.id }
+    → LeadsTo (given_at (Whole (packet.Pubrel a)) now) from [] (Replies (Some (reply.Pubcomp a.id byte))) (with_state from new)
+released a byte code now from new b e s = (Released, refl, (a, refl, ap (λ (n : ℕ). Replies (Some (reply.Pubcomp a.id n))) b ∙ ap (λ (r : ReasonCode). Replies (Some (reply.Pubcomp a.id (code_of r)))) e, refl, s))
 
 -- ---- PUBLISH
 
 some_outcome : (a b : Outcome) → Some a ≡ Some b → b ≡ a
 some_outcome a b e = cc
 
-bad_topic : (p : Publish) (f : TopicFault) (outcome : Outcome) (o : Open) (now : ℕ) (mark : Mark) (list : List Entry) → is_some p.alias ≡ false → p.topic ≡ Err f → f ≢ topic_fault.NoMemory → Some (Closes (topic_reason f)) ≡ Some outcome
-    → LeadsTo (Whole (packet.Publish p)) now o mark list [] list mark outcome o
-bad_topic p f outcome o now mark list a t other e = (Bad_topic, refl, (p, f, refl, a, t, other, some_outcome _ _ e, record { none_used = refl; same = refl }))
+bad_topic : (p : Publish) (f : TopicFault) (outcome : Outcome) (now : ℕ) (at : Point Open) → is_some p.alias ≡ false → p.topic ≡ Err f → f ≢ topic_fault.NoMemory → Some (Closes (topic_reason f)) ≡ Some outcome
+    → LeadsTo (given_at (Whole (packet.Publish p)) now) at [] outcome at
+bad_topic p f outcome now at a t other e = (Bad_topic, refl, (p, f, refl, a, t, other, some_outcome _ _ e, record { none_used = refl; same = refl }))
 
-by_id : (p : Publish) (held many : Bool) (outcome : Outcome) (o : Open) (now : ℕ) (mark : Mark) (list : List Entry) → is_some p.alias ≡ false → IsTopicOrUnread p.topic
-    → is_held (held_id p.qos p.id) o.inbound ≡ held → is_one_too_many (held_id p.qos p.id) o.inbound ≡ many → outcome_of_id held many (acknowledged_by p.qos p.id Success) ≡ Some outcome
-    → LeadsTo (Whole (packet.Publish p)) now o mark list [] list mark outcome o
-by_id p true many outcome o now mark list a t h m e = (Sent_again, refl, (p, refl, a, t, h, some_outcome _ _ e, record { none_used = refl; same = refl }))
-by_id p false true outcome o now mark list a t h m e = (Too_many_held, refl, (p, refl, a, t, m, some_outcome _ _ e, record { none_used = refl; same = refl }))
-by_id p false false outcome o now mark list a t h m e = absurd (cc)
+by_id : (p : Publish) (held many : Bool) (outcome : Outcome) (now : ℕ) (at : Point Open) → is_some p.alias ≡ false → IsTopicOrUnread p.topic
+    → is_held (held_id p.qos p.id) at.state.inbound ≡ held → is_one_too_many (held_id p.qos p.id) at.state.inbound ≡ many → outcome_of_id held many (acknowledged_by p.qos p.id Success) ≡ Some outcome
+    → LeadsTo (given_at (Whole (packet.Publish p)) now) at [] outcome at
+by_id p true many outcome now at a t h m e = (Sent_again, refl, (p, refl, a, t, h, some_outcome _ _ e, record { none_used = refl; same = refl }))
+by_id p false true outcome now at a t h m e = (Too_many_held, refl, (p, refl, a, t, m, some_outcome _ _ e, record { none_used = refl; same = refl }))
+by_id p false false outcome now at a t h m e = absurd (cc)
 
-by_topic : (p : Publish) (topic : Result (List ℕ) TopicFault) (rest : Option Outcome) (outcome : Outcome) (o : Open) (now : ℕ) (mark : Mark) (list : List Entry) → is_some p.alias ≡ false → p.topic ≡ topic
-    → (IsTopicOrUnread topic → rest ≡ Some outcome → LeadsTo (Whole (packet.Publish p)) now o mark list [] list mark outcome o)
-    → outcome_of_topic (topic_refusal topic) rest ≡ Some outcome → LeadsTo (Whole (packet.Publish p)) now o mark list [] list mark outcome o
-by_topic p (Ok topic) rest outcome o now mark list a t more e = more tt e
-by_topic p (Err topic_fault.NoMemory) rest outcome o now mark list a t more e = more refl e
-by_topic p (Err topic_fault.Empty) rest outcome o now mark list a t more e = bad_topic p _ outcome o now mark list a t (λ h. cc) e
-by_topic p (Err topic_fault.TooLong) rest outcome o now mark list a t more e = bad_topic p _ outcome o now mark list a t (λ h. cc) e
-by_topic p (Err topic_fault.NotUtf8) rest outcome o now mark list a t more e = bad_topic p _ outcome o now mark list a t (λ h. cc) e
-by_topic p (Err topic_fault.HasNul) rest outcome o now mark list a t more e = bad_topic p _ outcome o now mark list a t (λ h. cc) e
-by_topic p (Err topic_fault.HasWildcard) rest outcome o now mark list a t more e = bad_topic p _ outcome o now mark list a t (λ h. cc) e
-by_topic p (Err topic_fault.BadWildcard) rest outcome o now mark list a t more e = bad_topic p _ outcome o now mark list a t (λ h. cc) e
-by_topic p (Err topic_fault.TooManyLevels) rest outcome o now mark list a t more e = bad_topic p _ outcome o now mark list a t (λ h. cc) e
-by_topic p (Err topic_fault.Shared) rest outcome o now mark list a t more e = bad_topic p _ outcome o now mark list a t (λ h. cc) e
+by_topic : (p : Publish) (topic : Result (List ℕ) TopicFault) (rest : Option Outcome) (outcome : Outcome) (now : ℕ) (at : Point Open) → is_some p.alias ≡ false → p.topic ≡ topic
+    → (IsTopicOrUnread topic → rest ≡ Some outcome → LeadsTo (given_at (Whole (packet.Publish p)) now) at [] outcome at)
+    → outcome_of_topic (topic_refusal topic) rest ≡ Some outcome → LeadsTo (given_at (Whole (packet.Publish p)) now) at [] outcome at
+by_topic p (Ok topic) rest outcome now at a t more e = more tt e
+by_topic p (Err topic_fault.NoMemory) rest outcome now at a t more e = more refl e
+by_topic p (Err topic_fault.Empty) rest outcome now at a t more e = bad_topic p _ outcome now at a t (λ h. cc) e
+by_topic p (Err topic_fault.TooLong) rest outcome now at a t more e = bad_topic p _ outcome now at a t (λ h. cc) e
+by_topic p (Err topic_fault.NotUtf8) rest outcome now at a t more e = bad_topic p _ outcome now at a t (λ h. cc) e
+by_topic p (Err topic_fault.HasNul) rest outcome now at a t more e = bad_topic p _ outcome now at a t (λ h. cc) e
+by_topic p (Err topic_fault.HasWildcard) rest outcome now at a t more e = bad_topic p _ outcome now at a t (λ h. cc) e
+by_topic p (Err topic_fault.BadWildcard) rest outcome now at a t more e = bad_topic p _ outcome now at a t (λ h. cc) e
+by_topic p (Err topic_fault.TooManyLevels) rest outcome now at a t more e = bad_topic p _ outcome now at a t (λ h. cc) e
+by_topic p (Err topic_fault.Shared) rest outcome now at a t more e = bad_topic p _ outcome now at a t (λ h. cc) e
 
-by_alias : (p : Publish) (alias : Option ℕ) (rest : Option Outcome) (outcome : Outcome) (o : Open) (now : ℕ) (mark : Mark) (list : List Entry) → p.alias ≡ alias
-    → (is_some p.alias ≡ false → rest ≡ Some outcome → LeadsTo (Whole (packet.Publish p)) now o mark list [] list mark outcome o)
-    → outcome_of_alias alias rest ≡ Some outcome → LeadsTo (Whole (packet.Publish p)) now o mark list [] list mark outcome o
-by_alias p (Some x) rest outcome o now mark list a more e = (With_alias, refl, (p, refl, ap is_some a, some_outcome _ _ e, record { none_used = refl; same = refl }))
-by_alias p None rest outcome o now mark list a more e = more (ap is_some a) e
+by_alias : (p : Publish) (alias : Option ℕ) (rest : Option Outcome) (outcome : Outcome) (now : ℕ) (at : Point Open) → p.alias ≡ alias
+    → (is_some p.alias ≡ false → rest ≡ Some outcome → LeadsTo (given_at (Whole (packet.Publish p)) now) at [] outcome at)
+    → outcome_of_alias alias rest ≡ Some outcome → LeadsTo (given_at (Whole (packet.Publish p)) now) at [] outcome at
+by_alias p (Some x) rest outcome now at a more e = (With_alias, refl, (p, refl, ap is_some a, some_outcome _ _ e, record { none_used = refl; same = refl }))
+by_alias p None rest outcome now at a more e = more (ap is_some a) e
 
 -- what a PUBLISH leads to before its topic is used
-pub before_use : (p : Publish) (outcome : Outcome) (o : Open) (now : ℕ) (mark : Mark) (list : List Entry) → outcome_before p o ≡ Some outcome → LeadsTo (Whole (packet.Publish p)) now o mark list [] list mark outcome o
-before_use p outcome o now mark list e =
-    by_alias p p.alias _ outcome o now mark list refl
-    (λ a e. by_topic p p.topic _ outcome o now mark list a refl (λ t e. by_id p _ _ outcome o now mark list a t refl refl e) e) e
+pub before_use : (p : Publish) (outcome : Outcome) (now : ℕ) (at : Point Open) → outcome_before p at.state ≡ Some outcome → LeadsTo (given_at (Whole (packet.Publish p)) now) at [] outcome at
+before_use p outcome now at e =
+    by_alias p p.alias _ outcome now at refl
+    (λ a e. by_topic p p.topic _ outcome now at a refl (λ t e. by_id p _ _ outcome now at a t refl refl e) e) e
 
--- where it leads to nothing, the PUBLISH is taken
+-- if it leads to nothing, the PUBLISH is taken
 by_no_id : (held many : Bool) (again : Option Reply) → outcome_of_id held many again ≡ None → (held ≡ false) × (many ≡ false)
 by_no_id true many again e = absurd (cc)
 by_no_id false true again e = absurd (cc)
@@ -246,10 +246,10 @@ taken p o e =
 pub has_room : (p : Publish) (o : Open) → outcome_before p o ≡ None → is_one_too_many (held_id p.qos p.id) o.inbound ≡ false
 has_room p o e = (taken p o e).0.has_room
 
-pub topic_unread : (p : Publish) (f : TopicFault) (outcome : Outcome) (o : Open) (now : ℕ) (mark : Mark) (list : List Entry) → outcome_before p o ≡ None → p.topic ≡ Err f → outcome ≡ Replies (acknowledged_by p.qos p.id QuotaExceeded)
-    → LeadsTo (Whole (packet.Publish p)) now o mark list [] list mark outcome o
-topic_unread p f outcome o now mark list e t d =
-    let h = taken p o e in
+pub topic_unread : (p : Publish) (f : TopicFault) (outcome : Outcome) (now : ℕ) (at : Point Open) → outcome_before p at.state ≡ None → p.topic ≡ Err f → outcome ≡ Replies (acknowledged_by p.qos p.id QuotaExceeded)
+    → LeadsTo (given_at (Whole (packet.Publish p)) now) at [] outcome at
+topic_unread p f outcome now at e t d =
+    let h = taken p at.state e in
     let is : f ≡ topic_fault.NoMemory = subst IsTopicOrUnread t h.1 in
     (Topic_unread, refl, (p, refl, h.0, t ∙ ap (λ (x : TopicFault). Err x) is, d, record { none_used = refl; same = refl }))
 
@@ -257,19 +257,19 @@ unretained : (retain : Bool) (topic : List ℕ) (m : MessageValue) → operation
 unretained true topic m c = absurd (cc)
 unretained false topic m c = refl
 
-pub not_retained : (p : Publish) (topic : List ℕ) (outcome : Outcome) (old new : Open) (now : ℕ) (mark : Mark) (list : List Entry) → outcome_before p old ≡ None → p.topic ≡ Ok topic → change p topic now ≡ None
-    → outcome ≡ Replies (acknowledged_by p.qos p.id Success) → new ≡ holding p old → LeadsTo (Whole (packet.Publish p)) now old mark list [] list mark outcome new
-not_retained p topic outcome old new now mark list e t c d s =
-    (Not_retained, refl, (p, topic, refl, (taken p old e).0, t, unretained p.retain topic _ c, d, refl, s))
+pub not_retained : (p : Publish) (topic : List ℕ) (outcome : Outcome) (now : ℕ) (from : Point Open) (new : Open) → outcome_before p from.state ≡ None → p.topic ≡ Ok topic → change p topic now ≡ None
+    → outcome ≡ Replies (acknowledged_by p.qos p.id Success) → new ≡ holding p from.state → LeadsTo (given_at (Whole (packet.Publish p)) now) from [] outcome (with_state from new)
+not_retained p topic outcome now from new e t c d s =
+    (Not_retained, refl, (p, topic, refl, (taken p from.state e).0, t, unretained p.retain topic _ c, d, refl, s))
 
-settled : (p : Publish) (topic : List ℕ) (operation : Operation) (now : ℕ) (outcome : Outcome) (old new : Open) (mark used : Mark) (seen list : List Entry)
-    → IsHanded p topic now operation old mark seen list used → IsSettled operation p.qos p.id old mark used list outcome new → LeadsTo (Whole (packet.Publish p)) now old mark seen [] list used outcome new
-settled p topic operation now outcome old new mark used seen list may h =
-    elim h as (λ h. LeadsTo (Whole (packet.Publish p)) now old mark seen [] list used outcome new) [
+settled : (p : Publish) (topic : List ℕ) (operation : Operation) (now : ℕ) (from : Point Open) (outcome : Outcome) (to : Point Open)
+    → IsHanded p topic operation now from to → IsSettled operation p.qos p.id from outcome to → LeadsTo (given_at (Whole (packet.Publish p)) now) from [] outcome to
+settled p topic operation now from outcome to may h =
+    elim h as (λ h. LeadsTo (given_at (Whole (packet.Publish p)) now) from [] outcome to) [
       | inl k ↦ (Kept, refl, (p, topic, operation, refl, may, k.0, k.1, k.2))
-      | inr h ↦ elim h as (λ h. LeadsTo (Whole (packet.Publish p)) now old mark seen [] list used outcome new) [
+      | inr h ↦ elim h as (λ h. LeadsTo (given_at (Whole (packet.Publish p)) now) from [] outcome to) [
         | inl k ↦ (Not_kept, refl, (p, topic, operation, refl, may, k.0, k.1))
-        | inr h ↦ elim h as (λ h. LeadsTo (Whole (packet.Publish p)) now old mark seen [] list used outcome new) [
+        | inr h ↦ elim h as (λ h. LeadsTo (given_at (Whole (packet.Publish p)) now) from [] outcome to) [
           | inl k ↦ (Uncertain, refl, (p, topic, operation, refl, may, k.0, k.1))
           | inr k ↦ (Gate_closed, refl, (p, topic, operation, refl, may, k.0, k.1))
         ]
@@ -278,12 +278,12 @@ settled p topic operation now outcome old new mark used seen list may h =
 
 pub submitted : {G : Type 0} (stands : G → List Entry → Type 0) (mark : G → Mark) (before after : G) (p : Publish) (topic : List ℕ) (operation : Operation) (now : ℕ) (outcome : Outcome) (old new : Open)
     → outcome_before p old ≡ None → p.topic ≡ Ok topic → change p topic now ≡ Some operation → Uses (mark before) (mark after)
-    → Grows (stands before) (stands after) (λ seen list. IsHandedOver operation (mark after) seen list × IsSettled operation p.qos p.id old (mark before) (mark after) list outcome new)
-    → GrowsAnswering stands mark before after (λ seen answered list. LeadsTo (Whole (packet.Publish p)) now old (mark before) seen answered list (mark after) outcome new)
+    → Grows (stands before) (stands after) (λ seen list. IsHandedOver operation (mark after) seen list × IsSettled operation p.qos p.id (point_at old seen (mark before)) outcome (point_at new list (mark after)))
+    → GrowsAnswering stands mark before after (λ seen answered list. LeadsTo (given_at (Whole (packet.Publish p)) now) (point_at old seen (mark before)) answered outcome (point_at new list (mark after)))
 submitted stands mark before after p topic operation now outcome old new e t c u h =
-    none_answered stands mark before after (λ seen answered list. LeadsTo (Whole (packet.Publish p)) now old (mark before) seen answered list (mark after) outcome new)
-    (Grows-weaker (stands before) (stands after) (λ seen list. IsHandedOver operation (mark after) seen list × IsSettled operation p.qos p.id old (mark before) (mark after) list outcome new) _
-    (λ seen list k. settled p topic operation now outcome old new (mark before) (mark after) seen list (record { taken = (taken p old e).0; is_topic = t; changes = c; one_used = u; no_other = k.0 }) k.1) h)
+    none_answered stands mark before after (λ seen answered list. LeadsTo (given_at (Whole (packet.Publish p)) now) (point_at old seen (mark before)) answered outcome (point_at new list (mark after)))
+    (Grows-weaker (stands before) (stands after) (λ seen list. IsHandedOver operation (mark after) seen list × IsSettled operation p.qos p.id (point_at old seen (mark before)) outcome (point_at new list (mark after))) _
+    (λ seen list k. settled p topic operation now (point_at old seen (mark before)) outcome (point_at new list (mark after)) (record { taken = (taken p old e).0; is_topic = t; changes = c; one_used = u; no_other = k.0 }) k.1) h)
 
 -- ---- the filters of a SUBSCRIBE and of an UNSUBSCRIBE
 
@@ -294,16 +294,17 @@ pub prefix_trans : (a b c : List Entry) → Extends b a → Extends c b → Exte
 prefix_trans a b c (x, p) (y, q) = (x ++ y, q ∙ ap (λ l. l ++ y) p ∙ append_assoc a x y)
 
 -- one more filter
-pub grants_more : (now : ℕ) (filters : List Asked) (identifier : Option ℕ) (seen : List Entry) (old : Open) (codes : List ℕ) (answered : List (List Entry)) (mid : List Entry) (between : Open) (asked : Asked) (list : List Entry) (code : ℕ) (new : Open)
-    → Grants now filters identifier seen old codes answered mid between → Extends list mid → IsGranted now asked identifier list between code new → Grants now (filters ++ asked ∷ []) identifier seen old (codes ++ code ∷ []) (answered ++ list ∷ []) list new
-grants_more now [] identifier seen old codes answered mid between asked list code new (a, n, b, c) begins step =
-    (code, [], list, [], new, ap (λ l. l ++ code ∷ []) a, ap (λ l. l ++ list ∷ []) n, subst (Extends list) b begins, subst (λ (m : Open). IsGranted now asked identifier list m code new) c step, (refl, refl, refl, refl))
-grants_more now (f ∷ fs) identifier seen old codes answered mid between asked list code new (x, rest, m, later, between', e, n, begun, first, h) begins step =
-    (x, rest ++ code ∷ [], m, later ++ list ∷ [], between', ap (λ l. l ++ code ∷ []) e, ap (λ l. l ++ list ∷ []) n, begun, first, grants_more now fs identifier m between' rest later mid between asked list code new h begins step)
+pub grants_more : (now : ℕ) (filters : List Asked) (identifier : Option ℕ) (from : Point Open) (codes : List ℕ) (answered : List (List Entry)) (mid : Point Open) (asked : Asked) (code : ℕ) (to : Point Open)
+    → Grants now filters identifier from codes answered mid → Extends to.seen mid.seen → IsGranted now asked identifier to.seen mid.state code to.state
+    → Grants now (filters ++ asked ∷ []) identifier from (codes ++ code ∷ []) (answered ++ to.seen ∷ []) to
+grants_more now [] identifier from codes answered mid asked code to (c, a, seen, same) grows step =
+    (code, [], [], to, ap (λ l. l ++ code ∷ []) c, ap (λ l. l ++ to.seen ∷ []) a, subst (Extends to.seen) seen grows, subst (λ (o : Open). IsGranted now asked identifier to.seen o code to.state) same step, (refl, refl, refl, refl))
+grants_more now (f ∷ fs) identifier from codes answered mid asked code to (first, rest, later, between, c, a, begun, granted, h) grows step =
+    (first, rest ++ code ∷ [], later ++ to.seen ∷ [], between, ap (λ l. l ++ code ∷ []) c, ap (λ l. l ++ to.seen ∷ []) a, begun, granted, grants_more now fs identifier between rest later mid asked code to h grows step)
 
-pub grants_grow : (now : ℕ) (filters : List Asked) (identifier : Option ℕ) (seen : List Entry) (old : Open) (codes : List ℕ) (answered : List (List Entry)) (list : List Entry) (new : Open) → Grants now filters identifier seen old codes answered list new → Extends list seen
-grants_grow now [] identifier seen old codes answered list new (a, n, b, c) = subst (Extends list) b (prefix_itself list)
-grants_grow now (f ∷ fs) identifier seen old codes answered list new (x, rest, m, later, between, e, n, begun, first, h) = prefix_trans seen m list begun (grants_grow now fs identifier m between rest later list new h)
+pub grants_grow : (now : ℕ) (filters : List Asked) (identifier : Option ℕ) (from : Point Open) (codes : List ℕ) (answered : List (List Entry)) (to : Point Open) → Grants now filters identifier from codes answered to → Extends to.seen from.seen
+grants_grow now [] identifier from codes answered to (c, a, seen, same) = subst (Extends to.seen) seen (prefix_itself to.seen)
+grants_grow now (f ∷ fs) identifier from codes answered to (first, rest, later, between, c, a, begun, granted, h) = prefix_trans from.seen between.seen to.seen begun (grants_grow now fs identifier between rest later to h)
 
 -- a gate stood for one more
 pub stood_more : {G : Type 0} (stands : G → List Entry → Type 0) (mark_of : G → Mark) (mark : Mark) (answered : List (List Entry)) (list : List Entry)
@@ -311,20 +312,20 @@ pub stood_more : {G : Type 0} (stands : G → List Entry → Type 0) (mark_of : 
 stood_more stands mark_of mark answered list each one =
     All-append (StandsAt stands mark_of mark) answered (list ∷ []) each (All-cons (StandsAt stands mark_of mark) list [] one (All-nil (StandsAt stands mark_of mark)))
 
-pub shared_refused : (s : Subscribe) (o : Open) (now : ℕ) (mark : Mark) (list : List Entry) → list_any is_shared_local s.filters ≡ true → LeadsTo (Whole (packet.Subscribe s)) now o mark list [] list mark (Closes ProtocolError) o
-shared_refused s o now mark list h = (Shared_no_local, refl, (s, refl, h, refl, record { none_used = refl; same = refl }))
+pub shared_refused : (s : Subscribe) (now : ℕ) (at : Point Open) → list_any is_shared_local s.filters ≡ true → LeadsTo (given_at (Whole (packet.Subscribe s)) now) at [] (Closes ProtocolError) at
+shared_refused s now at h = (Shared_no_local, refl, (s, refl, h, refl, record { none_used = refl; same = refl }))
 
-pub not_subscribed : (s : Subscribe) (o : Open) (now : ℕ) (mark : Mark) (list : List Entry) → list_any is_shared_local s.filters ≡ false → LeadsTo (Whole (packet.Subscribe s)) now o mark list [] list mark (Closes QuotaExceeded) o
-not_subscribed s o now mark list h = (Not_subscribed, refl, (s, refl, h, refl, record { none_used = refl; same = refl }))
+pub not_subscribed : (s : Subscribe) (now : ℕ) (at : Point Open) → list_any is_shared_local s.filters ≡ false → LeadsTo (given_at (Whole (packet.Subscribe s)) now) at [] (Closes QuotaExceeded) at
+not_subscribed s now at h = (Not_subscribed, refl, (s, refl, h, refl, record { none_used = refl; same = refl }))
 
 pub same_codes : (id other : ℕ) (codes more : List ℕ) → id ≡ other → codes ≡ more → (let a : CodesValue = record { id = id; codes = codes } in a) ≡ (record { id = other; codes = more })
 same_codes id other codes more e f = λ j. record { id = e j; codes = f j }
 
 -- the codes of all filters are replied
-pub subscribed : (s : Subscribe) (codes : List ℕ) (c : CodesValue) (old new : Open) (now : ℕ) (mark used : Mark) (seen : List Entry) (answered : List (List Entry)) (list : List Entry)
-    → list_any is_shared_local s.filters ≡ false → used ≡ mark → c ≡ record { id = s.id; codes = codes } → Grants now s.filters s.subscription seen old codes answered list new
-    → LeadsTo (Whole (packet.Subscribe s)) now old mark seen answered list used (Replies (Some (reply.Suback c))) new
-subscribed s codes c old new now mark used seen answered list n u e h =
+pub subscribed : (s : Subscribe) (codes : List ℕ) (c : CodesValue) (now : ℕ) (from : Point Open) (answered : List (List Entry)) (to : Point Open)
+    → list_any is_shared_local s.filters ≡ false → to.mark ≡ from.mark → c ≡ record { id = s.id; codes = codes } → Grants now s.filters s.subscription from codes answered to
+    → LeadsTo (given_at (Whole (packet.Subscribe s)) now) from answered (Replies (Some (reply.Suback c))) to
+subscribed s codes c now from answered to n u e h =
     (Subscribed, tt, (s, codes, refl, n, h, ap (λ (x : CodesValue). Replies (Some (reply.Suback x))) e, u))
 
 -- one more filter to be removed
@@ -350,13 +351,13 @@ removed_all so_far all filter first mid new a m e =
     let Take : Open → Open = λ o. record o { subscriptions = without filter o.subscriptions } in
     e ∙ (ap Take m ∙ (ap Set (sym (without_more so_far filter first.subscriptions)) ∙ ap (λ (l : List Filter). Set (without_all l first.subscriptions)) (sym a)))
 
-pub not_unsubscribed : (u : Unsubscribe) (o : Open) (now : ℕ) (mark : Mark) (list : List Entry) → LeadsTo (Whole (packet.Unsubscribe u)) now o mark list [] list mark (Closes QuotaExceeded) o
-not_unsubscribed u o now mark list = (Not_unsubscribed, refl, (u, refl, refl, record { none_used = refl; same = refl }))
+pub not_unsubscribed : (u : Unsubscribe) (now : ℕ) (at : Point Open) → LeadsTo (given_at (Whole (packet.Unsubscribe u)) now) at [] (Closes QuotaExceeded) at
+not_unsubscribed u now at = (Not_unsubscribed, refl, (u, refl, refl, record { none_used = refl; same = refl }))
 
-pub unsubscribed : (u : Unsubscribe) (c : CodesValue) (old new : Open) (now : ℕ) (mark : Mark) (list : List Entry)
-    → c ≡ record { id = u.id; codes = removal_codes u.filters old.subscriptions } → new ≡ record old { subscriptions = without_all u.filters old.subscriptions }
-    → LeadsTo (Whole (packet.Unsubscribe u)) now old mark list [] list mark (Replies (Some (reply.Unsuback c))) new
-unsubscribed u c old new now mark list e s =
+pub unsubscribed : (u : Unsubscribe) (c : CodesValue) (now : ℕ) (from : Point Open) (new : Open)
+    → c ≡ record { id = u.id; codes = removal_codes u.filters from.state.subscriptions } → new ≡ record from.state { subscriptions = without_all u.filters from.state.subscriptions }
+    → LeadsTo (given_at (Whole (packet.Unsubscribe u)) now) from [] (Replies (Some (reply.Unsuback c))) (with_state from new)
+unsubscribed u c now from new e s =
     (Unsubscribed, refl, (u, refl, ap (λ (x : CodesValue). Replies (Some (reply.Unsuback x))) e, refl, s))
 
 -- a new subscription that is taken out again leaves all as before
@@ -371,24 +372,24 @@ taken_out old mid new filter key subscription kept left absent k e m n l =
 
 -- ---- the other packets
 
-pub connected_twice : (p : Packet) (c : Connect) (o : Open) (now : ℕ) (mark : Mark) (list : List Entry) → p ≡ packet.Connect c → LeadsTo (Whole p) now o mark list [] list mark (Closes ProtocolError) o
-connected_twice p c o now mark list e = (Connected_twice, refl, (c, ap Whole e, refl, record { none_used = refl; same = refl }))
+pub connected_twice : (p : Packet) (c : Connect) (now : ℕ) (at : Point Open) → p ≡ packet.Connect c → LeadsTo (given_at (Whole p) now) at [] (Closes ProtocolError) at
+connected_twice p c now at e = (Connected_twice, refl, (c, ap Whole e, refl, record { none_used = refl; same = refl }))
 
-pub pinged : (p : Packet) (o : Open) (now : ℕ) (mark : Mark) (list : List Entry) → p ≡ packet.Pingreq → LeadsTo (Whole p) now o mark list [] list mark (Replies (Some reply.Pingresp)) o
-pinged p o now mark list e = (Pinged, refl, (ap Whole e, refl, record { none_used = refl; same = refl }))
+pub pinged : (p : Packet) (now : ℕ) (at : Point Open) → p ≡ packet.Pingreq → LeadsTo (given_at (Whole p) now) at [] (Replies (Some reply.Pingresp)) at
+pinged p now at e = (Pinged, refl, (ap Whole e, refl, record { none_used = refl; same = refl }))
 
-pub disconnected : (p : Packet) (code : ℕ) (o : Open) (now : ℕ) (mark : Mark) (list : List Entry) → p ≡ packet.Disconnect code → LeadsTo (Whole p) now o mark list [] list mark Leaves o
-disconnected p code o now mark list e = (Disconnected, refl, (code, ap Whole e, refl, record { none_used = refl; same = refl }))
+pub disconnected : (p : Packet) (code : ℕ) (now : ℕ) (at : Point Open) → p ≡ packet.Disconnect code → LeadsTo (given_at (Whole p) now) at [] Leaves at
+disconnected p code now at e = (Disconnected, refl, (code, ap Whole e, refl, record { none_used = refl; same = refl }))
 
 -- ---- a session
 
 -- a gate that a method left as it was
-pub stays : {G : Type 0} (stands : G → List Entry → Type 0) (mark : G → Mark) (input : Input) (now : ℕ) (old mid new : Session G) → new ≡ mid → gate_of mid ≡ gate_of old
-    → ((list : List Entry) → Answers input now (state_of old) (mark (gate_of old)) list [] list (mark (gate_of old)) (due_of mid) (state_of mid))
-    → GrowsAnswering stands mark (gate_of old) (gate_of new) (λ seen answered list. Answers input now (state_of old) (mark (gate_of old)) seen answered list (mark (gate_of new)) (due_of new) (state_of new))
-stays {G} stands mark input now old mid new e g h =
-    subst (λ (s : Session G). GrowsAnswering stands mark (gate_of old) (gate_of s) (λ seen answered list. Answers input now (state_of old) (mark (gate_of old)) seen answered list (mark (gate_of s)) (due_of s) (state_of s))) (sym e)
-    (unmoved stands mark (gate_of old) (gate_of mid) (λ seen answered list used. Answers input now (state_of old) (mark (gate_of old)) seen answered list used (due_of mid) (state_of mid)) g h)
+pub stays : {G : Type 0} (stands : G → List Entry → Type 0) (mark : G → Mark) (given : Given) (old mid new : Session G) → new ≡ mid → gate_of mid ≡ gate_of old
+    → ((list : List Entry) → Answers given (session_at mark old list) [] (due_of mid) (with_state (session_at mark old list) (state_of mid)))
+    → GrowsAnswering stands mark (gate_of old) (gate_of new) (λ seen answered list. Answers given (session_at mark old seen) answered (due_of new) (session_at mark new list))
+stays {G} stands mark given old mid new e g h =
+    subst (λ (s : Session G). GrowsAnswering stands mark (gate_of old) (gate_of s) (λ seen answered list. Answers given (session_at mark old seen) answered (due_of s) (session_at mark s list))) (sym e)
+    (unmoved stands mark (gate_of old) (gate_of mid) (λ seen answered list used. Answers given (session_at mark old seen) answered (due_of mid) (point_at (state_of mid) list used)) g h)
 
 -- what an outcome leaves does not depend on the phase before
 pub after_same : (outcome : Outcome) (a b : State) (o : Open) → a.assigned ≡ b.assigned → state_after outcome a o ≡ state_after outcome b o
@@ -397,14 +398,14 @@ after_same (Closes code) a b o e = ap (λ (l : List ℕ). let s : State = record
 after_same Leaves a b o e = ap (λ (l : List ℕ). let s : State = record { phase = phase.Ended ByClient; assigned = l } in s) e
 
 -- an open session took a packet
-pub took : {G : Type 0} (stands : G → List Entry → Type 0) (mark : G → Mark) (input : Input) (now : ℕ) (old mid new : Session G) (o left : Open) (gate : G) (outcome : Outcome) (limit : ℕ)
+pub took : {G : Type 0} (stands : G → List Entry → Type 0) (mark : G → Mark) (given : Given) (old mid new : Session G) (o left : Open) (gate : G) (outcome : Outcome) (limit : ℕ)
     → new ≡ mid → gate_of mid ≡ gate → (state_of old).phase ≡ phase.Open o → limit ≡ o.window.packet_maximum → due_of mid ≡ due_for limit outcome → state_of mid ≡ state_after outcome (state_of old) left
-    → GrowsAnswering stands mark (gate_of old) gate (λ seen answered list. LeadsTo input now o (mark (gate_of old)) seen answered list (mark gate) outcome left)
-    → GrowsAnswering stands mark (gate_of old) (gate_of new) (λ seen answered list. Answers input now (state_of old) (mark (gate_of old)) seen answered list (mark (gate_of new)) (due_of new) (state_of new))
-took {G} stands mark input now old mid new o left gate outcome limit e g p l d s h =
-    subst (λ (x : Session G). GrowsAnswering stands mark (gate_of old) (gate_of x) (λ seen answered list. Answers input now (state_of old) (mark (gate_of old)) seen answered list (mark (gate_of x)) (due_of x) (state_of x))) (sym e)
-    (subst (λ (x : G). GrowsAnswering stands mark (gate_of old) x (λ seen answered list. Answers input now (state_of old) (mark (gate_of old)) seen answered list (mark x) (due_of mid) (state_of mid))) (sym g)
-    (Grows-weaker _ _ _ _ (λ seen list k. (k.0, k.1, concluded input now (state_of old) (state_of mid) o left outcome limit (due_of mid) _ _ seen k.0 list p l k.2 d s)) h))
+    → GrowsAnswering stands mark (gate_of old) gate (λ seen answered list. LeadsTo given (point_at o seen (mark (gate_of old))) answered outcome (point_at left list (mark gate)))
+    → GrowsAnswering stands mark (gate_of old) (gate_of new) (λ seen answered list. Answers given (session_at mark old seen) answered (due_of new) (session_at mark new list))
+took {G} stands mark given old mid new o left gate outcome limit e g p l d s h =
+    subst (λ (x : Session G). GrowsAnswering stands mark (gate_of old) (gate_of x) (λ seen answered list. Answers given (session_at mark old seen) answered (due_of x) (session_at mark x list))) (sym e)
+    (subst (λ (x : G). GrowsAnswering stands mark (gate_of old) x (λ seen answered list. Answers given (session_at mark old seen) answered (due_of mid) (point_at (state_of mid) list (mark x)))) (sym g)
+    (Grows-weaker _ _ _ _ (λ seen list k. (k.0, k.1, concluded given (session_at mark old seen) o k.0 outcome limit left (due_of mid) (point_at (state_of mid) list (mark gate)) p l k.2 d s)) h))
 
 -- what waits is given next
 pub given_next : (now : ℕ) (before due : Option Reply) (old : State) (o left : Open) (p : Option PublishValue) (given : Option Reply) → before ≡ None → due ≡ None → old.phase ≡ phase.Open o

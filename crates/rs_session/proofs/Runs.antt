@@ -6,15 +6,16 @@ use Rattle.rs_message.specs.declared.entry.Entry.{Entry}
 use Rattle.rs_session.specs.Gate.{Mark, Extends}
 use Rattle.rs_session.specs.State.{State, IsGiven}
 use Rattle.rs_session.proofs.Rows.{prefix_trans}
-use Rattle.rs_session.specs.Run.{Point, Turn, Gives, IsTurn, Run, IsOfGate, AreOfGate}
+use Rattle.rs_session.specs.Points.{Point}
+use Rattle.rs_session.specs.Run.{Turn, Gives, IsTurn, Run, IsOfGate, AreOfGate}
 
-pub run_grows : (from to : Point) (turns : List Turn) → Run from turns to → Extends to.seen from.seen
-run_grows from to [] e = ([], ap (λ (p : Point). p.seen) e ∙ sym (append-nil from.seen))
+pub run_grows : (from to : Point State) (turns : List Turn) → Run from turns to → Extends to.seen from.seen
+run_grows from to [] e = ([], ap (λ (p : Point State). p.seen) e ∙ sym (append-nil from.seen))
 run_grows from to (turn ∷ turns) h = prefix_trans from.seen turn.to.seen to.seen h.0.grows (run_grows turn.to to turns h.1)
 
 -- a run goes on by one turn
-pub run_more : (from mid : Point) (turns : List Turn) (turn : Turn) → Run from turns mid → IsTurn mid turn → Run from (turns ++ turn ∷ []) turn.to
-run_more from mid [] turn e h = (subst (λ (p : Point). IsTurn p turn) e h, refl)
+pub run_more : (from mid : Point State) (turns : List Turn) (turn : Turn) → Run from turns mid → IsTurn mid turn → Run from (turns ++ turn ∷ []) turn.to
+run_more from mid [] turn e h = (subst (λ (p : Point State). IsTurn p turn) e h, refl)
 run_more from mid (t ∷ ts) turn (a, b) h = (a, run_more t.to mid ts turn b h)
 
 -- one more reply is given

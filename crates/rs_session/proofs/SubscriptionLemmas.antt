@@ -19,7 +19,7 @@ Entries = List (List ℕ × Subscription)
 pub same_subscriptions : (m n : Subscriptions) → ((q : List ℕ) → get m q ≡ get n q) → m ≡ n
 same_subscriptions m n h = same_map nat_list_cmp_total (slice_cmp-IsAntisymmetric nat_cmp-IsAntisymmetric) m n h
 
--- two filters tie just where their bytes are equal
+-- two filters tie exactly if their bytes are equal
 tied : (p q : List ℕ) → eq_by_cmp (slice_cmp nat_cmp) p q ≡ pointwise nat_eq p q
 tied p q = sym (texts_ties p q)
 
@@ -80,7 +80,7 @@ get_inserted m k v q = get-insert nat_list_cmp_total m k v q
 get_removed : (m : Subscriptions) (k : List ℕ) (q : List ℕ) → get (remove m k) q ≡ cond (eq_by_cmp (slice_cmp nat_cmp) q k) None (get m q)
 get_removed m k q = get-remove nat_list_cmp_total m k q
 
--- where each finds at k what m finds there, w need not be put
+-- if w is what m finds at k, it need not be put there
 put_alike : (m : Subscriptions) (k : List ℕ) (w : Option Subscription) → get m k ≡ w → (q : List ℕ) → cond (eq_by_cmp (slice_cmp nat_cmp) q k) w (get m q) ≡ get m q
 put_alike m k w e q = by (eq_by_cmp (slice_cmp nat_cmp) q k) refl
   where

@@ -1,4 +1,4 @@
--- What a session knows of the store behind its gate.
+-- What a session knows of the store by its gate.
 use Rattle.std.specs.Prelude.{◌≡◌, ℕ, ◌+◌, ◌<◌, ◌≤◌, List, ◌++◌, Contains, Result, OnOk}
 use Rattle.std.specs.List.{All}
 use Rattle.rs_message.specs.Values.{OriginValue}
@@ -19,7 +19,7 @@ last_origin mark = record { place = mark.place; serial = mark.serial }
 abbrev pub Extends : List Entry → List Entry → Type 0
 Extends list seen = (more : List Entry) × (list ≡ seen ++ more)
 
--- for each list that was stood for there is now one of which it is a prefix, and P holds of the two
+-- each list before is a prefix of some list after, and P holds of the two
 abbrev pub Grows : (List Entry → Type 0) → (List Entry → Type 0) → (List Entry → List Entry → Type 0) → Type 0
 Grows before after P = (seen : List Entry) → before seen → (list : List Entry) × after list × Extends list seen × P seen list
 
@@ -34,7 +34,7 @@ pub record IsSubmitted (operation : Operation) (old new : Mark) (list : List Ent
   pub entry : Contains list (record { origin = last_origin new; operation = operation })
   pub serial : old.serial < new.serial
 
--- What is handed over is this operation: of the entries that came behind the list before, each of the gate's place with
+-- What is handed over is this operation: of the entries that came after the list before, each of the gate's place with
 -- the serial of its new mark has it.
 abbrev pub IsHandedOver : Operation → Mark → List Entry → List Entry → Type 0
 IsHandedOver operation new seen list = (more : List Entry) → list ≡ seen ++ more → All (λ e. e.origin ≡ last_origin new → e.operation ≡ operation) more

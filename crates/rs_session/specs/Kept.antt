@@ -9,7 +9,9 @@ use Rattle.rs_message.specs.declared.entry.Entry.{Entry}
 use Rattle.rs_message.specs.declared.entry.Operation.{Operation}
 use Rattle.rs_store.specs.History.{SerialsRise}
 use Rattle.rs_session.specs.Gate.{Mark, Extends}
-use Rattle.rs_session.specs.Run.{Point, Turn, AreOfGate}
+use Rattle.rs_session.specs.Points.{Point}
+use Rattle.rs_session.specs.Run.{Turn, AreOfGate}
+use Rattle.rs_session.specs.State.{State}
 use Rattle.rs_session.specs.Table.{acknowledged_by, change, held_id, is_held}
 use Rattle.rs_session.specs.declared.open.Open.{Open}
 use Rattle.rs_session.specs.declared.phase.Input.TheVariants.{Whole}
@@ -22,19 +24,19 @@ abbrev pub lists_of : List Turn → List (List Entry)
 lists_of [] = []
 lists_of (turn ∷ turns) = turn.answered ++ turn.to.seen ∷ lists_of turns
 
--- of each list, every one before it is a prefix
+-- every list is a prefix of all lists after it
 abbrev pub AreGrowing : List (List Entry) → Type 0
 AreGrowing [] = Unit {0}
 AreGrowing (list ∷ lists) = AllByRecursion (λ later. Extends later list) lists × AreGrowing lists
 
--- the serials of each place rise in each list, as they do if the gate stands for legal lists alone
+-- the serials of each place rise in each list, as they do if the gate stands only for legal lists
 abbrev pub SerialsRiseIn : List Turn → Type 0
 SerialsRiseIn turns = AreOfGate (λ mark list. SerialsRise list) turns
 
 -- ---- the publications
 
--- where the run stands after these turns
-abbrev pub point_after : Point → List Turn → Point
+-- the point of the run after these turns
+abbrev pub point_after : Point State → List Turn → Point State
 point_after from [] = from
 point_after from (turn ∷ turns) = point_after turn.to turns
 
@@ -46,7 +48,7 @@ pub record MarkGrows (old new : Mark) : Type 0 where
 -- A retained publication that the client was told is kept: a PUBLISH with RETAIN 1 that is not one sent again, and a PUBACK
 -- or a PUBREC of 0x00 among the replies.
 pub record IsToldKept (o : Open) (turn : Turn) (p : Publish) (answer : Reply) : Type 0 where
-  pub input : turn.input ≡ Whole (packet.Publish p)
+  pub input : turn.given.input ≡ Whole (packet.Publish p)
   pub retained : p.retain ≡ true
   pub new : is_held (held_id p.qos p.id) o.inbound ≡ false
   pub code : acknowledged_by p.qos p.id Success ≡ Some answer
@@ -65,6 +67,6 @@ pub record IsKeptIn (before : Mark) (turn : Turn) (p : Publish) (lists : List (L
   pub topic : List ℕ
   pub operation : Operation
   pub is_topic : p.topic ≡ Ok topic
-  pub changes : change p topic turn.now ≡ Some operation
+  pub changes : change p topic turn.given.now ≡ Some operation
   pub used : before.serial < turn.to.mark.serial
   pub kept : AllByRecursion (StandsOnce (record { origin = record { place = turn.to.mark.place; serial = turn.to.mark.serial }; operation = operation })) lists

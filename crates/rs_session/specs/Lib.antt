@@ -1,4 +1,5 @@
 pub mod Gate
+pub mod Points
 pub mod Subscriptions
 pub mod State
 pub mod Reasons

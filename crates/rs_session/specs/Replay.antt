@@ -2,7 +2,6 @@
 -- MQTT Version 5.0.
 use Rattle.std.specs.Prelude.{◌≡◌, ℕ, ◌≤◌, ◌⊎◌, ◌&&◌, Bool, MatchBool, min, nat_lt, if◌then◌else◌, List, [], ◌∷◌, ◌++◌, map, Option, Some, None, Ok, Err}
 use Rattle.std.specs.FinMap as finite
-use Rattle.rs_packet.specs.declared.packet.Options.{Options}
 use Rattle.rs_packet.specs.declared.packet.Connect.{Connect}
 use Rattle.rs_packet.specs.declared.packet.Packet.TheVariants as packet
 use Rattle.rs_packet.specs.declared.reply.Publication.{Publication}
@@ -22,10 +21,12 @@ use Rattle.rs_window.specs.State as window_state
 use Rattle.rs_window.specs.Values.{PublishValue}
 use Rattle.rs_window.specs.Waiting.{Carries, IsDropped}
 use Rattle.rs_window.specs.declared.queue.Waiting.{Waiting}
+use Rattle.rs_window.specs.declared.window.TheConstants.{MAX_QUOTA}
 use Rattle.rs_window.specs.declared.fault.Ack.{Ack}
 use Rattle.rs_window.specs.declared.fault.WindowFault.TheVariants.{WrongKind}
 use Rattle.rs_session.specs.Subscriptions.{Subscriptions, none, is_subscribed, replays}
-use Rattle.rs_session.specs.Table.{receive_limit, packet_limit, acknowledgement_of, due_for}
+use Rattle.rs_session.specs.declared.subscriptions.Subscription.{Subscription}
+use Rattle.rs_session.specs.Table.{receive_limit, packet_limit, acknowledgement_of, due_for, subscription_for}
 use Rattle.rs_session.specs.Run.{Turn}
 use Rattle.rs_session.specs.declared.open.Outcome.TheVariants.{Replies}
 use Rattle.rs_session.specs.declared.phase.Input.{Input}
@@ -40,27 +41,28 @@ abbrev pub is_granted : ℕ → Bool
 is_granted code = nat_lt code 0x80
 
 -- the subscriptions once a filter was answered by this code
-abbrev pub subscribed_by : Filter → Options → Option ℕ → ℕ → Subscriptions → Subscriptions
-subscribed_by (Err fault) options identifier code there = there
-subscribed_by (Ok filter) options identifier code there = if is_granted code then finite.insert there filter (record { options = options; identifier = identifier }) else there
+abbrev pub subscribed_by : Filter → Subscription → ℕ → Subscriptions → Subscriptions
+subscribed_by (Err fault) subscription code there = there
+subscribed_by (Ok filter) subscription code there = if is_granted code then finite.insert there filter subscription else there
 
 -- all that the list answers is queued, at the granted QoS and with the Subscription Identifier
-abbrev pub IsQueuedAt : List ℕ → Options → Option ℕ → ℕ → List Entry → ℕ → List Call → Type 0
-IsQueuedAt filter options identifier now list code own =
-    (found : List Found) × IsAnswer list filter now found × (code ≡ level options.qos) × (own ≡ Queue found options.qos identifier (Ok tt) ∷ [])
+abbrev pub IsQueuedAt : List ℕ → Subscription → ℕ → List Entry → ℕ → List Call → Type 0
+IsQueuedAt filter subscription now list code own =
+    (found : List Found) × IsAnswer list filter now found × (code ≡ level subscription.options.qos) × (own ≡ Queue found subscription.options.qos subscription.identifier (Ok tt) ∷ [])
 
 -- a filter that is granted and that its Retain Handling lets replay; another queues nothing
-abbrev pub IsQueuedFor : Filter → Options → Option ℕ → ℕ → List Entry → ℕ → Subscriptions → List Call → Type 0
-IsQueuedFor (Err fault) options identifier now list code there own = own ≡ []
-IsQueuedFor (Ok filter) options identifier now list code there own =
-    MatchBool (is_granted code && replays options.retain_handling (is_subscribed filter there)) (IsQueuedAt filter options identifier now list code own) (own ≡ [])
+abbrev pub IsQueuedFor : Filter → Subscription → ℕ → List Entry → ℕ → Subscriptions → List Call → Type 0
+IsQueuedFor (Err fault) subscription now list code there own = own ≡ []
+IsQueuedFor (Ok filter) subscription now list code there own =
+    MatchBool (is_granted code && replays subscription.options.retain_handling (is_subscribed filter there)) (IsQueuedAt filter subscription now list code own) (own ≡ [])
 
 -- one filter after the other, each with the next code, by the next list
 abbrev pub AreQueued : ℕ → List Asked → Option ℕ → List ℕ → List (List Entry) → Subscriptions → List Call → Type 0
 AreQueued now [] identifier codes answered there made = (codes ≡ []) × (answered ≡ []) × (made ≡ [])
 AreQueued now (asked ∷ more) identifier codes answered there made =
     (code : ℕ) × (rest : List ℕ) × (list : List Entry) × (later : List (List Entry)) × (own : List Call) × (others : List Call) × (codes ≡ code ∷ rest) × (answered ≡ list ∷ later)
-    × (made ≡ own ++ others) × IsQueuedFor asked.0 asked.1 identifier now list code there own × AreQueued now more identifier rest later (subscribed_by asked.0 asked.1 identifier code there) others
+    × (made ≡ own ++ others) × IsQueuedFor asked.0 (subscription_for asked identifier) now list code there own
+    × AreQueued now more identifier rest later (subscribed_by asked.0 (subscription_for asked identifier) code there) others
 
 -- ---- the calls of a turn
 
@@ -109,14 +111,14 @@ pub record IsServed (there : Subscriptions) (packet_maximum : ℕ) (turn : Turn)
   pub answer : Option Reply
   pub own : List Call
   pub given : List PublishValue
-  pub called : AreCalledBy turn.input turn.now turn.answered there answer own
+  pub called : AreCalledBy turn.given.input turn.given.now turn.answered there answer own
   pub no_publish : IsNoPublish answer
-  pub whole : made ≡ own ++ giving turn.now given
+  pub whole : made ≡ own ++ giving turn.given.now given
   pub replies : turn.replies ≡ listed (due_for packet_maximum (Replies answer)) ++ map reply_of given
 
 -- the session ends, and no more is given
 pub record IsLast (turn : Turn) (made : List Call) : Type 0 where
-  pub refused : IsRefused (acknowledgement_in turn.input) made
+  pub refused : IsRefused (acknowledgement_in turn.given.input) made
   pub none_given : publications turn.replies ≡ []
 
 abbrev pub AreMade : Subscriptions → Turn → Phase → List Call → Type 0
@@ -159,7 +161,7 @@ IsOpen (phase.Ended closing) = ⊥
 -- the first turn accepts this CONNECT
 abbrev pub Opens : Connect → List Turn → Type 0
 Opens c [] = ⊥
-Opens c (turn ∷ turns) = (turn.input ≡ Whole (packet.Connect c)) × IsOpen turn.to.state.phase
+Opens c (turn ∷ turns) = (turn.given.input ≡ Whole (packet.Connect c)) × IsOpen turn.to.state.phase
 
 -- the calls of a run of the window, from a new one
 pub record IsReplaying (c : Connect) (turns : List Turn) : Type 0 where
@@ -169,7 +171,7 @@ pub record IsReplaying (c : Connect) (turns : List Turn) : Type 0 where
 
 -- ---- what was queued, and what became of it
 
--- These messages leave the queue at a moment, in order. Each is sent as its packet, or it is dropped, since it has expired or
+-- These messages leave the queue at a given time, in order. Each is sent as its packet, or it is dropped, since it has expired or
 -- its packet is longer than the client takes.
 abbrev pub AreSentOrDropped : ℕ → ℕ → List Waiting → List Publication → Type 0
 AreSentOrDropped packet_maximum now [] sent = sent ≡ []
@@ -181,21 +183,21 @@ AreSentOrDropped packet_maximum now (w ∷ ws) sent =
 abbrev pub AreSent : ℕ → List Turn → List Waiting → Type 0
 AreSent packet_maximum [] front = front ≡ []
 AreSent packet_maximum (turn ∷ turns) front =
-    (gone : List Waiting) × (rest : List Waiting) × (front ≡ gone ++ rest) × AreSentOrDropped packet_maximum turn.now gone (publications turn.replies) × AreSent packet_maximum turns rest
+    (gone : List Waiting) × (rest : List Waiting) × (front ≡ gone ++ rest) × AreSentOrDropped packet_maximum turn.given.now gone (publications turn.replies) × AreSent packet_maximum turns rest
 
 -- these identifiers wait for an acknowledgement after the calls, and they are not more than the client takes
 pub record IsWithinQuota (c : Connect) (before : List Call) : Type 0 where
   pub kinds : Kinds
   pub unacknowledged : calls.AreUnacknowledged before kinds
-  pub few : finite.len kinds ≤ min (receive_limit c.receive_maximum) 1024
+  pub few : finite.len kinds ≤ min (receive_limit c.receive_maximum) MAX_QUOTA
 
 -- A prefix of what these calls queued has left the queue, and the rest waits. The PUBLISH replies of the run are this prefix, in
--- order, each message once, less what was dropped. The quota is the lesser of the client's Receive Maximum and 1,024: after each of the calls no more
--- identifiers wait for an acknowledgement, and at the end just those of the window do.
+-- order, each message once, less what was dropped. The quota is the lesser of the client's Receive Maximum and `MAX_QUOTA`:
+-- after each of the calls no more identifiers wait for an acknowledgement, and at the end just those of the window do.
 pub record IsSentInOrder (c : Connect) (turns : List Turn) (made : List Call) : Type 0 where
   pub front : List Waiting
   pub whole : calls.queued made ≡ front ++ (window_after (window_for c) turns).waiting
   pub sent : AreSent (packet_limit c.packet_maximum) turns front
-  pub quota : (window_after (window_for c) turns).quota ≡ min (receive_limit c.receive_maximum) 1024
+  pub quota : (window_after (window_for c) turns).quota ≡ min (receive_limit c.receive_maximum) MAX_QUOTA
   pub within : (before after : List Call) → made ≡ before ++ after → IsWithinQuota c before
   pub unacknowledged : calls.AreUnacknowledged made (window_after (window_for c) turns).kinds

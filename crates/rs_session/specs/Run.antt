@@ -3,30 +3,25 @@ use Rattle.std.specs.Prelude.{◌≡◌, ℕ, ◌+◌, ◌≤◌, Option, Some, 
 use Rattle.std.specs.List.{All}
 use Rattle.std.specs.FinMap as finite
 use Rattle.std.specs.FinSet as set
+use Rattle.rs_packet.specs.declared.limits.TheConstants.{RECEIVE_MAXIMUM}
 use Rattle.rs_packet.specs.declared.reply.Reply.{Reply}
 use Rattle.rs_message.specs.declared.entry.Entry.{Entry}
 use Rattle.rs_window.specs.declared.queue.TheConstants.{MAX_WAITING}
+use Rattle.rs_window.specs.declared.window.TheConstants.{MAX_QUOTA}
 use Rattle.rs_session.specs.declared.open.Open.{Open}
-use Rattle.rs_session.specs.declared.phase.Input.{Input}
 use Rattle.rs_session.specs.declared.subscriptions.TheConstants.{MAX_SUBSCRIPTIONS}
 use Rattle.rs_session.specs.Gate.{Mark, Extends}
+use Rattle.rs_session.specs.Points.{Given, Point, with_state}
 use Rattle.rs_session.specs.State.{State, closing_of, waiting_of, IsGiven}
 use Rattle.rs_session.specs.Table.{Case, Row}
 
--- where a run stands: the session, the gate's list, and its mark
-pub record Point : Type 0 where
-  pub state : State
-  pub seen : List Entry
-  pub mark : Mark
-
--- one input at its moment, the lists by which the filters of a SUBSCRIBE were answered, all that was replied to it,
+-- what was given at a moment, the lists by which the filters of a SUBSCRIBE were answered, all that was replied to it,
 -- and where the run stands then
 pub record Turn : Type 0 where
-  pub input : Input
-  pub now : ℕ
+  pub given : Given
   pub answered : List (List Entry)
   pub replies : List Reply
-  pub to : Point
+  pub to : Point State
 
 -- these replies are given one after the other
 abbrev pub Gives : ℕ → Option Reply → State → List Reply → Option Reply → State → Type 0
@@ -41,17 +36,17 @@ pub record GivesAll (now : ℕ) (due : Option Reply) (old : State) (replies : Li
   pub none_left : IsGiven now left last None None new
 
 -- one row of the table in a session that goes on, and then the replies that it leaves due and those that wait
-pub record IsTurn (from : Point) (turn : Turn) : Type 0 where
+pub record IsTurn (from : Point State) (turn : Turn) : Type 0 where
   pub goes_on : closing_of from.state.phase ≡ None
   pub case : Case
   pub due : Option Reply
   pub mid : State
   pub grows : Extends turn.to.seen from.seen
-  pub row : Row case turn.input turn.now from.state from.mark from.seen turn.answered turn.to.seen turn.to.mark due mid
-  pub all_given : GivesAll turn.now due mid turn.replies turn.to.state
+  pub row : Row case turn.given from turn.answered due (with_state turn.to mid)
+  pub all_given : GivesAll turn.given.now due mid turn.replies turn.to.state
 
 -- one turn after the other
-abbrev pub Run : Point → List Turn → Point → Type 0
+abbrev pub Run : Point State → List Turn → Point State → Type 0
 Run from [] to = to ≡ from
 Run from (turn ∷ turns) to = IsTurn from turn × Run turn.to turns to
 
@@ -73,11 +68,11 @@ due_count (Some reply) = 1
 abbrev pub replies_left : Option Reply → State → ℕ
 replies_left due state = due_count due + length (waiting_of state.phase)
 
--- 3.2.2.3.3, 4.9: an open session keeps at most so many subscriptions, identifiers of QoS 2, messages that wait, and
--- messages that are not acknowledged
+-- 3.2.2.3.3, 4.9: the most that an open session keeps of subscriptions, of identifiers of QoS 2, of messages that wait, and
+-- of messages that are not acknowledged
 pub record IsWithinLimits (o : Open) : Type 0 where
   pub subscriptions : finite.len o.subscriptions ≤ MAX_SUBSCRIPTIONS
-  pub held : set.len o.inbound ≤ 16
+  pub held : set.len o.inbound ≤ RECEIVE_MAXIMUM
   pub waiting : length o.window.waiting ≤ MAX_WAITING
   pub unacknowledged : finite.len o.window.kinds ≤ o.window.quota
-  pub quota : o.window.quota ≤ 1024
+  pub quota : o.window.quota ≤ MAX_QUOTA

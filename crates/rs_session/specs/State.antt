@@ -2,10 +2,13 @@
 use Rattle.std.specs.Prelude.{◌≡◌, ℕ, nat_le, if◌then◌else◌, List, [], length, Option, Some, None, option_map}
 use Rattle.rs_packet.specs.declared.reply.Reply.{Reply}
 use Rattle.rs_packet.specs.Replies.{reply_bytes}
+use Rattle.rs_message.specs.declared.entry.Entry.{Entry}
 use Rattle.rs_window.specs.Calls.{IsNext}
 use Rattle.rs_window.specs.Packets.{reply_of}
 use Rattle.rs_window.specs.Values.{PublishValue}
 use Rattle.rs_window.specs.declared.queue.Waiting.{Waiting}
+use Rattle.rs_session.specs.Gate.{Mark}
+use Rattle.rs_session.specs.Points.{Point, point_at}
 use Rattle.rs_session.specs.declared.open.Open.{Open}
 use Rattle.rs_session.specs.declared.phase.Closing.{Closing}
 use Rattle.rs_session.specs.declared.phase.Phase.{Phase}
@@ -28,6 +31,10 @@ due_of s = s.due
 
 abbrev pub gate_of : {G : Type 0} → Session G → G
 gate_of s = s.gate
+
+-- where a session stands while its gate stands for this list
+abbrev pub session_at : {G : Type 0} → (G → Mark) → Session G → List Entry → Point State
+session_at mark_of s seen = point_at (state_of s) seen (mark_of (gate_of s))
 
 abbrev pub fresh : List ℕ → State
 fresh assigned = record { phase = phase.Before; assigned = assigned }
@@ -57,7 +64,7 @@ waiting_of (phase.Ended closing) = []
 abbrev pub within : ℕ → Reply → Option Reply
 within limit r = if nat_le (length (reply_bytes r)) limit then Some r else None
 
--- what the window gives at a moment, as a reply
+-- what the window gives at a given time, as a reply
 pub record IsSent (now : ℕ) (old : Open) (given : Option Reply) (new : Open) : Type 0 where
   pub publish : Option PublishValue
   pub next : IsNext now old.window publish new.window

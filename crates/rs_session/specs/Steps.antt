@@ -6,12 +6,12 @@ use Rattle.rs_packet.specs.declared.packet.Publish.{Publish}
 use Rattle.rs_packet.specs.declared.packet.Qos.{Qos}
 use Rattle.rs_packet.specs.declared.reply.Reply.{Reply}
 use Rattle.rs_packet.specs.Replies.{reply_bytes}
-use Rattle.rs_message.specs.declared.entry.Entry.{Entry}
 use Rattle.rs_message.specs.declared.entry.Operation.{Operation}
 use Rattle.rs_message.specs.declared.fault.SubmitFault.{SubmitFault}
 use Rattle.rs_message.specs.declared.fault.SubmitFault.TheVariants.{Full, NoMemory, Strange, Closed}
 use Rattle.rs_message.specs.declared.fault.SubmitFault.TheVariants as submit_fault
-use Rattle.rs_session.specs.Gate.{Mark, IsSubmitted}
+use Rattle.rs_session.specs.Gate.{IsSubmitted}
+use Rattle.rs_session.specs.Points.{Point}
 use Rattle.rs_session.specs.Reasons.{code_of}
 use Rattle.rs_session.specs.declared.reason.ReasonCode.{ReasonCode}
 use Rattle.rs_session.specs.declared.reason.ReasonCode.TheVariants.{Success, BadAuthenticationMethod, ImplementationSpecificError, QuotaExceeded, ReceiveMaximumExceeded, TopicAliasInvalid}
@@ -34,7 +34,7 @@ IsAccepted connack limit open_ old due new =
     ((length (reply_bytes connack) ≤ limit) × (due ≡ Some connack) × (new ≡ opened old open_))
     ⊎ ((limit < length (reply_bytes connack)) × (due ≡ None) × (new ≡ ended old (ByServer (code_of Success))))
 
--- the code of a topic that is no topic name
+-- the code of a topic that is not a topic name
 abbrev pub fault_refusal : TopicFault → Option ReasonCode
 fault_refusal topic_fault.NoMemory = None
 fault_refusal fault = Some (topic_reason fault)
@@ -43,27 +43,31 @@ abbrev pub topic_refusal : Result (List ℕ) TopicFault → Option ReasonCode
 topic_refusal (Ok topic) = None
 topic_refusal (Err fault) = fault_refusal fault
 
--- what a PUBLISH leads to before its topic is used: a topic alias, then a topic that is no topic name, then
--- an identifier that is held, then one too many
+-- by its identifier: one that is held, then one too many
 abbrev pub outcome_of_id : Bool → Bool → Option Reply → Option Outcome
 outcome_of_id true many again = Some (Replies again)
 outcome_of_id false true again = Some (Closes ReceiveMaximumExceeded)
 outcome_of_id false false again = None
 
+-- by a topic that is no topic name
 abbrev pub outcome_of_topic : Option ReasonCode → Option Outcome → Option Outcome
 outcome_of_topic (Some code) rest = Some (Closes code)
 outcome_of_topic None rest = rest
 
+-- by a topic alias
 abbrev pub outcome_of_alias : Option ℕ → Option Outcome → Option Outcome
 outcome_of_alias (Some alias) rest = Some (Closes TopicAliasInvalid)
 outcome_of_alias None rest = rest
 
+-- what a PUBLISH leads to before its topic is used: by a topic alias, then by its topic, then by its identifier
+-- what a PUBLISH leads to before its topic is used: a topic alias, then a topic that is not a topic name, then
+-- its identifier
 abbrev pub outcome_before : Publish → Open → Option Outcome
 outcome_before p o =
     outcome_of_alias p.alias (outcome_of_topic (topic_refusal p.topic)
     (outcome_of_id (is_held (held_id p.qos p.id) o.inbound) (is_one_too_many (held_id p.qos p.id) o.inbound) (acknowledged_by p.qos p.id Success)))
 
--- the outcome by what the gate answered to a change
+-- the outcome of what the gate answered to a change
 abbrev pub outcome_of_answer : Result (Unit {0}) SubmitFault → Qos → Option ℕ → Outcome
 outcome_of_answer (Ok done) qos id = Replies (acknowledged_by qos id Success)
 outcome_of_answer (Err Full) qos id = Replies (acknowledged_by qos id QuotaExceeded)
@@ -73,9 +77,9 @@ outcome_of_answer (Err Strange) qos id = Closes ImplementationSpecificError
 outcome_of_answer (Err Closed) qos id = Closes ImplementationSpecificError
 
 -- what a submit leads to
-abbrev pub IsSettled : Operation → Qos → Option ℕ → Open → Mark → Mark → List Entry → Outcome → Open → Type 0
-IsSettled operation qos id old mark used list outcome new =
-    (IsSubmitted operation mark used list × (outcome ≡ Replies (acknowledged_by qos id Success)) × (new ≡ record old { inbound = held_with (held_id qos id) old.inbound }))
-    ⊎ (((outcome ≡ Replies (acknowledged_by qos id QuotaExceeded)) × (new ≡ old))
-    ⊎ (((outcome ≡ Closes QuotaExceeded) × (new ≡ old))
-    ⊎ ((outcome ≡ Closes ImplementationSpecificError) × (new ≡ old))))
+abbrev pub IsSettled : Operation → Qos → Option ℕ → Point Open → Outcome → Point Open → Type 0
+IsSettled operation qos id from outcome to =
+    (IsSubmitted operation from.mark to.mark to.seen × (outcome ≡ Replies (acknowledged_by qos id Success)) × (to.state ≡ record from.state { inbound = held_with (held_id qos id) from.state.inbound }))
+    ⊎ (((outcome ≡ Replies (acknowledged_by qos id QuotaExceeded)) × (to.state ≡ from.state))
+    ⊎ (((outcome ≡ Closes QuotaExceeded) × (to.state ≡ from.state))
+    ⊎ ((outcome ≡ Closes ImplementationSpecificError) × (to.state ≡ from.state))))

@@ -1,16 +1,16 @@
--- What a session answers to each input: one row a case. Sections are those of OASIS MQTT Version 5.0.
-use Rattle.std.specs.Prelude.{◌≡◌, ◌≢◌, ℕ, ◌<◌, ◌≤◌, ◌==◌, ◌⊎◌, Bool, true, false, ◌&&◌, not, nat_lt, if◌then◌else◌, is_some, MatchBool, List, [], ◌∷◌, length, Option, Some, None, option_map, Result, Ok, Err}
+-- What a session answers to each input: one row for each case.
+use Rattle.std.specs.Prelude.{◌≡◌, ◌≢◌, ℕ, ◌-◌, ◌^◌, ◌<◌, ◌≤◌, ◌==◌, ◌⊎◌, Bool, true, false, ◌&&◌, not, nat_lt, if◌then◌else◌, is_some, MatchBool, List, [], ◌∷◌, length, Option, Some, None, option_map, Result, Ok, Err}
 use Rattle.std.specs.List.{list_any}
 use Rattle.std.specs.FinMap as finite
 use Rattle.std.specs.FinSet as set
 use Rattle.std.specs.Ordering.{nat_cmp}
 use Rattle.rs_topic.specs.declared.text.TopicFault.{TopicFault}
 use Rattle.rs_topic.specs.declared.text.TopicFault.TheVariants as topic_fault
+use Rattle.rs_packet.specs.declared.limits.TheConstants.{RECEIVE_MAXIMUM}
 use Rattle.rs_packet.specs.Faults.{PacketFault}
 use Rattle.rs_packet.specs.Faults.{Malformed, Protocol, TooLarge, Version, NoMemory}
 use Rattle.rs_packet.specs.declared.packet.Qos.{Qos}
 use Rattle.rs_packet.specs.declared.packet.Qos.TheVariants.{AtMostOnce, AtLeastOnce, ExactlyOnce}
-use Rattle.rs_packet.specs.declared.packet.Options.{Options}
 use Rattle.rs_packet.specs.declared.packet.Acknowledgement.{Acknowledgement}
 use Rattle.rs_packet.specs.declared.packet.Connect.{Connect}
 use Rattle.rs_packet.specs.declared.packet.Publish.{Publish}
@@ -32,10 +32,12 @@ use Rattle.rs_window.specs.Calls as window
 use Rattle.rs_window.specs.declared.fault.Ack.{Ack}
 use Rattle.rs_window.specs.declared.fault.WindowFault.TheVariants.{WrongKind}
 use Rattle.rs_session.specs.Gate.{Mark, Extends, Uses, IsSubmitted, IsHandedOver}
+use Rattle.rs_session.specs.Points.{Given, Point, given_at, point_at, with_state}
 use Rattle.rs_session.specs.Reasons.{code_of}
 use Rattle.rs_session.specs.declared.reason.ReasonCode.{ReasonCode}
 use Rattle.rs_session.specs.declared.reason.ReasonCode.TheVariants.{Success, MalformedPacket, ProtocolError, ImplementationSpecificError, UnsupportedProtocolVersion, BadAuthenticationMethod, TopicFilterInvalid, TopicNameInvalid, PacketIdentifierNotFound, ReceiveMaximumExceeded, TopicAliasInvalid, PacketTooLarge, QuotaExceeded, SharedSubscriptionsNotSupported, NoSubscriptionExisted}
 use Rattle.rs_session.specs.Subscriptions.{Subscriptions, is_subscribed, has_place, replays}
+use Rattle.rs_session.specs.declared.subscriptions.Subscription.{Subscription}
 use Rattle.rs_session.specs.State.{State, opened, ended, within}
 use Rattle.rs_session.specs.declared.open.Open.{Open}
 use Rattle.rs_session.specs.declared.open.Outcome.{Outcome}
@@ -50,15 +52,15 @@ use Rattle.rs_session.specs.declared.phase.Input.TheVariants.{Whole, Broken}
 
 -- 3.1.2.11.3: without a Receive Maximum it is the greatest number
 abbrev pub receive_limit : Option ℕ → ℕ
-receive_limit None = 65535
+receive_limit None = 2 ^ 16 - 1
 receive_limit (Some limit) = limit
 
 -- 3.1.2.11.4: without a Maximum Packet Size there is no limit but the greatest number
 abbrev pub packet_limit : Option ℕ → ℕ
-packet_limit None = 4294967295
+packet_limit None = 2 ^ 32 - 1
 packet_limit (Some limit) = limit
 
--- 3.2.2.3.2: the session ends with its connection, which a client that asked for more is told
+-- 3.2.2.3.2: the session ends with its connection; a client that asked for more is told so
 abbrev pub is_longer : Option ℕ → Bool
 is_longer None = false
 is_longer (Some seconds) = nat_lt 0 seconds
@@ -81,7 +83,7 @@ open_for c = record { subscriptions = finite.empty; inbound = set.empty; window 
 abbrev pub change : Publish → List ℕ → ℕ → Option Operation
 change p topic now = operation_of p.retain topic (record { payload = p.payload; qos = p.qos; received = now; expiry = p.expiry; properties = p.properties })
 
--- the code for a topic that is no topic name
+-- the code for a topic that is not a topic name
 abbrev pub topic_reason : TopicFault → ReasonCode
 topic_reason topic_fault.Empty = ProtocolError
 topic_reason _ = TopicNameInvalid
@@ -114,7 +116,7 @@ held_with (Some id) held = set.insert held id
 -- 3.3.4: as many as the server's Receive Maximum are held, and this one is another
 abbrev pub is_one_too_many : Option ℕ → set.FinSet nat_cmp → Bool
 is_one_too_many None held = false
-is_one_too_many (Some id) held = not (set.contains held id) && set.len held == 16
+is_one_too_many (Some id) held = not (set.contains held id) && set.len held == RECEIVE_MAXIMUM
 
 -- neither sent again, nor one too many
 pub record IsTaken (p : Publish) (o : Open) : Type 0 where
@@ -156,41 +158,46 @@ is_shared _ = false
 abbrev pub is_shared_local : Asked → Bool
 is_shared_local asked = is_shared asked.0 && asked.1.no_local
 
--- 3.9.3: the code for a filter that is no topic filter
+-- 3.9.3: the code for a filter that is not a topic filter
 abbrev pub filter_reason : TopicFault → ReasonCode
 filter_reason topic_fault.Shared = SharedSubscriptionsNotSupported
 filter_reason topic_fault.NoMemory = QuotaExceeded
 filter_reason _ = TopicFilterInvalid
 
--- what waits after a replay: behind the rest, all that the list answers
-abbrev pub IsQueued : ℕ → List ℕ → Qos → Option ℕ → List Entry → Open → Open → Type 0
-IsQueued now filter qos identifier list old new =
-    (found : List Found) × IsAnswer list filter now found × window.IsQueued found qos identifier old.window (Ok tt) new.window
+-- what waits after a replay: after the rest, all that the list answers
+abbrev pub IsQueued : ℕ → List ℕ → Subscription → List Entry → Open → Open → Type 0
+IsQueued now filter subscription list old new =
+    (found : List Found) × IsAnswer list filter now found × window.IsQueued found subscription.options.qos subscription.identifier old.window (Ok tt) new.window
 
--- The filter has a place, and its subscription is new or replaces the one before. Where Retain Handling
--- says so, the retained messages wait behind the rest.
-pub record IsSubscribed (now : ℕ) (filter : List ℕ) (options : Options) (identifier : Option ℕ) (list : List Entry) (old new : Open) : Type 0 where
+-- The filter has a place, and its subscription is new or replaces the one before. If Retain Handling says so, the retained
+-- messages wait after the rest.
+pub record IsSubscribed (now : ℕ) (filter : List ℕ) (subscription : Subscription) (list : List Entry) (old new : Open) : Type 0 where
   pub place : has_place filter old.subscriptions ≡ true
-  pub kept : new.subscriptions ≡ finite.insert old.subscriptions filter (record { options = options; identifier = identifier })
-  pub replay : MatchBool (replays options.retain_handling (is_subscribed filter old.subscriptions)) (IsQueued now filter options.qos identifier list old new) (new.window ≡ old.window)
+  pub kept : new.subscriptions ≡ finite.insert old.subscriptions filter subscription
+  pub replay : MatchBool (replays subscription.options.retain_handling (is_subscribed filter old.subscriptions)) (IsQueued now filter subscription list old new) (new.window ≡ old.window)
   pub inbound : new.inbound ≡ old.inbound
 
 -- One filter: its fault, its subscription, or a refusal, after which all is as before. A refusal comes if
 -- there is no place, if too many would wait, or if memory is refused, which may be at any time.
-abbrev pub IsGrantedTo : Filter → Options → Option ℕ → ℕ → List Entry → Open → ℕ → Open → Type 0
-IsGrantedTo (Err fault) options identifier now list old code new = (code ≡ code_of (filter_reason fault)) × (new ≡ old)
-IsGrantedTo (Ok filter) options identifier now list old code new = ((code ≡ level options.qos) × IsSubscribed now filter options identifier list old new) ⊎ ((code ≡ code_of QuotaExceeded) × (new ≡ old))
+abbrev pub IsGrantedTo : Filter → Subscription → ℕ → List Entry → Open → ℕ → Open → Type 0
+IsGrantedTo (Err fault) subscription now list old code new = (code ≡ code_of (filter_reason fault)) × (new ≡ old)
+IsGrantedTo (Ok filter) subscription now list old code new = ((code ≡ level subscription.options.qos) × IsSubscribed now filter subscription list old new) ⊎ ((code ≡ code_of QuotaExceeded) × (new ≡ old))
+
+-- what is kept of a filter that is granted
+abbrev pub subscription_for : Asked → Option ℕ → Subscription
+subscription_for asked identifier = record { options = asked.1; identifier = identifier }
 
 -- by the list that the gate stands for when it is asked
 abbrev pub IsGranted : ℕ → Asked → Option ℕ → List Entry → Open → ℕ → Open → Type 0
-IsGranted now asked identifier list old code new = IsGrantedTo asked.0 asked.1 identifier now list old code new
+IsGranted now asked identifier list old code new = IsGrantedTo asked.0 (subscription_for asked identifier) now list old code new
 
--- one filter after the other, each by the next of the answered lists, of which the one before is a prefix
-abbrev pub Grants : ℕ → List Asked → Option ℕ → List Entry → Open → List ℕ → List (List Entry) → List Entry → Open → Type 0
-Grants now [] identifier seen old codes answered list new = (codes ≡ []) × (answered ≡ []) × (list ≡ seen) × (new ≡ old)
-Grants now (asked ∷ more) identifier seen old codes answered list new =
-    (code : ℕ) × (rest : List ℕ) × (mid : List Entry) × (later : List (List Entry)) × (between : Open) × (codes ≡ code ∷ rest) × (answered ≡ mid ∷ later)
-    × Extends mid seen × IsGranted now asked identifier mid old code between × Grants now more identifier mid between rest later list new
+-- One filter after the other, each by the next of the answered lists, of which the one before is a prefix. Of the marks it
+-- says nothing.
+abbrev pub Grants : ℕ → List Asked → Option ℕ → Point Open → List ℕ → List (List Entry) → Point Open → Type 0
+Grants now [] identifier from codes answered to = (codes ≡ []) × (answered ≡ []) × (to.seen ≡ from.seen) × (to.state ≡ from.state)
+Grants now (asked ∷ more) identifier from codes answered to =
+    (code : ℕ) × (rest : List ℕ) × (later : List (List Entry)) × (between : Point Open) × (codes ≡ code ∷ rest) × (answered ≡ between.seen ∷ later)
+    × Extends between.seen from.seen × IsGranted now asked identifier between.seen from.state code between.state × Grants now more identifier between rest later to
 
 -- ---- 3.10, 3.11: UNSUBSCRIBE and UNSUBACK
 
@@ -250,99 +257,100 @@ pub data OpenCase : Type 0 where
 
 -- A PUBLISH that the rows before those of a submit let pass. It is handed to the store at most once, and no other change
 -- than its own is; so at QoS 0 too, and if it is refused.
-pub record IsHanded (p : Publish) (topic : List ℕ) (now : ℕ) (operation : Operation) (old : Open) (mark : Mark) (seen list : List Entry) (used : Mark) : Type 0 where
-  pub taken : IsTaken p old
+pub record IsHanded (p : Publish) (topic : List ℕ) (operation : Operation) (now : ℕ) (from to : Point Open) : Type 0 where
+  pub taken : IsTaken p from.state
   pub is_topic : p.topic ≡ Ok topic
   pub changes : change p topic now ≡ Some operation
-  pub one_used : Uses mark used
-  pub no_other : IsHandedOver operation used seen list
+  pub one_used : Uses from.mark to.mark
+  pub no_other : IsHandedOver operation to.mark from.seen to.seen
 
 -- the session stays as it was, and no serial is used
-pub record IsUnchanged (mark used : Mark) (old new : Open) : Type 0 where
-  pub none_used : used ≡ mark
-  pub same : new ≡ old
+pub record IsUnchanged (from to : Point Open) : Type 0 where
+  pub none_used : to.mark ≡ from.mark
+  pub same : to.state ≡ from.state
 
--- What a row does in an open session, from what it keeps, the mark and the gate's list before to those after,
--- and what it leads to: a reply or none, a DISCONNECT with this code, or the end by the client. `answered` are the
--- lists by which the filters of a SUBSCRIBE are answered, one for each.
-abbrev pub OpenRow : OpenCase → Input → ℕ → Open → Mark → List Entry → List (List Entry) → List Entry → Mark → Outcome → Open → Type 0
+-- What a row does in an open session with what it is given, from the point before to the point after, and what it leads
+-- to: a reply or none, a DISCONNECT with this code, or the end by the client. `answered` are the lists by which the
+-- filters of a SUBSCRIBE are answered, one for each.
+abbrev pub OpenRow : OpenCase → Given → Point Open → List (List Entry) → Outcome → Point Open → Type 0
 -- 3.1: a second CONNECT
-OpenRow Connected_twice input now old mark seen answered list used outcome new =
-    (c : Connect) × (input ≡ Whole (packet.Connect c)) × (outcome ≡ Closes ProtocolError) × IsUnchanged mark used old new
-OpenRow Faulty input now old mark seen answered list used outcome new =
-    (fault : PacketFault) × (input ≡ Broken fault) × (outcome ≡ Closes (fault_reason fault)) × IsUnchanged mark used old new
+OpenRow Connected_twice given from answered outcome to =
+    (c : Connect) × (given.input ≡ Whole (packet.Connect c)) × (outcome ≡ Closes ProtocolError) × IsUnchanged from to
+OpenRow Faulty given from answered outcome to =
+    (fault : PacketFault) × (given.input ≡ Broken fault) × (outcome ≡ Closes (fault_reason fault)) × IsUnchanged from to
 -- 3.3.2.3.4: CONNACK allowed none
-OpenRow With_alias input now old mark seen answered list used outcome new =
-    (p : Publish) × (input ≡ Whole (packet.Publish p)) × (is_some p.alias ≡ true) × (outcome ≡ Closes TopicAliasInvalid) × IsUnchanged mark used old new
+OpenRow With_alias given from answered outcome to =
+    (p : Publish) × (given.input ≡ Whole (packet.Publish p)) × (is_some p.alias ≡ true) × (outcome ≡ Closes TopicAliasInvalid) × IsUnchanged from to
 -- 3.3.2.1
-OpenRow Bad_topic input now old mark seen answered list used outcome new =
-    (p : Publish) × (fault : TopicFault) × (input ≡ Whole (packet.Publish p)) × (is_some p.alias ≡ false) × (p.topic ≡ Err fault) × (fault ≢ topic_fault.NoMemory)
-    × (outcome ≡ Closes (topic_reason fault)) × IsUnchanged mark used old new
+OpenRow Bad_topic given from answered outcome to =
+    (p : Publish) × (fault : TopicFault) × (given.input ≡ Whole (packet.Publish p)) × (is_some p.alias ≡ false) × (p.topic ≡ Err fault) × (fault ≢ topic_fault.NoMemory)
+    × (outcome ≡ Closes (topic_reason fault)) × IsUnchanged from to
 -- 4.3.3: it is the same publication
-OpenRow Sent_again input now old mark seen answered list used outcome new =
-    (p : Publish) × (input ≡ Whole (packet.Publish p)) × (is_some p.alias ≡ false) × IsTopicOrUnread p.topic × (is_held (held_id p.qos p.id) old.inbound ≡ true)
-    × (outcome ≡ Replies (acknowledged_by p.qos p.id Success)) × IsUnchanged mark used old new
+OpenRow Sent_again given from answered outcome to =
+    (p : Publish) × (given.input ≡ Whole (packet.Publish p)) × (is_some p.alias ≡ false) × IsTopicOrUnread p.topic × (is_held (held_id p.qos p.id) from.state.inbound ≡ true)
+    × (outcome ≡ Replies (acknowledged_by p.qos p.id Success)) × IsUnchanged from to
 -- 3.3.4
-OpenRow Too_many_held input now old mark seen answered list used outcome new =
-    (p : Publish) × (input ≡ Whole (packet.Publish p)) × (is_some p.alias ≡ false) × IsTopicOrUnread p.topic × (is_one_too_many (held_id p.qos p.id) old.inbound ≡ true)
-    × (outcome ≡ Closes ReceiveMaximumExceeded) × IsUnchanged mark used old new
+OpenRow Too_many_held given from answered outcome to =
+    (p : Publish) × (given.input ≡ Whole (packet.Publish p)) × (is_some p.alias ≡ false) × IsTopicOrUnread p.topic × (is_one_too_many (held_id p.qos p.id) from.state.inbound ≡ true)
+    × (outcome ≡ Closes ReceiveMaximumExceeded) × IsUnchanged from to
 -- 3.3.1.3: RETAIN 0 changes nothing
-OpenRow Not_retained input now old mark seen answered list used outcome new =
-    (p : Publish) × (topic : List ℕ) × (input ≡ Whole (packet.Publish p)) × IsTaken p old × (p.topic ≡ Ok topic) × (p.retain ≡ false)
-    × (outcome ≡ Replies (acknowledged_by p.qos p.id Success)) × (used ≡ mark) × (new ≡ holding p old)
-OpenRow Kept input now old mark seen answered list used outcome new =
-    (p : Publish) × (topic : List ℕ) × (operation : Operation) × (input ≡ Whole (packet.Publish p)) × IsHanded p topic now operation old mark seen list used × IsSubmitted operation mark used list
-    × (outcome ≡ Replies (acknowledged_by p.qos p.id Success)) × (new ≡ holding p old)
+OpenRow Not_retained given from answered outcome to =
+    (p : Publish) × (topic : List ℕ) × (given.input ≡ Whole (packet.Publish p)) × IsTaken p from.state × (p.topic ≡ Ok topic) × (p.retain ≡ false)
+    × (outcome ≡ Replies (acknowledged_by p.qos p.id Success)) × (to.mark ≡ from.mark) × (to.state ≡ holding p from.state)
+OpenRow Kept given from answered outcome to =
+    (p : Publish) × (topic : List ℕ) × (operation : Operation) × (given.input ≡ Whole (packet.Publish p)) × IsHanded p topic operation given.now from to × IsSubmitted operation from.mark to.mark to.seen
+    × (outcome ≡ Replies (acknowledged_by p.qos p.id Success)) × (to.state ≡ holding p from.state)
 -- no memory for the topic, which may be at any time
-OpenRow Topic_unread input now old mark seen answered list used outcome new =
-    (p : Publish) × (input ≡ Whole (packet.Publish p)) × IsTaken p old × (p.topic ≡ Err topic_fault.NoMemory)
-    × (outcome ≡ Replies (acknowledged_by p.qos p.id QuotaExceeded)) × IsUnchanged mark used old new
--- the store or memory is full
-OpenRow Not_kept input now old mark seen answered list used outcome new =
-    (p : Publish) × (topic : List ℕ) × (operation : Operation) × (input ≡ Whole (packet.Publish p)) × IsHanded p topic now operation old mark seen list used
-    × (outcome ≡ Replies (acknowledged_by p.qos p.id QuotaExceeded)) × (new ≡ old)
+OpenRow Topic_unread given from answered outcome to =
+    (p : Publish) × (given.input ≡ Whole (packet.Publish p)) × IsTaken p from.state × (p.topic ≡ Err topic_fault.NoMemory)
+    × (outcome ≡ Replies (acknowledged_by p.qos p.id QuotaExceeded)) × IsUnchanged from to
+-- the store is full, or memory was refused
+OpenRow Not_kept given from answered outcome to =
+    (p : Publish) × (topic : List ℕ) × (operation : Operation) × (given.input ≡ Whole (packet.Publish p)) × IsHanded p topic operation given.now from to
+    × (outcome ≡ Replies (acknowledged_by p.qos p.id QuotaExceeded)) × (to.state ≡ from.state)
 -- the store gave no receipt
-OpenRow Uncertain input now old mark seen answered list used outcome new =
-    (p : Publish) × (topic : List ℕ) × (operation : Operation) × (input ≡ Whole (packet.Publish p)) × IsHanded p topic now operation old mark seen list used
-    × (outcome ≡ Closes QuotaExceeded) × (new ≡ old)
--- the store takes no more, or answered for another
-OpenRow Gate_closed input now old mark seen answered list used outcome new =
-    (p : Publish) × (topic : List ℕ) × (operation : Operation) × (input ≡ Whole (packet.Publish p)) × IsHanded p topic now operation old mark seen list used
-    × (outcome ≡ Closes ImplementationSpecificError) × (new ≡ old)
+OpenRow Uncertain given from answered outcome to =
+    (p : Publish) × (topic : List ℕ) × (operation : Operation) × (given.input ≡ Whole (packet.Publish p)) × IsHanded p topic operation given.now from to
+    × (outcome ≡ Closes QuotaExceeded) × (to.state ≡ from.state)
+-- the store takes no more, or answered for another change
+OpenRow Gate_closed given from answered outcome to =
+    (p : Publish) × (topic : List ℕ) × (operation : Operation) × (given.input ≡ Whole (packet.Publish p)) × IsHanded p topic operation given.now from to
+    × (outcome ≡ Closes ImplementationSpecificError) × (to.state ≡ from.state)
 -- 3.6, 4.3.3
-OpenRow Released input now old mark seen answered list used outcome new =
-    (a : Acknowledgement) × (input ≡ Whole (packet.Pubrel a)) × (outcome ≡ Replies (Some (reply.Pubcomp a.id (code_of (released_reason a.id old.inbound)))))
-    × (used ≡ mark) × (new ≡ record old { inbound = set.remove old.inbound a.id })
+OpenRow Released given from answered outcome to =
+    (a : Acknowledgement) × (given.input ≡ Whole (packet.Pubrel a)) × (outcome ≡ Replies (Some (reply.Pubcomp a.id (code_of (released_reason a.id from.state.inbound)))))
+    × (to.mark ≡ from.mark) × (to.state ≡ record from.state { inbound = set.remove from.state.inbound a.id })
 -- 4.3: an acknowledgement that the PUBLISH with this identifier does not await
-OpenRow Wrong_acknowledgement input now old mark seen answered list used outcome new =
-    (p : Packet) × (ack : window.Acknowledgement) × (id : ℕ) × (input ≡ Whole p) × (acknowledgement_of p ≡ Some (ack, id)) × (window.answer_to ack (finite.get old.window.kinds id) ≡ Err WrongKind)
-    × (outcome ≡ Closes ProtocolError) × IsUnchanged mark used old new
-OpenRow Acknowledged input now old mark seen answered list used outcome new =
-    (p : Packet) × (ack : window.Acknowledgement) × (id : ℕ) × (answer : Ack) × (input ≡ Whole p) × (acknowledgement_of p ≡ Some (ack, id)) × window.IsAcknowledged ack id old.window (Ok answer) new.window
-    × (outcome ≡ Replies (released_by ack id answer)) × (used ≡ mark) × (new ≡ record old { window = new.window })
+OpenRow Wrong_acknowledgement given from answered outcome to =
+    (p : Packet) × (ack : window.Acknowledgement) × (id : ℕ) × (given.input ≡ Whole p) × (acknowledgement_of p ≡ Some (ack, id)) × (window.answer_to ack (finite.get from.state.window.kinds id) ≡ Err WrongKind)
+    × (outcome ≡ Closes ProtocolError) × IsUnchanged from to
+OpenRow Acknowledged given from answered outcome to =
+    (p : Packet) × (ack : window.Acknowledgement) × (id : ℕ) × (answer : Ack) × (given.input ≡ Whole p) × (acknowledgement_of p ≡ Some (ack, id))
+    × window.IsAcknowledged ack id from.state.window (Ok answer) to.state.window
+    × (outcome ≡ Replies (released_by ack id answer)) × (to.mark ≡ from.mark) × (to.state ≡ record from.state { window = to.state.window })
 -- 3.8.3.1
-OpenRow Shared_no_local input now old mark seen answered list used outcome new =
-    (s : Subscribe) × (input ≡ Whole (packet.Subscribe s)) × (list_any is_shared_local s.filters ≡ true) × (outcome ≡ Closes ProtocolError) × IsUnchanged mark used old new
+OpenRow Shared_no_local given from answered outcome to =
+    (s : Subscribe) × (given.input ≡ Whole (packet.Subscribe s)) × (list_any is_shared_local s.filters ≡ true) × (outcome ≡ Closes ProtocolError) × IsUnchanged from to
 -- no memory for the codes, which may be at any time
-OpenRow Not_subscribed input now old mark seen answered list used outcome new =
-    (s : Subscribe) × (input ≡ Whole (packet.Subscribe s)) × (list_any is_shared_local s.filters ≡ false) × (outcome ≡ Closes QuotaExceeded) × IsUnchanged mark used old new
+OpenRow Not_subscribed given from answered outcome to =
+    (s : Subscribe) × (given.input ≡ Whole (packet.Subscribe s)) × (list_any is_shared_local s.filters ≡ false) × (outcome ≡ Closes QuotaExceeded) × IsUnchanged from to
 -- 3.8.4
-OpenRow Subscribed input now old mark seen answered list used outcome new =
-    (s : Subscribe) × (codes : List ℕ) × (input ≡ Whole (packet.Subscribe s)) × (list_any is_shared_local s.filters ≡ false) × Grants now s.filters s.subscription seen old codes answered list new
-    × (outcome ≡ Replies (Some (reply.Suback (record { id = s.id; codes = codes })))) × (used ≡ mark)
+OpenRow Subscribed given from answered outcome to =
+    (s : Subscribe) × (codes : List ℕ) × (given.input ≡ Whole (packet.Subscribe s)) × (list_any is_shared_local s.filters ≡ false) × Grants given.now s.filters s.subscription from codes answered to
+    × (outcome ≡ Replies (Some (reply.Suback (record { id = s.id; codes = codes })))) × (to.mark ≡ from.mark)
 -- no memory for the codes, which may be at any time
-OpenRow Not_unsubscribed input now old mark seen answered list used outcome new =
-    (u : Unsubscribe) × (input ≡ Whole (packet.Unsubscribe u)) × (outcome ≡ Closes QuotaExceeded) × IsUnchanged mark used old new
+OpenRow Not_unsubscribed given from answered outcome to =
+    (u : Unsubscribe) × (given.input ≡ Whole (packet.Unsubscribe u)) × (outcome ≡ Closes QuotaExceeded) × IsUnchanged from to
 -- 3.10.4
-OpenRow Unsubscribed input now old mark seen answered list used outcome new =
-    (u : Unsubscribe) × (input ≡ Whole (packet.Unsubscribe u)) × (outcome ≡ Replies (Some (reply.Unsuback (record { id = u.id; codes = removal_codes u.filters old.subscriptions }))))
-    × (used ≡ mark) × (new ≡ record old { subscriptions = without_all u.filters old.subscriptions })
+OpenRow Unsubscribed given from answered outcome to =
+    (u : Unsubscribe) × (given.input ≡ Whole (packet.Unsubscribe u)) × (outcome ≡ Replies (Some (reply.Unsuback (record { id = u.id; codes = removal_codes u.filters from.state.subscriptions }))))
+    × (to.mark ≡ from.mark) × (to.state ≡ record from.state { subscriptions = without_all u.filters from.state.subscriptions })
 -- 3.12
-OpenRow Pinged input now old mark seen answered list used outcome new =
-    (input ≡ Whole packet.Pingreq) × (outcome ≡ Replies (Some reply.Pingresp)) × IsUnchanged mark used old new
+OpenRow Pinged given from answered outcome to =
+    (given.input ≡ Whole packet.Pingreq) × (outcome ≡ Replies (Some reply.Pingresp)) × IsUnchanged from to
 -- 3.14
-OpenRow Disconnected input now old mark seen answered list used outcome new =
-    (code : ℕ) × (input ≡ Whole (packet.Disconnect code)) × (outcome ≡ Leaves) × IsUnchanged mark used old new
+OpenRow Disconnected given from answered outcome to =
+    (code : ℕ) × (given.input ≡ Whole (packet.Disconnect code)) × (outcome ≡ Leaves) × IsUnchanged from to
 
 -- no filter is answered in a row but that of an accepted SUBSCRIBE
 abbrev pub AnsweredInOpen : OpenCase → List (List Entry) → Type 0
@@ -350,8 +358,12 @@ AnsweredInOpen Subscribed answered = Unit {0}
 AnsweredInOpen case answered = answered ≡ []
 
 -- one of the rows
-abbrev pub LeadsTo : Input → ℕ → Open → Mark → List Entry → List (List Entry) → List Entry → Mark → Outcome → Open → Type 0
-LeadsTo input now old mark seen answered list used outcome new = (case : OpenCase) × AnsweredInOpen case answered × OpenRow case input now old mark seen answered list used outcome new
+abbrev pub LeadsTo : Given → Point Open → List (List Entry) → Outcome → Point Open → Type 0
+LeadsTo given from answered outcome to = (case : OpenCase) × AnsweredInOpen case answered × OpenRow case given from answered outcome to
+
+-- without a call of the gate: at any moment, list and mark, and the last two stay
+abbrev pub LeadsWithoutGate : Input → Open → Outcome → Open → Type 0
+LeadsWithoutGate input old outcome new = (now : ℕ) (mark : Mark) (list : List Entry) → LeadsTo (given_at input now) (point_at old list mark) [] outcome (point_at new list mark)
 
 -- ---- any session
 
@@ -367,7 +379,7 @@ state_after (Replies r) old o = opened old o
 state_after (Closes code) old o = ended old (ByServer (code_of code))
 state_after Leaves old o = ended old ByClient
 
--- what is no CONNECT and no fault of the version
+-- what is neither a CONNECT nor a fault of the version
 abbrev pub IsNeitherConnectNorVersion : Input → Type 0
 IsNeitherConnectNorVersion (Whole (packet.Connect c)) = ⊥
 IsNeitherConnectNorVersion (Whole p) = Unit {0}
@@ -388,40 +400,41 @@ pub data Case : Type 0 where
   -- after the end
   Over : Case
 
--- 3.2: a CONNACK that refuses, and the end. It is not sent if the client does not take so long a packet
-pub record IsRefused (code : ReasonCode) (c : Connect) (old : State) (mark used : Mark) (due : Option Reply) (new : State) : Type 0 where
-  pub none_used : used ≡ mark
+-- 3.2: a CONNACK that refuses, and the end. It is not sent if it is longer than the client takes
+pub record IsRefused (code : ReasonCode) (c : Connect) (from : Point State) (due : Option Reply) (to : Point State) : Type 0 where
+  pub none_used : to.mark ≡ from.mark
   pub reply : due ≡ within (packet_limit c.packet_maximum) (reply.Refused (code_of code))
-  pub end : new ≡ ended old (ByServer (code_of code))
+  pub end : to.state ≡ ended from.state (ByServer (code_of code))
 
--- what a row does, from the state, the mark and the gate's list before to those after, with the reply that is then due
-abbrev pub SessionRow : Case → Input → ℕ → State → Mark → List Entry → List (List Entry) → List Entry → Mark → Option Reply → State → Type 0
--- 4.12: enhanced authentication is not there
-SessionRow With_method input now old mark seen answered list used due new =
-    (c : Connect) × (input ≡ Whole (packet.Connect c)) × (old.phase ≡ phase.Before) × (is_some c.method ≡ true) × IsRefused BadAuthenticationMethod c old mark used due new
--- 3.1.2.5: no will is taken
-SessionRow With_will input now old mark seen answered list used due new =
-    (c : Connect) × (input ≡ Whole (packet.Connect c)) × (old.phase ≡ phase.Before) × (is_some c.method ≡ false) × (c.will ≡ true) × IsRefused ImplementationSpecificError c old mark used due new
+-- what a row does with what is given, from the point before to the point after, with the reply that is then due
+abbrev pub SessionRow : Case → Given → Point State → List (List Entry) → Option Reply → Point State → Type 0
+-- 4.12: enhanced authentication is not served
+SessionRow With_method given from answered due to =
+    (c : Connect) × (given.input ≡ Whole (packet.Connect c)) × (from.state.phase ≡ phase.Before) × (is_some c.method ≡ true) × IsRefused BadAuthenticationMethod c from due to
+-- 3.1.2.5: a will is not served
+SessionRow With_will given from answered due to =
+    (c : Connect) × (given.input ≡ Whole (packet.Connect c)) × (from.state.phase ≡ phase.Before) × (is_some c.method ≡ false) × (c.will ≡ true) × IsRefused ImplementationSpecificError c from due to
 -- no memory, which may be at any time
-SessionRow Connect_refused input now old mark seen answered list used due new =
-    (c : Connect) × (input ≡ Whole (packet.Connect c)) × (old.phase ≡ phase.Before) × (is_some c.method ≡ false) × (c.will ≡ false) × IsRefused QuotaExceeded c old mark used due new
-SessionRow Accepted input now old mark seen answered list used due new =
-    (c : Connect) × (input ≡ Whole (packet.Connect c)) × (old.phase ≡ phase.Before) × (is_some c.method ≡ false) × (c.will ≡ false)
-    × (length (reply_bytes (connack c old)) ≤ packet_limit c.packet_maximum) × (used ≡ mark) × (due ≡ Some (connack c old)) × (new ≡ opened old (open_for c))
-SessionRow Connack_too_long input now old mark seen answered list used due new =
-    (c : Connect) × (input ≡ Whole (packet.Connect c)) × (old.phase ≡ phase.Before) × (is_some c.method ≡ false) × (c.will ≡ false)
-    × (packet_limit c.packet_maximum < length (reply_bytes (connack c old))) × (used ≡ mark) × (due ≡ None) × (new ≡ ended old (ByServer (code_of Success)))
+SessionRow Connect_refused given from answered due to =
+    (c : Connect) × (given.input ≡ Whole (packet.Connect c)) × (from.state.phase ≡ phase.Before) × (is_some c.method ≡ false) × (c.will ≡ false) × IsRefused QuotaExceeded c from due to
+SessionRow Accepted given from answered due to =
+    (c : Connect) × (given.input ≡ Whole (packet.Connect c)) × (from.state.phase ≡ phase.Before) × (is_some c.method ≡ false) × (c.will ≡ false)
+    × (length (reply_bytes (connack c from.state)) ≤ packet_limit c.packet_maximum) × (to.mark ≡ from.mark) × (due ≡ Some (connack c from.state)) × (to.state ≡ opened from.state (open_for c))
+SessionRow Connack_too_long given from answered due to =
+    (c : Connect) × (given.input ≡ Whole (packet.Connect c)) × (from.state.phase ≡ phase.Before) × (is_some c.method ≡ false) × (c.will ≡ false)
+    × (packet_limit c.packet_maximum < length (reply_bytes (connack c from.state))) × (to.mark ≡ from.mark) × (due ≡ None) × (to.state ≡ ended from.state (ByServer (code_of Success)))
 -- 3.1.2.2
-SessionRow Other_version input now old mark seen answered list used due new =
-    (input ≡ Broken Version) × (old.phase ≡ phase.Before) × (used ≡ mark) × (due ≡ Some (reply.Refused (code_of UnsupportedProtocolVersion))) × (new ≡ ended old (ByServer (code_of UnsupportedProtocolVersion)))
+SessionRow Other_version given from answered due to =
+    (given.input ≡ Broken Version) × (from.state.phase ≡ phase.Before) × (to.mark ≡ from.mark) × (due ≡ Some (reply.Refused (code_of UnsupportedProtocolVersion)))
+    × (to.state ≡ ended from.state (ByServer (code_of UnsupportedProtocolVersion)))
 -- 3.1: the first packet is a CONNECT
-SessionRow Unexpected input now old mark seen answered list used due new =
-    IsNeitherConnectNorVersion input × (old.phase ≡ phase.Before) × (used ≡ mark) × (due ≡ None) × (new ≡ ended old Dropped)
-SessionRow In_session input now old mark seen answered list used due new =
-    (o : Open) × (left : Open) × (outcome : Outcome) × (old.phase ≡ phase.Open o) × LeadsTo input now o mark seen answered list used outcome left
-    × (due ≡ due_for o.window.packet_maximum outcome) × (new ≡ state_after outcome old left)
-SessionRow Over input now old mark seen answered list used due new =
-    (closing : Closing) × (old.phase ≡ phase.Ended closing) × (used ≡ mark) × (due ≡ None) × (new ≡ old)
+SessionRow Unexpected given from answered due to =
+    IsNeitherConnectNorVersion given.input × (from.state.phase ≡ phase.Before) × (to.mark ≡ from.mark) × (due ≡ None) × (to.state ≡ ended from.state Dropped)
+SessionRow In_session given from answered due to =
+    (o : Open) × (left : Open) × (outcome : Outcome) × (from.state.phase ≡ phase.Open o) × LeadsTo given (with_state from o) answered outcome (with_state to left)
+    × (due ≡ due_for o.window.packet_maximum outcome) × (to.state ≡ state_after outcome from.state left)
+SessionRow Over given from answered due to =
+    (closing : Closing) × (from.state.phase ≡ phase.Ended closing) × (to.mark ≡ from.mark) × (due ≡ None) × (to.state ≡ from.state)
 
 -- no filter is answered outside an open session
 abbrev pub AnsweredIn : Case → List (List Entry) → Type 0
@@ -429,9 +442,13 @@ AnsweredIn In_session answered = Unit {0}
 AnsweredIn case answered = answered ≡ []
 
 -- a row, with the lists by which filters are answered
-abbrev pub Row : Case → Input → ℕ → State → Mark → List Entry → List (List Entry) → List Entry → Mark → Option Reply → State → Type 0
-Row case input now old mark seen answered list used due new = AnsweredIn case answered × SessionRow case input now old mark seen answered list used due new
+abbrev pub Row : Case → Given → Point State → List (List Entry) → Option Reply → Point State → Type 0
+Row case given from answered due to = AnsweredIn case answered × SessionRow case given from answered due to
 
 -- one of the rows
-abbrev pub Answers : Input → ℕ → State → Mark → List Entry → List (List Entry) → List Entry → Mark → Option Reply → State → Type 0
-Answers input now old mark seen answered list used due new = (case : Case) × Row case input now old mark seen answered list used due new
+abbrev pub Answers : Given → Point State → List (List Entry) → Option Reply → Point State → Type 0
+Answers given from answered due to = (case : Case) × Row case given from answered due to
+
+-- without a call of the gate: at any moment, list and mark, and the last two stay
+abbrev pub AnswersWithoutGate : Input → State → Option Reply → State → Type 0
+AnswersWithoutGate input old due new = (now : ℕ) (mark : Mark) (list : List Entry) → Answers (given_at input now) (point_at old list mark) [] due (point_at new list mark)

@@ -1,8 +1,8 @@
 //! One client's session over a gate to the store (sections 3 and 4 of OASIS MQTT Version 5.0).
 //!
 //! A `Session` takes a packet, or a fault in its place, and gives the replies: at most one of its own, and then the retained
-//! messages that wait, as far as the client's Receive Maximum and Maximum Packet Size allow. The store behind it is a
-//! `Gate`; `LocalGate` keeps one of its own.
+//! messages that wait, as far as the client's Receive Maximum and Maximum Packet Size allow. It reaches the store by a
+//! `Gate`; `LocalGate` keeps one of its own. docs/SESSION.md has the rules in words.
 //!
 //! The contracts promise: each input takes one row of the table of the session (`on_input`), over every gate; no other
 //! change than that of its PUBLISH is handed to the gate; what waits is sent as the window gives it (`next_reply`). Along a

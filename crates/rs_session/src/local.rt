@@ -1,8 +1,9 @@
 //! A gate with a catalogue of its own.
 
 ghost use Rattle.std.specs.Prelude.{◌≡◌, ◌↔◌, [], List, IfOk, IfErr, OnErr, OnOk, Err, ◌⊎◌};
+ghost use Rattle.std.specs.Option.{option_map};
 ghost use Rattle.rs_store.specs.Contents.{empty, followed};
-ghost use Rattle.rs_store.specs.History.{IsAnswer, Stands};
+ghost use Rattle.rs_store.specs.History.{IsAnswer, IsAnswerWithin, Stands};
 ghost use Rattle.rs_session.specs.Gate.{Grows, Uses, Submits};
 ghost use Rattle.rs_session.specs.Local.{catalogue_of, local_mark, next_entry, IsFull};
 
@@ -23,7 +24,7 @@ pub struct LocalGate<C> {
 }
 
 impl<C: Catalogue> LocalGate<C> {
-    /// A gate to an empty store of at most so many topics. Refused only if memory is.
+    /// A gate to an empty store of at most `limit` topics. Refused only if memory is.
     pub fn new(alloc: Global, limit: TopicLimit) -> Result<LocalGate<C>, AllocError>
         ensures content { IfOk result (λ gate. C.content (catalogue_of gate) ≡ empty limit) }
         ensures list { IfOk result (λ gate. Stands (C.content (catalogue_of gate)) []) }
@@ -83,5 +84,20 @@ impl<C: Catalogue> Gate for LocalGate<C> {
         ensures same { C.content (catalogue_of self.new) ≡ C.content (catalogue_of self.old) }
     {
         self.catalogue.answer(filter, now)
+    }
+
+    /// Refused only if memory is. The store stays as it is.
+    fn answer_within(
+        &mut self,
+        filter: &TopicFilter,
+        now: u64,
+        room: usize,
+    ) -> Result<Option<Vec<Found>>, AllocError>
+        ensures list { Grows (Stands (C.content (catalogue_of self.old))) (Stands (C.content (catalogue_of self.new)))
+            (λ seen list. IfOk result (λ answer. IsAnswerWithin room list filter.now now (option_map (λ found. found.items) answer))) }
+        ensures mark { local_mark (C.content (catalogue_of self.new)) ≡ local_mark (C.content (catalogue_of self.old)) }
+        ensures same { C.content (catalogue_of self.new) ≡ C.content (catalogue_of self.old) }
+    {
+        self.catalogue.answer_within(filter, now, room)
     }
 }

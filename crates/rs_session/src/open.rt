@@ -8,6 +8,7 @@ mod unsubscribe;
 ghost use Rattle.std.specs.Prelude.{◌≡◌, ℕ, List};
 ghost use Rattle.rs_message.specs.declared.entry.Entry.{Entry};
 ghost use Rattle.rs_session.specs.Gate.{GrowsAnswering};
+ghost use Rattle.rs_session.specs.Points.{given_at, point_at};
 ghost use Rattle.rs_session.specs.Table.{LeadsTo, open_for};
 
 use crate::gate::Gate;
@@ -50,7 +51,7 @@ impl Open {
         now: u64,
     ) -> Outcome
         ensures { GrowsAnswering G.stands G.mark gate.old gate.new (λ seen answered list.
-            LeadsTo (Input.Whole packet) now self.old (G.mark gate.old) seen answered list (G.mark gate.new) result self.new) }
+            LeadsTo (given_at (Input.Whole packet) now) (point_at self.old seen (G.mark gate.old)) answered result (point_at self.new list (G.mark gate.new))) }
     {
         match packet {
             Packet::Connect(_c) => Outcome::Closes(ReasonCode::ProtocolError),

@@ -1,4 +1,4 @@
-//! Where a session stands, and what it is given.
+//! The phases of a session, and what it is given.
 
 use crate::open::Open;
 use rs_packet::{Packet, PacketFault};
@@ -8,14 +8,14 @@ use rs_packet::{Packet, PacketFault};
 pub enum Closing {
     /// The client sent DISCONNECT.
     ByClient,
-    /// A CONNACK or a DISCONNECT with this Reason Code was due. It is not sent only where the client's
-    /// Maximum Packet Size forbids it.
+    /// A CONNACK or a DISCONNECT with this Reason Code was due. It is sent, unless the client's Maximum Packet Size forbids
+    /// it.
     ByServer(u8),
     /// The server ended it without a reply.
     Dropped,
 }
 
-/// Where a session stands.
+/// The phase of a session.
 #[derive(Drop)]
 pub enum Phase {
     /// No CONNECT was accepted yet.

@@ -39,7 +39,7 @@ pub enum ReasonCode {
 }
 
 impl ReasonCode {
-    /// Its byte.
+    /// The byte of this code.
     pub fn code(self) -> u8
         ensures { result ≡ code_of self }
     {

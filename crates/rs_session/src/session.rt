@@ -7,8 +7,9 @@ ghost use Rattle.rs_message.specs.declared.entry.Entry.{Entry};
 ghost use Rattle.rs_packet.specs.declared.packet.Packet.{Packet};
 ghost use Rattle.rs_packet.specs.declared.reply.Reply.{Reply};
 ghost use Rattle.rs_session.specs.Gate.{GrowsAnswering};
+ghost use Rattle.rs_session.specs.Points.{given_at};
 ghost use Rattle.rs_session.specs.Run.{replies_left};
-ghost use Rattle.rs_session.specs.State.{state_of, due_of, gate_of, closing_of, step_of, fresh, ended, within, IsGiven};
+ghost use Rattle.rs_session.specs.State.{session_at, state_of, due_of, gate_of, closing_of, step_of, fresh, ended, within, IsGiven};
 ghost use Rattle.rs_session.specs.declared.open.Open.{Open};
 ghost use Rattle.rs_session.specs.Table.{Answers, due_for, fault_reason, state_after};
 
@@ -47,13 +48,12 @@ impl<G: Gate> Session<G> {
         }
     }
 
-    /// Handles a packet at this moment, once the reply that was due is taken. `now` is in seconds. A session that has
+    /// Handles a packet at this time, once the reply that was due is taken. `now` is in seconds. A session that has
     /// ended stays as it is.
     pub fn on_packet(&mut self, packet: Packet, now: u64) -> Step
         requires { due_of self.old ≡ None }
         ensures row { GrowsAnswering G.stands G.mark (gate_of self.old) (gate_of self.new) (λ seen answered list.
-            Answers (Input.Whole packet) now (state_of self.old) (G.mark (gate_of self.old)) seen answered list
-            (G.mark (gate_of self.new)) (due_of self.new) (state_of self.new)) }
+            Answers (given_at (Input.Whole packet) now) (session_at G.mark self.old seen) answered (due_of self.new) (session_at G.mark self.new list)) }
         ensures step { result ≡ step_of (state_of self.new).phase }
         ensures over { (closing : Closing) → (state_of self.old).phase ≡ Phase.Ended closing → self.new ≡ self.old }
     {
@@ -69,14 +69,13 @@ impl<G: Gate> Session<G> {
         self.step()
     }
 
-    /// Handles a fault in place of a packet, once the reply that was due is taken: a DISCONNECT with its Reason Code (4.13)
-    /// is due. Before an accepted CONNECT only another protocol version is
-    /// answered, by a CONNACK with 0x84 (3.1.2.2).
+    /// Handles a fault in place of a packet, once the reply that was due is taken. The session ends: with a DISCONNECT and its
+    /// Reason Code (4.13), or, before an accepted CONNECT, with a CONNACK of 0x84 for another protocol version (3.1.2.2) and
+    /// else without a reply. A session that has ended stays as it is.
     pub fn on_fault(&mut self, fault: PacketFault) -> Step
         requires { due_of self.old ≡ None }
         ensures row { (now : ℕ) → GrowsAnswering G.stands G.mark (gate_of self.old) (gate_of self.new) (λ seen answered list.
-            Answers (Input.Broken fault) now (state_of self.old) (G.mark (gate_of self.old)) seen answered list
-            (G.mark (gate_of self.new)) (due_of self.new) (state_of self.new)) }
+            Answers (given_at (Input.Broken fault) now) (session_at G.mark self.old seen) answered (due_of self.new) (session_at G.mark self.new list)) }
         ensures step { result ≡ step_of (state_of self.new).phase }
         ensures over { (closing : Closing) → (state_of self.old).phase ≡ Phase.Ended closing → self.new ≡ self.old }
     {
@@ -95,8 +94,7 @@ impl<G: Gate> Session<G> {
     pub fn on_input(&mut self, input: Input, now: u64) -> Step
         requires { due_of self.old ≡ None }
         ensures row { GrowsAnswering G.stands G.mark (gate_of self.old) (gate_of self.new) (λ seen answered list.
-            Answers input now (state_of self.old) (G.mark (gate_of self.old)) seen answered list
-            (G.mark (gate_of self.new)) (due_of self.new) (state_of self.new)) }
+            Answers (given_at input now) (session_at G.mark self.old seen) answered (due_of self.new) (session_at G.mark self.new list)) }
         ensures step { result ≡ step_of (state_of self.new).phase }
         ensures over { (closing : Closing) → (state_of self.old).phase ≡ Phase.Ended closing → self.new ≡ self.old }
     {
@@ -106,8 +104,8 @@ impl<G: Gate> Session<G> {
         }
     }
 
-    /// The next reply. `now` is the moment of the input, in seconds. None once no reply is left: after at most as many
-    /// replies as are due and wait.
+    /// The next reply. `now` is the time of the input, in seconds. None if no reply is left. Each call that gives a reply
+    /// leaves fewer.
     pub fn next_reply(&mut self, now: u64) -> Option<Reply>
         ensures given { IsGiven now (due_of self.old) (state_of self.old) result
             (due_of self.new) (state_of self.new) }

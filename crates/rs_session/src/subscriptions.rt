@@ -42,7 +42,7 @@ impl Model for Subscriptions {
 }
 
 impl Subscriptions {
-    /// None. Takes no memory.
+    /// Creates an empty set of subscriptions. Takes no memory.
     pub fn new(alloc: Global) -> Subscriptions
         ensures { result ≡ none }
     {
@@ -59,7 +59,7 @@ impl Subscriptions {
         self.map.len()
     }
 
-    /// There is one with this filter.
+    /// Whether there is a subscription to this filter.
     #[tactic(auto, using(crate::proofs::SubscriptionLemmas::get_by_filter))]
     pub fn holds(&self, filter: &TopicFilter) -> bool
         ensures { result ≡ is_subscribed filter.now self.now }
@@ -67,8 +67,8 @@ impl Subscriptions {
         self.map.contains_key(filter)
     }
 
-    /// Puts this one in the place of the one with the same filter, or adds it (3.8.4). Only a new filter takes memory:
-    /// if that is refused, nothing changes.
+    /// Adds a subscription, or replaces the one to the same filter (3.8.4). Only a new filter takes memory: if that is
+    /// refused, nothing changes.
     #[tactic(auto, using(crate::proofs::SubscriptionLemmas::get_by_filter, crate::proofs::SubscriptionLemmas::inserted))]
     pub fn insert(
         &mut self,
@@ -83,7 +83,7 @@ impl Subscriptions {
         Ok(())
     }
 
-    /// Takes out the one with this filter, and says whether there was one (3.10.4).
+    /// Removes the subscription to this filter, and says whether there was one (3.10.4).
     #[tactic(auto, using(crate::proofs::SubscriptionLemmas::get_by_filter, crate::proofs::SubscriptionLemmas::removed))]
     pub fn remove(&mut self, filter: &TopicFilter) -> bool
         ensures held { result ≡ is_subscribed filter.now self.old }

@@ -7,7 +7,7 @@ use std::test::Fail;
 
 const BYTES: [u8; 5] = [1, 2, 3, 4, 5];
 
-// Ends each call as it is told, by an error or by so many bytes, and notes the length of each slice.
+// Ends each call as it is told, by an error or by a number of bytes, and notes the length of each slice.
 #[derive(Drop)]
 struct Scripted {
     endings: [Option<usize>; 5],
@@ -73,7 +73,7 @@ fn read_some(reader: &mut Counted<Scripted>, len: usize) -> (Option<usize>, u64)
     (result, reader.failures())
 }
 
-// A call counts where it ends in an error, or where nothing is written of a slice that is not empty.
+// A call counts if it ends in an error, or if nothing is written of a slice that is not empty.
 #[test]
 fn failed_writes_are_counted(rt: HostRuntime) {
     let mut writer = by_script(rt.alloc(), [Some(3), Some(0), None, Some(0), None]);

@@ -1,11 +1,11 @@
-//! What a session hands to its gate and what it then replies, for each quality of service and each answer of the gate.
+//! What a session hands to its gate and what it then replies, for each QoS and each answer of the gate.
 
 ghost use Rattle.std.specs.Prelude.{◌≡◌, None, IfOk, OnOk};
 ghost use Rattle.rs_session.specs.State.{due_of};
 
 use bytes::Bytes;
 use rs_message::{Found, Operation, SubmitFault};
-use rs_packet::{Decoded, decode, encode};
+use rs_packet::{Decoded, RECEIVE_MAXIMUM, decode, encode};
 use rs_session::{Gate, Session};
 use rs_topic::{Text, TopicFilter};
 use std::alloc::{AllocError, Global};
@@ -37,6 +37,15 @@ impl Gate for Recording {
     }
 
     fn answer(&mut self, _filter: &TopicFilter, _now: u64) -> Result<Vec<Found>, AllocError> {
+        Err(AllocError)
+    }
+
+    fn answer_within(
+        &mut self,
+        _filter: &TopicFilter,
+        _now: u64,
+        _room: usize,
+    ) -> Result<Option<Vec<Found>>, AllocError> {
         Err(AllocError)
     }
 }
@@ -168,13 +177,14 @@ fn what_has_no_receipt_was_handed_over(rt: HostRuntime) -> Result<(), Fail> {
     Ok(())
 }
 
-/// Holds the identifiers 1 to 16, by PUBLISH packets of QoS 2 with RETAIN 0.
+/// Holds the identifiers from 1 to [`RECEIVE_MAXIMUM`], by PUBLISH packets of QoS 2 with RETAIN 0.
 fn holding(alloc: Global) -> Result<Session<Recording>, Fail>
     ensures { IfOk result (λ session. due_of session ≡ None) }
 {
     let mut session = connected(alloc, None)?;
-    for id in 1..17u8 {
-        let packet = [0x34, 7, 0, 1, b'a', 0, id, 0, b'x'];
+    for id in 1..RECEIVE_MAXIMUM + 1 {
+        let [high, low] = id.to_be_bytes();
+        let packet = [0x34, 7, 0, 1, b'a', high, low, 0, b'x'];
         reply_to(alloc, &mut session, &packet)?;
     }
     Ok(session)

@@ -9,7 +9,7 @@ use std::io;
 use std::io::Write;
 use std::test::Fail;
 
-// Takes at most 100 bytes a write, and notes where it was flushed.
+// Takes at most 100 bytes a write, and notes at which byte it was flushed.
 #[derive(Drop)]
 struct Noting {
     bytes: Vec<u8>,

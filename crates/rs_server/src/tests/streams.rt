@@ -21,7 +21,7 @@ const OUTPUT: &[u8] = &[
     0x04, 0x00, 0x01, 0x00, 0x97, 0xD0, 0x00,
 ];
 
-// Gives so many bytes a read, and fails where it is told to.
+// Gives a fixed number of bytes a read, and fails when it is told to.
 #[derive(Drop)]
 struct Slow {
     at: usize,
@@ -47,7 +47,7 @@ impl Read for Slow {
     }
 }
 
-// Takes at most two bytes a write, is full after some, and notes where it was flushed.
+// Takes at most two bytes a write, is full after some, and notes at which byte it was flushed.
 #[derive(Drop)]
 struct Narrow {
     bytes: Vec<u8>,

@@ -1,9 +1,7 @@
 //! PUBACK, PUBREC, PUBREL and PUBCOMP: sections 3.4 to 3.7.
 
-ghost use Rattle.std.specs.Prelude.{◌≡◌, ℕ, List, []};
-ghost use Rattle.rs_message.specs.declared.entry.Entry.{Entry};
-ghost use Rattle.rs_session.specs.Gate.{Mark};
-ghost use Rattle.rs_session.specs.Table.{LeadsTo, released_reason};
+ghost use Rattle.std.specs.Prelude.{◌≡◌};
+ghost use Rattle.rs_session.specs.Table.{LeadsWithoutGate, released_reason};
 
 use super::{Open, Outcome};
 use crate::phase::Input;
@@ -13,7 +11,7 @@ use rs_window::Ack;
 
 impl Open {
     pub(super) fn puback(&mut self, a: Acknowledgement) -> Outcome
-        ensures { (now : ℕ) (mark : Mark) (list : List Entry) → LeadsTo (Input.Whole (Packet.Puback a)) now self.old mark list [] list mark result self.new }
+        ensures { LeadsWithoutGate (Input.Whole (Packet.Puback a)) self.old result self.new }
     {
         match self.window.on_puback(a.id, a.code) {
             Ok(_ack) => Outcome::Replies(None),
@@ -23,7 +21,7 @@ impl Open {
 
     /// A PUBREC below 0x80 is answered by a PUBREL.
     pub(super) fn pubrec(&mut self, a: Acknowledgement) -> Outcome
-        ensures { (now : ℕ) (mark : Mark) (list : List Entry) → LeadsTo (Input.Whole (Packet.Pubrec a)) now self.old mark list [] list mark result self.new }
+        ensures { LeadsWithoutGate (Input.Whole (Packet.Pubrec a)) self.old result self.new }
     {
         match self.window.on_pubrec(a.id, a.code) {
             Ok(Ack::Released) => Outcome::Replies(Some(Reply::Pubrel(
@@ -43,7 +41,7 @@ impl Open {
     }
 
     pub(super) fn pubcomp(&mut self, a: Acknowledgement) -> Outcome
-        ensures { (now : ℕ) (mark : Mark) (list : List Entry) → LeadsTo (Input.Whole (Packet.Pubcomp a)) now self.old mark list [] list mark result self.new }
+        ensures { LeadsWithoutGate (Input.Whole (Packet.Pubcomp a)) self.old result self.new }
     {
         match self.window.on_pubcomp(a.id, a.code) {
             Ok(_ack) => Outcome::Replies(None),
@@ -53,7 +51,7 @@ impl Open {
 
     /// Its identifier is held no longer.
     pub(super) fn pubrel(&mut self, a: Acknowledgement) -> Outcome
-        ensures { (now : ℕ) (mark : Mark) (list : List Entry) → LeadsTo (Input.Whole (Packet.Pubrel a)) now self.old mark list [] list mark result self.new }
+        ensures { LeadsWithoutGate (Input.Whole (Packet.Pubrel a)) self.old result self.new }
     {
         let reason = if self.inbound.release(a.id) {
             ReasonCode::Success

@@ -3,6 +3,7 @@
 ghost use Rattle.std.specs.Prelude.{◌≡◌, ℕ, List, None, Some, Ok, Err, true, false, option_map};
 ghost use Rattle.rs_message.specs.declared.entry.Operation.{Operation};
 ghost use Rattle.rs_session.specs.Gate.{Grows, GrowsAnswering, IsHandedOver, Uses};
+ghost use Rattle.rs_session.specs.Points.{given_at, point_at};
 ghost use Rattle.rs_session.specs.Steps.{IsSettled, outcome_before, outcome_of_answer, outcome_of_id, topic_refusal};
 ghost use Rattle.rs_session.specs.Table.{LeadsTo, acknowledged_by, held_id, held_with, is_held, is_one_too_many};
 
@@ -17,7 +18,7 @@ use rs_topic::{TopicFault, TopicName};
 impl Open {
     pub(super) fn publish<G: Gate>(&mut self, gate: &mut G, p: Publish, now: u64) -> Outcome
         ensures { GrowsAnswering G.stands G.mark gate.old gate.new (λ seen answered list.
-            LeadsTo (Input.Whole (Packet.Publish p)) now self.old (G.mark gate.old) seen answered list (G.mark gate.new) result self.new) }
+            LeadsTo (given_at (Input.Whole (Packet.Publish p)) now) (point_at self.old seen (G.mark gate.old)) answered result (point_at self.new list (G.mark gate.new))) }
     {
         match self.outcome_before(&p) {
             Some(outcome) => outcome,
@@ -25,7 +26,7 @@ impl Open {
         }
     }
 
-    /// What a PUBLISH leads to by its topic alias, a topic that is no name, or its identifier.
+    /// What a PUBLISH leads to by its topic alias, a topic that is not a name, or its identifier.
     fn outcome_before(&self, p: &Publish) -> Option<Outcome>
         ensures { result ≡ outcome_before p.now self.now }
     {
@@ -53,11 +54,11 @@ impl Open {
         None
     }
 
-    /// The change that a PUBLISH is, handed to the store.
+    /// Hands the change that a PUBLISH asks for to the store.
     fn store<G: Gate>(&mut self, gate: &mut G, p: Publish, now: u64) -> Outcome
         requires { outcome_before p self.old ≡ None }
         ensures { GrowsAnswering G.stands G.mark gate.old gate.new (λ seen answered list.
-            LeadsTo (Input.Whole (Packet.Publish p)) now self.old (G.mark gate.old) seen answered list (G.mark gate.new) result self.new) }
+            LeadsTo (given_at (Input.Whole (Packet.Publish p)) now) (point_at self.old seen (G.mark gate.old)) answered result (point_at self.new list (G.mark gate.new))) }
     {
         let Publish {
             duplicate: _,
@@ -92,7 +93,8 @@ impl Open {
     ) -> Outcome
         requires { is_one_too_many (held_id qos id) self.old.inbound ≡ false }
         ensures list { Grows (G.stands gate.old) (G.stands gate.new) (λ seen list.
-            IsHandedOver operation (G.mark gate.new) seen list × IsSettled operation qos id self.old (G.mark gate.old) (G.mark gate.new) list result self.new) }
+            IsHandedOver operation (G.mark gate.new) seen list
+            × IsSettled operation qos id (point_at self.old seen (G.mark gate.old)) result (point_at self.new list (G.mark gate.new))) }
         ensures mark { Uses (G.mark gate.old) (G.mark gate.new) }
     {
         let answer = gate.submit(operation);
@@ -133,7 +135,7 @@ fn outcome_of_answer(answer: Result<(), SubmitFault>, qos: Qos, id: Option<Packe
     }
 }
 
-/// The Reason Code for a topic that is no topic name: sections 3.3.2.1 and 4.7.3.
+/// The Reason Code for a topic that is not a topic name: sections 3.3.2.1 and 4.7.3.
 fn topic_reason(topic: &Result<TopicName, TopicFault>) -> Option<ReasonCode>
     ensures { result ≡ topic_refusal topic.now }
 {

@@ -3,6 +3,7 @@
 ghost use Rattle.std.specs.Prelude.{◌≡◌, ◌≤◌, ◌⊎◌, ℕ, List, length, true, false, Ok, IfOk, MatchBool};
 ghost use Rattle.std.specs.List.{list_any};
 ghost use Rattle.rs_session.specs.Gate.{Grows, GrowsAnswering};
+ghost use Rattle.rs_session.specs.Points.{given_at, point_at};
 ghost use Rattle.rs_session.specs.Subscriptions.{is_subscribed, replays};
 ghost use Rattle.rs_session.specs.Table.{LeadsTo, IsGranted, IsQueued, IsSubscribed, filter_reason, is_shared, is_shared_local};
 
@@ -24,7 +25,7 @@ impl Open {
         now: u64,
     ) -> Outcome
         ensures { GrowsAnswering G.stands G.mark gate.old gate.new (λ seen answered list.
-            LeadsTo (Input.Whole (Packet.Subscribe s)) now self.old (G.mark gate.old) seen answered list (G.mark gate.new) result self.new) }
+            LeadsTo (given_at (Input.Whole (Packet.Subscribe s)) now) (point_at self.old seen (G.mark gate.old)) answered result (point_at self.new list (G.mark gate.new))) }
     {
         if any_shared_local(s.filters.as_slice()) {
             return Outcome::Closes(ReasonCode::ProtocolError);
@@ -90,7 +91,7 @@ impl Open {
     ) -> bool
         requires { is_subscribed filter self.old.subscriptions ≡ true }
         ensures list { Grows (G.stands gate.old) (G.stands gate.new) (λ seen list.
-            MatchBool result (IsSubscribed now filter subscription.options subscription.identifier list self.old self.new) (self.new ≡ self.old)) }
+            MatchBool result (IsSubscribed now filter subscription list self.old self.new) (self.new ≡ self.old)) }
         ensures mark { G.mark gate.new ≡ G.mark gate.old }
     {
         let kept = subscription;
@@ -111,7 +112,7 @@ impl Open {
     ) -> bool
         requires { is_subscribed filter self.old.subscriptions ≡ false }
         ensures list { Grows (G.stands gate.old) (G.stands gate.new) (λ seen list.
-            MatchBool result (IsSubscribed now filter subscription.options subscription.identifier list self.old self.new) (self.new ≡ self.old)) }
+            MatchBool result (IsSubscribed now filter subscription list self.old self.new) (self.new ≡ self.old)) }
         ensures mark { G.mark gate.new ≡ G.mark gate.old }
     {
         if self.subscriptions.len() >= MAX_SUBSCRIPTIONS {
@@ -131,7 +132,7 @@ impl Open {
         false
     }
 
-    /// If Retain Handling says so, what the store answers waits behind the rest; otherwise nothing more waits. Refused, all
+    /// If Retain Handling says so, what the store answers waits after the rest; otherwise nothing more waits. Refused, all
     /// is as before.
     fn replay<G: Gate>(
         &mut self,
@@ -143,7 +144,7 @@ impl Open {
     ) -> bool
         ensures list { Grows (G.stands gate.old) (G.stands gate.new) (λ seen list.
             MatchBool result
-            (MatchBool (replays subscription.options.retain_handling is_there) (IsQueued now filter.now subscription.options.qos subscription.identifier list self.old self.new) (self.new.window ≡ self.old.window))
+            (MatchBool (replays subscription.options.retain_handling is_there) (IsQueued now filter.now subscription list self.old self.new) (self.new.window ≡ self.old.window))
             (self.new ≡ self.old)) }
         ensures mark { G.mark gate.new ≡ G.mark gate.old }
         ensures rest { self.new ≡ record self.old { window = self.new.window } }
@@ -151,7 +152,7 @@ impl Open {
         if !replays(subscription.options.retain_handling, is_there) {
             return true;
         }
-        let Ok(found) = gate.answer(filter, now) else {
+        let Ok(Some(found)) = gate.answer_within(filter, now, self.window.room()) else {
             return false;
         };
         self.window
@@ -191,7 +192,7 @@ fn is_shared_local(asked: &(Result<TopicFilter, TopicFault>, Options)) -> bool
     matches!(asked.0, Err(TopicFault::Shared)) && asked.1.no_local
 }
 
-/// The code of a filter that is no topic filter: section 3.9.3.
+/// The code of a filter that is not a topic filter: section 3.9.3.
 fn filter_reason(fault: TopicFault) -> ReasonCode
     ensures { result ≡ filter_reason fault }
 {

@@ -1,9 +1,7 @@
 //! UNSUBSCRIBE: section 3.10.
 
-ghost use Rattle.std.specs.Prelude.{◌≡◌, ◌≤◌, ℕ, List, [], length};
-ghost use Rattle.rs_message.specs.declared.entry.Entry.{Entry};
-ghost use Rattle.rs_session.specs.Gate.{Mark};
-ghost use Rattle.rs_session.specs.Table.{LeadsTo, removal_reason, without};
+ghost use Rattle.std.specs.Prelude.{◌≡◌, ◌≤◌, length};
+ghost use Rattle.rs_session.specs.Table.{LeadsWithoutGate, removal_reason, without};
 
 use super::{Open, Outcome};
 use crate::phase::Input;
@@ -14,7 +12,7 @@ use std::alloc::Global;
 
 impl Open {
     pub(super) fn unsubscribe(&mut self, alloc: Global, u: Unsubscribe) -> Outcome
-        ensures { (now : ℕ) (mark : Mark) (list : List Entry) → LeadsTo (Input.Whole (Packet.Unsubscribe u)) now self.old mark list [] list mark result self.new }
+        ensures { LeadsWithoutGate (Input.Whole (Packet.Unsubscribe u)) self.old result self.new }
     {
         let Ok(mut codes) = Vec::with_capacity(alloc, u.filters.len()) else {
             return Outcome::Closes(ReasonCode::QuotaExceeded);

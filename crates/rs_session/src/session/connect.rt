@@ -1,13 +1,11 @@
 //! The first packet.
 
-ghost use Rattle.std.specs.Prelude.{◌≡◌, ◌≤◌, ◌<◌, ℕ, List, [], None, Some, IfOk, is_some};
-ghost use Rattle.rs_message.specs.declared.entry.Entry.{Entry};
+ghost use Rattle.std.specs.Prelude.{◌≡◌, ◌≤◌, ◌<◌, None, Some, IfOk, is_some};
 ghost use Rattle.rs_packet.specs.declared.reply.Reply.{Reply};
-ghost use Rattle.rs_session.specs.Gate.{Mark};
 ghost use Rattle.rs_session.specs.Reasons.{code_of};
 ghost use Rattle.rs_session.specs.State.{state_of, ended, within};
 ghost use Rattle.rs_session.specs.Steps.{IsAccepted, connect_refusal};
-ghost use Rattle.rs_session.specs.Table.{Answers, connack, open_for, packet_limit, receive_limit, is_longer, assigned_for};
+ghost use Rattle.rs_session.specs.Table.{AnswersWithoutGate, connack, open_for, packet_limit, receive_limit, is_longer, assigned_for};
 ghost use Rattle.rs_session.specs.declared.open.Open.{Open};
 
 use super::Session;
@@ -27,7 +25,7 @@ impl<G: Gate> Session<G> {
     pub(super) fn first_packet(&mut self, packet: Packet)
         requires due { self.old.due ≡ None }
         requires before { self.old.phase ≡ Phase.Before }
-        ensures row { (now : ℕ) (mark : Mark) (list : List Entry) → Answers (Input.Whole packet) now (state_of self.old) mark list [] list mark self.new.due (state_of self.new) }
+        ensures row { AnswersWithoutGate (Input.Whole packet) (state_of self.old) self.new.due (state_of self.new) }
         ensures gate { self.new.gate ≡ self.old.gate }
     {
         match packet {
@@ -48,7 +46,7 @@ impl<G: Gate> Session<G> {
     pub(super) fn first_fault(&mut self, fault: PacketFault)
         requires due { self.old.due ≡ None }
         requires before { self.old.phase ≡ Phase.Before }
-        ensures row { (now : ℕ) (mark : Mark) (list : List Entry) → Answers (Input.Broken fault) now (state_of self.old) mark list [] list mark self.new.due (state_of self.new) }
+        ensures row { AnswersWithoutGate (Input.Broken fault) (state_of self.old) self.new.due (state_of self.new) }
         ensures gate { self.new.gate ≡ self.old.gate }
     {
         match fault {
@@ -67,7 +65,7 @@ impl<G: Gate> Session<G> {
     fn connect(&mut self, c: &Connect)
         requires due { self.old.due ≡ None }
         requires before { self.old.phase ≡ Phase.Before }
-        ensures row { (now : ℕ) (mark : Mark) (list : List Entry) → Answers (Input.Whole (Packet.Connect c.now)) now (state_of self.old) mark list [] list mark self.new.due (state_of self.new) }
+        ensures row { AnswersWithoutGate (Input.Whole (Packet.Connect c.now)) (state_of self.old) self.new.due (state_of self.new) }
         ensures gate { self.new.gate ≡ self.old.gate }
     {
         let limit = packet_limit(c);
@@ -123,7 +121,7 @@ impl<G: Gate> Session<G> {
         }))
     }
 
-    /// The identifier that a client is told which gave an empty one.
+    /// The identifier for a client that gave an empty one.
     fn assigned_for(&self, client: &Option<Text>) -> Result<Option<Text>, AllocError>
         ensures { IfOk result (λ a. a ≡ assigned_for client.now (state_of self.now).assigned) }
     {

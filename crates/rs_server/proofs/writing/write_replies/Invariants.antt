@@ -1,4 +1,4 @@
--- What the session gave so far was written, or a beginning of it.
+-- What the session gave so far was written, or a prefix of it.
 use Rattle.std.proofs.Common.{◌≡◌, List}
 use Rattle.rs_packet.specs.declared.reply.Reply.{Reply}
 use Rattle.rs_session.specs.State.{state_of, due_of, gate_of}

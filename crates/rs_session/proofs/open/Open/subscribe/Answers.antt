@@ -4,10 +4,12 @@ use Rattle.std.proofs.lemmas.List.{nil_from_length}
 use Rattle.std.specs.Vec.Iter.{into_iter_items}
 use Rattle.rs_packet.specs.Values.{Asked, SubscribeValue}
 use Rattle.rs_packet.specs.declared.packet.Packet.TheVariants as packet
+use Rattle.rs_session.specs.declared.open.Open.{Open}
 use Rattle.rs_session.specs.declared.open.Outcome.TheVariants.{Closes}
 use Rattle.rs_session.specs.declared.phase.Input.TheVariants.{Whole}
 use Rattle.rs_session.specs.Gate.{Mark, StandsAt}
 use Rattle.rs_session.specs.declared.reason.ReasonCode.TheVariants.{ProtocolError, QuotaExceeded}
+use Rattle.rs_session.specs.Points.{Point, given_at, point_at}
 use Rattle.rs_session.specs.Table.{LeadsTo, Grants, is_shared_local}
 use Rattle.rs_session.proofs.Rows.{unmoved, stood_more, grants_more, grants_grow, shared_refused, not_subscribed, subscribed, same_codes}
 use Rattle.rs_session.proofs.open.Open.subscribe.Goals as goal
@@ -16,15 +18,15 @@ pub returns-then-any_shared_local : goal.returns-then-any_shared_local
 returns-then-any_shared_local g c =
     let o = c.args.self.now in
     let same = c.as_slice.ensures.value ∙ ap (λ (v : SubscribeValue). v.filters) c.s.view_is in
-    unmoved g.G.Gate.stands g.G.Gate.mark c.args.gate.now c.args.gate.now (λ seen answered list used. LeadsTo (Whole (packet.Subscribe c.args.s)) c.args.now o (g.G.Gate.mark c.args.gate.now) seen answered list used (Closes ProtocolError) o) refl
-    (λ list. shared_refused c.args.s o c.args.now _ list (ap (λ (l : List Asked). list_any is_shared_local l) (sym same) ∙ sym c.if-any_shared_local.ensures))
+    unmoved g.G.Gate.stands g.G.Gate.mark c.args.gate.now c.args.gate.now (λ seen answered list used. LeadsTo (given_at (Whole (packet.Subscribe c.args.s)) c.args.now) (point_at o seen (g.G.Gate.mark c.args.gate.now)) answered (Closes ProtocolError) (point_at o list used)) refl
+    (λ list. shared_refused c.args.s c.args.now (point_at o list _) (ap (λ (l : List Asked). list_any is_shared_local l) (sym same) ∙ sym c.if-any_shared_local.ensures))
 
 pub returns-in_default : goal.returns-in_default
 returns-in_default g c =
     let o = c.args.self.now in
     let same = c.as_slice.ensures.value ∙ ap (λ (v : SubscribeValue). v.filters) c.s.view_is in
-    unmoved g.G.Gate.stands g.G.Gate.mark c.args.gate.now c.args.gate.now (λ seen answered list used. LeadsTo (Whole (packet.Subscribe c.args.s)) c.args.now o (g.G.Gate.mark c.args.gate.now) seen answered list used (Closes QuotaExceeded) o) refl
-    (λ list. not_subscribed c.args.s o c.args.now _ list (ap (λ (l : List Asked). list_any is_shared_local l) (sym same) ∙ sym c.if-any_shared_local.ensures))
+    unmoved g.G.Gate.stands g.G.Gate.mark c.args.gate.now c.args.gate.now (λ seen answered list used. LeadsTo (given_at (Whole (packet.Subscribe c.args.s)) c.args.now) (point_at o seen (g.G.Gate.mark c.args.gate.now)) answered (Closes QuotaExceeded) (point_at o list used)) refl
+    (λ list. not_subscribed c.args.s c.args.now (point_at o list _) (ap (λ (l : List Asked). list_any is_shared_local l) (sym same) ∙ sym c.if-any_shared_local.ensures))
 
 pub filters-preserved : goal.filters-preserved
 filters-preserved g c =
@@ -39,7 +41,7 @@ filters-preserved g c =
             stands,
             answered ++ list ∷ [],
             stood_more g.G.Gate.stands g.G.Gate.mark (g.G.Gate.mark c.args.gate.now) answered list each (c.grant-code.new.gate, stands, c.grant-code.ensures.mark ∙ c.filters.invariant.mark),
-            rw (c.push_reserved.ensures.items) (grants_more _ _ _ _ _ _ _ _ _ _ _ _ _ so_far begins step),
+            rw (c.push_reserved.ensures.items) (grants_more _ _ _ _ _ _ _ _ _ _ so_far begins step),
           );
       mark = c.grant-code.ensures.mark ∙ c.filters.invariant.mark;
       all = append_assoc c.filters.yielded (c.in-Some.asked ∷ []) rest ∙ (ap (λ (l : List Asked). c.filters.yielded ++ l) (sym c.in-Some.ensures.steps.0) ∙ c.filters.invariant.all);
@@ -51,15 +53,17 @@ pub returns : goal.returns
 returns g c = λ seen s.
     let (list, stood, answered, each, granted) = c.filters.invariant.granted seen s in
     let all : c.filters.yielded ≡ c.args.s.filters = sym (append-nil c.filters.yielded) ∙ (ap (λ (l : List Asked). c.filters.yielded ++ l) (sym (nil_from_length _ (omega (arith, c.in-None.ensures.steps.0, c.filters.asked-iterator.rest.ok)))) ∙ c.filters.invariant.all) in
-    let same = c.as_slice.ensures.value ∙ ap (λ (v : SubscribeValue). v.filters) c.s.view_is in (
+    let same = c.as_slice.ensures.value ∙ ap (λ (v : SubscribeValue). v.filters) c.s.view_is in
+    let from : Point Open = point_at c.args.self.now seen (g.G.Gate.mark c.args.gate.now) in
+    let to : Point Open = point_at c.filters.self list (g.G.Gate.mark c.filters.gate) in (
       list,
       stood,
-      grants_grow _ _ _ _ _ _ _ _ _ granted,
+      grants_grow _ _ _ _ _ _ _ granted,
       (
         answered,
         subst (λ (m : Mark). All (StandsAt g.G.Gate.stands g.G.Gate.mark m) answered) (sym c.filters.invariant.mark) each,
-        subscribed c.args.s c.filters.codes.items c.new.result c.args.self.now c.filters.self c.args.now _ _ seen answered list
+        subscribed c.args.s c.filters.codes.items c.new.result c.args.now from answered to
             (ap (λ (l : List Asked). list_any is_shared_local l) (sym same) ∙ sym c.if-any_shared_local.ensures) c.filters.invariant.mark (c.new.ensures ∙ same_codes _ _ _ _ (ap (λ (v : SubscribeValue). v.id) c.s.view_is) refl)
-            (subst (λ (l : List Asked). Grants c.args.now l c.args.s.subscription seen c.args.self.now c.filters.codes.items answered list c.filters.self) all (subst (λ (i : Option ℕ). Grants c.args.now c.filters.yielded i seen c.args.self.now c.filters.codes.items answered list c.filters.self) (ap (λ (v : SubscribeValue). v.subscription) c.s.view_is) granted)),
+            (subst (λ (l : List Asked). Grants c.args.now l c.args.s.subscription from c.filters.codes.items answered to) all (subst (λ (i : Option ℕ). Grants c.args.now c.filters.yielded i from c.filters.codes.items answered to) (ap (λ (v : SubscribeValue). v.subscription) c.s.view_is) granted)),
       ),
     )

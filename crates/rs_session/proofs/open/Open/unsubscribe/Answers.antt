@@ -2,12 +2,13 @@ use Rattle.std.proofs.Common.{◌≡◌, ◌∙◌, ◌+◌, ◌++◌, ◌∷◌
 use Rattle.std.proofs.lemmas.List.{take_more, take_all}
 use Rattle.rs_packet.specs.Values.{Filter, UnsubscribeValue}
 use Rattle.rs_session.specs.declared.open.Open.{Open}
+use Rattle.rs_session.specs.Points.{point_at}
 use Rattle.rs_session.specs.Table.{removal_codes, without_all}
 use Rattle.rs_session.proofs.Rows.{not_unsubscribed, unsubscribed, removed_code, removed_all, same_codes}
 use Rattle.rs_session.proofs.open.Open.unsubscribe.Goals as goal
 
 pub returns-in_default : goal.returns-in_default
-returns-in_default c = λ now mark list. not_unsubscribed c.args.u _ now mark list
+returns-in_default c = λ now mark list. not_unsubscribed c.args.u now (point_at _ list mark)
 
 pub loop-filter-preserved : goal.loop-filter-preserved
 loop-filter-preserved c =
@@ -27,6 +28,6 @@ returns c = λ now mark list.
     let items = c.deref-filter-items.result.now in
     let all : take c.loop-filter.filter-index items ≡ c.args.u.filters =
     take_all c.loop-filter.filter-index items c.loop-filter-test.false ∙ (c.deref-filter-items.ensures.value ∙ ap (λ (v : UnsubscribeValue). v.filters) c.u.view_is) in
-    unsubscribed c.args.u _ c.args.self.now _ now mark list
+    unsubscribed c.args.u _ now (point_at c.args.self.now list mark) _
     (c.new.ensures ∙ same_codes _ _ _ _ (ap (λ (v : UnsubscribeValue). v.id) c.u.view_is) (c.loop-filter.invariant.coded ∙ ap (λ (l : List Filter). removal_codes l c.args.self.now.subscriptions) all))
     (c.loop-filter.invariant.removed ∙ ap (λ (l : List Filter). let o : Open = record c.args.self.now { subscriptions = without_all l c.args.self.now.subscriptions } in o) all)

@@ -1,6 +1,7 @@
 use Rattle.std.proofs.Common.{refl, ◌∙◌}
 use Rattle.rs_session.specs.declared.phase.Input.TheVariants.{Whole}
-use Rattle.rs_session.specs.State.{gate_of, state_of}
+use Rattle.rs_session.specs.Points.{given_at}
+use Rattle.rs_session.specs.State.{session_at, gate_of, state_of}
 use Rattle.rs_session.proofs.Rows.{stays, took, over, after_same}
 use Rattle.rs_session.proofs.session.Session.on_packet.Goals as goal
 use Rattle.rs_session.proofs.session.Session.on_packet.Goals.{in-Before, in-Open, in-Ended}
@@ -11,10 +12,10 @@ returns-clause-row g c =
     let now = c.args.now in
     let mark = g.G.Gate.mark (gate_of old) in
     elim c.match-self.branch [
-      | in-Before w ↦ stays g.G.Gate.stands g.G.Gate.mark (Whole c.args.packet) now old w.first_packet.new.self c.match-self.self w.self-is w.first_packet.ensures.gate (λ list. w.first_packet.ensures.row now mark list)
+      | in-Before w ↦ stays g.G.Gate.stands g.G.Gate.mark (given_at (Whole c.args.packet) now) old w.first_packet.new.self c.match-self.self w.self-is w.first_packet.ensures.gate (λ list. w.first_packet.ensures.row now mark list)
       | in-Open w ↦
-          took g.G.Gate.stands g.G.Gate.mark (Whole c.args.packet) now old w.conclude.new.self c.match-self.self w.in-Open.open w.handle-outcome.new.self w.handle-outcome.new.gate w.handle-outcome.result _ w.self-is w.conclude.ensures.gate w.in-Open.is w.packet_maximum-limit.ensures w.conclude.ensures.due
+          took g.G.Gate.stands g.G.Gate.mark (given_at (Whole c.args.packet) now) old w.conclude.new.self c.match-self.self w.in-Open.open w.handle-outcome.new.self w.handle-outcome.new.gate w.handle-outcome.result _ w.self-is w.conclude.ensures.gate w.in-Open.is w.packet_maximum-limit.ensures w.conclude.ensures.due
           (w.conclude.ensures.state w.handle-outcome.new.self refl ∙ after_same w.handle-outcome.result _ (state_of old) w.handle-outcome.new.self refl)
           w.handle-outcome.ensures
-      | in-Ended w ↦ stays g.G.Gate.stands g.G.Gate.mark (Whole c.args.packet) now old old c.match-self.self w.self-is refl (λ list. over _ (state_of old) (state_of old) _ now mark list _ w.in-Ended.is c.requires refl)
+      | in-Ended w ↦ stays g.G.Gate.stands g.G.Gate.mark (given_at (Whole c.args.packet) now) old old c.match-self.self w.self-is refl (λ list. over _ (session_at g.G.Gate.mark old list) _ _ w.in-Ended.is c.requires)
     ]
