@@ -1,2 +1,4 @@
 pub mod HexDigits
 pub mod LineLemmas
+pub mod BufferLemmas
+pub mod WriterLemmas

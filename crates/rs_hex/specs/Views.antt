@@ -1,16 +1,51 @@
--- What a reader and a writer of hex lines show.
-use Rattle.std.specs.Prelude.{ℕ, Option}
+-- What a reader and a writer of lines of hex digits show.
+use Rattle.std.specs.Prelude.{ℕ, List, [], ◌∷◌, ◌++◌, Option, None, Some, option_map}
+use Rattle.std.specs.Io.KnownBytes.{append_known}
+use Rattle.rs_hex.specs.Lines.{written_bytes}
+use Rattle.rs_hex.specs.Ahead.{Ahead, Outlook, ahead, bytes_ahead}
+use Rattle.rs_hex.specs.declared.line_buffer.LineBuffer.{LineBuffer}
 use Rattle.rs_hex.specs.declared.reader.HexReader.{HexReader}
 use Rattle.rs_hex.specs.declared.writer.HexWriter.{HexWriter}
 
--- where the lines come from
+-- ---- a reader
+
+-- what is ahead, if this text follows
+abbrev pub ahead_of : LineBuffer → List ℕ → Ahead
+ahead_of it more = ahead it.not_hex it.bytes.items it.line (it.text.items ++ more)
+
+-- what the lines are read from
 abbrev pub input_of : {R : Type 0} → HexReader R → R
 input_of it = it.input
 
--- the line that made a read fail
+-- the line that stopped the reader
 abbrev pub not_hex_of : {R : Type 0} → HexReader R → Option ℕ
-not_hex_of it = it.not_hex
+not_hex_of it = it.lines.not_hex
 
--- where the lines go
+module _ {R : Type 0} (remaining : R → Option (List ℕ)) where
+  -- what is ahead, if the text of the input is known
+  abbrev pub outlook : HexReader R → Outlook
+  outlook it = option_map (ahead_of it.lines) (remaining it.input)
+
+  -- the bytes that are ahead
+  abbrev pub hex_remaining : HexReader R → Option (List ℕ)
+  hex_remaining it = bytes_ahead (outlook it)
+
+-- ---- a writer
+
+-- what the lines are written to
 abbrev pub output_of : {W : Type 0} → HexWriter W → W
 output_of it = it.output
+
+-- the digit that is due, if one is
+abbrev pub due_digits : Option ℕ → List ℕ
+due_digits None = []
+due_digits (Some digit) = digit ∷ []
+
+module _ {W : Type 0} (contents : W → Option (List ℕ)) where
+  -- the text of the output, and the digit that is due
+  abbrev pub text_of : HexWriter W → Option (List ℕ)
+  text_of it = append_known (contents it.output) (due_digits it.due)
+
+  -- the bytes that the text stands for, if all of its lines are hex
+  abbrev pub hex_contents : HexWriter W → Option (List ℕ)
+  hex_contents it = written_bytes (text_of it)

@@ -1,56 +1,49 @@
 //! A reader of lines of hex digits.
 
-ghost use Rattle.std.specs.Prelude.{◌≡◌, ◌<◌, ◌≤◌, None, IfSome, length};
-ghost use Rattle.rs_hex.specs.Views.{input_of, not_hex_of};
+ghost use Rattle.std.specs.Prelude.{◌≡◌, ◌<◌, [], None, Some, IfOk, IfSome, OnOk, MatchOption, length, false};
+ghost use Rattle.std.specs.Io.{ReadsAtMost};
+ghost use Rattle.std.specs.Io.KnownBytes.{ReadConsumes, IsAtEnd};
+ghost use Rattle.rs_hex.specs.Lines.{has_line_feed, read_bytes, line_not_hex, IsLineEnd};
+ghost use Rattle.rs_hex.specs.Ahead.{KeepsOutlook, KeepsStop, IsAllOver, stop_ahead};
 
-use crate::digits::{HexFault, read_hex};
-use bytes::BytesMut;
+use crate::line_buffer::LineBuffer;
 use std::alloc::Global;
 use std::io;
 use std::io::{ErrorKind, Read};
 
-/// The room for one read of text, in bytes.
-const TEXT_ROOM: usize = 8192;
-
-/// The bytes of lines of hex digits. A line is read as a whole, so a line that is not hex gives none of
-/// its bytes.
+/// The bytes that lines of hex digits stand for.
+///
+/// Line feeds separate the lines. Spaces are ignored, and so are empty lines. A line is read as a whole,
+/// so a line that is not hex gives none of its bytes. From then on every read fails.
 #[derive(Drop)]
 pub struct HexReader<R> {
-    alloc: Global,
     input: R,
-    /// What was read and is not taken apart yet.
-    text: BytesMut,
-    /// How much of the text holds no line feed.
-    scanned: usize,
-    /// The bytes of the last line that are not given yet.
-    bytes: BytesMut,
-    /// How many lines were taken.
-    lines: u64,
-    not_hex: Option<u64>,
+    lines: LineBuffer,
 }
 
 impl<R: Read> HexReader<R> {
+    ghost use Rattle.rs_hex.specs.Views.{input_of, not_hex_of, outlook, hex_remaining};
+
     /// Reads lines from this input.
     pub fn new(alloc: Global, input: R) -> HexReader<R>
         ensures input { input_of result ≡ input }
         ensures not_hex { not_hex_of result ≡ None }
+        ensures bytes { hex_remaining R.remaining result ≡ read_bytes (R.remaining input) }
+        ensures stop { IfSome (R.remaining input)
+            (λ text. stop_ahead (outlook R.remaining result) ≡ Some (line_not_hex text)) }
     {
         HexReader {
-            alloc,
             input,
-            text: BytesMut::new(alloc),
-            scanned: 0,
-            bytes: BytesMut::new(alloc),
-            lines: 0,
-            not_hex: None,
+            lines: LineBuffer::new(alloc),
         }
     }
 
-    /// The line, counted from 1, that was not hex, if a read failed for one.
+    /// The line, counted from 1, that is not hex, if a read failed for one. [`u64::MAX`] stands for itself
+    /// and all above.
     pub fn not_hex(&self) -> Option<u64>
         ensures { result ≡ not_hex_of self.now }
     {
-        self.not_hex
+        self.lines.not_hex()
     }
 
     /// The input. What was read of it and not given is lost.
@@ -62,76 +55,85 @@ impl<R: Read> HexReader<R> {
         self.input
     }
 
-    /// Gives bytes that are there.
-    fn give(&mut self, buf: &mut [u8]) -> usize
-        ensures { result ≤ length buf.new }
+    /// Reads text until a line ends. None at the end of the input.
+    fn find_line(&mut self) -> io::Result<Option<usize>>
+        ensures same { self.new.lines ≡ record self.old.lines { text = self.new.lines.text } }
+        ensures keeps { KeepsOutlook (outlook R.remaining self.old) (outlook R.remaining self.new) }
+        ensures found { IfOk result (λ found. MatchOption found
+            ((has_line_feed self.new.lines.text.items ≡ false) × IsAtEnd (R.remaining self.new.input))
+            (λ end. IsLineEnd self.new.lines.text.items end)) }
     {
-        let n = buf.len().min(self.bytes.len());
-        buf[..n].copy_from_slice(&self.bytes.as_slice()[..n]);
-        self.bytes.advance(n);
-        n
+        let mut scanned = 0;
+        'text: for _ in 0..u64::MAX {
+            if let Some(end) = self.lines.line_end(scanned) {
+                return Ok(Some(end));
+            }
+            scanned = self.lines.text_len();
+            if !self.lines.read_text(&mut self.input)? {
+                return Ok(None);
+            }
+        }
+        // No input is read so often.
+        Err(io::Error::from(ErrorKind::TimedOut))
     }
 
-    /// Where the next line of the text ends, if its line feed is there.
-    fn line_end(&mut self) -> Option<usize>
-        ensures { IfSome result (λ end. end < length self.new.text.items) }
+    /// Takes the next line. False at the end.
+    fn next_line(&mut self) -> io::Result<bool>
+        requires given { self.old.lines.bytes.items ≡ [] }
+        requires ongoing { self.old.lines.not_hex ≡ None }
+        ensures keeps { KeepsOutlook (outlook R.remaining self.old) (outlook R.remaining self.new) }
+        ensures ongoing { OnOk result (self.new.lines.not_hex ≡ None) }
+        ensures end { IfOk result (λ more. more ≡ false
+            → self.new.lines.bytes.items ≡ [] → IsAllOver (outlook R.remaining self.new)) }
     {
-        let text = self.text.as_slice();
-        let from = self.scanned.min(text.len());
-        match text[from..].iter().position(|b| *b == b'\n') {
-            Some(at) => Some(from + at),
+        match self.find_line()? {
+            Some(end) => {
+                self.lines.take_line(end)?;
+                Ok(true)
+            }
             None => {
-                self.scanned = text.len();
-                None
+                self.lines.take_last()?;
+                Ok(false)
             }
         }
     }
 
-    /// Takes the next line, of `end` bytes, and the line feed behind it.
-    fn take_line(&mut self, end: usize) -> io::Result<()>
-        requires { end ≤ length self.old.text.items }
+    /// Takes lines until some bytes are held, or to the end.
+    fn fill(&mut self) -> io::Result<()>
+        requires { self.old.lines.not_hex ≡ None }
+        ensures keeps { KeepsOutlook (outlook R.remaining self.old) (outlook R.remaining self.new) }
+        ensures ongoing { OnOk result (self.new.lines.not_hex ≡ None) }
+        ensures end { OnOk result (self.new.lines.bytes.items ≡ [] → IsAllOver (outlook R.remaining self.new)) }
     {
-        self.lines = self.lines.saturating_add(1);
-        let read = read_hex(self.alloc, &self.text.as_slice()[..end]);
-        self.text.advance(self.text.len().min(end + 1));
-        self.scanned = 0;
-        match read {
-            Ok(bytes) => {
-                self.bytes = BytesMut::from_vec(bytes);
-                Ok(())
+        let mut more = true;
+        'lines: for _ in 0..u64::MAX {
+            if !more || !self.lines.has_given_all() {
+                return Ok(());
             }
-            Err(HexFault::NotHex) => {
-                self.not_hex = Some(self.lines);
-                Err(io::Error::from(ErrorKind::InvalidData))
-            }
-            Err(HexFault::NoMemory) => Err(io::Error::from(ErrorKind::OutOfMemory)),
+            more = self.next_line()?;
         }
-    }
-
-    /// Reads more text. False at the end of the input.
-    fn read_text(&mut self) -> io::Result<bool> {
-        self.text.reserve(TEXT_ROOM)?;
-        let n = self.text.read_from(&mut self.input)?;
-        Ok(n > 0)
+        // No input is read so often.
+        Err(io::Error::from(ErrorKind::TimedOut))
     }
 }
 
 impl<R: Read> Read for HexReader<R> {
-    fn read(&mut self, buf: &mut [u8]) -> io::Result<usize> {
-        for _ in 0..u64::MAX {
-            if !self.bytes.is_empty() {
-                return Ok(self.give(buf));
-            }
-            if let Some(end) = self.line_end() {
-                self.take_line(end)?;
-            } else if !self.read_text()? {
-                if self.text.is_empty() {
-                    return Ok(0);
-                }
-                let end = self.text.len();
-                self.take_line(end)?;
-            }
+    ghost use Rattle.rs_hex.specs.Views.{outlook, hex_remaining};
+
+    ghost remaining = { hex_remaining R.remaining };
+
+    /// Fails if the input does, if a line is not hex, or if memory is refused. No byte is lost then.
+    fn read(&mut self, buf: &mut [u8]) -> io::Result<usize>
+        ensures bound { ReadsAtMost result buf.new }
+        ensures bytes { ReadConsumes (hex_remaining R.remaining self.old) (hex_remaining R.remaining self.new) result buf.new }
+        // The line that stops the reader stays the same, so `not_hex` can be no other.
+        ensures stop { KeepsStop (stop_ahead (outlook R.remaining self.old)) (stop_ahead (outlook R.remaining self.new)) }
+        ensures end { IfOk result (λ n. n ≡ 0 → 0 < length buf.new → IsAllOver (outlook R.remaining self.new)) }
+    {
+        if self.lines.not_hex().is_some() {
+            return Err(io::Error::from(ErrorKind::InvalidData));
         }
-        Ok(0)
+        self.fill()?;
+        Ok(self.lines.give(buf))
     }
 }

@@ -1,3 +1,6 @@
+mod reading;
+mod writing;
+
 use crate::digits::{HexFault, read_hex};
 use std::test::Fail;
 

@@ -1,2 +1,3 @@
 pub mod Submits
 pub mod OwnStores
+pub mod Outputs

@@ -8,6 +8,7 @@ use Rattle.rs_store.specs.History.{IsLegal, Stands}
 use Rattle.rs_session.specs.Gate.{Mark, Extends}
 use Rattle.rs_session.specs.Local.{local_mark}
 use Rattle.rs_program.specs.declared.own_store.OwnStore.{OwnStore}
+use Rattle.rs_program.specs.declared.own_store.TheConstants.{MAX_OWN_TOPICS}
 use Rattle.rs_program.specs.Memory.{IsOfMark}
 use Rattle.rs_program.specs.OwnStores.{content_of, IsOwn}
 
@@ -15,8 +16,8 @@ use Rattle.rs_program.specs.OwnStores.{content_of, IsOwn}
 pub of_mark : (store : OwnStore) (mark : Mark) (list : List Entry) → IsOwn (content_of store) list → local_mark (content_of store) ≡ mark → IsOfMark mark list
 of_mark store mark list own is = record { legal = own.legal; places = own.places; serial = sym (own.stands.serials 1) ∙ ap (λ (m : Mark). m.serial) is }
 
--- where the content stays, a list that begins with the one before is the same list
-pub own_stays : (old new : Content) (seen list : List Entry) → old.limit ≡ 10000 → new ≡ old → IsOwn old seen → Stands new list → Extends list seen → IsOwn new list
+-- if the content stays, a list with the one before as prefix is the same list
+pub own_stays : (old new : Content) (seen list : List Entry) → old.limit ≡ MAX_OWN_TOPICS → new ≡ old → IsOwn old seen → Stands new list → Extends list seen → IsOwn new list
 own_stays old new seen list limit same own stands begins =
     let more : List Entry = begins.0 in
     let none : length more ≡ 0 = omega (arith, own.stands.version, stands.version, ap (λ (c : Content). c.version) same, length-append seen more, ap (λ (l : List Entry). length l) begins.1) in

@@ -13,6 +13,7 @@ use Rattle.rs_store.proofs.Standing.{stands_more}
 use Rattle.rs_session.specs.Gate.{Extends, Submits}
 use Rattle.rs_session.specs.Local.{IsFull, local_mark, next_entry}
 use Rattle.rs_session.proofs.Submitting.{one_new}
+use Rattle.rs_program.specs.declared.own_store.TheConstants.{MAX_OWN_TOPICS}
 use Rattle.rs_program.specs.OwnStores.{IsOwn}
 
 below : (a b : ℕ) → ((a ≤ b → ⊥) → ⊥) → a ≤ b
@@ -27,8 +28,8 @@ room c e h =
     let version : c.version + 1 + 1 ≤ 2 ^ 64 = below (c.version + 1 + 1) (2 ^ 64) (λ no. h (λ has. no (let k = has.1 in omega arith))) in
     (below (length (after c.held e.operation)) c.limit (λ no. h (λ has. no has.0)), omega arith)
 
--- where the store is not full, the next entry comes behind the list
-pub own_submitted : (old new : Content) (operation : Operation) (seen : List Entry) → old.limit ≡ 10000 → (IsFull old operation → ⊥) → new ≡ followed old (next_entry old operation) → IsOwn old seen
+-- if the store is not full, the next entry comes behind the list
+pub own_submitted : (old new : Content) (operation : Operation) (seen : List Entry) → old.limit ≡ MAX_OWN_TOPICS → (IsFull old operation → ⊥) → new ≡ followed old (next_entry old operation) → IsOwn old seen
     → (list : List Entry) × IsOwn new list × Extends list seen × Submits operation (local_mark old) (local_mark new) (Ok tt) seen list
 own_submitted old new operation seen limit free is own =
     let e : Entry = next_entry old operation in
@@ -38,7 +39,7 @@ own_submitted old new operation seen limit free is own =
     let stands : Stands new list = subst (λ (c : Content). Stands c list) (sym is) (stands_more old seen e own.stands fits (next, room old e (λ no. free (inr no)))) in
     let serial : slice_index new.serials 1 ≡ slice_index old.serials 1 + 1 =
     ap (λ (c : Content). slice_index c.serials 1) is ∙ get_or-set_same old.serials 1 (slice_index old.serials 1 + 1) 0 (omega (arith, own.stands.wide)) in
-    let same : new.limit ≡ 10000 = ap (λ (c : Content). c.limit) is ∙ limit in
+    let same : new.limit ≡ MAX_OWN_TOPICS = ap (λ (c : Content). c.limit) is ∙ limit in
     let named = ap (λ (k : ℕ). let x : Entry = record { origin = record { place = 1; serial = k }; operation = operation } in x) (sym serial) in (
       list,
       record {

@@ -1,5 +1,5 @@
 -- The command line, as the crate clap reads it.
-use Rattle.std.specs.Prelude.{◌≡◌, true, false, List, Some, codes}
+use Rattle.std.specs.Prelude.{◌≡◌, ◌-◌, ◌^◌, true, false, List, Some, codes}
 use Rattle.std.specs.Str.Parse.{IsNumeral, digits_value, without_leading_plus}
 use Rattle.clap.specs.Words.{App, Rule, Row, Text, new_app, new_rule, with_rule, with_subcommand, one_of, subcommand_of}
 use Rattle.clap.specs.Simple.{on_top}
@@ -14,12 +14,12 @@ hex_option = record (new_rule (codes "hex")) { long = Some (codes "hex"); action
 
 -- `--at SECONDS`, which has to be there
 abbrev pub at_option : Rule
-at_option = record (new_rule (codes "at")) { long = Some (codes "at"); value_names = 1; parser = Some (Unsigned 0 18446744073709551615); required = true }
+at_option = record (new_rule (codes "at")) { long = Some (codes "at"); value_names = 1; parser = Some (Unsigned 0 (2 ^ 64 - 1)); required = true }
 
 abbrev pub pipe_words : App
 pipe_words = with_rule (with_rule (new_app (codes "pipe")) hex_option) at_option
 
--- the words behind the program's name: one of its commands, with its options
+-- the words after the program's name: one of its commands, with its options
 abbrev pub rstored_words : App
 rstored_words = with_subcommand (on_top (λ s. record s { no_binary_name = true; subcommand_required = true; disable_help_subcommand = true }) (new_app (codes "rstored"))) pipe_words.top
 

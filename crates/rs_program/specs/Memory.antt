@@ -4,22 +4,25 @@ use Rattle.std.specs.List.{All}
 use Rattle.rs_message.specs.declared.entry.Entry.{Entry}
 use Rattle.rs_store.specs.History.{IsLegal, last_serial}
 use Rattle.rs_session.specs.Gate.{Mark}
-use Rattle.rs_session.specs.Run.{Point, Turn, Run, AreOfGate}
+use Rattle.rs_session.specs.Points.{Point}
+use Rattle.rs_session.specs.Run.{Turn, Run, AreOfGate}
+use Rattle.rs_session.specs.State.{State}
 use Rattle.rs_server.specs.declared.connection.Served.{Served}
+use Rattle.rs_program.specs.declared.own_store.TheConstants.{MAX_OWN_TOPICS}
 use Rattle.rs_server.specs.Conversation.{InputsOf, inputs_of, moments_of, replies_of, assigned_of, start, ClosesAs}
 
--- The list is legal for 10,000 topics, its entries are of place 1, and the last serial is the mark's.
+-- The list is legal for the topics of an own store, its entries are of place 1, and the last serial is the mark's.
 pub record IsOfMark (mark : Mark) (list : List Entry) : Type 0 where
-  pub legal : IsLegal 10000 list
+  pub legal : IsLegal MAX_OWN_TOPICS list
   pub places : All (λ (e : Entry). e.origin.place ≡ 1) list
   pub serial : last_serial 1 list ≡ mark.serial
 
--- From an empty store, as connection 1 at place 1, a session was run over the packets at the front of the
--- input, each at this moment. The output are its replies, and it ended so. The lists of each turn have no entry
+-- From an empty store, as connection 1 at place 1, a session was run over the packets of a prefix of the
+-- input, each at this time. The output is its replies, and it ended so. The lists of each turn have no entry
 -- of a later one.
 pub record IsServed (input : List ℕ) (now : ℕ) (served : Served) (output : List ℕ) : Type 0 where
   pub turns : List Turn
-  pub to : Point
+  pub to : Point State
   pub taken : List ℕ
   pub held : List ℕ
   pub rest : List ℕ

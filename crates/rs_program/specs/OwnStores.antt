@@ -4,15 +4,15 @@ use Rattle.std.specs.List.{All}
 use Rattle.rs_message.specs.declared.entry.Entry.{Entry}
 use Rattle.rs_store.specs.declared.content.Content.{Content}
 use Rattle.rs_store.specs.History.{IsLegal, Stands}
-use Rattle.rs_store.specs.Maps.{kept}
 use Rattle.rs_session.specs.Local.{catalogue_of}
 use Rattle.rs_program.specs.declared.own_store.OwnStore.{OwnStore}
+use Rattle.rs_program.specs.declared.own_store.TheConstants.{MAX_OWN_TOPICS}
 
 abbrev pub content_of : OwnStore → Content
-content_of store = kept (catalogue_of store.gate)
+content_of store = catalogue_of store.gate
 
--- the content is that of the list, which is legal for 10,000 topics, and whose entries are of place 1
+-- the content is that of the list, which is legal for its topics, and whose entries are of place 1
 pub record IsOwn (c : Content) (history : List Entry) : Type 0 where
   pub stands : Stands c history
-  pub legal : IsLegal 10000 history
+  pub legal : IsLegal MAX_OWN_TOPICS history
   pub places : All (λ e. e.origin.place ≡ 1) history

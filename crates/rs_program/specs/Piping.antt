@@ -1,33 +1,56 @@
 -- One connection from an input to an output.
-use Rattle.std.specs.Prelude.{◌≡◌, ℕ, Bool, true, false, Option, None, Result, Ok, Err, List}
+use Rattle.std.specs.Prelude.{◌≡◌, ◌≤◌, ℕ, Bool, true, false, Option, None, Result, Ok, Err, List, length}
 use Rattle.std.specs.List.{All}
+use Rattle.std.specs.Io.KnownBytes.{append_known}
+use Rattle.rs_hex.specs.Lines.{read_bytes, written_bytes}
 use Rattle.rs_message.specs.declared.entry.Entry.{Entry}
 use Rattle.rs_session.specs.Gate.{Mark}
-use Rattle.rs_session.specs.Run.{Point}
+use Rattle.rs_session.specs.Points.{Point}
+use Rattle.rs_session.specs.State.{State}
 use Rattle.rs_server.specs.Conversation.{IsConnection}
 use Rattle.rs_server.specs.declared.connection.Served.{Served}
 use Rattle.rs_program.specs.declared.piping.PipeFault.{PipeFault}
 use Rattle.rs_server.specs.declared.writing.ServeFault.{ServeFault}
 use Rattle.rs_program.specs.Statuses.{pipe_fault}
 
--- The bytes of a stream, where they go in or out as they are. Of those that lines of hex digits stand for
--- nothing is known.
-abbrev pub if_raw : Bool → Option (List ℕ) → Option (List ℕ)
-if_raw true known = None
-if_raw false known = known
+-- What the known input stands for: its bytes, or with hex those of its lines, up to the first that is not hex.
+abbrev pub input_bytes : Bool → Option (List ℕ) → Option (List ℕ)
+input_bytes true text = read_bytes text
+input_bytes false bytes = bytes
 
--- a line is named only where lines of hex digits are read
+-- What the known output stands for: its bytes, or with hex those of its lines, if all are hex.
+abbrev pub output_bytes : Bool → Option (List ℕ) → Option (List ℕ)
+output_bytes true text = written_bytes text
+output_bytes false bytes = bytes
+
+-- What is left of the input. With hex, a part of it was read and is lost.
+abbrev pub IsLeft : Bool → Option (List ℕ) → Option (List ℕ) → Type 0
+IsLeft true text left = Unit {0}
+IsLeft false bytes left = left ≡ bytes
+
+-- What the output holds. With hex, the second digit of the last byte may be missing.
+abbrev pub IsHeld : Bool → Option (List ℕ) → Option (List ℕ) → Type 0
+IsHeld true text held = (due : List ℕ) × (length due ≤ 1) × (held ≡ written_bytes (append_known text due))
+IsHeld false bytes held = held ≡ bytes
+
+-- a line is named only if lines of hex digits are read
 abbrev pub if_hex : Bool → Option ℕ → Option ℕ
 if_hex true line = line
 if_hex false line = None
 
--- what is answered, where this line, if any, was not hex
+-- what is answered if this line, if any, was not hex
 abbrev pub piped : Result Served ServeFault → Option ℕ → Result Served PipeFault
 piped (Ok served) line = Ok served
 piped (Err fault) line = Err (pipe_fault fault line)
 
--- There was a connection whose every moment was `at`, and its outcome was answered so.
-abbrev pub IsPiped : ℕ → Point → (Mark → List Entry → Type 0) → (List Entry → Type 0) → Mark → Option (List ℕ) → Option (List ℕ) → Option (List ℕ) → Option (List ℕ) → Option ℕ → Result Served PipeFault → Type 0
-IsPiped at from stands_at stands mark unread rest written more line answered = (outcome : Result Served ServeFault)
-    × IsConnection from stands_at stands mark (All (λ moment. moment ≡ at)) unread rest written more outcome
-    × (answered ≡ piped outcome line)
+-- There was a connection whose every moment was `at`, over what the input and the output stand for. Its outcome
+-- was answered so.
+pub record IsPiped (hex : Bool) (at : ℕ) (from : Point State) (stands_at : Mark → List Entry → Type 0) (stands : List Entry → Type 0) (mark : Mark) (unread rest written more : Option (List ℕ)) (answered : Result Served PipeFault) : Type 0 where
+  pub outcome : Result Served ServeFault
+  pub left : Option (List ℕ)
+  pub held : Option (List ℕ)
+  pub line : Option ℕ
+  pub connection : IsConnection from stands_at stands mark (All (λ moment. moment ≡ at)) (input_bytes hex unread) left (output_bytes hex written) held outcome
+  pub left_is : IsLeft hex rest left
+  pub held_is : IsHeld hex more held
+  pub answer : answered ≡ piped outcome (if_hex hex line)

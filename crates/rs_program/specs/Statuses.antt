@@ -31,7 +31,7 @@ abbrev pub fault_status : RunFault → ℕ
 fault_status (run.Words fault) = words_status fault
 fault_status (run.Pipe fault) = pipe_status fault
 
--- 0 where the connection ended, however
+-- 0 if the connection ended, however
 abbrev pub run_status : {T : Type 0} → Result T RunFault → ℕ
 run_status (Ok ended) = 0
 run_status (Err fault) = fault_status fault

@@ -9,12 +9,12 @@ use std::alloc::Global;
 use std::sync::Wait;
 
 /// Serves one connection over bytes in memory: how it ends, and the replies. It is connection 1 at place 1,
-/// over an empty [`OwnStore`]. Every moment is `now`, in seconds.
+/// over an empty [`OwnStore`]. Every time is `now`, in seconds.
 ///
 /// # Errors
 ///
 /// Only if memory is refused: [`ServeFault::Write`] if the output cannot grow, and
-/// [`ServeFault::NoMemory`] else. The contract does not say so, since that of [`serve`] lets every reader
+/// otherwise [`ServeFault::NoMemory`]. The contract does not say so, since that of [`serve`] lets every reader
 /// and writer fail.
 pub fn serve_bytes<H: Wait>(
     rt: &H,

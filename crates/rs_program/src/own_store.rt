@@ -1,17 +1,20 @@
 //! The store of a program that serves one connection.
 
 ghost use Rattle.std.specs.Prelude.{◌≡◌};
-ghost use Rattle.rs_store.specs.Maps.{kept};
+ghost use Rattle.rs_program.specs.declared.own_store.TheConstants.{MAX_OWN_TOPICS};
 ghost use Rattle.rs_session.specs.Local.{catalogue_of};
 
 mod gate;
 
 use rs_session::LocalGate;
-use rs_store::MapCatalogue;
+use rs_store::TreeCatalogue;
 
-/// A gate to a store of at most 10,000 topics. It stands for legal lists whose entries are of place 1.
+/// How many topics of an [`OwnStore`] may hold a message.
+pub const MAX_OWN_TOPICS: u32 = 10_000;
+
+/// A gate to a store of at most [`MAX_OWN_TOPICS`] topics. It stands for legal lists whose entries are of place 1.
 #[derive(Drop)]
 pub struct OwnStore {
-    gate: LocalGate<MapCatalogue>,
-    ghost limit: { (kept (catalogue_of gate)).limit ≡ 10000 },
+    gate: LocalGate<TreeCatalogue>,
+    ghost limit: { (catalogue_of gate).limit ≡ MAX_OWN_TOPICS },
 }

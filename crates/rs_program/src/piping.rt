@@ -1,10 +1,10 @@
 //! One connection from an input to an output.
 
-ghost use Rattle.std.specs.Prelude.{◌≡◌, ℕ, List, None, Option};
+ghost use Rattle.std.specs.Prelude.{◌≡◌, List, true, false};
 ghost use Rattle.rs_message.specs.declared.entry.Entry.{Entry};
 ghost use Rattle.rs_server.specs.Conversation.{assigned_of, start};
 ghost use Rattle.rs_session.specs.Gate.{StandsAt};
-ghost use Rattle.rs_program.specs.Piping.{IsPiped, if_hex, if_raw, piped};
+ghost use Rattle.rs_program.specs.Piping.{IsPiped, piped};
 ghost use Rattle.rs_program.specs.Statuses.{pipe_fault, pipe_status};
 
 use rs_hex::{HexReader, HexWriter};
@@ -63,10 +63,11 @@ pub struct Piped<R, W, G> {
     pub gate: G,
 }
 
-/// Serves one connection, the first at place 1, whose every moment is `at`, in seconds. Without `hex`,
+/// Serves one connection, the first at place 1, at the time `at`, in seconds. Without `hex`,
 /// bytes go in and out as they are. With it, input and output are lines of hex digits, one line a reply.
 ///
-/// The fault is that of [`serve`], but where a line was not hex it names the line.
+/// The fault is that of [`serve`], but if a line was not hex it names the line. With `hex`, what was read of
+/// the input and not handled is lost.
 pub fn pipe<H: Wait, R: Read + Drop, W: Write + Drop, G: Gate>(
     rt: &H,
     alloc: Global,
@@ -76,12 +77,9 @@ pub fn pipe<H: Wait, R: Read + Drop, W: Write + Drop, G: Gate>(
     hex: bool,
     at: u64,
 ) -> Piped<R, W, G>
-    // Of the bytes that lines of hex digits stand for, only that there was a connection over some.
-    ensures { (seen : List Entry) → G.stands gate seen → (line : Option ℕ)
-        × IsPiped at (start (assigned_of 1 1) seen (G.mark gate)) (StandsAt G.stands G.mark) (G.stands result.gate) (G.mark result.gate)
-        (if_raw hex (R.remaining input)) (if_raw hex (R.remaining result.input))
-        (if_raw hex (W.contents output)) (if_raw hex (W.contents result.output))
-        (if_hex hex line) result.served }
+    ensures { (seen : List Entry) → G.stands gate seen
+        → IsPiped hex at (start (assigned_of 1 1) seen (G.mark gate)) (StandsAt G.stands G.mark) (G.stands result.gate) (G.mark result.gate)
+        (R.remaining input) (R.remaining result.input) (W.contents output) (W.contents result.output) result.served }
 {
     if hex {
         pipe_lines(rt, alloc, input, output, gate, at)
@@ -99,8 +97,8 @@ fn pipe_bytes<H: Wait, R: Read + Drop, W: Write + Drop, G: Gate>(
     at: u64,
 ) -> Piped<R, W, G>
     ensures { (seen : List Entry) → G.stands gate seen
-        → IsPiped at (start (assigned_of 1 1) seen (G.mark gate)) (StandsAt G.stands G.mark) (G.stands result.gate) (G.mark result.gate)
-        (R.remaining input) (R.remaining result.input) (W.contents output) (W.contents result.output) None result.served }
+        → IsPiped false at (start (assigned_of 1 1) seen (G.mark gate)) (StandsAt G.stands G.mark) (G.stands result.gate) (G.mark result.gate)
+        (R.remaining input) (R.remaining result.input) (W.contents output) (W.contents result.output) result.served }
 {
     let mut reader = Counted::new(input);
     let mut writer = Counted::new(output);
@@ -122,9 +120,9 @@ fn pipe_lines<H: Wait, R: Read + Drop, W: Write + Drop, G: Gate>(
     gate: G,
     at: u64,
 ) -> Piped<R, W, G>
-    ensures { (seen : List Entry) → G.stands gate seen → (line : Option ℕ)
-        × IsPiped at (start (assigned_of 1 1) seen (G.mark gate)) (StandsAt G.stands G.mark) (G.stands result.gate) (G.mark result.gate)
-        None None None None line result.served }
+    ensures { (seen : List Entry) → G.stands gate seen
+        → IsPiped true at (start (assigned_of 1 1) seen (G.mark gate)) (StandsAt G.stands G.mark) (G.stands result.gate) (G.mark result.gate)
+        (R.remaining input) (R.remaining result.input) (W.contents output) (W.contents result.output) result.served }
 {
     let mut reader = Counted::new(HexReader::new(alloc, input));
     let mut writer = Counted::new(HexWriter::new(output));
@@ -139,7 +137,7 @@ fn pipe_lines<H: Wait, R: Read + Drop, W: Write + Drop, G: Gate>(
     }
 }
 
-/// What is answered, where a line that is not hex made the reader fail, or none did.
+/// What is answered if this line, if any, was not hex.
 fn answer_of(served: Result<Served, ServeFault>, not_hex: Option<u64>) -> Result<Served, PipeFault>
     ensures { result ≡ piped served not_hex }
 {
@@ -149,7 +147,7 @@ fn answer_of(served: Result<Served, ServeFault>, not_hex: Option<u64>) -> Result
     }
 }
 
-/// The fault, where a line that is not hex made the reader fail, or none did.
+/// The fault if this line, if any, was not hex.
 fn fault_at(fault: ServeFault, not_hex: Option<u64>) -> PipeFault
     ensures { result ≡ pipe_fault fault not_hex }
 {

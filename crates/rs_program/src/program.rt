@@ -39,9 +39,9 @@ impl RunFault {
     }
 }
 
-/// Runs the program by its command line, over this input and output, and gives its exit status: 0 where
-/// the connection ended or help was asked for, 1 where reading, writing or memory failed, 2 where the
-/// command line or a line of the input is refused.
+/// Runs the program by its command line, over this input and output, and gives its exit status: 0 if the
+/// connection ended or help was asked for, 1 if reading, writing or memory failed, 2 if the command line or
+/// a line of the input is refused.
 pub fn run<H, I: Read + Drop, W: Write + Drop>(rt: &H, input: I, output: W) -> u8
 where
     H: Wait + Env + AllocGlobal + Print + Eprint,

@@ -19,12 +19,12 @@ pub enum Run {
     Pipe {
         /// Whether bytes are lines of hex digits.
         hex: bool,
-        /// The moment of every packet, in seconds.
+        /// The time of every packet, in seconds.
         at: u64,
     },
 }
 
-/// Why a command line asks for nothing.
+/// Why no connection is served: help was asked for, the words are refused, or memory is.
 #[derive(Debug, Drop, Error)]
 pub enum WordsFault {
     /// Help was asked for: its text.
@@ -39,7 +39,7 @@ pub enum WordsFault {
 }
 
 impl WordsFault {
-    /// The exit status: 0 for help, 2 for words that are refused, 1 for want of memory.
+    /// The exit status: 0 for help, 2 for words that are refused, 1 if memory is refused.
     pub fn status(&self) -> u8
         ensures { result ≡ words_status self.now }
     {
@@ -69,7 +69,7 @@ const HEX_HELP: &str = "Read and write lines of hex digits in place of raw bytes
 const AT_HELP: &str =
     "The time of every packet, in whole seconds, by which retained messages expire";
 
-/// What the words behind the program's name ask for.
+/// What the words after the program's name ask for.
 pub fn read_words(alloc: Global, words: &[String]) -> Result<Run, WordsFault>
     ensures { IfOk result (AskFor (map string_bytes words.now)) }
 {

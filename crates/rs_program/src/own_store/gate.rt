@@ -1,30 +1,29 @@
-//! The calls of the store.
+//! The program's store as a gate.
 
 ghost use Rattle.std.specs.Prelude.{◌≡◌, ◌↔◌, [], IfOk, IfErr, OnErr, OnOk, Err, ◌⊎◌};
+ghost use Rattle.std.specs.Option.{option_map};
 ghost use Rattle.rs_store.specs.Contents.{empty, followed};
-ghost use Rattle.rs_store.specs.History.{IsAnswer};
+ghost use Rattle.rs_store.specs.History.{IsAnswer, IsAnswerWithin};
 ghost use Rattle.rs_session.specs.Gate.{Grows, Uses, Submits};
 ghost use Rattle.rs_session.specs.Local.{local_mark, next_entry, IsFull};
 ghost use Rattle.rs_program.specs.OwnStores.{IsOwn, content_of};
+ghost use Rattle.rs_program.specs.declared.own_store.TheConstants.{MAX_OWN_TOPICS};
 
-use super::OwnStore;
+use super::{MAX_OWN_TOPICS, OwnStore};
 use rs_message::{Found, Operation, SubmitFault};
 use rs_session::{Gate, LocalGate};
 use rs_store::TopicLimit;
 use rs_topic::TopicFilter;
 use std::alloc::{AllocError, Global};
 
-/// How many topics may hold a message.
-const TOPICS: u32 = 10_000;
-
 impl OwnStore {
-    /// A gate to an empty store. Refused only for want of memory.
+    /// A gate to an empty store. Fails only if memory is refused.
     pub fn new(alloc: Global) -> Result<OwnStore, AllocError>
-        ensures content { IfOk result (λ store. content_of store ≡ empty 10000) }
+        ensures content { IfOk result (λ store. content_of store ≡ empty MAX_OWN_TOPICS) }
         ensures list { IfOk result (λ store. IsOwn (content_of store) []) }
         ensures mark { IfOk result (λ store. local_mark (content_of store) ≡ record { place = 1; serial = 0 }) }
     {
-        match TopicLimit::new(TOPICS) {
+        match TopicLimit::new(MAX_OWN_TOPICS) {
             Some(limit) => Ok(OwnStore {
                 gate: LocalGate::new(alloc, limit)?,
             }),
@@ -41,8 +40,8 @@ impl Gate for OwnStore {
 
     ghost mark = { λ store. local_mark (content_of store) };
 
-    /// `Full` where no serial is left or the store has no room, `NoMemory` where memory is refused.
-    /// Refused, the store is as before.
+    /// `Full` if no serial is left or the store has no room, `NoMemory` if memory is refused. On either the
+    /// store is as before.
     fn submit(&mut self, operation: Operation) -> Result<(), SubmitFault>
         ensures list { Grows (IsOwn (content_of self.old)) (IsOwn (content_of self.new))
             (Submits operation (local_mark (content_of self.old)) (local_mark (content_of self.new)) result) }
@@ -58,7 +57,7 @@ impl Gate for OwnStore {
         }
     }
 
-    /// Refused only for want of memory. The store stays as it is.
+    /// Fails only if memory is refused. The store stays as it is.
     fn answer(&mut self, filter: &TopicFilter, now: u64) -> Result<Vec<Found>, AllocError>
         ensures list { Grows (IsOwn (content_of self.old)) (IsOwn (content_of self.new))
             (λ seen list. IfOk result (λ found. IsAnswer list filter.now now found.items)) }
@@ -67,6 +66,24 @@ impl Gate for OwnStore {
     {
         match self.gate.answer(filter, now) {
             Ok(found) => Ok(found),
+            Err(error) => Err(error),
+        }
+    }
+
+    /// Refused only if memory is. The store stays as it is.
+    fn answer_within(
+        &mut self,
+        filter: &TopicFilter,
+        now: u64,
+        room: usize,
+    ) -> Result<Option<Vec<Found>>, AllocError>
+        ensures list { Grows (IsOwn (content_of self.old)) (IsOwn (content_of self.new))
+            (λ seen list. IfOk result (λ answer. IsAnswerWithin room list filter.now now (option_map (λ found. found.items) answer))) }
+        ensures mark { local_mark (content_of self.new) ≡ local_mark (content_of self.old) }
+        ensures same { content_of self.new ≡ content_of self.old }
+    {
+        match self.gate.answer_within(filter, now, room) {
+            Ok(answer) => Ok(answer),
             Err(error) => Err(error),
         }
     }

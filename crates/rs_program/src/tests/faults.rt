@@ -40,7 +40,7 @@ const WRITE: Result<Served, ServeFault> = Err(ServeFault::Write);
 const CLOSED: Result<Served, ServeFault> = Ok(Served::ClientClosed);
 
 // Which calls fail, from the first to the last, one in each run; how the first connection ends then; how
-// many bytes of its replies are written where the first of these calls fails, one more for each later
+// many bytes of its replies are written if the first of these calls fails, one more for each later
 // write; and whether the PUBLISH was kept.
 type Row = (Call, usize, usize, Result<Served, ServeFault>, usize, bool);
 
@@ -212,7 +212,7 @@ fn one_read_fails(rt: HostRuntime) -> Result<(), Fail> {
     Ok(())
 }
 
-// Where all packets come in one read, those behind the failed write are held, and are not handled.
+// If all packets come in one read, those behind the failed write are held, and are not handled.
 #[test]
 fn one_write_or_flush_fails(rt: HostRuntime) -> Result<(), Fail> {
     for step in [1, FIRST.len()] {

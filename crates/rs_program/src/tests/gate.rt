@@ -30,4 +30,13 @@ impl Gate for Refusing {
     fn answer(&mut self, _filter: &TopicFilter, _now: u64) -> Result<Vec<Found>, AllocError> {
         Err(AllocError)
     }
+
+    fn answer_within(
+        &mut self,
+        _filter: &TopicFilter,
+        _now: u64,
+        _room: usize,
+    ) -> Result<Option<Vec<Found>>, AllocError> {
+        Err(AllocError)
+    }
 }

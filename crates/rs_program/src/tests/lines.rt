@@ -53,7 +53,7 @@ fn bytes_as_they_are(rt: HostRuntime) {
     assert_eq!(rt; ended.output.as_slice(), b"\x20\x03\x00\x84\x00".as_slice());
 }
 
-// CONNECT, PUBLISH, SUBSCRIBE, DISCONNECT: the retained message is replayed behind the SUBACK.
+// CONNECT, PUBLISH, SUBSCRIBE, DISCONNECT: the retained message is replayed after the SUBACK.
 #[test]
 fn a_message_is_replayed(rt: HostRuntime) -> Result<(), Fail> {
     let input =

@@ -1,4 +1,4 @@
-//! What a client is answered where the gate gives no receipt for its publication.
+//! What a client is answered if the gate gives no receipt for its publication.
 
 use super::gate::Refusing;
 use crate::piping::pipe;
@@ -15,7 +15,7 @@ const CONNACK: &[u8] = b"\x20\x0D\x00\x00\x0A\x21\x00\x10\x27\x00\x04\x00\x00\x2
 
 const PINGREQ: &[u8] = b"\xC0\x00";
 
-// A retained PUBLISH at QoS 0, 1 and 2, and what answers it where the session goes on, with the PINGRESP.
+// A retained PUBLISH at QoS 0, 1 and 2, and what answers it if the session goes on, with the PINGRESP.
 const GOING_ON: [(&[u8], &[u8]); 3] = [
     (b"\x31\x05\x00\x01a\x00x", b"\xD0\x00"),
     (

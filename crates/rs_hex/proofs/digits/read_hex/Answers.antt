@@ -1,4 +1,4 @@
-use Rattle.std.proofs.Common.{◌≡◌, Some, None, Ok, Err, sym, ap, List, ℕ, inl, inr, ◌∙◌}
+use Rattle.std.proofs.Common.{sym, ap, inl, inr, ◌∙◌}
 use Rattle.std.specs.Result.{result_ok}
 use Rattle.rs_hex.specs.Digits.{bytes_of_digits}
 use Rattle.rs_hex.proofs.HexDigits.{decoded}

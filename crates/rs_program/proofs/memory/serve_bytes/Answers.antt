@@ -3,8 +3,9 @@ use Rattle.std.specs.declared.vec.Vec.{Vec}
 use Rattle.std.specs.declared.alloc.Global.{Global}
 use Rattle.rs_session.specs.Gate.{Mark}
 use Rattle.rs_session.specs.Local.{local_mark}
+use Rattle.rs_session.specs.Points.{point_at}
 use Rattle.rs_session.specs.Run.{Run}
-use Rattle.rs_server.specs.Conversation.{start, assigned_of, point_at, replies_of}
+use Rattle.rs_server.specs.Conversation.{start, assigned_of, replies_of}
 use Rattle.rs_server.specs.Moments.{told_by}
 use Rattle.rs_program.specs.OwnStores.{content_of}
 use Rattle.rs_session.proofs.Runs.{of_gate_weaker}

@@ -1,4 +1,4 @@
-use Rattle.std.proofs.Common.{rules, ◌≡◌, ◌∙◌, ap, ap₂, refl, false, Option, Some, codes}
+use Rattle.std.proofs.Common.{rules, ◌≡◌, ◌-◌, ◌^◌, ◌∙◌, ap, ap₂, refl, false, Option, Some, codes}
 use Rattle.std.proofs.lemmas.Result.{IfOk-weaker}
 use Rattle.clap.specs.Words.{app_of, new_app, rule_of, with_rule}
 use Rattle.clap.specs.Simple.{app_of_fields}
@@ -14,7 +14,7 @@ pub returns-clause-shape : goal.returns-clause-shape
 returns-clause-shape c =
     let hex_is : rule_of c.help-hex.result ≡ hex_option = search rules in
     let given = c.value_parser-2.ensures.given in
-    let parser_is : c.value_parser-2.result.value_parser ≡ Some (Unsigned 0 18446744073709551615) = given.1 ∙ ap Some (given.2 ∙ c.value_parser.ensures) in
+    let parser_is : c.value_parser-2.result.value_parser ≡ Some (Unsigned 0 (2 ^ 64 - 1)) = given.1 ∙ ap Some (given.2 ∙ c.value_parser.ensures) in
     let but_parser : rule_of c.help-at.result ≡ record at_option { parser = c.value_parser-2.result.value_parser } = search rules in
     let at_is : rule_of c.help-at.result ≡ at_option = but_parser ∙ ap (λ (p : Option ValueParser). record at_option { parser = p }) parser_is in
     let about_is : app_of c.long_about.result ≡ new_app (codes "pipe") = ap app_of_fields c.long_about.ensures ∙ ap app_of_fields c.about.ensures ∙ c.new-3.ensures.app in
