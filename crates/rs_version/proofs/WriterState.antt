@@ -1,8 +1,9 @@
 -- What the writer's invariant says, and that each step of the writer keeps it.
-use Rattle.std.proofs.Common.{◌≡◌, ℕ, ◌+◌, ◌<◌, ◌≤◌, refl, List, [], ◌∷◌, ◌++◌, length, fold, Option, Some, None, inl, inr, ⊎_elim, subst, sym, ◌∙◌, ap, arith, length-append}
+use Rattle.std.proofs.Common.{◌≡◌, ℕ, ◌+◌, ◌<◌, ◌≤◌, List, [], ◌∷◌, ◌++◌, length, fold, Option, Some, None, inl, inr, ⊎_elim, subst, sym, ◌∙◌, ap, arith, length-append}
 use Rattle.std.proofs.lemmas.List.{append-nil}
 use Rattle.logbook.specs.Pages.{Book}
 use Rattle.rs_message.specs.declared.entry.Entry.{Entry}
+use Rattle.rs_message.specs.declared.entry.TheConstants.{MAX_PLACES}
 use Rattle.rs_store.specs.declared.content.Content.{Content}
 use Rattle.rs_store.specs.Contents.{Accepts}
 use Rattle.rs_store.specs.History.{IsLegal, Stands, extended}
@@ -16,7 +17,7 @@ use Rattle.rs_version.specs.declared.fault.PutFault.TheVariants.{Full, Stale, No
 use Rattle.rs_version.specs.Copies.{listed, shown, steps_of}
 use Rattle.rs_version.specs.Receipts.{StandsAt}
 use Rattle.rs_version.specs.VersionRule.{Follows, IsSound, applied, state}
-use Rattle.rs_version.specs.Writer.{CatchesUp, Declines, IsWriting, Refuses, StepsFor, Written, kept_of, settled}
+use Rattle.rs_version.specs.Writer.{CatchesUp, Declines, IsWriting, Refuses, StepsFor, Written, settled}
 use Rattle.rs_version.proofs.VersionRule.{settled as goes_on}
 
 -- the writer's own catalogue stands for the published list
@@ -31,7 +32,7 @@ accepts_alike c d log e s t same a =
     let P : ℕ → Type 0 = λ n. IsLegal n (extended log e) in
     accepts d log e t (omega (arith, a.0)) (subst P (sym same) (legal_more c log e s a))
 
--- where the writer's own catalogue is behind, it accepts the held entry
+-- if the writer's own catalogue is behind, it accepts the held entry
 pub own_accepts : (history : Book) (limit : ℕ) (copies : Copies) (list : List Entry) (own : KeptCatalogue) (held : Option Entry) (e : Entry) (number : ℕ) → IsWriting history limit copies list own held → held ≡ Some e → number ≡ length list → (content_of own).version < number → Accepts (content_of own) e
 own_accepts history limit copies list own held e number writing is n less =
     let W : Option Entry → Type 0 = λ h. IsWriting history limit copies list own h in
@@ -56,7 +57,7 @@ own_after history limit copies list own own' held e number writing is n caught =
     let whole : list ≡ extended log e = w.list_is in
     let more : length list ≡ length log + 1 = ap length whole ∙ length-append log (e ∷ []) in
     let C : Content → Type 0 = λ c. Stands c list in
-    let Q : Entry → Type 0 = λ z. z.origin.place ≤ 64 in
+    let Q : Entry → Type 0 = λ z. z.origin.place ≤ MAX_PLACES in
     ⊎_elim
     (λ t. (
       ⊎_elim (λ s. subst C (sym t.1) s) (λ s. absurd (omega (arith, s.version, n, more, t.0))) w.own_is,
@@ -71,7 +72,7 @@ own_after history limit copies list own own' held e number writing is n caught =
     ))
     caught
 
--- where the publish is refused, only the writer's own catalogue goes on
+-- if the publish is refused, only the writer's own catalogue goes on
 pub still_writing : (history : Book) (limit : ℕ) (copies copies' : Copies) (list : List Entry) (own own' : KeptCatalogue) (held : Option Entry) → IsWriting history limit copies list own held → Stands (content_of own') list × ((content_of own').limit ≡ limit) → shown copies' ≡ shown copies → steps_of copies' ≡ steps_of copies
     → IsWriting history limit copies' list own' held
 still_writing history limit copies copies' list own own' held w now same steps =
@@ -87,7 +88,7 @@ still_writing history limit copies copies' list own own' held w now same steps =
       steps = subst Q (sym steps) (subst P (sym same) w.steps);
     }
 
--- where it is done, nothing is held
+-- if it is done, nothing is held
 pub all_published : (history : Book) (limit : ℕ) (copies copies' : Copies) (list : List Entry) (own own' : KeptCatalogue) (held : Option Entry) (e : Entry) → IsWriting history limit copies list own held → held ≡ Some e → Stands (content_of own') list × ((content_of own').limit ≡ limit)
     → state (shown copies') ≡ fold applied (state (shown copies)) (steps_of copies) → steps_of copies' ≡ [] → IsWriting history limit copies' list own' None
 all_published history limit copies copies' list own own' held e writing is now goes none =
@@ -113,7 +114,7 @@ all_published history limit copies copies' list own own' held e writing is now g
 
 -- an entry that was appended is held
 pub appended : (history : Book) (limit : ℕ) (copies copies' : Copies) (list list' : List Entry) (own : KeptCatalogue) (held : Option Entry) (e : Entry) (step : Step) → IsWriting history limit copies list own held → held ≡ None
-    → IsLegal limit (extended (shown copies).prefix.log e) → e.origin.place ≤ 64 → 0 < e.origin.serial
+    → IsLegal limit (extended (shown copies).prefix.log e) → e.origin.place ≤ MAX_PLACES → 0 < e.origin.serial
     → shown copies' ≡ shown copies → steps_of copies' ≡ step ∷ [] → step.entry ≡ e → step.after.history ≡ history → step.after.log ≡ list' → list' ≡ extended list e
     → IsWriting history limit copies' list' own (Some e)
 appended history limit copies copies' list list' own held e step w none legal small some same steps entry book log more =
@@ -123,8 +124,8 @@ appended history limit copies copies' list list' own held e step w none legal sm
     let own_is : Stands (content_of own) x.prefix.log = own_stands history limit copies list own held w none in
     let L : ℕ → Type 0 = λ n. IsLegal n (extended x.prefix.log e) in
     let a : Accepts (content_of x.catalogue) e = accepts (content_of x.catalogue) x.prefix.log e w.sound some (subst L (sym w.limit_is) legal) in
-    let A : Entry → Type 0 = λ z. (z.origin.place ≤ 64) × Accepts (content_of x.catalogue) z in
-    let fits : (step.entry.origin.place ≤ 64) × Accepts (content_of x.catalogue) step.entry = subst A (sym entry) (small, a) in
+    let A : Entry → Type 0 = λ z. (z.origin.place ≤ MAX_PLACES) × Accepts (content_of x.catalogue) z in
+    let fits : (step.entry.origin.place ≤ MAX_PLACES) × Accepts (content_of x.catalogue) step.entry = subst A (sym entry) (small, a) in
     let follows : Follows x step = (fits.0, fits.1, book ∙ sym w.history_is, log ∙ (list_is ∙ ap (λ z. extended x.prefix.log z) (sym entry))) in
     let F : CatalogueCopy → Type 0 = λ z. Follows z step in
     let S : List Entry → Type 0 = λ l. Stands (content_of own) l in

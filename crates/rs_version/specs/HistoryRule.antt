@@ -10,6 +10,6 @@ IsLength cells log = cells ≡ (length log, true) ∷ (0, true) ∷ []
 abbrev pub word_of : Book → Named
 word_of b = record { tracked = true; key = 0; book = b }
 
--- where the number was the one expected, the entry was added to all that had been seen
+-- if the number was the one expected, the entry was added to all that had been seen
 abbrev pub AddsOne : Step Entry → View Entry ℕ → ℕ → View Entry ℕ → Type 0
 AddsOne s v found w = found ≡ s.old → w.0 ≡ v.0 ++ s.ask ∷ []

@@ -1,4 +1,4 @@
--- Receipts: where an entry stands in a list.
+-- Receipts: the number of an entry in a list.
 use Rattle.std.specs.Prelude.{ℕ, ◌≡◌, ◌+◌, List, ◌∷◌, ◌++◌, length}
 use Rattle.rs_message.specs.declared.entry.Entry.{Entry}
 use Rattle.rs_store.specs.History.{IsLegal}

@@ -3,6 +3,7 @@ use Rattle.std.specs.Prelude.{ℕ, ◌≡◌, ◌≤◌, List, Option, Some}
 use mathlib.Core.Option.{some}
 use mathlib.Core.List.{IsPrefix}
 use lib.ListN.{get_elem?}
+use Rattle.rs_message.specs.declared.entry.TheConstants.{MAX_PLACES}
 use Rattle.rs_store.specs.Contents.{Accepts, followed}
 use Rattle.rs_store.specs.History.{Stands, extended}
 use Rattle.rs_version.specs.Catalogues.{content_of}
@@ -20,11 +21,11 @@ state c = (content_of c.catalogue, c.prefix)
 abbrev pub applied : Content × PrefixValue → Step → Content × PrefixValue
 applied s step = (followed s.0 step.entry, step.after)
 
--- what one knows that saw this copy
+-- what a reader or writer knows after it saw this copy
 abbrev pub known : CatalogueCopy → KnownVersion
 known x = record { limit = (content_of x.catalogue).limit; prefix = x.prefix }
 
--- the copy goes on from what is known
+-- the copy continues what is known
 abbrev pub Continues : KnownVersion → CatalogueCopy → Type 0
 Continues u x = (x.prefix.history ≡ u.prefix.history) × ((content_of x.catalogue).limit ≡ u.limit) × IsPrefix u.prefix.log x.prefix.log
 
@@ -35,13 +36,13 @@ IsSound x = Stands (content_of x.catalogue) x.prefix.log
 abbrev pub Keeps : CatalogueCopy → List (Option KnownVersion) → Type 0
 Keeps x views = IsSound x × ((seat : ℕ) (u : KnownVersion) → get_elem? views seat ≡ some (Some u) → Continues u x)
 
--- who knew v knows the copy y then, which goes on from what it knew
+-- whoever knew v now knows the copy y, which continues what it knew
 abbrev pub SeesIt : Option KnownVersion → CatalogueCopy → CatalogueCopy → Option KnownVersion → Type 0
 SeesIt v x y w = (w ≡ Some (known y)) × IsSound y × ((u : KnownVersion) → v ≡ Some u → Continues u y)
 
 -- the step is the next one of the copy
 abbrev pub Follows : CatalogueCopy → Step → Type 0
-Follows x s = (s.entry.origin.place ≤ 64) × Accepts (content_of x.catalogue) s.entry × (s.after.history ≡ x.prefix.history) × (s.after.log ≡ extended x.prefix.log s.entry)
+Follows x s = (s.entry.origin.place ≤ MAX_PLACES) × Accepts (content_of x.catalogue) s.entry × (s.after.history ≡ x.prefix.history) × (s.after.log ≡ extended x.prefix.log s.entry)
 
 -- something of this history and this limit is known
 abbrev pub Names : Book → ℕ → Option KnownVersion → Type 0

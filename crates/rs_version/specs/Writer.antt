@@ -43,19 +43,19 @@ pub record IsWriting (history : Book) (limit : ℕ) (copies : Copies) (list : Li
   pub own_is : Stands (content_of own) list ⊎ Stands (content_of own) (shown copies).prefix.log
   pub steps : StepsFor (shown copies) held (steps_of copies)
 
--- why the entry is not appended behind the published list, where nothing is held
+-- why the entry is not appended behind the published list, if nothing is held
 abbrev pub Declines : ℕ → List Entry → Entry → PutFault → Type 0
 Declines limit history e fault.Stale = MayNotFollow limit history e refusal.Stale
 Declines limit history e fault.Full = MayNotFollow limit history e refusal.Full
 Declines limit history e fault.NoMemory = MayNotFollow limit history e refusal.NoMemory
 Declines limit history e fault.Held = ⊥
 
--- the entry is not appended behind the kept list, all of which is published
+-- the entry is not appended to the kept list, all of which is published
 abbrev pub IsDeclined : ℕ → Written → Entry → Refusal → Written → Type 0
 IsDeclined limit w e r w' = MayNotFollow limit (kept_of w) e r × (w' ≡ settled w)
 
 -- What a refusal says, and what it leaves. 31, 30: the held entry, if any, is published. 32: the same, and the entry may come next;
--- or the held entry could not be published, and nothing changed. 33: what was kept is published, and the entry is held
+-- or the held entry could not be published, and nothing changed. 33: the kept list from before is published, and the entry is held
 abbrev pub Refuses : ℕ → Written → Entry → PutFault → Written → Type 0
 Refuses limit w e fault.Stale w' = IsDeclined limit w e refusal.Stale w'
 Refuses limit w e fault.Full w' = IsDeclined limit w e refusal.Full w'

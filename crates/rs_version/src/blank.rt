@@ -2,11 +2,11 @@
 
 ghost use Rattle.std.specs.Prelude.{◌≡◌, ◌<◌, ◌≤◌, [], drop, Some, None, All, IfOk, vec_len};
 ghost use Rattle.left_right.specs.Sides.{view};
+ghost use Rattle.rs_message.specs.declared.entry.TheConstants.{MAX_PLACES};
 ghost use Rattle.rs_store.specs.Contents.{empty};
 ghost use Rattle.rs_store.specs.History.{Stands};
 ghost use Rattle.rs_version.specs.Catalogues.{content_of};
 ghost use Rattle.rs_version.specs.VersionRule.{Names, known, state};
-ghost use Rattle.rs_version.specs.Writer.{Written};
 
 use crate::catalogue_copy::CatalogueCopy;
 use crate::copies::{CopyWriter, inform, publish_once};
@@ -105,13 +105,13 @@ fn seats<N: StoreName>(
 }
 
 impl Blank {
-    /// A store of at most `limit` topics, with 1 to 64 `places`.
+    /// A store of at most `limit` topics, with 1 to [`MAX_PLACES`](rs_message::MAX_PLACES) `places`.
     ///
     /// # Errors
     ///
     /// [`AllocError`] if memory is refused.
     pub fn new(alloc: Global, limit: TopicLimit, places: u8) -> Result<Blank, AllocError>
-        requires { (0 < places) × (places ≤ 64) }
+        requires { (0 < places) × (places ≤ MAX_PLACES) }
         ensures { IfOk result (λ b. (b.limit ≡ limit) × (b.places ≡ places)) }
     {
         let own = Kept::new(alloc, limit)?;

@@ -1,6 +1,6 @@
 //! The two copies, as the writer has them.
 
-ghost use Rattle.std.specs.Prelude.{◌≡◌, ◌≤◌, ◌∷◌, ◌++◌, [], length, drop, fold, Some, MatchResult, OnOk};
+ghost use Rattle.std.specs.Prelude.{◌≡◌, ◌≤◌, ◌∷◌, [], length, drop, fold, Some, MatchResult, OnOk};
 ghost use Rattle.left_right.specs.Sides.{view};
 ghost use Rattle.rs_version.specs.VersionRule.{Follows, known, applied, state};
 ghost use Rattle.rs_version.specs.Copies.{listed, shown, steps_of};

@@ -1,4 +1,4 @@
-//! The history of a store: the list of its entries, which exists in proofs alone. What runs is one word, the length of the list.
+//! The history of a store: the list of its entries, which exists only in proofs. At run time there is only its length, one counter.
 
 use logbook::{Gain, Plain, Play, Rule};
 use rs_message::Entry;

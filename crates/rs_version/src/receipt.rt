@@ -47,7 +47,7 @@ impl<N: StoreName> Told<N> {
     }
 }
 
-/// Says that an entry was published, and where it stands. Contracts see it as the entry, its number and the list that was
+/// Says that an entry was published, and at which number of the list. Contracts see it as the entry, its number and the list that was
 /// published with it.
 ///
 /// Only [`put`](crate::VersionWriter::put) and [`retry`](crate::VersionWriter::retry) make receipts. Each call says again what is

@@ -1,9 +1,10 @@
 //! Seats, which read the published copy.
 
-ghost use Rattle.std.specs.Prelude.{◌≡◌, ◌⊎◌, length, IfOk, OnErr, OnOk};
+ghost use Rattle.std.specs.Prelude.{◌≡◌, ◌⊎◌, length, IfOk, IfSome, OnErr, OnOk};
+ghost use Rattle.std.specs.Option.{option_map};
 ghost use mathlib.Core.List.{IsPrefix};
 ghost use Rattle.left_right.specs.Sides.{view};
-ghost use Rattle.rs_store.specs.History.{IsAnswer, IsLegal};
+ghost use Rattle.rs_store.specs.History.{IsAnswer, IsAnswerWithin, IsLegal, Stands};
 ghost use Rattle.rs_version.specs.Catalogues.{content_of};
 ghost use Rattle.rs_version.specs.VersionRule.{Names, IsSound};
 
@@ -50,6 +51,27 @@ impl<N: StoreName> Model for Seat<N> {
     ghost invariant = { λ s. MatchOption s.reader (Unit {0}) (λ r. Names N.history N.limit (known_by r.place)) };
 }
 
+/// The list that the copy is of. An error if it is shorter than the known one.
+fn list_of<N: StoreName>(
+    copy: &CatalogueCopy,
+    known: &KnownList<N>,
+) -> Result<KnownList<N>, AllocError>
+    requires sound { IsSound copy.now }
+    requires history { copy.now.prefix.history ≡ N.history }
+    requires limit { (content_of copy.now.catalogue).limit ≡ N.limit }
+    ensures later { IfOk result (λ list. IsPrefix known.now list) }
+    ensures legal { IfOk result (λ list. IsLegal N.limit list) }
+    ensures stands { IfOk result (λ list. Stands (content_of copy.now.catalogue) list) }
+{
+    let list: KnownList<N> = KnownList::of(copy.prefix.again());
+    // Never: a publish is no shorter than what was published before. The rule of the published copy says so of what was read,
+    // and not of what was learned from a token.
+    if !list.reaches(known) {
+        return Err(AllocError);
+    }
+    Ok(list)
+}
+
 /// What the copy answers, with the list that the copy is of. An error if that list is shorter than the known one.
 fn look<N: StoreName>(
     copy: &CatalogueCopy,
@@ -65,15 +87,34 @@ fn look<N: StoreName>(
     ensures legal { IfOk result (λ r. IsLegal N.limit r.0) }
     ensures found { IfOk result (λ r. IsAnswer r.0 filter.now now r.1.found.items) }
 {
-    let list: KnownList<N> = KnownList::of(copy.prefix.again());
-    // Never: a publish is no shorter than what was published before. The rule of the published copy says so of what was read,
-    // and not of what was learned from a token.
-    if !list.reaches(known) {
-        return Err(AllocError);
-    }
+    let list = list_of(copy, known)?;
     let version = list.version();
     let found = copy.catalogue.answer(filter, now)?;
     Ok((list, Snapshot { version, found }))
+}
+
+/// The same if there are at most `room` messages, else no snapshot.
+fn look_within<N: StoreName>(
+    copy: &CatalogueCopy,
+    known: &KnownList<N>,
+    filter: &TopicFilter,
+    now: u64,
+    room: usize,
+) -> Result<(KnownList<N>, Option<Snapshot>), AllocError>
+    requires sound { IsSound copy.now }
+    requires history { copy.now.prefix.history ≡ N.history }
+    requires limit { (content_of copy.now.catalogue).limit ≡ N.limit }
+    ensures later { IfOk result (λ r. IsPrefix known.now r.0) }
+    ensures version { IfOk result (λ r. IfSome r.1 (λ s. s.version ≡ length r.0)) }
+    ensures legal { IfOk result (λ r. IsLegal N.limit r.0) }
+    ensures found { IfOk result (λ r. IsAnswerWithin room r.0 filter.now now (option_map (λ s. s.found.items) r.1)) }
+{
+    let list = list_of(copy, known)?;
+    let version = list.version();
+    match copy.catalogue.answer_within(filter, now, room)? {
+        Some(found) => Ok((list, Some(Snapshot { version, found }))),
+        None => Ok((list, None)),
+    }
 }
 
 impl<N: StoreName> Seat<N> {
@@ -86,6 +127,14 @@ impl<N: StoreName> Seat<N> {
             reader: Some(reader),
             known,
         }
+    }
+
+    /// The number of entries of the known list.
+    pub fn version(&self) -> u64
+        ensures version { result ≡ length self.now }
+        ensures legal { IsLegal N.limit self.now }
+    {
+        self.known.version()
     }
 
     /// Makes the known list the longer of itself and the token's list. It takes no memory and waits for nobody.
@@ -124,6 +173,41 @@ impl<N: StoreName> Seat<N> {
                 let (list, snapshot) = looked?;
                 self.known = list;
                 Ok(snapshot)
+            }
+            Err(reader) => {
+                self.reader = Some(reader);
+                Err(AllocError)
+            }
+        }
+    }
+
+    /// The same answer if it has at most `room` messages, else `None`. It gives up at the first message beyond the room.
+    ///
+    /// # Errors
+    ///
+    /// As [`Seat::answer`].
+    pub fn answer_within(
+        &mut self,
+        filter: &TopicFilter,
+        now: u64,
+        room: usize,
+    ) -> Result<Option<Snapshot>, AllocError>
+        ensures later { IsPrefix self.old self.new }
+        ensures refused { OnErr result (self.new ≡ self.old) }
+        ensures version { IfOk result (λ answer. IfSome answer (λ s. s.version ≡ length self.new)) }
+        ensures legal { OnOk result (IsLegal N.limit self.new) }
+        ensures found { IfOk result (λ answer. IsAnswerWithin room self.new filter.now now (option_map (λ s. s.found.items) answer)) }
+    {
+        let Some(reader) = self.reader.take() else {
+            return Err(AllocError);
+        };
+        match reader.enter_as::<Sees>() {
+            Ok(reading) => {
+                let looked = look_within(reading.get(), &self.known, filter, now, room);
+                self.reader = Some(reading.leave());
+                let (list, answer) = looked?;
+                self.known = list;
+                Ok(answer)
             }
             Err(reader) => {
                 self.reader = Some(reader);

@@ -1,6 +1,7 @@
 //! Worked examples, with ample memory, and readers beside a writer.
 
 ghost use Rattle.std.specs.Prelude.{◌≡◌, ◌≢◌, ◌<◌, ◌≤◌, [], length};
+ghost use Rattle.rs_message.specs.declared.entry.TheConstants.{MAX_PLACES};
 
 use super::*;
 use bytes::Bytes;
@@ -45,7 +46,7 @@ fn clear(alloc: Global, place: u8, serial: u64, topic: &[u8]) -> Option<Entry> {
 }
 
 fn blank(alloc: Global, limit: u32, places: u8) -> Result<Blank, Fail>
-    requires { (0 < places) × (places ≤ 64) }
+    requires { (0 < places) × (places ≤ MAX_PLACES) }
 {
     let limit = TopicLimit::new(limit).ok_or("no limit")?;
     Ok(Blank::new(alloc, limit, places)?)

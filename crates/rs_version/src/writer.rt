@@ -142,7 +142,7 @@ impl<N: StoreName, R: Wait + Drop> VersionWriter<N, R> {
         requires { self.now.held ≡ None }
         ensures { MatchResult result (λ _. IsLegal N.limit (extended self.now.published entry.now)) (λ f. Declines N.limit self.now.published entry.now f) }
     {
-        // For the proof: these calls say that the place is at most 64 and the serial at least 1.
+        // For the proof: these calls say which places and serials an origin may have.
         let (_place, _serial) = (entry.origin.place(), entry.origin.serial());
         match self.own.accepts(entry) {
             Ok(()) => Ok(()),
@@ -158,7 +158,7 @@ impl<N: StoreName, R: Wait + Drop> VersionWriter<N, R> {
         requires legal { IsLegal N.limit (extended self.old.published entry) }
         ensures { MatchResult result (λ _. self.new ≡ record { published = self.old.published; held = Some entry }) (λ _. self.new ≡ self.old) }
     {
-        // For the proof: these calls say that the place is at most 64 and the serial at least 1.
+        // For the proof: these calls say which places and serials an origin may have.
         let (_place, _serial) = (entry.origin.place(), entry.origin.serial());
         let copy = entry.copy()?;
         let spare = entry.copy()?;
@@ -197,7 +197,7 @@ impl<N: StoreName, R: Wait + Drop> VersionWriter<N, R> {
         Receipt::of_last(entry, self.tell())
     }
 
-    /// Publishes the entry behind all that is kept. A held entry is published first.
+    /// Publishes the entry after all that is kept. A held entry is published first.
     ///
     /// # Errors
     ///
@@ -205,7 +205,7 @@ impl<N: StoreName, R: Wait + Drop> VersionWriter<N, R> {
     ///   published.
     /// - [`NoMemory`](PutFault::NoMemory): the entry is not kept. Either a held entry could not be published, and nothing
     ///   changed; or what was held is published, and there was no memory for a copy of the entry, which may come next.
-    /// - [`Held`](PutFault::Held): what was kept is published, and the entry is held.
+    /// - [`Held`](PutFault::Held): the kept list from before is published, and the entry is held.
     pub fn put(&mut self, entry: Entry) -> Result<Receipt<N>, PutFault>
         ensures published { OnOk result (self.new ≡ record { published = extended (kept_of self.old) entry; held = None }) }
         ensures entry { IfOk result (λ r. r.entry ≡ entry) }
@@ -248,7 +248,7 @@ impl<N: StoreName, R: Wait + Drop> VersionWriter<N, R> {
         Ok(Some(self.receipt(entry)))
     }
 
-    /// A token of the published list, which a held entry is no part of. It takes no memory.
+    /// A token of the published list, which does not have a held entry. It takes no memory.
     pub fn tell(&self) -> Told<N>
         ensures told { result ≡ self.now.published }
         ensures legal { IsLegal N.limit self.now.published }

@@ -1,4 +1,3 @@
-use Rattle.std.proofs.Common.{ap, sym, ◌∙◌}
 use Rattle.rs_version.proofs.WriterState.{all_published, own_accepts, own_after, still_writing}
 use Rattle.rs_version.proofs.writer.VersionWriter.release.Goals as goal
 
