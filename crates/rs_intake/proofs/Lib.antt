@@ -1,0 +1,6 @@
+pub mod Queues
+pub mod Seats
+pub mod Parts
+pub mod Opening
+pub mod Sameness
+pub mod Sums

@@ -1,0 +1,184 @@
+-- Where as many jobs were taken as sent, the queue holds none.
+use Rattle.std.proofs.Common.{◌≡◌, ◌≢◌, ◌==◌, ℕ, zero, suc, ◌+◌, ◌<◌, ◌≤◌, ◌⊎◌, inl, inr, ⊎_elim, Bool, true, false, cond, List, [], ◌∷◌, ◌++◌, length, filter, All, refl, sym, ap, subst, ◌∙◌, arith, length-append}
+use Rattle.std.proofs.lemmas.List.{append-nil}
+use Rattle.std.proofs.lemmas.Bool.Decides.{nat_tests}
+use Rattle.rs_message.specs.declared.entry.Entry.{Entry}
+use Rattle.rs_intake.specs.declared.rule.Job.{Job}
+use Rattle.rs_intake.specs.QueueRule.{of_place, entries_of, IsOutside}
+use Rattle.rs_intake.specs.Lines.{Closed}
+use Rattle.rs_intake.specs.declared.rule.SentFrom.{SentFrom}
+use Rattle.std.proofs.lemmas.List.Elements.{All-append}
+use Rattle.rs_intake.specs.Settling.{Covers, ends_at, EachOnce, sent_in_all, AreTaken, BalancesWith}
+
+all_head : {A : Type 0} (P : A → Type 0) (x : A) (xs : List A) → All P (x ∷ xs) → P x
+all_head P x xs all = all 0 x (omega arith)
+
+all_tail : {A : Type 0} (P : A → Type 0) (x : A) (xs : List A) → All P (x ∷ xs) → All P xs
+all_tail P x xs all = λ k d lt. all (suc k) d (omega (arith, lt))
+
+all_none : {A : Type 0} (P : A → Type 0) → All P []
+all_none P = λ k d lt. absurd (omega (arith, lt))
+
+all_cons : {A : Type 0} (P : A → Type 0) (x : A) (xs : List A) → P x → All P xs → All P (x ∷ xs)
+all_cons P x xs here rest zero d lt = here
+all_cons P x xs here rest (suc k) d lt = rest k d (omega (arith, lt))
+
+-- the sum over the places from 1 to n
+abbrev sum_to : ℕ → (ℕ → ℕ) → ℕ
+sum_to zero f = 0
+sum_to (suc n) f = sum_to n f + f (suc n)
+
+sum_to-add : (n : ℕ) (f g : ℕ → ℕ) → sum_to n (λ p. f p + g p) ≡ sum_to n f + sum_to n g
+sum_to-add zero f g = refl
+sum_to-add (suc n) f g = let h = sum_to-add n f g in omega (arith, h)
+
+sum_to-same : (n : ℕ) (f g : ℕ → ℕ) → ((p : ℕ) → 0 < p → p ≤ n → f p ≡ g p) → sum_to n f ≡ sum_to n g
+sum_to-same zero f g same = refl
+sum_to-same (suc n) f g same = let h = sum_to-same n f g (λ p low high. same p low (omega (arith, high))) in let e = same (suc n) (omega arith) (omega arith) in omega (arith, h, e)
+
+none_there : (n q : ℕ) (w : ℕ → ℕ) → n < q → sum_to n (λ p. cond (q == p) (w p) 0) ≡ 0
+none_there zero q w low = refl
+none_there (suc n) q w low = let h = none_there n q w (omega (arith, low)) in go (q == suc n) (let apart : q ≢ suc n = λ e. omega (arith, e, low) in grind (arith, nat_tests, apart)) h
+  where
+    go : (b : Bool) → b ≡ false → sum_to n (λ p. cond (q == p) (w p) 0) ≡ 0 → sum_to n (λ p. cond (q == p) (w p) 0) + cond b (w (suc n)) 0 ≡ 0
+    go true is h = absurd (cc (is))
+    go false is h = omega (arith, h)
+
+at_most : (n q : ℕ) (w : ℕ → ℕ) → sum_to n (λ p. cond (q == p) (w p) 0) ≤ w q
+at_most zero q w = omega arith
+at_most (suc n) q w = go (q == suc n) refl (at_most n q w)
+  where
+    go : (b : Bool) → (q == suc n) ≡ b → sum_to n (λ p. cond (q == p) (w p) 0) ≤ w q → sum_to n (λ p. cond (q == p) (w p) 0) + cond b (w (suc n)) 0 ≤ w q
+    go true is h = let e : q ≡ suc n = grind (arith, nat_tests, is) in let z = none_there n q w (omega (arith, e)) in let v = ap w e in omega (arith, z, v)
+    go false is h = omega (arith, h)
+
+there_once : (n q : ℕ) → 0 < q → q ≤ n → sum_to n (λ p. cond (q == p) 1 0) ≡ 1
+there_once zero q low high = absurd (omega (arith, low, high))
+there_once (suc n) q low high = go (q == suc n) refl (λ high. there_once n q low high)
+  where
+    go : (b : Bool) → (q == suc n) ≡ b → (q ≤ n → sum_to n (λ p. cond (q == p) 1 0) ≡ 1) → sum_to n (λ p. cond (q == p) 1 0) + cond b 1 0 ≡ 1
+    go true is h = let e : q ≡ suc n = grind (arith, nat_tests, is) in let z = none_there n q (λ p. 1) (omega (arith, e)) in omega (arith, z)
+    go false is h = let ne : q ≢ suc n = λ e. grind (arith, nat_tests, is, e) in let z = h (omega (arith, high, ne)) in omega (arith, z)
+
+compare : (a b : ℕ) → (a < b) ⊎ (b ≤ a)
+compare zero zero = inr (omega arith)
+compare zero (suc b) = inl (omega arith)
+compare (suc a) zero = inr (omega arith)
+compare (suc a) (suc b) = ⊎_elim (λ (t : a < b). inl (omega (arith, t))) (λ (t : b ≤ a). inr (omega (arith, t))) (compare a b)
+
+inside : (n q : ℕ) → (IsOutside n q → ⊥) → (0 < q) × (q ≤ n)
+inside n zero h = absurd (h (inl refl))
+inside n (suc q) h = (omega arith, ⊎_elim (λ (t : n < suc q). absurd (h (inr t))) (λ (t : suc q ≤ n). t) (compare n (suc q)))
+
+of_place-tail : (place : ℕ) (x : Entry) (xs : List Entry) → of_place place (x ∷ xs) ≡ [] → of_place place xs ≡ []
+of_place-tail place x xs e = go (x.origin.place == place) e
+  where
+    go : (b : Bool) → cond b (x ∷ of_place place xs) (of_place place xs) ≡ [] → of_place place xs ≡ []
+    go true e = absurd (cc (e))
+    go false e = e
+
+of_place-head : (x : Entry) (xs : List Entry) → of_place x.origin.place (x ∷ xs) ≡ [] → ⊥
+of_place-head x xs e = let is : (x.origin.place == x.origin.place) ≡ true = grind (arith, nat_tests) in go (x.origin.place == x.origin.place) is e
+  where
+    go : (b : Bool) → b ≡ true → cond b (x ∷ of_place x.origin.place xs) (of_place x.origin.place xs) ≡ [] → ⊥
+    go true is e = cc (e)
+    go false is e = cc (is)
+
+length-of_place : (place : ℕ) (x : Entry) (xs : List Entry) → length (of_place place (x ∷ xs)) ≡ cond (x.origin.place == place) 1 0 + length (of_place place xs)
+length-of_place place x xs = go (x.origin.place == place)
+  where
+    go : (b : Bool) → length (cond b (x ∷ of_place place xs) (of_place place xs)) ≡ cond b 1 0 + length (of_place place xs)
+    go true = omega arith
+    go false = omega arith
+
+zeros : (n : ℕ) → sum_to n (λ p. 0) ≡ 0
+zeros zero = refl
+zeros (suc n) = let h = zeros n in omega (arith, h)
+
+-- where no other place has an entry, the places have them all
+by_places : (n : ℕ) (xs : List Entry) → ((place : ℕ) → IsOutside n place → of_place place xs ≡ []) → length xs ≡ sum_to n (λ p. length (of_place p xs))
+by_places n [] outside = sym (zeros n)
+by_places n (x ∷ xs) outside =
+    let rest = by_places n xs (λ place out. of_place-tail place x xs (outside place out)) in
+    let within = inside n x.origin.place (λ out. of_place-head x xs (outside x.origin.place out)) in
+    let here = there_once n x.origin.place within.0 within.1 in
+    let split = sum_to-same n (λ p. length (of_place p (x ∷ xs))) (λ p. cond (x.origin.place == p) 1 0 + length (of_place p xs)) (λ p low high. length-of_place p x xs) in
+    let sums = sum_to-add n (λ p. cond (x.origin.place == p) 1 0) (λ p. length (of_place p xs)) in
+    omega (arith, rest, here, split, sums)
+
+-- what the ends of a place weigh, if each weighs f of its place
+abbrev weight_at : (ℕ → ℕ) → ℕ → List Closed → ℕ
+weight_at f place [] = 0
+weight_at f place (e ∷ es) = cond (e.place == place) (f place) 0 + weight_at f place es
+
+abbrev weight : (ℕ → ℕ) → List Closed → ℕ
+weight f [] = 0
+weight f (e ∷ es) = f e.place + weight f es
+
+weight_none : (f : ℕ → ℕ) (place : ℕ) (es : List Closed) → ends_at place es ≡ 0 → weight_at f place es ≡ 0
+weight_none f place [] none = refl
+weight_none f place (e ∷ es) none = go (e.place == place) (λ none. weight_none f place es none) none
+  where
+    go : (b : Bool) → (ends_at place es ≡ 0 → weight_at f place es ≡ 0) → length (cond b (e ∷ filter (λ (e : Closed). e.place == place) es) (filter (λ (e : Closed). e.place == place) es)) ≡ 0 → cond b (f place) 0 + weight_at f place es ≡ 0
+    go true rest h = absurd (omega (arith, h))
+    go false rest h = let r = rest h in omega (arith, r)
+
+weight_once : (f : ℕ → ℕ) (place : ℕ) (es : List Closed) → ends_at place es ≡ 1 → weight_at f place es ≡ f place
+weight_once f place [] once = absurd (omega (arith, once))
+weight_once f place (e ∷ es) once = go (e.place == place) (λ once. weight_once f place es once) once
+  where
+    go : (b : Bool) → (ends_at place es ≡ 1 → weight_at f place es ≡ f place) → length (cond b (e ∷ filter (λ (e : Closed). e.place == place) es) (filter (λ (e : Closed). e.place == place) es)) ≡ 1 → cond b (f place) 0 + weight_at f place es ≡ f place
+    go true rest h = let r = weight_none f place es (omega (arith, h)) in omega (arith, r)
+    go false rest h = let r = rest h in omega (arith, r)
+
+weight_by_places : (n : ℕ) (f : ℕ → ℕ) (es : List Closed) → sum_to n (λ p. weight_at f p es) ≤ weight f es
+weight_by_places n f [] = let h = zeros n in omega (arith, h)
+weight_by_places n f (e ∷ es) =
+    let sums = sum_to-add n (λ p. cond (e.place == p) (f p) 0) (λ p. weight_at f p es) in
+    let one = at_most n e.place f in
+    let rest = weight_by_places n f es in
+    omega (arith, sums, one, rest)
+
+weight_sent : (xs : List Entry) (es : List Closed) → All (λ (e : Closed). e.sent ≡ of_place e.place xs) es → weight (λ p. length (of_place p xs)) es ≡ sent_in_all es
+weight_sent xs [] all = refl
+weight_sent xs (e ∷ es) all =
+    let P : Closed → Type 0 = λ e. e.sent ≡ of_place e.place xs in
+    let h = weight_sent xs es (all_tail P e es all) in
+    let s = ap length (all_head P e es all) in
+    omega (arith, h, s)
+
+pub no_more : {A : Type 0} (xs : List A) → length xs ≡ 0 → xs ≡ []
+no_more [] h = refl
+no_more (x ∷ xs) h = absurd (omega (arith, h))
+
+all_taken : (taken rest : List Entry) → rest ≡ [] → (es : List Closed) → All (λ (e : Closed). e.sent ≡ of_place e.place (taken ++ rest)) es → AreTaken taken es
+all_taken taken rest none [] all = all_none (λ (e : Closed). of_place e.place taken ≡ e.sent)
+all_taken taken rest none (e ∷ es) all =
+    let P : Closed → Type 0 = λ e. e.sent ≡ of_place e.place (taken ++ rest) in
+    all_cons (λ (e : Closed). of_place e.place taken ≡ e.sent) e es
+    (ap (of_place e.place) (sym (append-nil taken)) ∙ (ap (λ l. of_place e.place (taken ++ l)) (sym none) ∙ sym (all_head P e es all)))
+    (all_taken taken rest none es (all_tail P e es all))
+
+pub settled : (places : ℕ) (taken : List Entry) (items : List Job) (ends : List Closed) → BalancesWith places taken items ends → EachOnce places ends → sent_in_all ends ≡ length taken → AreTaken taken ends
+settled places taken items ends b once count =
+    let rest = entries_of items in
+    let xs = taken ++ rest in
+    let f : ℕ → ℕ = λ p. length (of_place p xs) in
+    let all : length xs ≡ sum_to places f = by_places places xs b.0 in
+    let each : sum_to places f ≡ sum_to places (λ p. weight_at f p ends) = sum_to-same places f (λ p. weight_at f p ends) (λ p low high. sym (weight_once f p ends (once p low high))) in
+    let less : sum_to places (λ p. weight_at f p ends) ≤ weight f ends = weight_by_places places f ends in
+    let sent : weight f ends ≡ sent_in_all ends = weight_sent xs ends b.1 in
+    let both : length xs ≡ length taken + length rest = length-append taken rest in
+    let none : length rest ≡ 0 = omega (arith, all, each, less, sent, both, count) in
+    all_taken taken rest (no_more rest none) ends b.1
+
+-- some end is there
+pub some_ends : (places : ℕ) (ends : List Closed) → 0 < places → EachOnce places ends → 0 < length ends
+some_ends places [] some once = let h = once 1 (omega arith) (omega (arith, some)) in absurd (omega (arith, h))
+some_ends places (e ∷ es) some once = omega arith
+
+-- an end more, whose list is known whole
+pub covers_more : (whole : List SentFrom) (ends : List Closed) (k : SentFrom) (e : Closed) → k.place ≡ e.place → k.entries ≡ e.sent → Covers whole ends → Covers (k ∷ whole) (ends ++ e ∷ [])
+covers_more whole ends k e same sent covers all sums =
+    let P : Closed → Type 0 = λ e. e.sent ≡ all e.place in
+    All-append P ends (e ∷ []) (covers all sums.1) (all_cons P e [] (sym sent ∙ (sums.0 ∙ ap all same)) (all_none P))

@@ -1,0 +1,11 @@
+use Rattle.std.proofs.Common.{◌≡◌, ◌+◌, ◌<◌, [], true, false}
+use Rattle.crossbeam_channel.specs.Claims.{view}
+use Rattle.crossbeam_channel.specs.Ends.{sends_on, receives_on}
+use Rattle.rs_intake.specs.Names.{IsQueue, IsIn}
+use Rattle.rs_intake.specs.Lines.{new_lines}
+use Rattle.rs_intake.proofs.blank.BlankQueue.open.Given as goal
+
+abbrev pub invariant-loop-before : goal.invariant-loop-before
+invariant-loop-before g l = IsQueue g.N.LineName.queue (sends_on l.sender) × IsIn g.N.LineName.queue l.pass
+    × ((view l.pass).takes ≡ true) × ((view l.pass).sends ≡ false) × ((view l.pass).known ≡ []) × ((view l.pass).entries ≡ []) × ((view l.pass).made ≡ l.before)
+    × (l.lines.items ≡ new_lines l.before)

@@ -1,0 +1,68 @@
+-- What a line has sent.
+use Rattle.std.specs.Prelude.{ℕ, ◌≡◌, ◌<◌, ◌≤◌, ◌+◌, ◌-◌, ◌^◌, min, ◌⊎◌, ◌∷◌, ◌++◌, suc, zero, Bool, true, false, List, [], length}
+use Rattle.atomic_table.specs.declared.badge.Badge.{Badge}
+use Rattle.crossbeam_channel.specs.declared.flavors.array.Key.{Key}
+use Rattle.crossbeam_channel.specs.declared.flavors.array.Doing.{Doing}
+use Rattle.crossbeam_channel.specs.declared.flavors.array.Rows.{Rows}
+use Rattle.crossbeam_channel.specs.Claims.{Pass, view}
+use Rattle.rs_message.specs.declared.entry.TheConstants.{MAX_PLACES}
+use Rattle.rs_message.specs.declared.entry.Entry.{Entry}
+use Rattle.rs_message.specs.declared.entry.Operation.{Operation}
+use Rattle.rs_intake.specs.declared.rule.PassView.{PassView}
+use Rattle.rs_intake.specs.declared.rule.SentFrom.{SentFrom}
+use Rattle.rs_intake.specs.declared.rule.Job.{Job}
+use Rattle.rs_intake.specs.Names.{QueueName, IsQueue, IsIn}
+
+-- the serial after this one. The greatest u64 has none after it
+abbrev pub next_serial : ℕ → ℕ
+next_serial serial = min (serial + 1) (2 ^ 64 - 1)
+
+-- the entry of this place and serial that does this
+abbrev pub job : ℕ → ℕ → Operation → Entry
+job place serial operation = record { origin = record { place = place; serial = serial }; operation = operation }
+
+-- a place, the last serial that it used, and what was sent from it
+pub record Line : Type 0 where
+  pub place : ℕ
+  pub serial : ℕ
+  pub sent : List Entry
+
+-- a place, and what was sent from it
+pub record Closed : Type 0 where
+  pub place : ℕ
+  pub sent : List Entry
+
+-- the pass is that of a line of this queue
+pub record IsLine {Q M L A : Type 0} (name : QueueName) (places : ℕ) (c : Rows (Badge (Key Job)) (Doing Job PassView) Q M (Key Job) L A) (pass : Pass Job PassView) (place sent : ℕ) : Type 0 where
+  pub queue : IsQueue name c
+  pub seat : IsIn name pass
+  pub sends : (view pass).sends ≡ true
+  pub takes : (view pass).takes ≡ false
+  pub place_is : (view pass).from ≡ place
+  pub number : sent ≡ length (view pass).entries
+  pub from : 0 < place
+  pub to : place ≤ places
+  pub few : places ≤ MAX_PLACES
+
+-- nothing was sent from these places
+abbrev pub new_lines : ℕ → List Line
+new_lines zero = []
+new_lines (suc n) = new_lines n ++ record { place = suc n; serial = 0; sent = [] } ∷ []
+
+-- the same, or with this entry behind the others
+abbrev pub AddsAtMost : List Entry → Entry → List Entry → Type 0
+AddsAtMost before e after = (after ≡ before) ⊎ (after ≡ before ++ e ∷ [])
+
+-- what the writer took, and the places of which it knows all that was sent
+pub record Received : Type 0 where
+  pub entries : List Entry
+  pub whole : List SentFrom
+
+-- the pass takes from this queue, whose lines are made
+pub record IsTaker (name : QueueName) (places : ℕ) (pass : Pass Job PassView) : Type 0 where
+  pub seat : IsIn name pass
+  pub sends : (view pass).sends ≡ false
+  pub takes : (view pass).takes ≡ true
+  pub made : (view pass).made ≡ places
+  pub some_places : 0 < places
+  pub few : places ≤ MAX_PLACES

@@ -1,0 +1,100 @@
+-- The rule of the queue to the writer.
+use Rattle.std.specs.Prelude.{ℕ, ◌≡◌, ◌==◌, ◌+◌, ◌<◌, ◌⊎◌, Bool, true, false, List, [], ◌∷◌, ◌++◌, filter, filter_map}
+use Rattle.std.specs.Prelude as std
+use mathlib.Core.Option.{Option, some, none}
+use lib.ListN.{get_elem?}
+use Rattle.rs_store.specs.History.{SerialsRise, last_serial}
+use Rattle.rs_message.specs.declared.entry.Entry.{Entry}
+use Rattle.rs_intake.specs.declared.rule.PassView.{PassView}
+use Rattle.rs_intake.specs.declared.rule.SentFrom.{SentFrom}
+use Rattle.rs_intake.specs.declared.rule.Job.{Job}
+use Rattle.rs_intake.specs.declared.rule.Job.TheVariants.{Put, End}
+
+-- the entries of a place, in order
+abbrev pub of_place : ℕ → List Entry → List Entry
+of_place place entries = filter (λ e. e.origin.place == place) entries
+
+abbrev pub entry_of : Job → std.Option Entry
+entry_of (Put e) = std.Some e
+entry_of (End place) = std.None
+
+-- the entries that the jobs ask for
+abbrev pub entries_of : List Job → List Entry
+entries_of jobs = filter_map entry_of jobs
+
+abbrev pub place_of : Job → ℕ
+place_of (Put e) = e.origin.place
+place_of (End place) = place
+
+-- the job's serial is above those of its place before it
+abbrev pub IsAbove : List Entry → Job → Type 0
+IsAbove entries (Put e) = last_serial e.origin.place entries < e.origin.serial
+IsAbove entries (End place) = Unit {0}
+
+-- the writer has taken nothing
+abbrev pub taker : PassView
+taker = record { from = 0; sends = false; takes = true; made = 0; entries = []; known = [] }
+
+-- the pass with one more job. An End asks for no entry
+abbrev pub job_more : PassView → Job → PassView
+job_more v job = record { from = v.from; sends = v.sends; takes = v.takes; made = v.made; entries = v.entries ++ entries_of (job ∷ []); known = v.known }
+
+abbrev pub Sends : PassView → Job → PassView → Type 0
+Sends v job w = w ≡ job_more v job
+
+-- and the serials of all that was taken rise
+abbrev pub Takes : PassView → Job → PassView → Type 0
+Takes v job w = (w ≡ job_more v job) × SerialsRise w.entries
+
+-- a place that has no line yet
+abbrev pub IsOutside : ℕ → ℕ → Type 0
+IsOutside made place = (place ≡ 0) ⊎ (made < place)
+
+-- of each of these places the whole of what was sent is known, and its line is gone
+abbrev pub AreWhole : (ℕ → Option ℕ) → (ℕ → List Entry) → List SentFrom → Type 0
+AreWhole line sent [] = Unit {0}
+AreWhole line sent (k ∷ ks) = (line k.place ≡ none) × (k.entries ≡ sent k.place) × AreWhole line sent ks
+
+-- each place has one pass, which knows what was sent from there
+abbrev pub FitsLine : (ℕ → Option ℕ) → (ℕ → List Entry) → ℕ → PassView → Type 0
+FitsLine line sent pass v = v.sends ≡ true → (line v.from ≡ some pass) × (v.entries ≡ sent v.from)
+
+-- one pass takes, and knows what was taken, and which places have no line
+abbrev pub FitsTaker : (ℕ → Option ℕ) → (ℕ → List Entry) → ℕ → List Entry → ℕ → PassView → Type 0
+FitsTaker line sent writer taken pass v = v.takes ≡ true
+    → (pass ≡ writer) × (v.entries ≡ taken)
+    × ((place : ℕ) → IsOutside v.made place → (line place ≡ none) × (sent place ≡ []))
+    × AreWhole line sent v.known
+
+-- what was sent from each place is what was taken of it, and then what the queue holds of it
+abbrev pub Delivers : List Job → List PassView → Type 0
+Delivers items views =
+    (writer : ℕ) × (line : ℕ → Option ℕ) × (sent : ℕ → List Entry) × (taken : List Entry)
+    × ((place : ℕ) → of_place place (taken ++ entries_of items) ≡ sent place)
+    × ((pass : ℕ) (v : PassView) → get_elem? views pass ≡ some v → FitsLine line sent pass v × FitsTaker line sent writer taken pass v)
+    × SerialsRise (taken ++ entries_of items)
+
+-- the writer's pass with a line more, and that line's
+abbrev pub one_line_more : PassView → PassView
+one_line_more v = record { from = v.from; sends = v.sends; takes = v.takes; made = v.made + 1; entries = v.entries; known = v.known }
+
+abbrev pub new_line : PassView → PassView
+new_line v = record { from = v.made + 1; sends = true; takes = false; made = 0; entries = []; known = [] }
+
+-- the writer's pass once it has taken in a line's, and what is left of that one
+abbrev pub one_line_less : PassView → PassView → PassView
+one_line_less v w = record { from = v.from; sends = v.sends; takes = v.takes; made = v.made; entries = v.entries; known = record { place = w.from; entries = w.entries } ∷ v.known }
+
+abbrev pub spent : PassView
+spent = record { from = 0; sends = false; takes = false; made = 0; entries = []; known = [] }
+
+-- of each place that is known whole: what was taken of it and what the queue holds of it are what was sent from there
+abbrev pub SumsUp : (ℕ → List Entry) → List SentFrom → Type 0
+SumsUp sent [] = Unit {0}
+SumsUp sent (k ∷ ks) = (k.entries ≡ sent k.place) × SumsUp sent ks
+
+-- what the writer's pass learns
+abbrev pub Balances : PassView → List Job → Type 0
+Balances v items =
+    ((place : ℕ) → IsOutside v.made place → of_place place (v.entries ++ entries_of items) ≡ [])
+    × SumsUp (λ place. of_place place (v.entries ++ entries_of items)) v.known

@@ -1,0 +1,40 @@
+-- When the lines and the writer agree on all jobs.
+use Rattle.std.specs.Prelude.{ℕ, ◌≡◌, ◌==◌, ◌<◌, ◌≤◌, ◌+◌, List, [], ◌∷◌, ◌++◌, All, filter, length}
+use Rattle.rs_message.specs.declared.entry.Entry.{Entry}
+use Rattle.rs_intake.specs.declared.rule.SentFrom.{SentFrom}
+use Rattle.rs_intake.specs.declared.rule.Job.{Job}
+use Rattle.rs_intake.specs.QueueRule.{of_place, entries_of, IsOutside, SumsUp}
+use Rattle.rs_intake.specs.Lines.{Closed, Received}
+
+-- how many of the ends are of this place
+abbrev pub ends_at : ℕ → List Closed → ℕ
+ends_at place ends = length (filter (λ e. e.place == place) ends)
+
+-- each place has one end
+abbrev pub EachOnce : ℕ → List Closed → Type 0
+EachOnce places ends = (place : ℕ) → 0 < place → place ≤ places → ends_at place ends ≡ 1
+
+-- how many jobs were sent in all
+abbrev pub sent_in_all : List Closed → ℕ
+sent_in_all [] = 0
+sent_in_all (e ∷ es) = length e.sent + sent_in_all es
+
+-- what was taken of each place is what was sent from there
+abbrev pub AreTaken : List Entry → List Closed → Type 0
+AreTaken taken ends = All (λ e. of_place e.place taken ≡ e.sent) ends
+
+-- beside what the queue holds, what was taken is what was sent
+abbrev pub IsBalanced : ℕ → Received → List Job → Type 0
+IsBalanced places r items =
+    ((place : ℕ) → IsOutside places place → of_place place (r.entries ++ entries_of items) ≡ [])
+    × SumsUp (λ place. of_place place (r.entries ++ entries_of items)) r.whole
+
+-- the same for these ends
+abbrev pub BalancesWith : ℕ → List Entry → List Job → List Closed → Type 0
+BalancesWith places taken items ends =
+    ((place : ℕ) → IsOutside places place → of_place place (taken ++ entries_of items) ≡ [])
+    × All (λ e. e.sent ≡ of_place e.place (taken ++ entries_of items)) ends
+
+-- whatever the lists of the places are, those that are whole fix what these ends sent
+abbrev pub Covers : List SentFrom → List Closed → Type 0
+Covers whole ends = (all : ℕ → List Entry) → SumsUp all whole → All (λ e. e.sent ≡ all e.place) ends

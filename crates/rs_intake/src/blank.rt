@@ -1,0 +1,117 @@
+//! A queue before it has a name.
+
+ghost use Rattle.std.specs.Prelude.{◌≡◌, ◌+◌, ◌<◌, ◌≤◌, [], true, false, IfOk};
+ghost use Rattle.crossbeam_channel.specs.Claims.{view as known_by};
+ghost use Rattle.crossbeam_channel.specs.Ends.{sends_on};
+ghost use Rattle.rs_message.specs.declared.entry.TheConstants.{MAX_PLACES};
+ghost use Rattle.rs_intake.specs.Names.{IsQueue, IsIn};
+ghost use Rattle.rs_intake.specs.Lines.{new_lines};
+
+use crate::intake::Intake;
+use crate::line::{LineEnd, SeatLine};
+use crate::name::LineName;
+use crate::reply::{ReplySender, way_back};
+use crate::rule::{Job, JobReceiver, JobSender, PassView, QueueRule};
+use crate::steps::cut;
+use crate::taken::Taken;
+use crate::writer::Queue;
+use crossbeam_channel::{Pass, bounded_with};
+use std::alloc::{AllocError, Global};
+use std::marker::{Model, PhantomData};
+
+/// A queue without lines, before it has a name. Contracts see which one it is, and the number of its places.
+#[derive(Drop)]
+pub struct BlankQueue {
+    sender: JobSender,
+    receiver: JobReceiver,
+    pass: Pass<Job, PassView>,
+    places: u8,
+    alloc: Global,
+}
+
+impl Model for BlankQueue {
+    ghost use Rattle.std.specs.Prelude.{◌≡◌, ◌<◌, ◌≤◌};
+    ghost use Rattle.crossbeam_channel.specs.Claims.{view as known_by, IsSeatAt};
+    ghost use Rattle.crossbeam_channel.specs.Ends.{sends_on, receives_on};
+    ghost use Rattle.rs_message.specs.declared.entry.TheConstants.{MAX_PLACES};
+    ghost use Rattle.rs_intake.specs.QueueRule.{taker};
+    ghost use Rattle.rs_intake.specs.Names.{Unnamed, name_of};
+
+    ghost Value = { Unnamed };
+
+    ghost view = { λ b. record { name = name_of (sends_on b.sender); places = b.places } };
+
+    ghost invariant = { λ b. IsSeatAt (sends_on b.sender) b.pass × (receives_on b.receiver ≡ sends_on b.sender) × (known_by b.pass ≡ taker) × (0 < b.places) × (b.places ≤ MAX_PLACES) };
+}
+
+/// A queue for 1 to [`MAX_PLACES`](rs_message::MAX_PLACES) places, which holds as many jobs as there are places.
+///
+/// # Errors
+///
+/// [`AllocError`] if memory is refused.
+pub fn blank_queue(alloc: Global, places: u8) -> Result<BlankQueue, AllocError>
+    requires { (0 < places) × (places ≤ MAX_PLACES) }
+    ensures { IfOk result (λ b. b.places ≡ places) }
+{
+    let (sender, receiver, pass) = bounded_with::<Job, PassView, QueueRule, Global>(
+        alloc,
+        places as usize,
+    )?;
+    Ok(BlankQueue {
+        sender,
+        receiver,
+        pass,
+        places,
+        alloc,
+    })
+}
+
+/// The line of the next place, and the writer's way back to it.
+fn line<N: LineName>(
+    alloc: Global,
+    sender: &JobSender,
+    pass: &mut Pass<Job, PassView>,
+    place: u8,
+) -> Result<(SeatLine<N>, ReplySender<N>), AllocError>
+    requires queue { IsQueue N.queue (sends_on sender.now) × IsIn N.queue pass.old }
+    requires pass { ((known_by pass.old).takes ≡ true) × ((known_by pass.old).sends ≡ false) × ((known_by pass.old).known ≡ []) × ((known_by pass.old).made + 1 ≡ place) }
+    requires place { (place ≤ N.places) × (N.places ≤ MAX_PLACES) }
+    ensures line { IfOk result (λ r. r.0 ≡ record { place = place; serial = 0; sent = [] }) }
+    ensures seat { IfOk result (λ _. IsIn N.queue pass.new) }
+    ensures pass { IfOk result (λ _. ((known_by pass.new).takes ≡ true) × ((known_by pass.new).sends ≡ false) × ((known_by pass.new).known ≡ []) × ((known_by pass.new).entries ≡ (known_by pass.old).entries) × ((known_by pass.new).made ≡ place)) }
+{
+    let (to, from) = way_back(alloc)?;
+    let own = sender.try_clone()?;
+    let end = LineEnd::new(place, own, cut(sender, pass));
+    Ok((SeatLine::new(end, from), to))
+}
+
+impl BlankQueue {
+    /// The lines of the places from 1 on, which have sent nothing, and the writer's end, under a name that names this queue.
+    ///
+    /// # Errors
+    ///
+    /// [`AllocError`] if memory is refused.
+    #[tactic(auto, using(crate::proofs::Opening::new_lines_more))]
+    pub fn open<N: LineName>(self) -> Result<(Intake<N>, Vec<SeatLine<N>>, Queue<N>), AllocError>
+        requires { (self.name ≡ N.queue) × (self.places ≡ N.places) }
+        ensures { IfOk result (λ r. r.1.items ≡ new_lines self.places) }
+    {
+        let BlankQueue {
+            sender,
+            receiver,
+            mut pass,
+            places,
+            alloc,
+        } = self;
+        let mut lines = Vec::new(alloc);
+        let mut replies = Vec::new(alloc);
+        for before in 0..places {
+            let (line, to) = line::<N>(alloc, &sender, &mut pass, before + 1)?;
+            lines.push(line).map_err(|_| AllocError)?;
+            replies.push(to).map_err(|_| AllocError)?;
+        }
+        let queue = Queue::new(receiver, Taken::new(places, pass), replies);
+        Ok((Intake { of: PhantomData }, lines, queue))
+    }
+}

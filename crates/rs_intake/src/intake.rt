@@ -1,0 +1,92 @@
+//! Submitting to the writer.
+
+ghost use Rattle.std.specs.Prelude.{◌≡◌, ◌≢◌, ◌+◌, ◌++◌, ◌∷◌, [], IfErr, IfOk};
+ghost use Rattle.rs_message.specs.declared.fault.SubmitFault.TheVariants.{Closed};
+ghost use Rattle.rs_store.specs.History.{IsLegal};
+ghost use Rattle.rs_version.specs.Receipts.{StandsAt};
+ghost use Rattle.rs_intake.specs.Lines.{AddsAtMost, job, next_serial};
+
+use crate::line::SeatLine;
+use crate::name::LineName;
+use crate::reply::Reply;
+use crate::same::is_same;
+use rs_message::{Entry, Operation, SubmitFault};
+use rs_version::{PutFault, Receipt};
+use std::marker::PhantomData;
+use std::sync::Wait;
+
+/// The way to the writer, for all lines. It holds nothing: a sender here would keep the queue open when all lines are gone.
+#[derive(Drop)]
+pub struct Intake<N: LineName> {
+    pub(crate) of: PhantomData<N>,
+}
+
+/// What the writer's refusal says to the line. The queue keeps the serials of a place in order, so a stale one is strange.
+fn fault_of(fault: PutFault) -> SubmitFault
+    ensures { result ≢ Closed }
+{
+    match fault {
+        PutFault::Full => SubmitFault::Full,
+        PutFault::NoMemory => SubmitFault::NoMemory,
+        PutFault::Held => SubmitFault::Open,
+        PutFault::Stale => SubmitFault::Strange,
+    }
+}
+
+/// The receipt or the refusal, if the reply is for this entry.
+pub(crate) fn read<N: LineName>(reply: Reply<N>, entry: &Entry) -> Result<Receipt<N>, SubmitFault>
+    ensures entry { IfOk result (λ r. r.entry ≡ entry.now) }
+    ensures stands { IfOk result (λ r. StandsAt r.entry r.number r.told) }
+    ensures legal { IfOk result (λ r. IsLegal N.limit r.told) }
+    ensures open { IfErr result (λ f. f ≢ Closed) }
+{
+    let Reply { origin, answer } = reply;
+    if origin != entry.origin {
+        return Err(SubmitFault::Strange);
+    }
+    let receipt = match answer {
+        Ok(receipt) => receipt,
+        Err(fault) => return Err(fault_of(fault)),
+    };
+    // For the proof: the token's call says that its list is legal.
+    let _told = receipt.told();
+    if is_same(receipt.entry(), entry) {
+        Ok(receipt)
+    } else {
+        Err(SubmitFault::Strange)
+    }
+}
+
+impl<N: LineName> Intake<N> {
+    /// Hands the operation to the writer under the line's next serial, and waits for the receipt. The serial is used whatever is
+    /// answered, unless there is no further one.
+    ///
+    /// # Errors
+    ///
+    /// - [`Full`](SubmitFault::Full), [`NoMemory`](SubmitFault::NoMemory): no entry was made.
+    /// - [`Open`](SubmitFault::Open): no receipt came. The operation may become an entry, at most once.
+    /// - [`Strange`](SubmitFault::Strange): what came back is not for this operation.
+    /// - [`Closed`](SubmitFault::Closed): the writer takes no more; the queue did not take the operation.
+    pub fn submit<R: Wait>(
+        &self,
+        rt: &R,
+        line: &mut SeatLine<N>,
+        operation: Operation,
+    ) -> Result<Receipt<N>, SubmitFault>
+        ensures place { line.new.place ≡ line.old.place }
+        ensures serial { line.new.serial ≡ next_serial line.old.serial }
+        ensures sent { AddsAtMost line.old.sent (job line.old.place line.new.serial operation) line.new.sent }
+        ensures closed { IfErr result (λ f. f ≡ Closed → line.new.sent ≡ line.old.sent) }
+        ensures entry { IfOk result (λ r. r.entry ≡ job line.old.place line.new.serial operation) }
+        ensures above { IfOk result (λ r. line.new.serial ≡ line.old.serial + 1) }
+        ensures last { IfOk result (λ r. line.new.sent ≡ line.old.sent ++ r.entry ∷ []) }
+        ensures stands { IfOk result (λ r. StandsAt r.entry r.number r.told) }
+        ensures legal { IfOk result (λ r. IsLegal N.limit r.told) }
+    {
+        let entry = line.send(rt, operation)?;
+        match line.receive(rt) {
+            Some(reply) => read(reply, &entry),
+            None => Err(SubmitFault::Open),
+        }
+    }
+}

@@ -1,0 +1,38 @@
+//! The queue to the writer of the store, and receipts back.
+//!
+//! Each place has a line ([`SeatLine`]). [`Intake::submit`] sends an operation by the line, under the line's next serial, and
+//! waits for the receipt of just that entry. [`run_writer`] takes jobs from the [`Queue`], puts each into the store, and answers
+//! its line. What it takes of a place is at every moment a prefix of what the line sent ([`order_law`]).
+//!
+//! [`SeatLine::close`] ends a line. When all lines and the writer have ended, [`settle`] says whether all that was sent was taken.
+//! A type that implements [`LineName`] ties all of these to one store and one queue, and [`BlankQueue::open`] makes them.
+//!
+//! Not promised: that a submit or the writer's loop returns, since both wait; an order between places; that memory is there.
+#![tactic(auto)]
+
+mod blank;
+mod fault;
+mod intake;
+mod law;
+mod line;
+mod name;
+mod reply;
+mod rule;
+mod same;
+mod settling;
+mod steps;
+mod taken;
+#[cfg(test)]
+mod tests;
+mod writer;
+
+pub use blank::{BlankQueue, blank_queue};
+pub use fault::SettleFault;
+pub use intake::Intake;
+pub use law::order_law;
+pub use line::{LineEnd, SeatLine};
+pub use name::LineName;
+pub use rule::Job;
+pub use settling::settle;
+pub use taken::Taken;
+pub use writer::{Ended, Queue, run_writer};

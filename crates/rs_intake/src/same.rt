@@ -1,0 +1,47 @@
+//! Whether two entries are equal, so that contracts see them as one.
+
+ghost use Rattle.std.specs.Prelude.{◌≡◌, true};
+
+use rs_message::{Entry, Message, Operation};
+
+fn is_same_bytes(one: &[u8], other: &[u8]) -> bool
+    ensures { result ≡ true → one.now ≡ other.now }
+{
+    one == other
+}
+
+fn is_same_message(one: &Message, other: &Message) -> bool
+    ensures { result ≡ true → one.now ≡ other.now }
+{
+    one == other
+}
+
+fn is_same_operation(one: &Operation, other: &Operation) -> bool
+    ensures { result ≡ true → one.now ≡ other.now }
+{
+    match one {
+        Operation::Set(topic, message) => match other {
+            Operation::Set(other_topic, other_message) => {
+                is_same_bytes(topic.as_bytes(), other_topic.as_bytes())
+                    && is_same_message(message, other_message)
+            }
+            Operation::Clear(_) => false,
+        },
+        Operation::Clear(topic) => match other {
+            Operation::Set(_, _) => false,
+            Operation::Clear(other_topic) => {
+                is_same_bytes(topic.as_bytes(), other_topic.as_bytes())
+            }
+        },
+    }
+}
+
+/// Whether the entries are equal.
+#[tactic(auto, using(crate::proofs::Sameness::entries))]
+pub fn is_same(one: &Entry, other: &Entry) -> bool
+    ensures { result ≡ true → one.now ≡ other.now }
+{
+    one.origin.place() == other.origin.place()
+        && one.origin.serial() == other.origin.serial()
+        && is_same_operation(&one.operation, &other.operation)
+}

@@ -1,0 +1,85 @@
+//! What the lines and the writer know together, once both have ended.
+
+ghost use Rattle.std.specs.Prelude.{◌≡◌, ◌^◌, ◌<◌, ◌≤◌, List, MatchBool, MatchOption, IfOk, IfErr, length};
+ghost use Rattle.rs_intake.specs.declared.rule.Job.{Job};
+ghost use Rattle.rs_intake.specs.Settling.{ends_at, EachOnce, sent_in_all, AreTaken, BalancesWith};
+
+use crate::fault::SettleFault;
+use crate::line::LineEnd;
+use crate::name::LineName;
+use crate::taken::Taken;
+use crate::writer::Ended;
+use std::sync::Wait;
+
+fn count_at<N: LineName>(ends: &Vec<LineEnd<N>>, place: u8) -> usize
+    ensures { result ≡ ends_at place ends.now.items }
+{
+    ends.iter().filter(|end| end.place() == place).count()
+}
+
+fn is_each_once<N: LineName>(ends: &Vec<LineEnd<N>>, places: u8) -> bool
+    ensures { MatchBool result (EachOnce places ends.now.items) (¬ EachOnce places ends.now.items) }
+{
+    for before in 0..places {
+        if count_at(ends, before + 1) != 1 {
+            return false;
+        }
+    }
+    true
+}
+
+/// How many jobs the queue took from these lines. `None` if the sum is no u64.
+fn total<N: LineName>(ends: &Vec<LineEnd<N>>) -> Option<u64>
+    ensures { MatchOption result (2 ^ 64 ≤ sent_in_all ends.now.items) (λ n. n ≡ sent_in_all ends.now.items) }
+{
+    let mut sum = 0u64;
+    for end in ends.iter() {
+        sum = sum.checked_add(end.sent())?;
+    }
+    Some(sum)
+}
+
+/// Joins all lines' passes, and compares them with what was taken.
+fn gather<N: LineName>(taken: &mut Taken<N>, ends: Vec<LineEnd<N>>)
+    ensures same { taken.new.entries ≡ taken.old.entries }
+    ensures learned { 0 < length ends.items → (items : List Job) × BalancesWith N.places taken.new.entries items ends.items }
+{
+    for end in ends {
+        let (sender, pass) = end.into_parts();
+        taken.join(&sender, pass);
+        taken.compare(&sender);
+    }
+}
+
+/// Whether all that was sent was taken. If so, what was taken of each place is what was sent from there, in its order and each
+/// job once, and the answer is how many jobs these are.
+///
+/// It takes no memory. `ended` is lent mutably since its pass of the queue learns what the lines know; nothing else of it changes.
+///
+/// # Errors
+///
+/// [`Unsettled`](SettleFault::Unsettled) if a place has no end or two, or the lines did not send as many jobs as were taken.
+pub fn settle<N: LineName, R: Wait + Drop>(
+    ends: Vec<LineEnd<N>>,
+    ended: &mut Ended<N, R>,
+) -> Result<u64, SettleFault>
+    ensures taken { IfOk result (λ n. n ≡ ended.old.taken) }
+    ensures sum { IfOk result (λ n. n ≡ sent_in_all ends.items) }
+    ensures once { IfOk result (λ _. EachOnce N.places ends.items) }
+    ensures settled { IfOk result (λ _. AreTaken ended.old.jobs.entries ends.items) }
+    ensures unsettled { IfErr result (λ _. ¬ (EachOnce N.places ends.items × (sent_in_all ends.items ≡ ended.old.taken))) }
+    ensures same { (ended.new.writer ≡ ended.old.writer) × (ended.new.taken ≡ ended.old.taken) × (ended.new.refused ≡ ended.old.refused) × (ended.new.held ≡ ended.old.held) × (ended.new.jobs.entries ≡ ended.old.jobs.entries) }
+{
+    let taken = ended.taken;
+    if !is_each_once(&ends, ended.jobs.places()) {
+        return Err(SettleFault::Unsettled);
+    }
+    let Some(sum) = total(&ends) else {
+        return Err(SettleFault::Unsettled);
+    };
+    if sum != taken {
+        return Err(SettleFault::Unsettled);
+    }
+    gather(&mut ended.jobs, ends);
+    Ok(sum)
+}

@@ -1,0 +1,72 @@
+//! The steps on the queue, each of which keeps its rule.
+
+ghost use Rattle.std.specs.Prelude.{◌≡◌, List, [], true, false, MatchOption, MatchResult};
+ghost use Rattle.crossbeam_channel.specs.Claims.{view, IsSeatAt};
+ghost use Rattle.crossbeam_channel.specs.Ends.{sends_on, receives_on};
+ghost use Rattle.rs_intake.specs.QueueRule.{job_more, place_of, IsAbove, Takes, one_line_more, new_line, one_line_less, Balances};
+ghost use Rattle.rs_intake.specs.declared.rule.Job.{Job};
+
+use crate::rule::{Job, JobReceiver, JobSender, LinePass, PassView, Sending, Taking};
+use crossbeam_channel::Pass;
+use std::sync::Wait;
+
+/// Sends a job of the pass's place. A refused job is dropped.
+pub fn send<R: Wait>(
+    rt: &R,
+    to: &JobSender,
+    pass: &mut Pass<Job, PassView>,
+    job: Job,
+) -> Result<(), ()>
+    requires channel { IsSeatAt (sends_on to.now) pass.old }
+    requires sends { ((view pass.old).sends ≡ true) × ((view pass.old).takes ≡ false) × ((view pass.old).from ≡ place_of job) }
+    requires above { IsAbove (view pass.old).entries job }
+    ensures channel { IsSeatAt (sends_on to.now) pass.new }
+    ensures sent { MatchResult result (λ _. view pass.new ≡ job_more (view pass.old) job) (λ _. view pass.new ≡ view pass.old) }
+{
+    match to.send_as::<Sending, R>(rt, pass, job) {
+        Ok(()) => Ok(()),
+        Err(_) => Err(()),
+    }
+}
+
+/// Takes the oldest job. `None` if all lines are gone.
+pub fn take<R: Wait>(rt: &R, from: &JobReceiver, pass: &mut Pass<Job, PassView>) -> Option<Job>
+    requires channel { IsSeatAt (receives_on from.now) pass.old }
+    requires takes { ((view pass.old).takes ≡ true) × ((view pass.old).sends ≡ false) }
+    ensures channel { IsSeatAt (receives_on from.now) pass.new }
+    ensures taken { MatchOption result (view pass.new ≡ view pass.old) (λ job. Takes (view pass.old) job (view pass.new)) }
+{
+    from.recv_as::<Taking, R>(rt, pass).ok()
+}
+
+/// Cuts the pass of the next place off the writer's.
+pub fn cut(to: &JobSender, pass: &mut Pass<Job, PassView>) -> Pass<Job, PassView>
+    requires channel { IsSeatAt (sends_on to.now) pass.old }
+    requires takes { ((view pass.old).takes ≡ true) × ((view pass.old).sends ≡ false) × ((view pass.old).known ≡ []) }
+    ensures channel { IsSeatAt (sends_on to.now) pass.new × IsSeatAt (sends_on to.now) result }
+    ensures views { (view pass.new ≡ one_line_more (view pass.old)) × (view result ≡ new_line (view pass.old)) }
+{
+    to.another::<LinePass>(pass)
+}
+
+/// Joins a line's pass to the writer's.
+pub fn join(to: &JobSender, pass: &mut Pass<Job, PassView>, line: Pass<Job, PassView>)
+    requires channel { IsSeatAt (sends_on to.now) pass.old × IsSeatAt (sends_on to.now) line }
+    requires takes { ((view pass.old).takes ≡ true) × ((view pass.old).sends ≡ false) }
+    requires sends { (view line).sends ≡ true }
+    ensures channel { IsSeatAt (sends_on to.now) pass.new }
+    ensures views { view pass.new ≡ one_line_less (view pass.old) (view line) }
+{
+    to.absorb::<LinePass>(pass, line);
+}
+
+/// Compares what was taken with what the ended lines sent, by the rule.
+pub fn compare(to: &JobSender, pass: &mut Pass<Job, PassView>)
+    requires channel { IsSeatAt (sends_on to.now) pass.old }
+    requires takes { (view pass.old).takes ≡ true }
+    ensures channel { IsSeatAt (sends_on to.now) pass.new }
+    ensures same { view pass.new ≡ view pass.old }
+    ensures learned { (items : List Job) × Balances (view pass.old) items }
+{
+    to.learn_as::<LinePass>(pass);
+}

@@ -1,0 +1,83 @@
+//! What the writer took from the queue.
+
+ghost use Rattle.std.specs.Prelude.{◌≡◌, ◌<◌, ◌∷◌, ◌++◌, List, [], true, MatchOption};
+ghost use Rattle.crossbeam_channel.specs.Claims.{view as known_by};
+ghost use Rattle.crossbeam_channel.specs.Ends.{sends_on, receives_on};
+ghost use Rattle.rs_store.specs.History.{SerialsRise};
+ghost use Rattle.rs_intake.specs.QueueRule.{entries_of};
+ghost use Rattle.rs_intake.specs.Names.{IsQueue, IsIn};
+ghost use Rattle.rs_intake.specs.Lines.{IsTaker};
+ghost use Rattle.rs_intake.specs.Settling.{IsBalanced};
+ghost use Rattle.rs_intake.specs.declared.rule.Job.{Job};
+
+use crate::name::LineName;
+use crate::rule::{Job, JobReceiver, JobSender, PassView};
+use crate::steps::{compare, join, take};
+use crossbeam_channel::Pass;
+use std::marker::{Model, PhantomData};
+use std::sync::Wait;
+
+/// What the writer took. Contracts see the entries that were asked for, in order, and what ended lines sent.
+#[derive(Drop)]
+pub struct Taken<N: LineName> {
+    places: u8,
+    pass: Pass<Job, PassView>,
+    of: PhantomData<N>,
+}
+
+impl<N: LineName> Model for Taken<N> {
+    ghost use Rattle.std.specs.Prelude.{◌≡◌};
+    ghost use Rattle.crossbeam_channel.specs.Claims.{view as known_by};
+    ghost use Rattle.rs_intake.specs.Lines.{Received, IsTaker};
+
+    ghost Value = { Received };
+
+    ghost view = { λ t. record { entries = (known_by t.pass).entries; whole = (known_by t.pass).known } };
+
+    ghost invariant = { λ t. IsTaker N.queue N.places t.pass × (t.places ≡ N.places) };
+}
+
+impl<N: LineName> Taken<N> {
+    pub(crate) fn new(places: u8, pass: Pass<Job, PassView>) -> Taken<N>
+        requires { IsTaker N.queue N.places pass × (places ≡ N.places) }
+        ensures { (result.entries ≡ (known_by pass).entries) × (result.whole ≡ (known_by pass).known) }
+    {
+        Taken {
+            places,
+            pass,
+            of: PhantomData,
+        }
+    }
+
+    pub(crate) fn places(&self) -> u8
+        ensures { (result ≡ N.places) × (0 < result) }
+    {
+        self.places
+    }
+
+    /// Takes the oldest job. `None` if all lines are gone.
+    pub(crate) fn next<R: Wait>(&mut self, rt: &R, from: &JobReceiver) -> Option<Job>
+        requires { IsQueue N.queue (receives_on from.now) }
+        ensures { MatchOption result (self.new ≡ self.old) (λ job. (self.new.entries ≡ self.old.entries ++ entries_of (job ∷ [])) × SerialsRise self.new.entries) }
+    {
+        take(rt, from, &mut self.pass)
+    }
+
+    /// Joins a line's pass.
+    pub(crate) fn join(&mut self, by: &JobSender, line: Pass<Job, PassView>)
+        requires queue { IsQueue N.queue (sends_on by.now) × IsIn N.queue line }
+        requires line { (known_by line).sends ≡ true }
+        ensures { (self.new.entries ≡ self.old.entries) × (self.new.whole ≡ record { place = (known_by line).from; entries = (known_by line).entries } ∷ self.old.whole) }
+    {
+        join(by, &mut self.pass, line);
+    }
+
+    /// Compares what was taken with what the ended lines sent, by the rule of the queue.
+    pub(crate) fn compare(&mut self, by: &JobSender)
+        requires { IsQueue N.queue (sends_on by.now) }
+        ensures same { self.new ≡ self.old }
+        ensures learned { (items : List Job) × IsBalanced N.places self.new items }
+    {
+        compare(by, &mut self.pass);
+    }
+}

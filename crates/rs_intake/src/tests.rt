@@ -1,0 +1,84 @@
+//! Lines, a writer and seats over threads, and each refusal.
+
+ghost use Rattle.std.specs.Prelude.{◌≡◌, ◌<◌, ◌≤◌, [], None};
+
+mod answers;
+mod order;
+
+use super::*;
+use bytes::Bytes;
+use rs_message::{Message, Operation};
+use rs_packet::{Properties, Qos};
+use rs_store::TopicLimit;
+use rs_topic::TopicName;
+use rs_version::{Blank, Seat, VersionWriter};
+use std::alloc::{AllocError, Global};
+use std::sync::Wait;
+use std::test::Fail;
+
+#[tactic(auto, using(rs_message::proofs::Sizes::small_message))]
+fn message(alloc: Global, payload: &[u8], expiry: Option<u32>) -> Option<Message> {
+    if payload.is_empty() || payload.len() > 1000 {
+        return None;
+    }
+    let payload = Bytes::copy_from_slice(alloc, payload).ok()?;
+    Some(Message::new(payload, Qos::AtMostOnce, 0, expiry, Properties::none()))
+}
+
+fn set(alloc: Global, topic: &[u8], payload: &[u8]) -> Option<Operation> {
+    let topic = TopicName::read(alloc, topic).ok()?;
+    Some(Operation::Set(topic, message(alloc, payload, None)?))
+}
+
+fn clear(alloc: Global, topic: &[u8]) -> Option<Operation> {
+    Some(Operation::Clear(TopicName::read(alloc, topic).ok()?))
+}
+
+fn blank_store(alloc: Global, limit: u32, places: u8) -> Result<Blank, Fail>
+    requires { (0 < places) × (places ≤ 64) }
+{
+    let limit = TopicLimit::new(limit).ok_or("no limit")?;
+    Ok(Blank::new(alloc, limit, places)?)
+}
+
+/// A store and the queue to its writer, opened under one name.
+#[derive(Drop)]
+struct Opened<N: LineName, R: Wait + Drop> {
+    writer: VersionWriter<N, R>,
+    seats: Vec<Seat<N>>,
+    intake: Intake<N>,
+    lines: Vec<SeatLine<N>>,
+    queue: Queue<N>,
+    ghost empty: { writer ≡ record { published = []; held = None } },
+}
+
+fn open_both<N: LineName, R: Wait + Drop>(
+    rt: R,
+    blank: Blank,
+    queue: BlankQueue,
+) -> Result<Opened<N, R>, AllocError>
+    requires store { (blank.history ≡ N.history) × (blank.limit ≡ N.limit) }
+    requires queue { (queue.name ≡ N.queue) × (queue.places ≡ N.places) }
+{
+    let (writer, seats) = blank.open::<N, R>(rt)?;
+    let (intake, lines, queue) = queue.open::<N>()?;
+    Ok(Opened {
+        writer,
+        seats,
+        intake,
+        lines,
+        queue,
+    })
+}
+
+#[test]
+fn codes(rt: HostRuntime) -> Result<(), Fail> {
+    let fault = SettleFault::Unsettled;
+    assert_eq!(rt; fault.code(), 45);
+    let shown = format!(in rt.alloc(); "{fault}")?;
+    assert_eq!(rt;
+        shown.as_str(),
+        "not all that was sent is known to be taken; close each line once, and settle after the writer has ended"
+    );
+    Ok(())
+}

@@ -1,0 +1,165 @@
+//! What a submit answers.
+
+ghost use Rattle.std.specs.Prelude.{◌≡◌};
+
+use super::{Opened, blank_store, clear, open_both, set};
+use crate::intake::read;
+use crate::reply::Reply;
+use crate::{BlankQueue, Intake, LineName, SeatLine, SettleFault, blank_queue, run_writer, settle};
+use rs_message::{Entry, Operation, Origin, SubmitFault};
+use rs_version::{Blank, PutFault};
+use std::alloc::Global;
+use std::marker::Brand;
+use std::process::Abort;
+use std::sync::Wait;
+use std::test::Fail;
+use std::thread::{Threads, spawn};
+
+/// The number of the receipt, or the code of the fault.
+fn answer<N: LineName, R: Wait>(
+    rt: &R,
+    intake: &Intake<N>,
+    line: &mut SeatLine<N>,
+    operation: Option<Operation>,
+) -> Result<(u64, u8), Fail> {
+    match intake.submit(rt, line, operation.ok_or("an operation")?) {
+        Ok(receipt) => Ok((receipt.number(), 0)),
+        Err(fault) => Ok((0, fault.code())),
+    }
+}
+
+fn submit_all<N: LineName, R: Wait>(
+    rt: &R,
+    alloc: Global,
+    intake: &Intake<N>,
+    line: &mut SeatLine<N>,
+) -> Result<[(u64, u8); 5], Fail> {
+    Ok([
+        answer(rt, intake, line, set(alloc, b"a", b"1"))?,
+        answer(rt, intake, line, set(alloc, b"b", b"2"))?,
+        answer(rt, intake, line, set(alloc, b"c", b"3"))?,
+        answer(rt, intake, line, set(alloc, b"a", b"4"))?,
+        answer(rt, intake, line, clear(alloc, b"d"))?,
+    ])
+}
+
+fn full_store_named<
+    N: LineName + Send + Sync + 'static,
+    R: Threads + Wait + Abort + Copy + Send + Sync + 'static,
+>(rt: R, alloc: Global, blank: Blank, queue: BlankQueue) -> Result<(), Fail>
+    requires store { (blank.history ≡ N.history) × (blank.limit ≡ N.limit) }
+    requires queue { (queue.name ≡ N.queue) × (queue.places ≡ N.places) }
+{
+    let Opened {
+        writer,
+        seats: _seats,
+        intake,
+        mut lines,
+        queue,
+    } = open_both::<N, R>(rt, blank, queue)?;
+    let mut line = lines.pop().ok_or("there is a line")?;
+    let thread = spawn(&rt, move || run_writer(&rt, queue, writer))?;
+    let answers = submit_all(&rt, alloc, &intake, &mut line);
+    let serial = line.serial();
+    let end = line.close(&rt);
+    let mut ended = thread.join(&rt);
+    assert_eq!(rt; answers?, [(1, 0), (2, 0), (0, 40), (3, 0), (4, 0)]);
+    assert_eq!(rt; (serial, end.place(), end.sent()), (5, 1, 5));
+    assert_eq!(rt;
+        (ended.taken, ended.refused, ended.writer.tell().version()),
+        (5, 1, 4)
+    );
+    let unsettled = settle(Vec::new(alloc), &mut ended).err();
+    assert_eq!(rt; unsettled, Some(SettleFault::Unsettled));
+    assert_eq!(rt; settle(vec![in alloc; end]?, &mut ended).ok(), Some(5));
+    Ok(())
+}
+
+#[test]
+fn full_store(rt: HostRuntime) -> Result<(), Fail> {
+    let alloc = rt.alloc();
+    let blank = blank_store(alloc, 2, 1)?;
+    full_store_named::<Brand, _>(rt, alloc, blank, blank_queue(alloc, 1)?)
+}
+
+fn dropped_queue_named<
+    N: LineName + Send + Sync + 'static,
+    R: Threads + Wait + Abort + Copy + Send + Sync + 'static,
+>(rt: R, alloc: Global, blank: Blank, queue: BlankQueue) -> Result<(), Fail>
+    requires store { (blank.history ≡ N.history) × (blank.limit ≡ N.limit) }
+    requires queue { (queue.name ≡ N.queue) × (queue.places ≡ N.places) }
+{
+    let Opened {
+        writer: _writer,
+        seats: _seats,
+        intake,
+        mut lines,
+        queue,
+    } = open_both::<N, R>(rt, blank, queue)?;
+    let mut line = lines.pop().ok_or("there are lines")?;
+    // The writer's end takes one job, and is dropped then.
+    let thread = spawn(&rt, move || queue.next(&rt))?;
+    let open = answer(&rt, &intake, &mut line, set(alloc, b"a", b"1"))?;
+    assert!(rt; thread.join(&rt).is_some());
+    let closed = answer(&rt, &intake, &mut line, set(alloc, b"a", b"1"))?;
+    assert_eq!(rt; (open, closed), ((0, 42), (0, 44)));
+    assert_eq!(rt; line.serial(), 2);
+    Ok(())
+}
+
+#[test]
+fn dropped_queue(rt: HostRuntime) -> Result<(), Fail> {
+    let alloc = rt.alloc();
+    let blank = blank_store(alloc, 2, 1)?;
+    dropped_queue_named::<Brand, _>(rt, alloc, blank, blank_queue(alloc, 1)?)
+}
+
+fn entry_of(place: u8, serial: u64, operation: Option<Operation>) -> Option<Entry> {
+    let origin = Origin::new(place, serial)?;
+    let operation = operation?;
+    Some(Entry { origin, operation })
+}
+
+/// What a line of this entry answers if this comes back.
+fn refusal<N: LineName>(origin: Origin, fault: PutFault, entry: &Entry) -> Option<SubmitFault> {
+    let answer = Err(fault);
+    read::<N>(Reply { origin, answer }, entry).err()
+}
+
+fn strange_named<N: LineName, R: Wait + Abort>(
+    rt: &R,
+    alloc: Global,
+    blank: Blank,
+    queue: BlankQueue,
+) -> Result<(), Fail>
+    requires store { (blank.history ≡ N.history) × (blank.limit ≡ N.limit) }
+    requires queue { (queue.name ≡ N.queue) × (queue.places ≡ N.places) }
+{
+    let mut opened = open_both::<N, &R>(rt, blank, queue)?;
+    let entry = entry_of(1, 1, set(alloc, b"a", b"1")).ok_or("an entry")?;
+    let origin = entry.origin;
+    // A receipt for another operation of the same origin.
+    let other = entry_of(1, 1, set(alloc, b"a", b"2")).ok_or("an entry")?;
+    let answer = opened.writer.put(other);
+    let strange = read::<N>(Reply { origin, answer }, &entry).err();
+    assert_eq!(rt; strange, Some(SubmitFault::Strange));
+    let elsewhere = Origin::new(1, 2).ok_or("an origin")?;
+    let rows = [
+        (elsewhere, PutFault::Full, SubmitFault::Strange),
+        (origin, PutFault::Stale, SubmitFault::Strange),
+        (origin, PutFault::Full, SubmitFault::Full),
+        (origin, PutFault::NoMemory, SubmitFault::NoMemory),
+        (origin, PutFault::Held, SubmitFault::Open),
+    ];
+    for (origin, fault, wanted) in rows {
+        assert_eq!(rt; refusal::<N>(origin, fault, &entry), Some(wanted));
+    }
+    Ok(())
+}
+
+#[test]
+fn strange(rt: HostRuntime) -> Result<(), Fail> {
+    let alloc = rt.alloc();
+    let blank = blank_store(alloc, 2, 1)?;
+    strange_named::<Brand, _>(&rt, alloc, blank, blank_queue(alloc, 1)?)
+}

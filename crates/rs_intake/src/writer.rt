@@ -1,0 +1,159 @@
+//! The writer's loop over the queue.
+
+ghost use Rattle.std.specs.Prelude.{◌≡◌, ◌≢◌, ◌+◌, ◌∷◌, ◌++◌, [], length, IfOk, MatchBool};
+ghost use Rattle.std.specs.Option.{option_map};
+ghost use Rattle.crossbeam_channel.specs.Ends.{receives_on};
+ghost use Rattle.rs_store.specs.History.{SerialsRise, extended};
+ghost use Rattle.rs_version.specs.Writer.{kept_of};
+ghost use Rattle.rs_intake.specs.Names.{IsQueue};
+ghost use Rattle.rs_intake.specs.Parts.{IsPart};
+
+use crate::name::LineName;
+use crate::reply::{Reply, ReplySender};
+use crate::rule::{Job, JobReceiver};
+use crate::taken::Taken;
+use rs_message::{Entry, Origin};
+use rs_version::{PutFault, VersionWriter};
+use std::sync::Wait;
+
+/// The writer's end of the queue, from which nothing was taken.
+#[derive(Drop)]
+pub struct Queue<N: LineName> {
+    receiver: JobReceiver,
+    taken: Taken<N>,
+    replies: Vec<ReplySender<N>>,
+    ghost queue: { IsQueue N.queue (receives_on receiver) },
+    ghost new: { taken.entries ≡ [] },
+}
+
+impl<N: LineName> Queue<N> {
+    pub(crate) fn new(
+        receiver: JobReceiver,
+        taken: Taken<N>,
+        replies: Vec<ReplySender<N>>,
+    ) -> Queue<N>
+        requires { IsQueue N.queue (receives_on receiver) × (taken.entries ≡ []) }
+    {
+        Queue {
+            receiver,
+            taken,
+            replies,
+        }
+    }
+
+    /// Takes one job, and gives the queue up.
+    #[cfg(test)]
+    pub(crate) fn next<W: Wait>(self, rt: &W) -> Option<Job> {
+        let Queue {
+            receiver,
+            mut taken,
+            replies: _replies,
+        } = self;
+        taken.next(rt, &receiver)
+    }
+}
+
+/// What the writer's loop leaves.
+#[derive(Drop)]
+pub struct Ended<N: LineName, R: Wait + Drop> {
+    /// The writer.
+    pub writer: VersionWriter<N, R>,
+    /// How many jobs were taken.
+    pub taken: u64,
+    /// How many of them were not appended.
+    pub refused: u64,
+    /// The origin of the held entry, which is appended and not published.
+    pub held: Option<Origin>,
+    /// The jobs that were taken.
+    pub jobs: Taken<N>,
+    pub ghost counted: { taken ≡ length jobs.entries },
+}
+
+impl<N: LineName, R: Wait + Drop> Ended<N, R> {
+    fn new(writer: VersionWriter<N, R>, taken: u64, refused: u64, jobs: Taken<N>) -> Ended<N, R>
+        requires { taken ≡ length jobs.entries }
+        ensures values { (result.writer ≡ writer) × (result.taken ≡ taken) × (result.refused ≡ refused) }
+        ensures held { result.held ≡ option_map (λ e. e.origin) writer.held }
+        ensures jobs { result.jobs ≡ jobs }
+    {
+        let held = writer.held();
+        Ended {
+            writer,
+            taken,
+            refused,
+            held,
+            jobs,
+        }
+    }
+}
+
+/// Puts a job, and tells its line. Whether its entry was appended.
+fn put_job<N: LineName, R: Wait + Drop, W: Wait>(
+    rt: &W,
+    writer: &mut VersionWriter<N, R>,
+    replies: &mut Vec<ReplySender<N>>,
+    job: Entry,
+) -> bool
+    requires { SerialsRise (extended (kept_of writer.old) job) }
+    ensures { MatchBool result (kept_of writer.new ≡ kept_of writer.old ++ job ∷ []) (kept_of writer.new ≡ kept_of writer.old) }
+{
+    let origin = job.origin;
+    let answer = writer.put(job);
+    let is_appended = match &answer {
+        Ok(_) | Err(PutFault::Held) => true,
+        Err(PutFault::Full) | Err(PutFault::NoMemory) => false,
+        // The queue keeps the order of each place's serials.
+        Err(PutFault::Stale) => unreachable!(),
+    };
+    let index = origin.place() as usize - 1;
+    if let Some(to) = replies.get_mut(index) {
+        to.send(rt, Reply { origin, answer });
+    }
+    is_appended
+}
+
+/// Puts each job that it takes, and tells the job's line what the writer answers, until each place has ended or all lines are
+/// gone. Then it tries once more to publish a held entry.
+pub fn run_writer<N: LineName, R: Wait + Drop, W: Wait>(
+    rt: &W,
+    queue: Queue<N>,
+    writer: VersionWriter<N, R>,
+) -> Ended<N, R>
+    requires empty { kept_of writer ≡ [] }
+    ensures part { IsPart (kept_of result.writer) result.jobs.entries }
+    ensures taken { result.taken ≡ length result.jobs.entries }
+    ensures refused { length (kept_of result.writer) + result.refused ≡ result.taken }
+    ensures held { result.held ≡ option_map (λ e. e.origin) result.writer.held }
+{
+    let Queue {
+        receiver,
+        taken: mut jobs,
+        mut replies,
+    } = queue;
+    let mut writer = writer;
+    let mut taken = 0u64;
+    let mut refused = 0u64;
+    let mut open = jobs.places();
+    for _ in rt.forever() {
+        if taken == u64::MAX {
+            break;
+        }
+        match jobs.next(rt, &receiver) {
+            Some(Job::Put(job)) => {
+                taken += 1;
+                if !put_job(rt, &mut writer, &mut replies, job) {
+                    refused += 1;
+                }
+            }
+            Some(Job::End(_)) => {
+                open -= 1;
+                if open == 0 {
+                    break;
+                }
+            }
+            None => break,
+        }
+    }
+    drop(writer.retry());
+    Ended::new(writer, taken, refused, jobs)
+}
