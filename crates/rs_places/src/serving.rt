@@ -1,0 +1,53 @@
+//! One connection of a place over a store that other places use too.
+
+ghost use Rattle.std.specs.Prelude.{◌<◌, ◌-◌, ◌^◌};
+ghost use Rattle.std.specs.Io.KnownBytes.{Consumes, IsAtEnd};
+ghost use Rattle.rs_server.specs.Clock.{Told};
+ghost use Rattle.rs_server.specs.Conversation.{Causes, WritesTurns, assigned_of, start};
+ghost use Rattle.rs_server.specs.Counts.{failures_of, inner_of};
+ghost use Rattle.rs_places.specs.Serving.{IsServedAt};
+
+use crate::shared_gate::SharedGate;
+use rs_intake::LineName;
+use rs_server::{Clock, ConnectionId, Counted, ServeFault, Served, serve};
+use std::alloc::Global;
+use std::io::{Read, Write};
+use std::sync::Wait;
+
+/// Serves one connection at the gate's place, as the place's connection of this `number`: how it ends, and the gate. Whatever
+/// other places do meanwhile, `connection` says:
+///
+/// - What was written are the replies of a session to the packets that the bytes read encode (`run`, `inputs`, `replies`).
+/// - Each filter was answered from a legal list (`legal`), of which every list before is a prefix, the one that the seat knew
+///   first too. All of them are prefixes of the list that the seat knows after the call (`lists`).
+/// - A retained publication that the client was told is kept stands once in every later list (`kept`).
+/// - The replay sends what the filters were answered, in order, each message once (`sent`).
+///
+/// # Errors
+///
+/// As [`serve`].
+pub fn serve_place<T: Wait, N: LineName, H: Wait + Copy, R: Read, W: Write, C: Clock>(
+    rt: &T,
+    alloc: Global,
+    reader: &mut Counted<R>,
+    writer: &mut Counted<W>,
+    gate: SharedGate<N, H>,
+    number: u64,
+    clock: &mut C,
+) -> (Result<Served, ServeFault>, SharedGate<N, H>)
+    requires reader_room { failures_of reader.old < 2 ^ 64 - 1 }
+    requires writer_room { failures_of writer.old < 2 ^ 64 - 1 }
+    ensures connection { IsServedAt N.limit (start (assigned_of gate.mark.place number) gate.known gate.mark)
+        (Consumes (R.remaining (inner_of reader.old)) (R.remaining (inner_of reader.new))) (IsAtEnd (R.remaining (inner_of reader.new)))
+        (Told (C.moments clock.old) (C.moments clock.new))
+        (WritesTurns result.0 (W.contents (inner_of writer.old)) (W.contents (inner_of writer.new))) result.0 result.1 }
+    ensures cause { Causes result.0 (failures_of reader.old) (failures_of reader.new) (failures_of writer.old) (failures_of writer.new) }
+{
+    // For the proof: this call says that the known list is legal.
+    let _version = gate.version();
+    let id = ConnectionId {
+        place: gate.place(),
+        number,
+    };
+    serve(rt, alloc, reader, writer, gate, id, clock)
+}

@@ -1,0 +1,122 @@
+//! A gate over a seat and its line.
+
+ghost use Rattle.std.specs.Prelude.{◌≡◌, ◌≤◌, length};
+ghost use Rattle.rs_message.specs.declared.entry.TheConstants.{MAX_PLACES};
+ghost use Rattle.rs_store.specs.History.{IsLegal};
+
+use rs_intake::{Intake, LineEnd, LineName, SeatLine};
+use rs_message::{Found, Operation, SubmitFault};
+use rs_session::Gate;
+use rs_topic::TopicFilter;
+use rs_version::Seat;
+use std::alloc::AllocError;
+use std::marker::Model;
+use std::sync::{Arc, Wait};
+
+/// A place's gate to a store that other places use too. It stands for the seat's known list, which is legal, and for no other.
+///
+/// It keeps the handle `rt`, by which a submit waits for its receipt. An answer waits for nobody.
+#[derive(Drop)]
+pub struct SharedGate<N: LineName, R: Wait + Copy> {
+    rt: R,
+    intake: Arc<Intake<N>>,
+    seat: Seat<N>,
+    line: SeatLine<N>,
+}
+
+impl<N: LineName, R: Wait + Copy> Model for SharedGate<N, R> {
+    ghost use Rattle.rs_store.specs.History.{IsLegal};
+    ghost use Rattle.rs_places.specs.Shared.{SharedValue};
+
+    ghost Value = { SharedValue };
+
+    ghost view = { λ g. record { known = g.seat; mark = record { place = g.line.place; serial = g.line.serial }; sent = g.line.sent } };
+
+    ghost invariant = { λ g. IsLegal N.limit g.seat };
+}
+
+impl<N: LineName, R: Wait + Copy> SharedGate<N, R> {
+    /// A gate that knows what the seat knows, and goes on with the line's place and serial.
+    pub fn new(rt: R, intake: Arc<Intake<N>>, seat: Seat<N>, line: SeatLine<N>) -> SharedGate<N, R>
+        ensures known { result.known ≡ seat }
+        ensures mark { result.mark ≡ record { place = line.place; serial = line.serial } }
+        ensures sent { result.sent ≡ line.sent }
+        ensures legal { IsLegal N.limit result.known }
+    {
+        // For the proof: this call says that the seat's list is legal.
+        let _version = seat.version();
+        SharedGate {
+            rt,
+            intake,
+            seat,
+            line,
+        }
+    }
+
+    /// The place, 1 to the number of places.
+    pub fn place(&self) -> u8
+        ensures place { result ≡ self.now.mark.place }
+        ensures there { result ≤ N.places }
+        ensures small { result ≤ MAX_PLACES }
+    {
+        self.line.place()
+    }
+
+    /// The number of entries of the list that it knows.
+    pub fn version(&self) -> u64
+        ensures version { result ≡ length self.now.known }
+        ensures legal { IsLegal N.limit self.now.known }
+    {
+        self.seat.version()
+    }
+
+    /// Gives the gate up. What the queue took from its line is known to the end.
+    pub fn close(self) -> LineEnd<N>
+        ensures place { result.place ≡ self.mark.place }
+        ensures sent { result.sent ≡ self.sent }
+    {
+        let SharedGate {
+            rt,
+            intake: _intake,
+            seat: _seat,
+            line,
+        } = self;
+        line.close(&rt)
+    }
+}
+
+impl<N: LineName, R: Wait + Copy> Gate for SharedGate<N, R> {
+    ghost use Rattle.rs_places.specs.Shared.{Knows};
+
+    ghost stands = { Knows N.limit };
+
+    ghost mark = { λ gate. gate.mark };
+
+    /// Hands the change to the writer and waits for the receipt. The seat learns its token before `Ok` is answered.
+    fn submit(&mut self, operation: Operation) -> Result<(), SubmitFault> {
+        // For the proof: this call says that the serial is a u64.
+        let _serial = self.line.serial();
+        let receipt = self.intake.submit(&self.rt, &mut self.line, operation)?;
+        self.seat.learn(receipt.told());
+        Ok(())
+    }
+
+    /// Answers from a published version, without waiting.
+    fn answer(&mut self, filter: &TopicFilter, now: u64) -> Result<Vec<Found>, AllocError> {
+        let snapshot = self.seat.answer(filter, now)?;
+        Ok(snapshot.found)
+    }
+
+    /// Answers from a published version, without waiting, if there are at most `room` messages.
+    fn answer_within(
+        &mut self,
+        filter: &TopicFilter,
+        now: u64,
+        room: usize,
+    ) -> Result<Option<Vec<Found>>, AllocError> {
+        match self.seat.answer_within(filter, now, room)? {
+            Some(snapshot) => Ok(Some(snapshot.found)),
+            None => Ok(None),
+        }
+    }
+}
