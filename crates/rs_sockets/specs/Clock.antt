@@ -1,0 +1,7 @@
+-- What the system's clock told.
+use Rattle.std.specs.Prelude.{ℕ}
+use Rattle.rs_sockets.specs.declared.clock.SystemClock.{SystemClock}
+
+-- the last moment, in seconds
+abbrev pub last_of : SystemClock → ℕ
+last_of clock = clock.last

@@ -1,0 +1,4 @@
+pub mod Clock
+pub mod Gathered
+pub mod Sharing
+pub mod Halves

@@ -1,0 +1,36 @@
+//! The system's clock.
+
+ghost use Rattle.std.specs.Prelude.{◌≡◌};
+ghost use Rattle.rs_sockets.specs.Clock.{last_of};
+
+use std::time::{Clock, SystemTime, UNIX_EPOCH};
+
+/// The system's clock, in whole seconds since 1970.
+#[derive(Drop)]
+pub struct SystemClock {
+    last: u64,
+}
+
+impl SystemClock {
+    /// A clock that was not read yet.
+    pub fn new() -> SystemClock
+        ensures { last_of result ≡ 0 }
+    {
+        SystemClock { last: 0 }
+    }
+
+    /// The moment. If the clock cannot be read, this is the last moment that it told, and 0 at first.
+    pub fn now<H: Clock>(&mut self, rt: &H) -> u64
+        ensures { result ≡ last_of self.new }
+    {
+        if let Some(seconds) = seconds_since_1970(rt) {
+            self.last = seconds;
+        }
+        self.last
+    }
+}
+
+fn seconds_since_1970<H: Clock>(rt: &H) -> Option<u64> {
+    let time = SystemTime::now(rt).ok()?;
+    Some(time.duration_since(UNIX_EPOCH).ok()?.as_secs())
+}

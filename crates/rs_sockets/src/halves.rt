@@ -1,0 +1,106 @@
+//! The two halves of a connection, which share a gathering writer. Each is owned and may go to any thread.
+
+ghost use Rattle.std.specs.Prelude.{◌≡◌, true, false};
+ghost use Rattle.std.specs.Arc.{arc_value};
+ghost use Rattle.crossbeam_queue.specs.Passes.{view, IsPassOf};
+
+use crate::gathered::Gathered;
+use crate::sharing::{HalfPass, Put, PutWrittenOut, Shared, Take};
+use std::io;
+use std::io::{ErrorKind, Read, Write};
+use std::sync::Arc;
+
+/// Writes into the shared writer, which keeps the bytes. A `flush` keeps them too.
+///
+/// Its contents are those of the inner writer, and then what waits.
+#[derive(Drop)]
+pub struct WriteHalf<W: Write + Drop> {
+    pub(crate) shared: Arc<Shared<W>>,
+    pub(crate) pass: HalfPass<W>,
+    ghost of_cell: { IsPassOf (arc_value shared) pass },
+    ghost writes: { (view pass).writes ≡ true },
+}
+
+/// Reads, and before each read writes out what waits in the shared writer.
+///
+/// What remains are the bytes of the inner reader.
+#[derive(Drop)]
+pub struct ReadHalf<R, W: Write + Drop> {
+    pub(crate) inner: R,
+    pub(crate) shared: Arc<Shared<W>>,
+    pub(crate) pass: HalfPass<W>,
+    ghost of_cell: { IsPassOf (arc_value shared) pass },
+    ghost reads: { (view pass).writes ≡ false },
+}
+
+/// The other half has the writer, which happens only while another thread is inside a call of it.
+pub(crate) fn is_taken() -> io::Error {
+    io::Error::from(ErrorKind::ResourceBusy)
+}
+
+impl<W: Write + Drop> Write for WriteHalf<W> {
+    ghost use Rattle.rs_sockets.specs.Halves.{written_of};
+
+    ghost contents = { written_of };
+
+    fn write(&mut self, buf: &[u8]) -> io::Result<usize> {
+        let Some(mut gathered) = self.shared.try_pop_as::<Take>(&mut self.pass) else {
+            return Err(is_taken());
+        };
+        let written = gathered.write(buf);
+        match self.shared.try_push_as::<Put>(&mut self.pass, gathered) {
+            Ok(()) => written,
+            Err(_) => Err(is_taken()),
+        }
+    }
+
+    fn flush(&mut self) -> io::Result<()> {
+        Ok(())
+    }
+}
+
+impl<R, W: Write + Drop> ReadHalf<R, W> {
+    ghost use Rattle.std.specs.Prelude.{OnOk};
+    ghost use Rattle.rs_sockets.specs.Halves.{LeftNoneWaiting};
+
+    /// Writes out what waits.
+    fn write_out(&mut self) -> io::Result<()>
+        ensures inner { self.new.inner ≡ self.old.inner }
+        ensures none_waits { OnOk result (LeftNoneWaiting self.new) }
+    {
+        let Some(mut gathered) = self.shared.try_pop_as::<Take>(&mut self.pass) else {
+            return Err(is_taken());
+        };
+        let put = match gathered.write_out() {
+            Ok(()) => self
+                .shared
+                .try_push_as::<PutWrittenOut>(&mut self.pass, gathered),
+            Err(error) => {
+                let _ = self.shared.try_push_as::<Put>(&mut self.pass, gathered);
+                return Err(error);
+            }
+        };
+        match put {
+            Ok(()) => Ok(()),
+            Err(_) => Err(is_taken()),
+        }
+    }
+}
+
+impl<R: Read, W: Write + Drop> Read for ReadHalf<R, W> {
+    ghost use Rattle.std.specs.Io.{ReadsAtMost};
+    ghost use Rattle.std.specs.Io.KnownBytes.{ReadConsumes};
+    ghost use Rattle.std.specs.Prelude.{OnOk};
+    ghost use Rattle.rs_sockets.specs.Halves.{unread_of, LeftNoneWaiting};
+
+    ghost remaining = { unread_of R.remaining };
+
+    fn read(&mut self, buf: &mut [u8]) -> io::Result<usize>
+        ensures bound { ReadsAtMost result buf.new }
+        ensures bytes { ReadConsumes (unread_of R.remaining self.old) (unread_of R.remaining self.new) result buf.new }
+        ensures none_waits { OnOk result (LeftNoneWaiting self.new) }
+    {
+        self.write_out()?;
+        self.inner.read(buf)
+    }
+}

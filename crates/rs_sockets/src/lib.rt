@@ -1,0 +1,37 @@
+//! TCP connections, as a server of replies needs them.
+//!
+//! [`Listener`] binds an address, and gives connections to many threads, up to a number in all. Of a
+//! connection it makes two halves, [`FromClient`] and [`ToClient`], each owned, which may go to any thread.
+//! [`close`] ends a connection so that the client can still read what was written last.
+//!
+//! Replies are gathered: what is written and flushed is kept, up to [`MAX_GATHERED`] bytes, and goes out in
+//! one write if there is no more room, before the next read of the same connection, and at its end.
+//!
+//! The halves are [`ReadHalf`] and [`WriteHalf`], over any reader and any writer, and their contracts say
+//! which bytes they give and take: [`split`] begins with those of the reader and of the writer, and a writer
+//! that [`finish`] gives back holds all that was written, in order. So a server whose contract is over any
+//! reader and any writer keeps it over the halves.
+//!
+//! The contracts do not say what a socket gives or takes, when anything is sent, or that a call returns.
+#![tactic(auto)]
+
+mod clock;
+mod closing;
+mod connection;
+mod gathered;
+mod halves;
+mod limits;
+mod listener;
+mod sharing;
+mod splitting;
+
+pub use clock::SystemClock;
+pub use connection::{FromClient, ToClient, close, open};
+pub use gathered::Gathered;
+pub use halves::{ReadHalf, WriteHalf};
+pub use limits::{MAX_DISCARDED, MAX_GATHERED};
+pub use listener::Listener;
+pub use splitting::{finish, split};
+
+#[cfg(test)]
+mod tests;

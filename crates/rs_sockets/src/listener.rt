@@ -1,0 +1,92 @@
+//! What listens for clients.
+
+ghost use Rattle.std.specs.Prelude.{◌≡◌, ◌*◌, min};
+ghost use Rattle.rs_sockets.specs.declared.listener.TheConstants.{LONGEST_PAUSE};
+
+use crate::connection::{FromClient, ToClient, open};
+use std::alloc::Global;
+use std::net::{Net, TcpListener, TcpStream};
+use std::sync::atomic::{AtomicU64, Ordering};
+use std::time::{Clock, Duration};
+use std::{io, thread};
+
+/// The pause after the first of some failures in a row, in milliseconds.
+const FIRST_PAUSE: u64 = 10;
+
+/// The longest pause after a failure, in milliseconds.
+const LONGEST_PAUSE: u64 = 1_000;
+
+/// Accepts connections, up to a number in all. Threads share it by reference, as by an `Arc`.
+#[derive(Drop)]
+pub struct Listener {
+    pub(crate) socket: TcpListener,
+    left: AtomicU64,
+}
+
+impl Listener {
+    /// Binds an address, which is a host's name, an IPv4 or an IPv6 address, and a port, as `localhost:1883`
+    /// or `[::1]:1883`. Port 0 takes one that is free. It will accept so many connections.
+    ///
+    /// # Errors
+    ///
+    /// If `address` is none, is in use, or may not be bound.
+    pub fn bind<H: Net<Listener = TcpListener, Stream = TcpStream>>(
+        rt: &H,
+        address: &str,
+        connections: u64,
+    ) -> io::Result<Listener> {
+        let socket = TcpListener::bind(rt, address)?;
+        Ok(Listener {
+            socket,
+            left: AtomicU64::new(connections),
+        })
+    }
+
+    /// The address that was bound, with its port.
+    pub fn address(&self, alloc: Global) -> io::Result<String> {
+        let address = self.socket.local_addr()?;
+        Ok(format!(in alloc; "{address}")?)
+    }
+
+    /// Waits for the next client. None if all connections were accepted.
+    ///
+    /// An accept that fails counts as one of the connections. After it there is a pause, which doubles with
+    /// each further failure, from 10 milliseconds up to a second.
+    pub fn accept<H: Clock>(&self, rt: &H, alloc: Global) -> Option<(FromClient, ToClient)> {
+        let mut pause = FIRST_PAUSE;
+        for _ in 0..u64::MAX {
+            if !self.count_one() {
+                return None;
+            }
+            if let Ok(connection) = self.accept_once(alloc) {
+                return Some(connection);
+            }
+            thread::sleep(rt, Duration::from_millis(pause));
+            pause = longer(pause);
+        }
+        None
+    }
+
+    /// Counts one connection more. False if all were counted.
+    fn count_one(&self) -> bool {
+        self.left
+            .fetch_update(
+                Ordering::SeqCst,
+                Ordering::SeqCst,
+                |left| left.checked_sub(1),
+            )
+            .is_ok()
+    }
+
+    fn accept_once(&self, alloc: Global) -> io::Result<(FromClient, ToClient)> {
+        let (stream, _) = self.socket.accept()?;
+        open(alloc, stream)
+    }
+}
+
+/// The pause after the next failure.
+fn longer(pause: u64) -> u64
+    ensures { result ≡ min (2 * pause) LONGEST_PAUSE }
+{
+    pause.saturating_mul(2).min(LONGEST_PAUSE)
+}

@@ -1,0 +1,67 @@
+//! A connection in two halves, and one writer again at its end.
+
+ghost use Rattle.std.specs.Prelude.{◌≡◌, IfOk};
+ghost use Rattle.std.specs.Io.KnownBytes.{Keeps};
+ghost use Rattle.rs_sockets.specs.Halves.{unread_of, written_of};
+
+use crate::gathered::Gathered;
+use crate::halves::{ReadHalf, WriteHalf, is_taken};
+use crate::sharing::{ForReading, Put, Take, empty_cell};
+use std::alloc::Global;
+use std::io;
+use std::io::{Read, Write};
+use std::sync::Arc;
+
+/// Makes two halves of a reader and a writer, with nothing gathered yet.
+///
+/// # Errors
+///
+/// Only if memory is refused. Reader and writer are dropped.
+pub fn split<R: Read + Drop, W: Write + Drop>(
+    alloc: Global,
+    reader: R,
+    writer: W,
+) -> io::Result<(ReadHalf<R, W>, WriteHalf<W>)>
+    ensures reader { IfOk result (λ halves. unread_of R.remaining halves.0 ≡ R.remaining reader) }
+    ensures writer { IfOk result (λ halves. Keeps (W.contents writer) (written_of halves.1)) }
+{
+    let gathered = Gathered::new(alloc, writer)?;
+    let (shared, mut pass) = empty_cell::<W>(alloc)?;
+    let shared_too = Arc::try_clone(&shared)?;
+    let reading = shared.another::<ForReading>(&mut pass);
+    match shared.try_push_as::<Put>(&mut pass, gathered) {
+        Ok(()) => Ok((
+            ReadHalf {
+                inner: reader,
+                shared: shared_too,
+                pass: reading,
+            },
+            WriteHalf { shared, pass },
+        )),
+        Err(_) => Err(is_taken()),
+    }
+}
+
+/// Writes out what waits, and gives reader and writer back.
+///
+/// # Errors
+///
+/// If what waited could not be written. Reader and writer are dropped.
+pub fn finish<R: Read + Drop, W: Write + Drop>(
+    read: ReadHalf<R, W>,
+    write: WriteHalf<W>,
+) -> io::Result<(R, W)>
+    ensures reader { IfOk result (λ both. R.remaining both.0 ≡ unread_of R.remaining read) }
+    ensures writer { IfOk result (λ both. Keeps (written_of write) (W.contents both.1)) }
+{
+    let ReadHalf {
+        inner,
+        shared: _,
+        pass: _,
+    } = read;
+    let WriteHalf { shared, mut pass } = write;
+    match shared.try_pop_as::<Take>(&mut pass) {
+        Some(gathered) => Ok((inner, gathered.into_inner()?)),
+        None => Err(is_taken()),
+    }
+}

@@ -1,0 +1,5 @@
+mod clocks;
+mod ending;
+mod gathering;
+mod listening;
+mod loopback;

@@ -1,0 +1,166 @@
+// Connections over the loopback.
+
+use crate::connection::{FromClient, ToClient, close};
+use crate::listener::Listener;
+use std::alloc::Global;
+use std::io::{Read, Write};
+use std::net::{Net, Shutdown, TcpListener, TcpStream};
+use std::test::Fail;
+use std::thread::Threads;
+use std::time::Clock;
+use std::{io, thread};
+
+// A listener for one client, and its client.
+fn meet<H: Net<Listener = TcpListener, Stream = TcpStream>>(
+    rt: &H,
+    alloc: Global,
+) -> io::Result<(Listener, TcpStream)> {
+    let listener = Listener::bind(rt, "127.0.0.1:0", 1)?;
+    let address = listener.address(alloc)?;
+    let client = TcpStream::connect(rt, address.as_str())?;
+    Ok((listener, client))
+}
+
+// Reads a byte at a time, and writes and flushes four for each, up to the end.
+fn serve(input: &mut FromClient, output: &mut ToClient) -> io::Result<()> {
+    let mut byte = [0u8; 1];
+    for _ in 0..1_000 {
+        if input.read(&mut byte)? == 0 {
+            break;
+        }
+        output.write_all(&[byte[0], b'-', byte[0], b'.'])?;
+        output.flush()?;
+    }
+    Ok(())
+}
+
+#[test]
+fn a_client_that_closes_its_half_reads_all(rt: HostRuntime) -> Result<(), Fail> {
+    let alloc = rt.alloc();
+    let (listener, mut client) = meet(&rt, alloc)?;
+    client.set_nodelay(true)?;
+    for byte in b"abc" {
+        client.write_all(&[*byte])?;
+    }
+    client.shutdown(Shutdown::Write)?;
+    let (mut input, mut output) = listener.accept(&rt, alloc).ok_or("no connection")?;
+    // The halves go to a thread and back.
+    let serving = thread::spawn(&rt, move || {
+        let served = serve(&mut input, &mut output).is_ok();
+        (input, output, served)
+    })?;
+    let (input, output, served) = serving.join(&rt);
+    assert!(rt; served);
+    close(&rt, input, output)?;
+    let replies = io::read_to_string(alloc, client)?;
+    assert_eq!(rt; replies.as_str(), "a-a.b-b.c-c.");
+    Ok(())
+}
+
+#[test]
+fn a_client_that_resets_harms_no_other(rt: HostRuntime) -> Result<(), Fail> {
+    let alloc = rt.alloc();
+    let listener = Listener::bind(&rt, "127.0.0.1:0", 2)?;
+    let address = listener.address(alloc)?;
+    let mut first = TcpStream::connect(&rt, address.as_str())?;
+    let mut second = TcpStream::connect(&rt, address.as_str())?;
+    first.write_all(b"ab")?;
+    let (mut input, mut output) = listener.accept(&rt, alloc).ok_or("no connection")?;
+    let mut byte = [0u8; 1];
+    input.read_exact(&mut byte)?;
+    output.write_all(b"unread")?;
+    input.read_exact(&mut byte)?;
+    // A socket that is closed while bytes are unread is reset.
+    drop(first);
+    output.write_all(b"more")?;
+    assert!(rt; input.read(&mut byte).is_err());
+    let _ = close(&rt, input, output);
+    second.write_all(b"c")?;
+    second.shutdown(Shutdown::Write)?;
+    let (mut input, mut output) = listener.accept(&rt, alloc).ok_or("no connection")?;
+    serve(&mut input, &mut output)?;
+    close(&rt, input, output)?;
+    let replies = io::read_to_string(alloc, second)?;
+    assert_eq!(rt; replies.as_str(), "c-c.");
+    Ok(())
+}
+
+// Reads to the end: how many replies came, each once and in order.
+fn count_replies(client: &mut TcpStream) -> u32 {
+    let mut count = 0u32;
+    let mut room = [0u8; 4];
+    for _ in 0..1_000_000 {
+        if client.read_exact(&mut room).is_err() || room != count.to_be_bytes() {
+            break;
+        }
+        count = count.saturating_add(1);
+    }
+    count
+}
+
+#[test]
+fn more_replies_than_are_gathered(rt: HostRuntime) -> Result<(), Fail> {
+    let alloc = rt.alloc();
+    let (listener, mut client) = meet(&rt, alloc)?;
+    let (input, mut output) = listener.accept(&rt, alloc).ok_or("no connection")?;
+    client.shutdown(Shutdown::Write)?;
+    let reading = thread::spawn(&rt, move || count_replies(&mut client))?;
+    for number in 0..100_000u32 {
+        output.write_all(&number.to_be_bytes())?;
+        output.flush()?;
+    }
+    close(&rt, input, output)?;
+    assert_eq!(rt; reading.join(&rt), 100_000);
+    Ok(())
+}
+
+// Sends a byte, and then 1 MiB before it reads: how many bytes it reads, up to the end.
+fn send_first(client: &mut TcpStream) -> u64 {
+    let chunk = [1u8; 16_384];
+    if client.write_all(b"x").is_err() {
+        return 0;
+    }
+    for _ in 0..64 {
+        if client.write_all(&chunk).is_err() {
+            return 0;
+        }
+    }
+    let mut count = 0u64;
+    let mut room = [0u8; 64];
+    for _ in 0..1_000 {
+        match client.read(&mut room) {
+            Ok(0) => return count,
+            Ok(size) => count = count.saturating_add(size as u64),
+            Err(_) => return 0,
+        }
+    }
+    0
+}
+
+// One client that is refused: how many bytes of the reply it reads.
+fn refuse<H: Clock + Net<Listener = TcpListener, Stream = TcpStream> + Threads>(
+    rt: &H,
+    alloc: Global,
+) -> Result<u64, Fail> {
+    let (listener, mut client) = meet(rt, alloc)?;
+    let (mut input, mut output) = listener.accept(rt, alloc).ok_or("no connection")?;
+    let sending = thread::spawn(rt, move || send_first(&mut client))?;
+    let mut byte = [0u8; 1];
+    input.read_exact(&mut byte)?;
+    output.write_all(b"refused")?;
+    close(rt, input, output)?;
+    Ok(sending.join(rt))
+}
+
+// A machine that stands still for a second loses a client, so more than one may try.
+#[test]
+fn a_refused_client_reads_why(rt: HostRuntime) -> Result<(), Fail> {
+    let mut count = 0u64;
+    for _ in 0..10 {
+        if count != 7 {
+            count = refuse(&rt, rt.alloc())?;
+        }
+    }
+    assert_eq!(rt; count, 7);
+    Ok(())
+}
