@@ -1,4 +1,4 @@
-//! What the jobs `decode` and `encode` of rs_times do, for a PUBLISH and a SUBSCRIBE (OASIS MQTT Version 5.0, sections 3.3 and
+//! What the jobs `decode` and `encode` of rs_trials do, for a PUBLISH and a SUBSCRIBE (OASIS MQTT Version 5.0, sections 3.3 and
 //! 3.8), in plain Rust over std alone: bench/run takes its times as the measure of theirs.
 //!
 //! It makes the same checks, cuts payload and texts out of one shared buffer, and writes into a vector that is reserved once.

@@ -8,9 +8,10 @@ CONNACK_BYTES = 15
 
 PAYLOAD = b"x" * 64
 
-# How many PUBLISH packets may be unacknowledged, and how many subscriptions a session keeps.
+# How many PUBLISH packets may be unacknowledged, how many subscriptions a session keeps, and how many messages may wait.
 QUOTA = 1024
 SUBSCRIPTIONS = 256
+WAITING = 100_000
 
 
 def topic(i):
@@ -67,3 +68,10 @@ def subscribed(count, stored, rounds, in_one):
     sent = min(count, stored, SUBSCRIPTIONS) * len(publish(topic(0), PAYLOAD))
     answered = 2 * sum(codes_bytes(len(part)) for part in parts) + sent
     return whole(packets + rounds * turn, replies + rounds * answered)
+
+
+def flooded(count, stored):
+    """Over these retained messages, one SUBSCRIBE of this many filters `#`. They are granted until no more messages may wait."""
+    packets, _ = publications(stored, 0)
+    sent = WAITING // stored * stored * len(publish(topic(0), PAYLOAD))
+    return whole(packets + subscribe([b"#"] * count, 0), codes_bytes(count) + sent)

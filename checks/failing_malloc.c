@@ -1,15 +1,15 @@
-/* Loaded before a program, makes one allocation fail, and tells it.
+/* Loaded before a program, makes some allocations in a row fail, and tells it.
  *
- * FAIL_AT is the number of the allocation, counted from 1. When it fails, a byte is written to the file descriptor FAIL_TELL. The
- * programs allocate by malloc and realloc alone. */
+ * FAIL_AT is the number of the first that fails, counted from 1, and FAIL_COUNT how many do. At each, a byte is written to the file
+ * descriptor FAIL_TELL. The programs allocate by malloc and realloc alone. */
 
 extern void *__libc_malloc(unsigned long size);
 extern void *__libc_realloc(void *old, unsigned long size);
 extern char *getenv(const char *name);
 extern long write(int descriptor, const void *bytes, unsigned long count);
 
-/* How many allocations are left up to the one that fails; 0 if none fails any more. */
-static long left = -1;
+/* The number of the next allocation. */
+static long next = 1;
 
 static long number(const char *name)
 {
@@ -22,9 +22,9 @@ static long number(const char *name)
 
 static int fails(void)
 {
-    if (left < 0)
-        left = number("FAIL_AT");
-    if (left == 0 || --left > 0)
+    long first = number("FAIL_AT");
+    long at = next++;
+    if (at < first || at - first >= number("FAIL_COUNT"))
         return 0;
     write((int)number("FAIL_TELL"), "x", 1);
     return 1;

@@ -1,46 +1,48 @@
 //! Topics, messages and entries to work with.
 
-ghost use Rattle.std.specs.Prelude.{◌<◌, ◌≤◌, ◌≢◌, ◌^◌, [], length};
+ghost use Rattle.std.specs.Prelude.{◌≤◌, ◌≢◌, [], length};
 
 use crate::failure::Failure;
 use bytes::Bytes;
 use rs_message::{Entry, Found, Message, Operation, Origin};
 use rs_packet::{Properties, Qos};
 use rs_topic::TopicName;
-use std::alloc::Global;
+use std::alloc::{AllocError, Global};
 
 const PAYLOAD: &[u8] = b"0123456789abcdef0123456789abcdef0123456789abcdef0123456789abcdef";
 
-/// A message of this quality and interval.
+/// A message of this payload, in memory of its own, and of this quality.
 #[tactic(auto, using(rs_message::proofs::Sizes::small_message))]
-fn message(payload: &'static [u8], qos: Qos, expiry: Option<u32>) -> Message
+fn message(alloc: Global, payload: &[u8], qos: Qos) -> Result<Message, AllocError>
     requires some { payload.now ≢ [] }
     requires small { length payload.now ≤ 1000 }
 {
-    Message::new(
-        Bytes::from_static(payload),
-        qos,
-        0,
-        expiry,
-        Properties::none(),
-    )
+    let payload = Bytes::copy_from_slice(alloc, payload)?;
+    Ok(Message::new(payload, qos, 0, None, Properties::none()))
 }
 
 /// A message of this topic and quality, as the store finds it.
-pub fn found(topic: &TopicName, qos: Qos) -> Result<Found, Failure> {
+pub fn found(alloc: Global, topic: &TopicName, qos: Qos) -> Result<Found, Failure> {
     Ok(Found {
         topic: topic.copy()?,
-        message: message(PAYLOAD, qos, None),
+        message: message(alloc, PAYLOAD, qos)?,
     })
 }
 
-/// The topic of this number.
+/// The topic of this number. In a tree of levels, of four topics in a row the first is new at the root, the second in the middle,
+/// the third below a message, and the fourth above others.
 fn topic(alloc: Global, number: u64) -> Result<TopicName, Failure> {
-    let text = format!(in alloc; "fleet/{number:06}/state")?;
+    let device = number / 4;
+    let text = match number % 4 {
+        0 => format!(in alloc; "{device:06}/door/state")?,
+        1 => format!(in alloc; "{device:06}/door/lock")?,
+        2 => format!(in alloc; "{device:06}/door/state/since")?,
+        _ => format!(in alloc; "{device:06}")?,
+    };
     Ok(TopicName::read(alloc, text.as_str().as_bytes())?)
 }
 
-/// An entry of place 1.
+/// An entry of place 1 with this serial, which is not 0.
 fn entry(serial: u64, operation: Operation) -> Result<Entry, Failure> {
     let origin = Origin::new(1, serial).ok_or(Failure::Wrong)?;
     Ok(Entry { origin, operation })
@@ -48,11 +50,8 @@ fn entry(serial: u64, operation: Operation) -> Result<Entry, Failure> {
 
 /// A Set of the topic of this number.
 pub fn set(alloc: Global, serial: u64, number: u64) -> Result<Entry, Failure> {
-    let topic = topic(alloc, number)?;
-    entry(
-        serial,
-        Operation::Set(topic, message(PAYLOAD, Qos::AtMostOnce, None)),
-    )
+    let message = message(alloc, PAYLOAD, Qos::AtMostOnce)?;
+    entry(serial, Operation::Set(topic(alloc, number)?, message))
 }
 
 /// A Clear of the topic of this number.

@@ -1,6 +1,4 @@
-//! What a catalogue shows after memory was refused to `add`.
-
-ghost use Rattle.std.specs.Prelude.{◌<◌, ◌^◌};
+//! What a catalogue shows after memory was refused to `add` or to `copy`.
 
 use crate::failure::{Failure, expect};
 use crate::samples::set;
@@ -10,7 +8,10 @@ use rs_topic::TopicFilter;
 use std::alloc::{AllocError, Global};
 
 /// How many topics are added: so many that the catalogue has to grow more than once.
-const TOPICS: u32 = 100;
+const TOPICS: u32 = 60;
+
+/// It is copied after the first topic, and each time that so many more were added.
+const COPIED: u32 = 24;
 
 /// What a catalogue shows.
 #[derive(Drop)]
@@ -57,7 +58,8 @@ fn add_new<C: Catalogue>(
     all: &TopicFilter,
     number: u32,
 ) -> Result<bool, Failure> {
-    let entry = set(alloc, u64::from(number))?;
+    let number = u64::from(number);
+    let entry = set(alloc, number + 1, number)?;
     let again = entry.copy()?;
     let before = shown_by(catalogue, all)?;
     match add(catalogue, entry) {
@@ -70,17 +72,34 @@ fn add_new<C: Catalogue>(
     Ok(true)
 }
 
-/// Adds new topics one after the other, and returns how often memory was refused for one.
-pub fn refused<C: Catalogue + Drop>(alloc: Global) -> Result<u32, Failure> {
+/// Copies the catalogue, and returns whether memory was refused for the copy. Then another copy must be made. The copy and the
+/// catalogue must show the same as before.
+fn copy<C: Catalogue + Drop>(catalogue: &C, all: &TopicFilter) -> Result<bool, Failure> {
+    let before = shown_by(catalogue, all)?;
+    let first = catalogue.copy();
+    let refused = first.is_err();
+    let copy = first
+        .or_else(|_| catalogue.copy())
+        .map_err(|_| Failure::Wrong)?;
+    expect(is_same(&before, &shown_by(&copy, all)?))?;
+    expect(is_same(&before, &shown_by(catalogue, all)?))?;
+    Ok(refused)
+}
+
+/// Adds new topics one after the other, copies the catalogue now and then, and prints how often memory was refused for a topic and
+/// for a copy.
+pub fn work<C: Catalogue + Drop>(rt: &impl Print, alloc: Global) -> Result<(), Failure> {
     let limit = TopicLimit::new(TOPICS).ok_or(Failure::Wrong)?;
     let mut catalogue = C::new(alloc, limit)?;
     let all = TopicFilter::read(alloc, b"#")?;
-    let mut refused = 0u32;
+    let (mut adds, mut copies) = (0u32, 0u32);
     for number in 0..TOPICS {
-        if add_new(alloc, &mut catalogue, &all, number)? {
-            refused = refused.saturating_add(1);
+        adds = adds.saturating_add(u32::from(add_new(alloc, &mut catalogue, &all, number)?));
+        if number % COPIED == 0 {
+            copies = copies.saturating_add(u32::from(copy(&catalogue, &all)?));
         }
     }
     expect(catalogue.count() == TOPICS)?;
-    Ok(refused)
+    println!(rt; "refused {adds} {copies}")?;
+    Ok(())
 }

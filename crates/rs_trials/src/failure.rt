@@ -1,5 +1,6 @@
 //! Why the program ends without its answer.
 
+use rs_packet::PacketFault;
 use rs_topic::TopicFault;
 use rs_window::WindowFault;
 use std::alloc::{AllocError, AllocFailed};
@@ -8,22 +9,25 @@ use thiserror::Error;
 
 #[derive(Clone, Copy, Debug, Error)]
 pub enum Failure {
-    #[error("give catalogue or window")]
+    #[error("give a job and its numbers, as bench/run and checks/out_of_memory do")]
     Words,
+    #[error("standard input has to be one PUBLISH or SUBSCRIBE")]
+    Input,
     #[error("out of memory")]
     NoMemory,
     #[error("a call gave a wrong answer")]
     Wrong,
-    #[error("the words cannot be read, or the output cannot be written")]
+    #[error("the clock, the words, the input or the output failed")]
     Io,
 }
 
 impl Failure {
-    /// The exit status: 1 if memory, the words or the output failed, 2 for words that are refused, 3 for a wrong answer.
+    /// The exit status: 1 if memory, the clock, the words, the input or the output failed, 2 for words or an input that are refused,
+    /// 3 for a wrong answer.
     pub fn status(&self) -> u8 {
         match self {
             Failure::NoMemory | Failure::Io => 1,
-            Failure::Words => 2,
+            Failure::Words | Failure::Input => 2,
             Failure::Wrong => 3,
         }
     }
@@ -71,5 +75,11 @@ impl From<WindowFault> for Failure {
             WindowFault::NoMemory => Failure::NoMemory,
             _ => Failure::Wrong,
         }
+    }
+}
+
+impl From<PacketFault> for Failure {
+    fn from(_fault: PacketFault) -> Failure {
+        Failure::Input
     }
 }

@@ -18,7 +18,7 @@ fn messages(alloc: Global, count: u32) -> Result<Vec<Found>, Failure> {
         } else {
             Qos::ExactlyOnce
         };
-        all.push(found(&topic, qos)?)?;
+        all.push(found(alloc, &topic, qos)?)?;
     }
     Ok(all)
 }
@@ -50,8 +50,11 @@ fn round(alloc: Global, window: &mut Window) -> Result<(), Failure> {
     Ok(())
 }
 
-/// Makes so many rounds in a window in which so many messages wait, and prints their number.
+/// Makes so many rounds in a window in which so many messages wait, 1 to 100,000, and prints their number. It is timed from outside.
 pub fn work(rt: &impl Print, alloc: Global, count: u32, rounds: u32) -> Result<(), Failure> {
+    if count == 0 || count > 100_000 {
+        return Err(Failure::Words);
+    }
     let mut window = Window::new(alloc, 65535, u32::MAX)?;
     window.queue(messages(alloc, count)?, Qos::ExactlyOnce, None)?;
     for _ in 0..rounds {

@@ -14,7 +14,7 @@ const LENGTHS: [u32; 3] = [9, 40, 200];
 fn messages(alloc: Global, topic: &TopicName, count: u32) -> Result<Vec<Found>, Failure> {
     let mut all = Vec::with_capacity(alloc, count as usize)?;
     for _ in 0..count {
-        all.push(found(topic)?)?;
+        all.push(found(alloc, topic, Qos::AtMostOnce)?)?;
     }
     Ok(all)
 }
@@ -72,8 +72,8 @@ fn queue_later(
     Ok(refused)
 }
 
-/// Queues messages behind one that waits, more each time, and returns how often memory was refused for them.
-pub fn refused(alloc: Global) -> Result<u32, Failure> {
+/// Queues messages behind one that waits, more each time, and prints how often memory was refused for them.
+pub fn work(rt: &impl Print, alloc: Global) -> Result<(), Failure> {
     let mut window = Window::new(alloc, 1, u32::MAX)?;
     let topics = Topics {
         waiting: TopicName::read(alloc, b"a")?,
@@ -85,5 +85,6 @@ pub fn refused(alloc: Global) -> Result<u32, Failure> {
             refused = refused.saturating_add(1);
         }
     }
-    Ok(refused)
+    println!(rt; "refused {refused}")?;
+    Ok(())
 }

@@ -2,7 +2,7 @@
 
 ghost use Rattle.std.specs.Prelude.{◌<◌, ◌^◌};
 
-use crate::failure::Failure;
+use crate::failure::{Failure, expect};
 use crate::samples::{clear, set};
 use rs_message::Entry;
 use rs_store::{Catalogue, MapCatalogue, TopicLimit, add};
@@ -39,9 +39,7 @@ fn clears(alloc: Global, topics: u32, used: u32) -> Result<Vec<Entry>, Failure> 
 
 fn add_all<C: Catalogue>(catalogue: &mut C, entries: Vec<Entry>) -> Result<(), Failure> {
     for entry in entries {
-        if add(catalogue, entry).is_err() {
-            return Err(Failure::Wrong);
-        }
+        expect(add(catalogue, entry).is_ok())?;
     }
     Ok(())
 }
@@ -57,9 +55,7 @@ fn timed<H: Print + Clock, C: Catalogue>(
     let start = Instant::now(rt)?;
     add_all(catalogue, entries)?;
     let took = start.elapsed(rt)?.as_micros();
-    if catalogue.count() != wanted {
-        return Err(Failure::Wrong);
-    }
+    expect(catalogue.count() == wanted)?;
     println!(rt; "{name} {took}")?;
     Ok(())
 }
@@ -75,18 +71,20 @@ fn answered<H: Print + Clock, C: Catalogue>(
     let start = Instant::now(rt)?;
     let found = catalogue.answer(filter, 0)?;
     let took = start.elapsed(rt)?.as_micros();
-    if found.len() != wanted as usize {
-        return Err(Failure::Wrong);
-    }
+    expect(found.len() == wanted as usize)?;
     println!(rt; "{name} {took}")?;
     Ok(())
 }
 
 /// Prints, a line each, how long it takes to set so many topics, to replace each, to answer a filter that matches all of them and one
 /// that matches one, and to clear each.
-pub fn measure<H: Print + Clock>(rt: &H, alloc: Global, limit: TopicLimit) -> Result<(), Failure> {
+pub fn measure<H: Print + Clock, C: Catalogue + Drop>(
+    rt: &H,
+    alloc: Global,
+    limit: TopicLimit,
+) -> Result<(), Failure> {
     let topics = limit.get();
-    let mut catalogue = MapCatalogue::new(alloc, limit)?;
+    let mut catalogue = C::new(alloc, limit)?;
     timed(rt, &mut catalogue, "set", sets(alloc, topics, 0)?, topics)?;
     timed(
         rt,
@@ -97,8 +95,18 @@ pub fn measure<H: Print + Clock>(rt: &H, alloc: Global, limit: TopicLimit) -> Re
     )?;
     let all = TopicFilter::read(alloc, b"#")?;
     answered(rt, &catalogue, "answer_all", &all, topics)?;
-    let one = TopicFilter::read(alloc, b"fleet/000000/#")?;
+    let one = TopicFilter::read(alloc, b"000000/door/lock")?;
     answered(rt, &catalogue, "answer_one", &one, 1)?;
     let used = topics.saturating_mul(2);
     timed(rt, &mut catalogue, "clear", clears(alloc, topics, used)?, 0)
+}
+
+/// Keeps so many messages in one catalogue.
+pub fn keep(alloc: Global, limit: TopicLimit) -> Result<(), Failure> {
+    let mut catalogue = MapCatalogue::new(alloc, limit)?;
+    for number in 0..limit.get() {
+        let number = u64::from(number);
+        expect(add(&mut catalogue, set(alloc, number + 1, number)?).is_ok())?;
+    }
+    Ok(())
 }

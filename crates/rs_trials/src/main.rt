@@ -1,0 +1,50 @@
+//! Works single calls of the crates, for the checks and the benchmark.
+//!
+//! `refuse map`, `refuse tree`, `refuse window` and `refuse versions` look at what is shown after memory was refused. The other jobs
+//! are timed: `map TOPICS` and `tree TOPICS`, the calls of a catalogue in which so many topics, 1 to 65,536, hold a message; `window
+//! COUNT ROUNDS`, rounds of a window in which so many messages wait, 1 to 100,000; `decode ROUNDS` and `encode ROUNDS`, the one packet
+//! on standard input, a PUBLISH or a SUBSCRIBE, and what answers it; `sessions COUNT`, short sessions one after the other over one
+//! store in memory; `versions TOPICS SEATS MILLIS`, the puts into a store of versions that so many seats read meanwhile. `keep
+//! TOPICS` and `keep_versions TOPICS` keep so many messages in one catalogue and in a store of versions.
+//!
+//! The status is 1 if memory, the clock, the input or the output failed, 2 for other words, and 3 at a wrong answer.
+#![tactic(auto)]
+
+mod failure;
+mod refusals;
+mod samples;
+mod times;
+
+use crate::failure::Failure;
+use std::env;
+use std::env::Env;
+use std::io::Read;
+use std::process::ExitCode;
+use std::rt::Clock;
+use std::sync::Wait;
+use std::thread::Threads;
+
+fn run<H: Env + AllocGlobal + Print + Clock + Wait + Threads + Sync, R: Read>(
+    rt: &H,
+    input: &mut R,
+) -> Result<(), Failure> {
+    let alloc = rt.alloc();
+    let words = env::args(rt)?.skip(1).collect::<Vec<String>>(rt.alloc())?;
+    let [name, rest @ ..] = words.as_slice() else {
+        return Err(Failure::Words);
+    };
+    match (name.as_str(), rest) {
+        ("refuse", [word]) => refusals::work(rt, alloc, word.as_str()),
+        (name, rest) => times::work(rt, alloc, input, name, rest),
+    }
+}
+
+fn main(rt: HostRuntime) -> ExitCode {
+    match run(&rt, &mut rt.stdin()) {
+        Ok(()) => ExitCode::SUCCESS,
+        Err(failure) => {
+            let _ = eprintln!(rt; "rs_trials: {failure}");
+            ExitCode::from(failure.status())
+        }
+    }
+}

@@ -1,0 +1,63 @@
+//! The timed work of the benchmark, each kind with a number of rounds. Times are printed in microseconds.
+
+mod catalogue;
+mod codec;
+mod sessions;
+mod versions;
+mod window;
+
+use crate::failure::Failure;
+use rs_store::{MapCatalogue, TopicLimit, TreeCatalogue};
+use std::alloc::Global;
+use std::io::Read;
+use std::rt::Clock;
+use std::sync::Wait;
+use std::thread::Threads;
+
+/// The number that a word is.
+fn number(word: &String) -> Result<u32, Failure> {
+    word.as_str().parse::<u32>().map_err(|_| Failure::Words)
+}
+
+/// The number of topics that a word is.
+fn topics(word: &String) -> Result<TopicLimit, Failure> {
+    TopicLimit::new(number(word)?).ok_or(Failure::Words)
+}
+
+/// Does the job of this name with one number.
+fn work_one<H: AllocGlobal + Print + Clock + Wait, R: Read>(
+    rt: &H,
+    alloc: Global,
+    input: &mut R,
+    name: &str,
+    word: &String,
+) -> Result<(), Failure> {
+    match name {
+        "map" => catalogue::measure::<H, MapCatalogue>(rt, alloc, topics(word)?),
+        "tree" => catalogue::measure::<H, TreeCatalogue>(rt, alloc, topics(word)?),
+        "keep" => catalogue::keep(alloc, topics(word)?),
+        "keep_versions" => versions::keep(rt, alloc, topics(word)?),
+        "decode" => codec::measure_decode(rt, alloc, input, number(word)?),
+        "encode" => codec::measure_encode(rt, alloc, input, number(word)?),
+        "sessions" => sessions::measure(rt, alloc, number(word)?),
+        _ => Err(Failure::Words),
+    }
+}
+
+/// Does the job of this name with these numbers.
+pub fn work<H: AllocGlobal + Print + Clock + Wait + Threads + Sync, R: Read>(
+    rt: &H,
+    alloc: Global,
+    input: &mut R,
+    name: &str,
+    words: &[String],
+) -> Result<(), Failure> {
+    match (name, words) {
+        (_, [one]) => work_one(rt, alloc, input, name, one),
+        ("window", [count, rounds]) => window::work(rt, alloc, number(count)?, number(rounds)?),
+        ("versions", [limit, seats, rounds]) => {
+            versions::measure(rt, alloc, topics(limit)?, number(seats)?, number(rounds)?)
+        }
+        _ => Err(Failure::Words),
+    }
+}
