@@ -1,4 +1,4 @@
-//! A writer that looks where it is flushed.
+//! A writer that notes at which byte it is flushed.
 
 ghost use Rattle.std.specs.Prelude.{◌<◌};
 
