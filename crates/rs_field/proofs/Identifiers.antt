@@ -7,6 +7,7 @@ use Rattle.std.proofs.lemmas.List.{get_or-set_same, get_or-set_other, length-set
 use Rattle.rs_field.specs.declared.property.Identifier.{Identifier}
 use Rattle.rs_field.specs.declared.property.Identifier.TheVariants as id
 use Rattle.rs_field.specs.declared.property.Property.{Property}
+use Rattle.rs_field.specs.declared.property.TheConstants.{IDENTIFIERS}
 use Rattle.rs_field.specs.Properties.{varint, varint_end, low_first, number, identifier, may_repeat, none_yet, MayStandBeside, AreOnce}
 use Rattle.rs_field.specs.Reading.{identifiers, identifier_of}
 use Rattle.rs_field.proofs.Numbers.{chosen}
@@ -89,7 +90,7 @@ number_small id.TopicAlias = omega arith
 number_small id.UserProperty = omega arith
 number_small id.MaximumPacketSize = omega arith
 
-pub number_below : (i : Identifier) → number i < 40
+pub number_below : (i : Identifier) → number i < IDENTIFIERS
 number_below id.PayloadFormat = omega arith
 number_below id.MessageExpiry = omega arith
 number_below id.ContentType = omega arith
@@ -166,7 +167,7 @@ repeats_is_user id.UserProperty e = refl
 repeats_is_user id.MaximumPacketSize e = absurd cc
 
 -- what is new after a property too is new before it, and of its identifier only as a user property
-after : (before : List Bool) (p q : Property) → length before ≡ 40 → IsNew (marked before p) q → IsNew before q × (identifier p ≡ identifier q → identifier p ≡ id.UserProperty)
+after : (before : List Bool) (p q : Property) → length before ≡ IDENTIFIERS → IsNew (marked before p) q → IsNew before q × (identifier p ≡ identifier q → identifier p ≡ id.UserProperty)
 after before p q len h =
     let lt : number (identifier p) < length before = omega (arith, len, number_below (identifier p)) in
     elim (or_is (may_repeat (identifier q)) (stood (marked before p) q) h) [
@@ -179,7 +180,7 @@ after before p q len h =
           (or_from (may_repeat (identifier q)) (stood before q) (inr (sym other ∙ f)), λ s. absurd (ne (ap number (sym s))))
     ]
 
-all_after : (before : List Bool) (p : Property) (qs : List Property) → length before ≡ 40 → AllNew (marked before p) qs → AllNew before qs × MayStandBeside p qs
+all_after : (before : List Bool) (p : Property) (qs : List Property) → length before ≡ IDENTIFIERS → AllNew (marked before p) qs → AllNew before qs × MayStandBeside p qs
 all_after before p [] len h = (tt, tt)
 all_after before p (q ∷ qs) len h =
     let one = after before p q len h.0 in
@@ -187,7 +188,7 @@ all_after before p (q ∷ qs) len h =
     ((one.0, others.0), (one.1, others.1))
 
 -- by flags, so by pairs
-pub once_when_new : (before : List Bool) (ps : List Property) → length before ≡ 40 → AreNew before ps → AllNew before ps × AreOnce ps
+pub once_when_new : (before : List Bool) (ps : List Property) → length before ≡ IDENTIFIERS → AreNew before ps → AllNew before ps × AreOnce ps
 once_when_new before [] len h = (tt, tt)
 once_when_new before (p ∷ ps) len h =
     let others = once_when_new (marked before p) ps (length-set before (number (identifier p)) true ∙ len) h.1 in

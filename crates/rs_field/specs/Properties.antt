@@ -4,6 +4,7 @@ use Rattle.std.specs.List.{flat_map}
 use Rattle.rs_field.specs.declared.property.Identifier.{Identifier}
 use Rattle.rs_field.specs.declared.property.Identifier.TheVariants as id
 use Rattle.rs_field.specs.declared.property.Property.{Property}
+use Rattle.rs_field.specs.declared.property.TheConstants.{IDENTIFIERS}
 use Rattle.rs_field.specs.declared.property.Property.TheVariants as property
 use Rattle.rs_field.specs.declared.property.Place.{Place}
 use Rattle.rs_field.specs.declared.property.Place.TheVariants as place
@@ -134,7 +135,7 @@ may_repeat _ = false
 
 -- whether each identifier has occurred before, by its number
 abbrev pub none_yet : List Bool
-none_yet = replicate 40 false
+none_yet = replicate IDENTIFIERS false
 
 -- ---- the properties of a packet, in any order
 

@@ -16,7 +16,7 @@ pub enum PacketFault {
     #[error("the packet breaks the protocol: see that a client may send its type, properties and values")]
     Protocol,
     /// The packet is longer than the server reads: reason code 0x95 (3.2.2.3.6).
-    #[error("the packet is longer than 262144 bytes: send less in one packet")]
+    #[error("the packet is longer than the Maximum Packet Size of CONNACK: send less in one packet")]
     TooLarge,
     /// A CONNECT of another protocol, or of another version: reason code 0x84 (3.1.2.2).
     #[error("the protocol is not MQTT 5.0: connect with protocol version 5")]

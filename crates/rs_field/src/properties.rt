@@ -13,7 +13,7 @@ use crate::binary::{put_binary, put_string, read_binary, read_part, read_string}
 use crate::fault::PacketFault;
 use crate::kept::{Properties, PropertyFields};
 use crate::number::{put_u32, read_u8, read_u16, read_u32};
-use crate::property::{Found, Identifier, Place, Property};
+use crate::property::{Found, IDENTIFIERS, Identifier, Place, Property};
 use crate::subscription::SubscriptionId;
 use crate::varint::{put_varint, read_varint, varint_len};
 use bytes::Bytes;
@@ -21,7 +21,11 @@ use rs_topic::Text;
 use std::alloc::{AllocError, Global};
 
 /// The identifier, if this packet may have it. Malformed or Protocol if not (2.2.2.2).
-fn judge(id: Option<Identifier>, place: Place, seen: &[bool; 40]) -> Result<Identifier, PacketFault>
+fn judge(
+    id: Option<Identifier>,
+    place: Place,
+    seen: &[bool; IDENTIFIERS],
+) -> Result<Identifier, PacketFault>
     ensures { Gives (λ i. i) result (judged place seen.now id) }
 {
     let Some(id) = id else {
@@ -116,7 +120,11 @@ fn read_value(rest: &mut Bytes, id: Identifier) -> Result<Property, PacketFault>
 }
 
 #[tactic(auto, unfolding(crate::specs::Reading::property_at))]
-fn read_property(rest: &mut Bytes, place: Place, seen: &[bool; 40]) -> Result<Property, PacketFault>
+fn read_property(
+    rest: &mut Bytes,
+    place: Place,
+    seen: &[bool; IDENTIFIERS],
+) -> Result<Property, PacketFault>
     ensures read { Gives (λ p. (p, rest.new)) result (property_at place seen.now rest.old) }
     ensures shorter { OnOk result (length rest.new < length rest.old) }
 {
@@ -129,7 +137,7 @@ fn found_in(alloc: Global, section: Bytes, place: Place) -> Result<Found, Packet
     ensures { Gives (λ f. f) result (gather_on nothing (properties_in (length section) place none_yet section)) }
 {
     let mut found = Found::new(alloc);
-    let mut seen = [false; 40];
+    let mut seen = [false; IDENTIFIERS];
     let mut rest = section;
     'next: while !rest.is_empty() {
         let property = read_property(&mut rest, place, &seen)?;

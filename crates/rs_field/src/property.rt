@@ -1,12 +1,16 @@
 //! The properties that a client may send (2.2.2.2), and the packets that may have them.
 
 ghost use Rattle.std.specs.Prelude.{◌≡◌, ◌<◌, OnOk};
+ghost use Rattle.rs_field.specs.declared.property.TheConstants.{IDENTIFIERS};
 
 use crate::subscription::SubscriptionId;
 use bytes::Bytes;
 use rs_topic::Text;
 use std::alloc::{AllocError, Global};
 use std::marker::Model;
+
+/// How many numbers an identifier may have: they are less than this (2.2.2.2).
+pub(crate) const IDENTIFIERS: usize = 40;
 
 /// Which property it is (2.2.2.2).
 #[derive(Clone, Copy)]
@@ -139,7 +143,7 @@ impl Identifier {
     /// The number of this identifier (2.2.2.2).
     pub fn number(self) -> u8
         ensures value { result ≡ number self }
-        ensures small { result < 40 }
+        ensures small { result < IDENTIFIERS }
     {
         match self {
             Identifier::PayloadFormat => 0x01,

@@ -30,3 +30,22 @@ fn digits_are_read(rt: HostRuntime) -> Result<(), Fail> {
     }
     Ok(())
 }
+
+#[test]
+fn faults_have_a_text(rt: HostRuntime) -> Result<(), Fail> {
+    let rows = [
+        (
+            HexFault::NotHex,
+            "the line is not an even number of hex digits",
+        ),
+        (
+            HexFault::NoMemory,
+            "out of memory for the bytes of the line",
+        ),
+    ];
+    for (fault, text) in rows {
+        let shown = format!(in rt.alloc(); "{fault}")?;
+        assert_eq!(rt; shown.as_str(), text);
+    }
+    Ok(())
+}

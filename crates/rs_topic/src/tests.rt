@@ -286,7 +286,7 @@ static SHOWN: [Shown; 9] = [
     Shown {
         fault: TopicFault::TooLong,
         code: 2,
-        text: "a text has more than 65,535 bytes: shorten it",
+        text: "a text has more than 65535 bytes: shorten it",
     },
     Shown {
         fault: TopicFault::NotUtf8,

@@ -7,7 +7,7 @@ ghost use Rattle.rs_topic.specs.Topics.{is_plain, first_fault, text_faults, read
 ghost use Rattle.rs_topic.specs.Meanings.{IsReadAs, Reads};
 ghost use Rattle.rs_topic.specs.declared.text.TopicFault.TheVariants.{NoMemory};
 
-use crate::limits::MAX_TEXT_SIZE;
+use crate::limits::{MAX_LEVELS, MAX_TEXT_SIZE};
 use bytes::Bytes;
 use std::alloc::{AllocError, Global};
 use std::marker::Model;
@@ -20,7 +20,7 @@ pub enum TopicFault {
     #[error("a topic is empty: give at least one character")]
     Empty,
     /// 2: there are more than [`MAX_TEXT_SIZE`](crate::MAX_TEXT_SIZE) bytes (1.5.4).
-    #[error("a text has more than 65,535 bytes: shorten it")]
+    #[error("a text has more than {} bytes: shorten it", MAX_TEXT_SIZE)]
     TooLong,
     /// 3: the bytes are not UTF-8 (1.5.4).
     #[error("a text is not UTF-8: encode it as UTF-8")]
@@ -35,7 +35,7 @@ pub enum TopicFault {
     #[error("a wildcard is misplaced: `+` has to fill a level of a topic filter, and `#` its last level")]
     BadWildcard,
     /// 7: there are more than [`MAX_LEVELS`](crate::MAX_LEVELS) levels (this server's choice).
-    #[error("a topic has more than 128 levels: use fewer slashes")]
+    #[error("a topic has more than {} levels: use fewer slashes", MAX_LEVELS)]
     TooManyLevels,
     /// 8: a topic filter begins with `$share/`: shared subscriptions (4.8.2) are not supported.
     #[error("shared subscriptions are not supported: leave out `$share/` and the share name")]

@@ -132,3 +132,21 @@ fn a_failed_read_goes_on(rt: HostRuntime) -> Result<(), Fail> {
     }
     Ok(())
 }
+
+// One line of 600,002 digits, which takes many reads of the input.
+#[test]
+fn a_long_line_is_read(rt: HostRuntime) -> Result<(), Fail> {
+    let text = vec![in rt.alloc(); b'0'; 600_002]?;
+    let mut lines = HexReader::new(rt.alloc(), text.as_slice());
+    let mut count = 0usize;
+    for _ in 0..1000 {
+        let mut buf = [1u8; 5000];
+        match lines.read(&mut buf)? {
+            0 => break,
+            n => count = count.saturating_add(n),
+        }
+    }
+    assert_eq!(rt; count, 300_001);
+    assert!(rt; lines.not_hex().is_none());
+    Ok(())
+}
