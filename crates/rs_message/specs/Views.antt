@@ -3,4 +3,4 @@ use Rattle.rs_message.specs.Values.{MessageValue}
 use Rattle.rs_message.specs.declared.message.Message.TheInside.{Inside}
 
 abbrev pub message_view : Inside → MessageValue
-message_view m = record { payload = m.payload; qos = m.qos; received = m.received; expiry = m.expiry; properties = m.properties }
+message_view m = record { payload = m.content.payload; qos = m.qos; received = m.received; expiry = m.expiry; properties = m.content.properties }

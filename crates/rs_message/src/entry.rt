@@ -1,6 +1,6 @@
 //! The entries of the store's history.
 
-ghost use Rattle.std.specs.Prelude.{◌≡◌, ◌+◌, ◌<◌, ◌≤◌, ◌&&◌, nat_lt, nat_le, if◌then◌else◌, Some, None, IfOk, length};
+ghost use Rattle.std.specs.Prelude.{◌≡◌, ◌≢◌, ◌+◌, ◌<◌, ◌≤◌, ◌&&◌, nat_lt, nat_le, if◌then◌else◌, [], true, Some, None, IfOk, IfErr, length};
 ghost use Rattle.rs_packet.specs.declared.limits.TheConstants.{MAX_PACKET_SIZE};
 ghost use Rattle.rs_packet.specs.Replies.{message_size};
 ghost use Rattle.rs_message.specs.Messages.{operation_of};
@@ -9,7 +9,7 @@ use crate::message::Message;
 use bytes::Bytes;
 use rs_packet::{Properties, Qos};
 use rs_topic::TopicName;
-use std::alloc::AllocError;
+use std::alloc::{AllocError, Global};
 use std::marker::Model;
 
 /// The greatest number of a place (this server's choice). The first place is 1.
@@ -87,8 +87,9 @@ impl Operation {
 
     /// What a PUBLISH changes (3.3.1.3): with a payload it sets the topic's message, with an empty one it clears the topic,
     /// and None without RETAIN. `received` is when the packet came, and `expiry` its Message Expiry Interval, both in seconds.
-    /// Topic, payload and properties are moved, so it takes no memory.
+    /// The error says that memory for the message was refused, so that the PUBLISH has RETAIN and a payload.
     pub fn of(
+        alloc: Global,
         retain: bool,
         topic: TopicName,
         payload: Bytes,
@@ -96,18 +97,19 @@ impl Operation {
         received: u64,
         expiry: Option<u32>,
         properties: Properties,
-    ) -> Option<Operation>
+    ) -> Result<Option<Operation>, AllocError>
         requires { message_size expiry properties payload ≤ MAX_PACKET_SIZE }
-        ensures { result ≡ operation_of retain topic (record { payload = payload; qos = qos; received = received; expiry = expiry; properties = properties }) }
+        ensures ok { IfOk result (λ o. o ≡ operation_of retain topic (record { payload = payload; qos = qos; received = received; expiry = expiry; properties = properties })) }
+        ensures err { IfErr result (λ _. (retain ≡ true) × (payload ≢ [])) }
     {
         if !retain {
-            return None;
+            return Ok(None);
         }
         if payload.is_empty() {
-            return Some(Operation::Clear(topic));
+            return Ok(Some(Operation::Clear(topic)));
         }
-        let message = Message::new(payload, qos, received, expiry, properties);
-        Some(Operation::Set(topic, message))
+        let message = Message::new(alloc, payload, qos, received, expiry, properties)?;
+        Ok(Some(Operation::Set(topic, message)))
     }
 }
 

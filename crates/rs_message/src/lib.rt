@@ -3,9 +3,9 @@
 //! A PUBLISH with RETAIN 1 sets its topic's message or clears it ([`Operation::of`]). [`Message::remaining`] says how much
 //! time a message has left. An [`Entry`] of the history is one operation and its [`Origin`].
 //!
-//! A message owns no bytes: its payload and its texts are parts of the bytes that its packet was decoded from, and all copies
-//! share these by count. So a message keeps the bytes of its packet in memory, and no others. A caller that decodes from a
-//! buffer with several packets copies the packet first.
+//! All copies of a message share its payload and its properties by one count. It owns no bytes: its payload and its texts are
+//! parts of the bytes that its packet was decoded from. So a message keeps the bytes of its packet in memory, and no others. A
+//! caller that decodes from a buffer with several packets copies the packet first.
 #![tactic(auto)]
 
 mod entry;

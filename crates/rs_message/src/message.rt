@@ -6,18 +6,17 @@ ghost use Rattle.rs_packet.specs.Replies.{message_size};
 ghost use Rattle.rs_message.specs.Messages.{left_of, remaining_of, IsKept};
 
 use bytes::Bytes;
-use rs_packet::{Properties, Qos};
-use std::alloc::AllocError;
+use rs_packet::{MessageContent, Properties, Qos};
+use std::alloc::{AllocError, Global};
 use std::marker::Model;
 
 /// A retained message. Its payload is not empty, and payload and properties together are no longer than a packet may be.
 #[derive(Drop)]
 pub struct Message {
-    payload: Bytes,
+    content: MessageContent,
     qos: Qos,
     received: u64,
     expiry: Option<u32>,
-    properties: Properties,
 }
 
 impl Model for Message {
@@ -57,25 +56,26 @@ fn left_of(expiry: u32, waited: u64) -> Remaining
 
 impl Message {
     /// A message that came at `received`, in seconds, with a Message Expiry Interval of `expiry` seconds or none (3.3.2.3.3).
-    /// It takes no memory.
+    /// The error says that memory was refused.
     pub fn new(
+        alloc: Global,
         payload: Bytes,
         qos: Qos,
         received: u64,
         expiry: Option<u32>,
         properties: Properties,
-    ) -> Message
+    ) -> Result<Message, AllocError>
         requires some { payload ≢ [] }
         requires fits { message_size expiry properties payload ≤ MAX_PACKET_SIZE }
-        ensures { result ≡ record { payload = payload; qos = qos; received = received; expiry = expiry; properties = properties } }
+        ensures { IfOk result (λ m. m ≡ record { payload = payload; qos = qos; received = received; expiry = expiry; properties = properties }) }
     {
-        Message {
-            payload,
+        let content = MessageContent::new(alloc, payload, properties)?;
+        Ok(Message {
+            content,
             qos,
             received,
             expiry,
-            properties,
-        }
+        })
     }
 
     /// The payload, which is not empty.
@@ -83,7 +83,7 @@ impl Message {
         ensures value { result.now ≡ self.now.payload }
         ensures kept { IsKept self.now }
     {
-        &self.payload
+        self.content.payload()
     }
 
     /// The QoS that it was published with.
@@ -111,7 +111,7 @@ impl Message {
     pub fn properties(&self) -> &Properties
         ensures { result.now ≡ self.now.properties }
     {
-        &self.properties
+        self.content.properties()
     }
 
     /// The time that it has left at `now`, in seconds (3.3.2.3.3). If `now` is before it came, the whole interval is left.
@@ -124,33 +124,31 @@ impl Message {
         }
     }
 
-    /// An equal message, which shares the payload and the properties: none of their bytes is copied. The error says that the
-    /// count of their owners is full.
+    /// An equal message, which shares the payload and the properties: none of their bytes is copied, and it takes no memory. The
+    /// error says that the count of their owners is full.
     pub fn copy(&self) -> Result<Message, AllocError>
         ensures { IfOk result (λ m. m ≡ self.now) }
     {
         Ok(Message {
-            payload: self.payload.clone()?,
+            content: self.content.copy()?,
             qos: self.qos,
             received: self.received,
             expiry: self.expiry,
-            properties: self.properties.copy()?,
         })
     }
 
-    /// Its fields.
-    pub fn into_parts(self) -> (Bytes, Qos, u64, Option<u32>, Properties)
-        ensures parts { self ≡ record { payload = result.0; qos = result.1; received = result.2; expiry = result.3; properties = result.4 } }
+    /// Its payload and its properties, without its interval.
+    pub fn into_content(self) -> MessageContent
+        ensures content { result ≡ record { payload = self.payload; properties = self.properties } }
         ensures kept { IsKept self }
     {
         let Message {
-            payload,
-            qos,
-            received,
-            expiry,
-            properties,
+            content,
+            qos: _,
+            received: _,
+            expiry: _,
         } = self;
-        (payload, qos, received, expiry, properties)
+        content
     }
 }
 
@@ -163,11 +161,11 @@ impl PartialEq for Message {
     ghost laws = { partial_equiv_from_equiv message_eq_equiv };
 
     fn eq(&self, other: &Message) -> bool {
-        self.payload == other.payload
+        *self.content.payload() == *other.content.payload()
             && self.qos.level() == other.qos.level()
             && self.received == other.received
             && self.expiry == other.expiry
-            && self.properties == other.properties
+            && *self.content.properties() == *other.content.properties()
     }
 }
 

@@ -10,11 +10,16 @@ use std::alloc::{AllocError, Global};
 use std::test::Fail;
 
 #[tactic(auto, using(crate::proofs::Sizes::small_message))]
-fn received_at_100(payload: &'static [u8], expiry: Option<u32>) -> Message
+fn received_at_100(
+    alloc: Global,
+    payload: &'static [u8],
+    expiry: Option<u32>,
+) -> Result<Message, AllocError>
     requires some { payload.now ≢ [] }
     requires small { length payload.now ≤ 1000 }
 {
     Message::new(
+        alloc,
         Bytes::from_static(payload),
         Qos::AtLeastOnce,
         100,
@@ -25,7 +30,7 @@ fn received_at_100(payload: &'static [u8], expiry: Option<u32>) -> Message
 
 #[test]
 fn interval_of_10(rt: HostRuntime) -> Result<(), Fail> {
-    let message = received_at_100(b"x", Some(10));
+    let message = received_at_100(rt.alloc(), b"x", Some(10))?;
     assert_eq!(rt; message.remaining(100), Remaining::Left(10));
     assert_eq!(rt; message.remaining(109), Remaining::Left(1));
     assert_eq!(rt; message.remaining(110), Remaining::Expired);
@@ -36,10 +41,10 @@ fn interval_of_10(rt: HostRuntime) -> Result<(), Fail> {
 
 #[test]
 fn interval_of_0_and_none(rt: HostRuntime) -> Result<(), Fail> {
-    let at_once = received_at_100(b"x", Some(0));
+    let at_once = received_at_100(rt.alloc(), b"x", Some(0))?;
     assert_eq!(rt; at_once.remaining(0), Remaining::Expired);
     assert_eq!(rt; at_once.remaining(100), Remaining::Expired);
-    let for_ever = received_at_100(b"x", None);
+    let for_ever = received_at_100(rt.alloc(), b"x", None)?;
     assert_eq!(rt; for_ever.remaining(u64::MAX), Remaining::Forever);
     Ok(())
 }
@@ -66,6 +71,7 @@ fn published(
 {
     let topic = TopicName::read(alloc, b"a/b")?;
     Ok(Operation::of(
+        alloc,
         retain,
         topic,
         Bytes::from_static(payload),
@@ -73,7 +79,7 @@ fn published(
         7,
         expiry,
         Properties::none(),
-    ))
+    )?)
 }
 
 fn clears(operation: &Option<Operation>) -> bool {
@@ -141,7 +147,7 @@ fn cleared(alloc: Global, place: u8, serial: u64) -> Result<Entry, Fail> {
 fn entry_of_set(alloc: Global) -> Result<Entry, Fail> {
     let origin = Origin::new(1, 1).ok_or("1 is a place")?;
     let topic = TopicName::read(alloc, b"a/b")?;
-    let operation = Operation::Set(topic, received_at_100(b"x", Some(10)));
+    let operation = Operation::Set(topic, received_at_100(alloc, b"x", Some(10))?);
     Ok(Entry { origin, operation })
 }
 
@@ -172,16 +178,17 @@ fn a_set_is_copied(rt: HostRuntime) -> Result<(), Fail> {
 }
 
 #[test]
-fn parts(rt: HostRuntime) -> Result<(), Fail> {
-    let message = received_at_100(b"x", Some(10));
+fn a_message_is_copied(rt: HostRuntime) -> Result<(), Fail> {
+    let message = received_at_100(rt.alloc(), b"x", Some(10))?;
     let copy = message.copy()?;
     assert!(rt; copy == message);
-    assert!(rt; copy != received_at_100(b"x", Some(11)));
-    let (payload, qos, received, expiry, _properties) = copy.into_parts();
-    assert_eq!(rt; payload.as_slice(), b"x".as_slice());
-    assert_eq!(rt; qos, Qos::AtLeastOnce);
-    assert_eq!(rt; received, 100);
-    assert_eq!(rt; expiry, Some(10));
+    assert!(rt; copy != received_at_100(rt.alloc(), b"x", Some(11))?);
+    assert_eq!(rt; copy.qos(), Qos::AtLeastOnce);
+    assert_eq!(rt; copy.received(), 100);
+    assert_eq!(rt; copy.expiry(), Some(10));
+    let content = copy.into_content();
+    assert_eq!(rt; content.payload().as_slice(), b"x".as_slice());
+    assert!(rt; content.properties().fields().is_none());
     Ok(())
 }
 
@@ -192,13 +199,14 @@ fn of_payload(alloc: Global, payload: &[u8], expiry: Option<u32>) -> Result<Mess
     requires fits { length payload.now ≤ 262000 }
 {
     let payload = Bytes::copy_from_slice(alloc, payload)?;
-    Ok(Message::new(
+    Message::new(
+        alloc,
         payload,
         Qos::ExactlyOnce,
         u64::MAX,
         expiry,
         Properties::none(),
-    ))
+    )
 }
 
 /// The largest payload that the tests send.

@@ -26,6 +26,11 @@ pub record ConnectValue : Type 0 where
   pub packet_maximum : Option ℕ
   pub client : Option (List ℕ)
 
+-- 3.3.2.3, 3.3.3: the payload of a message, and the properties that it keeps
+pub record ContentValue : Type 0 where
+  pub payload : List ℕ
+  pub properties : PropertiesValue
+
 pub record PublicationValue : Type 0 where
   pub topic : List ℕ
   pub qos : Qos

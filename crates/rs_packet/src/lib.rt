@@ -11,6 +11,7 @@
 //! made. docs/WIRE.md has the rules in words.
 #![tactic(auto)]
 
+mod content;
 mod decoding;
 mod encoding;
 mod filters;
@@ -19,6 +20,7 @@ mod limits;
 mod packet;
 mod reply;
 
+pub use content::MessageContent;
 pub use decoding::{decode, one_reading, wire_law};
 pub use encoding::{encode, encoded_len, publish_len};
 pub use header::needed_len;

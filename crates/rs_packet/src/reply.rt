@@ -3,10 +3,10 @@
 ghost use Rattle.std.specs.Prelude.{◌≡◌, IfSome};
 ghost use Rattle.rs_field.specs.Forms.{IsSubscriptionId};
 
+use crate::content::MessageContent;
 use crate::limits::MAX_PACKET_SIZE;
 use crate::packet::{PacketId, Qos};
-use bytes::Bytes;
-use rs_field::{Properties, SubscriptionId};
+use rs_field::SubscriptionId;
 use rs_topic::{Text, TopicName};
 use std::marker::Model;
 
@@ -33,10 +33,8 @@ pub struct Publication {
     pub subscription: Option<SubscriptionId>,
     /// The seconds left (3.3.2.3.3); None if the message does not expire.
     pub expiry: Option<u32>,
-    /// The other properties of the message (3.3.2.3), sent in rising order of identifier.
-    pub properties: Properties,
-    /// The payload (3.3.3), of any bytes.
-    pub payload: Bytes,
+    /// The payload (3.3.3), of any bytes, and the other properties of the message (3.3.2.3), sent in rising order of identifier.
+    pub content: MessageContent,
 }
 
 impl Model for Publication {
@@ -52,8 +50,8 @@ impl Model for Publication {
       id = p.id;
       subscription = p.subscription;
       expiry = p.expiry;
-      properties = p.properties;
-      payload = p.payload;
+      properties = p.content.properties;
+      payload = p.content.payload;
     } };
 
     ghost invariant = { λ p. IsPublication (record {
@@ -62,8 +60,8 @@ impl Model for Publication {
       id = p.id;
       subscription = p.subscription;
       expiry = p.expiry;
-      properties = p.properties;
-      payload = p.payload;
+      properties = p.content.properties;
+      payload = p.content.payload;
     }) };
 }
 
@@ -81,12 +79,11 @@ impl Publication {
         id: Option<PacketId>,
         expiry: Option<u32>,
         subscription: Option<SubscriptionId>,
-        properties: Properties,
-        payload: Bytes,
+        content: MessageContent,
     ) -> Publication
         requires id_fits { IdFits qos id }
-        requires message_fits { message_size expiry properties payload ≤ MAX_PACKET_SIZE }
-        ensures { result ≡ record { topic = topic; qos = qos; id = id; subscription = subscription; expiry = expiry; properties = properties; payload = payload } }
+        requires message_fits { message_size expiry content.properties content.payload ≤ MAX_PACKET_SIZE }
+        ensures { result ≡ record { topic = topic; qos = qos; id = id; subscription = subscription; expiry = expiry; properties = content.properties; payload = content.payload } }
     {
         let subscription = in_range(subscription);
         let _topic = topic.as_bytes();
@@ -96,8 +93,7 @@ impl Publication {
             id,
             subscription,
             expiry,
-            properties,
-            payload,
+            content,
         }
     }
 }

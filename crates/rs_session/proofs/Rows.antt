@@ -1,5 +1,5 @@
 -- Lemmas on the rows.
-use Rattle.std.proofs.Common.{◌≡◌, ◌≢◌, ℕ, ◌<◌, ◌≤◌, List, [], ◌∷◌, ◌++◌, refl, sym, subst, ap, append-nil, append_assoc, Bool, true, false, ltb, Option, Some, None, is_some, Result, Ok, Err, ◌∙◌, inl, inr}
+use Rattle.std.proofs.Common.{◌≡◌, ◌≢◌, ℕ, ◌<◌, ◌≤◌, List, [], ◌∷◌, ◌++◌, refl, sym, subst, ap, append-nil, append_assoc, arith, Bool, true, false, ltb, Option, Some, None, is_some, Result, Ok, Err, ◌∙◌, inl, inr}
 use Rattle.std.specs.Prelude.{option_map}
 use Rattle.std.specs.List.{All, list_any}
 use Rattle.std.specs.FinMap as finite
@@ -23,7 +23,7 @@ use Rattle.rs_packet.specs.Values.{Asked, Filter, CodesValue}
 use Rattle.rs_message.specs.declared.entry.Entry.{Entry}
 use Rattle.rs_message.specs.declared.entry.Operation.{Operation}
 use Rattle.rs_message.specs.Values.{MessageValue}
-use Rattle.rs_message.specs.Messages.{operation_of}
+use Rattle.rs_message.specs.Messages.{change_of, operation_of}
 use Rattle.rs_window.specs.Calls as window
 use Rattle.rs_window.specs.declared.identifiers.Kind.{Kind}
 use Rattle.rs_window.specs.declared.identifiers.Kind.TheVariants as kind
@@ -50,6 +50,7 @@ use Rattle.rs_window.specs.Values.{PublishValue}
 use Rattle.rs_session.specs.Subscriptions.{Subscriptions, is_subscribed}
 use Rattle.rs_session.specs.declared.subscriptions.Subscription.{Subscription}
 use Rattle.rs_session.proofs.SubscriptionLemmas.{remove_inserted, get_absent}
+use Rattle.rs_session.proofs.Submitting.{nothing_new}
 use Rattle.rs_session.specs.Steps.{IsAccepted, connect_refusal, outcome_before, outcome_of_alias, outcome_of_topic, outcome_of_id, topic_refusal, IsSettled}
 use Rattle.rs_session.specs.Table.{Answers, AnswersWithoutGate, LeadsTo, IsNeitherConnectNorVersion, fault_reason, packet_limit, connack, open_for, change, topic_reason, acknowledged_by, held_id, is_held, is_one_too_many, holding, IsTaken, IsTopicOrUnread, IsHanded, acknowledgement_of, released_by, released_reason, is_shared_local, Grants, IsGranted, removal_reason, removal_codes, without, without_all, due_for, state_after, With_method, With_will, Connect_refused, Accepted, Connack_too_long, Other_version, Unexpected, In_session, Over, Faulty, With_alias, Bad_topic, Sent_again, Too_many_held, Not_retained, Kept, Topic_unread, Not_kept, Uncertain, Gate_closed, Released, Wrong_acknowledgement, Acknowledged, Shared_no_local, Not_subscribed, Subscribed, Not_unsubscribed, Unsubscribed, Connected_twice, Pinged, Disconnected}
 
@@ -252,6 +253,31 @@ topic_unread p f outcome now at e t d =
     let h = taken p at.state e in
     let is : f ≡ topic_fault.NoMemory = subst IsTopicOrUnread t h.1 in
     (Topic_unread, refl, (p, refl, h.0, t ∙ ap (λ (x : TopicFault). Err x) is, d, record { none_used = refl; same = refl }))
+
+-- a publication that the gate was not asked to keep
+pub not_kept : (p : Publish) (topic : List ℕ) (outcome : Outcome) (now : ℕ) (at : Point Open) → outcome_before p at.state ≡ None → p.topic ≡ Ok topic → p.retain ≡ true → outcome ≡ Replies (acknowledged_by p.qos p.id QuotaExceeded)
+    → LeadsTo (given_at (Whole (packet.Publish p)) now) at [] outcome at
+not_kept p topic outcome now at e t r d =
+    let m : MessageValue = record { payload = p.payload; qos = p.qos; received = now; expiry = p.expiry; properties = p.properties } in
+    let operation = change_of topic m p.payload in (
+      Not_kept,
+      refl,
+      (
+        p,
+        topic,
+        operation,
+        refl,
+        record {
+          taken = (taken p at.state e).0;
+          is_topic = t;
+          changes = ap (λ (retain : Bool). operation_of retain topic m) r;
+          one_used = record { place = refl; no_lower = omega arith; no_higher = omega arith };
+          no_other = nothing_new operation at.mark at.seen;
+        },
+        d,
+        refl,
+      ),
+    )
 
 unretained : (retain : Bool) (topic : List ℕ) (m : MessageValue) → operation_of retain topic m ≡ None → retain ≡ false
 unretained true topic m c = absurd (cc)

@@ -55,7 +55,7 @@ impl Open {
     {
         match packet {
             Packet::Connect(_c) => Outcome::Closes(ReasonCode::ProtocolError),
-            Packet::Publish(p) => self.publish(gate, p, now),
+            Packet::Publish(p) => self.publish(alloc, gate, p, now),
             Packet::Puback(a) => self.puback(a),
             Packet::Pubrec(a) => self.pubrec(a),
             Packet::Pubrel(a) => self.pubrel(a),

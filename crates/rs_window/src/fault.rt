@@ -3,6 +3,8 @@
 ghost use Rattle.std.specs.Prelude.{◌≡◌};
 ghost use Rattle.rs_window.specs.Codes.{code_of};
 
+use crate::queue::MAX_WAITING;
+use rs_packet::RECEIVE_MAXIMUM;
 use thiserror::Error;
 
 /// What an acknowledgement did (4.3.2, 4.3.3).
@@ -20,7 +22,7 @@ pub enum Ack {
 #[derive(Clone, Copy, Debug, PartialEq, Eq, Error)]
 pub enum WindowFault {
     /// More than [`MAX_WAITING`](crate::MAX_WAITING) messages would wait.
-    #[error("more than 100000 messages would wait for this client; subscribe to fewer topics at a time")]
+    #[error("more than {} messages would wait for this client; subscribe to fewer topics at a time", MAX_WAITING)]
     TooManyWaiting = 50,
     /// Out of memory for the messages that would wait.
     #[error("there is no memory for the messages that would wait; subscribe again later")]
@@ -29,7 +31,7 @@ pub enum WindowFault {
     #[error("the packet identifier waits for another acknowledgement; answer QoS 1 by PUBACK, QoS 2 by PUBREC and then PUBCOMP")]
     WrongKind = 52,
     /// [`RECEIVE_MAXIMUM`](rs_packet::RECEIVE_MAXIMUM) other identifiers are held (3.3.4).
-    #[error("16 messages of QoS 2 are not yet released; send PUBREL for one of them first")]
+    #[error("{} messages of QoS 2 are not yet released; send PUBREL for one of them first", RECEIVE_MAXIMUM)]
     TooManyHeld = 53,
 }
 

@@ -25,7 +25,7 @@ fn found(
 {
     let topic = TopicName::read(alloc, topic).ok()?;
     let payload = Bytes::from_static(payload);
-    let message = Message::new(payload, qos, 0, expiry, Properties::none());
+    let message = Message::new(alloc, payload, qos, 0, expiry, Properties::none()).ok()?;
     Some(Found { topic, message })
 }
 

@@ -67,8 +67,8 @@ impl Publish {
             expiry,
             subscription,
         } = self;
-        let (payload, _qos, _received, _expiry, properties) = message.into_parts();
-        Reply::Publish(Publication::new(topic, qos, id, expiry, subscription, properties, payload))
+        let content = message.into_content();
+        Reply::Publish(Publication::new(topic, qos, id, expiry, subscription, content))
     }
 }
 
@@ -153,7 +153,7 @@ impl Window {
         let quota = receive_maximum.min(MAX_QUOTA) as usize;
         let identifiers = Slab::with_capacity(alloc, quota)?;
         // An identifier is the number of a slot plus 1, and has two bytes (2.2.1).
-        if identifiers.capacity() > 65535 {
+        if identifiers.capacity() > usize::from(u16::MAX) {
             return Err(AllocError);
         }
         Ok(Window {

@@ -37,8 +37,8 @@ pub(crate) fn body_len(p: &Publication) -> (usize, usize)
     ensures section_small { result.1 < varint_end }
     ensures fits { PublishFits p.now }
 {
-    let section = properties_len(p.expiry, p.subscription, &p.properties);
-    let len = around_len(&p.topic, p.id.is_some(), section, p.payload.len());
+    let section = properties_len(p.expiry, p.subscription, p.content.properties());
+    let len = around_len(&p.topic, p.id.is_some(), section, p.content.payload().len());
     (len, section)
 }
 
@@ -62,8 +62,8 @@ pub(crate) fn put_publication(out: &mut Vec<u8>, p: &Publication) -> Result<(), 
     put_binary(out, p.topic.as_bytes())?;
     put_id(out, p.id)?;
     put_varint(out, section)?;
-    put_properties(out, p.expiry, p.subscription, &p.properties)?;
-    out.extend_from_slice(p.payload.as_slice())?;
+    put_properties(out, p.expiry, p.subscription, p.content.properties())?;
+    out.extend_from_slice(p.content.payload().as_slice())?;
     Ok(())
 }
 

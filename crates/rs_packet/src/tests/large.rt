@@ -103,7 +103,7 @@ fn is_sent_on(rt: &HostRuntime, users: u16, payload: usize) -> Result<bool, Allo
     if sizes(&publish) != (all, all, payload) {
         return Ok(false);
     }
-    match sent_on(publish, Qos::AtMostOnce, None, None) {
+    match sent_on(rt.alloc(), publish, Qos::AtMostOnce, None, None) {
         Some(reply) => Ok(is_encoded(rt, &reply, bytes.as_slice())),
         None => Ok(false),
     }
@@ -150,7 +150,7 @@ fn long_is_sent_on(rt: &HostRuntime, len: u16) -> Result<bool, AllocError> {
     let Some(publish) = published(rt, &bytes) else {
         return Ok(false);
     };
-    match sent_on(publish, Qos::AtMostOnce, None, None) {
+    match sent_on(rt.alloc(), publish, Qos::AtMostOnce, None, None) {
         Some(reply) => Ok(is_encoded(rt, &reply, bytes.as_slice())),
         None => Ok(false),
     }

@@ -14,15 +14,22 @@ use crate::reason::ReasonCode;
 use rs_message::{Operation, SubmitFault};
 use rs_packet::{Packet, PacketId, Publish, Qos, Reply};
 use rs_topic::{TopicFault, TopicName};
+use std::alloc::{AllocError, Global};
 
 impl Open {
-    pub(super) fn publish<G: Gate>(&mut self, gate: &mut G, p: Publish, now: u64) -> Outcome
+    pub(super) fn publish<G: Gate>(
+        &mut self,
+        alloc: Global,
+        gate: &mut G,
+        p: Publish,
+        now: u64,
+    ) -> Outcome
         ensures { GrowsAnswering G.stands G.mark gate.old gate.new (λ seen answered list.
             LeadsTo (given_at (Input.Whole (Packet.Publish p)) now) (point_at self.old seen (G.mark gate.old)) answered result (point_at self.new list (G.mark gate.new))) }
     {
         match self.outcome_before(&p) {
             Some(outcome) => outcome,
-            None => self.store(gate, p, now),
+            None => self.store(alloc, gate, p, now),
         }
     }
 
@@ -55,7 +62,7 @@ impl Open {
     }
 
     /// Hands the change that a PUBLISH asks for to the store.
-    fn store<G: Gate>(&mut self, gate: &mut G, p: Publish, now: u64) -> Outcome
+    fn store<G: Gate>(&mut self, alloc: Global, gate: &mut G, p: Publish, now: u64) -> Outcome
         requires { outcome_before p self.old ≡ None }
         ensures { GrowsAnswering G.stands G.mark gate.old gate.new (λ seen answered list.
             LeadsTo (given_at (Input.Whole (Packet.Publish p)) now) (point_at self.old seen (G.mark gate.old)) answered result (point_at self.new list (G.mark gate.new))) }
@@ -74,12 +81,15 @@ impl Open {
         let Ok(topic) = topic else {
             return Outcome::Replies(acknowledged_by(qos, id, ReasonCode::QuotaExceeded));
         };
-        match Operation::of(retain, topic, payload, qos, now, expiry, properties) {
-            Some(operation) => self.submit(gate, operation, qos, id),
-            None => {
+        match Operation::of(alloc, retain, topic, payload, qos, now, expiry, properties) {
+            Ok(Some(operation)) => self.submit(gate, operation, qos, id),
+            Ok(None) => {
                 let held = id;
                 self.hold(qos, held);
                 Outcome::Replies(acknowledged_by(qos, id, ReasonCode::Success))
+            }
+            Err(AllocError) => {
+                Outcome::Replies(acknowledged_by(qos, id, ReasonCode::QuotaExceeded))
             }
         }
     }

@@ -8,8 +8,8 @@ invariant_of-result c = record {
   id_fits = c.requires.id_fits;
   subscription_fits = c.in_range-subscription.ensures.fits;
   small =
-      let same = ap (λ (s : Option ℕ). publish_remaining c.args.topic c.args.qos c.args.expiry s c.args.properties (length c.args.payload)) c.in_range-subscription.ensures.same in
+      let same = ap (λ (s : Option ℕ). publish_remaining c.args.topic c.args.qos c.args.expiry s c.args.content.properties (length c.args.content.payload)) c.in_range-subscription.ensures.same in
       let short : length c.args.topic < 2 ^ 16 = omega (arith, c.as_bytes-topic.ensures.short, ap length c.as_bytes-topic.ensures.bytes) in
-      let fits = message_publish c.args.topic c.args.qos c.args.expiry c.args.subscription c.args.properties (length c.args.payload) short c.requires.message_fits in
-      omega (arith, fits, remaining_is c.args.topic c.args.qos c.args.id c.in_range-subscription.result c.args.expiry c.args.properties c.args.payload c.requires.id_fits, same);
+      let fits = message_publish c.args.topic c.args.qos c.args.expiry c.args.subscription c.args.content.properties (length c.args.content.payload) short c.requires.message_fits in
+      omega (arith, fits, remaining_is c.args.topic c.args.qos c.args.id c.in_range-subscription.result c.args.expiry c.args.content.properties c.args.content.payload c.requires.id_fits, same);
 }
