@@ -5,6 +5,7 @@ pub mod Copying
 pub mod Entries
 pub mod Growing
 pub mod Histories
+pub mod Joining
 pub mod Looking
 pub mod Maps
 pub mod Places

@@ -185,7 +185,8 @@ set_whole ks p q f b b' old same is h = rw (h, is, ← same) (sym (insert_all ks
 pub told_whole : (ks p q : Path) (b old : Held) → under_all ks b ≡ old → p ≡ ks ++ q → is_there q b ≡ is_there p old
 told_whole ks p q b old same is = rw (is, ← same) (sym (there_all ks q b))
 
-joined : (a b : Path) (w : Held) → under_all (a ++ b) w ≡ under_all a (under_all b w)
+-- a chain of two parts
+pub joined : (a b : Path) (w : Held) → under_all (a ++ b) w ≡ under_all a (under_all b w)
 joined [] b w = refl
 joined (k ∷ a) b w = ap (under k) (joined a b w)
 
@@ -210,7 +211,8 @@ only_full key new w is f = rw is (f, tt)
 pub cut_whole : {A : Type 0} (ks upper lower : Path) (key : Vec ℕ A) (level : List ℕ) (new : Children A) (w : Held) → ks ≡ upper ++ level ∷ lower → key.items ≡ level → new ≡ (key, under_all lower w) ∷ [] → under_all upper (below new) ≡ under_all ks w
 cut_whole ks upper lower key level new w is same one = rw (one, is, same) (ap (under_all upper) (append-nil (under level (under_all lower w))) ∙ sym (joined upper (level ∷ lower) w))
 
-under_one : (ks r : Path) (g : Found) → under_all ks ((r, g) ∷ []) ≡ (ks ++ r, g) ∷ []
+-- one message below a chain
+pub under_one : (ks r : Path) (g : Found) → under_all ks ((r, g) ∷ []) ≡ (ks ++ r, g) ∷ []
 under_one [] r g = refl
 under_one (k ∷ ks) r g = ap (under k) (under_one ks r g)
 

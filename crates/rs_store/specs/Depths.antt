@@ -1,4 +1,4 @@
--- No branch weighs as much as the child that it stands in.
+-- No branch weighs as much as the child that it stands in. Lemmas, which stand here since the models cite them.
 use Rattle.std.specs.Prelude.{◌≤◌, max}
 use Rattle.std.proofs.Common.{arith}
 use Rattle.rs_store.specs.declared.branch.Branch.TheDeep.{deep-Node}

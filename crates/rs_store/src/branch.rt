@@ -1,23 +1,26 @@
-//! The retained messages as a tree of levels. Levels that all messages below a place share are one text, so there are at most as
-//! many branches as Sets of new topics, and the root. A Clear, or a Set that is refused memory, can leave a branch with one child.
+//! The retained messages as a tree of levels. Levels that all messages below a place share are one text, and a Clear joins a branch
+//! that it leaves with one child and no message to that child. So there are fewer branches than messages, beside the root. A branch
+//! that is refused the memory for that waits for the next Set or Clear that goes through it.
 
-ghost use Rattle.std.specs.Prelude.{◌≡◌, [], ◌∷◌, ◌++◌, ◌≤◌, IfErr, IfOk, IsSome, OnOk, OnErr};
+ghost use Rattle.std.specs.Prelude.{◌≡◌, [], ◌∷◌, ◌++◌, ◌≤◌, IfOk, IsSome, OnOk, OnErr};
 ghost use Rattle.std.specs.BTreeMap.{insert_entry, is_at};
 ghost use Rattle.std.specs.Cmp.Lexicographic.{slice_cmp};
 ghost use Rattle.std.specs.Map.{lookup, remove_entry, set_value};
 ghost use Rattle.std.specs.Ordering.{is_eq, nat_cmp};
 ghost use Rattle.rs_topic.specs.Order.{path_cmp};
-ghost use Rattle.rs_store.specs.Chosen.{chosen, chosen_at_root, chosen_by, is_plain_below};
 ghost use Rattle.rs_store.specs.Nodes.{stem_spots};
-ghost use Rattle.rs_store.specs.Room.{IsStop};
-ghost use Rattle.rs_store.specs.Spots.{IsFull, below, held_found, is_nothing, is_there, levels_from, spot_of};
+ghost use Rattle.rs_store.specs.Spots.{IsFull, is_nothing, is_there, levels_from, spot_of};
 
-use crate::answer::{Answer, Stop};
-use crate::chain::{behind, past, shared_levels};
+mod answers;
+#[cfg(test)]
+mod count;
+mod join;
+
+use crate::chain::{behind, shared_levels};
 use crate::found::copied;
-use crate::held::{answer_held, copied_held};
+use crate::held::{copied_held, put_held};
 use crate::leaf::Leaf;
-use crate::level::{begins_with_dollar, is_all_below, is_plus, level_at};
+use crate::level::level_at;
 use rs_message::Found;
 use std::alloc::{AllocError, Global};
 use std::collections::BTreeMap;
@@ -106,26 +109,6 @@ fn hang(
     Ok(())
 }
 
-/// Appends copies of what the filter fits below each child whose level does not begin with a dollar.
-fn answer_plain(
-    children: &BTreeMap<Vec<u8>, Child>,
-    filter: &[u8],
-    at: usize,
-    now: u64,
-    answer: &mut Answer,
-) -> Result<(), Stop>
-    ensures done { OnOk result (answer.new.found.items ≡ answer.old.found.items ++ chosen_by (is_plain_below (levels_from at filter.now)) now (below children.now.entries)) }
-    ensures stop { IfErr result (λ stop. IsStop stop answer.old.room (answer.old.found.items ++ chosen_by (is_plain_below (levels_from at filter.now)) now (below children.now.entries))) }
-    ensures room { answer.new.room ≡ answer.old.room }
-{
-    for (level, child) in children {
-        if !begins_with_dollar(level.as_slice()) {
-            child.answer(filter, at, now, answer)?;
-        }
-    }
-    Ok(())
-}
-
 impl Child {
     fn leaf(alloc: Global, found: Found, at: usize) -> Result<Child, AllocError>
         ensures { IfOk result (λ c. c ≡ spot_of at found ∷ []) }
@@ -166,7 +149,9 @@ impl Child {
             }
             Node::Inner(stem) => {
                 let next = stem.reach(alloc, found.topic.as_bytes(), at)?;
-                return stem.branch.set(alloc, found, next);
+                let done = stem.branch.set(alloc, found, next);
+                self.join(alloc, at);
+                return done;
             }
             Node::Leaf(leaf) => {
                 if leaf.is_at(found.topic.as_bytes(), at) {
@@ -180,46 +165,30 @@ impl Child {
         Ok(false)
     }
 
-    /// Removes the message at this rest of a topic, and the branches that are empty then.
+    /// Removes the message at this rest of a topic, and the branches that are empty then or have one child left. Returns whether
+    /// there was a message.
     #[cycle(clear)]
-    pub fn clear(&mut self, topic: &[u8], at: usize)
-        ensures { self.new ≡ remove_entry (is_at (path_cmp (levels_from at topic.now))) self.old }
+    pub fn clear(&mut self, alloc: Global, topic: &[u8], at: usize) -> bool
+        ensures done { self.new ≡ remove_entry (is_at (path_cmp (levels_from at topic.now))) self.old }
+        ensures told { result ≡ is_there (levels_from at topic.now) self.old }
     {
         match &mut self.node {
-            Node::Bare => {}
+            Node::Bare => false,
             Node::Leaf(leaf) => {
                 if leaf.is_at(topic, at) {
                     self.node = Node::Bare;
+                    return true;
                 }
+                false
             }
             Node::Inner(stem) => {
-                if let Some(next) = behind(stem.chain.as_slice(), topic, at) {
-                    stem.branch.clear(topic, next);
-                }
+                let Some(next) = behind(stem.chain.as_slice(), topic, at) else {
+                    return false;
+                };
+                let was = stem.branch.clear(alloc, topic, next);
+                self.join(alloc, at);
+                was
             }
-        }
-    }
-
-    /// Appends copies of the messages that the filter fits and that are not expired.
-    #[cycle(answer)]
-    pub fn answer(
-        &self,
-        filter: &[u8],
-        at: usize,
-        now: u64,
-        answer: &mut Answer,
-    ) -> Result<(), Stop>
-        ensures done { OnOk result (answer.new.found.items ≡ answer.old.found.items ++ chosen (levels_from at filter.now) now self.now) }
-        ensures stop { IfErr result (λ stop. IsStop stop answer.old.room (answer.old.found.items ++ chosen (levels_from at filter.now) now self.now)) }
-        ensures room { answer.new.room ≡ answer.old.room }
-    {
-        match &self.node {
-            Node::Bare => Ok(()),
-            Node::Leaf(leaf) => leaf.answer(filter, at, now, answer),
-            Node::Inner(stem) => match past(stem.chain.as_slice(), filter, at) {
-                Some(next) => stem.branch.answer(filter, next, now, answer),
-                None => Ok(()),
-            },
         }
     }
 
@@ -382,9 +351,7 @@ impl Branch {
         ensures refused { OnErr result (self.new ≡ self.old) }
     {
         let Some((level, next)) = level_at(found.topic.as_bytes(), at) else {
-            let was = self.held.is_some();
-            self.held = Some(Box::new(alloc, found)?);
-            return Ok(was);
+            return put_held(&mut self.held, alloc, found);
         };
         if let Some(child) = self.children.get_mut(level) {
             return child.set(alloc, found, next);
@@ -395,78 +362,27 @@ impl Branch {
         Ok(false)
     }
 
-    /// Removes the message at this rest of a topic, and the branches that are empty then.
+    /// Removes the message at this rest of a topic, and the branches that are empty then or have one child left. Returns whether
+    /// there was a message.
     #[cycle(clear)]
-    pub fn clear(&mut self, topic: &[u8], at: usize)
-        ensures { self.new ≡ remove_entry (is_at (path_cmp (levels_from at topic.now))) self.old }
+    pub fn clear(&mut self, alloc: Global, topic: &[u8], at: usize) -> bool
+        ensures done { self.new ≡ remove_entry (is_at (path_cmp (levels_from at topic.now))) self.old }
+        ensures told { result ≡ is_there (levels_from at topic.now) self.old }
     {
         let Some((level, next)) = level_at(topic, at) else {
+            let was = self.held.is_some();
             self.held = None;
-            return;
+            return was;
         };
         let Some(child) = self.children.get_mut(level) else {
-            return;
+            return false;
         };
-        child.clear(topic, next);
+        let was = child.clear(alloc, topic, next);
         let is_bare = child.is_empty();
         if is_bare {
             self.children.remove(level);
         }
-    }
-
-    /// Appends copies of the messages that the filter fits and that are not expired.
-    #[cycle(answer)]
-    pub fn answer(
-        &self,
-        filter: &[u8],
-        at: usize,
-        now: u64,
-        answer: &mut Answer,
-    ) -> Result<(), Stop>
-        ensures done { OnOk result (answer.new.found.items ≡ answer.old.found.items ++ chosen (levels_from at filter.now) now self.now) }
-        ensures stop { IfErr result (λ stop. IsStop stop answer.old.room (answer.old.found.items ++ chosen (levels_from at filter.now) now self.now)) }
-        ensures room { answer.new.room ≡ answer.old.room }
-    {
-        let Some((level, next)) = level_at(filter, at) else {
-            return answer_held(&self.held, now, answer);
-        };
-        if is_all_below(level, filter, next) {
-            answer_held(&self.held, now, answer)?;
-            for (_, child) in &self.children {
-                child.answer(filter, at, now, answer)?;
-            }
-            return Ok(());
-        }
-        if is_plus(level) {
-            for (_, child) in &self.children {
-                child.answer(filter, next, now, answer)?;
-            }
-            return Ok(());
-        }
-        let _in_order = self.children.len();
-        match self.children.get(level) {
-            Some(child) => child.answer(filter, next, now, answer),
-            None => Ok(()),
-        }
-    }
-
-    /// The same for a whole filter: a wildcard in its first level leaves out topics that begin with a dollar (4.7.2).
-    pub fn answer_at_root(&self, filter: &[u8], now: u64, answer: &mut Answer) -> Result<(), Stop>
-        ensures done { OnOk result (answer.new.found.items ≡ answer.old.found.items ++ chosen_at_root (levels_from 0 filter.now) now self.now) }
-        ensures stop { IfErr result (λ stop. IsStop stop answer.old.room (answer.old.found.items ++ chosen_at_root (levels_from 0 filter.now) now self.now)) }
-        ensures room { answer.new.room ≡ answer.old.room }
-    {
-        let Some((level, next)) = level_at(filter, 0) else {
-            return answer_held(&self.held, now, answer);
-        };
-        if is_all_below(level, filter, next) {
-            answer_held(&self.held, now, answer)?;
-            return answer_plain(&self.children, filter, 0, now, answer);
-        }
-        if is_plus(level) {
-            return answer_plain(&self.children, filter, next, now, answer);
-        }
-        self.answer(filter, 0, now, answer)
+        was
     }
 
     /// There is a message at this rest of a topic.

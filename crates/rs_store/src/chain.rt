@@ -59,6 +59,34 @@ fn push_level(chain: &mut Vec<u8>, level: &[u8]) -> Result<(), AllocError>
     Ok(())
 }
 
+/// Appends the levels of a text from a byte on.
+fn push_levels(chain: &mut Vec<u8>, text: &[u8], mut at: usize) -> Result<(), AllocError>
+    ensures { OnOk result (levels_from 1 chain.new.items ≡ levels_from 1 chain.old.items ++ levels_from at text.now) }
+{
+    while let Some((level, next)) = level_at(text, at) {
+        push_level(chain, level)?;
+        at = next;
+    }
+    Ok(())
+}
+
+/// A chain, a level and another chain as one chain.
+pub fn joined(
+    alloc: Global,
+    upper: &[u8],
+    level: &[u8],
+    lower: &[u8],
+) -> Result<Vec<u8>, AllocError>
+    requires { levels level.now ≡ level.now ∷ [] }
+    ensures { IfOk result (λ chain. levels_from 1 chain.items ≡ levels_from 1 upper.now ++ level.now ∷ levels_from 1 lower.now) }
+{
+    let mut chain = Vec::from_slice(alloc, upper)?;
+    push_level(&mut chain, level)?;
+    push_levels(&mut chain, lower, 1)?;
+    chain.shrink_to_fit();
+    Ok(chain)
+}
+
 /// The levels that the rests of two texts share.
 #[derive(Drop)]
 pub struct Shared {

@@ -1,6 +1,6 @@
 //! A message that is alone below its place.
 
-ghost use Rattle.std.specs.Prelude.{◌≡◌, [], ◌∷◌, ◌++◌, IfErr, IfOk, OnOk};
+ghost use Rattle.std.specs.Prelude.{◌≡◌, false, [], ◌∷◌, ◌++◌, IfErr, IfOk, IsTrue, OnOk};
 ghost use Rattle.std.specs.BTreeMap.{is_at};
 ghost use Rattle.rs_topic.specs.Order.{path_cmp};
 ghost use Rattle.rs_store.specs.Chosen.{chosen};
@@ -8,8 +8,9 @@ ghost use Rattle.rs_store.specs.Room.{IsStop};
 ghost use Rattle.rs_store.specs.Spots.{levels_from, spot_of};
 
 use crate::answer::{Answer, Stop};
+use crate::chain::behind;
 use crate::found::is_expired;
-use crate::level::{is_same_rest, levels_fit};
+use crate::level::{is_same_rest, level_at, levels_fit};
 use rs_message::Found;
 use std::alloc::{AllocError, Global};
 
@@ -33,6 +34,26 @@ impl Leaf {
     {
         self.found = found;
         self.at = at;
+    }
+
+    /// Begins the rest of the topic at an earlier byte, if exactly a chain and a level stand in between, and says whether they do.
+    pub fn rise(&mut self, chain: &[u8], level: &[u8], at: usize) -> bool
+        ensures same { self.new.found ≡ self.old.found }
+        ensures done { IsTrue result → levels_from self.new.at self.old.found.topic ≡ levels_from 1 chain.now ++ level.now ∷ levels_from self.old.at self.old.found.topic }
+        ensures kept { result ≡ false → self.new.at ≡ self.old.at }
+    {
+        let topic = self.found.topic.as_bytes();
+        let Some(next) = behind(chain, topic, at) else {
+            return false;
+        };
+        let Some((own, rest)) = level_at(topic, next) else {
+            return false;
+        };
+        if own != level || rest != self.at {
+            return false;
+        }
+        self.at = at;
+        true
     }
 
     /// The rest of its topic is the rest of this one.

@@ -1,6 +1,6 @@
 //! A walk along the levels of a text, as the byte at which the next level begins. Past the end of the text no level is left.
 
-ghost use Rattle.std.specs.Prelude.{◌≡◌, ◌==◌, ◌∷◌, [], ◌+◌, ◌<◌, ◌≤◌, length, IfSome, IfNone};
+ghost use Rattle.std.specs.Prelude.{◌≡◌, ◌==◌, ◌∷◌, [], ◌+◌, ◌<◌, ◌≤◌, length, IfSome, IfNone, IsTrue};
 ghost use Rattle.std.specs.List.{position_or_len};
 ghost use Rattle.std.specs.Str.{bytes_eq};
 ghost use Rattle.std.specs.BTreeMap.{is_at};
@@ -46,6 +46,14 @@ pub fn is_all_below(level: &[u8], text: &[u8], next: usize) -> bool
     ensures { result ≡ fits (level.now ∷ levels_from next text.now) [] }
 {
     level == b"#".as_slice() && next > text.len()
+}
+
+/// The text is one level. (False says nothing.)
+#[tactic(auto, using(rs_topic::proofs::LevelLemmas::one_level))]
+pub fn is_level(text: &[u8]) -> bool
+    ensures { IsTrue result → levels text.now ≡ text.now ∷ [] }
+{
+    end_of_level(text) == text.len()
 }
 
 pub fn is_plus(level: &[u8]) -> bool

@@ -11,7 +11,7 @@ use crate::answer::{Answer, Stop};
 use crate::catalogue::Catalogue;
 use crate::fault::Refusal;
 use crate::found::is_expired;
-use crate::limit::TopicLimit;
+use crate::limit::{SERIALS, TopicLimit};
 use rs_message::{Entry, Found, Message, Operation};
 use rs_topic::{TopicFilter, TopicName};
 use std::alloc::{AllocError, Global};
@@ -28,7 +28,7 @@ pub struct MapCatalogue {
     limit: TopicLimit,
     held: BTreeMap<TopicName, Message>,
     // Indexed by place.
-    serials: [u64; 65],
+    serials: [u64; SERIALS],
     version: u64,
     ghost fits: { length held.entries ≤ limit },
 }
@@ -131,7 +131,7 @@ impl Catalogue for MapCatalogue {
             alloc,
             limit,
             held: BTreeMap::new(alloc),
-            serials: [0; 65],
+            serials: [0; SERIALS],
             version: 0,
         })
     }
@@ -180,7 +180,7 @@ impl Catalogue for MapCatalogue {
     }
 
     fn last_serial(&self, place: u8) -> u64 {
-        if place < 65 {
+        if (place as usize) < SERIALS {
             return self.serials[place as usize];
         }
         0

@@ -9,7 +9,7 @@ use bytes::Bytes;
 use rs_message::{Entry, Message, Operation, Origin};
 use rs_packet::{Properties, Qos};
 use rs_topic::{TopicFilter, TopicName};
-use std::alloc::Global;
+use std::alloc::{AllocError, Global};
 use std::process::Abort;
 use std::test::Fail;
 
@@ -17,11 +17,16 @@ mod alike;
 
 /// A message that came at 100.
 #[tactic(auto, using(rs_message::proofs::Sizes::small_message))]
-fn message(payload: &'static [u8], expiry: Option<u32>) -> Message
+fn message(
+    alloc: Global,
+    payload: &'static [u8],
+    expiry: Option<u32>,
+) -> Result<Message, AllocError>
     requires some { payload.now ≢ [] }
     requires small { length payload.now ≤ 1000 }
 {
     Message::new(
+        alloc,
         Bytes::from_static(payload),
         Qos::AtLeastOnce,
         100,
@@ -44,7 +49,7 @@ fn set<C: Catalogue>(
 ) -> Result<Result<(), Refusal>, Fail> {
     let origin = origin(place, serial)?;
     let topic = TopicName::read(alloc, topic)?;
-    let operation = Operation::Set(topic, message(b"x", Some(10)));
+    let operation = Operation::Set(topic, message(alloc, b"x", Some(10))?);
     Ok(add(catalogue, Entry { origin, operation }))
 }
 

@@ -16,7 +16,7 @@ use crate::answer::{Answer, Stop};
 use crate::branch::Branch;
 use crate::catalogue::Catalogue;
 use crate::fault::Refusal;
-use crate::limit::TopicLimit;
+use crate::limit::{SERIALS, TopicLimit};
 use rs_message::{Entry, Found, Message, Operation};
 use rs_topic::{TopicFilter, TopicName};
 use std::alloc::{AllocError, Global};
@@ -37,7 +37,7 @@ pub struct TreeCatalogue {
     root: Branch,
     count: u32,
     // Indexed by place.
-    serials: [u64; 65],
+    serials: [u64; SERIALS],
     version: u64,
 }
 
@@ -53,10 +53,10 @@ impl Model for TreeCatalogue {
     ghost invariant = { λ c. IsTree c.root c.count c.limit };
 }
 
-fn serial_of(serials: &[u64; 65], place: u8) -> u64
+fn serial_of(serials: &[u64; SERIALS], place: u8) -> u64
     ensures { result ≡ slice_index serials.now place }
 {
-    if place < 65 {
+    if (place as usize) < SERIALS {
         return serials[place as usize];
     }
     0
@@ -84,19 +84,15 @@ fn set_one(
 }
 
 /// Clears one topic and returns how many hold a message then.
-fn clear_one(root: &mut Branch, count: u32, topic: &TopicName) -> u32
+fn clear_one(root: &mut Branch, alloc: Global, count: u32, topic: &TopicName) -> u32
     requires placed { ArePlaced root.old }
     requires counted { length (pairs root.old) ≡ count }
     ensures done { pairs root.new ≡ remove_entry (is_at (topic_cmp topic.now)) (pairs root.old) }
     ensures counted { result ≡ length (remove_entry (is_at (topic_cmp topic.now)) (pairs root.old)) }
     ensures placed { ArePlaced root.new }
 {
-    let bytes = topic.as_bytes();
-    if !root.holds(bytes, 0) {
-        return count;
-    }
-    root.clear(bytes, 0);
-    count - 1
+    let was = root.clear(alloc, topic.as_bytes(), 0);
+    if was { count - 1 } else { count }
 }
 
 /// Sets or clears one topic and returns how many hold a message then. If memory is refused, nothing changes.
@@ -117,7 +113,7 @@ fn change(
 {
     match operation {
         Operation::Set(topic, message) => set_one(root, alloc, count, topic, message),
-        Operation::Clear(topic) => Ok(clear_one(root, count, &topic)),
+        Operation::Clear(topic) => Ok(clear_one(root, alloc, count, &topic)),
     }
 }
 
@@ -178,6 +174,14 @@ fn answers(
     }
 }
 
+impl TreeCatalogue {
+    /// The number of branches, the root among them.
+    #[cfg(test)]
+    pub(crate) fn branches(&self) -> u32 {
+        self.root.branches()
+    }
+}
+
 impl Catalogue for TreeCatalogue {
     ghost content = { λ c. c };
 
@@ -187,7 +191,7 @@ impl Catalogue for TreeCatalogue {
             limit,
             root: Branch::new(alloc),
             count: 0,
-            serials: [0; 65],
+            serials: [0; SERIALS],
             version: 0,
         })
     }

@@ -82,10 +82,10 @@ fn filter_of(alloc: Global, draw: &mut Draw) -> Result<Vec<u8>, Fail> {
 fn operation_of(alloc: Global, name: &[u8], kind: u64) -> Result<Operation, Fail> {
     let topic = TopicName::read(alloc, name)?;
     Ok(match kind {
-        0 => Operation::Set(topic, message(b"x", Some(10))),
-        1 => Operation::Set(topic, message(b"y", None)),
-        2 => Operation::Set(topic, message(b"z", Some(20))),
-        3 => Operation::Set(topic, message(b"z", Some(0))),
+        0 => Operation::Set(topic, message(alloc, b"x", Some(10))?),
+        1 => Operation::Set(topic, message(alloc, b"y", None)?),
+        2 => Operation::Set(topic, message(alloc, b"z", Some(20))?),
+        3 => Operation::Set(topic, message(alloc, b"z", Some(0))?),
         _ => Operation::Clear(topic),
     })
 }
@@ -186,6 +186,7 @@ fn both_alike(rt: HostRuntime) -> Result<(), Fail> {
     let mut tree = TreeCatalogue::new(alloc, limit)?;
     entries(&rt, alloc, &mut map, &mut tree)?;
     assert!(rt; 250 < map.count());
+    assert!(rt; tree.branches() <= tree.count());
     are_alike(&rt, alloc, &map, &tree)?;
     are_alike(&rt, alloc, &map.copy()?, &tree.copy()?)?;
     Ok(())
@@ -233,8 +234,11 @@ fn shared_levels(rt: HostRuntime) -> Result<(), Fail> {
         put(alloc, &mut map, serial, name.as_slice(), 1)??;
         put(alloc, &mut tree, serial, name.as_slice(), 1)??;
     }
+    assert_eq!(rt; tree.branches(), 2);
     at_each_level(&rt, alloc, &mut map, &mut tree, 1)?;
+    assert!(rt; 100 < tree.branches());
     at_each_level(&rt, alloc, &mut map, &mut tree, 4)?;
+    assert_eq!(rt; tree.branches(), 2);
     for filter in [b"a/#".as_slice(), b"+/a/#".as_slice(), b"a/a/+".as_slice()] {
         is_alike(&rt, alloc, &map, &tree, filter)?;
     }

@@ -22,7 +22,7 @@ use Rattle.rs_store.proofs.Stems.{full_inside, set_whole, told_whole, forked_who
 pub Branch::set-returns-in_default-clause-done : goal.Branch::set-returns-in_default-clause-done
 Branch::set-returns-in_default-clause-done t c =
     let e : levels_from c.args.at c.args.found.topic ≡ [] = rw c.as_bytes.ensures.bytes at c.in_default.ensures.ended in
-    rw (e, ← c.self.view_is, c.in_ok-new.ensures.ok) (own_first (held_found c.self.inside.held) c.args.found c.self.inside.children.entries)
+    rw (e, ← c.self.view_is) (on_ok_weaker c.put_held.result (λ h. rw h (own_first (held_found c.self.inside.held) c.args.found c.self.inside.children.entries)) c.put_held.ensures.done)
 
 pub Branch::set-invariant_of-self-in-Some-get_mut : goal.Branch::set-invariant_of-self-in-Some-get_mut
 Branch::set-invariant_of-self-in-Some-get_mut t c =
@@ -65,7 +65,7 @@ Child::set-returns-then-is_at-clause-done t c =
 pub Branch::set-returns-in_default-clause-told : goal.Branch::set-returns-in_default-clause-told
 Branch::set-returns-in_default-clause-told t c =
     let e : levels_from c.args.at c.args.found.topic ≡ [] = rw c.as_bytes.ensures.bytes at c.in_default.ensures.ended in
-    rw (e, ← c.self.view_is) (c.is_some-was.ensures ∙ sym (there_own c.self.inside.held c.self.inside.children.entries))
+    rw (e, ← c.self.view_is) (told_by c.put_held.result _ _ c.put_held.ensures.told (sym (there_own c.self.inside.held c.self.inside.children.entries)))
 
 pub Branch::set-returns-in-Some-get_mut-clause-told : goal.Branch::set-returns-in-Some-get_mut-clause-told
 Branch::set-returns-in-Some-get_mut-clause-told t c =
@@ -106,9 +106,9 @@ Child::set-returns-in-Inner-clause-done t c =
     let view : stem_spots c.in-Inner.stem.value ≡ c.args.self.now = sym (ap spots_of c.in-Inner.is) ∙ c.self.view_is in
     let same : stem_spots stem ≡ c.args.self.now = c.in_ok-next-in-Inner.ensures.same ∙ (ap stem_spots c.deref_mut.ensures.value ∙ view) in
     let reached : levels_from c.args.at c.args.found.topic ≡ levels_from 1 stem.chain.items ++ levels_from next c.args.found.topic = rw c.as_bytes.ensures.bytes at c.in_ok-next-in-Inner.ensures.reached in
-    let done : OnOk c.set.result (c.set.new.self ≡ insert_entry path_cmp stem.branch (levels_from next c.args.found.topic) c.args.found) = rw c.deref_mut-in-Inner.ensures.value at c.set.ensures.done in
-    rw c.deref_mut-in-Inner.ensures.value
-    (on_ok_weaker c.set.result (set_whole (levels_from 1 stem.chain.items) (levels_from c.args.at c.args.found.topic) (levels_from next c.args.found.topic) c.args.found stem.branch c.set.new.self c.args.self.now same reached) done)
+    let done : OnOk c.set-done.result (c.set-done.new.self ≡ insert_entry path_cmp stem.branch (levels_from next c.args.found.topic) c.args.found) = rw c.deref_mut-in-Inner.ensures.value at c.set-done.ensures.done in
+    let kept : c.join.new.self ≡ under_all (levels_from 1 stem.chain.items) c.set-done.new.self = rw c.deref_mut-in-Inner.ensures.value at c.join.ensures in
+    on_ok_weaker c.set-done.result (λ h. kept ∙ set_whole (levels_from 1 stem.chain.items) (levels_from c.args.at c.args.found.topic) (levels_from next c.args.found.topic) c.args.found stem.branch c.set-done.new.self c.args.self.now same reached h) done
 
 pub Child::set-returns-in-Inner-clause-told : goal.Child::set-returns-in-Inner-clause-told
 Child::set-returns-in-Inner-clause-told t c =
@@ -117,8 +117,8 @@ Child::set-returns-in-Inner-clause-told t c =
     let view : stem_spots c.in-Inner.stem.value ≡ c.args.self.now = sym (ap spots_of c.in-Inner.is) ∙ c.self.view_is in
     let same : stem_spots stem ≡ c.args.self.now = c.in_ok-next-in-Inner.ensures.same ∙ (ap stem_spots c.deref_mut.ensures.value ∙ view) in
     let reached : levels_from c.args.at c.args.found.topic ≡ levels_from 1 stem.chain.items ++ levels_from next c.args.found.topic = rw c.as_bytes.ensures.bytes at c.in_ok-next-in-Inner.ensures.reached in
-    let told : IfOk c.set.result (λ was. was ≡ is_there (levels_from next c.args.found.topic) stem.branch) = rw c.deref_mut-in-Inner.ensures.value at c.set.ensures.told in
-    told_by c.set.result _ _ told (told_whole (levels_from 1 stem.chain.items) (levels_from c.args.at c.args.found.topic) (levels_from next c.args.found.topic) stem.branch c.args.self.now same reached)
+    let told : IfOk c.set-done.result (λ was. was ≡ is_there (levels_from next c.args.found.topic) stem.branch) = rw c.deref_mut-in-Inner.ensures.value at c.set-done.ensures.told in
+    told_by c.set-done.result _ _ told (told_whole (levels_from 1 stem.chain.items) (levels_from c.args.at c.args.found.topic) (levels_from next c.args.found.topic) stem.branch c.args.self.now same reached)
 
 pub forked-returns : goal.forked-returns
 forked-returns t c =

@@ -6,7 +6,7 @@ use Rattle.rs_store.specs.Chosen.{chosen_by, is_plain_below}
 use Rattle.rs_store.specs.Spots.{below, levels_from}
 use Rattle.rs_store.proofs.Stopping.{given_on, stop_turn}
 use Rattle.rs_store.proofs.Choosing.{one_turn, no_turn, plain_goes, dollar_stops}
-use Rattle.rs_store.proofs.branch.answer_plain.Goals as goal
+use Rattle.rs_store.proofs.branch.answers.answer_plain.Goals as goal
 
 pub loop-level-preserved-in-Continue-1 : goal.loop-level-preserved-in-Continue-1
 loop-level-preserved-in-Continue-1 c =
