@@ -1,6 +1,7 @@
 //! What the writer gives: tokens of published lists, and receipts of entries.
 
-ghost use Rattle.std.specs.Prelude.{◌≡◌, length};
+ghost use Rattle.std.specs.Prelude.{◌≡◌, length, MatchBool};
+ghost use mathlib.Core.List.{IsPrefix};
 ghost use Rattle.rs_store.specs.History.{IsLegal};
 ghost use Rattle.rs_version.specs.Receipts.{StandsAt};
 
@@ -44,6 +45,15 @@ impl<N: StoreName> Told<N> {
         Told {
             list: self.list.again(),
         }
+    }
+
+    /// Whether the other list is a prefix of this one. If not, this one is a prefix of the other: all tokens of a store are of
+    /// prefixes of one history.
+    pub fn reaches(&self, other: &Told<N>) -> bool
+        ensures prefix { MatchBool result (IsPrefix other.now self.now) (IsPrefix self.now other.now) }
+        ensures legal { IsLegal N.limit self.now × IsLegal N.limit other.now }
+    {
+        self.list.reaches(&other.list)
     }
 }
 

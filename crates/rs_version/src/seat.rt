@@ -137,6 +137,18 @@ impl<N: StoreName> Seat<N> {
         self.known.version()
     }
 
+    /// A token of the known list. It takes no memory.
+    pub fn told(&self) -> Told<N>
+        ensures told { result ≡ self.now }
+        ensures legal { IsLegal N.limit self.now }
+    {
+        // For the proof: this call says that the known list is legal.
+        let _version = self.version();
+        Told {
+            list: self.known.again(),
+        }
+    }
+
     /// Makes the known list the longer of itself and the token's list. It takes no memory and waits for nobody.
     pub fn learn(&mut self, told: Told<N>)
         ensures one { (self.new ≡ self.old) ⊎ (self.new ≡ told) }

@@ -17,17 +17,20 @@ use std::test::Fail;
 use std::thread::{Threads, join, spawn};
 
 #[tactic(auto, using(rs_message::proofs::Sizes::small_message))]
-fn message(payload: &'static [u8], expiry: Option<u32>) -> Message
+fn message(alloc: Global, payload: &'static [u8], expiry: Option<u32>) -> Option<Message>
     requires some { payload.now ≢ [] }
     requires small { length payload.now ≤ 1000 }
 {
+    let payload = Bytes::from_static(payload);
     Message::new(
-        Bytes::from_static(payload),
+        alloc,
+        payload,
         Qos::AtMostOnce,
         0,
         expiry,
         Properties::none(),
     )
+    .ok()
 }
 
 fn entry_of(place: u8, serial: u64, operation: Operation) -> Option<Entry> {
@@ -37,7 +40,11 @@ fn entry_of(place: u8, serial: u64, operation: Operation) -> Option<Entry> {
 
 fn set(alloc: Global, place: u8, serial: u64, topic: &[u8]) -> Option<Entry> {
     let topic = TopicName::read(alloc, topic).ok()?;
-    entry_of(place, serial, Operation::Set(topic, message(b"x", None)))
+    entry_of(
+        place,
+        serial,
+        Operation::Set(topic, message(alloc, b"x", None)?),
+    )
 }
 
 fn clear(alloc: Global, place: u8, serial: u64, topic: &[u8]) -> Option<Entry> {
@@ -150,6 +157,55 @@ fn reads_told<N: StoreName>(
     assert!(rt; version >= 1);
     assert_eq!(rt; topics.as_slice(), b"x ".as_slice());
     Ok(version)
+}
+
+/// Whether each of the two tokens reaches the other.
+fn reach_each_other<N: StoreName>(one: &Told<N>, other: &Told<N>) -> (bool, bool) {
+    (one.reaches(other), other.reaches(one))
+}
+
+/// A seat's token is of what it knows, and not of what the writer published since.
+fn compared<N: StoreName, R: Wait + Drop>(
+    rt: &impl Abort,
+    alloc: Global,
+    writer: &mut VersionWriter<N, R>,
+    seat: &mut Seat<N>,
+) -> Result<(), Fail> {
+    let receipt = receipt_of(writer, set(alloc, 1, 1, b"x"))?;
+    assert_eq!(rt;
+        reach_each_other(&seat.told(), &receipt.told()),
+        (false, true)
+    );
+    seat.learn(receipt.told());
+    assert_eq!(rt;
+        reach_each_other(&seat.told(), &receipt.told()),
+        (true, true)
+    );
+    let _next = receipt_of(writer, clear(alloc, 1, 2, b"x"))?;
+    assert_eq!(rt;
+        reach_each_other(&writer.tell(), &seat.told()),
+        (true, false)
+    );
+    assert_eq!(rt; (seat.told().version(), writer.tell().version()), (1, 2));
+    Ok(())
+}
+
+fn tokens_compared_named<N: StoreName, R: Wait + Abort>(
+    rt: &R,
+    alloc: Global,
+    blank: Blank,
+) -> Result<(), Fail>
+    requires { (blank.history ≡ N.history) × (blank.limit ≡ N.limit) }
+{
+    let (mut writer, mut seats) = blank.open::<N, &R>(rt)?;
+    let mut seat = seats.pop().ok_or("there is a seat")?;
+    compared(rt, alloc, &mut writer, &mut seat)
+}
+
+#[test]
+fn tokens_compared(rt: HostRuntime) -> Result<(), Fail> {
+    let alloc = rt.alloc();
+    tokens_compared_named::<Brand, _>(&rt, alloc, blank(alloc, 10, 1)?)
 }
 
 /// Each seat reads what this writer published.
