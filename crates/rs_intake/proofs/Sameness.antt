@@ -1,5 +1,5 @@
 -- Entries that `==` calls equal are one entry.
-use Rattle.std.proofs.Common.{◌≡◌, ◌==◌, ℕ, Bool, true, false, ◌&&◌, List, [], ◌∷◌, Option, Some, None, refl, ap, cond}
+use Rattle.std.proofs.Common.{◌≡◌, ◌==◌, ℕ, Bool, true, false, ◌&&◌, List, [], ◌∷◌, Some, None, refl, ap}
 use Rattle.std.specs.Prelude.{nat_eq}
 use Rattle.std.specs.Option.{option_eq}
 use Rattle.std.specs.Cmp.Lexicographic.{pointwise}
@@ -7,9 +7,8 @@ use Rattle.std.proofs.lemmas.Bool.Decides.{Decides-eqb}
 use Rattle.rs_packet.specs.Grammar.{level}
 use Rattle.rs_packet.specs.declared.packet.Qos.{Qos}
 use Rattle.rs_packet.specs.declared.packet.Qos.TheVariants.{AtMostOnce, AtLeastOnce, ExactlyOnce}
-use Rattle.rs_packet.specs.Fields.{PropertiesValue, properties_eq}
+use Rattle.rs_packet.specs.Fields.{properties_eq}
 use Rattle.rs_message.specs.Equality.{message_eq}
-use Rattle.rs_message.specs.Values.{MessageValue}
 use Rattle.rs_message.specs.declared.entry.Entry.{Entry}
 
 -- the test passes only for a value and itself

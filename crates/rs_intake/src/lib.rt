@@ -2,7 +2,7 @@
 //!
 //! Each place has a line ([`SeatLine`]). [`Intake::submit`] sends an operation by the line, under the line's next serial, and
 //! waits for the receipt of just that entry. [`run_writer`] takes jobs from the [`Queue`], puts each into the store, and answers
-//! its line. What it takes of a place is at every moment a prefix of what the line sent ([`order_law`]).
+//! its line. What it takes of a place is at every moment a prefix of what the line sent ([`line_order_law`]).
 //!
 //! [`SeatLine::close`] ends a line. When all lines and the writer have ended, [`settle`] says whether all that was sent was taken.
 //! A type that implements [`LineName`] ties all of these to one store and one queue, and [`BlankQueue::open`] makes them.
@@ -29,7 +29,7 @@ mod writer;
 pub use blank::{BlankQueue, blank_queue};
 pub use fault::SettleFault;
 pub use intake::Intake;
-pub use law::order_law;
+pub use law::line_order_law;
 pub use line::{LineEnd, SeatLine};
 pub use name::LineName;
 pub use rule::Job;

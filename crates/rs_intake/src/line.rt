@@ -202,7 +202,7 @@ impl<N: LineName> SeatLine<N> {
         self.replies.wait(rt)
     }
 
-    /// Gives the line up, and tells the writer so. What the queue took from the line is known to the end.
+    /// Gives the line up, and tells the writer so. The line's end keeps what the queue took from the line.
     pub fn close<R: Wait>(self, rt: &R) -> LineEnd<N>
         ensures place { result.place ≡ self.place }
         ensures sent { result.sent ≡ self.sent }

@@ -58,7 +58,7 @@ fn gather<N: LineName>(taken: &mut Taken<N>, ends: Vec<LineEnd<N>>)
 ///
 /// # Errors
 ///
-/// [`Unsettled`](SettleFault::Unsettled) if a place has no end or two, or the lines did not send as many jobs as were taken.
+/// [`Unsettled`](SettleFault::Unsettled) if a place has no end or two, or not as many jobs were taken as sent.
 pub fn settle<N: LineName, R: Wait + Drop>(
     ends: Vec<LineEnd<N>>,
     ended: &mut Ended<N, R>,

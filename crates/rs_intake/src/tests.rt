@@ -3,7 +3,9 @@
 ghost use Rattle.std.specs.Prelude.{◌≡◌, ◌<◌, ◌≤◌, [], None};
 
 mod answers;
+mod ending;
 mod order;
+mod schedules;
 
 use super::*;
 use bytes::Bytes;
@@ -22,7 +24,15 @@ fn message(alloc: Global, payload: &[u8], expiry: Option<u32>) -> Option<Message
         return None;
     }
     let payload = Bytes::copy_from_slice(alloc, payload).ok()?;
-    Some(Message::new(payload, Qos::AtMostOnce, 0, expiry, Properties::none()))
+    Message::new(
+        alloc,
+        payload,
+        Qos::AtMostOnce,
+        0,
+        expiry,
+        Properties::none(),
+    )
+    .ok()
 }
 
 fn set(alloc: Global, topic: &[u8], payload: &[u8]) -> Option<Operation> {

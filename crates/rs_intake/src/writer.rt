@@ -1,10 +1,11 @@
 //! The writer's loop over the queue.
 
-ghost use Rattle.std.specs.Prelude.{◌≡◌, ◌≢◌, ◌+◌, ◌∷◌, ◌++◌, [], length, IfOk, MatchBool};
+ghost use Rattle.std.specs.Prelude.{◌≡◌, ◌≢◌, ◌+◌, ◌∷◌, ◌++◌, [], length, true, IfErr, IfOk, MatchBool};
 ghost use Rattle.std.specs.Option.{option_map};
 ghost use Rattle.crossbeam_channel.specs.Ends.{receives_on};
 ghost use Rattle.rs_store.specs.History.{SerialsRise, extended};
-ghost use Rattle.rs_version.specs.Writer.{kept_of};
+ghost use Rattle.rs_version.specs.Writer.{Refuses, kept_of};
+ghost use Rattle.rs_version.specs.declared.fault.PutFault.TheVariants.{Held, Stale};
 ghost use Rattle.rs_intake.specs.Names.{IsQueue};
 ghost use Rattle.rs_intake.specs.Parts.{IsPart};
 
@@ -87,6 +88,29 @@ impl<N: LineName, R: Wait + Drop> Ended<N, R> {
     }
 }
 
+/// Puts a job: what its line is told, and whether its entry was appended. It stands beside the sending, so that contracts tie what
+/// is told to what was done.
+fn reply_to<N: LineName, R: Wait + Drop>(
+    writer: &mut VersionWriter<N, R>,
+    job: Entry,
+) -> (Reply<N>, bool)
+    requires { SerialsRise (extended (kept_of writer.old) job) }
+    ensures kept { MatchBool result.1 (kept_of writer.new ≡ kept_of writer.old ++ job ∷ []) (kept_of writer.new ≡ kept_of writer.old) }
+    ensures origin { result.0.origin ≡ job.origin }
+    ensures receipt { IfOk result.0.answer (λ r. (r.entry ≡ job) × (r.number ≡ length (kept_of writer.new)) × (r.told ≡ writer.new.published) × (result.1 ≡ true)) }
+    ensures refusal { IfErr result.0.answer (λ f. (f ≢ Stale) × Refuses N.limit writer.old job f writer.new × MatchBool result.1 (f ≡ Held) (f ≢ Held)) }
+{
+    let origin = job.origin;
+    let answer = writer.put(job);
+    let is_appended = match &answer {
+        Ok(_) | Err(PutFault::Held) => true,
+        Err(PutFault::Full) | Err(PutFault::NoMemory) => false,
+        // The queue keeps the order of each place's serials.
+        Err(PutFault::Stale) => unreachable!(),
+    };
+    (Reply { origin, answer }, is_appended)
+}
+
 /// Puts a job, and tells its line. Whether its entry was appended.
 fn put_job<N: LineName, R: Wait + Drop, W: Wait>(
     rt: &W,
@@ -97,17 +121,10 @@ fn put_job<N: LineName, R: Wait + Drop, W: Wait>(
     requires { SerialsRise (extended (kept_of writer.old) job) }
     ensures { MatchBool result (kept_of writer.new ≡ kept_of writer.old ++ job ∷ []) (kept_of writer.new ≡ kept_of writer.old) }
 {
-    let origin = job.origin;
-    let answer = writer.put(job);
-    let is_appended = match &answer {
-        Ok(_) | Err(PutFault::Held) => true,
-        Err(PutFault::Full) | Err(PutFault::NoMemory) => false,
-        // The queue keeps the order of each place's serials.
-        Err(PutFault::Stale) => unreachable!(),
-    };
-    let index = origin.place() as usize - 1;
+    let (reply, is_appended) = reply_to(writer, job);
+    let index = reply.origin.place() as usize - 1;
     if let Some(to) = replies.get_mut(index) {
-        to.send(rt, Reply { origin, answer });
+        to.send(rt, reply);
     }
     is_appended
 }
@@ -125,6 +142,22 @@ pub fn run_writer<N: LineName, R: Wait + Drop, W: Wait>(
     ensures refused { length (kept_of result.writer) + result.refused ≡ result.taken }
     ensures held { result.held ≡ option_map (λ e. e.origin) result.writer.held }
 {
+    run_writer_for(rt, queue, writer, u64::MAX)
+}
+
+/// The same, for so many jobs at most.
+pub(crate) fn run_writer_for<N: LineName, R: Wait + Drop, W: Wait>(
+    rt: &W,
+    queue: Queue<N>,
+    writer: VersionWriter<N, R>,
+    most: u64,
+) -> Ended<N, R>
+    requires empty { kept_of writer ≡ [] }
+    ensures part { IsPart (kept_of result.writer) result.jobs.entries }
+    ensures taken { result.taken ≡ length result.jobs.entries }
+    ensures refused { length (kept_of result.writer) + result.refused ≡ result.taken }
+    ensures held { result.held ≡ option_map (λ e. e.origin) result.writer.held }
+{
     let Queue {
         receiver,
         taken: mut jobs,
@@ -135,7 +168,7 @@ pub fn run_writer<N: LineName, R: Wait + Drop, W: Wait>(
     let mut refused = 0u64;
     let mut open = jobs.places();
     for _ in rt.forever() {
-        if taken == u64::MAX {
+        if taken >= most {
             break;
         }
         match jobs.next(rt, &receiver) {

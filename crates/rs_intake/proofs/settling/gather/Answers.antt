@@ -2,7 +2,6 @@ use Rattle.std.proofs.Common.{◌≡◌, ◌<◌, ◌∷◌, ◌++◌, [], List,
 use Rattle.std.proofs.lemmas.List.{append-nil}
 use Rattle.rs_intake.specs.declared.rule.SentFrom.{SentFrom}
 use Rattle.rs_intake.specs.Lines.{Closed}
-use Rattle.rs_intake.specs.QueueRule.{SumsUp}
 use Rattle.rs_intake.specs.Settling.{Covers}
 use Rattle.rs_intake.proofs.Sums.{covers_more, no_more}
 use Rattle.rs_intake.proofs.settling.gather.Goals as goal

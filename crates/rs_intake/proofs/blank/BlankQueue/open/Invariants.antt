@@ -1,6 +1,6 @@
-use Rattle.std.proofs.Common.{◌≡◌, ◌+◌, ◌<◌, [], true, false}
+use Rattle.std.proofs.Common.{◌≡◌, [], true, false}
 use Rattle.crossbeam_channel.specs.Claims.{view}
-use Rattle.crossbeam_channel.specs.Ends.{sends_on, receives_on}
+use Rattle.crossbeam_channel.specs.Ends.{sends_on}
 use Rattle.rs_intake.specs.Names.{IsQueue, IsIn}
 use Rattle.rs_intake.specs.Lines.{new_lines}
 use Rattle.rs_intake.proofs.blank.BlankQueue.open.Given as goal

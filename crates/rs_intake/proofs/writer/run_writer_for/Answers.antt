@@ -1,11 +1,11 @@
-use Rattle.std.proofs.Common.{◌≡◌, ◌+◌, ◌∷◌, ◌++◌, [], List, length, subst, ap, ◌∙◌, arith, length-append}
+use Rattle.std.proofs.Common.{◌≡◌, ◌∷◌, ◌++◌, [], List, length, subst, ap, ◌∙◌, arith, length-append}
 use Rattle.rs_message.specs.declared.entry.Entry.{Entry}
 use Rattle.rs_store.specs.History.{SerialsRise}
 use Rattle.rs_version.specs.Writer.{kept_of}
 use Rattle.rs_intake.specs.declared.rule.Job.{Job}
 use Rattle.rs_intake.specs.QueueRule.{entries_of}
 use Rattle.rs_intake.proofs.Parts.{part_both, part_skip, part_rises}
-use Rattle.rs_intake.proofs.writer.run_writer.Goals as goal
+use Rattle.rs_intake.proofs.writer.run_writer_for.Goals as goal
 
 pub put_job-requires : goal.put_job-requires
 put_job-requires g c =

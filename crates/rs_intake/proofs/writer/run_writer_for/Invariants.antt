@@ -3,7 +3,7 @@ use Rattle.crossbeam_channel.specs.Ends.{receives_on}
 use Rattle.rs_version.specs.Writer.{kept_of}
 use Rattle.rs_intake.specs.Names.{IsQueue}
 use Rattle.rs_intake.specs.Parts.{IsPart}
-use Rattle.rs_intake.proofs.writer.run_writer.Given as goal
+use Rattle.rs_intake.proofs.writer.run_writer_for.Given as goal
 
 abbrev pub invariant-loop : goal.invariant-loop
 invariant-loop g l = IsQueue g.N.LineName.queue (receives_on l.receiver)

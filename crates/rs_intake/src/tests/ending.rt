@@ -1,0 +1,87 @@
+//! A writer that ends while all places submit: each place is answered.
+
+ghost use Rattle.std.specs.Prelude.{◌≡◌};
+
+use super::{Opened, blank_store, open_both, set};
+use crate::writer::run_writer_for;
+use crate::{BlankQueue, Intake, LineName, SeatLine, blank_queue};
+use rs_message::MAX_PLACES;
+use rs_version::Blank;
+use std::alloc::Global;
+use std::marker::{Brand, PhantomData};
+use std::process::Abort;
+use std::sync::Wait;
+use std::test::Fail;
+use std::thread::{Threads, spawn};
+
+/// How many submits a place makes at most.
+const TURNS: u32 = 100;
+
+/// How many jobs the writer takes: fewer than the places have to submit, more than one round of them.
+const JOBS: u64 = 1000;
+
+/// Submits until it is refused. How many were kept, and the number of the fault, 0 if there was none.
+fn submit_until_refused<N: LineName, R: Wait + Copy>(
+    rt: R,
+    alloc: Global,
+    line: SeatLine<N>,
+) -> Option<(u32, u8)> {
+    let mut line = line;
+    let intake = Intake { of: PhantomData };
+    let place = line.place();
+    for turn in 0..TURNS {
+        let topic = format!(in alloc; "{place}").ok()?;
+        let operation = set(alloc, topic.as_bytes(), b"x")?;
+        if let Err(fault) = intake.submit(&rt, &mut line, operation) {
+            return Some((turn, fault.code()));
+        }
+    }
+    Some((TURNS, 0))
+}
+
+/// Whether a place was answered as it may be: all was kept, or the writer ended before its answer or before the job.
+fn is_answered(kept: u32, fault: u8) -> bool {
+    match fault {
+        0 => kept == TURNS,
+        42 | 44 => kept < TURNS,
+        _ => false,
+    }
+}
+
+fn each_is_answered_named<
+    N: LineName + Send + Sync + 'static,
+    R: Threads + Wait + Abort + Copy + Send + Sync + 'static,
+>(rt: R, alloc: Global, blank: Blank, queue: BlankQueue) -> Result<(), Fail>
+    requires store { (blank.history ≡ N.history) × (blank.limit ≡ N.limit) }
+    requires queue { (queue.name ≡ N.queue) × (queue.places ≡ N.places) }
+{
+    let Opened {
+        writer,
+        seats: _seats,
+        intake: _intake,
+        lines,
+        queue,
+    } = open_both::<N, R>(rt, blank, queue)?;
+    let mut handles = Vec::new(alloc);
+    for line in lines {
+        let handle = spawn(&rt, move || submit_until_refused(rt, alloc, line))?;
+        handles.push(handle)?;
+    }
+    let ended = run_writer_for(&rt, queue, writer, JOBS);
+    let mut sum = 0u64;
+    for handle in handles {
+        let (kept, fault) = handle.join(&rt).ok_or("memory")?;
+        assert!(rt; is_answered(kept, fault), "{kept} kept, then {fault}");
+        sum = sum.saturating_add(u64::from(kept));
+    }
+    assert_eq!(rt; (sum, ended.taken, ended.refused), (JOBS, JOBS, 0));
+    assert_eq!(rt; ended.writer.tell().version(), JOBS);
+    Ok(())
+}
+
+#[test]
+fn each_is_answered(rt: HostRuntime) -> Result<(), Fail> {
+    let alloc = rt.alloc();
+    let blank = blank_store(alloc, 100, MAX_PLACES)?;
+    each_is_answered_named::<Brand, _>(rt, alloc, blank, blank_queue(alloc, MAX_PLACES)?)
+}
