@@ -2,3 +2,4 @@ pub mod Clock
 pub mod Gathered
 pub mod Sharing
 pub mod Halves
+pub mod Connections

@@ -1,6 +1,6 @@
 //! The system's clock.
 
-ghost use Rattle.std.specs.Prelude.{◌≡◌};
+ghost use Rattle.std.specs.Prelude.{◌≡◌, unwrap_or};
 ghost use Rattle.rs_sockets.specs.Clock.{last_of};
 
 use std::time::{Clock, SystemTime, UNIX_EPOCH};
@@ -23,7 +23,15 @@ impl SystemClock {
     pub fn now<H: Clock>(&mut self, rt: &H) -> u64
         ensures { result ≡ last_of self.new }
     {
-        if let Some(seconds) = seconds_since_1970(rt) {
+        self.tell(seconds_since_1970(rt))
+    }
+
+    /// The moment that was read, or if there is none the last one.
+    fn tell(&mut self, read: Option<u64>) -> u64
+        ensures moment { result ≡ unwrap_or read (last_of self.old) }
+        ensures kept { last_of self.new ≡ result }
+    {
+        if let Some(seconds) = read {
             self.last = seconds;
         }
         self.last

@@ -25,9 +25,10 @@ pub struct ToClient {
 ///
 /// # Errors
 ///
-/// If the system or memory refuses. The connection is closed.
+/// If a descriptor or memory is refused. The connection is closed.
 pub fn open(alloc: Global, stream: TcpStream) -> io::Result<(FromClient, ToClient)> {
-    stream.set_nodelay(true)?;
+    // Of a client that has gone already this may fail. The next read tells.
+    let _ = stream.set_nodelay(true);
     let reader = stream.try_clone()?;
     let (read, write) = split(alloc, reader, stream)?;
     Ok((FromClient { half: read }, ToClient { half: write }))
@@ -47,7 +48,14 @@ pub fn close<H: Clock>(rt: &H, input: FromClient, output: ToClient) -> io::Resul
 }
 
 impl Read for FromClient {
-    fn read(&mut self, buf: &mut [u8]) -> io::Result<usize> {
+    ghost use Rattle.std.specs.Io.{ReadsAtMost};
+    ghost use Rattle.std.specs.Prelude.{OnOk};
+    ghost use Rattle.rs_sockets.specs.Connections.{HasNoneWaiting};
+
+    fn read(&mut self, buf: &mut [u8]) -> io::Result<usize>
+        ensures bound { ReadsAtMost result buf.new }
+        ensures none_waits { OnOk result (HasNoneWaiting self.new) }
+    {
         self.half.read(buf)
     }
 }

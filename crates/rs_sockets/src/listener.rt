@@ -50,32 +50,31 @@ impl Listener {
 
     /// Waits for the next client. None if all connections were accepted.
     ///
-    /// An accept that fails counts as one of the connections. After it there is a pause, which doubles with
-    /// each further failure, from 10 milliseconds up to a second.
+    /// An accept that fails, or for which memory or a descriptor is refused, counts as one of the connections. If it was not the
+    /// last one, there is a pause after it, which doubles with each further failure, from 10 milliseconds up to a second.
     pub fn accept<H: Clock>(&self, rt: &H, alloc: Global) -> Option<(FromClient, ToClient)> {
         let mut pause = FIRST_PAUSE;
         for _ in 0..u64::MAX {
-            if !self.count_one() {
-                return None;
-            }
+            let left = self.count_one()?;
             if let Ok(connection) = self.accept_once(alloc) {
                 return Some(connection);
             }
-            thread::sleep(rt, Duration::from_millis(pause));
-            pause = longer(pause);
+            if left > 0 {
+                thread::sleep(rt, Duration::from_millis(pause));
+                pause = longer(pause);
+            }
         }
         None
     }
 
-    /// Counts one connection more. False if all were counted.
-    fn count_one(&self) -> bool {
-        self.left
-            .fetch_update(
-                Ordering::SeqCst,
-                Ordering::SeqCst,
-                |left| left.checked_sub(1),
-            )
-            .is_ok()
+    /// Counts one connection more, and gives how many are left then. None if all were counted.
+    fn count_one(&self) -> Option<u64> {
+        let before = self.left.fetch_update(
+            Ordering::SeqCst,
+            Ordering::SeqCst,
+            |left| left.checked_sub(1),
+        );
+        before.ok()?.checked_sub(1)
     }
 
     fn accept_once(&self, alloc: Global) -> io::Result<(FromClient, ToClient)> {

@@ -101,9 +101,9 @@ fn a_failed_accept_waits(rt: HostRuntime) -> Result<(), Fail> {
     let alloc = rt.alloc();
     for (connections, slept) in [
         (0, 0),
-        (1, 10),
-        (3, 70),
-        (9, 10 + 20 + 40 + 80 + 160 + 320 + 640 + 2_000),
+        (1, 0),
+        (3, 30),
+        (10, 10 + 20 + 40 + 80 + 160 + 320 + 640 + 2_000),
     ] {
         let listener = Listener::bind(&rt, "127.0.0.1:0", connections)?;
         listener.socket.set_nonblocking(true)?;
