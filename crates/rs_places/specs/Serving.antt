@@ -38,7 +38,9 @@ pub record IsServedAt (limit : ℕ) (from : Point State) (consumed : List ℕ �
   pub kept : (before : List Turn) (turn : Turn) (after : List Turn) (o : Open) (p : Publish) (answer : Reply) → turns ≡ before ++ turn ∷ after
       → (point_after from before).state.phase ≡ phase.Open o → IsToldKept o turn p answer
       → IsKeptIn (point_after from before).mark turn p (turn.to.seen ∷ (lists_of after ++ gate.known ∷ []))
-  -- the place stays, and the serials rise: two publications that were told kept are two entries
-  pub marks : MarkGrows from.mark gate.mark
+  -- Between any two points of the run the place stays, and the serial does not fall. A publication that was told kept used a new
+  -- one, so two of them are two entries.
+  pub marks : (before between after : List Turn) → turns ≡ before ++ (between ++ after) → MarkGrows (point_after from before).mark (point_after from (before ++ between)).mark
+  pub last_mark : gate.mark ≡ (point_after from turns).mark
   -- what the filters were answered is sent in order, each message once
   pub sent : (c : Connect) → Opens c turns → (made : IsReplaying c turns) × IsSentInOrder c turns made.made

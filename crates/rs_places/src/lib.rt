@@ -1,11 +1,16 @@
 //! A place of a store that other places use too: its gate, which hands changes to the writer by the place's line and reads by the
-//! place's seat ([`SharedGate`]). [`serve_place`] serves one connection over it.
+//! place's seat ([`SharedGate`]). [`serve_place`] serves one connection over it. [`run_places`] serves all places, each on a thread of
+//! its own; a [`Turn`] gives a place its connections.
 #![tactic(auto)]
 
+mod running;
 mod serving;
 mod shared_gate;
 #[cfg(test)]
 mod tests;
+mod turn;
 
+pub use running::{run_places, serve_turns};
 pub use serving::serve_place;
 pub use shared_gate::SharedGate;
+pub use turn::Turn;

@@ -1,14 +1,17 @@
 //! A gate over a seat and its line.
 
-ghost use Rattle.std.specs.Prelude.{◌≡◌, ◌≤◌, length};
+ghost use Rattle.std.specs.Prelude.{◌≡◌, ◌≤◌, ◌∷◌, ◌++◌, [], length, OnOk};
+ghost use Rattle.rs_intake.specs.Lines.{AddsAtMost, job, next_serial};
 ghost use Rattle.rs_message.specs.declared.entry.TheConstants.{MAX_PLACES};
+ghost use Rattle.rs_places.specs.Shared.{Knows};
+ghost use Rattle.rs_session.specs.Gate.{Grows, Submits, Uses};
 ghost use Rattle.rs_store.specs.History.{IsLegal};
 
 use rs_intake::{Intake, LineEnd, LineName, SeatLine};
 use rs_message::{Found, Operation, SubmitFault};
 use rs_session::Gate;
 use rs_topic::TopicFilter;
-use rs_version::Seat;
+use rs_version::{Seat, Told};
 use std::alloc::AllocError;
 use std::marker::Model;
 use std::sync::{Arc, Wait};
@@ -36,7 +39,8 @@ impl<N: LineName, R: Wait + Copy> Model for SharedGate<N, R> {
 }
 
 impl<N: LineName, R: Wait + Copy> SharedGate<N, R> {
-    /// A gate that knows what the seat knows, and goes on with the line's place and serial.
+    /// A gate that knows what the seat knows, and goes on with the line's place and serial. Any seat of the store will do: a seat
+    /// has no place.
     pub fn new(rt: R, intake: Arc<Intake<N>>, seat: Seat<N>, line: SeatLine<N>) -> SharedGate<N, R>
         ensures known { result.known ≡ seat }
         ensures mark { result.mark ≡ record { place = line.place; serial = line.serial } }
@@ -70,7 +74,16 @@ impl<N: LineName, R: Wait + Copy> SharedGate<N, R> {
         self.seat.version()
     }
 
-    /// Gives the gate up. What the queue took from its line is known to the end.
+    /// A token of the list that the gate knows. By it this list is compared with those that other places know, and with those that
+    /// the writer published ([`Told::reaches`]).
+    pub fn told(&self) -> Told<N>
+        ensures told { result ≡ self.now.known }
+        ensures legal { IsLegal N.limit self.now.known }
+    {
+        self.seat.told()
+    }
+
+    /// Gives the gate up. The line's end keeps what the queue took from the line.
     pub fn close(self) -> LineEnd<N>
         ensures place { result.place ≡ self.mark.place }
         ensures sent { result.sent ≡ self.sent }
@@ -92,8 +105,15 @@ impl<N: LineName, R: Wait + Copy> Gate for SharedGate<N, R> {
 
     ghost mark = { λ gate. gate.mark };
 
-    /// Hands the change to the writer and waits for the receipt. The seat learns its token before `Ok` is answered.
-    fn submit(&mut self, operation: Operation) -> Result<(), SubmitFault> {
+    /// Hands the change to the writer and waits for the receipt. The seat learns its token before `Ok` is answered. Beside what each
+    /// gate promises, the line sent at most this change, under the next serial, and at `Ok` it did.
+    fn submit(&mut self, operation: Operation) -> Result<(), SubmitFault>
+        ensures list { Grows (Knows N.limit self.old) (Knows N.limit self.new) (Submits operation self.old.mark self.new.mark result) }
+        ensures mark { Uses self.old.mark self.new.mark }
+        ensures serial { self.new.mark.serial ≡ next_serial self.old.mark.serial }
+        ensures sent { AddsAtMost self.old.sent (job self.old.mark.place self.new.mark.serial operation) self.new.sent }
+        ensures last { OnOk result (self.new.sent ≡ self.old.sent ++ job self.old.mark.place self.new.mark.serial operation ∷ []) }
+    {
         // For the proof: this call says that the serial is a u64.
         let _serial = self.line.serial();
         let receipt = self.intake.submit(&self.rt, &mut self.line, operation)?;

@@ -1,4 +1,4 @@
-use Rattle.rs_places.proofs.tests.in_turn.Given as goal
+use Rattle.rs_places.proofs.tests.in_turn.in_turn.Given as goal
 
 -- the store and the queue that were just made
 abbrev pub ghosts-in_turn_named-N-StoreName : goal.ghosts-in_turn_named-N-StoreName

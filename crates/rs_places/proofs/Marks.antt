@@ -1,0 +1,41 @@
+-- Marks along a run.
+use Rattle.std.proofs.Common.{◌≡◌, List, [], ◌∷◌, ◌++◌, refl, sym, ap, subst, ◌∙◌, append-nil}
+use Rattle.rs_session.specs.Kept.{MarkGrows, point_after}
+use Rattle.rs_session.specs.Points.{Point}
+use Rattle.rs_session.specs.Run.{Run, Turn}
+use Rattle.rs_session.specs.State.{State}
+use Rattle.rs_session.specs.Gate.{Mark}
+use Rattle.rs_session.proofs.Keeping.{run_marks}
+
+run_front : (from to : Point State) (before after : List Turn) → Run from (before ++ after) to → Run from before (point_after from before)
+run_front from to [] after run = refl
+run_front from to (turn ∷ turns) after (here, run) = (here, run_front turn.to to turns after run)
+
+run_behind : (from to : Point State) (before after : List Turn) → Run from (before ++ after) to → Run (point_after from before) after to
+run_behind from to [] after run = run
+run_behind from to (turn ∷ turns) after (here, run) = run_behind turn.to to turns after run
+
+after_both : (from : Point State) (before between : List Turn) → point_after (point_after from before) between ≡ point_after from (before ++ between)
+after_both from [] between = refl
+after_both from (turn ∷ turns) between = after_both turn.to turns between
+
+pub run_last : (from to : Point State) (turns : List Turn) → Run from turns to → to ≡ point_after from turns
+run_last from to [] run = run
+run_last from to (turn ∷ turns) (here, run) = run_last turn.to to turns run
+
+pub marks_between : (from to : Point State) (turns before between after : List Turn) → Run from turns to → turns ≡ before ++ (between ++ after)
+    → MarkGrows (point_after from before).mark (point_after from (before ++ between)).mark
+marks_between from to turns before between after run whole =
+    let mid = point_after from before in
+    let P : List Turn → Type 0 = λ ts. Run from ts to in
+    let Q : Point State → Type 0 = λ point. MarkGrows mid.mark point.mark in
+    let rest = run_behind from to before (between ++ after) (subst P whole run) in
+    subst Q (after_both from before between) (run_marks mid (point_after mid between) between (run_front mid to between after rest))
+
+-- from the first to the last
+pub marks_through : (from : Point State) (turns : List Turn) (last : Mark)
+    → ((before between after : List Turn) → turns ≡ before ++ (between ++ after) → MarkGrows (point_after from before).mark (point_after from (before ++ between)).mark)
+    → last ≡ (point_after from turns).mark → MarkGrows from.mark last
+marks_through from turns last marks is =
+    let P : Mark → Type 0 = λ mark. MarkGrows from.mark mark in
+    subst P (sym is) (marks [] turns [] (sym (append-nil turns)))

@@ -1,0 +1,103 @@
+//! Connections one after the other.
+
+ghost use Rattle.std.specs.Prelude.{◌≡◌};
+
+use super::{CONNECTED, PUBLISHES, REPLAYED, SUBSCRIBES, Store, blank_store, opened, settled};
+use crate::{SharedGate, serve_place};
+use rs_intake::{BlankQueue, LineName, blank_queue};
+use rs_server::{Counted, Moments, Served};
+use rs_version::Blank;
+use std::alloc::Global;
+use std::marker::Brand;
+use std::process::Abort;
+use std::sync::Wait;
+use std::test::Fail;
+use std::thread::Threads;
+
+/// Whether this is what the connection writes to this input, and the client ends it. The gate comes back.
+fn writes<N: LineName, R: Wait + Copy>(
+    rt: &R,
+    alloc: Global,
+    gate: SharedGate<N, R>,
+    number: u64,
+    input: &'static [u8],
+    output: &'static [u8],
+) -> (bool, SharedGate<N, R>) {
+    let mut reader = Counted::new(input);
+    let mut writer = Counted::new(Vec::new(alloc));
+    let mut clock = Moments::new(0, Vec::new(alloc));
+    let (served, gate) = serve_place(
+        rt,
+        alloc,
+        &mut reader,
+        &mut writer,
+        gate,
+        number,
+        &mut clock,
+    );
+    let is_served = served == Ok(Served::ClientClosed);
+    (is_served && writer.into_inner().as_slice() == output, gate)
+}
+
+fn in_turn_named<
+    N: LineName + Send + Sync + 'static,
+    R: Threads + Wait + Abort + Copy + Send + Sync + 'static,
+>(rt: R, alloc: Global, blank: Blank, queue: BlankQueue) -> Result<(), Fail>
+    requires store { (blank.history ≡ N.history) × (blank.limit ≡ N.limit) }
+    requires queue { (queue.name ≡ N.queue) × (queue.places ≡ N.places) }
+{
+    let Store { writer, mut gates } = opened::<N, R>(rt, alloc, blank, queue)?;
+    let (Some(second), Some(first)) = (gates.pop(), gates.pop()) else {
+        return Err(Fail::from("there are two places"));
+    };
+    let (published, first) = writes(&rt, alloc, first, 1, PUBLISHES, CONNECTED);
+    // The next connection of the same place, and one of another place, which was told nothing.
+    let (seen, first) = writes(&rt, alloc, first, 2, SUBSCRIBES, REPLAYED);
+    let (seen_later, second) = writes(&rt, alloc, second, 1, SUBSCRIBES, REPLAYED);
+    let places = (first.place(), second.place());
+    let ends = vec![in alloc; first.close(), second.close()]?;
+    assert_eq!(rt; (published, seen, seen_later), (true, true, true));
+    assert_eq!(rt; places, (1, 2));
+    assert_eq!(rt; settled(&rt, writer, ends), (Some(1), 1));
+    Ok(())
+}
+
+/// A later connection, at its own or at another place, is sent what an earlier one published.
+#[test]
+fn in_turn(rt: HostRuntime) -> Result<(), Fail> {
+    let alloc = rt.alloc();
+    let blank = blank_store(alloc, 10, 2)?;
+    in_turn_named::<Brand, _>(rt, alloc, blank, blank_queue(alloc, 2)?)
+}
+
+fn told_named<
+    N: LineName + Send + Sync + 'static,
+    R: Threads + Wait + Abort + Copy + Send + Sync + 'static,
+>(rt: R, alloc: Global, blank: Blank, queue: BlankQueue) -> Result<(), Fail>
+    requires store { (blank.history ≡ N.history) × (blank.limit ≡ N.limit) }
+    requires queue { (queue.name ≡ N.queue) × (queue.places ≡ N.places) }
+{
+    let Store {
+        writer: _writer,
+        mut gates,
+    } = opened::<N, R>(rt, alloc, blank, queue)?;
+    let (Some(second), Some(first)) = (gates.pop(), gates.pop()) else {
+        return Err(Fail::from("there are two places"));
+    };
+    let (published, first) = writes(&rt, alloc, first, 1, PUBLISHES, CONNECTED);
+    let told = first.told();
+    let before = (second.version(), second.told().reaches(&told));
+    let (seen, second) = writes(&rt, alloc, second, 1, SUBSCRIBES, REPLAYED);
+    let after = (second.version(), second.told().reaches(&told));
+    assert_eq!(rt; (published, seen, told.version()), (true, true, 1));
+    assert_eq!(rt; (before, after), ((0, false), (1, true)));
+    Ok(())
+}
+
+/// A place that was told of a publication knows it, and another place knows it once it has read.
+#[test]
+fn told(rt: HostRuntime) -> Result<(), Fail> {
+    let alloc = rt.alloc();
+    let blank = blank_store(alloc, 10, 2)?;
+    told_named::<Brand, _>(rt, alloc, blank, blank_queue(alloc, 2)?)
+}
