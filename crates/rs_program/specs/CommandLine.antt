@@ -1,33 +1,78 @@
 -- The command line, as the crate clap reads it.
-use Rattle.std.specs.Prelude.{◌≡◌, ◌-◌, ◌^◌, true, false, List, Some, codes}
+use Rattle.std.specs.Prelude.{◌≡◌, ◌≤◌, ◌-◌, ◌^◌, ℕ, true, false, List, [], ◌∷◌, Some, codes}
+use Rattle.std.specs.String.{string_bytes}
 use Rattle.std.specs.Str.Parse.{IsNumeral, digits_value, without_leading_plus}
-use Rattle.clap.specs.Words.{App, Rule, Row, Text, new_app, new_rule, with_rule, with_subcommand, one_of, subcommand_of}
+use Rattle.clap.specs.Words.{App, Rule, Row, Text, new_app, new_rule, with_rule, with_subcommand, first_of, one_of, subcommand_of}
 use Rattle.clap.specs.Simple.{on_top}
 use Rattle.clap.specs.declared.builder.action.ArgAction.TheVariants.{SetTrue}
 use Rattle.clap.specs.declared.builder.value_parser.ValueParser.TheVariants.{Unsigned}
+use Rattle.rs_message.specs.declared.entry.TheConstants.{MAX_PLACES}
+use Rattle.rs_store.specs.declared.limit.TheConstants.{MAX_TOPICS}
+use Rattle.rs_program.specs.declared.words.commands.TheConstants.{MAX_CONNECTIONS}
 use Rattle.rs_program.specs.declared.words.Run.{Run}
-use Rattle.rs_program.specs.declared.words.Run.TheVariants.{Pipe}
+use Rattle.rs_program.specs.declared.words.Run.TheVariants.{Pipe, Listen}
 
 -- `--hex`
 abbrev pub hex_option : Rule
 hex_option = record (new_rule (codes "hex")) { long = Some (codes "hex"); action = Some SetTrue }
 
+-- `--NAME NUMBER`, a number in these bounds
+abbrev pub number_option : Text → ℕ → ℕ → Rule
+number_option name least most = record (new_rule name) { long = Some name; value_names = 1; parser = Some (Unsigned least most) }
+
 -- `--at SECONDS`, which has to be there
 abbrev pub at_option : Rule
-at_option = record (new_rule (codes "at")) { long = Some (codes "at"); value_names = 1; parser = Some (Unsigned 0 (2 ^ 64 - 1)); required = true }
+at_option = record (number_option (codes "at") 0 (2 ^ 64 - 1)) { required = true }
+
+-- `--address ADDRESS`, which has to be there
+abbrev pub address_option : Rule
+address_option = record (new_rule (codes "address")) { long = Some (codes "address"); value_names = 1; required = true }
+
+-- `--places NUMBER`
+abbrev pub places_option : Rule
+places_option = record (number_option (codes "places") 1 MAX_PLACES) { defaults = codes "4" ∷ [] }
+
+-- `--topics NUMBER`
+abbrev pub topics_option : Rule
+topics_option = record (number_option (codes "topics") 1 MAX_TOPICS) { defaults = codes "10000" ∷ [] }
+
+-- `--connections NUMBER`, which has to be there
+abbrev pub connections_option : Rule
+connections_option = record (number_option (codes "connections") 1 MAX_CONNECTIONS) { required = true }
 
 abbrev pub pipe_words : App
 pipe_words = with_rule (with_rule (new_app (codes "pipe")) hex_option) at_option
 
+abbrev pub listen_words : App
+listen_words = with_rule (with_rule (with_rule (with_rule (new_app (codes "listen")) address_option) places_option) topics_option) connections_option
+
 -- the words after the program's name: one of its commands, with its options
 abbrev pub rstored_words : App
-rstored_words = with_subcommand (on_top (λ s. record s { no_binary_name = true; subcommand_required = true; disable_help_subcommand = true }) (new_app (codes "rstored"))) pipe_words.top
+rstored_words = with_subcommand (with_subcommand (on_top (λ s. record s { has_version = true; no_binary_name = true; subcommand_required = true; disable_help_subcommand = true }) (new_app (codes "rstored"))) pipe_words.top) listen_words.top
 
--- what the values of a command's options ask for: a number of seconds in decimal, before which a plus may stand
-abbrev pub IsRunOf : List Row → Run → Type 0
-IsRunOf rows (Pipe hex at) = (text : Text) × (one_of (codes "at") rows ≡ Some text) × IsNumeral 10 (without_leading_plus text) × (digits_value 10 (without_leading_plus text) ≡ at)
+-- The option's value is this number, in decimal, before which a plus may stand. It is in these bounds.
+pub record IsNumberOf (rows : List Row) (option : Text) (least most number : ℕ) : Type 0 where
+  pub text : Text
+  pub given : one_of option rows ≡ Some text
+  pub digits : IsNumeral 10 (without_leading_plus text)
+  pub value : digits_value 10 (without_leading_plus text) ≡ number
+  pub above : least ≤ number
+  pub below : number ≤ most
+
+-- what the values of a command's options ask for
+abbrev pub IsRunOf : Text → List Row → Run → Type 0
+IsRunOf name rows (Pipe hex at) = (name ≡ codes "pipe") × IsNumberOf rows (codes "at") 0 (2 ^ 64 - 1) at
     × (one_of (codes "hex") rows ≡ Some (codes "true") → hex ≡ true) × (one_of (codes "hex") rows ≡ Some (codes "false") → hex ≡ false)
+IsRunOf name rows (Listen address places topics connections) = (name ≡ codes "listen") × (first_of (codes "address") rows ≡ Some (string_bytes address))
+    × IsNumberOf rows (codes "places") 1 MAX_PLACES places × IsNumberOf rows (codes "topics") 1 MAX_TOPICS topics
+    × IsNumberOf rows (codes "connections") 1 MAX_CONNECTIONS connections
+
+-- each number is in its range
+abbrev pub IsInRange : Run → Type 0
+IsInRange (Pipe hex at) = at ≤ 2 ^ 64 - 1
+IsInRange (Listen address places topics connections) = (1 ≤ places) × (places ≤ MAX_PLACES) × (1 ≤ topics) × (topics ≤ MAX_TOPICS)
+    × (1 ≤ connections) × (connections ≤ MAX_CONNECTIONS)
 
 -- the words name a command, and its options ask for this
 abbrev pub AskFor : List Text → Run → Type 0
-AskFor words run = (name : Text) × (rows : List Row) × (subcommand_of rstored_words words ≡ Some (name, rows)) × IsRunOf rows run
+AskFor words run = (name : Text) × (rows : List Row) × (subcommand_of rstored_words words ≡ Some (name, rows)) × IsRunOf name rows run

@@ -30,6 +30,7 @@ words_status words.NoMemory = 1
 abbrev pub fault_status : RunFault → ℕ
 fault_status (run.Words fault) = words_status fault
 fault_status (run.Pipe fault) = pipe_status fault
+fault_status run.Listen = 1
 
 -- 0 if the connection ended, however
 abbrev pub run_status : {T : Type 0} → Result T RunFault → ℕ

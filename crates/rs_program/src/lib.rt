@@ -1,17 +1,19 @@
-//! The program `rstored`: its command line, its store, and one connection from an input to an output.
+//! The program `rstored`: its command line, one connection from an input to an output with its store, and
+//! many clients by TCP.
 //!
 //! [`run`] is the program. [`read_words`] reads the command line, [`pipe`] serves one connection from an
 //! input to an output, of raw bytes or of lines of hex digits, and [`serve_bytes`] in memory. [`OwnStore`]
-//! is the gate to the program's store.
+//! is the gate to the store of `pipe`. What serves clients by TCP is `rs_listener`.
 //!
 //! `pipe` promises what `serve` of `rs_server` does, at one moment: of the bytes themselves, or of those
 //! that lines of hex digits stand for. `serve_bytes` promises the same if it is `Ok`, over an empty
-//! `OwnStore`. `read_words` gives what the command line asks for. The contracts do not
+//! `OwnStore`. `read_words` gives what the command line asks for, each number in its range. The contracts do not
 //! say which outcome the status of `run` is of, what standard input gave or standard output got, or that a
 //! call returns.
 #![tactic(auto)]
 
 mod law;
+mod listening;
 mod memory;
 mod own_store;
 mod piping;
@@ -23,7 +25,7 @@ pub use memory::serve_bytes;
 pub use own_store::{MAX_OWN_TOPICS, OwnStore};
 pub use piping::{PipeFault, Piped, pipe};
 pub use program::{RunFault, run};
-pub use words::{Run, WordsFault, read_words};
+pub use words::{MAX_CONNECTIONS, Run, WordsFault, read_words};
 
 #[cfg(test)]
 mod tests;

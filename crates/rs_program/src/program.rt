@@ -1,10 +1,11 @@
 //! The program `rstored`.
 
-ghost use Rattle.std.specs.Prelude.{◌≡◌, Result};
+ghost use Rattle.std.specs.Prelude.{◌≡◌, IfOk, Result};
+ghost use Rattle.rs_program.specs.CommandLine.{IsInRange};
 ghost use Rattle.rs_program.specs.Statuses.{fault_status, run_status};
 ghost use Rattle.rs_program.specs.declared.program.RunFault.{RunFault};
-ghost use Rattle.rs_server.specs.declared.connection.Served.{Served};
 
+use crate::listening::listen;
 use crate::own_store::OwnStore;
 use crate::piping::{PipeFault, pipe};
 use crate::words::{Run, WordsFault, read_words, refused};
@@ -13,18 +14,24 @@ use std::alloc::Global;
 use std::env;
 use std::env::Env;
 use std::io::{ErrorKind, Read, Write};
+use std::net::{Net, TcpListener, TcpStream};
 use std::sync::Wait;
+use std::thread::Threads;
+use std::time::Clock;
 use thiserror::Error;
 
-/// Why the program did not serve a connection to its end.
+/// Why the program did not serve what it was asked to.
 #[derive(Debug, Drop, Error)]
 pub enum RunFault {
-    /// The command line asks for no connection.
+    /// The command line asks for no run.
     #[error("{0}")]
     Words(WordsFault),
     /// The connection was broken off.
     #[error("{0}")]
     Pipe(PipeFault),
+    /// No client can be served.
+    #[error("cannot listen")]
+    Listen,
 }
 
 impl RunFault {
@@ -35,20 +42,34 @@ impl RunFault {
         match self {
             RunFault::Words(fault) => fault.status(),
             RunFault::Pipe(fault) => fault.status(),
+            RunFault::Listen => 1,
         }
     }
 }
 
-/// Runs the program by its command line, over this input and output, and gives its exit status: 0 if the
-/// connection ended or help was asked for, 1 if reading, writing or memory failed, 2 if the command line or
-/// a line of the input is refused.
+/// Runs the program by its command line, and gives its exit status: 0 if the connection or all connections ended, or help was asked
+/// for, 1 if no client can be served, or reading, writing or memory failed, 2 if the command line or a line of the input is refused.
+///
+/// `pipe` is over this input and output. All else that is printed, help, faults and the lines of `listen`, goes to the standard
+/// streams of `rt`.
 pub fn run<H, I: Read + Drop, W: Write + Drop>(rt: &H, input: I, output: W) -> u8
 where
-    H: Wait + Env + AllocGlobal + Print + Eprint,
-    ensures { (outcome : Result Served RunFault) × (result ≡ run_status outcome) }
+    H: Clock
+        + Net<Listener = TcpListener, Stream = TcpStream>
+        + Threads
+        + Wait
+        + Env
+        + AllocGlobal
+        + Print
+        + Eprint
+        + Copy
+        + Send
+        + Sync
+        + 'static,
+    ensures { (outcome : Result (Unit {0}) RunFault) × (result ≡ run_status outcome) }
 {
     match run_command(rt, input, output) {
-        Ok(_served) => 0,
+        Ok(()) => 0,
         Err(fault) => {
             report(rt, &fault);
             fault.status()
@@ -60,21 +81,51 @@ fn run_command<H, I: Read + Drop, W: Write + Drop>(
     rt: &H,
     input: I,
     output: W,
-) -> Result<Served, RunFault>
+) -> Result<(), RunFault>
 where
-    H: Wait + Env + AllocGlobal,
+    H: Clock
+        + Net<Listener = TcpListener, Stream = TcpStream>
+        + Threads
+        + Wait
+        + Env
+        + AllocGlobal
+        + Print
+        + Copy
+        + Send
+        + Sync
+        + 'static,
 {
     match read_command_line(rt) {
         Ok(Run::Pipe { hex, at }) => match pipe_once(rt, rt.alloc(), input, output, hex, at) {
-            Ok(served) => Ok(served),
+            Ok(_served) => Ok(()),
             Err(fault) => Err(RunFault::Pipe(fault)),
+        },
+        Ok(
+            Run::Listen {
+                address,
+                places,
+                topics,
+                connections,
+            },
+        ) => match listen(
+            rt,
+            rt.alloc(),
+            address.as_str(),
+            places,
+            topics,
+            connections,
+        ) {
+            Ok(()) => Ok(()),
+            Err(_) => Err(RunFault::Listen),
         },
         Err(fault) => Err(RunFault::Words(fault)),
     }
 }
 
 /// What the command line asks for.
-fn read_command_line<H: Env + AllocGlobal>(rt: &H) -> Result<Run, WordsFault> {
+fn read_command_line<H: Env + AllocGlobal>(rt: &H) -> Result<Run, WordsFault>
+    ensures range { IfOk result IsInRange }
+{
     let words = match env::args(rt) {
         Ok(words) => words,
         Err(error) if error.kind() == ErrorKind::OutOfMemory => return Err(WordsFault::NoMemory),
@@ -92,7 +143,7 @@ fn report<H: Print + Eprint>(rt: &H, fault: &RunFault) {
         RunFault::Words(WordsFault::Help(text)) => print!(rt; "{text}"),
         RunFault::Words(WordsFault::Refused(text)) => eprint!(rt; "{text}"),
         RunFault::Words(WordsFault::NoMemory) => eprintln!(rt; "rstored: out of memory"),
-        RunFault::Pipe(fault) => eprintln!(rt; "rstored: {fault}"),
+        RunFault::Pipe(_) | RunFault::Listen => eprintln!(rt; "rstored: {fault}"),
     };
 }
 

@@ -1,19 +1,24 @@
 //! The command line.
 
-ghost use Rattle.std.specs.Prelude.{◌≡◌, IfOk, Some, map, true, false, List};
+ghost use Rattle.std.specs.Prelude.{◌≡◌, IfOk, Some, map, true, List};
 ghost use Rattle.std.specs.String.{string_bytes};
-ghost use Rattle.clap.specs.Words.{Row, Text, app_of, has_subcommand, subcommand_rows_of};
-ghost use Rattle.clap.specs.declared.builder.command.Command.TheViews.{out-Command as fields_of};
-ghost use Rattle.rs_program.specs.CommandLine.{AskFor, IsRunOf, pipe_words, rstored_words};
+ghost use Rattle.clap.specs.Words.{Row, Text, has_subcommand, subcommand_rows_of};
+ghost use Rattle.rs_program.specs.CommandLine.{AskFor, IsInRange, IsRunOf};
 ghost use Rattle.rs_program.specs.Statuses.{words_status};
 
+mod commands;
+mod values;
+
+pub use crate::words::commands::MAX_CONNECTIONS;
+use crate::words::commands::command;
+use crate::words::values::{listen_of, pipe_of};
+use clap::ArgMatches;
 use clap::error::ErrorKind;
-use clap::{Arg, ArgAction, ArgMatches, Command, value_parser};
-use std::alloc::{AllocError, Global};
+use std::alloc::Global;
 use thiserror::Error;
 
 /// What the command line asks for.
-#[derive(Clone, Copy, Debug, PartialEq, Eq)]
+#[derive(Debug, Drop, PartialEq, Eq)]
 pub enum Run {
     /// One connection from standard input to standard output.
     Pipe {
@@ -22,12 +27,23 @@ pub enum Run {
         /// The time of every packet, in seconds.
         at: u64,
     },
+    /// Connections by TCP.
+    Listen {
+        /// The address to listen on, as it was given.
+        address: String,
+        /// How many clients are served at the same time: 1 to [`MAX_PLACES`](rs_message::MAX_PLACES).
+        places: u8,
+        /// How many topics may hold a message: 1 to [`MAX_TOPICS`](rs_store::MAX_TOPICS).
+        topics: u32,
+        /// After how many connections the program ends: 1 to [`MAX_CONNECTIONS`].
+        connections: u64,
+    },
 }
 
-/// Why no connection is served: help was asked for, the words are refused, or memory is.
+/// Why the command line asks for no run: help or the version is to be shown, the words are refused, or memory is.
 #[derive(Debug, Drop, Error)]
 pub enum WordsFault {
-    /// Help was asked for: its text.
+    /// Help or the version was asked for: its text.
     #[error("{0}")]
     Help(String),
     /// The words are refused: the text that says why.
@@ -51,27 +67,10 @@ impl WordsFault {
     }
 }
 
-const ABOUT: &str =
-    "Keeps the retained message of each MQTT 5 topic and answers subscriptions from it";
-
-const PIPE_ABOUT: &str = "Serve one MQTT 5 connection from standard input to standard output";
-
-const PIPE_HELP: &str = "\
-Serves one MQTT 5 connection: packets of the client come from standard input, and the replies go to
-standard output. It ends when the client disconnects, at a fault, or at the end of the input. Nothing
-is kept between two runs.
-
-With --hex both are text: each line of the input is an even number of hex digits (spaces and empty
-lines are ignored), and each reply is one line of hex digits.";
-
-const HEX_HELP: &str = "Read and write lines of hex digits in place of raw bytes";
-
-const AT_HELP: &str =
-    "The time of every packet, in whole seconds, by which retained messages expire";
-
 /// What the words after the program's name ask for.
 pub fn read_words(alloc: Global, words: &[String]) -> Result<Run, WordsFault>
-    ensures { IfOk result (AskFor (map string_bytes words.now)) }
+    ensures asked { IfOk result (AskFor (map string_bytes words.now)) }
+    ensures range { IfOk result IsInRange }
 {
     let Ok(command) = command(alloc) else {
         return Err(WordsFault::NoMemory);
@@ -82,55 +81,22 @@ pub fn read_words(alloc: Global, words: &[String]) -> Result<Run, WordsFault>
     }
 }
 
-fn command<'a>(alloc: Global) -> Result<Command<'a>, AllocError>
-    ensures shape { IfOk result (λ c. app_of c ≡ rstored_words) }
-    ensures local { IfOk result (λ c. (fields_of c).has_globals ≡ false) }
-{
-    Command::new(alloc, "rstored")
-        .about(ABOUT)
-        .bin_name("rstored")?
-        .no_binary_name(true)
-        .subcommand_required(true)
-        .disable_help_subcommand(true)
-        .subcommand(pipe_command(alloc)?)
-}
-
-fn pipe_command<'a>(alloc: Global) -> Result<Command<'a>, AllocError>
-    ensures shape { IfOk result (λ c. app_of c ≡ pipe_words) }
-    ensures local { IfOk result (λ c. (fields_of c).has_globals ≡ false) }
-{
-    let hex = Arg::new(alloc, "hex")
-        .long("hex")
-        .action(ArgAction::SetTrue)
-        .help(HEX_HELP);
-    let at = Arg::new(alloc, "at")
-        .long("at")
-        .value_name("SECONDS")
-        .value_parser(value_parser!(u64))
-        .required(true)
-        .help(AT_HELP);
-    Command::new(alloc, "pipe")
-        .about(PIPE_ABOUT)
-        .long_about(PIPE_HELP)
-        .arg(hex)?
-        .arg(at)
-}
-
 fn run_of(alloc: Global, matches: &ArgMatches<'_>) -> Result<Run, WordsFault>
     requires { has_subcommand matches.now ≡ true }
-    ensures { IfOk result (λ run. (name : Text) × (rows : List Row) × (subcommand_rows_of matches.now ≡ Some (name, rows)) × IsRunOf rows run) }
+    ensures run { IfOk result (λ run. (name : Text) × (rows : List Row) × (subcommand_rows_of matches.now ≡ Some (name, rows)) × IsRunOf name rows run) }
+    ensures range { IfOk result IsInRange }
 {
-    let Some((_, found)) = matches.subcommand() else {
+    let Some((name, found)) = matches.subcommand() else {
         unreachable!()
     };
-    // Never taken: the command requires it. What clap promises of a subcommand's values does not say so.
-    let Some(at) = found.get_one::<u64>("at") else {
-        return Err(refused(alloc, "error: --at SECONDS is missing\n"));
-    };
-    Ok(Run::Pipe {
-        hex: found.get_flag("hex"),
-        at,
-    })
+    if name == "listen" {
+        listen_of(alloc, found)
+    } else if name == "pipe" {
+        pipe_of(alloc, found)
+    } else {
+        // Never taken: there is no other command. The contract of clap does not say so.
+        Err(refused(alloc, "error: no such command\n"))
+    }
 }
 
 /// Words that are refused, with this text.

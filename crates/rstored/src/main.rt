@@ -1,4 +1,4 @@
-//! The program: one connection to a store of retained MQTT 5 messages.
+//! The program: retained MQTT 5 messages, for one connection or for many by TCP.
 #![tactic(auto)]
 
 use std::process::ExitCode;

@@ -1,4 +1,4 @@
-use Rattle.std.proofs.Common.{ap, refl, sym, ◌∙◌, List, ℕ}
+use Rattle.std.proofs.Common.{ap, refl, ◌∙◌, List, ℕ}
 use Rattle.rs_hex.specs.Views.{due_digits, hex_contents, hex_remaining, output_of}
 use Rattle.rs_server.specs.Conversation.{start, assigned_of}
 use Rattle.rs_server.specs.Counts.{inner_of}

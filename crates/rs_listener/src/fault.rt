@@ -1,0 +1,25 @@
+//! Why no client is served.
+
+use std::alloc::AllocError;
+use std::io;
+use thiserror::Error;
+
+/// Why a [`Server`](crate::Server) serves no client.
+#[derive(Debug, Drop, Error)]
+pub enum ListenFault {
+    /// The address is none, is in use, or may not be bound.
+    #[error("the address cannot be listened on: {0}")]
+    Address(io::Error),
+    /// Memory was refused.
+    #[error("out of memory")]
+    NoMemory,
+    /// The system gives no thread.
+    #[error("no thread can be started")]
+    NoThread,
+}
+
+impl From<AllocError> for ListenFault {
+    fn from(_: AllocError) -> ListenFault {
+        ListenFault::NoMemory
+    }
+}

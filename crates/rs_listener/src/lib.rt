@@ -1,0 +1,19 @@
+//! A server of retained messages: many clients by TCP, over one store.
+//!
+//! [`Server::bind`] binds an address and makes an empty store, [`Server::address`] tells the address, and [`Server::run`] serves
+//! clients until so many have connected. Each place has a thread, which serves one client after the other, and the store's writer
+//! has one.
+//!
+//! What a place does with a connection is `serve_place` of `rs_places`. The contracts of this crate do not say what a socket gives or
+//! takes, that a thread runs, or that a call returns.
+#![tactic(auto)]
+
+mod fault;
+mod opening;
+mod server;
+#[cfg(test)]
+mod tests;
+mod turn;
+
+pub use fault::ListenFault;
+pub use server::{Server, Summary};

@@ -1,0 +1,27 @@
+use Rattle.std.proofs.Common.{◌≡◌, ◌∙◌, ap, ap₂, refl, false, codes}
+use Rattle.std.proofs.lemmas.Result.{IfOk-weaker}
+use Rattle.clap.specs.Words.{App, app_of, new_app, with_rule}
+use Rattle.clap.specs.Simple.{app_of_fields}
+use Rattle.clap.specs.declared.builder.command.Command.{Command}
+use Rattle.clap.specs.declared.builder.command.Command.TheOpen.{Command-F}
+use Rattle.clap.specs.declared.builder.command.Command.TheViews.{out-Command}
+use Rattle.rs_program.specs.CommandLine.{address_option, places_option, topics_option}
+use Rattle.rs_program.proofs.words.commands.listen_command.Goals as goal
+
+pub returns-clause-shape : goal.returns-clause-shape
+returns-clause-shape c =
+    let none : app_of c.long_about.result ≡ new_app (codes "listen") = ap app_of_fields c.long_about.ensures ∙ ap app_of_fields c.about.ensures ∙ c.new.ensures.app in
+    let with_first : App = with_rule (new_app (codes "listen")) address_option in
+    let with_second : App = with_rule with_first places_option in
+    let first : app_of c.in_ok-arg.field-0 ≡ with_first = c.in_ok-arg.ensures.shape c.address_option.ensures.local ∙ ap₂ with_rule none c.address_option.ensures.rule in
+    let second : app_of c.in_ok-arg-2.field-0 ≡ with_second = c.in_ok-arg-2.ensures.shape c.places_option.ensures.local ∙ ap₂ with_rule first c.places_option.ensures.rule in
+    let third : app_of c.in_ok-arg-3.field-0 ≡ with_rule with_second topics_option = c.in_ok-arg-3.ensures.shape c.topics_option.ensures.local ∙ ap₂ with_rule second c.topics_option.ensures.rule in
+    IfOk-weaker c.arg-4.result _ _ (λ r h. h.shape c.connections_option.ensures.local ∙ ap₂ with_rule third c.connections_option.ensures.rule) c.arg-4.ensures
+
+pub returns-clause-local : goal.returns-clause-local
+returns-clause-local c =
+    let none : (out-Command c.long_about.result).has_globals ≡ false = ap (λ (f : Command-F Command). f.has_globals) c.long_about.ensures ∙ ap (λ (f : Command-F Command). f.has_globals) c.about.ensures ∙ c.new.ensures.local in
+    let first : (out-Command c.in_ok-arg.field-0).has_globals ≡ false = c.in_ok-arg.ensures.globals ∙ (rw (none, c.address_option.ensures.local) refl) in
+    let second : (out-Command c.in_ok-arg-2.field-0).has_globals ≡ false = c.in_ok-arg-2.ensures.globals ∙ (rw (first, c.places_option.ensures.local) refl) in
+    let third : (out-Command c.in_ok-arg-3.field-0).has_globals ≡ false = c.in_ok-arg-3.ensures.globals ∙ (rw (second, c.topics_option.ensures.local) refl) in
+    IfOk-weaker c.arg-4.result _ _ (λ r h. h.globals ∙ (rw (third, c.connections_option.ensures.local) refl)) c.arg-4.ensures

@@ -1,0 +1,51 @@
+//! Clients by TCP.
+
+ghost use Rattle.std.specs.Prelude.{◌<◌, ◌≤◌};
+ghost use Rattle.rs_message.specs.declared.entry.TheConstants.{MAX_PLACES};
+ghost use Rattle.rs_store.specs.declared.limit.TheConstants.{MAX_TOPICS};
+
+use rs_listener::{ListenFault, Server};
+use rs_store::TopicLimit;
+use std::alloc::Global;
+use std::net::{Net, TcpListener, TcpStream};
+use std::sync::Wait;
+use std::thread::Threads;
+use std::time::Clock;
+
+/// Serves clients by TCP until so many have connected. The address is told before the first is accepted.
+///
+/// # Errors
+///
+/// If the address cannot be bound, or memory or threads are refused. No client was served.
+pub(crate) fn listen<H>(
+    rt: &H,
+    alloc: Global,
+    address: &str,
+    places: u8,
+    topics: u32,
+    connections: u64,
+) -> Result<(), ListenFault>
+where
+    H: Clock
+        + Net<Listener = TcpListener, Stream = TcpStream>
+        + Threads
+        + Wait
+        + Print
+        + Copy
+        + Send
+        + Sync
+        + 'static,
+    requires places { (0 < places) × (places ≤ MAX_PLACES) }
+    requires topics { (0 < topics) × (topics ≤ MAX_TOPICS) }
+{
+    let Some(limit) = TopicLimit::new(topics) else {
+        unreachable!()
+    };
+    let server = Server::bind(rt, alloc, address, connections, limit, places)?;
+    let bound = server.address()?;
+    // If nobody reads the output, clients are served all the same.
+    let _ = println!(rt; "rstored: listening on {bound}");
+    server.run(*rt)?;
+    let _ = println!(rt; "rstored: served {connections}");
+    Ok(())
+}

@@ -1,0 +1,152 @@
+// Command lines.
+
+use crate::words::{MAX_CONNECTIONS, Run, WordsFault, read_words};
+use rs_message::MAX_PLACES;
+use rs_store::MAX_TOPICS;
+use std::alloc::{AllocError, Global};
+use std::test::Fail;
+
+// What the words of a line ask for.
+fn read(alloc: Global, line: &str) -> Result<Result<Run, WordsFault>, AllocError> {
+    let mut words = Vec::new(alloc);
+    for word in line.split_whitespace() {
+        words.push(String::from_str(alloc, word)?)?;
+    }
+    Ok(read_words(alloc, words.as_slice()))
+}
+
+#[test]
+fn words_ask_for_a_pipe(rt: HostRuntime) -> Result<(), Fail> {
+    let pipes = [
+        ("pipe --hex --at 7", true, 7),
+        ("pipe --at 18446744073709551615", false, u64::MAX),
+        ("pipe --at +007", false, 7),
+        ("pipe --at=0", false, 0),
+    ];
+    for (line, hex, at) in pipes {
+        let found = read(rt.alloc(), line)?.ok();
+        assert!(rt; found == Some(Run::Pipe { hex, at }), "{line}");
+    }
+    Ok(())
+}
+
+#[test]
+fn words_ask_to_listen(rt: HostRuntime) -> Result<(), Fail> {
+    let alloc = rt.alloc();
+    let all = "listen --address [::1]:0 --places 64 --topics 65536 --connections 1000000";
+    let lines = [
+        ("listen --address a:1 --connections 1", "a:1", 4, 10_000, 1),
+        (
+            "listen --connections 7 --topics 1 --places 1 --address x",
+            "x",
+            1,
+            1,
+            7,
+        ),
+        (
+            "listen --address=:: --connections=+09 --places=02",
+            "::",
+            2,
+            10_000,
+            9,
+        ),
+        (all, "[::1]:0", MAX_PLACES, MAX_TOPICS, MAX_CONNECTIONS),
+    ];
+    for (line, address, places, topics, connections) in lines {
+        let wanted = Run::Listen {
+            address: String::from_str(alloc, address)?,
+            places,
+            topics,
+            connections,
+        };
+        let found = read(alloc, line)?.ok();
+        assert!(rt; found == Some(wanted), "{line}");
+    }
+    Ok(())
+}
+
+// Each refused line, and what the text says.
+const REFUSED: [(&str, &str); 21] = [
+    ("", "requires a subcommand"),
+    ("more", "unrecognized subcommand 'more'"),
+    ("pipe", "--at <SECONDS>"),
+    ("pipe --at", "a value is required for '--at <SECONDS>'"),
+    ("pipe --at x", "invalid value 'x' for '--at <SECONDS>'"),
+    ("pipe --at -1", "unexpected argument '-1'"),
+    (
+        "pipe --at 18446744073709551616",
+        "for '--at <SECONDS>': number too large",
+    ),
+    ("pipe --hex", "--at <SECONDS>"),
+    ("pipe --at 1 more", "unexpected argument 'more'"),
+    (
+        "pipe --at 1 --at 1",
+        "the argument '--at <SECONDS>' cannot be used multiple times",
+    ),
+    ("listen", "--address <ADDRESS>"),
+    ("listen --address a:1", "--connections <1-1000000>"),
+    ("listen --connections 1", "--address <ADDRESS>"),
+    (
+        "listen --address a:1 --connections 0",
+        "for '--connections <1-1000000>': 0 is not in 1..=1000000",
+    ),
+    (
+        "listen --address a:1 --connections 1000001",
+        "1000001 is not in 1..=1000000",
+    ),
+    (
+        "listen --address a:1 --connections 1 --places 0",
+        "for '--places <1-64>': 0 is not in 1..=64",
+    ),
+    (
+        "listen --address a:1 --connections 1 --places 65",
+        "65 is not in 1..=64",
+    ),
+    (
+        "listen --address a:1 --connections 1 --places x",
+        "invalid value 'x' for '--places <1-64>'",
+    ),
+    (
+        "listen --address a:1 --connections 1 --topics 0",
+        "for '--topics <1-65536>': 0 is not in 1..=65536",
+    ),
+    (
+        "listen --address a:1 --connections 1 --topics 65537",
+        "65537 is not in 1..=65536",
+    ),
+    (
+        "listen --address a:1 --connections 1 --hex",
+        "unexpected argument '--hex'",
+    ),
+];
+
+#[test]
+fn words_are_refused(rt: HostRuntime) -> Result<(), Fail> {
+    for (line, why) in REFUSED {
+        let fault = read(rt.alloc(), line)?.err().ok_or("not refused")?;
+        assert_eq!(rt; fault.status(), 2, "{line}");
+        let text = format!(in rt.alloc(); "{fault}")?;
+        assert!(rt; text.as_str().contains(why), "{line}: {text}");
+    }
+    Ok(())
+}
+
+#[test]
+fn help_and_the_version_are_shown(rt: HostRuntime) -> Result<(), Fail> {
+    let lines = [
+        ("--help", "Usage: rstored"),
+        ("pipe --help", "Usage: rstored pipe"),
+        ("listen --help", "Usage: rstored listen"),
+        ("listen --help", "Keep Alive is not enforced"),
+        ("listen --help", "--places <1-64>"),
+        ("listen --help", "[default: 10000]"),
+        ("--version", "rstored "),
+    ];
+    for (line, part) in lines {
+        let fault = read(rt.alloc(), line)?.err().ok_or("not shown")?;
+        assert_eq!(rt; fault.status(), 0, "{line}");
+        let text = format!(in rt.alloc(); "{fault}")?;
+        assert!(rt; text.as_str().contains(part), "{line}: {text}");
+    }
+    Ok(())
+}

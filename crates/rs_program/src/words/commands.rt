@@ -1,0 +1,161 @@
+//! The commands and their options.
+
+ghost use Rattle.std.specs.Prelude.{◌≡◌, IfOk, false};
+ghost use Rattle.clap.specs.Words.{app_of, rule_of};
+ghost use Rattle.clap.specs.declared.builder.command.Command.TheViews.{out-Command as fields_of};
+ghost use Rattle.rs_program.specs.CommandLine.{address_option, connections_option, listen_words, number_option, pipe_words, places_option, rstored_words, topics_option};
+
+use clap::builder::ValueParser;
+use clap::{Arg, ArgAction, Command};
+use rs_message::MAX_PLACES;
+use rs_store::MAX_TOPICS;
+use std::alloc::{AllocError, Global};
+
+/// The most connections after which `listen` ends. A choice of this project.
+pub const MAX_CONNECTIONS: u64 = 1_000_000;
+
+const VERSION: &str = "0.1.0";
+
+const ABOUT: &str =
+    "Keeps the retained message of each MQTT 5 topic and answers subscriptions from it";
+
+const PIPE_ABOUT: &str = "Serve one MQTT 5 connection from standard input to standard output";
+
+const PIPE_HELP: &str = "\
+Serves one MQTT 5 connection: packets of the client come from standard input, and the replies go to
+standard output. It ends when the client disconnects, at a fault, or at the end of the input. Nothing
+is kept between two runs.
+
+With --hex both are text: each line of the input is an even number of hex digits (spaces and empty
+lines are ignored), and each reply is one line of hex digits.";
+
+const HEX_HELP: &str = "Read and write lines of hex digits in place of raw bytes";
+
+const AT_HELP: &str =
+    "The time of every packet, in whole seconds, by which retained messages expire";
+
+const LISTEN_ABOUT: &str = "Serve MQTT 5 clients that connect by TCP";
+
+const LISTEN_HELP: &str = "\
+Serves MQTT 5 clients that connect by TCP. They share one store of retained messages. It prints the
+address that it listens on. After --connections connections it prints how many they were, and ends,
+however each of them ended.
+
+A place serves one client at a time. If each place has a client, the next one waits until a place is
+free. Keep Alive is not enforced: a client that is silent keeps its place until it disconnects.
+
+The store is in memory. It is empty at the start, and lost at the end.
+
+There is no TLS, and user names and passwords are not checked. Listen only where none but trusted
+clients can reach the address.";
+
+const ADDRESS_HELP: &str =
+    "The address to listen on: a host's name, an IPv4 or an IPv6 address, and a port, \
+as localhost:1883, 127.0.0.1:1883 or [::1]:1883. Port 0 takes one that is free";
+
+const PLACES_HELP: &str = "How many clients are served at the same time";
+
+const TOPICS_HELP: &str = "How many topics may hold a message";
+
+const CONNECTIONS_HELP: &str = "After how many connections the program ends";
+
+pub(super) fn command<'a>(alloc: Global) -> Result<Command<'a>, AllocError>
+    ensures shape { IfOk result (λ c. app_of c ≡ rstored_words) }
+    ensures local { IfOk result (λ c. (fields_of c).has_globals ≡ false) }
+{
+    Command::new(alloc, "rstored")
+        .version(VERSION)
+        .about(ABOUT)
+        .bin_name("rstored")?
+        .no_binary_name(true)
+        .subcommand_required(true)
+        .disable_help_subcommand(true)
+        .subcommand(pipe_command(alloc)?)?
+        .subcommand(listen_command(alloc)?)
+}
+
+/// An option whose value is a number from `least` to `most`.
+fn number_option<'a>(
+    alloc: Global,
+    name: &'a str,
+    value_name: &'a str,
+    least: u64,
+    most: u64,
+) -> Arg<'a>
+    ensures rule { rule_of result ≡ number_option name.entry.now least most }
+    ensures local { result.global ≡ false }
+{
+    Arg::new(alloc, name)
+        .long(name)
+        .value_name(value_name)
+        .value_parser(ValueParser::unsigned(least, most))
+}
+
+fn pipe_command<'a>(alloc: Global) -> Result<Command<'a>, AllocError>
+    ensures shape { IfOk result (λ c. app_of c ≡ pipe_words) }
+    ensures local { IfOk result (λ c. (fields_of c).has_globals ≡ false) }
+{
+    let hex = Arg::new(alloc, "hex")
+        .long("hex")
+        .action(ArgAction::SetTrue)
+        .help(HEX_HELP);
+    let at = number_option(alloc, "at", "SECONDS", 0, u64::MAX)
+        .required(true)
+        .help(AT_HELP);
+    Command::new(alloc, "pipe")
+        .about(PIPE_ABOUT)
+        .long_about(PIPE_HELP)
+        .arg(hex)?
+        .arg(at)
+}
+
+fn address_option<'a>(alloc: Global) -> Arg<'a>
+    ensures rule { rule_of result ≡ address_option }
+    ensures local { result.global ≡ false }
+{
+    Arg::new(alloc, "address")
+        .long("address")
+        .value_name("ADDRESS")
+        .required(true)
+        .help(ADDRESS_HELP)
+}
+
+fn places_option<'a>(alloc: Global) -> Arg<'a>
+    ensures rule { rule_of result ≡ places_option }
+    ensures local { result.global ≡ false }
+{
+    number_option(alloc, "places", "1-64", 1, u64::from(MAX_PLACES))
+        .default_value("4")
+        .help(PLACES_HELP)
+}
+
+fn topics_option<'a>(alloc: Global) -> Arg<'a>
+    ensures rule { rule_of result ≡ topics_option }
+    ensures local { result.global ≡ false }
+{
+    number_option(alloc, "topics", "1-65536", 1, u64::from(MAX_TOPICS))
+        .default_value("10000")
+        .help(TOPICS_HELP)
+}
+
+fn connections_option<'a>(alloc: Global) -> Arg<'a>
+    ensures rule { rule_of result ≡ connections_option }
+    ensures local { result.global ≡ false }
+{
+    number_option(alloc, "connections", "1-1000000", 1, MAX_CONNECTIONS)
+        .required(true)
+        .help(CONNECTIONS_HELP)
+}
+
+fn listen_command<'a>(alloc: Global) -> Result<Command<'a>, AllocError>
+    ensures shape { IfOk result (λ c. app_of c ≡ listen_words) }
+    ensures local { IfOk result (λ c. (fields_of c).has_globals ≡ false) }
+{
+    Command::new(alloc, "listen")
+        .about(LISTEN_ABOUT)
+        .long_about(LISTEN_HELP)
+        .arg(address_option(alloc))?
+        .arg(places_option(alloc))?
+        .arg(topics_option(alloc))?
+        .arg(connections_option(alloc))
+}

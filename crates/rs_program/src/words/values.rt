@@ -1,0 +1,65 @@
+//! The values of a command's options.
+
+ghost use Rattle.std.specs.Prelude.{◌≡◌, IfOk, IfSome, codes};
+ghost use Rattle.clap.specs.Words.{found_of, rows_of};
+ghost use Rattle.rs_program.specs.CommandLine.{IsInRange, IsNumberOf, IsRunOf};
+
+use crate::words::commands::MAX_CONNECTIONS;
+use crate::words::{Run, WordsFault, refused};
+use clap::ArgMatches;
+use rs_message::MAX_PLACES;
+use rs_store::MAX_TOPICS;
+use std::alloc::Global;
+
+pub(super) fn pipe_of(alloc: Global, found: &ArgMatches<'_>) -> Result<Run, WordsFault>
+    ensures run { IfOk result (IsRunOf (codes "pipe") (rows_of (found_of found.now))) }
+    ensures range { IfOk result IsInRange }
+{
+    let Some(at) = number(found, "at", 0, u64::MAX) else {
+        return Err(missing(alloc));
+    };
+    Ok(Run::Pipe {
+        hex: found.get_flag("hex"),
+        at,
+    })
+}
+
+pub(super) fn listen_of(alloc: Global, found: &ArgMatches<'_>) -> Result<Run, WordsFault>
+    ensures run { IfOk result (IsRunOf (codes "listen") (rows_of (found_of found.now))) }
+    ensures range { IfOk result IsInRange }
+{
+    let (Some(address), Some(places), Some(topics), Some(connections)) = (
+        found.get_str("address"),
+        number(found, "places", 1, u64::from(MAX_PLACES)),
+        number(found, "topics", 1, u64::from(MAX_TOPICS)),
+        number(found, "connections", 1, MAX_CONNECTIONS),
+    ) else {
+        return Err(missing(alloc));
+    };
+    let Ok(address) = String::from_str(alloc, address) else {
+        return Err(WordsFault::NoMemory);
+    };
+    Ok(Run::Listen {
+        address,
+        places: places as u8,
+        topics: topics as u32,
+        connections,
+    })
+}
+
+/// The number that an option was given, if it is from `least` to `most`.
+fn number(found: &ArgMatches<'_>, option: &str, least: u64, most: u64) -> Option<u64>
+    ensures { IfSome result (IsNumberOf (rows_of (found_of found.now)) option.now least most) }
+{
+    let number = found.get_one::<u64>(option)?;
+    if number < least || most < number {
+        return None;
+    }
+    Some(number)
+}
+
+/// Never answered: each option is required or has a default, and its values are in their range. What clap promises of a
+/// subcommand's values does not say so.
+fn missing(alloc: Global) -> WordsFault {
+    refused(alloc, "error: an option is missing\n")
+}
