@@ -1,11 +1,13 @@
 //! Works single calls of the crates, for the checks and the benchmark.
 //!
-//! `refuse map`, `refuse tree`, `refuse window` and `refuse versions` look at what is shown after memory was refused. The other jobs
+//! `refuse map`, `refuse tree`, `refuse window`, `refuse versions` and `refuse queue` look at what is shown after memory was refused. The other jobs
 //! are timed: `map TOPICS` and `tree TOPICS`, the calls of a catalogue in which so many topics, 1 to 65,536, hold a message; `window
 //! COUNT ROUNDS`, rounds of a window in which so many messages wait, 1 to 100,000; `decode ROUNDS` and `encode ROUNDS`, the one packet
 //! on standard input, a PUBLISH or a SUBSCRIBE, and what answers it; `sessions COUNT`, short sessions one after the other over one
-//! store in memory; `versions TOPICS SEATS MILLIS`, the puts into a store of versions that so many seats read meanwhile. `keep
-//! TOPICS` and `keep_versions TOPICS` keep so many messages in one catalogue and in a store of versions.
+//! store in memory; `versions TOPICS SEATS MILLIS`, the puts into a store of versions that so many seats read meanwhile; `submits
+//! TOPICS PLACES SEATS COUNT`, the submits of so many places, of which each makes so many, while so many seats read all topics. `keep
+//! TOPICS` and `keep_versions TOPICS` keep so many messages in one catalogue and in a store of versions; `keep_deep TOPICS` keeps
+//! them in a tree, at topics of the most levels, of which each two share all levels but the last.
 //!
 //! The status is 1 if memory, the clock, the input or the output failed, 2 for other words, and 3 at a wrong answer.
 #![tactic(auto)]
@@ -24,10 +26,10 @@ use std::rt::Clock;
 use std::sync::Wait;
 use std::thread::Threads;
 
-fn run<H: Env + AllocGlobal + Print + Clock + Wait + Threads + Sync, R: Read>(
-    rt: &H,
-    input: &mut R,
-) -> Result<(), Failure> {
+fn run<
+    H: Env + AllocGlobal + Print + Clock + Wait + Threads + Copy + Send + Sync + 'static,
+    R: Read,
+>(rt: &H, input: &mut R) -> Result<(), Failure> {
     let alloc = rt.alloc();
     let words = env::args(rt)?.skip(1).collect::<Vec<String>>(rt.alloc())?;
     let [name, rest @ ..] = words.as_slice() else {

@@ -1,9 +1,10 @@
-//! What a catalogue, a window and a store of versions show after they were refused memory.
+//! What a catalogue, a window, a store of versions and the queue to its writer show after they were refused memory.
 //!
 //! Each job prints `refused`, and of each kind of call how often it was refused memory, kept what it owes, and did its work when it
 //! was called again: 0 with ample memory.
 
 mod catalogue;
+mod queue;
 mod versions;
 mod window;
 
@@ -11,12 +12,18 @@ use crate::failure::Failure;
 use rs_store::{MapCatalogue, TreeCatalogue};
 use std::alloc::Global;
 use std::sync::Wait;
+use std::thread::Threads;
 
 /// Works what this word names.
-pub fn work<H: Print + Wait>(rt: &H, alloc: Global, word: &str) -> Result<(), Failure> {
+pub fn work<H: Print + Wait + Threads + Copy + Send + Sync + 'static>(
+    rt: &H,
+    alloc: Global,
+    word: &str,
+) -> Result<(), Failure> {
     match word {
         "map" => catalogue::work::<MapCatalogue>(rt, alloc),
         "tree" => catalogue::work::<TreeCatalogue>(rt, alloc),
+        "queue" => queue::work(rt, alloc),
         "window" => window::work(rt, alloc),
         "versions" => versions::work(rt, alloc),
         _ => Err(Failure::Words),

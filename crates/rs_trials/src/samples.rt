@@ -6,7 +6,7 @@ use crate::failure::Failure;
 use bytes::Bytes;
 use rs_message::{Entry, Found, Message, Operation, Origin};
 use rs_packet::{Properties, Qos};
-use rs_topic::TopicName;
+use rs_topic::{MAX_LEVELS, TopicName};
 use std::alloc::{AllocError, Global};
 
 const PAYLOAD: &[u8] = b"0123456789abcdef0123456789abcdef0123456789abcdef0123456789abcdef";
@@ -18,7 +18,7 @@ fn message(alloc: Global, payload: &[u8], qos: Qos) -> Result<Message, AllocErro
     requires small { length payload.now ≤ 1000 }
 {
     let payload = Bytes::copy_from_slice(alloc, payload)?;
-    Ok(Message::new(payload, qos, 0, None, Properties::none()))
+    Message::new(alloc, payload, qos, 0, None, Properties::none())
 }
 
 /// A message of this topic and quality, as the store finds it.
@@ -42,16 +42,42 @@ fn topic(alloc: Global, number: u64) -> Result<TopicName, Failure> {
     Ok(TopicName::read(alloc, text.as_str().as_bytes())?)
 }
 
+/// The topic of this number, of the most levels. Those of 2n and 2n + 1 share all levels but the last.
+fn deep_topic(alloc: Global, number: u64) -> Result<TopicName, Failure> {
+    let pair = number / 2;
+    let mut text = format!(in alloc; "{pair:05}/")?;
+    for _ in 2..MAX_LEVELS {
+        text.push_str("a/")?;
+    }
+    text.push_str(if number % 2 == 0 { "a" } else { "b" })?;
+    Ok(TopicName::read(alloc, text.as_str().as_bytes())?)
+}
+
 /// An entry of place 1 with this serial, which is not 0.
 fn entry(serial: u64, operation: Operation) -> Result<Entry, Failure> {
     let origin = Origin::new(1, serial).ok_or(Failure::Wrong)?;
     Ok(Entry { origin, operation })
 }
 
+/// A Set of a topic, as an operation of any place.
+fn set_of(alloc: Global, topic: TopicName) -> Result<Operation, Failure> {
+    let message = message(alloc, PAYLOAD, Qos::AtMostOnce)?;
+    Ok(Operation::Set(topic, message))
+}
+
+/// A Set of the topic of this number, as an operation of any place.
+pub fn change(alloc: Global, number: u64) -> Result<Operation, Failure> {
+    set_of(alloc, topic(alloc, number)?)
+}
+
 /// A Set of the topic of this number.
 pub fn set(alloc: Global, serial: u64, number: u64) -> Result<Entry, Failure> {
-    let message = message(alloc, PAYLOAD, Qos::AtMostOnce)?;
-    entry(serial, Operation::Set(topic(alloc, number)?, message))
+    entry(serial, change(alloc, number)?)
+}
+
+/// A Set of the topic of this number, of the most levels.
+pub fn set_deep(alloc: Global, serial: u64, number: u64) -> Result<Entry, Failure> {
+    entry(serial, set_of(alloc, deep_topic(alloc, number)?)?)
 }
 
 /// A Clear of the topic of this number.

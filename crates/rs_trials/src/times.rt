@@ -3,6 +3,7 @@
 mod catalogue;
 mod codec;
 mod sessions;
+mod submits;
 mod versions;
 mod window;
 
@@ -36,6 +37,7 @@ fn work_one<H: AllocGlobal + Print + Clock + Wait, R: Read>(
         "map" => catalogue::measure::<H, MapCatalogue>(rt, alloc, topics(word)?),
         "tree" => catalogue::measure::<H, TreeCatalogue>(rt, alloc, topics(word)?),
         "keep" => catalogue::keep(alloc, topics(word)?),
+        "keep_deep" => catalogue::keep_deep(alloc, topics(word)?),
         "keep_versions" => versions::keep(rt, alloc, topics(word)?),
         "decode" => codec::measure_decode(rt, alloc, input, number(word)?),
         "encode" => codec::measure_encode(rt, alloc, input, number(word)?),
@@ -45,18 +47,19 @@ fn work_one<H: AllocGlobal + Print + Clock + Wait, R: Read>(
 }
 
 /// Does the job of this name with these numbers.
-pub fn work<H: AllocGlobal + Print + Clock + Wait + Threads + Sync, R: Read>(
-    rt: &H,
-    alloc: Global,
-    input: &mut R,
-    name: &str,
-    words: &[String],
-) -> Result<(), Failure> {
+pub fn work<
+    H: AllocGlobal + Print + Clock + Wait + Threads + Copy + Send + Sync + 'static,
+    R: Read,
+>(rt: &H, alloc: Global, input: &mut R, name: &str, words: &[String]) -> Result<(), Failure> {
     match (name, words) {
         (_, [one]) => work_one(rt, alloc, input, name, one),
         ("window", [count, rounds]) => window::work(rt, alloc, number(count)?, number(rounds)?),
         ("versions", [limit, seats, rounds]) => {
             versions::measure(rt, alloc, topics(limit)?, number(seats)?, number(rounds)?)
+        }
+        ("submits", [limit, places, seats, count]) => {
+            let (places, seats, count) = (number(places)?, number(seats)?, number(count)?);
+            submits::measure(rt, alloc, topics(limit)?, places, seats, count)
         }
         _ => Err(Failure::Words),
     }

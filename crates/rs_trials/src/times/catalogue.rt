@@ -3,9 +3,9 @@
 ghost use Rattle.std.specs.Prelude.{◌<◌, ◌^◌};
 
 use crate::failure::{Failure, expect};
-use crate::samples::{clear, set};
+use crate::samples::{clear, set, set_deep};
 use rs_message::Entry;
-use rs_store::{Catalogue, MapCatalogue, TopicLimit, add};
+use rs_store::{Catalogue, MapCatalogue, TopicLimit, TreeCatalogue, add};
 use rs_topic::TopicFilter;
 use std::alloc::Global;
 use std::rt::Clock;
@@ -107,6 +107,16 @@ pub fn keep(alloc: Global, limit: TopicLimit) -> Result<(), Failure> {
     for number in 0..limit.get() {
         let number = u64::from(number);
         expect(add(&mut catalogue, set(alloc, number + 1, number)?).is_ok())?;
+    }
+    Ok(())
+}
+
+/// Keeps so many messages in a tree, at topics of the most levels, of which each two share all levels but the last.
+pub fn keep_deep(alloc: Global, limit: TopicLimit) -> Result<(), Failure> {
+    let mut catalogue = TreeCatalogue::new(alloc, limit)?;
+    for number in 0..limit.get() {
+        let number = u64::from(number);
+        expect(add(&mut catalogue, set_deep(alloc, number + 1, number)?).is_ok())?;
     }
     Ok(())
 }

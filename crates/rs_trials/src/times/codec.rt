@@ -3,7 +3,8 @@
 use crate::failure::Failure;
 use bytes::Bytes;
 use rs_packet::{
-    Codes, Decoded, MAX_PACKET_SIZE, Packet, Publication, Publish, Reply, Subscribe, decode, encode,
+    Codes, Decoded, MAX_PACKET_SIZE, MessageContent, Packet, Publication, Publish, Reply,
+    Subscribe, decode, encode,
 };
 use std::alloc::Global;
 use std::io::Read;
@@ -47,7 +48,7 @@ fn decode_often(alloc: Global, bytes: &Bytes, rounds: u32) -> Result<u64, Failur
 }
 
 /// The PUBLISH that the server would send of this one.
-fn publication(publish: Publish) -> Result<Reply, Failure> {
+fn publication(alloc: Global, publish: Publish) -> Result<Reply, Failure> {
     let Publish {
         qos,
         topic,
@@ -58,7 +59,8 @@ fn publication(publish: Publish) -> Result<Reply, Failure> {
         ..
     } = publish;
     let topic = topic?;
-    let sent = Publication::new(topic, qos, id, expiry, None, properties, payload);
+    let content = MessageContent::new(alloc, payload, properties)?;
+    let sent = Publication::new(topic, qos, id, expiry, None, content);
     Ok(Reply::Publish(sent))
 }
 
@@ -77,7 +79,7 @@ fn suback(alloc: Global, subscribe: &Subscribe) -> Result<Reply, Failure> {
 /// What is encoded for this packet.
 fn reply_to(alloc: Global, packet: Packet) -> Result<Reply, Failure> {
     match packet {
-        Packet::Publish(publish) => publication(publish),
+        Packet::Publish(publish) => publication(alloc, publish),
         Packet::Subscribe(subscribe) => suback(alloc, &subscribe),
         _ => Err(Failure::Input),
     }
