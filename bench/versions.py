@@ -9,15 +9,13 @@ READERS = (0, 3, 63)
 # How long a run lasts at least.
 MILLIS = 500
 
-# How many times as many answers four seats have to be given as one, each on a thread of its own beside a writer that puts. With four
-# processors three times is wanted; the writer and other work on the machine take some of them.
-WANTED = 3
-LIMIT = 2
+# How many times as many answers four seats have to be given as one, each on a thread of its own beside a writer that puts. This
+# is for four processors; other work on the machine takes some of them.
+SEATS_LIMIT = 3
 
 # How many times the memory of one catalogue the three of a store of versions may take. They share their messages; three that shared
 # nothing would take three times as much.
-MEMORY_WANTED = 2
-MEMORY_LIMIT = 2.5
+MEMORY_LIMIT = 2
 MESSAGES = 60_000
 
 
@@ -46,8 +44,8 @@ def seats_are_fast(program, rounds=3):
     for _ in range(rounds):
         one, four = answers_a_second(program, 1), answers_a_second(program, 4)
         times = four / one
-        print(f"answers a second beside puts: one seat {one:,.0f}, four {four:,.0f}; {times:.1f} times ({WANTED} wanted, more than {LIMIT} needed)")
-        if times > LIMIT:
+        print(f"answers a second beside puts: one seat {one:,.0f}, four {four:,.0f}; {times:.1f} times (more than {SEATS_LIMIT} needed)")
+        if times > SEATS_LIMIT:
             return True
     return False
 
@@ -73,10 +71,10 @@ def most_memory(program, job, topics):
 
 
 def copies_share(program):
-    """Whether three copies take not much more than twice the memory of one catalogue."""
+    """Whether three copies take less than twice the memory of one catalogue."""
     one, three = (most_memory(program, job, MESSAGES) for job in ("keep", "keep_versions"))
     times = three / one
-    print(f"memory of {MESSAGES:,} messages: one catalogue {one:,} kB, three copies {three:,} kB; {times:.2f} times ({MEMORY_WANTED} wanted, less than {MEMORY_LIMIT} needed)")
+    print(f"memory of {MESSAGES:,} messages: one catalogue {one:,} kB, three copies {three:,} kB; {times:.2f} times (less than {MEMORY_LIMIT} needed)")
     return times < MEMORY_LIMIT
 
 

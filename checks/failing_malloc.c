@@ -23,7 +23,7 @@ static long number(const char *name)
 static int fails(void)
 {
     long first = number("FAIL_AT");
-    long at = next++;
+    long at = __atomic_fetch_add(&next, 1, __ATOMIC_SEQ_CST);
     if (at < first || at - first >= number("FAIL_COUNT"))
         return 0;
     write((int)number("FAIL_TELL"), "x", 1);

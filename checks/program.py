@@ -1,4 +1,4 @@
-"""Where the built programs lie."""
+"""Where the built programs lie, and how much memory one takes."""
 
 import os
 import sys
@@ -17,3 +17,9 @@ def program(name="rstored"):
     if not os.path.exists(path):
         sys.exit(f"build {name} first: rt run in crates/{name}")
     return path
+
+
+def most_memory(pid):
+    """The most kilobytes that a running program has held so far."""
+    with open(f"/proc/{pid}/status") as lines:
+        return next(int(line.split()[1]) for line in lines if line.startswith("VmHWM:"))

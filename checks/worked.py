@@ -34,7 +34,7 @@ class Connection:
 @dataclass
 class Example:
     name: str
-    has_limit: bool = False
+    topics: int | None = None
     connections: list[Connection] = field(default_factory=list)
 
 
@@ -65,7 +65,7 @@ def examples():
         elif word == "at":
             open_one.moments = [int(moment) for moment in rest]
         elif word == "topics":
-            found[-1].has_limit = True
+            found[-1].topics = int(rest[0])
         elif word == "ends":
             found[-1].connections.append(open_one)
             open_one = Connection()

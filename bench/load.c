@@ -1,0 +1,324 @@
+// The clients of bench/brokers, in C so that they cost less than any broker. They speak MQTT 5.0 to a port of 127.0.0.1, check what
+// they are answered, and print microseconds:
+//
+//     load PORT publish QOS CONNECTIONS COUNT TOPICS SIZE    before it how many were published, at most COUNT by each connection
+//     load PORT fill COUNT SIZE PATTERN                      nothing; PATTERN writes a topic, with the hundreds and the rest of its number
+//     load PORT replay QOS FILTER MESSAGES ROUNDS DELAYED    each SUBSCRIBE, up to its last message
+//     load PORT connect ROUNDS                               each connection, up to its CONNACK
+
+#define _GNU_SOURCE
+#include <arpa/inet.h>
+#include <netinet/tcp.h>
+#include <pthread.h>
+#include <stdint.h>
+#include <stdio.h>
+#include <stdlib.h>
+#include <string.h>
+#include <sys/socket.h>
+#include <time.h>
+#include <unistd.h>
+
+enum { CONNACK = 0x20, PUBLISH = 0x30, PUBACK = 0x40, SUBACK = 0x90, PINGRESP = 0xD0 };
+
+// How many publications of QoS 1 wait for their PUBACK: what rstored's CONNACK allows, and less than mosquitto's.
+enum { WINDOW = 16 };
+
+// The microseconds after which a publisher at QoS 1 ends.
+static const double LONGEST = 2e6;
+
+enum { ROOM = 1 << 20 };
+
+static int port;
+
+static void fail(const char *what) {
+    perror(what);
+    exit(1);
+}
+
+static double now(void) {
+    struct timespec time;
+    clock_gettime(CLOCK_MONOTONIC, &time);
+    return time.tv_sec * 1e6 + time.tv_nsec / 1e3;
+}
+
+// A connection, with what was read of it and not yet looked at, and with acknowledgements that are not yet sent.
+typedef struct {
+    int fd;
+    size_t start, end, waiting;
+    uint8_t room[ROOM], acknowledgements[ROOM];
+} Client;
+
+typedef struct {
+    uint8_t kind, qos;
+    const uint8_t *body;
+    size_t size;
+} Packet;
+
+static void send_all(Client *client, const uint8_t *bytes, size_t size) {
+    while (size > 0) {
+        ssize_t sent = send(client->fd, bytes, size, MSG_NOSIGNAL);
+        if (sent <= 0) fail("send");
+        bytes += sent;
+        size -= (size_t)sent;
+    }
+}
+
+// The next packet, if it was read whole.
+static int has_packet(Client *client, Packet *packet) {
+    const uint8_t *at = client->room + client->start;
+    size_t left = client->end - client->start, length = 0, digits = 0;
+    do {
+        if (left < 2 + digits || digits == 4) return 0;
+        length |= (size_t)(at[1 + digits] & 127) << (7 * digits);
+    } while (at[1 + digits++] & 128);
+    if (left < 1 + digits + length) return 0;
+    *packet = (Packet){at[0] & 0xF0, at[0] >> 1 & 3, at + 1 + digits, length};
+    client->start += 1 + digits + length;
+    return 1;
+}
+
+static void read_more(Client *client) {
+    memmove(client->room, client->room + client->start, client->end - client->start);
+    client->end -= client->start;
+    client->start = 0;
+    ssize_t got = recv(client->fd, client->room + client->end, ROOM - client->end, 0);
+    if (got <= 0) fail("recv");
+    client->end += (size_t)got;
+}
+
+static Packet take(Client *client) {
+    Packet packet;
+    while (!has_packet(client, &packet)) read_more(client);
+    return packet;
+}
+
+static void expect(Client *client, int kind) {
+    Packet packet = take(client);
+    if (packet.kind != kind) {
+        fprintf(stderr, "a packet %02x came, and not %02x\n", packet.kind, kind);
+        exit(1);
+    }
+}
+
+static const uint8_t PING[] = {0xC0, 0}, DISCONNECT[] = {0xE0, 0};
+
+static size_t put_text(uint8_t *at, const char *text) {
+    size_t size = strlen(text);
+    at[0] = (uint8_t)(size >> 8);
+    at[1] = (uint8_t)size;
+    memcpy(at + 2, text, size);
+    return 2 + size;
+}
+
+static void open_client(Client *client, const char *identifier) {
+    struct sockaddr_in address = {.sin_family = AF_INET, .sin_port = htons(port), .sin_addr.s_addr = htonl(INADDR_LOOPBACK)};
+    int yes = 1;
+    client->fd = socket(AF_INET, SOCK_STREAM, 0);
+    client->start = client->end = client->waiting = 0;
+    if (client->fd < 0 || connect(client->fd, (struct sockaddr *)&address, sizeof address) != 0) fail("connect");
+    setsockopt(client->fd, IPPROTO_TCP, TCP_NODELAY, &yes, sizeof yes);
+    uint8_t packet[100] = {0x10, 0, 0, 4, 'M', 'Q', 'T', 'T', 5, 2, 0, 60, 0};
+    size_t size = 13 + put_text(packet + 13, identifier);
+    packet[1] = (uint8_t)(size - 2);
+    send_all(client, packet, size);
+    expect(client, CONNACK);
+}
+
+static void close_client(Client *client) {
+    send_all(client, DISCONNECT, sizeof DISCONNECT);
+    close(client->fd);
+}
+
+// A name of its own, so that no client takes another one's place.
+static void open_named(Client *client, char kind, int number) {
+    char identifier[20];
+    snprintf(identifier, sizeof identifier, "%c%d", kind, number);
+    open_client(client, identifier);
+}
+
+static size_t put_length(uint8_t *at, size_t length) {
+    size_t digits = 0;
+    do {
+        at[digits++] = (uint8_t)(length % 128 + (length > 127 ? 128 : 0));
+        length /= 128;
+    } while (length > 0);
+    return digits;
+}
+
+// The bytes of some PUBLISH packets, and where each begins.
+typedef struct {
+    uint8_t *bytes;
+    size_t *starts, count;
+} Publications;
+
+static Publications publications(size_t count, int qos, size_t size, const char *pattern, size_t topics) {
+    Publications made = {malloc(count * (size + 128)), malloc((count + 1) * sizeof(size_t)), count};
+    if (!made.bytes || !made.starts) fail("malloc");
+    size_t at = 0;
+    for (size_t i = 0; i < count; i++) {
+        char topic[100];
+        snprintf(topic, sizeof topic, pattern, (int)(i % topics / 100), (int)(i % topics % 100));
+        made.starts[i] = at;
+        made.bytes[at++] = (uint8_t)(0x31 + 2 * qos);
+        at += put_length(made.bytes + at, 2 + strlen(topic) + (qos ? 2 : 0) + 1 + size);
+        at += put_text(made.bytes + at, topic);
+        if (qos) {
+            made.bytes[at++] = 0;
+            made.bytes[at++] = (uint8_t)(i % WINDOW + 1);
+        }
+        made.bytes[at++] = 0;
+        memset(made.bytes + at, 'x', size);
+        at += size;
+    }
+    made.starts[count] = at;
+    return made;
+}
+
+// Sends them, those of QoS 1 until the time is over. How many were sent; all of them were handled when this returns.
+static size_t publish_all(Client *client, const Publications *made, int qos, double time) {
+    size_t sent = 0, acknowledged = 0, count = made->count;
+    if (qos == 0) {
+        send_all(client, made->bytes, made->starts[count]);
+        send_all(client, PING, sizeof PING);
+        expect(client, PINGRESP);
+        return count;
+    }
+    for (double start = now(); acknowledged < count;) {
+        if (now() - start > time) count = sent;
+        if (acknowledged == count) break;
+        size_t until = acknowledged + WINDOW < count ? acknowledged + WINDOW : count;
+        send_all(client, made->bytes + made->starts[sent], made->starts[until] - made->starts[sent]);
+        sent = until;
+        Packet packet = take(client);
+        do {
+            if (packet.kind != PUBACK || (packet.size > 2 && packet.body[2] >= 0x80)) fail("no PUBACK");
+            acknowledged++;
+        } while (acknowledged < count && has_packet(client, &packet));
+    }
+    return count;
+}
+
+typedef struct {
+    int qos, number;
+    size_t count, topics, size;
+    pthread_barrier_t *barrier;
+} Job;
+
+static void *publisher(void *given) {
+    Job *job = given;
+    char pattern[100];
+    snprintf(pattern, sizeof pattern, "fleet/%d/%%04d%%02d/state", job->number);
+    Publications made = publications(job->count, job->qos, job->size, pattern, job->topics);
+    Client *client = malloc(sizeof *client);
+    if (!client) fail("malloc");
+    open_named(client, 'p', job->number);
+    pthread_barrier_wait(job->barrier);
+    job->count = publish_all(client, &made, job->qos, LONGEST);
+    pthread_barrier_wait(job->barrier);
+    close_client(client);
+    return NULL;
+}
+
+// Connections that publish at once, each so many publications over topics of its own.
+static void publish(int qos, int connections, size_t count, size_t topics, size_t size) {
+    pthread_barrier_t barrier;
+    pthread_t threads[64];
+    Job jobs[64];
+    pthread_barrier_init(&barrier, NULL, (unsigned)connections + 1);
+    for (int i = 0; i < connections; i++) {
+        jobs[i] = (Job){qos, i, count, topics, size, &barrier};
+        if (pthread_create(&threads[i], NULL, publisher, &jobs[i]) != 0) fail("pthread_create");
+    }
+    pthread_barrier_wait(&barrier);
+    double start = now();
+    pthread_barrier_wait(&barrier);
+    double time = now() - start;
+    size_t total = 0;
+    for (int i = 0; i < connections; i++) {
+        pthread_join(threads[i], NULL);
+        total += jobs[i].count;
+    }
+    printf("%zu %.0f\n", total, time);
+}
+
+// The client of the jobs that have one.
+static Client single;
+
+// One retained message a topic.
+static void fill(size_t count, size_t size, const char *pattern) {
+    Publications made = publications(count, 1, size, pattern, count);
+    open_named(&single, 'f', 0);
+    publish_all(&single, &made, 1, 1e12);
+    close_client(&single);
+}
+
+// Whether TCP acknowledges what comes at once, or late (delayed acknowledgements). The system forgets it, so it is said before each read.
+static void set_quick(const Client *client, int is_quick) {
+    setsockopt(client->fd, IPPROTO_TCP, TCP_QUICKACK, &is_quick, sizeof is_quick);
+}
+
+static void send_acknowledgements(Client *client) {
+    send_all(client, client->acknowledgements, client->waiting);
+    client->waiting = 0;
+}
+
+static void acknowledge(Client *client, const Packet *publication) {
+    const uint8_t *identifier = publication->body + 2 + (publication->body[0] << 8 | publication->body[1]);
+    memcpy(client->acknowledgements + client->waiting, (uint8_t[]){PUBACK, 2, identifier[0], identifier[1]}, 4);
+    client->waiting += 4;
+}
+
+// Reads the SUBACK and so many messages. Those of QoS 1 are acknowledged, as many at once as were read at once.
+static void take_messages(Client *client, size_t messages, int is_delayed) {
+    for (size_t answered = 0; answered < messages + 1; answered++) {
+        Packet packet;
+        while (!has_packet(client, &packet)) {
+            send_acknowledgements(client);
+            set_quick(client, !is_delayed);
+            read_more(client);
+        }
+        if (packet.kind == SUBACK ? packet.body[packet.size - 1] >= 0x80 : packet.kind != PUBLISH) fail("no PUBLISH");
+        if (packet.kind == PUBLISH && packet.qos == 1) acknowledge(client, &packet);
+    }
+    send_acknowledgements(client);
+}
+
+// So many rounds, or without an end if there are to be 0.
+static void replay(int qos, const char *filter, size_t messages, size_t rounds, int is_delayed) {
+    uint8_t packet[200] = {0x82, 0, 0, 1, 0};
+    size_t size = 5 + put_text(packet + 5, filter) + 1;
+    packet[size - 1] = (uint8_t)qos;
+    packet[1] = (uint8_t)(size - 2);
+    open_named(&single, 'r', getpid());
+    for (size_t i = 0; i < rounds || rounds == 0; i++) {
+        set_quick(&single, !is_delayed);
+        double start = now();
+        send_all(&single, packet, size);
+        take_messages(&single, messages, is_delayed);
+        if (rounds > 0) printf("%.1f\n", now() - start);
+    }
+    close_client(&single);
+}
+
+static void connect_often(size_t rounds) {
+    for (size_t i = 0; i < rounds; i++) {
+        double start = now();
+        open_named(&single, 'c', (int)i);
+        printf("%.1f\n", now() - start);
+        close_client(&single);
+    }
+}
+
+int main(int count, char **words) {
+    if (count < 4) return 2;
+    port = atoi(words[1]);
+    const char *job = words[2];
+    long n[8] = {0};
+    for (int i = 3; i < count && i < 10; i++) n[i - 3] = atol(words[i]);
+    if (strcmp(job, "publish") == 0 && count == 8) publish((int)n[0], (int)n[1], (size_t)n[2], (size_t)n[3], (size_t)n[4]);
+    else if (strcmp(job, "fill") == 0 && count == 6) fill((size_t)n[0], (size_t)n[1], words[5]);
+    else if (strcmp(job, "replay") == 0 && count == 8) replay((int)n[0], words[4], (size_t)n[2], (size_t)n[3], (int)n[4]);
+    else if (strcmp(job, "connect") == 0 && count == 4) connect_often((size_t)n[0]);
+    else return 2;
+    return 0;
+}
