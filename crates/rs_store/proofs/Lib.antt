@@ -1,3 +1,4 @@
+pub mod Buckets
 pub mod Chains
 pub mod Choosing
 pub mod Clearing
@@ -10,6 +11,7 @@ pub mod Looking
 pub mod Maps
 pub mod Places
 pub mod Rooms
+pub mod Sent
 pub mod Standing
 pub mod Stems
 pub mod Stopping

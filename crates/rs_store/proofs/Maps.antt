@@ -6,6 +6,7 @@ use Rattle.std.specs.List.{sum_by}
 use Rattle.std.specs.List.Sorted.{IsStrictlySortedBy}
 use Rattle.std.specs.Map.{keys_of, values_of, lookup, remove_entry}
 use Rattle.std.specs.BTreeMap.{insert_entry, is_at}
+use Rattle.std.specs.Cmp.{IsTotalOrder}
 use Rattle.std.specs.Ordering.{match_ordering, ordering_reverse}
 use Rattle.std.specs.declared.cmp.Ordering.{Ordering}
 use Rattle.std.specs.declared.cmp.Ordering.TheVariants.{Less, Equal, Greater}
@@ -79,36 +80,36 @@ remove_there test (e ∷ es) h = at (test e.0) refl h (λ k. remove_there test e
     at true is k more = rw is (omega arith)
     at false is k more = let m : length (remove_entry test es) + 1 ≡ length es = more (rw is at k) in rw is (omega arith)
 
-pub remove_absent : (test : List ℕ → Bool) (held : Held) → is_some (lookup test held) ≡ false → remove_entry test held ≡ held
+pub remove_absent : {K X : Type 0} (test : K → Bool) (held : List (K × X)) → is_some (lookup test held) ≡ false → remove_entry test held ≡ held
 remove_absent test [] h = refl
-remove_absent test (e ∷ es) h = at (test e.0) refl h (λ k. remove_absent test es k)
+remove_absent {K = K} {X = X} test (e ∷ es) h = at (test e.0) refl h (λ k. remove_absent test es k)
   where
     at : (b : Bool) → test e.0 ≡ b → is_some (lookup test (e ∷ es)) ≡ false → (is_some (lookup test es) ≡ false → remove_entry test es ≡ es) → remove_entry test (e ∷ es) ≡ e ∷ es
     at true is k more = absurd (cc (is, k))
-    at false is k more = rw is (ap (λ (l : Held). e ∷ l) (more (rw is at k)))
+    at false is k more = rw is (ap (λ (l : List (K × X)). e ∷ l) (more (rw is at k)))
 
 -- ---- an insertion behind all others
 
-pub insert_last : (held rest : Held) (k : List ℕ) (v : MessageValue) → IsStrictlySortedBy topic_cmp (keys_of (held ++ (k, v) ∷ rest)) → insert_entry topic_cmp held k v ≡ held ++ (k, v) ∷ []
-insert_last [] rest k v sorted = refl
-insert_last (e ∷ es) rest k v sorted =
-    let below : topic_cmp e.0 k ≡ Less = behind topic_cmp e (es ++ (k, v) ∷ rest) k v sorted (there es) in
-    at (topic_cmp k e.0) (ordered (topic_cmp k e.0) (topic_total.antisymm e.0 k) below) (insert_last es rest k v (sorted_tail topic_cmp e.0 (keys_of (es ++ (k, v) ∷ rest)) sorted))
+pub insert_last : {K X : Type 0} (R : K → K → Ordering) → IsTotalOrder R → (held rest : List (K × X)) (k : K) (v : X) → IsStrictlySortedBy R (keys_of (held ++ (k, v) ∷ rest)) → insert_entry R held k v ≡ held ++ (k, v) ∷ []
+insert_last R total [] rest k v sorted = refl
+insert_last {K = K} {X = X} R total (e ∷ es) rest k v sorted =
+    let below : R e.0 k ≡ Less = behind R e (es ++ (k, v) ∷ rest) k v sorted (there es) in
+    at (R k e.0) (ordered (R k e.0) (total.antisymm e.0 k) below) (insert_last R total es rest k v (sorted_tail R e.0 (keys_of (es ++ (k, v) ∷ rest)) sorted))
   where
-    there : (xs : Held) → Among (k, v) (xs ++ (k, v) ∷ rest)
+    there : (xs : List (K × X)) → Among (k, v) (xs ++ (k, v) ∷ rest)
     there [] = inl refl
     there (x ∷ xs) = inr (there xs)
 
-    ordered : (o : Ordering) → topic_cmp e.0 k ≡ ordering_reverse o → topic_cmp e.0 k ≡ Less → o ≡ Greater
+    ordered : (o : Ordering) → R e.0 k ≡ ordering_reverse o → R e.0 k ≡ Less → o ≡ Greater
     ordered Less is less = absurd (cc (is, less))
     ordered Equal is less = absurd (cc (is, less))
     ordered Greater is less = refl
 
-    at : (o : Ordering) → o ≡ Greater → insert_entry topic_cmp es k v ≡ es ++ (k, v) ∷ [] → match_ordering o ((k, v) ∷ e ∷ es) ((e.0, v) ∷ es) (e ∷ insert_entry topic_cmp es k v) ≡ e ∷ es ++ (k, v) ∷ []
-    at o is more = rw is (ap (λ (w : Held). e ∷ w) more)
+    at : (o : Ordering) → o ≡ Greater → insert_entry R es k v ≡ es ++ (k, v) ∷ [] → match_ordering o ((k, v) ∷ e ∷ es) ((e.0, v) ∷ es) (e ∷ insert_entry R es k v) ≡ e ∷ es ++ (k, v) ∷ []
+    at o is more = rw is (ap (λ (w : List (K × X)). e ∷ w) more)
 
 -- what was copied, and what is left to copy
-pub insert_next : (held rest whole : Held) (k : List ℕ) (v : MessageValue) → held ++ (k, v) ∷ rest ≡ whole → IsStrictlySortedBy topic_cmp (keys_of whole) → insert_entry topic_cmp held k v ++ rest ≡ whole
-insert_next held rest whole k v is sorted =
-    let P : Held → Type 0 = λ w. IsStrictlySortedBy topic_cmp (keys_of w) in
-    ap (λ w. w ++ rest) (insert_last held rest k v (subst P (sym is) sorted)) ∙ (append_assoc held ((k, v) ∷ []) rest ∙ is)
+pub insert_next : {K X : Type 0} (R : K → K → Ordering) → IsTotalOrder R → (held rest whole : List (K × X)) (k : K) (v : X) → held ++ (k, v) ∷ rest ≡ whole → IsStrictlySortedBy R (keys_of whole) → insert_entry R held k v ++ rest ≡ whole
+insert_next {K = K} {X = X} R total held rest whole k v is sorted =
+    let P : List (K × X) → Type 0 = λ w. IsStrictlySortedBy R (keys_of w) in
+    ap (λ w. w ++ rest) (insert_last R total held rest k v (subst P (sym is) sorted)) ∙ (append_assoc held ((k, v) ∷ []) rest ∙ is)

@@ -12,10 +12,8 @@ use Rattle.std.specs.List.{All, position_or_len}
 use Rattle.std.specs.Str.{bytes_eq}
 use Rattle.rs_topic.specs.Topics.{levels, slash, hash, plus, is_end}
 use Rattle.rs_topic.proofs.LevelLemmas.{one_level, first_of_more, some_level}
-use Rattle.std.specs.BTreeMap.{is_at}
-use Rattle.std.specs.declared.cmp.Ordering.TheVariants.{Less, Greater}
-use Rattle.rs_topic.specs.Order.{path_cmp}
-use Rattle.rs_topic.specs.TopicOrder.{topic_matches_eq}
+use Rattle.std.specs.declared.cmp.Ordering.TheVariants.{Less, Equal, Greater}
+use Rattle.rs_topic.specs.Order.{path_cmp, topic_cmp}
 use Rattle.rs_topic.specs.Matching.{fits}
 use Rattle.rs_store.specs.Spots.{levels_from}
 
@@ -75,7 +73,7 @@ fits_on level more name names h is = rw (h, is) refl
 pub fits_not : (level : List ℕ) (more : List (List ℕ)) (name : List ℕ) (names : List (List ℕ)) → fits (level ∷ more) [] ≡ false → (bytes_eq level (plus ∷ []) || bytes_eq level name) ≡ false → fits (level ∷ more) (name ∷ names) ≡ false
 fits_not level more name names h is = rw (h, is) refl
 
--- ---- whether two rests are the same
+-- ---- the order of two rests
 
 first_is_less : (text : List ℕ) → path_cmp [] (levels text) ≡ Less
 first_is_less text = at (levels text) (some_level text)
@@ -91,14 +89,14 @@ last_is_greater text = at (levels text) (some_level text)
     at [] h = absurd (cc (h))
     at (q ∷ qs) h = refl
 
-pub both_within : (text other : List ℕ) (at from : ℕ) → at ≤ length text → from ≤ length other → is_at (path_cmp (levels_from at text)) (levels_from from other) ≡ bytes_eq (drop at text) (drop from other)
-both_within text other at from h k = rw (from_within text at h, from_within other from k) (sym (topic_matches_eq (drop at text) (drop from other)))
+pub both_within : (text other : List ℕ) (at from : ℕ) → at ≤ length text → from ≤ length other → path_cmp (levels_from at text) (levels_from from other) ≡ topic_cmp (drop at text) (drop from other)
+both_within text other at from h k = rw (from_within text at h, from_within other from k) refl
 
-pub one_within : (text other : List ℕ) (at from : ℕ) → at ≤ length text → length other < from → is_at (path_cmp (levels_from at text)) (levels_from from other) ≡ false
-one_within text other at from h k = rw (from_within text at h, no_more other from k, last_is_greater (drop at text)) refl
+pub one_within : (text other : List ℕ) (at from : ℕ) → at ≤ length text → length other < from → path_cmp (levels_from at text) (levels_from from other) ≡ Greater
+one_within text other at from h k = rw (from_within text at h, no_more other from k) (last_is_greater (drop at text))
 
-pub other_within : (text other : List ℕ) (at from : ℕ) → length text < at → from ≤ length other → is_at (path_cmp (levels_from at text)) (levels_from from other) ≡ false
-other_within text other at from h k = rw (no_more text at h, from_within other from k, first_is_less (drop from other)) refl
+pub other_within : (text other : List ℕ) (at from : ℕ) → length text < at → from ≤ length other → path_cmp (levels_from at text) (levels_from from other) ≡ Less
+other_within text other at from h k = rw (no_more text at h, from_within other from k) (first_is_less (drop from other))
 
-pub none_within : (text other : List ℕ) (at from : ℕ) → length text < at → length other < from → is_at (path_cmp (levels_from at text)) (levels_from from other) ≡ true
+pub none_within : (text other : List ℕ) (at from : ℕ) → length text < at → length other < from → path_cmp (levels_from at text) (levels_from from other) ≡ Equal
 none_within text other at from h k = rw (no_more text at h, no_more other from k) refl

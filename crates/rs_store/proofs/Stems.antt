@@ -194,15 +194,15 @@ at_itself : (level k : List ℕ) → k ≡ level → is_eq (level_cmp level k) �
 at_itself level k same = rw (same, tied_itself nat_list_cmp_total level) refl
 
 -- a map of one child, after the child is replaced
-pub only_child : {A : Type 0} (key : Vec ℕ A) (level : List ℕ) (es mid new : Children A) (w : Held) → es ≡ []
-    → mid ≡ insert_entry (λ (x y : Vec ℕ A). slice_cmp nat_cmp x.items y.items) es key [] → key.items ≡ level
+pub only_child : {A : Type 0} (key : Vec ℕ A) (level : List ℕ) (es mid new : Children A) (v w : Held) → es ≡ []
+    → mid ≡ insert_entry (λ (x y : Vec ℕ A). slice_cmp nat_cmp x.items y.items) es key v → key.items ≡ level
     → new ≡ set_value (λ (k : Vec ℕ A). is_eq (level_cmp level k.items)) mid w → new ≡ (key, w) ∷ []
-only_child key level es mid new w none made same put = rw (put, made, none, at_itself level key.items same) refl
+only_child key level es mid new v w none made same put = rw (put, made, none, at_itself level key.items same) refl
 
-pub only_there : {A : Type 0} (key : Vec ℕ A) (level : List ℕ) (es mid : Children A) → es ≡ []
-    → mid ≡ insert_entry (λ (x y : Vec ℕ A). slice_cmp nat_cmp x.items y.items) es key [] → key.items ≡ level
+pub only_there : {A : Type 0} (key : Vec ℕ A) (level : List ℕ) (es mid : Children A) (v : Held) → es ≡ []
+    → mid ≡ insert_entry (λ (x y : Vec ℕ A). slice_cmp nat_cmp x.items y.items) es key v → key.items ≡ level
     → IsSome (lookup (λ (k : Vec ℕ A). is_eq (level_cmp level k.items)) mid)
-only_there key level es mid none made same = rw (made, none, at_itself level key.items same) refl
+only_there key level es mid v none made same = rw (made, none, at_itself level key.items same) refl
 
 pub only_full : {A : Type 0} (key : Vec ℕ A) (new : Children A) (w : Held) → new ≡ (key, w) ∷ [] → IsFull w → AreFull new
 only_full key new w is f = rw is (f, tt)
@@ -215,7 +215,3 @@ cut_whole ks upper lower key level new w is same one = rw (one, is, same) (ap (u
 pub under_one : (ks r : Path) (g : Found) → under_all ks ((r, g) ∷ []) ≡ (ks ++ r, g) ∷ []
 under_one [] r g = refl
 under_one (k ∷ ks) r g = ap (under k) (under_one ks r g)
-
--- a branch of two messages below what they share
-pub forked_whole : (ks old r p q : Path) (g f : Found) (b : Held) → old ≡ ks ++ r → p ≡ ks ++ q → b ≡ insert_entry path_cmp ((r, g) ∷ []) q f → under_all ks b ≡ insert_entry path_cmp ((old, g) ∷ []) p f
-forked_whole ks old r p q g f b is there h = rw (h, is, there) (sym (insert_all ks q f ((r, g) ∷ [])) ∙ ap (λ (l : Held). insert_entry path_cmp l (ks ++ q) f) (under_one ks r g))

@@ -1,6 +1,7 @@
-//! The retained messages as a tree of levels. Levels that all messages below a place share are one text, and a Clear joins a branch
-//! that it leaves with one child and no message to that child. So there are fewer branches than messages, beside the root. A branch
-//! that is refused the memory for that waits for the next Set or Clear that goes through it.
+//! The retained messages as a tree of levels. A few messages below one place are a bucket, which becomes a branch if it is full and
+//! one more message comes. Levels that all messages below a place share are one text, and a Clear joins a branch that it leaves with
+//! one child and no message to that child. So there are fewer branches than messages, beside the root. A branch that is refused the
+//! memory for that waits for the next Set or Clear that goes through it.
 
 ghost use Rattle.std.specs.Prelude.{◌≡◌, [], ◌∷◌, ◌++◌, ◌≤◌, IfOk, IsSome, OnOk, OnErr};
 ghost use Rattle.std.specs.BTreeMap.{insert_entry, is_at};
@@ -16,10 +17,10 @@ mod answers;
 mod count;
 mod join;
 
+use crate::bucket::Bucket;
 use crate::chain::{behind, shared_levels};
 use crate::found::copied;
 use crate::held::{copied_held, put_held};
-use crate::leaf::Leaf;
 use crate::level::level_at;
 use rs_message::Found;
 use std::alloc::{AllocError, Global};
@@ -30,11 +31,9 @@ use std::mem::swap;
 #[cycle(tree)]
 #[derive(Drop)]
 pub enum Node {
-    /// No message. No branch keeps such a child.
-    Bare,
-    /// One message.
-    Leaf(Box<Leaf>),
-    /// More than one message, or one that had others beside it.
+    /// A few messages. No branch keeps a child that has none.
+    Few(Bucket),
+    /// More messages, or some that had more beside them.
     Inner(Box<Stem>),
 }
 
@@ -110,11 +109,19 @@ fn hang(
 }
 
 impl Child {
-    fn leaf(alloc: Global, found: Found, at: usize) -> Result<Child, AllocError>
+    fn bare(alloc: Global) -> Child
+        ensures { result ≡ [] }
+    {
+        Child {
+            node: Node::Few(Bucket::new(alloc)),
+        }
+    }
+
+    fn of(alloc: Global, found: Found, at: usize) -> Result<Child, AllocError>
         ensures { IfOk result (λ c. c ≡ spot_of at found ∷ []) }
     {
         Ok(Child {
-            node: Node::Leaf(Leaf::new(alloc, found, at)?),
+            node: Node::Few(Bucket::of(alloc, found, at)?),
         })
     }
 
@@ -128,8 +135,7 @@ impl Child {
         ensures { result ≡ is_nothing self.now }
     {
         match &self.node {
-            Node::Bare => true,
-            Node::Leaf(_) => false,
+            Node::Few(bucket) => bucket.is_empty(),
             Node::Inner(stem) => stem.branch.is_empty(),
         }
     }
@@ -142,27 +148,44 @@ impl Child {
         ensures told { IfOk result (λ was. was ≡ is_there (levels_from at found.topic) self.old) }
         ensures refused { OnErr result (self.new ≡ self.old) }
     {
-        let stem = match &mut self.node {
-            Node::Bare => {
-                self.node = Node::Leaf(Leaf::new(alloc, found, at)?);
-                return Ok(false);
-            }
+        self.make_room(alloc, found.topic.as_bytes(), at)?;
+        match &mut self.node {
+            Node::Few(bucket) => bucket.set(found, at),
             Node::Inner(stem) => {
                 let next = stem.reach(alloc, found.topic.as_bytes(), at)?;
                 let done = stem.branch.set(alloc, found, next);
                 self.join(alloc, at);
-                return done;
+                done
             }
-            Node::Leaf(leaf) => {
-                if leaf.is_at(found.topic.as_bytes(), at) {
-                    leaf.put(found, at);
-                    return Ok(true);
-                }
-                forked(alloc, leaf, found, at)?
-            }
+        }
+    }
+
+    /// Puts a branch in the place of a bucket that is full, unless it has a message at this rest of a topic. If memory is refused,
+    /// nothing changes.
+    fn make_room(&mut self, alloc: Global, topic: &[u8], at: usize) -> Result<(), AllocError>
+        ensures { self.new ≡ self.old }
+    {
+        let Node::Few(bucket) = &self.node else {
+            return Ok(());
         };
+        if !bucket.is_full() || bucket.holds(topic, at) {
+            return Ok(());
+        }
+        let stem = parted(alloc, bucket)?;
         self.node = Node::Inner(Box::new(alloc, stem)?);
-        Ok(false)
+        Ok(())
+    }
+
+    /// Sets a message in a bucket, and returns whether there was one. If memory is refused, nothing changes.
+    fn hold(&mut self, found: Found, at: usize) -> Result<bool, AllocError>
+        ensures done { OnOk result (self.new ≡ insert_entry path_cmp self.old (levels_from at found.topic) found) }
+        ensures refused { OnErr result (self.new ≡ self.old) }
+    {
+        match &mut self.node {
+            Node::Few(bucket) => bucket.set(found, at),
+            // Never: the children of a branch that is made of a bucket are buckets.
+            Node::Inner(_) => Err(AllocError),
+        }
     }
 
     /// Removes the message at this rest of a topic, and the branches that are empty then or have one child left. Returns whether
@@ -173,14 +196,7 @@ impl Child {
         ensures told { result ≡ is_there (levels_from at topic.now) self.old }
     {
         match &mut self.node {
-            Node::Bare => false,
-            Node::Leaf(leaf) => {
-                if leaf.is_at(topic, at) {
-                    self.node = Node::Bare;
-                    return true;
-                }
-                false
-            }
+            Node::Few(bucket) => bucket.clear(topic, at),
             Node::Inner(stem) => {
                 let Some(next) = behind(stem.chain.as_slice(), topic, at) else {
                     return false;
@@ -198,8 +214,7 @@ impl Child {
         ensures { result ≡ is_there (levels_from at topic.now) self.now }
     {
         match &self.node {
-            Node::Bare => false,
-            Node::Leaf(leaf) => leaf.is_at(topic, at),
+            Node::Few(bucket) => bucket.holds(topic, at),
             Node::Inner(stem) => match behind(stem.chain.as_slice(), topic, at) {
                 Some(next) => stem.branch.holds(topic, next),
                 None => false,
@@ -213,8 +228,7 @@ impl Child {
         ensures { IfOk result (λ c. c ≡ self.now) }
     {
         let node = match &self.node {
-            Node::Bare => Node::Bare,
-            Node::Leaf(leaf) => Node::Leaf(Leaf::new(alloc, copied(&leaf.found)?, leaf.at)?),
+            Node::Few(bucket) => Node::Few(bucket.copy(alloc)?),
             Node::Inner(stem) => {
                 let chain = Vec::from_slice(alloc, stem.chain.as_slice())?;
                 let branch = stem.branch.copy(alloc)?;
@@ -225,24 +239,21 @@ impl Child {
     }
 }
 
-/// A chain of the levels that two topics share, and a branch of both messages. The first one is copied.
-#[cycle(set)]
-fn forked(alloc: Global, leaf: &Leaf, found: Found, at: usize) -> Result<Stem, AllocError>
-    ensures { IfOk result (λ s. stem_spots s ≡ insert_entry path_cmp (spot_of leaf.now.at leaf.now.found ∷ []) (levels_from at found.topic) found) }
+/// A chain of the levels that the messages of a bucket share, and a branch of copies of them.
+fn parted(alloc: Global, bucket: &Bucket) -> Result<Stem, AllocError>
+    ensures { IfOk result (λ s. stem_spots s ≡ bucket.now) }
 {
-    let shared = shared_levels(
-        alloc,
-        leaf.found.topic.as_bytes(),
-        leaf.at,
-        found.topic.as_bytes(),
-        at,
-    )?;
-    let mut branch = Branch::of(alloc, copied(&leaf.found)?, shared.at)?;
-    branch.set(alloc, found, shared.from)?;
-    Ok(Stem {
-        chain: shared.chain,
-        branch,
-    })
+    let chain = bucket.shared(alloc)?;
+    let mut branch = Branch::new(alloc);
+    let leaves = bucket.as_slice();
+    for leaf in leaves {
+        // Never none: the messages are in order, so all share what the first and the last share.
+        let Some(next) = behind(chain.as_slice(), leaf.found.topic.as_bytes(), leaf.at) else {
+            return Err(AllocError);
+        };
+        branch.hold(alloc, copied(&leaf.found)?, next)?;
+    }
+    Ok(Stem { chain, branch })
 }
 
 /// Puts a chain and its branch in the place of the child of a level.
@@ -294,7 +305,7 @@ impl Stem {
             },
         )?;
         let mut children = BTreeMap::new(alloc);
-        hang(&mut children, key, Child { node: Node::Bare })?;
+        hang(&mut children, key, Child::bare(alloc))?;
         // No memory is asked for from here on.
         swap(&mut self.branch, &mut lower.branch);
         put_child(&mut children, level, lower);
@@ -317,24 +328,20 @@ impl Branch {
         }
     }
 
-    /// The branch of one message.
-    fn of(alloc: Global, found: Found, at: usize) -> Result<Branch, AllocError>
-        ensures { IfOk result (λ b. b ≡ spot_of at found ∷ []) }
+    /// Sets a message in a branch whose children are buckets, and returns whether there was one.
+    fn hold(&mut self, alloc: Global, found: Found, at: usize) -> Result<bool, AllocError>
+        ensures { OnOk result (self.new ≡ insert_entry path_cmp self.old (levels_from at found.topic) found) }
     {
-        let mut children = BTreeMap::new(alloc);
         let Some((level, next)) = level_at(found.topic.as_bytes(), at) else {
-            return Ok(Branch {
-                held: Some(Box::new(alloc, found)?),
-                children,
-            });
+            return put_held(&mut self.held, alloc, found);
         };
+        if let Some(child) = self.children.get_mut(level) {
+            return child.hold(found, next);
+        }
         let key = Vec::from_slice(alloc, level)?;
-        let child = Child::leaf(alloc, found, next)?;
-        children.insert(key, child)?;
-        Ok(Branch {
-            held: None,
-            children,
-        })
+        let child = Child::of(alloc, found, next)?;
+        self.children.insert(key, child)?;
+        Ok(false)
     }
 
     pub fn is_empty(&self) -> bool
@@ -357,7 +364,7 @@ impl Branch {
             return child.set(alloc, found, next);
         }
         let key = Vec::from_slice(alloc, level)?;
-        let child = Child::leaf(alloc, found, next)?;
+        let child = Child::of(alloc, found, next)?;
         self.children.insert(key, child)?;
         Ok(false)
     }

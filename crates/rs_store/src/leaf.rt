@@ -1,7 +1,6 @@
-//! A message that is alone below its place.
+//! A message below a place of the tree.
 
 ghost use Rattle.std.specs.Prelude.{◌≡◌, false, [], ◌∷◌, ◌++◌, IfErr, IfOk, IsTrue, OnOk};
-ghost use Rattle.std.specs.BTreeMap.{is_at};
 ghost use Rattle.rs_topic.specs.Order.{path_cmp};
 ghost use Rattle.rs_store.specs.Chosen.{chosen};
 ghost use Rattle.rs_store.specs.Room.{IsStop};
@@ -9,12 +8,13 @@ ghost use Rattle.rs_store.specs.Spots.{levels_from, spot_of};
 
 use crate::answer::{Answer, Stop};
 use crate::chain::behind;
-use crate::found::is_expired;
-use crate::level::{is_same_rest, level_at, levels_fit};
+use crate::found::{copied, is_expired};
+use crate::level::{compare_rests, level_at, levels_fit};
 use rs_message::Found;
-use std::alloc::{AllocError, Global};
+use std::alloc::AllocError;
+use std::cmp::Ordering;
 
-/// The only message below a place, however many levels are left of its topic.
+/// A message below a place, however many levels are left of its topic.
 #[derive(Drop)]
 pub struct Leaf {
     pub found: Found,
@@ -23,19 +23,6 @@ pub struct Leaf {
 }
 
 impl Leaf {
-    pub fn new(alloc: Global, found: Found, at: usize) -> Result<Box<Leaf>, AllocError>
-        ensures { IfOk result (λ b. (b.value.found ≡ found) × (b.value.at ≡ at)) }
-    {
-        Ok(Box::new(alloc, Leaf { found, at })?)
-    }
-
-    pub fn put(&mut self, found: Found, at: usize)
-        ensures { self.new ≡ record { found = found; at = at } }
-    {
-        self.found = found;
-        self.at = at;
-    }
-
     /// Begins the rest of the topic at an earlier byte, if exactly a chain and a level stand in between, and says whether they do.
     pub fn rise(&mut self, chain: &[u8], level: &[u8], at: usize) -> bool
         ensures same { self.new.found ≡ self.old.found }
@@ -56,11 +43,21 @@ impl Leaf {
         true
     }
 
-    /// The rest of its topic is the rest of this one.
-    pub fn is_at(&self, topic: &[u8], at: usize) -> bool
-        ensures { result ≡ is_at (path_cmp (levels_from at topic.now)) (levels_from self.now.at self.now.found.topic) }
+    /// How the rest of another topic compares to the rest of its own.
+    pub fn compared(&self, topic: &[u8], at: usize) -> Ordering
+        ensures { result ≡ path_cmp (levels_from at topic.now) (levels_from self.now.at self.now.found.topic) }
     {
-        is_same_rest(topic, at, self.found.topic.as_bytes(), self.at)
+        compare_rests(topic, at, self.found.topic.as_bytes(), self.at)
+    }
+
+    /// An equal leaf, which shares the bytes.
+    pub fn copy(&self) -> Result<Leaf, AllocError>
+        ensures { IfOk result (λ l. l ≡ self.now) }
+    {
+        Ok(Leaf {
+            found: copied(&self.found)?,
+            at: self.at,
+        })
     }
 
     /// Appends a copy of the message if the filter fits the rest of its topic and it is not expired.

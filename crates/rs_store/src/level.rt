@@ -3,11 +3,12 @@
 ghost use Rattle.std.specs.Prelude.{◌≡◌, ◌==◌, ◌∷◌, [], ◌+◌, ◌<◌, ◌≤◌, length, IfSome, IfNone, IsTrue};
 ghost use Rattle.std.specs.List.{position_or_len};
 ghost use Rattle.std.specs.Str.{bytes_eq};
-ghost use Rattle.std.specs.BTreeMap.{is_at};
 ghost use Rattle.rs_topic.specs.Topics.{levels, slash, plus};
-ghost use Rattle.rs_topic.specs.Order.{path_cmp};
+ghost use Rattle.rs_topic.specs.Order.{differing_cmp, path_cmp, topic_cmp};
 ghost use Rattle.rs_topic.specs.Matching.{begins_with_dollar, fits};
 ghost use Rattle.rs_store.specs.Spots.{levels_from};
+
+use std::cmp::Ordering;
 
 /// The length of the first level.
 #[tactic(auto, using(rs_topic::proofs::LevelLemmas::ends_here, rs_topic::proofs::LevelLemmas::ends_nowhere))]
@@ -88,18 +89,47 @@ pub fn levels_fit(filter: &[u8], mut at: usize, topic: &[u8], mut from: usize) -
     level_at(topic, from).is_none()
 }
 
-/// The rests of two texts have the same levels.
+/// The order of two texts whose bytes first differ in these: a slash ends a level, and so comes first.
+fn compare_differing(x: u8, y: u8) -> Ordering
+    ensures { result ≡ differing_cmp x y }
+{
+    if x == b'/' {
+        Ordering::Less
+    } else if y == b'/' {
+        Ordering::Greater
+    } else {
+        x.cmp(&y)
+    }
+}
+
+/// Compares level by level, as topic names are ordered.
+#[tactic(auto, using(rs_topic::proofs::FirstDifference::differ_at, rs_topic::proofs::FirstDifference::differ_nowhere))]
+fn compare(a: &[u8], b: &[u8]) -> Ordering
+    ensures { result ≡ topic_cmp a.now b.now }
+{
+    for i in 0..a.len().min(b.len()) {
+        if a[i] != b[i] {
+            return compare_differing(a[i], b[i]);
+        }
+    }
+    a.len().cmp(&b.len())
+}
+
+/// Compares the rests of two texts level by level.
 #[tactic(auto, using(crate::proofs::Places::both_within, crate::proofs::Places::one_within, crate::proofs::Places::other_within, crate::proofs::Places::none_within))]
-pub fn is_same_rest(text: &[u8], at: usize, other: &[u8], from: usize) -> bool
-    ensures { result ≡ is_at (path_cmp (levels_from at text.now)) (levels_from from other.now) }
+pub fn compare_rests(text: &[u8], at: usize, other: &[u8], from: usize) -> Ordering
+    ensures { result ≡ path_cmp (levels_from at text.now) (levels_from from other.now) }
 {
     if at > text.len() {
-        return from > other.len();
+        if from > other.len() {
+            return Ordering::Equal;
+        }
+        return Ordering::Less;
     }
     if from > other.len() {
-        return false;
+        return Ordering::Greater;
     }
     let (_, rest) = text.split_at(at);
     let (_, others) = other.split_at(from);
-    rest == others
+    compare(rest, others)
 }

@@ -8,6 +8,7 @@
 
 mod answer;
 mod branch;
+mod bucket;
 mod catalogue;
 mod chain;
 mod content;

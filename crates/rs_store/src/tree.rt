@@ -24,12 +24,12 @@ use std::marker::Model;
 
 /// The messages in a tree of the levels of their topics.
 ///
-/// Each place at which topics differ has a map of the next levels. The levels in between, which all topics below share, are one
-/// text.
+/// A few messages below one place lie side by side, in order. If there are more, the place has a map of the next levels, and the
+/// levels that all topics below share are one text.
 ///
-/// `accepts` and `apply` look up one topic, level by level. `answer` visits only the branches that the filter can match: one for a
-/// level without a wildcard, each for a `+`, all below for a `#`. It builds no list of levels and copies no byte of a topic, text
-/// or payload. `version`, `last_serial` and `count` take constant time.
+/// `accepts` and `apply` look up one topic, level by level, and then among the few messages that lie together. `answer` visits only
+/// the branches that the filter can match: one for a level without a wildcard, each for a `+`, all below for a `#`. It builds no
+/// list of levels and copies no byte of a topic, text or payload. `version`, `last_serial` and `count` take constant time.
 #[derive(Drop)]
 pub struct TreeCatalogue {
     alloc: Global,

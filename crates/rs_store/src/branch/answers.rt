@@ -47,8 +47,7 @@ impl Child {
         ensures room { answer.new.room ≡ answer.old.room }
     {
         match &self.node {
-            Node::Bare => Ok(()),
-            Node::Leaf(leaf) => leaf.answer(filter, at, now, answer),
+            Node::Few(bucket) => bucket.answer(filter, at, now, answer),
             Node::Inner(stem) => match past(stem.chain.as_slice(), filter, at) {
                 Some(next) => stem.branch.answer(filter, next, now, answer),
                 None => Ok(()),

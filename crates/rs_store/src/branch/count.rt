@@ -6,8 +6,7 @@ impl Child {
     #[cycle(branches)]
     fn branches(&self) -> u32 {
         match &self.node {
-            Node::Bare => 0,
-            Node::Leaf(_) => 0,
+            Node::Few(_) => 0,
             Node::Inner(stem) => stem.branch.branches(),
         }
     }

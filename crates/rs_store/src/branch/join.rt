@@ -30,7 +30,7 @@ fn take_only(
     let Some(mut entry) = children.first_entry() else {
         return None;
     };
-    let mut child = entry.insert(Child { node: Node::Bare });
+    let mut child = entry.insert(Child::bare(alloc));
     let is_lifted = child.lift(alloc, chain, entry.key().as_slice(), at);
     if !is_lifted {
         entry.insert(child);
@@ -55,14 +55,13 @@ impl Stem {
 
 impl Child {
     /// Puts the levels of a chain and one level above its messages, and says whether that is done. If memory is refused, nothing
-    /// changes. A leaf needs none: the rest of its topic begins at an earlier byte, which is where the chain begins.
+    /// changes.
     fn lift(&mut self, alloc: Global, chain: &[u8], level: &[u8], at: usize) -> bool
         ensures done { IsTrue result → self.new ≡ under_all (levels_from 1 chain.now) (under level.now self.old) }
         ensures kept { result ≡ false → self.new ≡ self.old }
     {
         match &mut self.node {
-            Node::Bare => false,
-            Node::Leaf(leaf) => leaf.rise(chain, level, at),
+            Node::Few(bucket) => bucket.rise(alloc, chain, level, at),
             Node::Inner(stem) => is_level(level) && stem.rise(alloc, chain, level),
         }
     }

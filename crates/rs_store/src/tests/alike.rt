@@ -234,11 +234,11 @@ fn shared_levels(rt: HostRuntime) -> Result<(), Fail> {
         put(alloc, &mut map, serial, name.as_slice(), 1)??;
         put(alloc, &mut tree, serial, name.as_slice(), 1)??;
     }
-    assert_eq!(rt; tree.branches(), 2);
+    assert_eq!(rt; tree.branches(), 1);
     at_each_level(&rt, alloc, &mut map, &mut tree, 1)?;
     assert!(rt; 100 < tree.branches());
     at_each_level(&rt, alloc, &mut map, &mut tree, 4)?;
-    assert_eq!(rt; tree.branches(), 2);
+    assert_eq!(rt; tree.branches(), 1);
     for filter in [b"a/#".as_slice(), b"+/a/#".as_slice(), b"a/a/+".as_slice()] {
         is_alike(&rt, alloc, &map, &tree, filter)?;
     }

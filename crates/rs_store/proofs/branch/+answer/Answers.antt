@@ -113,7 +113,7 @@ pub Child::answer-returns-in-Some-clause-done : goal.Child::answer-returns-in-So
 Child::answer-returns-in-Some-clause-done t c =
     let stem = c.in-Inner.stem.value in
     let view : stem_spots c.in-Inner.stem.value ≡ c.args.self.now = sym (ap spots_of c.in-Inner.is) ∙ c.self.view_is in
-    let there : Some (levels_from c.in-Some.next c.args.filter.now) ≡ past (levels_from 1 stem.chain.items) (levels_from c.args.at c.args.filter.now) = rw (c.as_slice.ensures.value, c.deref-in-Inner.ensures) at c.in-Some.ensures in
+    let there : Some (levels_from c.in-Some.next c.args.filter.now) ≡ past (levels_from 1 stem.chain.items) (levels_from c.args.at c.args.filter.now) = rw (c.as_slice.ensures.value, c.deref.ensures) at c.in-Some.ensures in
     let same = chosen_past (levels_from 1 stem.chain.items) (levels_from c.args.at c.args.filter.now) (levels_from c.in-Some.next c.args.filter.now) c.args.now stem.branch (sym there) in
     let more : OnOk c.answer-in-Some.result (c.answer-in-Some.new.answer.found.items ≡ c.args.answer.now.found.items ++ chosen (levels_from c.in-Some.next c.args.filter.now) c.args.now stem.branch) = rw c.deref-in-Some.ensures at c.answer-in-Some.ensures.done in
     rw (← view) (on_ok_weaker c.answer-in-Some.result (λ h. h ∙ ap (λ l. c.args.answer.now.found.items ++ l) (sym same)) more)
@@ -122,7 +122,7 @@ pub Child::answer-returns-in-Some-clause-stop : goal.Child::answer-returns-in-So
 Child::answer-returns-in-Some-clause-stop t c =
     let stem = c.in-Inner.stem.value in
     let view : stem_spots c.in-Inner.stem.value ≡ c.args.self.now = sym (ap spots_of c.in-Inner.is) ∙ c.self.view_is in
-    let there : Some (levels_from c.in-Some.next c.args.filter.now) ≡ past (levels_from 1 stem.chain.items) (levels_from c.args.at c.args.filter.now) = rw (c.as_slice.ensures.value, c.deref-in-Inner.ensures) at c.in-Some.ensures in
+    let there : Some (levels_from c.in-Some.next c.args.filter.now) ≡ past (levels_from 1 stem.chain.items) (levels_from c.args.at c.args.filter.now) = rw (c.as_slice.ensures.value, c.deref.ensures) at c.in-Some.ensures in
     let same = chosen_past (levels_from 1 stem.chain.items) (levels_from c.args.at c.args.filter.now) (levels_from c.in-Some.next c.args.filter.now) c.args.now stem.branch (sym there) in
     let more : IfErr c.answer-in-Some.result (λ s. IsStop s c.args.answer.now.room (c.args.answer.now.found.items ++ chosen (levels_from c.in-Some.next c.args.filter.now) c.args.now stem.branch)) = rw c.deref-in-Some.ensures at c.answer-in-Some.ensures.stop in
     rw (← view) (if_err_at c.answer-in-Some.result c.args.answer.now.room _ _ (ap (λ l. c.args.answer.now.found.items ++ l) (sym same)) more)
@@ -131,5 +131,5 @@ pub Child::answer-returns-in-None-clause-done : goal.Child::answer-returns-in-No
 Child::answer-returns-in-None-clause-done t c =
     let stem = c.in-Inner.stem.value in
     let view : stem_spots c.in-Inner.stem.value ≡ c.args.self.now = sym (ap spots_of c.in-Inner.is) ∙ c.self.view_is in
-    let none : None ≡ past (levels_from 1 stem.chain.items) (levels_from c.args.at c.args.filter.now) = rw (c.as_slice.ensures.value, c.deref-in-Inner.ensures) at c.in-None.ensures in
+    let none : None ≡ past (levels_from 1 stem.chain.items) (levels_from c.args.at c.args.filter.now) = rw (c.as_slice.ensures.value, c.deref.ensures) at c.in-None.ensures in
     rw (← view) (sym (append-nil c.args.answer.now.found.items) ∙ ap (λ l. c.args.answer.now.found.items ++ l) (sym (none_past (levels_from 1 stem.chain.items) (levels_from c.args.at c.args.filter.now) c.args.now stem.branch (sym none))))

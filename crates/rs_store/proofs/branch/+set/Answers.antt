@@ -3,11 +3,10 @@ use Rattle.std.specs.Option.{option_copied_mut}
 use Rattle.std.proofs.lemmas.Result.{on_ok_weaker, on_err_weaker}
 use Rattle.std.specs.Cmp.Lexicographic.{slice_cmp}
 use Rattle.std.specs.Ordering.{nat_cmp}
-use Rattle.std.specs.BTreeMap.{is_at}
 use Rattle.rs_topic.specs.Order.{path_cmp}
 use Rattle.rs_store.specs.Nodes.{spots_of}
-use Rattle.rs_store.specs.Spots.{held_found, levels_from, spot_of}
-use Rattle.rs_store.proofs.Growing.{own_first, rising, grown_whole, same_whole, sprouted_whole, full_grown, full_sprouted, replaced}
+use Rattle.rs_store.specs.Spots.{held_found, levels_from}
+use Rattle.rs_store.proofs.Growing.{own_first, rising, grown_whole, same_whole, sprouted_whole, full_grown, full_sprouted}
 use Rattle.rs_store.proofs.Looking.{there_child, there_none, there_own, told_by}
 use Rattle.rs_store.proofs.branch.+set.Goals as goal
 use Rattle.rs_store.proofs.Growing.{full_there}
@@ -17,7 +16,7 @@ use Rattle.std.specs.BTreeMap.{insert_entry}
 use Rattle.rs_store.specs.Chains.{under_all}
 use Rattle.rs_store.specs.Nodes.{stem_spots}
 use Rattle.rs_store.specs.Spots.{IsFull, is_there}
-use Rattle.rs_store.proofs.Stems.{full_inside, set_whole, told_whole, forked_whole}
+use Rattle.rs_store.proofs.Stems.{full_inside, set_whole, told_whole}
 
 pub Branch::set-returns-in_default-clause-done : goal.Branch::set-returns-in_default-clause-done
 Branch::set-returns-in_default-clause-done t c =
@@ -55,13 +54,6 @@ Branch::set-returns-clause-done t c =
     rw (e, ← c.self.view_is)
     (sprouted_whole (held_found c.self.inside.held) c.in_ok-key.key c.in-Some.level.now (levels_from c.in-Some.next c.args.found.topic) c.args.found [] c.in_ok-child.child es (c.get_mut.follows.lender-at-none).entries c.insert.new.self.entries (rising es c.get_mut.ensures.ordered) (ap (λ m. m.entries) c.get_mut.follows.holds-at-none) c.in_ok-key.ensures.items gone refl c.in_ok-child.ensures c.in_ok-insert.ensures.entries)
 
-pub Child::set-returns-then-is_at-clause-done : goal.Child::set-returns-then-is_at-clause-done
-Child::set-returns-then-is_at-clause-done t c =
-    let old = c.in-Leaf.leaf.value in
-    let view : spot_of old.at old.found ∷ [] ≡ c.args.self.now = sym (ap spots_of c.in-Leaf.is) ∙ c.self.view_is in
-    let tells : c.is_at.result ≡ is_at (path_cmp (levels_from c.args.at c.args.found.topic)) (levels_from old.at old.found.topic) = rw (c.as_bytes-in-Leaf.ensures.bytes, c.deref.ensures) at c.is_at.ensures in
-    rw (c.put.ensures, ← view) (replaced (levels_from old.at old.found.topic) old.found (levels_from c.args.at c.args.found.topic) c.args.found c.is_at.result tells c.if-is_at.true)
-
 pub Branch::set-returns-in_default-clause-told : goal.Branch::set-returns-in_default-clause-told
 Branch::set-returns-in_default-clause-told t c =
     let e : levels_from c.args.at c.args.found.topic ≡ [] = rw c.as_bytes.ensures.bytes at c.in_default.ensures.ended in
@@ -80,13 +72,6 @@ Branch::set-returns-clause-told t c =
     let gone = sym c.get_mut.ensures.value ∙ ap option_copied_mut c.in_default-get_mut.is in
     rw (e, ← c.self.view_is) (sym (there_none (held_found c.self.inside.held) c.in-Some.level.now (levels_from c.in-Some.next c.args.found.topic) c.self.inside.children.entries gone))
 
-pub Child::set-returns-then-is_at-clause-told : goal.Child::set-returns-then-is_at-clause-told
-Child::set-returns-then-is_at-clause-told t c =
-    let old = c.in-Leaf.leaf.value in
-    let view : spot_of old.at old.found ∷ [] ≡ c.args.self.now = sym (ap spots_of c.in-Leaf.is) ∙ c.self.view_is in
-    let tells : c.is_at.result ≡ is_at (path_cmp (levels_from c.args.at c.args.found.topic)) (levels_from old.at old.found.topic) = rw (c.as_bytes-in-Leaf.ensures.bytes, c.deref.ensures) at c.is_at.ensures in
-    rw (← view, ← tells, c.if-is_at.true) refl
-
 pub Branch::set-set-requires : goal.Branch::set-set-requires
 Branch::set-set-requires t c =
     let there = sym c.get_mut.ensures.value ∙ ap option_copied_mut c.in-Some-get_mut.is in
@@ -95,37 +80,27 @@ Branch::set-set-requires t c =
 pub Child::set-reach-requires : goal.Child::set-reach-requires
 Child::set-reach-requires t c =
     let stem = c.in-Inner.stem.value in
-    let view : stem_spots stem ≡ c.args.self.now = sym (ap spots_of c.in-Inner.is) ∙ c.self.view_is in
+    let view : stem_spots stem ≡ c.args.self.now = sym (ap spots_of c.in-Inner.is) ∙ (c.self.view_is ∙ c.make_room.ensures) in
     let full : IsFull (under_all (levels_from 1 stem.chain.items) stem.branch) = subst IsFull (sym view) c.requires in
     rw c.deref_mut.ensures.value (full_inside (levels_from 1 stem.chain.items) stem.branch full)
 
-pub Child::set-returns-in-Inner-clause-done : goal.Child::set-returns-in-Inner-clause-done
-Child::set-returns-in-Inner-clause-done t c =
+pub Child::set-returns-in_ok-next-in-Inner-clause-done : goal.Child::set-returns-in_ok-next-in-Inner-clause-done
+Child::set-returns-in_ok-next-in-Inner-clause-done t c =
     let stem = c.reach.new.self in
     let next = c.in_ok-next-in-Inner.next in
-    let view : stem_spots c.in-Inner.stem.value ≡ c.args.self.now = sym (ap spots_of c.in-Inner.is) ∙ c.self.view_is in
+    let view : stem_spots c.in-Inner.stem.value ≡ c.args.self.now = sym (ap spots_of c.in-Inner.is) ∙ (c.self.view_is ∙ c.make_room.ensures) in
     let same : stem_spots stem ≡ c.args.self.now = c.in_ok-next-in-Inner.ensures.same ∙ (ap stem_spots c.deref_mut.ensures.value ∙ view) in
-    let reached : levels_from c.args.at c.args.found.topic ≡ levels_from 1 stem.chain.items ++ levels_from next c.args.found.topic = rw c.as_bytes.ensures.bytes at c.in_ok-next-in-Inner.ensures.reached in
+    let reached : levels_from c.args.at c.args.found.topic ≡ levels_from 1 stem.chain.items ++ levels_from next c.args.found.topic = rw c.as_bytes-in-Inner.ensures.bytes at c.in_ok-next-in-Inner.ensures.reached in
     let done : OnOk c.set-done.result (c.set-done.new.self ≡ insert_entry path_cmp stem.branch (levels_from next c.args.found.topic) c.args.found) = rw c.deref_mut-in-Inner.ensures.value at c.set-done.ensures.done in
     let kept : c.join.new.self ≡ under_all (levels_from 1 stem.chain.items) c.set-done.new.self = rw c.deref_mut-in-Inner.ensures.value at c.join.ensures in
     on_ok_weaker c.set-done.result (λ h. kept ∙ set_whole (levels_from 1 stem.chain.items) (levels_from c.args.at c.args.found.topic) (levels_from next c.args.found.topic) c.args.found stem.branch c.set-done.new.self c.args.self.now same reached h) done
 
-pub Child::set-returns-in-Inner-clause-told : goal.Child::set-returns-in-Inner-clause-told
-Child::set-returns-in-Inner-clause-told t c =
+pub Child::set-returns-in_ok-next-in-Inner-clause-told : goal.Child::set-returns-in_ok-next-in-Inner-clause-told
+Child::set-returns-in_ok-next-in-Inner-clause-told t c =
     let stem = c.reach.new.self in
     let next = c.in_ok-next-in-Inner.next in
-    let view : stem_spots c.in-Inner.stem.value ≡ c.args.self.now = sym (ap spots_of c.in-Inner.is) ∙ c.self.view_is in
+    let view : stem_spots c.in-Inner.stem.value ≡ c.args.self.now = sym (ap spots_of c.in-Inner.is) ∙ (c.self.view_is ∙ c.make_room.ensures) in
     let same : stem_spots stem ≡ c.args.self.now = c.in_ok-next-in-Inner.ensures.same ∙ (ap stem_spots c.deref_mut.ensures.value ∙ view) in
-    let reached : levels_from c.args.at c.args.found.topic ≡ levels_from 1 stem.chain.items ++ levels_from next c.args.found.topic = rw c.as_bytes.ensures.bytes at c.in_ok-next-in-Inner.ensures.reached in
+    let reached : levels_from c.args.at c.args.found.topic ≡ levels_from 1 stem.chain.items ++ levels_from next c.args.found.topic = rw c.as_bytes-in-Inner.ensures.bytes at c.in_ok-next-in-Inner.ensures.reached in
     let told : IfOk c.set-done.result (λ was. was ≡ is_there (levels_from next c.args.found.topic) stem.branch) = rw c.deref_mut-in-Inner.ensures.value at c.set-done.ensures.told in
     told_by c.set-done.result _ _ told (told_whole (levels_from 1 stem.chain.items) (levels_from c.args.at c.args.found.topic) (levels_from next c.args.found.topic) stem.branch c.args.self.now same reached)
-
-pub forked-returns : goal.forked-returns
-forked-returns t c =
-    let first = c.args.leaf.now.found in
-    let shared = c.in_ok-shared.shared in
-    let text : levels_from c.args.leaf.now.at first.topic ≡ levels_from 1 shared.chain.items ++ levels_from shared.at first.topic = rw c.as_bytes.ensures.bytes at c.in_ok-shared.ensures.text in
-    let other : levels_from c.args.at c.args.found.topic ≡ levels_from 1 shared.chain.items ++ levels_from shared.from c.args.found.topic = rw c.as_bytes-2.ensures.bytes at c.in_ok-shared.ensures.other in
-    let one : c.in_ok-branch.branch ≡ spot_of shared.at first ∷ [] = rw c.in_ok-copied.ensures at c.in_ok-branch.ensures in
-    let both : c.set.new.self ≡ insert_entry path_cmp (spot_of shared.at first ∷ []) (levels_from shared.from c.args.found.topic) c.args.found = rw one at c.in_ok-set.ensures.done in
-    forked_whole (levels_from 1 shared.chain.items) (levels_from c.args.leaf.now.at first.topic) (levels_from shared.at first.topic) (levels_from c.args.at c.args.found.topic) (levels_from shared.from c.args.found.topic) first c.args.found c.set.new.self text other both

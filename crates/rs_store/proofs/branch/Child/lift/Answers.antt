@@ -4,26 +4,21 @@ use Rattle.rs_store.specs.Nodes.{spots_of, stem_spots}
 use Rattle.rs_store.specs.Spots.{levels_from, spot_of, under}
 use Rattle.rs_store.proofs.Stems.{under_one}
 use Rattle.rs_store.proofs.branch.Child.lift.Goals as goal
-use Rattle.rs_store.proofs.branch.Child.lift.Goals.{in-Bare, in-Leaf, in-Inner+then-is_level, in-Inner+else-is_level}
+use Rattle.rs_store.proofs.branch.Child.lift.Goals.{in-Few, in-Inner+then-is_level, in-Inner+else-is_level}
 
 pub returns-clause-done : goal.returns-clause-done
 returns-clause-done c t =
     elim c.match-self.branch [
-      | in-Bare w ↦ absurd (cc (t, w.result-is))
-      | in-Leaf w ↦
-          let old = w.in-Leaf.leaf.value in
-          let chain = levels_from 1 c.args.chain.now in
-          let view : spot_of old.at old.found ∷ [] ≡ c.args.self.now = sym (ap spots_of w.in-Leaf.is) ∙ c.self.view_is in
+      | in-Few w ↦
           let told : IsTrue w.rise.result = subst IsTrue w.result-is t in
-          let same : w.rise.new.self.found ≡ old.found = rw w.deref_mut.ensures.value at w.rise.ensures.same in
-          let done : levels_from w.rise.new.self.at old.found.topic ≡ chain ++ c.args.level.now ∷ levels_from old.at old.found.topic = rw w.deref_mut.ensures.value at w.rise.ensures.done told in
-          rw (w.self-inside-is, ← view, same, done) (sym (under_one chain (c.args.level.now ∷ levels_from old.at old.found.topic) old.found))
+          let view : w.in-Few.bucket ≡ c.args.self.now = sym (ap spots_of w.in-Few.is) ∙ c.self.view_is in
+          rw (w.self-inside-is, ← view) (w.rise.ensures.done told)
       | in-Inner+then-is_level w ↦
           let old = w.in-Inner.stem.value in
           let chain = levels_from 1 c.args.chain.now in
           let view : stem_spots old ≡ c.args.self.now = sym (ap spots_of w.in-Inner.is) ∙ c.self.view_is in
           let told : IsTrue w.rise-then-is_level.result = subst IsTrue w.result-is t in
-          let done : stem_spots w.rise-then-is_level.new.self ≡ under_all chain (under c.args.level.now (stem_spots old)) = rw w.deref_mut-then-is_level.ensures.value at w.rise-then-is_level.ensures.done told in
+          let done : stem_spots w.rise-then-is_level.new.self ≡ under_all chain (under c.args.level.now (stem_spots old)) = rw w.deref_mut.ensures.value at w.rise-then-is_level.ensures.done told in
           rw (w.self-inside-is, ← view) done
       | in-Inner+else-is_level w ↦ absurd (cc (t, w.result-is))
     ]
