@@ -1,5 +1,6 @@
 pub mod HistoryRule
 pub mod Origins
 pub mod Prefixes
+pub mod Sent
 pub mod VersionRule
 pub mod WriterState
