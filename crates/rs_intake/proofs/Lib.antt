@@ -4,3 +4,4 @@ pub mod Parts
 pub mod Opening
 pub mod Sameness
 pub mod Sums
+pub mod Sent

@@ -24,6 +24,7 @@ mod steps;
 mod taken;
 #[cfg(test)]
 mod tests;
+mod waiting;
 mod writer;
 
 pub use blank::{BlankQueue, blank_queue};

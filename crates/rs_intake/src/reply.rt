@@ -3,6 +3,7 @@
 ghost use Rattle.crossbeam_channel.specs.Claims.{IsSeatAt};
 ghost use Rattle.crossbeam_channel.specs.Ends.{sends_on, receives_on};
 
+use crate::waiting::{Patience, receive};
 use crossbeam_channel::protocol::{Free, Split};
 use crossbeam_channel::{Pass, RuledReceiver, RuledSender, bounded_with};
 use rs_message::Origin;
@@ -38,6 +39,7 @@ pub struct ReplySender<N: StoreName> {
 pub struct ReplyReceiver<N: StoreName> {
     from: RuledReceiver<Reply<N>, (), Free>,
     pass: Pass<Reply<N>, ()>,
+    patience: Patience,
     ghost seat: { IsSeatAt (receives_on from) pass },
 }
 
@@ -49,7 +51,11 @@ pub fn way_back<N: StoreName>(
     let other = to.another::<Same>(&mut pass);
     Ok((
         ReplySender { to, pass },
-        ReplyReceiver { from, pass: other },
+        ReplyReceiver {
+            from,
+            pass: other,
+            patience: Patience::new(),
+        },
     ))
 }
 
@@ -63,6 +69,11 @@ impl<N: StoreName> ReplySender<N> {
 impl<N: StoreName> ReplyReceiver<N> {
     /// `None` if the writer is gone.
     pub fn wait<R: Wait>(&mut self, rt: &R) -> Option<Reply<N>> {
-        self.from.recv_as::<Free, R>(rt, &mut self.pass).ok()
+        receive::<Reply<N>, (), Free, Free, R>(
+            rt,
+            &self.from,
+            &mut self.pass,
+            &mut self.patience,
+        ).ok()
     }
 }

@@ -6,7 +6,8 @@ ghost use Rattle.crossbeam_channel.specs.Ends.{sends_on, receives_on};
 ghost use Rattle.rs_intake.specs.QueueRule.{job_more, place_of, IsAbove, Takes, one_line_more, new_line, one_line_less, Balances};
 ghost use Rattle.rs_intake.specs.declared.rule.Job.{Job};
 
-use crate::rule::{Job, JobReceiver, JobSender, LinePass, PassView, Sending, Taking};
+use crate::rule::{Job, JobReceiver, JobSender, LinePass, PassView, QueueRule, Sending, Taking};
+use crate::waiting::{Patience, receive};
 use crossbeam_channel::Pass;
 use std::sync::Wait;
 
@@ -30,13 +31,18 @@ pub fn send<R: Wait>(
 }
 
 /// Takes the oldest job. `None` if all lines are gone.
-pub fn take<R: Wait>(rt: &R, from: &JobReceiver, pass: &mut Pass<Job, PassView>) -> Option<Job>
+pub fn take<R: Wait>(
+    rt: &R,
+    from: &JobReceiver,
+    pass: &mut Pass<Job, PassView>,
+    patience: &mut Patience,
+) -> Option<Job>
     requires channel { IsSeatAt (receives_on from.now) pass.old }
     requires takes { ((view pass.old).takes ≡ true) × ((view pass.old).sends ≡ false) }
     ensures channel { IsSeatAt (receives_on from.now) pass.new }
     ensures taken { MatchOption result (view pass.new ≡ view pass.old) (λ job. Takes (view pass.old) job (view pass.new)) }
 {
-    from.recv_as::<Taking, R>(rt, pass).ok()
+    receive::<Job, PassView, QueueRule, Taking, R>(rt, from, pass, patience).ok()
 }
 
 /// Cuts the pass of the next place off the writer's.

@@ -13,6 +13,7 @@ ghost use Rattle.rs_intake.specs.declared.rule.Job.{Job};
 use crate::name::LineName;
 use crate::rule::{Job, JobReceiver, JobSender, PassView};
 use crate::steps::{compare, join, take};
+use crate::waiting::Patience;
 use crossbeam_channel::Pass;
 use std::marker::{Model, PhantomData};
 use std::sync::Wait;
@@ -56,11 +57,16 @@ impl<N: LineName> Taken<N> {
     }
 
     /// Takes the oldest job. `None` if all lines are gone.
-    pub(crate) fn next<R: Wait>(&mut self, rt: &R, from: &JobReceiver) -> Option<Job>
+    pub(crate) fn next<R: Wait>(
+        &mut self,
+        rt: &R,
+        from: &JobReceiver,
+        patience: &mut Patience,
+    ) -> Option<Job>
         requires { IsQueue N.queue (receives_on from.now) }
         ensures { MatchOption result (self.new ≡ self.old) (λ job. (self.new.entries ≡ self.old.entries ++ entries_of (job ∷ [])) × SerialsRise self.new.entries) }
     {
-        take(rt, from, &mut self.pass)
+        take(rt, from, &mut self.pass, patience)
     }
 
     /// Joins a line's pass.

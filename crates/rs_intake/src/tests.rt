@@ -4,6 +4,7 @@ ghost use Rattle.std.specs.Prelude.{◌≡◌, ◌<◌, ◌≤◌, [], None};
 
 mod answers;
 mod ending;
+mod large;
 mod order;
 mod schedules;
 

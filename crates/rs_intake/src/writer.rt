@@ -13,6 +13,7 @@ use crate::name::LineName;
 use crate::reply::{Reply, ReplySender};
 use crate::rule::{Job, JobReceiver};
 use crate::taken::Taken;
+use crate::waiting::Patience;
 use rs_message::{Entry, Origin};
 use rs_version::{PutFault, VersionWriter};
 use std::sync::Wait;
@@ -50,7 +51,7 @@ impl<N: LineName> Queue<N> {
             mut taken,
             replies: _replies,
         } = self;
-        taken.next(rt, &receiver)
+        taken.next(rt, &receiver, &mut Patience::new())
     }
 }
 
@@ -167,11 +168,12 @@ pub(crate) fn run_writer_for<N: LineName, R: Wait + Drop, W: Wait>(
     let mut taken = 0u64;
     let mut refused = 0u64;
     let mut open = jobs.places();
+    let mut patience = Patience::new();
     for _ in rt.forever() {
         if taken >= most {
             break;
         }
-        match jobs.next(rt, &receiver) {
+        match jobs.next(rt, &receiver, &mut patience) {
             Some(Job::Put(job)) => {
                 taken += 1;
                 if !put_job(rt, &mut writer, &mut replies, job) {

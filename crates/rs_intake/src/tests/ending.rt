@@ -1,4 +1,4 @@
-//! A writer that ends while all places submit: each place is answered.
+//! A writer that ends while all places submit: each place is answered, and none waits for ever.
 
 ghost use Rattle.std.specs.Prelude.{◌≡◌};
 
@@ -10,15 +10,36 @@ use rs_version::Blank;
 use std::alloc::Global;
 use std::marker::{Brand, PhantomData};
 use std::process::Abort;
-use std::sync::Wait;
+use std::rt::Clock;
+use std::sync::atomic::{AtomicU64, Ordering};
+use std::sync::{Arc, Wait};
 use std::test::Fail;
-use std::thread::{Threads, spawn};
+use std::thread::{Threads, sleep, spawn};
+use std::time::Duration;
 
 /// How many submits a place makes at most.
 const TURNS: u32 = 100;
 
 /// How many jobs the writer takes: fewer than the places have to submit, more than one round of them.
 const JOBS: u64 = 1000;
+
+/// How often is looked, a hundredth of a second apart, whether all places have ended. They take less than a second.
+const LOOKS: u32 = 3000;
+
+/// Fails if not all places end in time, since a place that waits for ever can't be joined.
+fn watch<R: Clock + Abort>(rt: &R, ended: &AtomicU64) {
+    for _ in 0..LOOKS {
+        if ended.load(Ordering::SeqCst) == u64::from(MAX_PLACES) {
+            return;
+        }
+        sleep(rt, Duration::from_millis(10));
+    }
+    let ended = ended.load(Ordering::SeqCst);
+    assert!(rt;
+        ended == u64::from(MAX_PLACES),
+        "only {ended} places have ended"
+    );
+}
 
 /// Submits until it is refused. How many were kept, and the number of the fault, 0 if there was none.
 fn submit_until_refused<N: LineName, R: Wait + Copy>(
@@ -50,7 +71,7 @@ fn is_answered(kept: u32, fault: u8) -> bool {
 
 fn each_is_answered_named<
     N: LineName + Send + Sync + 'static,
-    R: Threads + Wait + Abort + Copy + Send + Sync + 'static,
+    R: Threads + Wait + Abort + Clock + Copy + Send + Sync + 'static,
 >(rt: R, alloc: Global, blank: Blank, queue: BlankQueue) -> Result<(), Fail>
     requires store { (blank.history ≡ N.history) × (blank.limit ≡ N.limit) }
     requires queue { (queue.name ≡ N.queue) × (queue.places ≡ N.places) }
@@ -62,12 +83,21 @@ fn each_is_answered_named<
         lines,
         queue,
     } = open_both::<N, R>(rt, blank, queue)?;
+    let count = Arc::new(alloc, AtomicU64::new(0))?;
+    let watched = Arc::try_clone(&count)?;
+    let watcher = spawn(&rt, move || watch(&rt, &*watched))?;
     let mut handles = Vec::new(alloc);
     for line in lines {
-        let handle = spawn(&rt, move || submit_until_refused(rt, alloc, line))?;
+        let count = Arc::try_clone(&count)?;
+        let handle = spawn(&rt, move || {
+            let answered = submit_until_refused(rt, alloc, line);
+            count.fetch_add(1, Ordering::SeqCst);
+            answered
+        })?;
         handles.push(handle)?;
     }
     let ended = run_writer_for(&rt, queue, writer, JOBS);
+    watcher.join(&rt);
     let mut sum = 0u64;
     for handle in handles {
         let (kept, fault) = handle.join(&rt).ok_or("memory")?;

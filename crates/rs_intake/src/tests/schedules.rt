@@ -93,7 +93,9 @@ fn work<N: LineName, R: Wait + Copy>(
     let intake = Intake { of: PhantomData };
     let place = line.place();
     let (mut receipts, mut readings) = (Vec::new(alloc), Vec::new(alloc));
-    let mut state = next_random(seed.wrapping_add(u64::from(place)));
+    // No two places share their numbers, whatever their seeds.
+    let stream = seed.wrapping_mul(64).wrapping_add(u64::from(place));
+    let mut state = next_random(stream);
     let mut least = 0;
     for turn in 0..TURNS {
         state = next_random(state);

@@ -1,0 +1,19 @@
+-- What the writer's loop leaves may cross threads, in one step. It has the writer, whose catalogue is a recursive type.
+use denote.RattleType.{RattleType}
+use denote.Param.Send.{IsSend, plain_send, recorded_send, struct_send}
+use denote.Struct.Declared.{shape}
+use Rattle.core.proofs.option.Option.TheSendSync as option
+use Rattle.rs_message.proofs.entry.Origin.TheSendSync as origin
+use Rattle.rs_message.specs.contracts.entry.Origin as Origin
+use Rattle.rs_version.proofs.Sent.{writer_send}
+use Rattle.rs_version.specs.declared.history.StoreName as StoreName
+use Rattle.rs_intake.proofs.taken.Taken.TheSendSync as taken
+use Rattle.rs_intake.specs.contracts.writer.Ended as Ended
+use Rattle.rs_intake.specs.declared.name.LineName as LineName
+
+pub ended_send : (N R : RattleType) (g : LineName.Ghosts N.Denot) (h : StoreName.Ghosts N.Denot) → IsSend R → IsSend (Ended.the_row N R g h)
+ended_send N R g h s =
+    recorded_send (Ended.the_field N R g h).row _ _ (Ended.the_type N R g h).to_one (struct_send (shape (Ended.the_type N R g h)) (
+      writer_send N h R s,
+      (plain_send _ _ _ _ _, (plain_send _ _ _ _ _, (option.the_field_send Origin.the_row origin.the_send, (taken.the_send N g h, tt)))),
+    ))

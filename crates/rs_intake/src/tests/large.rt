@@ -1,0 +1,105 @@
+//! The largest entry by one submit, from the last place.
+
+ghost use Rattle.std.specs.Prelude.{◌≡◌, ◌≢◌, ◌≤◌, [], length};
+
+use super::{Opened, blank_store, open_both};
+use crate::{BlankQueue, LineName, blank_queue, run_writer};
+use bytes::Bytes;
+use rs_message::{MAX_PLACES, Message, Operation};
+use rs_packet::{Properties, Qos};
+use rs_store::MAX_TOPICS;
+use rs_topic::{MAX_TEXT_SIZE, TopicFilter, TopicName};
+use rs_version::Blank;
+use std::alloc::Global;
+use std::marker::Brand;
+use std::process::Abort;
+use std::sync::Wait;
+use std::test::Fail;
+use std::thread::{Threads, spawn};
+
+/// The bytes of a payload that fits a packet beside its properties.
+const PAYLOAD: usize = 262_000;
+
+#[tactic(auto, using(rs_message::proofs::Sizes::large_message))]
+fn message_of(alloc: Global, payload: Bytes, expiry: Option<u32>) -> Option<Message>
+    requires some { payload ≢ [] }
+    requires fits { length payload ≤ 262000 }
+{
+    Message::new(
+        alloc,
+        payload,
+        Qos::ExactlyOnce,
+        u64::MAX,
+        expiry,
+        Properties::none(),
+    )
+    .ok()
+}
+
+fn repeated(alloc: Global, byte: u8, count: usize) -> Option<Vec<u8>> {
+    let mut bytes = Vec::new(alloc);
+    for _ in 0..count {
+        bytes.push(byte).ok()?;
+    }
+    Some(bytes)
+}
+
+fn largest(alloc: Global) -> Option<Operation> {
+    let payload = repeated(alloc, b'x', PAYLOAD)?;
+    if payload.is_empty() || payload.len() > PAYLOAD {
+        return None;
+    }
+    let payload = Bytes::copy_from_slice(alloc, payload.as_slice()).ok()?;
+    let topic = repeated(alloc, b'a', MAX_TEXT_SIZE)?;
+    let topic = TopicName::read(alloc, topic.as_slice()).ok()?;
+    Some(Operation::Set(topic, message_of(alloc, payload, Some(u32::MAX))?))
+}
+
+fn largest_named<
+    N: LineName + Send + Sync + 'static,
+    R: Threads + Wait + Abort + Copy + Send + Sync + 'static,
+>(rt: R, alloc: Global, blank: Blank, queue: BlankQueue) -> Result<(), Fail>
+    requires store { (blank.history ≡ N.history) × (blank.limit ≡ N.limit) }
+    requires queue { (queue.name ≡ N.queue) × (queue.places ≡ N.places) }
+{
+    let Opened {
+        writer,
+        mut seats,
+        intake,
+        mut lines,
+        queue,
+    } = open_both::<N, R>(rt, blank, queue)?;
+    let mut line = lines.pop().ok_or("there are lines")?;
+    let mut seat = seats.pop().ok_or("there are seats")?;
+    drop(lines);
+    let operation = largest(alloc).ok_or("an operation")?;
+    let thread = spawn(&rt, move || run_writer(&rt, queue, writer))?;
+    let answer = intake.submit(&rt, &mut line, operation);
+    drop(line.close(&rt));
+    let ended = thread.join(&rt);
+    assert_eq!(rt; (ended.taken, ended.refused), (1, 0));
+    let receipt = answer.ok().ok_or("a receipt")?;
+    let origin = receipt.entry().origin;
+    assert_eq!(rt;
+        (receipt.number(), origin.place(), origin.serial()),
+        (1, MAX_PLACES, 1)
+    );
+    seat.learn(receipt.told());
+    let filter = TopicFilter::read(alloc, b"#")?;
+    let snapshot = seat.answer(&filter, u64::MAX)?;
+    let [found] = snapshot.found.as_slice() else {
+        return Err(Fail::from("one message"));
+    };
+    let Operation::Set(topic, message) = largest(alloc).ok_or("an operation")? else {
+        return Err(Fail::from("a Set"));
+    };
+    assert!(rt; found.topic.as_bytes() == topic.as_bytes() && found.message == message);
+    Ok(())
+}
+
+#[test]
+fn largest_submit(rt: HostRuntime) -> Result<(), Fail> {
+    let alloc = rt.alloc();
+    let blank = blank_store(alloc, MAX_TOPICS, MAX_PLACES)?;
+    largest_named::<Brand, _>(rt, alloc, blank, blank_queue(alloc, MAX_PLACES)?)
+}

@@ -1,0 +1,73 @@
+//! A receive that looks for a while before it sleeps.
+
+ghost use Rattle.std.specs.Prelude.{◌≡◌, MatchResult};
+ghost use Rattle.crossbeam_channel.specs.Claims.{view, IsSeatAt};
+ghost use Rattle.crossbeam_channel.specs.Ends.{receives_on};
+ghost use Rattle.crossbeam_channel.specs.Fifo.{Held, Learns, Pops};
+
+use crossbeam_channel::protocol::{Lesson, Outcome, Protocol};
+use crossbeam_channel::{Pass, RecvError, RuledReceiver, TryRecvError};
+use std::hint::spin_loop;
+use std::sync::Wait;
+
+/// How often a receive looks. It takes some tens of microseconds, in which a writer can serve eight places; to wake a thread that
+/// sleeps costs more than a put.
+const LOOKS: u32 = 1024;
+
+/// After so many receives in a row that looked in vain, the next ones sleep at once.
+const MOST_IN_VAIN: u32 = 2;
+
+/// From then on one of so many receives looks, to see whether a processor has become free for the other thread. So looking costs
+/// little where it is of no use, as on one processor.
+const RECEIVES_TO_LOOK: u32 = 128;
+
+/// Whether the receives at one end of a channel found by looking what they waited for.
+#[derive(Drop)]
+pub struct Patience {
+    in_vain: u32,
+}
+
+impl Patience {
+    pub fn new() -> Patience {
+        Patience { in_vain: 0 }
+    }
+
+    /// How often the next receive looks, at least once.
+    fn looks(&self) -> u32 {
+        if self.in_vain < MOST_IN_VAIN || self.in_vain % RECEIVES_TO_LOOK == 0 {
+            LOOKS
+        } else {
+            1
+        }
+    }
+}
+
+/// As `recv_as`, which sleeps if nothing comes while it looks. It never gives up the processor before that: beside threads of other
+/// programs a yield lasts much longer than a sleep.
+pub fn receive<T: Drop, V, P: Protocol<T, V>, M: Outcome<T, V> + Lesson<T, V>, R: Wait>(
+    rt: &R,
+    from: &RuledReceiver<T, V, P>,
+    pass: &mut Pass<T, V>,
+    patience: &mut Patience,
+) -> Result<T, RecvError>
+    requires channel { IsSeatAt (receives_on from.now) pass.old }
+    requires rule { Pops P.holds pass.old.id (view pass.old) (M.then (view pass.old)) × Learns P.holds pass.old.id (view pass.old) (M.fact (view pass.old)) }
+    ensures channel { IsSeatAt (receives_on from.now) pass.new × (pass.new.id ≡ pass.old.id) }
+    ensures rule { MatchResult result (λ x. M.then (view pass.old) x (view pass.new)) (λ _. (view pass.new ≡ view pass.old) × Held 0 (M.fact (view pass.old))) }
+{
+    for look in 0..patience.looks() {
+        match from.try_recv_as::<M, R>(rt, pass) {
+            Ok(message) => {
+                // What was there at once says nothing about looking.
+                if look > 0 {
+                    patience.in_vain = 0;
+                }
+                return Ok(message);
+            }
+            Err(TryRecvError::Disconnected) => return Err(RecvError),
+            Err(TryRecvError::Empty) => spin_loop(),
+        }
+    }
+    patience.in_vain = patience.in_vain.wrapping_add(1);
+    from.recv_as::<M, R>(rt, pass)
+}
