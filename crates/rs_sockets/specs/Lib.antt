@@ -2,4 +2,3 @@ pub mod Clock
 pub mod Gathered
 pub mod Sharing
 pub mod Halves
-pub mod Connections

@@ -5,21 +5,14 @@ use crate::halves::{ReadHalf, WriteHalf};
 use crate::splitting::{finish, split};
 use std::alloc::Global;
 use std::io;
-use std::io::{Read, Write};
 use std::net::TcpStream;
 use std::time::Clock;
 
 /// What a client sends. Before each read, what was gathered for the client is written out.
-#[derive(Drop)]
-pub struct FromClient {
-    half: ReadHalf<TcpStream, TcpStream>,
-}
+pub type FromClient = ReadHalf<TcpStream, TcpStream>;
 
 /// What is sent to a client, gathered.
-#[derive(Drop)]
-pub struct ToClient {
-    half: WriteHalf<TcpStream>,
-}
+pub type ToClient = WriteHalf<TcpStream>;
 
 /// The two halves of a connection. What is written out is sent at once (TCP_NODELAY).
 ///
@@ -30,8 +23,7 @@ pub fn open(alloc: Global, stream: TcpStream) -> io::Result<(FromClient, ToClien
     // Of a client that has gone already this may fail. The next read tells.
     let _ = stream.set_nodelay(true);
     let reader = stream.try_clone()?;
-    let (read, write) = split(alloc, reader, stream)?;
-    Ok((FromClient { half: read }, ToClient { half: write }))
+    split(alloc, reader, stream)
 }
 
 /// Ends a connection: writes out what was gathered, tells the client that no more comes, reads and discards
@@ -42,30 +34,7 @@ pub fn open(alloc: Global, stream: TcpStream) -> io::Result<(FromClient, ToClien
 ///
 /// If what was gathered could not be written. The connection is closed.
 pub fn close<H: Clock>(rt: &H, input: FromClient, output: ToClient) -> io::Result<()> {
-    let (_reader, mut stream) = finish(input.half, output.half)?;
+    let (_reader, mut stream) = finish(input, output)?;
     end(rt, &mut stream);
     Ok(())
-}
-
-impl Read for FromClient {
-    ghost use Rattle.std.specs.Io.{ReadsAtMost};
-    ghost use Rattle.std.specs.Prelude.{OnOk};
-    ghost use Rattle.rs_sockets.specs.Connections.{HasNoneWaiting};
-
-    fn read(&mut self, buf: &mut [u8]) -> io::Result<usize>
-        ensures bound { ReadsAtMost result buf.new }
-        ensures none_waits { OnOk result (HasNoneWaiting self.new) }
-    {
-        self.half.read(buf)
-    }
-}
-
-impl Write for ToClient {
-    fn write(&mut self, buf: &[u8]) -> io::Result<usize> {
-        self.half.write(buf)
-    }
-
-    fn flush(&mut self) -> io::Result<()> {
-        self.half.flush()
-    }
 }

@@ -7,12 +7,12 @@
 //! Replies are gathered: what is written and flushed is kept, up to [`MAX_GATHERED`] bytes, and goes out in
 //! one write if there is no more room, before the next read of the same connection, and at its end.
 //!
-//! The halves are [`ReadHalf`] and [`WriteHalf`], over any reader and any writer, and their contracts say
-//! which bytes they give and take: [`split`] begins with those of the reader and of the writer, and a writer
-//! that [`finish`] gives back holds all that was written, in order. So a server whose contract is over any
-//! reader and any writer keeps it over the halves.
+//! They are [`ReadHalf`] and [`WriteHalf`], over any reader and any writer, whose contracts say which bytes
+//! they give and take: [`split`] begins with those of the reader and of the writer, and a writer that
+//! [`finish`] gives back holds all that was written, in order. So a server whose contract is over any reader
+//! and any writer keeps it over the halves.
 //!
-//! The contracts do not say what a socket gives or takes, when anything is sent, or that a call returns.
+//! The contracts do not say what a socket gives or takes, that anything is sent, or that a call returns.
 #![tactic(auto)]
 
 mod clock;

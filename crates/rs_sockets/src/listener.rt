@@ -25,7 +25,7 @@ pub struct Listener {
 
 impl Listener {
     /// Binds an address, which is a host's name, an IPv4 or an IPv6 address, and a port, as `localhost:1883`
-    /// or `[::1]:1883`. Port 0 takes one that is free. It will accept so many connections.
+    /// or `[::1]:1883`. Port 0 takes one that is free. It will accept `connections` connections.
     ///
     /// # Errors
     ///

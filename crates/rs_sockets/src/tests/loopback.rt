@@ -152,15 +152,15 @@ fn refuse<H: Clock + Net<Listener = TcpListener, Stream = TcpStream> + Threads>(
     Ok(sending.join(rt))
 }
 
-// A machine that stands still for a second loses a client, so more than one may try.
+// A machine that stands still for a second loses a client. Half of them have to be in time.
 #[test]
 fn a_refused_client_reads_why(rt: HostRuntime) -> Result<(), Fail> {
-    let mut count = 0u64;
+    let mut read_all = 0u64;
     for _ in 0..10 {
-        if count != 7 {
-            count = refuse(&rt, rt.alloc())?;
+        if refuse(&rt, rt.alloc())? == 7 {
+            read_all = read_all.saturating_add(1);
         }
     }
-    assert_eq!(rt; count, 7);
+    assert!(rt; read_all >= 5, "{read_all} of 10");
     Ok(())
 }
