@@ -4,7 +4,6 @@ use Rattle.rs_session.specs.Kept.{MarkGrows, point_after}
 use Rattle.rs_session.specs.Points.{Point}
 use Rattle.rs_session.specs.Run.{Run, Turn}
 use Rattle.rs_session.specs.State.{State}
-use Rattle.rs_session.specs.Gate.{Mark}
 use Rattle.rs_session.proofs.Keeping.{run_marks}
 
 run_front : (from to : Point State) (before after : List Turn) → Run from (before ++ after) to → Run from before (point_after from before)
@@ -19,7 +18,7 @@ after_both : (from : Point State) (before between : List Turn) → point_after (
 after_both from [] between = refl
 after_both from (turn ∷ turns) between = after_both turn.to turns between
 
-pub run_last : (from to : Point State) (turns : List Turn) → Run from turns to → to ≡ point_after from turns
+run_last : (from to : Point State) (turns : List Turn) → Run from turns to → to ≡ point_after from turns
 run_last from to [] run = run
 run_last from to (turn ∷ turns) (here, run) = run_last turn.to to turns run
 
@@ -33,9 +32,9 @@ marks_between from to turns before between after run whole =
     subst Q (after_both from before between) (run_marks mid (point_after mid between) between (run_front mid to between after rest))
 
 -- from the first to the last
-pub marks_through : (from : Point State) (turns : List Turn) (last : Mark)
+pub marks_through : (from to : Point State) (turns : List Turn)
     → ((before between after : List Turn) → turns ≡ before ++ (between ++ after) → MarkGrows (point_after from before).mark (point_after from (before ++ between)).mark)
-    → last ≡ (point_after from turns).mark → MarkGrows from.mark last
-marks_through from turns last marks is =
-    let P : Mark → Type 0 = λ mark. MarkGrows from.mark mark in
-    subst P (sym is) (marks [] turns [] (sym (append-nil turns)))
+    → Run from turns to → MarkGrows from.mark to.mark
+marks_through from to turns marks run =
+    let P : Point State → Type 0 = λ point. MarkGrows from.mark point.mark in
+    subst P (sym (run_last from to turns run)) (marks [] turns [] (sym (append-nil turns)))

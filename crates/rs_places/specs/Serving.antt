@@ -41,6 +41,5 @@ pub record IsServedAt (limit : ℕ) (from : Point State) (consumed : List ℕ �
   -- Between any two points of the run the place stays, and the serial does not fall. A publication that was told kept used a new
   -- one, so two of them are two entries.
   pub marks : (before between after : List Turn) → turns ≡ before ++ (between ++ after) → MarkGrows (point_after from before).mark (point_after from (before ++ between)).mark
-  pub last_mark : gate.mark ≡ (point_after from turns).mark
   -- what the filters were answered is sent in order, each message once
   pub sent : (c : Connect) → Opens c turns → (made : IsReplaying c turns) × IsSentInOrder c turns made.made

@@ -139,7 +139,7 @@ fn join_places<N: LineName, H: Threads + Wait + Copy>(
 }
 
 /// Serves the places, each on a thread of its own as [`serve_turns`] does, and waits for all. The first turn goes with the first
-/// gate, and so on; what is left of the longer list is dropped.
+/// gate, and so on. What is left of the longer list is dropped: a gate without a turn is not served.
 ///
 /// It gives the ends of the lines of the places that were served, in their order. A place whose thread cannot be started is
 /// dropped with its turn and its gate, and the others go on. If memory is refused, no place is served. The caller runs the writer

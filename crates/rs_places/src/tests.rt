@@ -2,6 +2,7 @@
 
 ghost use Rattle.std.specs.Prelude.{◌≡◌, ◌<◌, ◌≤◌};
 
+mod ending;
 mod faults;
 mod in_turn;
 mod peers;
@@ -9,14 +10,17 @@ mod places;
 mod script;
 
 use super::*;
-use rs_intake::{BlankQueue, Ended, LineEnd, LineName, run_writer, settle};
+use rs_intake::{BlankQueue, Ended, Intake, LineEnd, LineName, SeatLine, run_writer, settle};
 use rs_store::TopicLimit;
-use rs_version::Blank;
-use std::alloc::Global;
+use rs_version::{Blank, Seat};
+use std::alloc::{AllocError, Global};
 use std::process::Abort;
 use std::sync::{Arc, Wait};
 use std::test::Fail;
 use std::thread::{JoinHandle, Threads, spawn};
+
+/// A CONNECT, to which the CONNACK is `CONNECTED`.
+const CONNECT: &[u8] = b"\x10\x0E\x00\x04MQTT\x05\x02\x00\x3C\x00\x00\x01a";
 
 /// CONNECT, a retained PUBLISH of a/b, DISCONNECT.
 const PUBLISHES: &[u8] =
@@ -29,6 +33,9 @@ const SUBSCRIBES: &[u8] =
 /// CONNACK.
 const CONNECTED: &[u8] = b"\x20\x0D\x00\x00\x0A\x21\x00\x10\x27\x00\x04\x00\x00\x2A\x00";
 
+/// CONNACK, and a DISCONNECT that says that the store takes no more changes.
+const CLOSED: &[u8] = b"\x20\x0D\x00\x00\x0A\x21\x00\x10\x27\x00\x04\x00\x00\x2A\x00\xE0\x01\x83";
+
 /// CONNACK, SUBACK.
 const SUBSCRIBED: &[u8] =
     b"\x20\x0D\x00\x00\x0A\x21\x00\x10\x27\x00\x04\x00\x00\x2A\x00\x90\x04\x00\x01\x00\x00";
@@ -37,11 +44,34 @@ const SUBSCRIBED: &[u8] =
 const REPLAYED: &[u8] =
     b"\x20\x0D\x00\x00\x0A\x21\x00\x10\x27\x00\x04\x00\x00\x2A\x00\x90\x04\x00\x01\x00\x001\x07\x00\x03a/b\x00x";
 
+fn joined(alloc: Global, first: &[u8], second: &[u8]) -> Result<Vec<u8>, AllocError> {
+    let mut bytes = Vec::new(alloc);
+    bytes.extend_from_slice(first)?;
+    bytes.extend_from_slice(second)?;
+    Ok(bytes)
+}
+
 /// The writer, on a thread of its own, and the gates of the places from 1 on.
 #[derive(Drop)]
 struct Store<N: LineName, R: Wait + Copy> {
     writer: JoinHandle<Ended<N, R>>,
     gates: Vec<SharedGate<N, R>>,
+}
+
+/// The gates of the places from 1 on.
+fn gates_of<N: LineName, R: Wait + Copy>(
+    rt: R,
+    alloc: Global,
+    intake: Intake<N>,
+    seats: Vec<Seat<N>>,
+    lines: Vec<SeatLine<N>>,
+) -> Result<Vec<SharedGate<N, R>>, Fail> {
+    let intake = Arc::new(alloc, intake)?;
+    let mut gates = Vec::new(alloc);
+    for (seat, line) in seats.into_iter().zip(lines) {
+        gates.push(SharedGate::new(rt, Arc::try_clone(&intake)?, seat, line))?;
+    }
+    Ok(gates)
 }
 
 fn opened<N: LineName + Send + Sync + 'static, R: Threads + Wait + Copy + Send + Sync + 'static>(
@@ -56,11 +86,7 @@ fn opened<N: LineName + Send + Sync + 'static, R: Threads + Wait + Copy + Send +
     let (writer, seats) = blank.open::<N, R>(rt)?;
     let (intake, lines, queue) = queue.open::<N>()?;
     let writer = spawn(&rt, move || run_writer(&rt, queue, writer))?;
-    let intake = Arc::new(alloc, intake)?;
-    let mut gates = Vec::new(alloc);
-    for (seat, line) in seats.into_iter().zip(lines) {
-        gates.push(SharedGate::new(rt, Arc::try_clone(&intake)?, seat, line))?;
-    }
+    let gates = gates_of(rt, alloc, intake, seats, lines)?;
     Ok(Store { writer, gates })
 }
 

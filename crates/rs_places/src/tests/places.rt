@@ -4,7 +4,8 @@ ghost use Rattle.std.specs.Prelude.{◌≡◌};
 
 use super::script::{Counts, Exchange, Script};
 use super::{
-    CONNECTED, PUBLISHES, REPLAYED, SUBSCRIBED, SUBSCRIBES, Store, blank_store, opened, settled,
+    CONNECT, CONNECTED, PUBLISHES, REPLAYED, SUBSCRIBED, SUBSCRIBES, Store, blank_store, joined,
+    opened, settled,
 };
 use crate::run_places;
 use rs_intake::{BlankQueue, LineName, blank_queue};
@@ -17,7 +18,7 @@ use std::sync::{Arc, Wait};
 use std::test::Fail;
 use std::thread::Threads;
 
-fn exchange(alloc: Global, input: &[u8], output: &[u8]) -> Result<Exchange, AllocError> {
+pub fn exchange(alloc: Global, input: &[u8], output: &[u8]) -> Result<Exchange, AllocError> {
     let (mut sent, mut written) = (Vec::new(alloc), Vec::new(alloc));
     sent.extend_from_slice(input)?;
     written.extend_from_slice(output)?;
@@ -27,7 +28,7 @@ fn exchange(alloc: Global, input: &[u8], output: &[u8]) -> Result<Exchange, Allo
     })
 }
 
-fn script(
+pub fn script(
     alloc: Global,
     counts: &Arc<Counts>,
     exchanges: Vec<Exchange>,
@@ -104,19 +105,20 @@ fn later_named<
 {
     let store = opened::<N, R>(rt, alloc, blank, queue)?;
     let counts = Arc::new(alloc, Counts::new())?;
-    let first = vec![in alloc; exchange(alloc, PUBLISHES, CONNECTED)?]?;
+    let next = exchange(alloc, SUBSCRIBES, REPLAYED)?;
+    let first = vec![in alloc; next, exchange(alloc, PUBLISHES, CONNECTED)?]?;
     let later = vec![in alloc; exchange(alloc, SUBSCRIBES, REPLAYED)?]?;
     let turns = vec![in alloc;
         script(alloc, &counts, first, 0, 0)?,
         script(alloc, &counts, later, 1, 0)?,
         script(alloc, &counts, Vec::new(alloc), 0, 0)?,
     ]?;
-    assert_eq!(rt; ran(rt, alloc, turns, &counts, store), (3, 2, Some(1), 1));
+    assert_eq!(rt; ran(rt, alloc, turns, &counts, store), (3, 3, Some(1), 1));
     Ok(())
 }
 
-/// The connection of a place that was told nothing is sent what one of another place published before. A third place has no
-/// connection, and is served too.
+/// The next connection of a place is sent what the one before published, and so is that of a place that was told nothing. A third
+/// place has no connection, and is served too.
 #[test]
 fn later(rt: HostRuntime) -> Result<(), Fail> {
     let alloc = rt.alloc();
@@ -128,18 +130,27 @@ fn later(rt: HostRuntime) -> Result<(), Fail> {
     )
 }
 
-/// A CONNECT without a client identifier, a PUBLISH of QoS 1 of this payload to the topic of the place, and a SUBSCRIBE of it.
+/// Appends fifty PUBLISHes of QoS 1 to a topic, whose payloads are the numbers from this one on, and the PUBACKs.
+fn publish_fifty(
+    topic: u8,
+    first: u8,
+    input: &mut Vec<u8>,
+    output: &mut Vec<u8>,
+) -> Result<(), AllocError> {
+    for before in 0..50u8 {
+        let id = before + 1;
+        input.extend_from_slice(b"\x33\x07\x00\x01")?;
+        input.extend_from_slice(&[topic, 0, id, 0, first.saturating_add(before)])?;
+        output.extend_from_slice(&[0x40, 0x02, 0, id])?;
+    }
+    Ok(())
+}
+
+/// A CONNECT without a client identifier, fifty PUBLISHes to the topic of the place, and a SUBSCRIBE of it.
 fn own_exchange(alloc: Global, place: u8, number: u8) -> Result<Exchange, AllocError> {
     let topic = place.saturating_add(b'/');
     let (mut input, mut output) = (Vec::new(alloc), Vec::new(alloc));
     input.extend_from_slice(b"\x10\x0D\x00\x04MQTT\x05\x02\x00\x3C\x00\x00\x00")?;
-    input.extend_from_slice(b"\x33\x07\x00\x01")?;
-    input.push(topic)?;
-    input.extend_from_slice(b"\x00\x01\x00")?;
-    input.push(number)?;
-    input.extend_from_slice(b"\x82\x07\x00\x02\x00\x00\x01")?;
-    input.push(topic)?;
-    input.extend_from_slice(b"\x00\xE0\x00")?;
     let assigned = format!(in alloc; "rs{place}-{number}")?;
     let len = assigned.as_bytes().len();
     output.extend_from_slice(b"\x20")?;
@@ -150,10 +161,12 @@ fn own_exchange(alloc: Global, place: u8, number: u8) -> Result<Exchange, AllocE
     output.push(len.min(20) as u8)?;
     output.extend_from_slice(assigned.as_bytes())?;
     output.extend_from_slice(b"\x21\x00\x10\x27\x00\x04\x00\x00\x2A\x00")?;
-    output.extend_from_slice(b"\x40\x02\x00\x01\x90\x04\x00\x02\x00\x00\x31\x05\x00\x01")?;
-    output.push(topic)?;
-    output.push(0)?;
-    output.push(number)?;
+    let last = number.saturating_mul(50);
+    publish_fifty(topic, last.saturating_sub(49), &mut input, &mut output)?;
+    input.extend_from_slice(b"\x82\x07\x00\x02\x00\x00\x01")?;
+    input.extend_from_slice(&[topic, 0, 0xE0, 0])?;
+    output.extend_from_slice(b"\x90\x04\x00\x02\x00\x00\x31\x05\x00\x01")?;
+    output.extend_from_slice(&[topic, 0, last])?;
     Ok(Exchange { input, output })
 }
 
@@ -175,12 +188,13 @@ fn all_places_named<
     }
     assert_eq!(rt;
         ran(rt, alloc, turns, &counts, store),
-        (64, 128, Some(128), 128)
+        (64, 128, Some(6400), 6400)
     );
     Ok(())
 }
 
-/// 64 places with two connections each, whose assigned client identifiers name the place and the number of the connection.
+/// 64 places with two connections each, whose assigned client identifiers name the place and the number of the connection. Each
+/// connection publishes the next numbers and reads the last one back, so the changes of a place are made in its order.
 #[test]
 fn all_places(rt: HostRuntime) -> Result<(), Fail> {
     let alloc = rt.alloc();
@@ -189,6 +203,46 @@ fn all_places(rt: HostRuntime) -> Result<(), Fail> {
         alloc,
         blank_store(alloc, 100, 64)?,
         blank_queue(alloc, 64)?,
+    )
+}
+
+/// A retained PUBLISH of a, as large as a packet may be.
+fn large_publish(alloc: Global) -> Result<Vec<u8>, AllocError> {
+    let payload = vec![in alloc; b'x'; 262_136]?;
+    joined(alloc, b"\x31\xFC\xFF\x0F\x00\x01a\x00", &payload)
+}
+
+fn large_named<
+    N: LineName + Send + Sync + 'static,
+    R: Threads + Wait + Abort + Copy + Send + Sync + 'static,
+>(rt: R, alloc: Global, blank: Blank, queue: BlankQueue) -> Result<(), Fail>
+    requires store { (blank.history ≡ N.history) × (blank.limit ≡ N.limit) }
+    requires queue { (queue.name ≡ N.queue) × (queue.places ≡ N.places) }
+{
+    let store = opened::<N, R>(rt, alloc, blank, queue)?;
+    let counts = Arc::new(alloc, Counts::new())?;
+    let publish = large_publish(alloc)?;
+    let input = joined(alloc, CONNECT, &publish)?;
+    let output = joined(alloc, SUBSCRIBED, &publish)?;
+    let first = vec![in alloc; exchange(alloc, &input, CONNECTED)?]?;
+    let later = vec![in alloc; exchange(alloc, SUBSCRIBES, &output)?]?;
+    let turns = vec![in alloc;
+        script(alloc, &counts, first, 0, 0)?,
+        script(alloc, &counts, later, 1, 0)?,
+    ]?;
+    assert_eq!(rt; ran(rt, alloc, turns, &counts, store), (2, 2, Some(1), 1));
+    Ok(())
+}
+
+/// A packet that is as large as it may be goes from one place to another.
+#[test]
+fn large(rt: HostRuntime) -> Result<(), Fail> {
+    let alloc = rt.alloc();
+    large_named::<Brand, _>(
+        rt,
+        alloc,
+        blank_store(alloc, 10, 2)?,
+        blank_queue(alloc, 2)?,
     )
 }
 

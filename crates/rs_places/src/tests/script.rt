@@ -1,5 +1,6 @@
 //! Turns that play connections from memory.
 
+use super::CLOSED;
 use crate::turn::Turn;
 use std::alloc::Global;
 use std::collections::VecDeque;
@@ -55,6 +56,8 @@ pub struct Counts {
     pub ended: AtomicU64,
     /// Connections that were sent what they had to be.
     pub right: AtomicU64,
+    /// Connections that were told that the store takes no more changes.
+    pub closed: AtomicU64,
     /// Connections that came to their second packet.
     pub reached: AtomicU64,
     /// Connections that found the others there.
@@ -66,6 +69,7 @@ impl Counts {
         Counts {
             ended: AtomicU64::new(0),
             right: AtomicU64::new(0),
+            closed: AtomicU64::new(0),
             reached: AtomicU64::new(0),
             met: AtomicU64::new(0),
         }
@@ -73,7 +77,7 @@ impl Counts {
 }
 
 /// Gives up the processor until the count is there. Whether it came.
-fn comes(count: &AtomicU64, least: u64) -> bool {
+pub fn comes(count: &AtomicU64, least: u64) -> bool {
     for _ in 0..LOOKS {
         if count.load(Ordering::SeqCst) >= least {
             return true;
@@ -130,6 +134,9 @@ impl Turn for Script {
     fn end(&mut self, _input: Input, output: Output) {
         if output.bytes.as_slice() == self.wanted.as_slice() {
             self.counts.right.fetch_add(1, Ordering::SeqCst);
+        }
+        if output.bytes.as_slice() == CLOSED {
+            self.counts.closed.fetch_add(1, Ordering::SeqCst);
         }
         self.counts.ended.fetch_add(1, Ordering::SeqCst);
     }

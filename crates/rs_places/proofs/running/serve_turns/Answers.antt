@@ -14,7 +14,7 @@ loop-preserved g c =
       (λ more last h.
           let P : ℕ → Type 0 = λ number. AreConnectionsServed g.N.StoreName.limit number next more last in
           invariant.0 (next ∷ more) last (served, subst P c.saturating_add-number.ensures h)),
-      (marks_through _ _ _ served.connection.marks served.connection.last_mark).place ∙ invariant.1,
+      (marks_through _ _ _ served.connection.marks served.connection.run).place ∙ invariant.1,
     )
 
 pub returns : goal.returns

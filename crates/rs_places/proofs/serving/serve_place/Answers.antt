@@ -1,4 +1,4 @@
-use Rattle.std.proofs.Common.{◌≡◌, ◌∷◌, ◌++◌, ℕ, List, refl, sym, ap, subst}
+use Rattle.std.proofs.Common.{◌≡◌, ◌∷◌, ◌++◌, ℕ, List, refl, sym, subst}
 use Rattle.rs_message.specs.declared.entry.Entry.{Entry}
 use Rattle.rs_store.specs.History.{IsLegal, SerialsRise}
 use Rattle.rs_session.specs.Run.{AreOfGate, Run, Turn}
@@ -7,7 +7,7 @@ use Rattle.rs_session.proofs.Replaying.{run_replays, replay_sends}
 use Rattle.rs_session.proofs.Runs.{of_gate_weaker}
 use Rattle.rs_session.specs.Points.{point_at}
 use Rattle.rs_server.specs.Conversation.{assigned_of, start}
-use Rattle.rs_places.proofs.Marks.{marks_between, run_last}
+use Rattle.rs_places.proofs.Marks.{marks_between}
 use Rattle.rs_places.proofs.serving.serve_place.Goals as goal
 
 pub returns-clause-connection : goal.returns-clause-connection
@@ -44,6 +44,5 @@ returns-clause-connection g c =
       lists = run_lists from to turns run;
       kept = λ before turn later o p answer whole is_open told. run_keeps from to before turn later o p answer (subst R whole run) (subst S whole rises) is_open told;
       marks = λ before between later whole. marks_between from to turns before between later run whole;
-      last_mark = ap (λ point. point.mark) (run_last from to turns run);
       sent = λ connect opens. let made = run_replays (assigned_of gate.mark.place number) from to turns connect refl run opens in (made, replay_sends connect turns made);
     }
