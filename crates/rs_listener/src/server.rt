@@ -32,13 +32,13 @@ pub struct Server {
 pub struct Summary {
     /// How many places served clients.
     pub places: usize,
-    /// How many changes all places sent to the writer, refused ones too. None if it is not known that all were taken.
+    /// How many changes all places sent to the writer, refused ones too. None if not all are known to be taken.
     pub changes: Option<u64>,
 }
 
 impl Server {
     /// Binds an address: a host's name, an IPv4 or an IPv6 address, and a port, as `localhost:1883` or `[::1]:1883`. Port 0 takes one
-    /// that is free. It will accept so many connections, and serve as many clients at the same time as there are places, 1 to
+    /// that is free. It will accept `connections` connections, and serve as many clients at the same time as there are `places`, 1 to
     /// [`MAX_PLACES`](rs_message::MAX_PLACES). Their store is empty, and holds messages of at most `limit` topics.
     ///
     /// # Errors

@@ -41,7 +41,7 @@ impl<H: Clock> Turn for ListenTurn<H> {
         self.clock.now(&self.rt)
     }
 
-    /// Closes the connection so that the client can still read what was written last.
+    /// Closes the connection, as [`close`] does.
     fn end(&mut self, input: FromClient, output: ToClient) {
         // The client may have gone.
         let _ = close(&self.rt, input, output);

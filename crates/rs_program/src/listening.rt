@@ -4,7 +4,7 @@ ghost use Rattle.std.specs.Prelude.{◌<◌, ◌≤◌};
 ghost use Rattle.rs_message.specs.declared.entry.TheConstants.{MAX_PLACES};
 ghost use Rattle.rs_store.specs.declared.limit.TheConstants.{MAX_TOPICS};
 
-use rs_listener::{ListenFault, Server};
+use rs_listener::{ListenFault, Server, Summary};
 use rs_store::TopicLimit;
 use std::alloc::Global;
 use std::net::{Net, TcpListener, TcpStream};
@@ -24,7 +24,7 @@ pub(crate) fn listen<H>(
     places: u8,
     topics: u32,
     connections: u64,
-) -> Result<(), ListenFault>
+) -> Result<Summary, ListenFault>
 where
     H: Clock
         + Net<Listener = TcpListener, Stream = TcpStream>
@@ -45,7 +45,7 @@ where
     let bound = server.address()?;
     // If nobody reads the output, clients are served all the same.
     let _ = println!(rt; "rstored: listening on {bound}");
-    server.run(*rt)?;
+    let summary = server.run(*rt)?;
     let _ = println!(rt; "rstored: served {connections}");
-    Ok(())
+    Ok(summary)
 }

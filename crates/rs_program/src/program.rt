@@ -9,6 +9,7 @@ use crate::listening::listen;
 use crate::own_store::OwnStore;
 use crate::piping::{PipeFault, pipe};
 use crate::words::{Run, WordsFault, read_words, refused};
+use rs_listener::Summary;
 use rs_server::Served;
 use std::alloc::Global;
 use std::env;
@@ -32,6 +33,14 @@ pub enum RunFault {
     /// No client can be served.
     #[error("cannot listen")]
     Listen,
+    /// All connections ended, but it is not known that the store took all changes. Some places may have had no thread.
+    #[error("{served} of {places} places served clients, and not all changes are known to be taken")]
+    Unsettled {
+        /// How many places served clients.
+        served: usize,
+        /// How many were to.
+        places: u8,
+    },
 }
 
 impl RunFault {
@@ -42,13 +51,14 @@ impl RunFault {
         match self {
             RunFault::Words(fault) => fault.status(),
             RunFault::Pipe(fault) => fault.status(),
-            RunFault::Listen => 1,
+            RunFault::Listen | RunFault::Unsettled { .. } => 1,
         }
     }
 }
 
 /// Runs the program by its command line, and gives its exit status: 0 if the connection or all connections ended, or help was asked
-/// for, 1 if no client can be served, or reading, writing or memory failed, 2 if the command line or a line of the input is refused.
+/// for, 1 if no client can be served, the changes of all places could not be settled, or reading, writing or memory failed, 2 if the
+/// command line or a line of the input is refused.
 ///
 /// `pipe` is over this input and output. All else that is printed, help, faults and the lines of `listen`, goes to the standard
 /// streams of `rt`.
@@ -115,7 +125,13 @@ where
             topics,
             connections,
         ) {
-            Ok(()) => Ok(()),
+            Ok(
+                Summary {
+                    changes: Some(_),
+                    ..
+                },
+            ) => Ok(()),
+            Ok(Summary { places: served, .. }) => Err(RunFault::Unsettled { served, places }),
             Err(_) => Err(RunFault::Listen),
         },
         Err(fault) => Err(RunFault::Words(fault)),
@@ -143,7 +159,9 @@ fn report<H: Print + Eprint>(rt: &H, fault: &RunFault) {
         RunFault::Words(WordsFault::Help(text)) => print!(rt; "{text}"),
         RunFault::Words(WordsFault::Refused(text)) => eprint!(rt; "{text}"),
         RunFault::Words(WordsFault::NoMemory) => eprintln!(rt; "rstored: out of memory"),
-        RunFault::Pipe(_) | RunFault::Listen => eprintln!(rt; "rstored: {fault}"),
+        RunFault::Pipe(_) | RunFault::Listen | RunFault::Unsettled { .. } => {
+            eprintln!(rt; "rstored: {fault}")
+        }
     };
 }
 

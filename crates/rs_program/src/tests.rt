@@ -26,9 +26,22 @@ fn faults_have_a_status_and_a_text(rt: HostRuntime) -> Result<(), Fail> {
         let found = format!(in rt.alloc(); "{run}")?;
         assert_eq!(rt; found.as_str(), text);
     }
-    let found = format!(in rt.alloc(); "{}", RunFault::Listen)?;
-    assert_eq!(rt; found.as_str(), "cannot listen");
-    assert_eq!(rt; RunFault::Listen.status(), 1);
+    let unsettled = RunFault::Unsettled {
+        served: 3,
+        places: 4,
+    };
+    let listen_faults = [
+        (RunFault::Listen, "cannot listen"),
+        (
+            unsettled,
+            "3 of 4 places served clients, and not all changes are known to be taken",
+        ),
+    ];
+    for (fault, text) in listen_faults {
+        assert_eq!(rt; fault.status(), 1);
+        let found = format!(in rt.alloc(); "{fault}")?;
+        assert_eq!(rt; found.as_str(), text);
+    }
     Ok(())
 }
 

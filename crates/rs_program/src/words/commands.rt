@@ -59,6 +59,13 @@ const TOPICS_HELP: &str = "How many topics may hold a message";
 
 const CONNECTIONS_HELP: &str = "After how many connections the program ends";
 
+// The value names `1-64`, `1-65536` and `1-1000000` below.
+const _: () = prove!(MAX_PLACES == 64);
+
+const _: () = prove!(MAX_TOPICS == 65_536);
+
+const _: () = prove!(MAX_CONNECTIONS == 1_000_000);
+
 pub(super) fn command<'a>(alloc: Global) -> Result<Command<'a>, AllocError>
     ensures shape { IfOk result (λ c. app_of c ≡ rstored_words) }
     ensures local { IfOk result (λ c. (fields_of c).has_globals ≡ false) }
