@@ -18,6 +18,9 @@ SEATS_LIMIT = 3
 MEMORY_LIMIT = 2
 MESSAGES = 60_000
 
+# How many bytes a message of 64 bytes at a topic of 64 bytes may take in the three catalogues together, its packet aside.
+EACH_LIMIT = 1_000
+
 
 def run(program, topics, readers, millis):
     """By name, the microseconds that were taken in a run of so many milliseconds, the number of rounds and that of answers."""
@@ -78,17 +81,27 @@ def copies_share(program):
     return times < MEMORY_LIMIT
 
 
+def copies_are_small(program):
+    """Whether one more topic takes little memory in three copies."""
+    few, many = (most_memory(program, "keep_versions", topics) for topics in (MESSAGES // 2, MESSAGES))
+    each = (many - few) * 1024 / (MESSAGES - MESSAGES // 2)
+    print(f"memory of a topic of 64 bytes in three copies: {each:.0f} bytes (at most {EACH_LIMIT} wanted)")
+    return each <= EACH_LIMIT
+
+
 def versions_are_fast(program):
     for topics in TOPICS:
         for readers in READERS:
             put_times(program, topics, readers)
     good = seats_are_fast(program)
-    return copies_share(program) and good
+    good = copies_share(program) and good
+    return copies_are_small(program) and good
 
 
 def versions_are_right(program):
     """Runs each job once, on a small input."""
     for readers in READERS:
         run(program, TOPICS[0], readers, 10)
+    run(program, TOPICS[-1], 1, 10)
     for job in ("keep", "keep_versions"):
         most_memory(program, job, TOPICS[0])

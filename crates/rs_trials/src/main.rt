@@ -6,8 +6,8 @@
 //! on standard input, a PUBLISH or a SUBSCRIBE, and what answers it; `sessions COUNT`, short sessions one after the other over one
 //! store in memory; `versions TOPICS SEATS MILLIS`, the puts into a store of versions that so many seats read meanwhile; `submits
 //! TOPICS PLACES SEATS COUNT`, the submits of so many places, of which each makes so many, while so many seats read all topics. `keep
-//! TOPICS` and `keep_versions TOPICS` keep so many messages in one catalogue and in a store of versions; `keep_deep TOPICS` keeps
-//! them in a tree, at topics of the most levels, of which each two share all levels but the last.
+//! TOPICS` and `keep_versions TOPICS` keep so many messages in one tree and in a store of versions, at topics of 64 bytes; `keep_deep
+//! TOPICS` keeps them in a tree, at topics of the most levels, of which each two share all levels but the last.
 //!
 //! The status is 1 if memory, the clock, the input or the output failed, 2 for other words, and 3 at a wrong answer.
 #![tactic(auto)]

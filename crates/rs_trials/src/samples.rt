@@ -31,7 +31,7 @@ pub fn found(alloc: Global, topic: &TopicName, qos: Qos) -> Result<Found, Failur
 
 /// The topic of this number. In a tree of levels, of four topics in a row the first is new at the root, the second in the middle,
 /// the third below a message, and the fourth above others.
-fn topic(alloc: Global, number: u64) -> Result<TopicName, Failure> {
+pub fn topic(alloc: Global, number: u64) -> Result<TopicName, Failure> {
     let device = number / 4;
     let text = match number % 4 {
         0 => format!(in alloc; "{device:06}/door/state")?,
@@ -39,6 +39,15 @@ fn topic(alloc: Global, number: u64) -> Result<TopicName, Failure> {
         2 => format!(in alloc; "{device:06}/door/state/since")?,
         _ => format!(in alloc; "{device:06}")?,
     };
+    Ok(TopicName::read(alloc, text.as_str().as_bytes())?)
+}
+
+/// The topic of this number, of four levels and 64 bytes. Ten in a row share the first two levels. The last level is `x` for number
+/// 0 alone.
+fn even_topic(alloc: Global, number: u64) -> Result<TopicName, Failure> {
+    let (house, room) = (number / 1000, number / 10);
+    let last = if number == 0 { "x" } else { "y" };
+    let text = format!(in alloc; "{house:020}/{room:020}/{number:020}/{last}")?;
     Ok(TopicName::read(alloc, text.as_str().as_bytes())?)
 }
 
@@ -73,6 +82,16 @@ pub fn change(alloc: Global, number: u64) -> Result<Operation, Failure> {
 /// A Set of the topic of this number.
 pub fn set(alloc: Global, serial: u64, number: u64) -> Result<Entry, Failure> {
     entry(serial, change(alloc, number)?)
+}
+
+/// A Set of the topic of this number, of four levels and 64 bytes.
+pub fn set_even(alloc: Global, serial: u64, number: u64) -> Result<Entry, Failure> {
+    entry(serial, set_of(alloc, even_topic(alloc, number)?)?)
+}
+
+/// A Clear of the same topic.
+pub fn clear_even(alloc: Global, serial: u64, number: u64) -> Result<Entry, Failure> {
+    entry(serial, Operation::Clear(even_topic(alloc, number)?))
 }
 
 /// A Set of the topic of this number, of the most levels.

@@ -1,4 +1,4 @@
-//! The timed work of the benchmark, each kind with a number of rounds. Times are printed in microseconds.
+//! The timed work of the benchmark, each kind with a number of rounds. Times are printed in microseconds, those of a catalogue in nanoseconds.
 
 mod catalogue;
 mod codec;

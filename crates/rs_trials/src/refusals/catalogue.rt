@@ -1,7 +1,9 @@
 //! What a catalogue shows after memory was refused to `add` or to `copy`.
 
+ghost use Rattle.std.specs.Prelude.{◌<◌};
+
 use crate::failure::{Failure, expect};
-use crate::samples::set;
+use crate::samples::{clear, set, topic};
 use rs_message::Found;
 use rs_store::{Catalogue, Refusal, TopicLimit, add};
 use rs_topic::TopicFilter;
@@ -10,25 +12,32 @@ use std::alloc::{AllocError, Global};
 /// How many topics are added: so many that the catalogue has to grow more than once.
 const TOPICS: u32 = 60;
 
-/// It is copied after the first topic, and each time that so many more were added.
-const COPIED: u32 = 24;
+/// Each time that so many topics were added, the last one is cleared and added again. The catalogue is copied before, between and
+/// after.
+const ROUND: u32 = 12;
 
-/// What a catalogue shows.
+/// What a catalogue shows: the last is its answers to some filters.
 #[derive(Drop)]
 struct Shown {
     version: u64,
     count: u32,
     serial: u64,
-    all: Vec<Found>,
+    answers: Vec<Vec<Found>>,
 }
 
-fn shown_by<C: Catalogue>(catalogue: &C, all: &TopicFilter) -> Result<Shown, AllocError> {
-    Ok(Shown {
-        version: catalogue.version(),
-        count: catalogue.count(),
-        serial: catalogue.last_serial(1),
-        all: catalogue.answer(all, 0)?,
-    })
+/// How often memory was refused: to a topic of each kind of place, which `samples::topic` has in turn, and to a copy.
+#[derive(Clone, Copy)]
+struct Refused {
+    adds: [u32; 4],
+    copies: u32,
+}
+
+/// A catalogue, and the filters that it is asked for.
+#[derive(Drop)]
+struct Run<C: Catalogue + Drop> {
+    catalogue: C,
+    filters: Vec<TopicFilter>,
+    refused: Refused,
 }
 
 fn is_same_answer(a: &[Found], b: &[Found]) -> bool {
@@ -43,63 +52,147 @@ fn is_same_answer(a: &[Found], b: &[Found]) -> bool {
     true
 }
 
+fn are_same_answers(a: &[Vec<Found>], b: &[Vec<Found>]) -> bool {
+    if a.len() != b.len() {
+        return false;
+    }
+    for (x, y) in a.iter().zip(b.iter()) {
+        if !is_same_answer(x.as_slice(), y.as_slice()) {
+            return false;
+        }
+    }
+    true
+}
+
 fn is_same(a: &Shown, b: &Shown) -> bool {
     a.version == b.version
         && a.count == b.count
         && a.serial == b.serial
-        && is_same_answer(a.all.as_slice(), b.all.as_slice())
+        && are_same_answers(a.answers.as_slice(), b.answers.as_slice())
 }
 
-/// Adds a Set of a new topic, and returns whether memory was refused for it. Then the catalogue must show the same as before, and
-/// take the same Set.
-fn add_new<C: Catalogue>(
+fn shown_by<C: Catalogue>(
     alloc: Global,
-    catalogue: &mut C,
-    all: &TopicFilter,
-    number: u32,
-) -> Result<bool, Failure> {
-    let number = u64::from(number);
-    let entry = set(alloc, number + 1, number)?;
-    let again = entry.copy()?;
-    let before = shown_by(catalogue, all)?;
-    match add(catalogue, entry) {
-        Ok(()) => return Ok(false),
-        Err(Refusal::NoMemory) => {}
-        Err(_) => return Err(Failure::Wrong),
+    catalogue: &C,
+    filters: &[TopicFilter],
+) -> Result<Shown, AllocError> {
+    let mut answers = Vec::new(alloc);
+    for filter in filters {
+        answers.push(catalogue.answer(filter, 0)?)?;
     }
-    expect(is_same(&before, &shown_by(catalogue, all)?))?;
-    expect(add(catalogue, again).is_ok())?;
-    Ok(true)
+    Ok(Shown {
+        version: catalogue.version(),
+        count: catalogue.count(),
+        serial: catalogue.last_serial(1),
+        answers,
+    })
 }
 
-/// Copies the catalogue, and returns whether memory was refused for the copy. Then another copy must be made. The copy and the
-/// catalogue must show the same as before.
-fn copy<C: Catalogue + Drop>(catalogue: &C, all: &TopicFilter) -> Result<bool, Failure> {
-    let before = shown_by(catalogue, all)?;
-    let first = catalogue.copy();
-    let refused = first.is_err();
-    let copy = first
-        .or_else(|_| catalogue.copy())
-        .map_err(|_| Failure::Wrong)?;
-    expect(is_same(&before, &shown_by(&copy, all)?))?;
-    expect(is_same(&before, &shown_by(catalogue, all)?))?;
-    Ok(refused)
+impl<C: Catalogue + Drop> Run<C> {
+    fn shown(&self, alloc: Global) -> Result<Shown, AllocError> {
+        shown_by(alloc, &self.catalogue, self.filters.as_slice())
+    }
+
+    fn next_serial(&self) -> u64 {
+        self.catalogue.last_serial(1).saturating_add(1)
+    }
+
+    /// Adds a Set of a new topic. If memory is refused for it, the catalogue must show the same as before, and take the same Set.
+    fn add_new(&mut self, alloc: Global, number: u32) -> Result<(), Failure> {
+        let entry = set(alloc, self.next_serial(), u64::from(number))?;
+        let again = entry.copy()?;
+        let before = self.shown(alloc)?;
+        match add(&mut self.catalogue, entry) {
+            Ok(()) => return Ok(()),
+            Err(Refusal::NoMemory) => {}
+            Err(_) => return Err(Failure::Wrong),
+        }
+        expect(is_same(&before, &self.shown(alloc)?))?;
+        expect(add(&mut self.catalogue, again).is_ok())?;
+        let place = (number % 4) as usize;
+        self.refused.adds[place] = self.refused.adds[place].saturating_add(1);
+        Ok(())
+    }
+
+    /// Clears a topic. All answers must be as before without it: they do not tell whether memory was refused for joining a branch
+    /// to its only child.
+    fn clear(&mut self, alloc: Global, number: u32) -> Result<(), Failure> {
+        let number = u64::from(number);
+        let gone = topic(alloc, number)?;
+        let entry = clear(alloc, self.next_serial(), number)?;
+        let mut wanted = self.shown(alloc)?;
+        for answer in &mut wanted.answers {
+            answer.retain(|one| one.topic != gone);
+        }
+        wanted.version = wanted.version.saturating_add(1);
+        wanted.count = wanted.count.saturating_sub(1);
+        wanted.serial = entry.origin.serial();
+        expect(add(&mut self.catalogue, entry).is_ok())?;
+        expect(is_same(&wanted, &self.shown(alloc)?))
+    }
+
+    /// Copies the catalogue. If memory is refused for the copy, another one must be made. The copy and the catalogue must show the
+    /// same as before.
+    fn copy(&mut self, alloc: Global) -> Result<(), Failure> {
+        let before = self.shown(alloc)?;
+        let first = self.catalogue.copy();
+        self.refused.copies = self
+            .refused
+            .copies
+            .saturating_add(u32::from(first.is_err()));
+        let copy = first
+            .or_else(|_| self.catalogue.copy())
+            .map_err(|_| Failure::Wrong)?;
+        expect(is_same(&before, &shown_by(alloc, &copy, self.filters.as_slice())?))?;
+        expect(is_same(&before, &self.shown(alloc)?))
+    }
+
+    /// Clears the last topic and adds it again. Then the answers must be as before.
+    fn clear_last(&mut self, alloc: Global, number: u32) -> Result<(), Failure> {
+        let before = self.shown(alloc)?;
+        self.copy(alloc)?;
+        self.clear(alloc, number)?;
+        self.copy(alloc)?;
+        self.add_new(alloc, number)?;
+        self.copy(alloc)?;
+        let after = self.shown(alloc)?;
+        expect(are_same_answers(before.answers.as_slice(), after.answers.as_slice()))
+    }
 }
 
-/// Adds new topics one after the other, copies the catalogue now and then, and prints how often memory was refused for a topic and
-/// for a copy.
+/// All topics, those of one device, and some whose levels lie on both sides of a branch that a Clear joins to its only child.
+fn filters(alloc: Global) -> Result<Vec<TopicFilter>, Failure> {
+    let texts: [&[u8]; 4] = [b"#", b"000002/#", b"+/door/+", b"+"];
+    let mut filters = Vec::new(alloc);
+    for text in texts {
+        filters.push(TopicFilter::read(alloc, text)?)?;
+    }
+    Ok(filters)
+}
+
+/// Adds new topics one after the other, clears and copies now and then, and prints how often memory was refused for a topic of each
+/// kind of place and for a copy.
 pub fn work<C: Catalogue + Drop>(rt: &impl Print, alloc: Global) -> Result<(), Failure> {
     let limit = TopicLimit::new(TOPICS).ok_or(Failure::Wrong)?;
-    let mut catalogue = C::new(alloc, limit)?;
-    let all = TopicFilter::read(alloc, b"#")?;
-    let (mut adds, mut copies) = (0u32, 0u32);
+    let mut run = Run {
+        catalogue: C::new(alloc, limit)?,
+        filters: filters(alloc)?,
+        refused: Refused {
+            adds: [0; 4],
+            copies: 0,
+        },
+    };
     for number in 0..TOPICS {
-        adds = adds.saturating_add(u32::from(add_new(alloc, &mut catalogue, &all, number)?));
-        if number % COPIED == 0 {
-            copies = copies.saturating_add(u32::from(copy(&catalogue, &all)?));
+        run.add_new(alloc, number)?;
+        if number % ROUND == ROUND - 1 {
+            run.clear_last(alloc, number)?;
         }
     }
-    expect(catalogue.count() == TOPICS)?;
-    println!(rt; "refused {adds} {copies}")?;
+    expect(run.catalogue.count() == TOPICS)?;
+    let Refused {
+        adds: [root, middle, leaf, above],
+        copies,
+    } = run.refused;
+    println!(rt; "refused {root} {middle} {leaf} {above} {copies}")?;
     Ok(())
 }

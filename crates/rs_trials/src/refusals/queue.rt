@@ -4,8 +4,10 @@ ghost use Rattle.std.specs.Prelude.{◌≡◌};
 
 use crate::failure::{Failure, expect};
 use crate::samples::change;
-use rs_intake::{BlankQueue, Intake, LineName, SeatLine, blank_queue, run_writer, settle};
-use rs_message::SubmitFault;
+use rs_intake::{
+    BlankQueue, Ended, Intake, LineEnd, LineName, SeatLine, blank_queue, run_writer, settle,
+};
+use rs_message::{Operation, SubmitFault};
 use rs_store::TopicLimit;
 use rs_topic::TopicFilter;
 use rs_version::{Blank, Seat};
@@ -52,15 +54,13 @@ impl<N: LineName> Place<N> {
         expect(snapshot.found.len() as u64 == self.kept)
     }
 
-    /// Submits a Set of the topic of this number, which is new. Its receipt has the next number, behind that of an entry that is held.
+    /// Submits a Set of a new topic. Its receipt has the next number, behind that of an entry that is held.
     fn submit<H: Wait>(
         &mut self,
         rt: &H,
-        alloc: Global,
         intake: &Intake<N>,
-        number: u32,
+        change: Operation,
     ) -> Result<(), Failure> {
-        let change = change(alloc, u64::from(number))?;
         match intake.submit(rt, &mut self.line, change) {
             Ok(receipt) => {
                 let before = self.kept.saturating_add(u64::from(self.is_open));
@@ -86,6 +86,104 @@ impl<N: LineName> Place<N> {
     }
 }
 
+/// What a place did, once its line is closed: the number of its last receipt, whether an entry was held behind it, and how often
+/// memory was refused.
+#[derive(Clone, Copy)]
+struct Tried {
+    kept: u64,
+    is_open: bool,
+    submit: u32,
+    held: u32,
+}
+
+impl<N: LineName> Place<N> {
+    /// A place of the first line and seat.
+    fn new(
+        alloc: Global,
+        lines: Vec<SeatLine<N>>,
+        seats: Vec<Seat<N>>,
+    ) -> Result<Place<N>, Failure> {
+        let (mut lines, mut seats) = (lines, seats);
+        Ok(Place {
+            line: lines.pop().ok_or(Failure::Wrong)?,
+            seat: seats.pop().ok_or(Failure::Wrong)?,
+            all: TopicFilter::read(alloc, b"#")?,
+            kept: 0,
+            is_open: false,
+            submit: 0,
+            held: 0,
+        })
+    }
+
+    /// Submits all of them, or none after one whose entry is held.
+    fn submit_all<H: Wait>(
+        &mut self,
+        rt: &H,
+        intake: &Intake<N>,
+        changes: Vec<Operation>,
+        ends_at_held: bool,
+    ) -> Result<(), Failure> {
+        for change in changes {
+            self.submit(rt, intake, change)?;
+            if ends_at_held && self.is_open {
+                break;
+            }
+        }
+        Ok(())
+    }
+
+    /// Closes the line.
+    fn close<H: Wait>(self, rt: &H) -> (LineEnd<N>, Tried) {
+        let Place {
+            line,
+            seat: _seat,
+            all: _all,
+            kept,
+            is_open,
+            submit,
+            held,
+        } = self;
+        let tried = Tried {
+            kept,
+            is_open,
+            submit,
+            held,
+        };
+        (line.close(rt), tried)
+    }
+}
+
+/// Sets of new topics.
+fn changes(alloc: Global) -> Result<Vec<Operation>, Failure> {
+    let mut changes = Vec::new(alloc);
+    for round in 0..ROUNDS {
+        changes.push(change(alloc, u64::from(round))?)?;
+    }
+    Ok(changes)
+}
+
+/// Settles what was sent with what the writer took, and returns what was refused.
+fn settled<N: LineName, R: Wait + Drop>(
+    alloc: Global,
+    end: LineEnd<N>,
+    tried: Tried,
+    ended: Ended<N, R>,
+) -> Result<Refused, Failure> {
+    let mut ended = ended;
+    // What is still held then was refused twice, and is not published.
+    let is_last = tried.is_open && ended.held.is_none();
+    expect(tried.is_open || ended.held.is_none())?;
+    let kept = tried.kept.saturating_add(u64::from(is_last));
+    expect(ended.writer.tell().version() == kept)?;
+    let settled = settle(vec![in alloc; end]?, &mut ended).ok();
+    expect(settled == Some(ended.taken))?;
+    Ok(Refused {
+        submit: tried.submit,
+        held: tried.held,
+        last: u32::from(is_last),
+    })
+}
+
 /// Submits topics while the writer works on a thread of its own, ends it, and settles. Submits all of them, or none after one whose
 /// entry is held.
 fn rounds<H: Wait + Threads + Copy + Send + Sync + 'static, N: LineName + Send + Sync + 'static>(
@@ -98,49 +196,17 @@ fn rounds<H: Wait + Threads + Copy + Send + Sync + 'static, N: LineName + Send +
     requires store { (blank.history ≡ N.history) × (blank.limit ≡ N.limit) }
     requires queue { (queue.name ≡ N.queue) × (queue.places ≡ N.places) }
 {
-    let (writer, mut seats) = blank.open::<N, H>(rt)?;
-    let (intake, mut lines, queue) = queue.open::<N>()?;
-    let mut place = Place {
-        line: lines.pop().ok_or(Failure::Wrong)?,
-        seat: seats.pop().ok_or(Failure::Wrong)?,
-        all: TopicFilter::read(alloc, b"#")?,
-        kept: 0,
-        is_open: false,
-        submit: 0,
-        held: 0,
+    let (writer, seats) = blank.open::<N, H>(rt)?;
+    let (intake, lines, queue) = queue.open::<N>()?;
+    let mut place = Place::new(alloc, lines, seats)?;
+    // They are made before: between two submits, only what the calls themselves need takes memory.
+    let changes = changes(alloc)?;
+    let Ok(running) = spawn(&rt, move || run_writer(&rt, queue, writer)) else {
+        return Err(Failure::NoMemory);
     };
-    let running = spawn(&rt, move || run_writer(&rt, queue, writer)).map_err(
-        |_| Failure::NoMemory,
-    )?;
-    for round in 0..ROUNDS {
-        place.submit(&rt, alloc, &intake, round)?;
-        if ends_at_held && place.is_open {
-            break;
-        }
-    }
-    let Place {
-        line,
-        seat: _seat,
-        all: _all,
-        kept,
-        is_open,
-        submit,
-        held,
-    } = place;
-    let end = line.close(&rt);
-    let mut ended = running.join(&rt);
-    // What is still held then was refused twice, and is not published.
-    let is_last = is_open && ended.held.is_none();
-    expect(is_open || ended.held.is_none())?;
-    let kept = kept.saturating_add(u64::from(is_last));
-    expect(ended.writer.tell().version() == kept)?;
-    let settled = settle(vec![in alloc; end]?, &mut ended).ok();
-    expect(settled == Some(ended.taken))?;
-    Ok(Refused {
-        submit,
-        held,
-        last: u32::from(is_last),
-    })
+    place.submit_all(&rt, &intake, changes, ends_at_held)?;
+    let (end, tried) = place.close(&rt);
+    settled(alloc, end, tried, running.join(&rt))
 }
 
 /// The same in a new store.

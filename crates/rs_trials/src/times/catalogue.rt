@@ -1,18 +1,26 @@
-//! How long the calls of a catalogue take.
+//! How long the calls of a catalogue take, whose topics have four levels and 64 bytes.
 
 ghost use Rattle.std.specs.Prelude.{◌<◌, ◌^◌};
 
 use crate::failure::{Failure, expect};
-use crate::samples::{clear, set, set_deep};
+use crate::samples::{clear_even, set_deep, set_even};
 use rs_message::Entry;
-use rs_store::{Catalogue, MapCatalogue, TopicLimit, TreeCatalogue, add};
+use rs_store::{Catalogue, TopicLimit, TreeCatalogue, add};
 use rs_topic::TopicFilter;
 use std::alloc::Global;
 use std::rt::Clock;
-use std::time::Instant;
+use std::time::{Duration, Instant};
 
 /// A prime that divides no power of 2 or 10.
 const STEP: u64 = 7919;
+
+/// How many topics share the first two levels.
+const BELOW: u32 = 10;
+
+/// How often a filter is answered whose answer is short, and the milliseconds after which that is enough.
+const CALLS: u32 = 10_000;
+
+const MILLIS: u64 = 20;
 
 /// A number below so many topics. Those of 0, 1, 2 .. differ, and are in no order.
 fn mixed(i: u32, topics: u32) -> u64
@@ -24,7 +32,7 @@ fn mixed(i: u32, topics: u32) -> u64
 fn sets(alloc: Global, topics: u32, used: u32) -> Result<Vec<Entry>, Failure> {
     let mut entries = Vec::new(alloc);
     for i in 0..topics {
-        entries.push(set(alloc, u64::from(used) + u64::from(i) + 1, mixed(i, topics))?)?;
+        entries.push(set_even(alloc, u64::from(used) + u64::from(i) + 1, mixed(i, topics))?)?;
     }
     Ok(entries)
 }
@@ -32,7 +40,7 @@ fn sets(alloc: Global, topics: u32, used: u32) -> Result<Vec<Entry>, Failure> {
 fn clears(alloc: Global, topics: u32, used: u32) -> Result<Vec<Entry>, Failure> {
     let mut entries = Vec::new(alloc);
     for i in 0..topics {
-        entries.push(clear(alloc, u64::from(used) + u64::from(i) + 1, mixed(i, topics))?)?;
+        entries.push(clear_even(alloc, u64::from(used) + u64::from(i) + 1, mixed(i, topics))?)?;
     }
     Ok(entries)
 }
@@ -44,7 +52,7 @@ fn add_all<C: Catalogue>(catalogue: &mut C, entries: Vec<Entry>) -> Result<(), F
     Ok(())
 }
 
-/// Adds the entries, and prints how long that took. Then so many topics must hold a message.
+/// Adds the entries, and prints the nanoseconds that all took. Then so many topics must hold a message.
 fn timed<H: Print + Clock, C: Catalogue>(
     rt: &H,
     catalogue: &mut C,
@@ -54,13 +62,13 @@ fn timed<H: Print + Clock, C: Catalogue>(
 ) -> Result<(), Failure> {
     let start = Instant::now(rt)?;
     add_all(catalogue, entries)?;
-    let took = start.elapsed(rt)?.as_micros();
+    let took = start.elapsed(rt)?.as_nanos();
     expect(catalogue.count() == wanted)?;
     println!(rt; "{name} {took}")?;
     Ok(())
 }
 
-/// Answers a filter, and prints how long that took. So many messages must be found.
+/// Answers a filter, and prints the nanoseconds that it took. So many messages must be found.
 fn answered<H: Print + Clock, C: Catalogue>(
     rt: &H,
     catalogue: &C,
@@ -70,14 +78,69 @@ fn answered<H: Print + Clock, C: Catalogue>(
 ) -> Result<(), Failure> {
     let start = Instant::now(rt)?;
     let found = catalogue.answer(filter, 0)?;
-    let took = start.elapsed(rt)?.as_micros();
+    let took = start.elapsed(rt)?.as_nanos();
     expect(found.len() == wanted as usize)?;
     println!(rt; "{name} {took}")?;
     Ok(())
 }
 
-/// Prints, a line each, how long it takes to set so many topics, to replace each, to answer a filter that matches all of them and one
-/// that matches one, and to clear each.
+/// Answers a filter many times. How long one answer takes, in each of which so many messages must be found.
+fn one_of_many<K: Clock, C: Catalogue>(
+    rt: &K,
+    catalogue: &C,
+    filter: &TopicFilter,
+    wanted: u32,
+) -> Result<Duration, Failure> {
+    let enough = Duration::from_millis(MILLIS);
+    let start = Instant::now(rt)?;
+    for call in 0..CALLS {
+        expect(catalogue.answer(filter, 0)?.len() == wanted as usize)?;
+        let calls = call + 1;
+        // The clock is read seldom, since that takes time, too.
+        if calls.is_power_of_two() {
+            let took = start.elapsed(rt)?;
+            if took >= enough {
+                return Ok(took / calls);
+            }
+        }
+    }
+    Ok(start.elapsed(rt)? / CALLS)
+}
+
+/// Prints the nanoseconds that one answer to a filter takes, in which so many messages must be found.
+fn answered_often<H: Print + Clock, C: Catalogue>(
+    rt: &H,
+    catalogue: &C,
+    name: &str,
+    filter: &TopicFilter,
+    wanted: u32,
+) -> Result<(), Failure> {
+    let took = one_of_many(rt, catalogue, filter, wanted)?.as_nanos();
+    println!(rt; "{name} {took}")?;
+    Ok(())
+}
+
+/// Prints, a line each, how long one answer takes to a filter that matches one topic, to one that matches the topics that share two
+/// levels with it, and to one that finds it among all topics.
+fn answered_all<H: Print + Clock, C: Catalogue>(
+    rt: &H,
+    alloc: Global,
+    catalogue: &C,
+    topics: u32,
+) -> Result<(), Failure> {
+    let one = TopicFilter::read(
+        alloc,
+        b"00000000000000000000/00000000000000000000/00000000000000000000/x",
+    )?;
+    answered_often(rt, catalogue, "answer_one", &one, 1)?;
+    let below = TopicFilter::read(alloc, b"00000000000000000000/00000000000000000000/#")?;
+    answered_often(rt, catalogue, "answer_below", &below, BELOW.min(topics))?;
+    let last = TopicFilter::read(alloc, b"+/+/+/x")?;
+    answered_often(rt, catalogue, "answer_last", &last, 1)
+}
+
+/// Prints, a line each, how many nanoseconds it takes to set so many topics, to replace each, to answer a filter that matches all of
+/// them, to give one answer to others, and to clear each.
 pub fn measure<H: Print + Clock, C: Catalogue + Drop>(
     rt: &H,
     alloc: Global,
@@ -95,18 +158,17 @@ pub fn measure<H: Print + Clock, C: Catalogue + Drop>(
     )?;
     let all = TopicFilter::read(alloc, b"#")?;
     answered(rt, &catalogue, "answer_all", &all, topics)?;
-    let one = TopicFilter::read(alloc, b"000000/door/lock")?;
-    answered(rt, &catalogue, "answer_one", &one, 1)?;
+    answered_all(rt, alloc, &catalogue, topics)?;
     let used = topics.saturating_mul(2);
     timed(rt, &mut catalogue, "clear", clears(alloc, topics, used)?, 0)
 }
 
-/// Keeps so many messages in one catalogue.
+/// Keeps so many messages in a tree, at topics of 64 bytes.
 pub fn keep(alloc: Global, limit: TopicLimit) -> Result<(), Failure> {
-    let mut catalogue = MapCatalogue::new(alloc, limit)?;
+    let mut catalogue = TreeCatalogue::new(alloc, limit)?;
     for number in 0..limit.get() {
         let number = u64::from(number);
-        expect(add(&mut catalogue, set(alloc, number + 1, number)?).is_ok())?;
+        expect(add(&mut catalogue, set_even(alloc, number + 1, number)?).is_ok())?;
     }
     Ok(())
 }

@@ -8,7 +8,7 @@ use crate::samples::change;
 use rs_intake::{BlankQueue, Intake, LineName, SeatLine, blank_queue, run_writer};
 use rs_message::MAX_PLACES;
 use rs_session::{Gate, LocalGate};
-use rs_store::{MapCatalogue, TopicLimit};
+use rs_store::{TopicLimit, TreeCatalogue};
 use rs_topic::TopicFilter;
 use rs_version::{Blank, Seat};
 use std::alloc::Global;
@@ -28,7 +28,7 @@ fn topic_of(number: u32, topics: u32) -> u64 {
 /// Makes so many submits by a gate of one thread.
 fn submit_here(
     alloc: Global,
-    gate: &mut LocalGate<MapCatalogue>,
+    gate: &mut LocalGate<TreeCatalogue>,
     topics: u32,
     count: u32,
 ) -> Result<(), Failure> {
@@ -190,9 +190,9 @@ fn timed<
 {
     let (writer, seats) = blank.open::<N, H>(rt)?;
     let (intake, lines, queue) = queue.open::<N>()?;
-    let running = spawn(&rt, move || run_writer(&rt, queue, writer)).map_err(
-        |_| Failure::NoMemory,
-    )?;
+    let Ok(running) = spawn(&rt, move || run_writer(&rt, queue, writer)) else {
+        return Err(Failure::NoMemory);
+    };
     let (mut places, mut readers) = (Vec::new(alloc), Vec::new(alloc));
     let mut working = Vec::new(alloc);
     for (index, (line, seat)) in lines.into_iter().zip(seats).enumerate() {

@@ -3,7 +3,7 @@
 ghost use Rattle.std.specs.Prelude.{◌≡◌, ◌<◌, ◌≤◌, ◌^◌};
 
 use crate::failure::{Failure, expect};
-use crate::samples::{clear, set};
+use crate::samples::{clear, set, set_even};
 use rs_message::{Entry, MAX_PLACES};
 use rs_store::TopicLimit;
 use rs_topic::TopicFilter;
@@ -12,9 +12,9 @@ use std::alloc::Global;
 use std::marker::Brand;
 use std::rt::Clock;
 use std::sync::Wait;
-use std::sync::atomic::{AtomicBool, AtomicU64, Ordering};
+use std::sync::atomic::{AtomicBool, AtomicU32, AtomicU64, Ordering};
 use std::thread;
-use std::thread::Threads;
+use std::thread::{Threads, yield_now};
 use std::time::{Duration, Instant};
 
 /// How many topics there may be, how many seats read, and how long rounds are made.
@@ -32,6 +32,30 @@ struct Times {
     new: Duration,
     replace: Duration,
     all: Duration,
+}
+
+/// What the seats share with the writer.
+#[derive(Drop)]
+struct Shared {
+    filter: TopicFilter,
+    // How many threads there are, and how many have come to the start.
+    threads: u32,
+    started: AtomicU32,
+    stop: AtomicBool,
+    answers: AtomicU64,
+}
+
+impl Shared {
+    /// Waits until all threads have come here, so that none is measured while others still start.
+    fn start(&self) {
+        self.started.fetch_add(1, Ordering::SeqCst);
+        for _ in 0..u64::MAX {
+            if self.started.load(Ordering::SeqCst) >= self.threads {
+                break;
+            }
+            yield_now();
+        }
+    }
 }
 
 /// How long the put took.
@@ -91,20 +115,22 @@ fn rounds<C: Clock, N: StoreName, W: Wait + Drop>(
     })
 }
 
-/// Answers the filter until it is told to stop, and adds how often it found one message.
-fn read<N: StoreName>(seat: Seat<N>, filter: &TopicFilter, stop: &AtomicBool, answers: &AtomicU64) {
+/// Answers the filter once, and from the start on until it is told to stop. Adds how often it found one message from then on.
+fn read<N: StoreName>(seat: Seat<N>, shared: &Shared) {
     let mut seat = seat;
+    drop(seat.answer(&shared.filter, 0));
+    shared.start();
     let mut count = 0u64;
     for _ in 0..u64::MAX {
-        if stop.load(Ordering::SeqCst) {
+        if shared.stop.load(Ordering::SeqCst) {
             break;
         }
-        match seat.answer(filter, 0) {
+        match seat.answer(&shared.filter, 0) {
             Ok(snapshot) if snapshot.found.len() == 1 => count = count.wrapping_add(1),
             _ => {}
         }
     }
-    answers.fetch_add(count, Ordering::SeqCst);
+    shared.answers.fetch_add(count, Ordering::SeqCst);
 }
 
 /// Puts while each seat reads on a thread of its own. Returns how long the puts took, and the number of answers.
@@ -115,21 +141,30 @@ fn beside<H: Clock + Threads + Wait + Sync, N: StoreName + Send + Sync, W: Wait 
     seats: Vec<Seat<N>>,
     load: Load,
 ) -> Result<(Times, u64), Failure> {
-    let filter = TopicFilter::read(alloc, b"000000/door/lock")?;
-    let stop = AtomicBool::new(false);
-    let answers = AtomicU64::new(0);
-    let (shown, ends, sum) = (&filter, &stop, &answers);
+    let shared = Shared {
+        filter: TopicFilter::read(alloc, b"000000/door/lock")?,
+        threads: load.readers.saturating_add(1),
+        started: AtomicU32::new(0),
+        stop: AtomicBool::new(false),
+        answers: AtomicU64::new(0),
+    };
+    let all = &shared;
     let times = thread::scope(thread::scope_env(), rt, |scope| {
-        let mut started = true;
+        let mut good = true;
         for seat in seats {
-            started &= scope.spawn(move || read(seat, shown, ends, sum)).is_ok();
+            if scope.spawn(move || read(seat, all)).is_err() {
+                // No other waits for a thread that there is not.
+                all.started.fetch_add(1, Ordering::SeqCst);
+                good = false;
+            }
         }
+        all.start();
         let times = rounds(rt, alloc, writer, load);
-        ends.store(true, Ordering::SeqCst);
-        expect(started)?;
+        all.stop.store(true, Ordering::SeqCst);
+        expect(good)?;
         times
     })?;
-    Ok((times, answers.load(Ordering::SeqCst)))
+    Ok((times, shared.answers.load(Ordering::SeqCst)))
 }
 
 /// The same in a store that was just made, once it has all topics but one.
@@ -184,11 +219,14 @@ fn kept<H: Wait, N: StoreName>(
     requires { (blank.history ≡ N.history) × (blank.limit ≡ N.limit) }
 {
     let (mut writer, _seats) = blank.open::<N, &H>(rt)?;
-    fill(alloc, &mut writer, topics)?;
-    expect(writer.put(set(alloc, u64::from(topics), 0)?).is_ok())
+    for number in 0..topics {
+        let number = u64::from(number);
+        expect(writer.put(set_even(alloc, number + 1, number)?).is_ok())?;
+    }
+    Ok(())
 }
 
-/// Keeps so many messages in a store of versions.
+/// Keeps so many messages in a store of versions, at topics of 64 bytes.
 pub fn keep<H: Wait>(rt: &H, alloc: Global, limit: TopicLimit) -> Result<(), Failure> {
     kept::<H, Brand>(rt, alloc, Blank::new(alloc, limit, 1)?, limit.get())
 }
