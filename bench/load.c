@@ -1,10 +1,14 @@
 // The clients of bench/brokers, in C so that they cost less than any broker. They speak MQTT 5.0 to a port of 127.0.0.1, check what
-// they are answered, and print microseconds:
+// they are answered, and print:
 //
-//     load PORT publish QOS CONNECTIONS COUNT TOPICS SIZE    before it how many were published, at most COUNT by each connection
-//     load PORT fill COUNT SIZE PATTERN                      nothing; PATTERN writes a topic, with the hundreds and the rest of its number
-//     load PORT replay QOS FILTER MESSAGES ROUNDS DELAYED    each SUBSCRIBE, up to its last message
-//     load PORT connect ROUNDS                               each connection, up to its CONNACK
+//     load PORT publish QOS CONNECTIONS COUNT TOPICS SIZE    two numbers: how many were published, at most COUNT by each connection, and
+//                                                            the microseconds
+//     load PORT fill COUNT SIZE PATTERN                      nothing
+//     load PORT replay QOS FILTER MESSAGES ROUNDS DELAYED PATTERN ORDERED
+//                                                            the microseconds of each SUBSCRIBE, up to its last message
+//     load PORT connect ROUNDS                               the microseconds of each connection, up to its CONNACK
+//
+// PATTERN writes a topic, with the hundreds and the rest of its number. The messages of a replay are those that were filled by it.
 
 #define _GNU_SOURCE
 #include <arpa/inet.h>
@@ -27,6 +31,11 @@ enum { WINDOW = 16 };
 static const double LONGEST = 2e6;
 
 enum { ROOM = 1 << 20 };
+
+// The room for a topic and a zero byte.
+enum { TOPIC = 100 };
+
+typedef char Topic[TOPIC];
 
 static int port;
 
@@ -145,6 +154,10 @@ static size_t put_length(uint8_t *at, size_t length) {
     return digits;
 }
 
+static void put_topic(Topic topic, const char *pattern, size_t number) {
+    snprintf(topic, TOPIC, pattern, (int)(number / 100), (int)(number % 100));
+}
+
 // The bytes of some PUBLISH packets, and where each begins.
 typedef struct {
     uint8_t *bytes;
@@ -156,8 +169,8 @@ static Publications publications(size_t count, int qos, size_t size, const char 
     if (!made.bytes || !made.starts) fail("malloc");
     size_t at = 0;
     for (size_t i = 0; i < count; i++) {
-        char topic[100];
-        snprintf(topic, sizeof topic, pattern, (int)(i % topics / 100), (int)(i % topics % 100));
+        Topic topic;
+        put_topic(topic, pattern, i % topics);
         made.starts[i] = at;
         made.bytes[at++] = (uint8_t)(0x31 + 2 * qos);
         at += put_length(made.bytes + at, 2 + strlen(topic) + (qos ? 2 : 0) + 1 + size);
@@ -268,8 +281,16 @@ static void acknowledge(Client *client, const Packet *publication) {
     client->waiting += 4;
 }
 
-// Reads the SUBACK and so many messages. Those of QoS 1 are acknowledged, as many at once as were read at once.
-static void take_messages(Client *client, size_t messages, int is_delayed) {
+static void take_topic(Topic topic, const Packet *publication) {
+    size_t size = (size_t)(publication->body[0] << 8 | publication->body[1]);
+    if (size >= TOPIC) fail("a long topic");
+    memcpy(topic, publication->body + 2, size);
+    topic[size] = 0;
+}
+
+// Reads the SUBACK and so many messages, and their topics if there is room for them. Those of QoS 1 are acknowledged, as many at once as
+// were read at once.
+static void take_messages(Client *client, size_t messages, int is_delayed, Topic *topics) {
     for (size_t answered = 0; answered < messages + 1; answered++) {
         Packet packet;
         while (!has_packet(client, &packet)) {
@@ -279,22 +300,47 @@ static void take_messages(Client *client, size_t messages, int is_delayed) {
         }
         if (packet.kind == SUBACK ? packet.body[packet.size - 1] >= 0x80 : packet.kind != PUBLISH) fail("no PUBLISH");
         if (packet.kind == PUBLISH && packet.qos == 1) acknowledge(client, &packet);
+        if (packet.kind == PUBLISH && topics) take_topic(*topics++, &packet);
     }
     send_acknowledgements(client);
 }
 
-// So many rounds, or without an end if there are to be 0.
-static void replay(int qos, const char *filter, size_t messages, size_t rounds, int is_delayed) {
+static int compare(const void *one, const void *other) {
+    return strcmp(one, other);
+}
+
+// Whether these are the topics that were filled, each once, and in order if that is wanted.
+static void check_topics(Topic *topics, size_t count, const char *pattern, int is_ordered) {
+    if (!is_ordered) qsort(topics, count, sizeof *topics, compare);
+    for (size_t i = 0; i < count; i++) {
+        Topic topic;
+        put_topic(topic, pattern, i);
+        if (strcmp(topics[i], topic) != 0) fail("another topic");
+    }
+}
+
+// So many rounds, or without an end if there are to be 0. In a round before them, which is not measured, the topics are looked at.
+static void replay(int qos, const char *filter, size_t messages, size_t rounds, int is_delayed, const char *pattern, int is_ordered) {
     uint8_t packet[200] = {0x82, 0, 0, 1, 0};
     size_t size = 5 + put_text(packet + 5, filter) + 1;
     packet[size - 1] = (uint8_t)qos;
     packet[1] = (uint8_t)(size - 2);
     open_named(&single, 'r', getpid());
+    Topic *topics = calloc(messages, sizeof *topics);
+    if (!topics) fail("calloc");
+    send_all(&single, packet, size);
+    take_messages(&single, messages, is_delayed, topics);
+    check_topics(topics, messages, pattern, is_ordered);
+    free(topics);
+    if (rounds == 0) {
+        puts("ready");
+        fflush(stdout);
+    }
     for (size_t i = 0; i < rounds || rounds == 0; i++) {
         set_quick(&single, !is_delayed);
         double start = now();
         send_all(&single, packet, size);
-        take_messages(&single, messages, is_delayed);
+        take_messages(&single, messages, is_delayed, NULL);
         if (rounds > 0) printf("%.1f\n", now() - start);
     }
     close_client(&single);
@@ -317,7 +363,7 @@ int main(int count, char **words) {
     for (int i = 3; i < count && i < 10; i++) n[i - 3] = atol(words[i]);
     if (strcmp(job, "publish") == 0 && count == 8) publish((int)n[0], (int)n[1], (size_t)n[2], (size_t)n[3], (size_t)n[4]);
     else if (strcmp(job, "fill") == 0 && count == 6) fill((size_t)n[0], (size_t)n[1], words[5]);
-    else if (strcmp(job, "replay") == 0 && count == 8) replay((int)n[0], words[4], (size_t)n[2], (size_t)n[3], (int)n[4]);
+    else if (strcmp(job, "replay") == 0 && count == 10) replay((int)n[0], words[4], (size_t)n[2], (size_t)n[3], (int)n[4], words[8], (int)n[6]);
     else if (strcmp(job, "connect") == 0 && count == 4) connect_often((size_t)n[0]);
     else return 2;
     return 0;

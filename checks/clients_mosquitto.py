@@ -10,6 +10,7 @@ import subprocess
 import sys
 import threading
 
+from client_items import show_all, shown
 from exchange import CONNACK, Connect
 from packets import publish
 
@@ -58,12 +59,6 @@ def replayed(form, topics, qos=1, *words):
     put("last", "last", 2)
     filters = [word for text in [*topics, "last"] for word in ("-t", text)]
     return lines_before(lambda line: line.startswith("last "), "-q", str(qos), "-F", f"%t {form}", *filters, *words)
-
-
-def shown(item, is_right):
-    if not is_right:
-        sys.exit(f"mosquitto: {item}: not as it should be")
-    print(item, flush=True)
 
 
 def kept_and_read_back():
@@ -151,17 +146,5 @@ def many():
         shown(f"{MANY:,} retained messages in order, granted QoS {qos}", found == [f"{topic} {topic}" for topic in in_order])
 
 
-def main():
-    kept_and_read_back()
-    subscriptions()
-    properties_and_expiry()
-    limits()
-    identifiers()
-    clear()
-    refusals()
-    unicode_topics()
-    many()
-
-
 if __name__ == "__main__":
-    main()
+    show_all(globals())

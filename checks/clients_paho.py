@@ -7,6 +7,7 @@ clients. Prints a line for each item that was shown.
 import sys
 import time
 
+from client_items import show_all, shown
 from paho.mqtt.client import Client, MQTTv5, SubscribeOptions
 from paho.mqtt.packettypes import PacketTypes
 from paho.mqtt.properties import Properties
@@ -84,12 +85,6 @@ class Session:
         self.client.disconnect()
         while self.client.loop(0.1) == 0:
             pass
-
-
-def shown(item, is_right):
-    if not is_right:
-        sys.exit(f"paho: {item}: not as it should be")
-    print(item, flush=True)
 
 
 def kept_and_read_back():
@@ -198,17 +193,5 @@ def many():
     session.end()
 
 
-def main():
-    kept_and_read_back()
-    subscriptions()
-    properties_and_expiry()
-    limits()
-    identifiers()
-    clear()
-    refusals()
-    unicode_topics()
-    many()
-
-
 if __name__ == "__main__":
-    main()
+    show_all(globals())

@@ -1,6 +1,7 @@
-"""Where the built programs lie, and how much memory one takes."""
+"""Where the built programs lie, what is loaded before one, and how much memory one takes."""
 
 import os
+import subprocess
 import sys
 
 ROOT = os.path.dirname(os.path.dirname(os.path.abspath(__file__)))
@@ -16,6 +17,16 @@ def program(name="rstored"):
     path = os.path.join(crate(name), "out", name)
     if not os.path.exists(path):
         sys.exit(f"build {name} first: rt run in crates/{name}")
+    return path
+
+
+def preloaded(name, folder):
+    """Compiles a C file of checks/ by the toolchain's C compiler: a library in this folder that is to be loaded before a program."""
+    start = subprocess.run(["rt", "doc"], capture_output=True, text=True, check=True).stdout.strip()
+    compiler = os.path.join(os.path.dirname(start), "toolchain", "bin", "clang")
+    path = os.path.join(folder, f"{name}.so")
+    source = os.path.join(ROOT, "checks", f"{name}.c")
+    subprocess.run([compiler, "-O1", "-shared", "-fPIC", "-o", path, source], check=True)
     return path
 
 

@@ -1,5 +1,6 @@
 """The program as a server on the loopback."""
 
+import os
 import re
 import subprocess
 
@@ -9,17 +10,19 @@ from program import program
 PATIENCE = 300
 
 
-def start(address, *words):
-    """Starts the program as a server."""
+def start(address, *words, environment=None):
+    """Starts the program as a server, with this added to the environment."""
     words = [program(), "listen", "--address", address, *words]
-    return subprocess.Popen(words, stdout=subprocess.PIPE, stderr=subprocess.PIPE, text=True)
+    environment = {**os.environ, **(environment or {})}
+    return subprocess.Popen(words, stdout=subprocess.PIPE, stderr=subprocess.PIPE, text=True, env=environment)
 
 
 class Server:
     """A running `rstored listen`, which is killed at the end of a `with`."""
 
-    def __init__(self, places=4, topics=10_000, connections=1_000_000, address="127.0.0.1:0"):
-        self.run = start(address, "--places", str(places), "--topics", str(topics), "--connections", str(connections))
+    def __init__(self, places=4, topics=10_000, connections=1_000_000, address="127.0.0.1:0", environment=None):
+        words = ["--places", str(places), "--topics", str(topics), "--connections", str(connections)]
+        self.run = start(address, *words, environment=environment)
         line = self.run.stdout.readline()
         bound = re.fullmatch(r"rstored: listening on ([0-9.]+|\[[0-9a-f:]+\]):([0-9]+)\n", line)
         if bound is None:
