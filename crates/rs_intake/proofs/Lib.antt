@@ -5,3 +5,4 @@ pub mod Opening
 pub mod Sameness
 pub mod Sums
 pub mod Sent
+pub mod Sweeps

@@ -5,3 +5,4 @@ pub mod Names
 pub mod Parts
 pub mod QueueRule
 pub mod Settling
+pub mod Sweeps

@@ -1,6 +1,7 @@
 //! Submitting to the writer.
 
-ghost use Rattle.std.specs.Prelude.{◌≡◌, ◌≢◌, ◌+◌, ◌++◌, ◌∷◌, [], IfErr, IfOk};
+ghost use Rattle.std.specs.Prelude.{◌≡◌, ◌≢◌, ◌+◌, ◌++◌, ◌∷◌, [], false, IfErr, IfOk};
+ghost use Rattle.rs_message.specs.Messages.{is_sweep};
 ghost use Rattle.rs_message.specs.declared.fault.SubmitFault.TheVariants.{Closed};
 ghost use Rattle.rs_store.specs.History.{IsLegal};
 ghost use Rattle.rs_version.specs.Receipts.{StandsAt};
@@ -58,21 +59,22 @@ pub(crate) fn read<N: LineName>(reply: Reply<N>, entry: &Entry) -> Result<Receip
 }
 
 impl<N: LineName> Intake<N> {
-    /// Hands the operation to the writer under the line's next serial, and waits for the receipt. The serial is used whatever is
-    /// answered, unless there is no further one.
+    /// Hands the operation, which is no Sweep, to the writer under the line's next serial, and waits for the receipt. The serial is
+    /// used whatever is answered, unless there is no further one. The writer may make a Sweep first, so that there is room.
     ///
     /// # Errors
     ///
-    /// - [`Full`](SubmitFault::Full), [`NoMemory`](SubmitFault::NoMemory): no entry was made.
+    /// - [`Full`](SubmitFault::Full), [`NoMemory`](SubmitFault::NoMemory): no entry of the operation was made. A Sweep may have been.
     /// - [`Open`](SubmitFault::Open): no receipt came. The operation may become an entry, at most once.
     /// - [`Strange`](SubmitFault::Strange): what came back is not for this operation.
-    /// - [`Closed`](SubmitFault::Closed): the writer takes no more; the queue did not take the operation.
+    /// - [`Closed`](SubmitFault::Closed): the writer takes no more; the queue did not take the operation. No entry of it was made.
     pub fn submit<R: Wait>(
         &self,
         rt: &R,
         line: &mut SeatLine<N>,
         operation: Operation,
     ) -> Result<Receipt<N>, SubmitFault>
+        requires { is_sweep operation ≡ false }
         ensures place { line.new.place ≡ line.old.place }
         ensures serial { line.new.serial ≡ next_serial line.old.serial }
         ensures sent { AddsAtMost line.old.sent (job line.old.place line.new.serial operation) line.new.sent }

@@ -33,7 +33,7 @@ pub use intake::Intake;
 pub use law::line_order_law;
 pub use line::{LineEnd, SeatLine};
 pub use name::LineName;
-pub use rule::Job;
+pub use rule::{Change, Job};
 pub use settling::settle;
 pub use taken::Taken;
 pub use writer::{Ended, Queue, run_writer};

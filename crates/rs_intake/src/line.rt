@@ -3,6 +3,7 @@
 ghost use Rattle.std.specs.Prelude.{◌≡◌, ◌+◌, ◌-◌, ◌<◌, ◌≤◌, ◌^◌, ◌∷◌, ◌++◌, [], length, true, false, IfOk, MatchBool, MatchResult};
 ghost use Rattle.crossbeam_channel.specs.Claims.{view as known_by};
 ghost use Rattle.crossbeam_channel.specs.Ends.{sends_on};
+ghost use Rattle.rs_message.specs.Messages.{is_sweep};
 ghost use Rattle.rs_message.specs.declared.entry.TheConstants.{MAX_PLACES};
 ghost use Rattle.rs_store.specs.History.{last_serial};
 ghost use Rattle.rs_intake.specs.Names.{IsQueue, IsIn};
@@ -10,7 +11,7 @@ ghost use Rattle.rs_intake.specs.Lines.{job, next_serial};
 
 use crate::name::LineName;
 use crate::reply::{Reply, ReplyReceiver};
-use crate::rule::{Job, JobSender, PassView};
+use crate::rule::{Change, Job, JobSender, PassView};
 use crate::steps::send;
 use crossbeam_channel::Pass;
 use rs_message::{Entry, Operation, Origin, SubmitFault};
@@ -89,13 +90,17 @@ impl<N: LineName> LineEnd<N> {
 
     /// Whether the queue took the job.
     fn put<R: Wait>(&mut self, rt: &R, entry: Entry) -> bool
+        requires no_sweep { is_sweep entry.operation ≡ false }
         requires place { entry.origin.place ≡ self.old.place }
         requires serial { last_serial self.old.place self.old.sent < entry.origin.serial }
         requires room { length self.old.sent + 1 < 2 ^ 64 }
         ensures place { self.new.place ≡ self.old.place }
         ensures sent { MatchBool result (self.new.sent ≡ self.old.sent ++ entry ∷ []) (self.new.sent ≡ self.old.sent) }
     {
-        match send(rt, &self.sender, &mut self.pass, Job::Put(entry)) {
+        // For the proof: this call says that the place is not the writer's.
+        let _place = self.place();
+        let job = Job::Put(Change::new(entry));
+        match send(rt, &self.sender, &mut self.pass, job) {
             Ok(()) => {
                 self.sent += 1;
                 true
@@ -169,6 +174,7 @@ impl<N: LineName> SeatLine<N> {
         rt: &R,
         operation: Operation,
     ) -> Result<Entry, SubmitFault>
+        requires { is_sweep operation ≡ false }
         ensures place { self.new.place ≡ self.old.place }
         ensures serial { self.new.serial ≡ next_serial self.old.serial }
         ensures entry { IfOk result (λ e. (e ≡ job self.old.place self.new.serial operation) × (self.new.serial ≡ self.old.serial + 1)) }

@@ -26,12 +26,19 @@ fn is_same_operation(one: &Operation, other: &Operation) -> bool
                     && is_same_message(message, other_message)
             }
             Operation::Clear(_) => false,
+            Operation::Sweep(_) => false,
         },
         Operation::Clear(topic) => match other {
             Operation::Set(_, _) => false,
             Operation::Clear(other_topic) => {
                 is_same_bytes(topic.as_bytes(), other_topic.as_bytes())
             }
+            Operation::Sweep(_) => false,
+        },
+        Operation::Sweep(moment) => match other {
+            Operation::Set(_, _) => false,
+            Operation::Clear(_) => false,
+            Operation::Sweep(other_moment) => moment == other_moment,
         },
     }
 }

@@ -1,12 +1,14 @@
 //! Lines, a writer and seats over threads, and each refusal.
 
-ghost use Rattle.std.specs.Prelude.{◌≡◌, ◌<◌, ◌≤◌, [], None};
+ghost use Rattle.std.specs.Prelude.{◌≡◌, ◌<◌, ◌≤◌, [], None, false, IfSome};
+ghost use Rattle.rs_message.specs.Messages.{is_sweep};
 
 mod answers;
 mod ending;
 mod large;
 mod order;
 mod schedules;
+mod sweeping;
 
 use super::*;
 use bytes::Bytes;
@@ -20,7 +22,7 @@ use std::sync::Wait;
 use std::test::Fail;
 
 #[tactic(auto, using(rs_message::proofs::Sizes::small_message))]
-fn message(alloc: Global, payload: &[u8], expiry: Option<u32>) -> Option<Message> {
+fn message(alloc: Global, payload: &[u8], received: u64, expiry: Option<u32>) -> Option<Message> {
     if payload.is_empty() || payload.len() > 1000 {
         return None;
     }
@@ -29,19 +31,23 @@ fn message(alloc: Global, payload: &[u8], expiry: Option<u32>) -> Option<Message
         alloc,
         payload,
         Qos::AtMostOnce,
-        0,
+        received,
         expiry,
         Properties::none(),
     )
     .ok()
 }
 
-fn set(alloc: Global, topic: &[u8], payload: &[u8]) -> Option<Operation> {
+fn set(alloc: Global, topic: &[u8], payload: &[u8]) -> Option<Operation>
+    ensures { IfSome result (λ o. is_sweep o ≡ false) }
+{
     let topic = TopicName::read(alloc, topic).ok()?;
-    Some(Operation::Set(topic, message(alloc, payload, None)?))
+    Some(Operation::Set(topic, message(alloc, payload, 0, None)?))
 }
 
-fn clear(alloc: Global, topic: &[u8]) -> Option<Operation> {
+fn clear(alloc: Global, topic: &[u8]) -> Option<Operation>
+    ensures { IfSome result (λ o. is_sweep o ≡ false) }
+{
     Some(Operation::Clear(TopicName::read(alloc, topic).ok()?))
 }
 

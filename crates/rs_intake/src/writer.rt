@@ -1,13 +1,16 @@
 //! The writer's loop over the queue.
 
-ghost use Rattle.std.specs.Prelude.{◌≡◌, ◌≢◌, ◌+◌, ◌∷◌, ◌++◌, [], length, true, IfErr, IfOk, MatchBool};
+ghost use Rattle.std.specs.Prelude.{◌≡◌, ◌≢◌, ◌+◌, ◌<◌, [], length, false, true, IfErr, IfOk, MatchBool};
 ghost use Rattle.std.specs.Option.{option_map};
 ghost use Rattle.crossbeam_channel.specs.Ends.{receives_on};
+ghost use Rattle.rs_message.specs.Messages.{is_sweep};
+ghost use Rattle.rs_store.specs.Adding.{Adds};
 ghost use Rattle.rs_store.specs.History.{SerialsRise, extended};
 ghost use Rattle.rs_version.specs.Writer.{Refuses, kept_of};
 ghost use Rattle.rs_version.specs.declared.fault.PutFault.TheVariants.{Held, Stale};
 ghost use Rattle.rs_intake.specs.Names.{IsQueue};
 ghost use Rattle.rs_intake.specs.Parts.{IsPart};
+ghost use Rattle.rs_intake.specs.Sweeps.{AreSweepsFor, IsSweptAtMost, without_sweeps};
 
 use crate::name::LineName;
 use crate::reply::{Reply, ReplySender};
@@ -89,14 +92,15 @@ impl<N: LineName, R: Wait + Drop> Ended<N, R> {
     }
 }
 
-/// Puts a job: what its line is told, and whether its entry was appended. It stands beside the sending, so that contracts tie what
-/// is told to what was done.
+/// Puts a job: what its line is told, and whether its entry was appended. A Sweep may have been appended before it, or without it.
+/// It stands beside the sending, so that contracts tie what is told to what was done.
 fn reply_to<N: LineName, R: Wait + Drop>(
     writer: &mut VersionWriter<N, R>,
     job: Entry,
 ) -> (Reply<N>, bool)
-    requires { SerialsRise (extended (kept_of writer.old) job) }
-    ensures kept { MatchBool result.1 (kept_of writer.new ≡ kept_of writer.old ++ job ∷ []) (kept_of writer.new ≡ kept_of writer.old) }
+    requires no_sweep { is_sweep job.operation ≡ false }
+    requires rises { SerialsRise (extended (kept_of writer.old) job) }
+    ensures kept { MatchBool result.1 (Adds N.limit (kept_of writer.old) job (λ list. kept_of writer.new ≡ list)) (IsSweptAtMost N.limit (kept_of writer.old) job (kept_of writer.new)) }
     ensures origin { result.0.origin ≡ job.origin }
     ensures receipt { IfOk result.0.answer (λ r. (r.entry ≡ job) × (r.number ≡ length (kept_of writer.new)) × (r.told ≡ writer.new.published) × (result.1 ≡ true)) }
     ensures refusal { IfErr result.0.answer (λ f. (f ≢ Stale) × Refuses N.limit writer.old job f writer.new × MatchBool result.1 (f ≡ Held) (f ≢ Held)) }
@@ -119,8 +123,10 @@ fn put_job<N: LineName, R: Wait + Drop, W: Wait>(
     replies: &mut Vec<ReplySender<N>>,
     job: Entry,
 ) -> bool
-    requires { SerialsRise (extended (kept_of writer.old) job) }
-    ensures { MatchBool result (kept_of writer.new ≡ kept_of writer.old ++ job ∷ []) (kept_of writer.new ≡ kept_of writer.old) }
+    requires no_sweep { is_sweep job.operation ≡ false }
+    requires place { 0 < job.origin.place }
+    requires rises { SerialsRise (extended (kept_of writer.old) job) }
+    ensures { MatchBool result (Adds N.limit (kept_of writer.old) job (λ list. kept_of writer.new ≡ list)) (IsSweptAtMost N.limit (kept_of writer.old) job (kept_of writer.new)) }
 {
     let (reply, is_appended) = reply_to(writer, job);
     let index = reply.origin.place() as usize - 1;
@@ -131,16 +137,18 @@ fn put_job<N: LineName, R: Wait + Drop, W: Wait>(
 }
 
 /// Puts each job that it takes, and tells the job's line what the writer answers, until each place has ended or all lines are
-/// gone. Then it tries once more to publish a held entry.
+/// gone. Then it tries once more to publish a held entry. Of what the writer keeps, all but the Sweeps are jobs. Each Sweep has the
+/// writer's place, and the moment at which the message of a job came.
 pub fn run_writer<N: LineName, R: Wait + Drop, W: Wait>(
     rt: &W,
     queue: Queue<N>,
     writer: VersionWriter<N, R>,
 ) -> Ended<N, R>
     requires empty { kept_of writer ≡ [] }
-    ensures part { IsPart (kept_of result.writer) result.jobs.entries }
+    ensures part { IsPart (without_sweeps (kept_of result.writer)) result.jobs.entries }
     ensures taken { result.taken ≡ length result.jobs.entries }
-    ensures refused { length (kept_of result.writer) + result.refused ≡ result.taken }
+    ensures refused { length (without_sweeps (kept_of result.writer)) + result.refused ≡ result.taken }
+    ensures sweeps { AreSweepsFor result.jobs.entries (kept_of result.writer) }
     ensures held { result.held ≡ option_map (λ e. e.origin) result.writer.held }
 {
     run_writer_for(rt, queue, writer, u64::MAX)
@@ -154,9 +162,10 @@ pub(crate) fn run_writer_for<N: LineName, R: Wait + Drop, W: Wait>(
     most: u64,
 ) -> Ended<N, R>
     requires empty { kept_of writer ≡ [] }
-    ensures part { IsPart (kept_of result.writer) result.jobs.entries }
+    ensures part { IsPart (without_sweeps (kept_of result.writer)) result.jobs.entries }
     ensures taken { result.taken ≡ length result.jobs.entries }
-    ensures refused { length (kept_of result.writer) + result.refused ≡ result.taken }
+    ensures refused { length (without_sweeps (kept_of result.writer)) + result.refused ≡ result.taken }
+    ensures sweeps { AreSweepsFor result.jobs.entries (kept_of result.writer) }
     ensures held { result.held ≡ option_map (λ e. e.origin) result.writer.held }
 {
     let Queue {
@@ -174,7 +183,10 @@ pub(crate) fn run_writer_for<N: LineName, R: Wait + Drop, W: Wait>(
             break;
         }
         match jobs.next(rt, &receiver, &mut patience) {
-            Some(Job::Put(job)) => {
+            Some(Job::Put(change)) => {
+                let job = change.into_entry();
+                // For the proof: this call says that the serial is not 0.
+                let _serial = job.origin.serial();
                 taken += 1;
                 if !put_job(rt, &mut writer, &mut replies, job) {
                     refused += 1;

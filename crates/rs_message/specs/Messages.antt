@@ -6,7 +6,7 @@ use Rattle.rs_message.specs.Values.{MessageValue}
 use Rattle.rs_message.specs.declared.message.Remaining.{Remaining}
 use Rattle.rs_message.specs.declared.message.Remaining.TheVariants.{Forever, Left, Expired}
 use Rattle.rs_message.specs.declared.entry.Operation.{Operation}
-use Rattle.rs_message.specs.declared.entry.Operation.TheVariants.{Set, Clear}
+use Rattle.rs_message.specs.declared.entry.Operation.TheVariants.{Set, Clear, Sweep}
 
 -- a retained message has a payload, which with its properties takes no more bytes than a packet may have
 pub record IsKept (m : MessageValue) : Type 0 where
@@ -45,3 +45,10 @@ change_of topic m (byte ∷ bytes) = Set topic m
 abbrev pub operation_of : Bool → List ℕ → MessageValue → Option Operation
 operation_of false topic m = None
 operation_of true topic m = Some (change_of topic m m.payload)
+
+-- ---- what the writer does by itself
+
+abbrev pub is_sweep : Operation → Bool
+is_sweep (Set topic m) = false
+is_sweep (Clear topic) = false
+is_sweep (Sweep moment) = true

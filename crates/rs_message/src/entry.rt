@@ -3,7 +3,7 @@
 ghost use Rattle.std.specs.Prelude.{◌≡◌, ◌≢◌, ◌+◌, ◌<◌, ◌≤◌, ◌&&◌, nat_lt, nat_le, if◌then◌else◌, [], true, Some, None, IfOk, IfErr, length};
 ghost use Rattle.rs_packet.specs.declared.limits.TheConstants.{MAX_PACKET_SIZE};
 ghost use Rattle.rs_packet.specs.Replies.{message_size};
-ghost use Rattle.rs_message.specs.Messages.{operation_of};
+ghost use Rattle.rs_message.specs.Messages.{is_sweep, operation_of};
 
 use crate::message::Message;
 use bytes::Bytes;
@@ -15,7 +15,8 @@ use std::marker::Model;
 /// The greatest number of a place (this server's choice). The first place is 1.
 pub const MAX_PLACES: u8 = 64;
 
-/// Where an entry came from: a place, 1 to [`MAX_PLACES`], and a serial number from 1 on, which rises at each place.
+/// Where an entry came from: a place, 1 to [`MAX_PLACES`], or the writer, whose place is 0; and a serial number from 1 on, which rises
+/// at each place.
 #[derive(Clone, Copy, PartialEq, Eq)]
 pub struct Origin {
     place: u8,
@@ -31,7 +32,7 @@ impl Model for Origin {
 
     ghost view = { λ o. record { place = o.place; serial = o.serial } };
 
-    ghost invariant = { λ o. (0 < o.place) × (o.place ≤ MAX_PLACES) × (0 < o.serial) };
+    ghost invariant = { λ o. (o.place ≤ MAX_PLACES) × (0 < o.serial) };
 
     ghost inverse = { λ v. record { place = v.place; serial = v.serial } };
 }
@@ -47,10 +48,19 @@ impl Origin {
         None
     }
 
-    /// The place, 1 to [`MAX_PLACES`].
+    /// An origin of the writer. None if the serial is 0.
+    pub fn of_writer(serial: u64) -> Option<Origin>
+        ensures { result ≡ (if nat_lt 0 serial then Some (record { place = 0; serial = serial }) else None) }
+    {
+        if 0 < serial {
+            return Some(Origin { place: 0, serial });
+        }
+        None
+    }
+
+    /// The place, 1 to [`MAX_PLACES`], or 0 for the writer.
     pub fn place(self) -> u8
         ensures value { result ≡ self.place }
-        ensures some { 0 < result }
         ensures small { result ≤ MAX_PLACES }
     {
         self.place
@@ -65,13 +75,15 @@ impl Origin {
     }
 }
 
-/// A change of a topic's retained message (3.3.1.3).
+/// A change of a topic's retained message (3.3.1.3), or of all that are expired.
 #[derive(Drop, PartialEq, Eq)]
 pub enum Operation {
     /// The message becomes the topic's retained message, in place of any other.
     Set(TopicName, Message),
     /// The topic has no retained message from now on.
     Clear(TopicName),
+    /// No topic keeps a message that is expired at this moment, in seconds. Only the writer does this.
+    Sweep(u64),
 }
 
 impl Operation {
@@ -82,6 +94,18 @@ impl Operation {
         match self {
             Operation::Set(topic, message) => Ok(Operation::Set(topic.copy()?, message.copy()?)),
             Operation::Clear(topic) => Ok(Operation::Clear(topic.copy()?)),
+            Operation::Sweep(moment) => Ok(Operation::Sweep(*moment)),
+        }
+    }
+
+    /// Whether it is a Sweep.
+    pub fn is_sweep(&self) -> bool
+        ensures { result ≡ is_sweep self.now }
+    {
+        match self {
+            Operation::Sweep(_) => true,
+            Operation::Set(_, _) => false,
+            Operation::Clear(_) => false,
         }
     }
 

@@ -1,8 +1,9 @@
 //! A gate over a seat and its line.
 
-ghost use Rattle.std.specs.Prelude.{◌≡◌, ◌≤◌, ◌∷◌, ◌++◌, [], length, OnOk};
+ghost use Rattle.std.specs.Prelude.{◌≡◌, ◌≤◌, ◌∷◌, ◌++◌, [], false, length, OnOk};
 ghost use Rattle.rs_intake.specs.Lines.{AddsAtMost, job, next_serial};
 ghost use Rattle.rs_message.specs.declared.entry.TheConstants.{MAX_PLACES};
+ghost use Rattle.rs_message.specs.Messages.{is_sweep};
 ghost use Rattle.rs_places.specs.Shared.{Knows};
 ghost use Rattle.rs_session.specs.Gate.{Grows, Submits, Uses};
 ghost use Rattle.rs_store.specs.History.{IsLegal};
@@ -108,6 +109,7 @@ impl<N: LineName, R: Wait + Copy> Gate for SharedGate<N, R> {
     /// Hands the change to the writer and waits for the receipt. The seat learns its token before `Ok` is answered. Beside what each
     /// gate promises, the line sent at most this change, under the next serial, and at `Ok` it did.
     fn submit(&mut self, operation: Operation) -> Result<(), SubmitFault>
+        requires { is_sweep operation ≡ false }
         ensures list { Grows (Knows N.limit self.old) (Knows N.limit self.new) (Submits operation self.old.mark self.new.mark result) }
         ensures mark { Uses self.old.mark self.new.mark }
         ensures serial { self.new.mark.serial ≡ next_serial self.old.mark.serial }

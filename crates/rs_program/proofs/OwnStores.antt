@@ -10,7 +10,7 @@ use Rattle.rs_session.specs.Local.{local_mark}
 use Rattle.rs_program.specs.declared.own_store.OwnStore.{OwnStore}
 use Rattle.rs_program.specs.declared.own_store.TheConstants.{MAX_OWN_TOPICS}
 use Rattle.rs_program.specs.Memory.{IsOfMark}
-use Rattle.rs_program.specs.OwnStores.{content_of, IsOwn}
+use Rattle.rs_program.specs.OwnStores.{content_of, IsOwn, IsOwnEntry}
 
 -- what it stands for has no serial above its mark's
 pub of_mark : (store : OwnStore) (mark : Mark) (list : List Entry) → IsOwn (content_of store) list → local_mark (content_of store) ≡ mark → IsOfMark mark list
@@ -25,5 +25,5 @@ own_stays old new seen list limit same own stands begins =
     record {
       stands = stands;
       legal = subst (λ (n : ℕ). IsLegal n list) (ap (λ (c : Content). c.limit) same ∙ limit) stands.legal;
-      places = subst (λ (l : List Entry). All (λ (e : Entry). e.origin.place ≡ 1) l) (sym is) own.places;
+      places = subst (λ (l : List Entry). All IsOwnEntry l) (sym is) own.places;
     }

@@ -1,55 +1,63 @@
 -- What a submit to the store of a single connection leads to.
-use Rattle.std.proofs.Common.{◌≡◌, ℕ, ◌+◌, ◌-◌, ◌≤◌, ◌<◌, ◌^◌, List, [], ◌∷◌, ◌++◌, length, refl, sym, ap, subst, ◌∙◌, Ok, arith, slice_index, inl, inr}
-use Rattle.std.proofs.lemmas.Bool.{cases_eq}
-use Rattle.std.proofs.lemmas.List.{get_or-set_same}
-use Rattle.std.proofs.lemmas.List.Elements.{Contains-append_right, All-append, All-cons, All-nil}
-use Rattle.std.specs.Prelude.{Contains}
+use Rattle.std.proofs.Common.{◌≡◌, ◌⊎◌, inl, inr, ℕ, ◌+◌, List, [], ◌∷◌, ◌++◌, refl, sym, ap, subst, ◌∙◌, Ok, Err, arith, append-nil}
+use Rattle.std.proofs.lemmas.List.Elements.{All-append, All-cons, All-nil}
 use Rattle.rs_message.specs.declared.entry.Entry.{Entry}
 use Rattle.rs_message.specs.declared.entry.Operation.{Operation}
+use Rattle.rs_message.specs.declared.fault.SubmitFault.{SubmitFault}
+use Rattle.rs_message.specs.declared.fault.SubmitFault.TheVariants as submit
+use Rattle.rs_store.specs.Adding.{Adds, NotAdds}
+use Rattle.rs_store.specs.Contents.{IsAdded}
+use Rattle.rs_store.specs.History.{IsLegal, Stands, cleaned, extended}
 use Rattle.rs_store.specs.declared.content.Content.{Content}
-use Rattle.rs_store.specs.Contents.{HasRoom, after, followed}
-use Rattle.rs_store.specs.History.{IsLegal, Stands}
-use Rattle.rs_store.proofs.Standing.{stands_more}
+use Rattle.rs_store.specs.declared.fault.Refusal.TheVariants as refusal
+use Rattle.rs_store.proofs.Adding.{adds, not_adds}
 use Rattle.rs_session.specs.Gate.{Extends, Submits}
-use Rattle.rs_session.specs.Local.{IsFull, local_mark, next_entry}
-use Rattle.rs_session.proofs.Submitting.{one_new}
+use Rattle.rs_session.specs.Local.{IsLeft, local_mark, next_entry}
+use Rattle.rs_session.proofs.Submitting.{next_serial_added, not_added, nothing_new, submitted}
 use Rattle.rs_program.specs.declared.own_store.TheConstants.{MAX_OWN_TOPICS}
-use Rattle.rs_program.specs.OwnStores.{IsOwn}
+use Rattle.rs_program.specs.OwnStores.{IsOwn, IsOwnEntry}
 
-below : (a b : ℕ) → ((a ≤ b → ⊥) → ⊥) → a ≤ b
-below a b h =
-    elim (cases_eq (a - b) 0) [
-      | inl e ↦ omega arith
-      | inr apart ↦ absurd (h (λ le. apart (omega arith)))
-    ]
+-- of a list with one own entry more
+more : (seen : List Entry) (e : Entry) → All IsOwnEntry seen → IsOwnEntry e → All IsOwnEntry (extended seen e)
+more seen e all one = All-append IsOwnEntry seen (e ∷ []) all (All-cons IsOwnEntry e [] one (All-nil IsOwnEntry))
 
-room : (c : Content) (e : Entry) → ((HasRoom c e → ⊥) → ⊥) → HasRoom c e
-room c e h =
-    let version : c.version + 1 + 1 ≤ 2 ^ 64 = below (c.version + 1 + 1) (2 ^ 64) (λ no. h (λ has. no (let k = has.1 in omega arith))) in
-    (below (length (after c.held e.operation)) c.limit (λ no. h (λ has. no has.0)), omega arith)
+-- of a list with a Sweep more
+clean : (seen : List Entry) (moment : ℕ) → All IsOwnEntry seen → All IsOwnEntry (cleaned moment seen)
+clean seen moment all = more seen _ all (inr (refl, refl))
 
--- if the store is not full, the next entry comes behind the list
-pub own_submitted : (old new : Content) (operation : Operation) (seen : List Entry) → old.limit ≡ MAX_OWN_TOPICS → (IsFull old operation → ⊥) → new ≡ followed old (next_entry old operation) → IsOwn old seen
+own : (c : Content) (list : List Entry) → c.limit ≡ MAX_OWN_TOPICS → Stands c list → All IsOwnEntry list → IsOwn c list
+own c list limit stands places = record { stands = stands; legal = subst (λ (n : ℕ). IsLegal n list) limit stands.legal; places = places }
+
+own_adds : (limit : ℕ) (new : Content) (seen : List Entry) (e : Entry) → new.limit ≡ MAX_OWN_TOPICS → All IsOwnEntry seen → IsOwnEntry e → Adds limit seen e (Stands new) → Adds limit seen e (IsOwn new)
+own_adds limit new seen e topics all one (inl a) = inl (a.0, own new (extended seen e) topics a.1 (more seen e all one))
+own_adds limit new seen e topics all one (inr a) = inr (a.0, own new (extended (cleaned a.0.message.received seen) e) topics a.1 (more (cleaned a.0.message.received seen) e (clean seen a.0.message.received all) one))
+
+own_not_adds : (limit : ℕ) (new : Content) (seen : List Entry) (e : Entry) → new.limit ≡ MAX_OWN_TOPICS → All IsOwnEntry seen → NotAdds limit seen e refusal.NoMemory (Stands new) → NotAdds limit seen e refusal.NoMemory (IsOwn new)
+own_not_adds limit new seen e topics all (inl n) = inl (n.0, own new seen topics n.1 all)
+own_not_adds limit new seen e topics all (inr (s, inl n)) = inr (s, inl (own new seen topics n all))
+own_not_adds limit new seen e topics all (inr (s, inr n)) = inr (s, inr (own new (cleaned s.message.received seen) topics n (clean seen s.message.received all)))
+
+limit_added : (c : Content) (e : Entry) (new : Content) → IsAdded c e new → new.limit ≡ c.limit
+limit_added c e new (inl a) = ap (λ (w : Content). w.limit) a.1
+limit_added c e new (inr a) = ap (λ (w : Content). w.limit) a.1
+
+-- the entry comes behind the list, perhaps after a Sweep
+pub own_submitted : (old new : Content) (operation : Operation) (seen : List Entry) → old.limit ≡ MAX_OWN_TOPICS → IsAdded old (next_entry old operation) new → IsOwn old seen
     → (list : List Entry) × IsOwn new list × Extends list seen × Submits operation (local_mark old) (local_mark new) (Ok tt) seen list
-own_submitted old new operation seen limit free is own =
-    let e : Entry = next_entry old operation in
-    let list : List Entry = seen ++ e ∷ [] in
-    let fits : 1 ≤ 64 = omega arith in
-    let next : slice_index old.serials 1 < slice_index old.serials 1 + 1 = omega arith in
-    let stands : Stands new list = subst (λ (c : Content). Stands c list) (sym is) (stands_more old seen e own.stands fits (next, room old e (λ no. free (inr no)))) in
-    let serial : slice_index new.serials 1 ≡ slice_index old.serials 1 + 1 =
-    ap (λ (c : Content). slice_index c.serials 1) is ∙ get_or-set_same old.serials 1 (slice_index old.serials 1 + 1) 0 (omega (arith, own.stands.wide)) in
-    let same : new.limit ≡ MAX_OWN_TOPICS = ap (λ (c : Content). c.limit) is ∙ limit in
-    let named = ap (λ (k : ℕ). let x : Entry = record { origin = record { place = 1; serial = k }; operation = operation } in x) (sym serial) in (
-      list,
-      record {
-        stands = stands;
-        legal = subst (λ (n : ℕ). IsLegal n list) same stands.legal;
-        places = All-append (λ (x : Entry). x.origin.place ≡ 1) seen (e ∷ []) own.places (All-cons (λ (x : Entry). x.origin.place ≡ 1) e [] refl (All-nil (λ (x : Entry). x.origin.place ≡ 1)));
-      },
-      (e ∷ [], refl),
-      record {
-        handed_over = one_new operation (local_mark new) seen e refl;
-        kept = record { entry = subst (Contains list) named (Contains-append_right seen (e ∷ []) e (0, omega arith, refl)); serial = omega (arith, serial) };
-      },
-    )
+own_submitted old new operation seen limit added o =
+    let e = next_entry old operation in
+    submitted (IsOwn new) old.limit old new operation seen (next_serial_added old new operation o.stands.wide added)
+    (own_adds old.limit new seen e (limit_added old e new added ∙ limit) o.places (inl refl) (adds old seen e new o.stands (omega arith) added))
+
+-- at most a Sweep comes
+pub own_left : (old new : Content) (operation : Operation) (fault : SubmitFault) (seen : List Entry) → old.limit ≡ MAX_OWN_TOPICS → IsLeft old operation fault new → IsOwn old seen
+    → (list : List Entry) × IsOwn new list × Extends list seen × Submits operation (local_mark old) (local_mark new) (Err fault) seen list
+own_left old new operation submit.Full seen limit is o = (seen, subst (λ (c : Content). IsOwn c seen) (sym is) o, ([], sym (append-nil seen)), record { handed_over = nothing_new operation (local_mark new) seen; kept = tt })
+own_left old new operation submit.NoMemory seen limit (inl is) o = (seen, subst (λ (c : Content). IsOwn c seen) (sym is) o, ([], sym (append-nil seen)), record { handed_over = nothing_new operation (local_mark new) seen; kept = tt })
+own_left old new operation submit.NoMemory seen limit (inr w) o =
+    let e = next_entry old operation in
+    not_added (IsOwn new) old.limit old new operation seen submit.NoMemory
+    (own_not_adds old.limit new seen e (ap (λ (c : Content). c.limit) w.1 ∙ limit) o.places (not_adds old seen e refusal.NoMemory new o.stands (omega arith) (omega arith) (inr (w.0, inr w.1))))
+own_left old new operation submit.Open seen limit no o = absurd no
+own_left old new operation submit.Strange seen limit no o = absurd no
+own_left old new operation submit.Closed seen limit no o = absurd no

@@ -1,7 +1,8 @@
 -- What the store of a single connection stands for.
-use Rattle.std.specs.Prelude.{◌≡◌, List}
+use Rattle.std.specs.Prelude.{◌≡◌, ◌⊎◌, true, List}
 use Rattle.std.specs.List.{All}
 use Rattle.rs_message.specs.declared.entry.Entry.{Entry}
+use Rattle.rs_message.specs.Messages.{is_sweep}
 use Rattle.rs_store.specs.declared.content.Content.{Content}
 use Rattle.rs_store.specs.History.{IsLegal, Stands}
 use Rattle.rs_session.specs.Local.{catalogue_of}
@@ -11,8 +12,12 @@ use Rattle.rs_program.specs.declared.own_store.TheConstants.{MAX_OWN_TOPICS}
 abbrev pub content_of : OwnStore → Content
 content_of store = catalogue_of store.gate
 
--- the content is that of the list, which is legal for its topics, and whose entries are of place 1
+-- it is of place 1, or a Sweep of the writer, whose place is 0
+abbrev pub IsOwnEntry : Entry → Type 0
+IsOwnEntry e = (e.origin.place ≡ 1) ⊎ ((e.origin.place ≡ 0) × (is_sweep e.operation ≡ true))
+
+-- the content is that of the list, which is legal for its topics, and whose entries are of place 1, but for Sweeps
 pub record IsOwn (c : Content) (history : List Entry) : Type 0 where
   pub stands : Stands c history
   pub legal : IsLegal MAX_OWN_TOPICS history
-  pub places : All (λ e. e.origin.place ≡ 1) history
+  pub places : All IsOwnEntry history

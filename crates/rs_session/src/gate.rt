@@ -1,7 +1,8 @@
 //! The store as a session sees it.
 
-ghost use Rattle.std.specs.Prelude.{◌≡◌, List, IfOk};
+ghost use Rattle.std.specs.Prelude.{◌≡◌, false, List, IfOk};
 ghost use Rattle.std.specs.Option.{option_map};
+ghost use Rattle.rs_message.specs.Messages.{is_sweep};
 ghost use Rattle.rs_message.specs.declared.entry.Entry.{Entry};
 ghost use Rattle.rs_store.specs.History.{IsAnswer, IsAnswerWithin};
 ghost use Rattle.rs_session.specs.Gate.{Mark, Grows, Uses, Submits};
@@ -19,10 +20,11 @@ pub trait Gate {
     /// Its place, and the last serial that it used.
     ghost mark: { Self → Mark };
 
-    /// Hands a change to the store. At `Ok` the list has it as an entry of its own. The faults say what stands
+    /// Hands a Set or a Clear to the store. At `Ok` the list has it as an entry of its own. The faults say what stands
     /// otherwise; the list may have grown by entries of others. Whatever is answered, no other change than this one
     /// becomes an entry under the serial that the gate used last.
     fn submit(&mut self, operation: Operation) -> Result<(), SubmitFault>
+        requires { is_sweep operation ≡ false }
         ensures list { Grows (stands self.old) (stands self.new) (Submits operation (mark self.old) (mark self.new) result) }
         ensures mark { Uses (mark self.old) (mark self.new) };
 

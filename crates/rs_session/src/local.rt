@@ -1,11 +1,12 @@
 //! A gate with a catalogue of its own.
 
-ghost use Rattle.std.specs.Prelude.{◌≡◌, ◌↔◌, [], List, IfOk, IfErr, OnErr, OnOk, Err, ◌⊎◌};
+ghost use Rattle.std.specs.Prelude.{◌≡◌, ◌↔◌, [], false, List, IfOk, IfErr, OnOk, Err};
 ghost use Rattle.std.specs.Option.{option_map};
-ghost use Rattle.rs_store.specs.Contents.{empty, followed};
+ghost use Rattle.rs_message.specs.Messages.{is_sweep};
+ghost use Rattle.rs_store.specs.Contents.{IsAdded, empty};
 ghost use Rattle.rs_store.specs.History.{IsAnswer, IsAnswerWithin, Stands};
 ghost use Rattle.rs_session.specs.Gate.{Grows, Uses, Submits};
-ghost use Rattle.rs_session.specs.Local.{catalogue_of, local_mark, next_entry, IsFull};
+ghost use Rattle.rs_session.specs.Local.{catalogue_of, local_mark, next_entry, IsFull, IsLeft};
 
 use crate::gate::Gate;
 use rs_message::{Entry, Found, Operation, Origin, SubmitFault};
@@ -50,16 +51,16 @@ impl<C: Catalogue> Gate for LocalGate<C> {
 
     ghost mark = { λ gate. local_mark (C.content (catalogue_of gate)) };
 
-    /// `Full` if no serial is left or the store has no room, `NoMemory` if memory is refused.
-    /// Refused, the store is as before.
+    /// `Full` if no serial is left or the store has no room, `NoMemory` if memory is refused. A Set for which a Sweep makes room is
+    /// preceded by that Sweep. Refused, the store is as before, but that this Sweep may stay if memory is refused.
     fn submit(&mut self, operation: Operation) -> Result<(), SubmitFault>
+        requires { is_sweep operation ≡ false }
         ensures list { Grows (Stands (C.content (catalogue_of self.old))) (Stands (C.content (catalogue_of self.new)))
             (Submits operation (local_mark (C.content (catalogue_of self.old))) (local_mark (C.content (catalogue_of self.new))) result) }
         ensures mark { Uses (local_mark (C.content (catalogue_of self.old))) (local_mark (C.content (catalogue_of self.new))) }
         ensures full { (result ≡ Err SubmitFault.Full) ↔ IsFull (C.content (catalogue_of self.old)) operation }
-        ensures faults { IfErr result (λ fault. (fault ≡ SubmitFault.Full) ⊎ (fault ≡ SubmitFault.NoMemory)) }
-        ensures done { OnOk result (C.content (catalogue_of self.new) ≡ followed (C.content (catalogue_of self.old)) (next_entry (C.content (catalogue_of self.old)) operation)) }
-        ensures refused { OnErr result (C.content (catalogue_of self.new) ≡ C.content (catalogue_of self.old)) }
+        ensures done { OnOk result (IsAdded (C.content (catalogue_of self.old)) (next_entry (C.content (catalogue_of self.old)) operation) (C.content (catalogue_of self.new))) }
+        ensures refused { IfErr result (λ fault. IsLeft (C.content (catalogue_of self.old)) operation fault (C.content (catalogue_of self.new))) }
     {
         let last = self.catalogue.last_serial(PLACE);
         if last == u64::MAX {

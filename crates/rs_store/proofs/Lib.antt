@@ -1,9 +1,11 @@
+pub mod Adding
 pub mod Buckets
 pub mod Chains
 pub mod Choosing
 pub mod Clearing
 pub mod Copying
 pub mod Entries
+pub mod Expiring
 pub mod Growing
 pub mod Histories
 pub mod Joining
@@ -15,4 +17,5 @@ pub mod Sent
 pub mod Standing
 pub mod Stems
 pub mod Stopping
+pub mod Sweeping
 pub mod Trees

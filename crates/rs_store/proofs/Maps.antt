@@ -1,8 +1,8 @@
 -- How an operation changes the number of topics that hold a message.
-use Rattle.std.proofs.Common.{◌≡◌, ℕ, ◌+◌, ◌<◌, ◌≤◌, inl, inr, Bool, true, false, List, [], ◌∷◌, ◌++◌, length, refl, sym, ap, subst, ◌∙◌, arith, append_assoc, fold, Option, Some, None, is_some}
+use Rattle.std.proofs.Common.{◌≡◌, ℕ, ◌+◌, ◌<◌, ◌≤◌, inl, inr, Bool, true, false, cond, List, [], ◌∷◌, ◌++◌, length, refl, sym, ap, subst, ◌∙◌, arith, append_assoc, fold, Option, Some, None, is_some}
 use Rattle.std.specs.Prelude.{nat_le}
 use Rattle.std.specs.Option.{unwrap_or, option_map}
-use Rattle.std.specs.List.{sum_by}
+use Rattle.std.specs.List.{filter, sum_by}
 use Rattle.std.specs.List.Sorted.{IsStrictlySortedBy}
 use Rattle.std.specs.Map.{keys_of, values_of, lookup, remove_entry}
 use Rattle.std.specs.BTreeMap.{insert_entry, is_at}
@@ -69,6 +69,17 @@ no_room held k v limit sorted full new = le_false (length (insert_entry topic_cm
 
 pub room_after_clear : (test : List ℕ → Bool) (held : Held) (limit : ℕ) → length held ≤ limit → nat_le (length (remove_entry test held)) limit ≡ true
 room_after_clear test held limit fits = le_true (length (remove_entry test held)) limit (omega (arith, fits, remove_le test held))
+
+pub filter_few : {A : Type 0} (p : A → Bool) (xs : List A) → length (filter p xs) ≤ length xs
+filter_few p [] = omega arith
+filter_few p (x ∷ xs) = at (p x) (filter_few p xs)
+  where
+    at : (b : Bool) → length (filter p xs) ≤ length xs → length (cond b (x ∷ filter p xs) (filter p xs)) ≤ length (x ∷ xs)
+    at true few = omega (arith, few)
+    at false few = omega (arith, few)
+
+pub room_after_sweep : (p : List ℕ × MessageValue → Bool) (held : Held) (limit : ℕ) → length held ≤ limit → nat_le (length (filter p held)) limit ≡ true
+room_after_sweep p held limit fits = le_true (length (filter p held)) limit (omega (arith, fits, filter_few p held))
 
 -- ---- a removal
 

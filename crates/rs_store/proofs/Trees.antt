@@ -16,15 +16,16 @@ use Rattle.rs_message.specs.Messages.{is_expired}
 use Rattle.rs_message.specs.declared.entry.Found.{Found}
 use Rattle.rs_topic.specs.Matching.{begins_with_dollar}
 use Rattle.rs_message.specs.declared.entry.Operation.{Operation}
-use Rattle.rs_message.specs.declared.entry.Operation.TheVariants.{Set, Clear}
-use Rattle.rs_store.specs.Contents.{after, found_of, is_answered}
+use Rattle.rs_message.specs.declared.entry.Operation.TheVariants.{Set, Clear, Sweep}
+use Rattle.rs_store.specs.Contents.{after, found_of, is_answered, is_gone, stays}
+use Rattle.rs_store.specs.Sweeping.{is_spot_gone, spot_stays}
 use Rattle.rs_store.specs.Trees.{IsTree}
 use Rattle.rs_store.specs.Chosen.{chosen_at_root, is_matched, is_dollar}
 use Rattle.rs_store.proofs.Places.{from_start}
 use Rattle.rs_store.specs.Spots.{Spot, ArePlaced, levels_from, pair_of, pairs, is_there}
 use Rattle.std.specs.Prelude.{nat_le}
-use Rattle.rs_store.proofs.Entries.{sorted_none, sorted_insert, sorted_remove}
-use Rattle.rs_store.proofs.Maps.{insert_old, insert_new, remove_there, remove_absent, room_if_few, room_after_clear}
+use Rattle.rs_store.proofs.Entries.{sorted_none, sorted_insert, sorted_remove, sorted_filter}
+use Rattle.rs_store.proofs.Maps.{insert_old, insert_new, remove_there, remove_absent, room_if_few, room_after_clear, room_after_sweep}
 
 -- ---- a Set
 
@@ -138,6 +139,7 @@ is_tree root new operation count limit n t placed is counted few = record {
     sorted : (operation : Operation) → IsStrictlySortedBy topic_cmp (keys_of (after (pairs root) operation))
     sorted (Set topic message) = sorted_insert topic_cmp topic_total (pairs root) topic message t.sorted
     sorted (Clear topic) = sorted_remove topic_cmp (is_at (topic_cmp topic)) (pairs root) t.sorted
+    sorted (Sweep moment) = sorted_filter topic_cmp (stays moment) (pairs root) t.sorted
 
 pub empty_tree : (root : List Spot) (limit : ℕ) → root ≡ [] → IsTree root 0 limit
 empty_tree root limit h = rw h (record { placed = tt; sorted = sorted_none topic_cmp; counted = refl; fits = omega arith })
@@ -145,3 +147,42 @@ empty_tree root limit h = rw h (record { placed = tt; sorted = sorted_none topic
 pub room_below : (root : List Spot) (operation : Operation) (count limit : ℕ) → IsTree root count limit → count < limit → true ≡ nat_le (length (after (pairs root) operation)) limit
 room_below root (Set topic message) count limit t few = sym (room_if_few (pairs root) topic message limit t.sorted (omega (arith, t.counted, few)))
 room_below root (Clear topic) count limit t few = sym (room_after_clear (is_at (topic_cmp topic)) (pairs root) limit (omega (arith, t.counted, t.fits)))
+room_below root (Sweep moment) count limit t few = sym (room_after_sweep (stays moment) (pairs root) limit (omega (arith, t.counted, t.fits)))
+
+-- ---- a Sweep
+
+pub pairs_gone : (now : ℕ) (ss : List Spot) → length (filter (is_gone now) (pairs ss)) ≡ length (filter (is_spot_gone now) ss)
+pairs_gone now [] = refl
+pairs_gone now (s ∷ ss) = at (is_spot_gone now s) refl (pairs_gone now ss)
+  where
+    at : (b : Bool) → is_spot_gone now s ≡ b → length (filter (is_gone now) (pairs ss)) ≡ length (filter (is_spot_gone now) ss) → length (filter (is_gone now) (pairs (s ∷ ss))) ≡ length (filter (is_spot_gone now) (s ∷ ss))
+    at true is more = rw is (omega (arith, more))
+    at false is more = rw is more
+
+pub pairs_swept : (moment : ℕ) (ss : List Spot) → pairs (filter (spot_stays moment) ss) ≡ filter (stays moment) (pairs ss)
+pairs_swept moment [] = refl
+pairs_swept moment (s ∷ ss) = at (spot_stays moment s) refl (pairs_swept moment ss)
+  where
+    at : (b : Bool) → spot_stays moment s ≡ b → pairs (filter (spot_stays moment) ss) ≡ filter (stays moment) (pairs ss) → pairs (filter (spot_stays moment) (s ∷ ss)) ≡ filter (stays moment) (pairs (s ∷ ss))
+    at true is more = rw is (ap (λ (l : List (List ℕ × MessageValue)). pair_of s ∷ l) more)
+    at false is more = rw is more
+
+pub placed_swept : (moment : ℕ) (ss : List Spot) → ArePlaced ss → ArePlaced (filter (spot_stays moment) ss)
+placed_swept moment [] a = tt
+placed_swept moment (s ∷ ss) a = at (spot_stays moment s) refl (placed_swept moment ss a.1)
+  where
+    at : (b : Bool) → spot_stays moment s ≡ b → ArePlaced (filter (spot_stays moment) ss) → ArePlaced (filter (spot_stays moment) (s ∷ ss))
+    at true is more = rw is (a.0, more)
+    at false is more = rw is more
+
+-- those that stay and those that do not are all
+pub all_counted : (moment : ℕ) (held : List (List ℕ × MessageValue)) → length (filter (stays moment) held) + length (filter (is_gone moment) held) ≡ length held
+all_counted moment [] = refl
+all_counted moment (e ∷ es) = at (is_gone moment e) refl (all_counted moment es)
+  where
+    at : (b : Bool) → is_gone moment e ≡ b → length (filter (stays moment) es) + length (filter (is_gone moment) es) ≡ length es → length (filter (stays moment) (e ∷ es)) + length (filter (is_gone moment) (e ∷ es)) ≡ length (e ∷ es)
+    at true is more = rw is (omega (arith, more))
+    at false is more = rw is (omega (arith, more))
+
+pub room_swept : (root : List Spot) (moment count limit : ℕ) → IsTree root count limit → true ≡ nat_le (length (filter (stays moment) (pairs root))) limit
+room_swept root moment count limit t = sym (room_after_sweep (stays moment) (pairs root) limit (omega (arith, t.counted, t.fits)))

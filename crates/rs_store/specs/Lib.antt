@@ -1,14 +1,17 @@
+pub mod Adding
 pub mod Buckets
 pub mod Chains
 pub mod Chosen
 pub mod Codes
 pub mod Contents
 pub mod Depths
+pub mod Expiring
 pub mod History
 pub mod Law
 pub mod Maps
 pub mod Nodes
 pub mod Room
 pub mod Spots
+pub mod Sweeping
 pub mod Trees
 pub mod Weights

@@ -15,7 +15,9 @@ ghost use Rattle.rs_store.specs.Spots.{IsFull, is_nothing, is_there, levels_from
 mod answers;
 #[cfg(test)]
 mod count;
+mod earliest;
 mod join;
+mod sweep;
 
 use crate::bucket::Bucket;
 use crate::chain::{behind, shared_levels};

@@ -1,18 +1,23 @@
 //! A few messages below one place of the tree, in the order of replay.
 
-ghost use Rattle.std.specs.Prelude.{◌≡◌, ◌++◌, ◌<◌, ◌≤◌, [], ◌∷◌, false, length, IfErr, IfOk, IfSome, IsTrue, MatchResult, OnErr, OnOk};
+ghost use Rattle.std.specs.Prelude.{◌≡◌, ◌+◌, ◌++◌, ◌<◌, ◌≤◌, [], ◌∷◌, false, length, IfErr, IfOk, IfSome, IsTrue, MatchResult, OnErr, OnOk};
 ghost use Rattle.std.specs.BTreeMap.{insert_entry, is_at};
+ghost use Rattle.std.specs.List.{filter};
 ghost use Rattle.std.specs.List.Sorted.{IsStrictlySortedBy};
 ghost use Rattle.std.specs.Map.{keys_of, remove_entry};
 ghost use Rattle.rs_topic.specs.Order.{path_cmp};
 ghost use Rattle.rs_store.specs.Buckets.{IsGap, IsHere, spots_in};
 ghost use Rattle.rs_store.specs.Chains.{under_all};
 ghost use Rattle.rs_store.specs.Chosen.{chosen};
+ghost use Rattle.rs_store.specs.Expiring.{earliest};
 ghost use Rattle.rs_store.specs.Room.{IsStop};
 ghost use Rattle.rs_store.specs.Spots.{is_nothing, is_there, levels_from, spot_of, under};
+ghost use Rattle.rs_store.specs.Sweeping.{is_spot_gone, spot_stays};
+ghost use Rattle.rs_store.specs.declared.limit.TheConstants.{MAX_TOPICS};
 
 use crate::answer::{Answer, Stop};
 use crate::chain::shared_levels;
+use crate::found::{is_expired, lowered};
 use crate::leaf::Leaf;
 use rs_message::Found;
 use std::alloc::{AllocError, Global};
@@ -111,6 +116,35 @@ fn risen(
     Ok(Some(higher))
 }
 
+/// Counts the messages that are expired.
+fn count_each(leaves: &[Leaf], now: u64, count: &mut u32)
+    ensures { count.old + length (spots_in leaves.now) ≤ MAX_TOPICS → count.new ≡ count.old + length (filter (is_spot_gone now) (spots_in leaves.now)) }
+{
+    for leaf in leaves {
+        if is_expired(&leaf.found.message, now) {
+            *count = count.saturating_add(1);
+        }
+    }
+}
+
+/// A bound, or the first moment at which one of the messages is expired if that is earlier.
+fn lowered_by_each(leaves: &[Leaf], bound: u64) -> u64
+    ensures { result ≡ earliest bound (spots_in leaves.now) }
+{
+    let mut least = bound;
+    for leaf in leaves {
+        least = lowered(least, &leaf.found.message);
+    }
+    least
+}
+
+/// Removes the messages that are expired.
+fn sweep_each(leaves: &mut Vec<Leaf>, moment: u64)
+    ensures { spots_in leaves.new.items ≡ filter (spot_stays moment) (spots_in leaves.old.items) }
+{
+    leaves.retain(|leaf| !is_expired(&leaf.found.message, moment));
+}
+
 impl Bucket {
     pub fn new(alloc: Global) -> Bucket
         ensures { result ≡ [] }
@@ -179,6 +213,28 @@ impl Bucket {
             }
             Err(_) => false,
         }
+    }
+
+    /// Adds how many of its messages are expired.
+    pub fn expired(&self, now: u64, count: &mut u32)
+        ensures { count.old + length self.now ≤ MAX_TOPICS → count.new ≡ count.old + length (filter (is_spot_gone now) self.now) }
+    {
+        count_each(self.leaves.as_slice(), now, count);
+    }
+
+    /// A bound, or the first moment at which one of its messages is expired if that is earlier.
+    pub fn earliest(&self, bound: u64) -> u64
+        ensures { result ≡ earliest bound self.now }
+    {
+        lowered_by_each(self.leaves.as_slice(), bound)
+    }
+
+    /// Removes the messages that are expired.
+    pub fn sweep(&mut self, moment: u64)
+        ensures { self.new ≡ filter (spot_stays moment) self.old }
+    {
+        sweep_each(&mut self.leaves, moment);
+        self.leaves.shrink_to_fit();
     }
 
     /// There is a message at this rest of a topic.

@@ -1,15 +1,18 @@
 //! The interface of a catalogue.
 
-ghost use Rattle.std.specs.Prelude.{◌≡◌, List, ◌∷◌, [], ◌++◌, length, slice_index, MatchResult, OnOk, OnErr, IfOk, IfErr};
+ghost use Rattle.std.specs.Prelude.{◌≡◌, ◌⊎◌, ◌<◌, ◌≤◌, false, List, length, slice_index, MatchBool, MatchOption, MatchResult, OnOk, OnErr, IfNone, IfOk, IfErr, IfSome};
 ghost use Rattle.std.specs.Option.{option_map};
 ghost use Rattle.rs_message.specs.declared.entry.Entry.{Entry};
 ghost use Rattle.rs_store.specs.declared.content.Content.{Content};
-ghost use Rattle.rs_store.specs.Contents.{Accepts, NotAddedBy, RefusedBy, answer_in, answer_within, empty, followed};
-ghost use Rattle.rs_store.specs.History.{IsLegal, MayNotFollow, Stands};
+ghost use Rattle.rs_store.specs.Contents.{Accepts, IsAdded, IsNotNext, IsSwept, NotAddedBy, RefusedBy, answer_in, answer_within, empty, expired_in, followed, next_sweep, serial_count, swept};
+ghost use Rattle.rs_message.specs.Messages.{is_sweep};
+ghost use Rattle.rs_store.specs.History.{IsLegal, IsSweptFor, MayNotCome, Stands, cleaned, extended};
+ghost use Rattle.rs_store.specs.Adding.{Adds, NotAdds};
+ghost use Rattle.rs_store.specs.declared.fault.Refusal.TheVariants.{Full};
 
 use crate::fault::Refusal;
 use crate::limit::TopicLimit;
-use rs_message::{Entry, Found};
+use rs_message::{Entry, Found, Operation, Origin};
 use rs_topic::TopicFilter;
 use std::alloc::{AllocError, Global};
 
@@ -51,30 +54,121 @@ pub trait Catalogue {
     fn version(&self) -> u64
         ensures { result ≡ (content self.now).version };
 
-    /// The last serial of a place, or 0 if it has none.
+    /// The last serial of a place, or of the writer (place 0), or 0 if it has none.
     fn last_serial(&self, place: u8) -> u64
-        ensures { result ≡ slice_index (content self.now).serials place };
+        ensures value { result ≡ slice_index (content self.now).serials place }
+        ensures wide { length (content self.now).serials ≡ serial_count };
 
-    /// The number of topics that hold a message.
+    /// The number of topics that hold a message, at most the limit.
     fn count(&self) -> u32
-        ensures { result ≡ length (content self.now).held };
+        ensures value { result ≡ length (content self.now).held }
+        ensures few { result ≤ (content self.now).limit };
+
+    /// The number of topics whose message is expired at a moment, in seconds.
+    fn expired(&self, now: u64) -> u32
+        ensures { result ≡ expired_in now (content self.now) };
+
+    /// Whether a message is expired at a moment, in seconds. A catalogue may keep what it finds, so that it need not look at all
+    /// messages each time that it is asked.
+    fn has_expired(&mut self, now: u64) -> bool
+        ensures told { MatchBool result (0 < expired_in now (content self.old)) (expired_in now (content self.old) ≡ 0) }
+        ensures same { content self.new ≡ content self.old };
 
     /// A catalogue of the same content. It shares the bytes of topics, texts and payloads, which are counted references.
     fn copy(&self) -> Result<Self, AllocError>
         ensures { IfOk result (λ c. content c ≡ content self.now) };
 }
 
-/// Appends an entry. Rejects it as `Stale` or `Full`, as [`Catalogue::accepts`] does and without an allocation, else as `NoMemory`
-/// if memory is refused. A rejected entry changes nothing.
-pub fn add<C: Catalogue>(catalogue: &mut C, entry: Entry) -> Result<(), Refusal>
-    ensures done { OnOk result (Accepts (C.content catalogue.old) entry × (C.content catalogue.new ≡ followed (C.content catalogue.old) entry)) }
-    ensures refused { IfErr result (λ r. NotAddedBy (C.content catalogue.old) entry r × (C.content catalogue.new ≡ C.content catalogue.old)) }
-    ensures stands { (history : List Entry) → Stands (C.content catalogue.old) history → MatchResult result
-        (λ _. IsLegal (C.content catalogue.old).limit (history ++ entry ∷ []) × Stands (C.content catalogue.new) (history ++ entry ∷ []))
-        (λ r. MayNotFollow (C.content catalogue.old).limit history entry r × Stands (C.content catalogue.new) history) }
+/// The Sweep after which a Set that is one topic too many finds room, or `None`.
+fn sweep_for<C: Catalogue>(catalogue: &mut C, entry: &Entry) -> Option<Entry>
+    requires { RefusedBy (C.content catalogue.old) entry.now Full }
+    ensures same { C.content catalogue.new ≡ C.content catalogue.old }
+    ensures some { IfSome result (λ sweep. (s : IsSwept (C.content catalogue.old) entry.now) × (sweep ≡ next_sweep s.message.received (C.content catalogue.old))) }
+    ensures none { IfNone result (¬ IsSwept (C.content catalogue.old) entry.now) }
 {
+    let Operation::Set(_, message) = &entry.operation else {
+        return None;
+    };
+    let moment = message.received();
+    // For the proof: this call says that no more topics than the limit hold a message.
+    let _count = catalogue.count();
+    if catalogue.version() >= u64::MAX - 1 {
+        return None;
+    }
+    let last = catalogue.last_serial(0);
+    if last == u64::MAX {
+        return None;
+    }
+    let serial = last + 1;
+    if entry.origin.place() == 0 && entry.origin.serial() <= serial {
+        return None;
+    }
+    if !catalogue.has_expired(moment) {
+        return None;
+    }
+    let origin = Origin::of_writer(serial)?;
+    Some(Entry {
+        origin,
+        operation: Operation::Sweep(moment),
+    })
+}
+
+/// Whether an entry may come next: `Ok(None)` if it may, and `Ok` with a Sweep if it may come after this Sweep and not without it.
+/// That is so for a Set that is one topic too many, if a Sweep of the moment at which its message came leaves room for it. Else it is
+/// refused as by [`Catalogue::accepts`]. Allocates nothing.
+pub fn judge<C: Catalogue>(catalogue: &mut C, entry: &Entry) -> Result<Option<Entry>, Refusal>
+    ensures same { C.content catalogue.new ≡ C.content catalogue.old }
+    ensures next { IfOk result (λ before. MatchOption before (Accepts (C.content catalogue.old) entry.now)
+        (λ sweep. (s : IsSwept (C.content catalogue.old) entry.now) × (sweep ≡ next_sweep s.message.received (C.content catalogue.old)))) }
+    ensures refused { IfErr result (λ r. IsNotNext (C.content catalogue.old) entry.now r) }
+    ensures stands { (history : List Entry) → Stands (C.content catalogue.old) history → MatchResult result
+        (λ before. MatchOption before (IsLegal (C.content catalogue.old).limit (extended history entry.now))
+        (λ sweep. (s : IsSweptFor (C.content catalogue.old).limit history entry.now) × (extended history sweep ≡ cleaned s.message.received history)))
+        (λ r. MayNotCome (C.content catalogue.old).limit history entry.now r) }
+{
+    // For the proof: these calls say which places and serials an origin may have.
     let (_place, _serial) = (entry.origin.place(), entry.origin.serial());
-    if let Err(refusal) = catalogue.accepts(&entry) {
+    match catalogue.accepts(entry) {
+        Ok(()) => Ok(None),
+        Err(Refusal::Full) => match sweep_for(catalogue, entry) {
+            Some(sweep) => Ok(Some(sweep)),
+            None => Err(Refusal::Full),
+        },
+        Err(Refusal::Stale) => Err(Refusal::Stale),
+        Err(Refusal::NoMemory) => Err(Refusal::NoMemory),
+    }
+}
+
+/// Appends the Sweep that comes before an entry, if there is one.
+fn make_room<C: Catalogue>(catalogue: &mut C, entry: &Entry) -> Result<(), Refusal>
+    ensures done { OnOk result ((Accepts (C.content catalogue.old) entry.now × (C.content catalogue.new ≡ C.content catalogue.old))
+        ⊎ ((s : IsSwept (C.content catalogue.old) entry.now) × (C.content catalogue.new ≡ swept s.message.received (C.content catalogue.old)))) }
+    ensures refused { IfErr result (λ r. NotAddedBy (C.content catalogue.old) entry.now r (C.content catalogue.new)) }
+{
+    match judge(catalogue, entry) {
+        Ok(None) => Ok(()),
+        Ok(Some(sweep)) => match catalogue.apply(sweep) {
+            Ok(()) => Ok(()),
+            Err(AllocError) => Err(Refusal::NoMemory),
+        },
+        Err(refusal) => Err(refusal),
+    }
+}
+
+/// Appends an entry that is no Sweep. Rejects it as `Stale` or `Full`, as [`judge`] does and without an allocation, else as
+/// `NoMemory` if memory is refused. If it may come only after a Sweep, the Sweep is appended first. A rejected entry changes
+/// nothing, but that this Sweep may stay if memory is refused.
+pub fn add<C: Catalogue>(catalogue: &mut C, entry: Entry) -> Result<(), Refusal>
+    requires { is_sweep entry.operation ≡ false }
+    ensures done { OnOk result (IsAdded (C.content catalogue.old) entry (C.content catalogue.new)) }
+    ensures refused { IfErr result (λ r. NotAddedBy (C.content catalogue.old) entry r (C.content catalogue.new)) }
+    ensures stands { (history : List Entry) → Stands (C.content catalogue.old) history → MatchResult result
+        (λ _. Adds (C.content catalogue.old).limit history entry (Stands (C.content catalogue.new)))
+        (λ r. NotAdds (C.content catalogue.old).limit history entry r (Stands (C.content catalogue.new))) }
+{
+    // For the proof: these calls say which places and serials an origin may have.
+    let (_place, _serial) = (entry.origin.place(), entry.origin.serial());
+    if let Err(refusal) = make_room(catalogue, &entry) {
         return Err(refusal);
     }
     match catalogue.apply(entry) {

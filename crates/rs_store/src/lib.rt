@@ -24,10 +24,10 @@ mod map;
 mod tests;
 mod tree;
 
-pub use catalogue::{Catalogue, add};
+pub use catalogue::{Catalogue, add, judge};
 pub use content::Content;
 pub use fault::Refusal;
-pub use law::content_law;
+pub use law::{content_law, sweep_law};
 pub use limit::{MAX_TOPICS, TopicLimit};
 pub use map::MapCatalogue;
 pub use tree::TreeCatalogue;

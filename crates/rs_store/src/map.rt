@@ -4,8 +4,9 @@ ghost use Rattle.std.specs.Prelude.{◌≡◌, ◌≤◌, ◌++◌, nat_le, leng
 ghost use Rattle.std.specs.Option.{option_map};
 ghost use Rattle.std.specs.List.{filter as filter_list};
 ghost use Rattle.rs_topic.specs.Matching.{matches};
-ghost use Rattle.rs_store.specs.Contents.{after, found_of, if_fits, is_answered};
+ghost use Rattle.rs_store.specs.Contents.{after, found_of, if_fits, is_answered, is_gone, stays};
 ghost use Rattle.rs_store.specs.Room.{IsStop};
+ghost use Rattle.rs_store.specs.declared.limit.TheConstants.{MAX_TOPICS};
 
 use crate::answer::{Answer, Stop};
 use crate::catalogue::Catalogue;
@@ -27,13 +28,20 @@ pub struct MapCatalogue {
     alloc: Global,
     limit: TopicLimit,
     held: BTreeMap<TopicName, Message>,
-    // Indexed by place.
+    // Indexed by place. The writer's is at 0.
     serials: [u64; SERIALS],
     version: u64,
     ghost fits: { length held.entries ≤ limit },
 }
 
-/// Sets or clears one topic. If memory is refused, nothing changes.
+/// Removes the messages that are expired.
+fn sweep(held: &mut BTreeMap<TopicName, Message>, moment: u64)
+    ensures { held.new.entries ≡ filter_list (stays moment) held.old.entries }
+{
+    held.retain(|_, message| !is_expired(message, moment));
+}
+
+/// Sets or clears one topic, or removes what is expired. If memory is refused, nothing changes.
 fn change(held: &mut BTreeMap<TopicName, Message>, operation: Operation) -> Result<(), AllocError>
     ensures done { OnOk result (held.new.entries ≡ after held.old.entries operation) }
     ensures refused { OnErr result (held.new.entries ≡ held.old.entries) }
@@ -47,11 +55,15 @@ fn change(held: &mut BTreeMap<TopicName, Message>, operation: Operation) -> Resu
             held.remove(&topic);
             Ok(())
         }
+        Operation::Sweep(moment) => {
+            sweep(held, moment);
+            Ok(())
+        }
     }
 }
 
 /// At most `limit` topics hold a message after the operation.
-#[tactic(auto, using(crate::proofs::Maps::room_if_few, crate::proofs::Maps::room_if_there, crate::proofs::Maps::no_room, crate::proofs::Maps::room_after_clear))]
+#[tactic(auto, using(crate::proofs::Maps::room_if_few, crate::proofs::Maps::room_if_there, crate::proofs::Maps::no_room, crate::proofs::Maps::room_after_clear, crate::proofs::Maps::room_after_sweep))]
 fn has_room(held: &BTreeMap<TopicName, Message>, limit: TopicLimit, operation: &Operation) -> bool
     requires { length held.now.entries ≤ limit }
     ensures { result ≡ nat_le (length (after held.now.entries operation.now)) limit }
@@ -61,7 +73,22 @@ fn has_room(held: &BTreeMap<TopicName, Message>, limit: TopicLimit, operation: &
             held.len() < limit.get() as usize || held.contains_key(topic)
         }
         Operation::Clear(_) => true,
+        Operation::Sweep(_) => true,
     }
+}
+
+/// How many of the messages are expired.
+fn count_expired(held: &BTreeMap<TopicName, Message>, now: u64) -> u32
+    requires { length held.now.entries ≤ MAX_TOPICS }
+    ensures { result ≡ length (filter_list (is_gone now) held.now.entries) }
+{
+    let mut count = 0;
+    for (_, message) in held {
+        if is_expired(message, now) {
+            count += 1;
+        }
+    }
+    count
 }
 
 fn does_match(filter: &TopicFilter, topic: &TopicName) -> bool
@@ -119,6 +146,14 @@ fn copy_of(
         change(&mut copy, Operation::Set(topic.copy()?, message.copy()?))?;
     }
     Ok(copy)
+}
+
+impl MapCatalogue {
+    /// Goes on with the greatest version.
+    #[cfg(test)]
+    pub(crate) fn end_versions(&mut self) {
+        self.version = u64::MAX;
+    }
 }
 
 impl Catalogue for MapCatalogue {
@@ -189,6 +224,15 @@ impl Catalogue for MapCatalogue {
     fn count(&self) -> u32 {
         let _limit = self.limit.get();
         self.held.len() as u32
+    }
+
+    fn expired(&self, now: u64) -> u32 {
+        let _limit = self.limit.get();
+        count_expired(&self.held, now)
+    }
+
+    fn has_expired(&mut self, now: u64) -> bool {
+        self.expired(now) > 0
     }
 
     fn copy(&self) -> Result<MapCatalogue, AllocError> {

@@ -14,12 +14,26 @@ use std::process::Abort;
 use std::test::Fail;
 
 mod alike;
+mod sweeps;
 
 /// A message that came at 100.
-#[tactic(auto, using(rs_message::proofs::Sizes::small_message))]
 fn message(
     alloc: Global,
     payload: &'static [u8],
+    expiry: Option<u32>,
+) -> Result<Message, AllocError>
+    requires some { payload.now ≢ [] }
+    requires small { length payload.now ≤ 1000 }
+{
+    message_at(alloc, payload, 100, expiry)
+}
+
+/// A message that came at a moment.
+#[tactic(auto, using(rs_message::proofs::Sizes::small_message))]
+fn message_at(
+    alloc: Global,
+    payload: &'static [u8],
+    received: u64,
     expiry: Option<u32>,
 ) -> Result<Message, AllocError>
     requires some { payload.now ≢ [] }
@@ -29,7 +43,7 @@ fn message(
         alloc,
         Bytes::from_static(payload),
         Qos::AtLeastOnce,
-        100,
+        received,
         expiry,
         Properties::none(),
     )

@@ -1,13 +1,15 @@
 //! A catalogue in a tree of levels.
 
-ghost use Rattle.std.specs.Prelude.{◌≡◌, ◌≤◌, nat_le, length, map, slice_index, IfOk, OnOk, OnErr};
+ghost use Rattle.std.specs.Prelude.{◌≡◌, ℕ, ◌-◌, ◌^◌, ◌≤◌, List, nat_le, length, map, slice_index, IfOk, OnOk, OnErr};
 ghost use Rattle.std.specs.List.{filter as filter_list};
 ghost use Rattle.std.specs.List.Sorted.{IsStrictlySortedBy};
 ghost use Rattle.std.specs.BTreeMap.{insert_entry, is_at};
 ghost use Rattle.std.specs.Option.{option_map};
 ghost use Rattle.std.specs.Map.{keys_of, remove_entry};
 ghost use Rattle.rs_topic.specs.Order.{topic_cmp};
-ghost use Rattle.rs_store.specs.Contents.{after, found_of, if_fits, is_answered};
+ghost use Rattle.rs_message.specs.Values.{MessageValue};
+ghost use Rattle.rs_store.specs.Contents.{after, found_of, if_fits, is_answered, is_gone, serial_count, stays};
+ghost use Rattle.rs_store.specs.Expiring.{IsEarly, earliest};
 ghost use Rattle.rs_store.specs.Spots.{ArePlaced, pairs};
 ghost use Rattle.rs_store.specs.declared.limit.TheConstants.{MAX_TOPICS};
 ghost use Rattle.rs_store.specs.Trees.{IsTree};
@@ -16,6 +18,7 @@ use crate::answer::{Answer, Stop};
 use crate::branch::Branch;
 use crate::catalogue::Catalogue;
 use crate::fault::Refusal;
+use crate::found::lowered;
 use crate::limit::{SERIALS, TopicLimit};
 use rs_message::{Entry, Found, Message, Operation};
 use rs_topic::{TopicFilter, TopicName};
@@ -30,19 +33,25 @@ use std::marker::Model;
 /// `accepts` and `apply` look up one topic, level by level, and then among the few messages that lie together. `answer` visits only
 /// the branches that the filter can match: one for a level without a wildcard, each for a `+`, all below for a `#`. It builds no
 /// list of levels and copies no byte of a topic, text or payload. `version`, `last_serial` and `count` take constant time.
+///
+/// It keeps a moment before which no message is expired. So `has_expired` looks at all messages only from that moment on, and then
+/// finds the moment anew if none is expired. A Sweep and `expired` visit each message once.
 #[derive(Drop)]
 pub struct TreeCatalogue {
     alloc: Global,
     limit: TopicLimit,
     root: Branch,
     count: u32,
-    // Indexed by place.
+    // No message is expired before this moment.
+    earliest: u64,
+    // Indexed by place. The writer's is at 0.
     serials: [u64; SERIALS],
     version: u64,
 }
 
 impl Model for TreeCatalogue {
     ghost use Rattle.rs_store.specs.declared.content.Content.{Content};
+    ghost use Rattle.rs_store.specs.Expiring.{IsEarly};
     ghost use Rattle.rs_store.specs.Trees.{IsTree};
     ghost use Rattle.rs_store.specs.Spots.{pairs};
 
@@ -50,11 +59,12 @@ impl Model for TreeCatalogue {
 
     ghost view = { λ c. record { limit = c.limit; held = pairs c.root; serials = c.serials; version = c.version } };
 
-    ghost invariant = { λ c. IsTree c.root c.count c.limit };
+    ghost invariant = { λ c. IsTree c.root c.count c.limit × IsEarly c.earliest (pairs c.root) };
 }
 
 fn serial_of(serials: &[u64; SERIALS], place: u8) -> u64
-    ensures { result ≡ slice_index serials.now place }
+    ensures value { result ≡ slice_index serials.now place }
+    ensures wide { length serials.now ≡ serial_count }
 {
     if (place as usize) < SERIALS {
         return serials[place as usize];
@@ -95,7 +105,51 @@ fn clear_one(root: &mut Branch, alloc: Global, count: u32, topic: &TopicName) ->
     if was { count - 1 } else { count }
 }
 
-/// Sets or clears one topic and returns how many hold a message then. If memory is refused, nothing changes.
+/// How many of the messages are expired.
+fn count_expired(root: &Branch, now: u64) -> u32
+    requires { length (pairs root.now) ≤ MAX_TOPICS }
+    ensures { result ≡ length (filter_list (is_gone now) (pairs root.now)) }
+{
+    let mut count = 0;
+    root.expired(now, &mut count);
+    count
+}
+
+/// A moment before which no message is expired: the first one at which one is, or the greatest number if there is none.
+fn earliest_of(root: &Branch) -> u64
+    ensures exact { result ≡ earliest (2 ^ 64 - 1) root.now }
+    ensures early { IsEarly result (pairs root.now) }
+{
+    root.earliest(u64::MAX)
+}
+
+/// A moment before which no message is expired after the operation, if that is so of the bound before it.
+fn bound_after(bound: u64, operation: &Operation) -> u64
+    ensures { (held : List (List ℕ × MessageValue)) → IsEarly bound held → IsEarly result (after held operation.now) }
+{
+    match operation {
+        Operation::Set(_, message) => lowered(bound, message),
+        Operation::Clear(_) => bound,
+        Operation::Sweep(_) => bound,
+    }
+}
+
+/// Removes the messages that are expired and returns how many topics hold a message then.
+fn sweep(root: &mut Branch, alloc: Global, count: u32, moment: u64) -> u32
+    requires placed { ArePlaced root.old }
+    requires counted { length (pairs root.old) ≡ count }
+    requires small { count ≤ MAX_TOPICS }
+    ensures done { pairs root.new ≡ filter_list (stays moment) (pairs root.old) }
+    ensures counted { result ≡ length (filter_list (stays moment) (pairs root.old)) }
+    ensures placed { ArePlaced root.new }
+{
+    let gone = count_expired(root, moment);
+    root.sweep(alloc, 0, moment);
+    count - gone
+}
+
+/// Sets or clears one topic, or removes what is expired, and returns how many topics hold a message then. If memory is refused,
+/// nothing changes.
 fn change(
     root: &mut Branch,
     alloc: Global,
@@ -114,6 +168,7 @@ fn change(
     match operation {
         Operation::Set(topic, message) => set_one(root, alloc, count, topic, message),
         Operation::Clear(topic) => Ok(clear_one(root, alloc, count, &topic)),
+        Operation::Sweep(moment) => Ok(sweep(root, alloc, count, moment)),
     }
 }
 
@@ -140,15 +195,19 @@ fn count_after(root: &Branch, count: u32, operation: &Operation) -> u32
                 count
             }
         }
+        Operation::Sweep(moment) => count - count_expired(root, *moment),
     }
 }
 
 /// At most `limit` topics hold a message after the operation.
-#[tactic(auto, using(crate::proofs::Trees::room_below))]
+#[tactic(auto, using(crate::proofs::Trees::room_below, crate::proofs::Trees::room_swept))]
 fn has_room(root: &Branch, count: u32, limit: TopicLimit, operation: &Operation) -> bool
     requires { IsTree root.now count limit }
     ensures { result ≡ nat_le (length (after (pairs root.now) operation.now)) limit }
 {
+    if let Operation::Sweep(_) = operation {
+        return true;
+    }
     if count < limit.get() {
         return true;
     }
@@ -180,6 +239,12 @@ impl TreeCatalogue {
     pub(crate) fn branches(&self) -> u32 {
         self.root.branches()
     }
+
+    /// Goes on with the greatest version.
+    #[cfg(test)]
+    pub(crate) fn end_versions(&mut self) {
+        self.version = u64::MAX;
+    }
 }
 
 impl Catalogue for TreeCatalogue {
@@ -191,6 +256,7 @@ impl Catalogue for TreeCatalogue {
             limit,
             root: Branch::new(alloc),
             count: 0,
+            earliest: u64::MAX,
             serials: [0; SERIALS],
             version: 0,
         })
@@ -213,8 +279,10 @@ impl Catalogue for TreeCatalogue {
     fn apply(&mut self, entry: Entry) -> Result<(), AllocError> {
         let _limit = self.limit.get();
         let origin = entry.origin;
+        let earliest = bound_after(self.earliest, &entry.operation);
         let count = change(&mut self.root, self.alloc, self.count, entry.operation)?;
         self.count = count;
+        self.earliest = earliest;
         self.serials[origin.place() as usize] = origin.serial();
         self.version += 1;
         Ok(())
@@ -249,12 +317,30 @@ impl Catalogue for TreeCatalogue {
         self.count
     }
 
+    fn expired(&self, now: u64) -> u32 {
+        let _limit = self.limit.get();
+        count_expired(&self.root, now)
+    }
+
+    fn has_expired(&mut self, now: u64) -> bool {
+        if now < self.earliest {
+            return false;
+        }
+        let _limit = self.limit.get();
+        if count_expired(&self.root, now) > 0 {
+            return true;
+        }
+        self.earliest = earliest_of(&self.root);
+        false
+    }
+
     fn copy(&self) -> Result<TreeCatalogue, AllocError> {
         Ok(TreeCatalogue {
             alloc: self.alloc,
             limit: self.limit,
             root: self.root.copy(self.alloc)?,
             count: self.count,
+            earliest: self.earliest,
             serials: self.serials,
             version: self.version,
         })

@@ -1,12 +1,14 @@
 -- What the writer's invariant says, and that each step of the writer keeps it.
-use Rattle.std.proofs.Common.{◌≡◌, ℕ, ◌+◌, ◌<◌, ◌≤◌, List, [], ◌∷◌, ◌++◌, length, fold, Option, Some, None, inl, inr, ⊎_elim, subst, sym, ◌∙◌, ap, arith, length-append}
+use Rattle.std.proofs.Common.{◌≡◌, ℕ, ◌+◌, ◌<◌, ◌≤◌, List, [], ◌∷◌, ◌++◌, length, fold, ◌⊎◌, Option, Some, None, inl, inr, ⊎_elim, subst, refl, sym, ◌∙◌, ap, arith, length-append}
 use Rattle.std.proofs.lemmas.List.{append-nil}
 use Rattle.logbook.specs.Pages.{Book}
 use Rattle.rs_message.specs.declared.entry.Entry.{Entry}
 use Rattle.rs_message.specs.declared.entry.TheConstants.{MAX_PLACES}
 use Rattle.rs_store.specs.declared.content.Content.{Content}
 use Rattle.rs_store.specs.Contents.{Accepts}
-use Rattle.rs_store.specs.History.{IsLegal, Stands, extended}
+use Rattle.rs_store.specs.Adding.{Adds}
+use Rattle.rs_store.specs.History.{IsLegal, IsSweptFor, Stands, cleaned, extended}
+use Rattle.rs_store.proofs.Histories.{legal_front}
 use Rattle.rs_store.proofs.Standing.{accepts, legal_more, stands_more}
 use Rattle.rs_version.specs.Catalogues.{KeptCatalogue, content_of}
 use Rattle.rs_version.specs.declared.catalogue_copy.CatalogueCopy.{CatalogueCopy}
@@ -17,7 +19,7 @@ use Rattle.rs_version.specs.declared.fault.PutFault.TheVariants.{Full, Stale, No
 use Rattle.rs_version.specs.Copies.{listed, shown, steps_of}
 use Rattle.rs_version.specs.Receipts.{StandsAt}
 use Rattle.rs_version.specs.VersionRule.{Follows, IsSound, applied, state}
-use Rattle.rs_version.specs.Writer.{CatchesUp, Declines, IsWriting, Refuses, StepsFor, Written, settled}
+use Rattle.rs_version.specs.Writer.{CatchesUp, Declines, IsReady, IsSweptInPart, IsWriting, Precedes, Refuses, StepsFor, Written, holds_back, kept_of, settled, shows, sweep_after}
 use Rattle.rs_version.proofs.VersionRule.{settled as goes_on}
 
 -- the writer's own catalogue stands for the published list
@@ -139,12 +141,96 @@ appended history limit copies copies' list list' own held e step w none legal sm
       steps = (step, steps, entry, subst F (sym same) follows);
     }
 
--- why the entry was not appended, if all that was kept is published
+-- an equal content in place of the writer's own
+pub judged_writing : (history : Book) (limit : ℕ) (copies : Copies) (list : List Entry) (own own' : KeptCatalogue) (held : Option Entry) → IsWriting history limit copies list own held → content_of own' ≡ content_of own
+    → IsWriting history limit copies list own' held
+judged_writing history limit copies list own own' held w same =
+    let P : List Entry → Content → Type 0 = λ l c. Stands c l in
+    record {
+      history_is = w.history_is;
+      limit_is = w.limit_is;
+      own_limit = ap (λ (c : Content). c.limit) same ∙ w.own_limit;
+      sound = w.sound;
+      list_is = w.list_is;
+      own_is = ⊎_elim (λ s. inl (subst (P list) (sym same) s)) (λ s. inr (subst (P (shown copies).prefix.log) (sym same) s)) w.own_is;
+      steps = w.steps;
+    }
+
+-- ---- what `put` makes of what is kept
+
+settled_log : (w w' : Written) → w' ≡ settled w → w'.published ≡ kept_of w
+settled_log w w' is = ap (λ (z : Written). z.published) is
+
+-- why the entry does not come next, if all that was kept is published
 pub declines_refuses : (limit : ℕ) (w w' : Written) (e : Entry) (f : PutFault) → w' ≡ settled w → Declines limit w'.published e f → Refuses limit w e f w'
-declines_refuses limit w w' e Stale is h = (let P : List Entry → Type 0 = λ l. Declines limit l e Stale in subst P (ap (λ z. z.published) is) h, is)
-declines_refuses limit w w' e Full is h = (let P : List Entry → Type 0 = λ l. Declines limit l e Full in subst P (ap (λ z. z.published) is) h, is)
-declines_refuses limit w w' e NoMemory is h = inl (let P : List Entry → Type 0 = λ l. Declines limit l e NoMemory in subst P (ap (λ z. z.published) is) h, is)
+declines_refuses limit w w' e Stale is h = (let P : List Entry → Type 0 = λ l. Declines limit l e Stale in subst P (settled_log w w' is) h, is)
+declines_refuses limit w w' e Full is h = (let P : List Entry → Type 0 = λ l. Declines limit l e Full in subst P (settled_log w w' is) h, is)
+declines_refuses limit w w' e NoMemory is h = absurd h
 declines_refuses limit w w' e Held is h = absurd h
+
+pub kept_refuses : (limit : ℕ) (w w' : Written) (e : Entry) → (w.held ≡ None → ⊥) → w' ≡ w → Refuses limit w e NoMemory w'
+kept_refuses limit w w' e some is = inr (inr (some, is))
+
+last_alike : {A : Type 0} (xs : List A) (x y : A) → xs ++ x ∷ [] ≡ xs ++ y ∷ [] → x ≡ y
+last_alike [] x y e = cc (e)
+last_alike (z ∷ zs) x y e = last_alike zs x y (cc (e))
+
+-- the Sweep before an entry may come next
+pub precedes_legal : (limit : ℕ) (history : List Entry) (e sweep : Entry) → Precedes limit history e sweep → IsLegal limit (extended history sweep)
+precedes_legal limit history e sweep p =
+    let m = p.0.message.received in
+    let clean : IsLegal limit (cleaned m history) = legal_front limit (cleaned m history) (extended (cleaned m history) e) (e ∷ [], refl) p.0.legal in
+    let P : List Entry → Type 0 = λ l. IsLegal limit l in
+    subst P (sym p.1) clean
+
+precedes_at : (limit : ℕ) (w w' : Written) (e sweep : Entry) → w' ≡ settled w → Precedes limit w'.published e sweep → Precedes limit (kept_of w) e sweep
+precedes_at limit w w' e sweep is p = let P : List Entry → Type 0 = λ l. Precedes limit l e sweep in subst P (settled_log w w' is) p
+
+pub plain_ready : (limit : ℕ) (w w' : Written) (e : Entry) → w' ≡ settled w → IsLegal limit (extended w'.published e) → IsReady limit w e w'
+plain_ready limit w w' e is legal = inl (let P : List Entry → Type 0 = λ l. IsLegal limit (extended l e) in subst P (settled_log w w' is) legal, is)
+
+pub swept_ready : (limit : ℕ) (w w' w'' : Written) (e sweep : Entry) → w' ≡ settled w → Precedes limit w'.published e sweep → w'' ≡ shows (extended w'.published sweep) → IsReady limit w e w''
+swept_ready limit w w' w'' e sweep is p now =
+    let q = precedes_at limit w w' e sweep is p in
+    inr (q.0, now ∙ (ap (λ (l : List Entry). shows (extended l sweep)) (settled_log w w' is) ∙ ap shows q.1))
+
+pub swept_refuses : (limit : ℕ) (w w' w'' : Written) (e sweep : Entry) → w' ≡ settled w → Precedes limit w'.published e sweep → (w'' ≡ w') ⊎ (w'' ≡ holds_back w'.published sweep) → Refuses limit w e NoMemory w''
+swept_refuses limit w w' w'' e sweep is p left =
+    let q = precedes_at limit w w' e sweep is p in
+    let m = q.0.message.received in
+    let named : sweep ≡ sweep_after m (kept_of w) = last_alike (kept_of w) sweep (sweep_after m (kept_of w)) q.1 in
+    inr (inl (
+      q.0,
+      ⊎_elim
+          (λ k. inl (k ∙ is))
+          (λ k. inr (inl (k ∙ (ap (λ (l : List Entry). holds_back l sweep) (settled_log w w' is) ∙ ap (λ (z : Entry). holds_back (kept_of w) z) named))))
+          left,
+    ))
+
+ready_log : (limit : ℕ) (w w' : Written) (e : Entry) → IsReady limit w e w' → (w'.held ≡ None) × IsLegal limit (extended w'.published e)
+ready_log limit w w' e (inl r) = (ap (λ (z : Written). z.held) r.1, (let P : List Entry → Type 0 = λ l. IsLegal limit (extended l e) in subst P (sym (settled_log w w' r.1)) r.0))
+ready_log limit w w' e (inr r) = (
+  ap (λ (z : Written). z.held) r.1,
+  (let P : List Entry → Type 0 = λ l. IsLegal limit (extended l e) in subst P (sym (ap (λ (z : Written). z.published) r.1)) r.0.legal),
+)
+
+pub ready_free : (limit : ℕ) (w w' : Written) (e : Entry) → IsReady limit w e w' → w'.held ≡ None
+ready_free limit w w' e r = (ready_log limit w w' e r).0
+
+pub ready_legal : (limit : ℕ) (w w' : Written) (e : Entry) → IsReady limit w e w' → IsLegal limit (extended w'.published e)
+ready_legal limit w w' e r = (ready_log limit w w' e r).1
+
+pub ready_refuses : (limit : ℕ) (w w' w'' : Written) (e : Entry) → IsReady limit w e w' → w'' ≡ w' → Refuses limit w e NoMemory w''
+ready_refuses limit w w' w'' e (inl r) is = inl (r.0, is ∙ r.1)
+ready_refuses limit w w' w'' e (inr r) is = inr (inl (r.0, inr (inr (is ∙ r.1))))
+
+pub ready_holds : (limit : ℕ) (w w' w'' : Written) (e : Entry) → IsReady limit w e w' → w'' ≡ holds_back w'.published e → Refuses limit w e Held w''
+ready_holds limit w w' w'' e (inl r) is = inl (r.0, is ∙ ap (λ (l : List Entry). holds_back l e) (settled_log w w' r.1))
+ready_holds limit w w' w'' e (inr r) is = inr (r.0, is ∙ ap (λ (l : List Entry). holds_back l e) (ap (λ (z : Written). z.published) r.1))
+
+pub ready_adds : (limit : ℕ) (w w' w'' : Written) (e : Entry) → IsReady limit w e w' → w'' ≡ shows (extended w'.published e) → Adds limit (kept_of w) e (λ list. w'' ≡ shows list)
+ready_adds limit w w' w'' e (inl r) is = inl (r.0, is ∙ ap (λ (l : List Entry). shows (extended l e)) (settled_log w w' r.1))
+ready_adds limit w w' w'' e (inr r) is = inr (r.0, is ∙ ap (λ (l : List Entry). shows (extended l e)) (ap (λ (z : Written). z.published) r.1))
 
 -- what was held is the last entry of the list that is published then
 pub stands_last : (w w' : Written) (e : Entry) → w.held ≡ Some e → w' ≡ settled w → StandsAt e (length w'.published) w'.published

@@ -1,12 +1,13 @@
 -- What the writer has published and what it holds.
-use Rattle.std.specs.Prelude.{ℕ, ◌≡◌, ◌≢◌, ◌<◌, ◌≤◌, ◌++◌, ◌∷◌, ◌⊎◌, [], List, Option, Some, None}
+use Rattle.std.specs.Prelude.{ℕ, ◌≡◌, ◌≢◌, ◌+◌, ◌<◌, ◌≤◌, ◌++◌, ◌∷◌, ◌⊎◌, [], List, Option, Some, None}
 use Rattle.logbook.specs.Pages.{Book}
 use Rattle.rs_message.specs.declared.entry.Entry.{Entry}
+use Rattle.rs_message.specs.declared.entry.Operation.TheVariants.{Sweep}
 use Rattle.rs_store.specs.declared.content.Content.{Content}
 use Rattle.rs_store.specs.declared.fault.Refusal.{Refusal}
 use Rattle.rs_store.specs.declared.fault.Refusal.TheVariants as refusal
 use Rattle.rs_store.specs.Contents.{followed}
-use Rattle.rs_store.specs.History.{IsLegal, MayNotFollow, Stands, extended}
+use Rattle.rs_store.specs.History.{IsLegal, IsSweptFor, MayNotCome, Stands, cleaned, extended, last_serial}
 use Rattle.rs_version.specs.declared.catalogue_copy.CatalogueCopy.{CatalogueCopy}
 use Rattle.rs_version.specs.declared.catalogue_copy.Step.{Step}
 use Rattle.rs_version.specs.declared.copies.Copies.{Copies}
@@ -43,24 +44,50 @@ pub record IsWriting (history : Book) (limit : ℕ) (copies : Copies) (list : Li
   pub own_is : Stands (content_of own) list ⊎ Stands (content_of own) (shown copies).prefix.log
   pub steps : StepsFor (shown copies) held (steps_of copies)
 
--- why the entry is not appended behind the published list, if nothing is held
+-- the list published, and nothing held
+abbrev pub shows : List Entry → Written
+shows list = record { published = list; held = None }
+
+-- the list published, and the entry held
+abbrev pub holds_back : List Entry → Entry → Written
+holds_back list e = record { published = list; held = Some e }
+
+-- the Sweep of the moment that comes behind the list
+abbrev pub sweep_after : ℕ → List Entry → Entry
+sweep_after moment history = record { origin = record { place = 0; serial = last_serial 0 history + 1 }; operation = Sweep moment }
+
+-- the Sweep is the one that comes before the entry
+abbrev pub Precedes : ℕ → List Entry → Entry → Entry → Type 0
+Precedes limit history e sweep = (s : IsSweptFor limit history e) × (extended history sweep ≡ cleaned s.message.received history)
+
+-- all that was kept is published, and behind it the Sweep that comes before the entry, if it does not come next without
+abbrev pub IsReady : ℕ → Written → Entry → Written → Type 0
+IsReady limit w e w' = (IsLegal limit (extended (kept_of w) e) × (w' ≡ settled w)) ⊎ ((s : IsSweptFor limit (kept_of w) e) × (w' ≡ shows (cleaned s.message.received (kept_of w))))
+
+-- why the entry does not come next behind the published list, if nothing is held
 abbrev pub Declines : ℕ → List Entry → Entry → PutFault → Type 0
-Declines limit history e fault.Stale = MayNotFollow limit history e refusal.Stale
-Declines limit history e fault.Full = MayNotFollow limit history e refusal.Full
-Declines limit history e fault.NoMemory = MayNotFollow limit history e refusal.NoMemory
+Declines limit history e fault.Stale = MayNotCome limit history e refusal.Stale
+Declines limit history e fault.Full = MayNotCome limit history e refusal.Full
+Declines limit history e fault.NoMemory = ⊥
 Declines limit history e fault.Held = ⊥
 
 -- the entry is not appended to the kept list, all of which is published
 abbrev pub IsDeclined : ℕ → Written → Entry → Refusal → Written → Type 0
-IsDeclined limit w e r w' = MayNotFollow limit (kept_of w) e r × (w' ≡ settled w)
+IsDeclined limit w e r w' = MayNotCome limit (kept_of w) e r × (w' ≡ settled w)
+
+-- memory was refused for the Sweep of the moment or for the entry behind it: what was kept is published, and the Sweep is not kept,
+-- or it is held, or it is published too
+abbrev pub IsSweptInPart : ℕ → Written → Written → Type 0
+IsSweptInPart moment w w' = (w' ≡ settled w) ⊎ (w' ≡ holds_back (kept_of w) (sweep_after moment (kept_of w))) ⊎ (w' ≡ shows (cleaned moment (kept_of w)))
 
 -- What a refusal says, and what it leaves. 31, 30: the held entry, if any, is published. 32: the same, and the entry may come next;
--- or the held entry could not be published, and nothing changed. 33: the kept list from before is published, and the entry is held
+-- or it may come after a Sweep, which may be kept; or the held entry could not be published, and nothing changed. 33: the kept list
+-- from before is published, and the Sweep that comes before the entry, if there is one, and the entry is held
 abbrev pub Refuses : ℕ → Written → Entry → PutFault → Written → Type 0
 Refuses limit w e fault.Stale w' = IsDeclined limit w e refusal.Stale w'
 Refuses limit w e fault.Full w' = IsDeclined limit w e refusal.Full w'
-Refuses limit w e fault.NoMemory w' = IsDeclined limit w e refusal.NoMemory w' ⊎ ((w.held ≢ None) × (w' ≡ w))
-Refuses limit w e fault.Held w' = IsLegal limit (extended (kept_of w) e) × (w' ≡ record { published = kept_of w; held = Some e })
+Refuses limit w e fault.NoMemory w' = (IsLegal limit (extended (kept_of w) e) × (w' ≡ settled w)) ⊎ ((s : IsSweptFor limit (kept_of w) e) × IsSweptInPart s.message.received w w') ⊎ ((w.held ≢ None) × (w' ≡ w))
+Refuses limit w e fault.Held w' = (IsLegal limit (extended (kept_of w) e) × (w' ≡ holds_back (kept_of w) e)) ⊎ ((s : IsSweptFor limit (kept_of w) e) × (w' ≡ holds_back (cleaned s.message.received (kept_of w)) e))
 
 -- a copy of the held entry, if there is one
 abbrev pub IsSpare : Option Entry → Option Entry → Type 0

@@ -1,6 +1,7 @@
 //! Worked examples, with ample memory, and readers beside a writer.
 
-ghost use Rattle.std.specs.Prelude.{◌≡◌, ◌≢◌, ◌<◌, ◌≤◌, [], length};
+ghost use Rattle.std.specs.Prelude.{◌≡◌, ◌≢◌, ◌<◌, ◌≤◌, [], false, length, IfSome};
+ghost use Rattle.rs_message.specs.Messages.{is_sweep};
 ghost use Rattle.rs_message.specs.declared.entry.TheConstants.{MAX_PLACES};
 
 use super::*;
@@ -16,8 +17,16 @@ use std::sync::Wait;
 use std::test::Fail;
 use std::thread::{Threads, join, spawn};
 
+mod sweeping;
+
+/// A message that came at this moment.
 #[tactic(auto, using(rs_message::proofs::Sizes::small_message))]
-fn message(alloc: Global, payload: &'static [u8], expiry: Option<u32>) -> Option<Message>
+fn message(
+    alloc: Global,
+    payload: &'static [u8],
+    received: u64,
+    expiry: Option<u32>,
+) -> Option<Message>
     requires some { payload.now ≢ [] }
     requires small { length payload.now ≤ 1000 }
 {
@@ -26,7 +35,7 @@ fn message(alloc: Global, payload: &'static [u8], expiry: Option<u32>) -> Option
         alloc,
         payload,
         Qos::AtMostOnce,
-        0,
+        received,
         expiry,
         Properties::none(),
     )
@@ -43,7 +52,7 @@ fn set(alloc: Global, place: u8, serial: u64, topic: &[u8]) -> Option<Entry> {
     entry_of(
         place,
         serial,
-        Operation::Set(topic, message(alloc, b"x", None)?),
+        Operation::Set(topic, message(alloc, b"x", 0, None)?),
     )
 }
 
@@ -59,10 +68,25 @@ fn blank(alloc: Global, limit: u32, places: u8) -> Result<Blank, Fail>
     Ok(Blank::new(alloc, limit, places)?)
 }
 
-/// The version that a seat reads, and the topics that hold a message, each followed by a space.
-fn seen<N: StoreName>(alloc: Global, seat: &mut Seat<N>) -> Result<(u64, Vec<u8>), Fail> {
+/// The entry, which is no Sweep.
+fn no_sweep(entry: Option<Entry>) -> Option<Entry>
+    ensures { IfSome result (λ e. is_sweep e.operation ≡ false) }
+{
+    let entry = entry?;
+    if entry.operation.is_sweep() {
+        return None;
+    }
+    Some(entry)
+}
+
+/// The version that a seat reads, and the topics that hold a message then, each followed by a space.
+fn seen_at<N: StoreName>(
+    alloc: Global,
+    seat: &mut Seat<N>,
+    now: u64,
+) -> Result<(u64, Vec<u8>), Fail> {
     let filter = TopicFilter::read(alloc, b"#")?;
-    let snapshot = seat.answer(&filter, 0)?;
+    let snapshot = seat.answer(&filter, now)?;
     let mut topics = Vec::new(alloc);
     for found in &snapshot.found {
         topics.extend_from_slice(found.topic.as_bytes())?;
@@ -71,18 +95,22 @@ fn seen<N: StoreName>(alloc: Global, seat: &mut Seat<N>) -> Result<(u64, Vec<u8>
     Ok((snapshot.version, topics))
 }
 
+fn seen<N: StoreName>(alloc: Global, seat: &mut Seat<N>) -> Result<(u64, Vec<u8>), Fail> {
+    seen_at(alloc, seat, 0)
+}
+
 fn receipt_of<N: StoreName, R: Wait + Drop>(
     writer: &mut VersionWriter<N, R>,
     entry: Option<Entry>,
 ) -> Result<Receipt<N>, Fail> {
-    Ok(writer.put(entry.ok_or("an entry")?)?)
+    Ok(writer.put(no_sweep(entry).ok_or("an entry")?)?)
 }
 
 fn fault_of<N: StoreName, R: Wait + Drop>(
     writer: &mut VersionWriter<N, R>,
     entry: Option<Entry>,
 ) -> Result<Option<PutFault>, Fail> {
-    Ok(writer.put(entry.ok_or("an entry")?).err())
+    Ok(writer.put(no_sweep(entry).ok_or("an entry")?).err())
 }
 
 fn refusals<N: StoreName, R: Wait + Drop>(
@@ -252,7 +280,7 @@ fn put_all<N: StoreName, R: Wait + Drop>(
 ) -> (VersionWriter<N, R>, bool) {
     let mut writer = writer;
     for serial in 1..101u64 {
-        let Some(entry) = set(alloc, 1, serial, b"a") else {
+        let Some(entry) = no_sweep(set(alloc, 1, serial, b"a")) else {
             return (writer, false);
         };
         if writer.put(entry).is_err() {
@@ -430,7 +458,8 @@ fn put_and_end<N: StoreName, R: Wait + Drop>(
 ) -> Option<(Option<u64>, Option<u64>)> {
     let mut writer = writer;
     let mut seat = seat;
-    let receipt = writer.put(set(alloc, 1, 1, b"x")?).ok()?;
+    let entry = no_sweep(set(alloc, 1, 1, b"x"))?;
+    let receipt = writer.put(entry).ok()?;
     seat.learn(receipt.told());
     let read = read_version(alloc, &mut seat);
     drop(writer);

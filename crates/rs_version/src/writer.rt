@@ -1,12 +1,15 @@
 //! The one writer of a store.
 
-ghost use Rattle.std.specs.Prelude.{◌≡◌, ◌≢◌, ◌<◌, ◌+◌, [], length, drop, Some, None, MatchResult, IfOk, IfErr, IfNone, IfSome, OnErr, OnOk, OnSome};
+ghost use Rattle.std.specs.Prelude.{◌≡◌, ◌≢◌, ◌⊎◌, ◌<◌, false, List, [], length, drop, Some, None, MatchOption, MatchResult, IfOk, IfErr, IfNone, IfSome, OnErr, OnOk, OnSome};
 ghost use Rattle.std.specs.Option.{option_map};
+ghost use Rattle.rs_message.specs.Messages.{is_sweep};
+ghost use Rattle.rs_store.specs.Adding.{Adds};
 ghost use Rattle.rs_store.specs.Contents.{Accepts, empty};
-ghost use Rattle.rs_store.specs.History.{IsLegal, extended};
+ghost use Rattle.rs_message.specs.declared.entry.Entry.{Entry};
+ghost use Rattle.rs_store.specs.History.{IsLegal, Stands, extended};
 ghost use Rattle.rs_version.specs.Catalogues.{content_of};
 ghost use Rattle.rs_version.specs.Receipts.{StandsAt};
-ghost use Rattle.rs_version.specs.Writer.{Written, CatchesUp, Declines, IsSpare, Refuses, kept_of, settled};
+ghost use Rattle.rs_version.specs.Writer.{Written, CatchesUp, Declines, IsReady, IsSpare, Precedes, Refuses, holds_back, kept_of, settled, shows};
 
 use crate::catalogue_copy::Step;
 use crate::copies::{Copies, CopyWriter};
@@ -16,7 +19,7 @@ use crate::kept::Kept;
 use crate::known::{HistoryWord, KnownList};
 use crate::receipt::{Receipt, Told};
 use rs_message::{Entry, Origin};
-use rs_store::{Catalogue, Refusal};
+use rs_store::{Catalogue, Refusal, judge};
 use std::alloc::AllocError;
 use std::marker::Model;
 use std::sync::Wait;
@@ -80,6 +83,21 @@ fn catch_up(
     Ok(())
 }
 
+/// Whether the entry may come next, or after which Sweep.
+fn judge_on(own: &mut Kept, entry: &Entry) -> Result<Option<Entry>, PutFault>
+    ensures same { content_of own.new ≡ content_of own.old }
+    ensures stands { (history : List Entry) → Stands (content_of own.old) history → MatchResult result
+        (λ before. MatchOption before (IsLegal (content_of own.old).limit (extended history entry.now)) (λ sweep. Precedes (content_of own.old).limit history entry.now sweep))
+        (λ f. Declines (content_of own.old).limit history entry.now f) }
+{
+    match judge(own, entry) {
+        Ok(before) => Ok(before),
+        Err(Refusal::Stale) => Err(PutFault::Stale),
+        Err(Refusal::Full) => Err(PutFault::Full),
+        Err(Refusal::NoMemory) => Err(PutFault::NoMemory),
+    }
+}
+
 impl<N: StoreName, R: Wait + Drop> Drop for VersionWriter<N, R> {
     fn drop(self) {
         let VersionWriter {
@@ -137,19 +155,15 @@ impl<N: StoreName, R: Wait + Drop> VersionWriter<N, R> {
         Ok(self.held.take())
     }
 
-    /// Whether the entry may come next.
-    fn judge(&self, entry: &Entry) -> Result<(), PutFault>
-        requires { self.now.held ≡ None }
-        ensures { MatchResult result (λ _. IsLegal N.limit (extended self.now.published entry.now)) (λ f. Declines N.limit self.now.published entry.now f) }
+    /// Whether the entry may come next, or after which Sweep.
+    fn judge(&mut self, entry: &Entry) -> Result<Option<Entry>, PutFault>
+        requires { self.old.held ≡ None }
+        ensures same { self.new ≡ self.old }
+        ensures judged { MatchResult result
+            (λ before. MatchOption before (IsLegal N.limit (extended self.old.published entry.now)) (λ sweep. Precedes N.limit self.old.published entry.now sweep))
+            (λ f. Declines N.limit self.old.published entry.now f) }
     {
-        // For the proof: these calls say which places and serials an origin may have.
-        let (_place, _serial) = (entry.origin.place(), entry.origin.serial());
-        match self.own.accepts(entry) {
-            Ok(()) => Ok(()),
-            Err(Refusal::Stale) => Err(PutFault::Stale),
-            Err(Refusal::Full) => Err(PutFault::Full),
-            Err(Refusal::NoMemory) => Err(PutFault::NoMemory),
-        }
+        judge_on(&mut self.own, entry)
     }
 
     /// Appends the entry, which is held from then on. Its copies are made first, so a refusal leaves the history as it was.
@@ -175,17 +189,35 @@ impl<N: StoreName, R: Wait + Drop> VersionWriter<N, R> {
         Ok(())
     }
 
-    /// Appends the entry, if it may come next.
-    fn accept(&mut self, entry: Entry) -> Result<(), PutFault>
-        requires { self.old.held ≡ None }
+    /// Appends a Sweep and publishes it. Refused, it is held or not kept.
+    fn put_sweep(&mut self, sweep: Entry) -> Result<(), AllocError>
+        requires none { self.old.held ≡ None }
+        requires legal { IsLegal N.limit (extended self.old.published sweep) }
         ensures { MatchResult result
-            (λ _. IsLegal N.limit (extended self.old.published entry) × (self.new ≡ record { published = self.old.published; held = Some entry }))
-            (λ f. Declines N.limit self.old.published entry f × (self.new ≡ self.old)) }
+            (λ _. self.new ≡ shows (extended self.old.published sweep))
+            (λ _. (self.new ≡ self.old) ⊎ (self.new ≡ holds_back self.old.published sweep)) }
     {
-        self.judge(&entry)?;
-        match self.append(entry) {
-            Ok(()) => Ok(()),
-            Err(_) => Err(PutFault::NoMemory),
+        self.append(sweep)?;
+        drop(self.release()?);
+        Ok(())
+    }
+
+    /// Publishes what is held, and the Sweep that comes before the entry, if there is one.
+    fn make_room(&mut self, entry: &Entry) -> Result<(), PutFault>
+        ensures ready { OnOk result (IsReady N.limit self.old entry.now self.new) }
+        ensures refused { IfErr result (λ f. Refuses N.limit self.old entry.now f self.new) }
+    {
+        match self.release() {
+            Ok(published) => drop(published),
+            Err(_) => return Err(PutFault::NoMemory),
+        }
+        match self.judge(entry) {
+            Ok(None) => Ok(()),
+            Ok(Some(sweep)) => match self.put_sweep(sweep) {
+                Ok(()) => Ok(()),
+                Err(_) => Err(PutFault::NoMemory),
+            },
+            Err(fault) => Err(fault),
         }
     }
 
@@ -197,29 +229,31 @@ impl<N: StoreName, R: Wait + Drop> VersionWriter<N, R> {
         Receipt::of_last(entry, self.tell())
     }
 
-    /// Publishes the entry after all that is kept. A held entry is published first.
+    /// Publishes the entry after all that is kept. A held entry is published first. If the entry may come only after a Sweep (see
+    /// [`rs_store::judge`]), the Sweep is then published, by a publish of its own.
     ///
     /// # Errors
     ///
-    /// - [`Stale`](PutFault::Stale) and [`Full`](PutFault::Full) as in [`rs_store::Catalogue::accepts`]. What was held is
-    ///   published.
+    /// - [`Stale`](PutFault::Stale) and [`Full`](PutFault::Full) as in [`rs_store::judge`]. What was held is published.
     /// - [`NoMemory`](PutFault::NoMemory): the entry is not kept. Either a held entry could not be published, and nothing
-    ///   changed; or what was held is published, and there was no memory for a copy of the entry, which may come next.
-    /// - [`Held`](PutFault::Held): the kept list from before is published, and the entry is held.
+    ///   changed; or what was held is published, and there was no memory for a copy of the entry, which may come next, or for the
+    ///   Sweep before it. The Sweep may be kept then: published, or held.
+    /// - [`Held`](PutFault::Held): the kept list from before is published, with the Sweep if there is one, and the entry is held.
     pub fn put(&mut self, entry: Entry) -> Result<Receipt<N>, PutFault>
-        ensures published { OnOk result (self.new ≡ record { published = extended (kept_of self.old) entry; held = None }) }
+        requires { is_sweep entry.operation ≡ false }
+        ensures published { OnOk result (Adds N.limit (kept_of self.old) entry (λ list. self.new ≡ shows list)) }
         ensures entry { IfOk result (λ r. r.entry ≡ entry) }
-        ensures number { IfOk result (λ r. r.number ≡ length (kept_of self.old) + 1) }
+        ensures number { IfOk result (λ r. r.number ≡ length self.new.published) }
         ensures told { IfOk result (λ r. r.told ≡ self.new.published) }
         ensures legal { OnOk result (IsLegal N.limit self.new.published) }
         ensures refused { IfErr result (λ f. Refuses N.limit self.old entry f self.new) }
     {
-        match self.release() {
-            Ok(published) => drop(published),
-            Err(_) => return Err(PutFault::NoMemory),
-        }
-        if let Err(fault) = self.accept(entry) {
+        if let Err(fault) = self.make_room(&entry) {
             return Err(fault);
+        }
+        match self.append(entry) {
+            Ok(()) => {}
+            Err(_) => return Err(PutFault::NoMemory),
         }
         match self.retry() {
             Ok(Some(receipt)) => Ok(receipt),
@@ -228,7 +262,7 @@ impl<N: StoreName, R: Wait + Drop> VersionWriter<N, R> {
         }
     }
 
-    /// Publishes the held entry. `Ok(None)` if nothing is held.
+    /// Publishes the held entry. `Ok(None)` if nothing is held. The receipt is that of whatever was held, also of a Sweep.
     ///
     /// # Errors
     ///

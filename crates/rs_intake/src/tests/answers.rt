@@ -1,6 +1,7 @@
 //! What a submit answers.
 
-ghost use Rattle.std.specs.Prelude.{◌≡◌};
+ghost use Rattle.std.specs.Prelude.{◌≡◌, false, IfSome};
+ghost use Rattle.rs_message.specs.Messages.{is_sweep};
 
 use super::{Opened, blank_store, clear, open_both, set};
 use crate::intake::read;
@@ -21,8 +22,13 @@ fn answer<N: LineName, R: Wait>(
     intake: &Intake<N>,
     line: &mut SeatLine<N>,
     operation: Option<Operation>,
-) -> Result<(u64, u8), Fail> {
-    match intake.submit(rt, line, operation.ok_or("an operation")?) {
+) -> Result<(u64, u8), Fail>
+    requires { IfSome operation (λ o. is_sweep o ≡ false) }
+{
+    let Some(operation) = operation else {
+        return Err(Fail::from("an operation"));
+    };
+    match intake.submit(rt, line, operation) {
         Ok(receipt) => Ok((receipt.number(), 0)),
         Err(fault) => Ok((0, fault.code())),
     }
@@ -140,6 +146,9 @@ fn strange_named<N: LineName, R: Wait + Abort>(
     let origin = entry.origin;
     // A receipt for another operation of the same origin.
     let other = entry_of(1, 1, set(alloc, b"a", b"2")).ok_or("an entry")?;
+    if other.operation.is_sweep() {
+        return Err(Fail::from("a Sweep"));
+    }
     let answer = opened.writer.put(other);
     let strange = read::<N>(Reply { origin, answer }, &entry).err();
     assert_eq!(rt; strange, Some(SubmitFault::Strange));

@@ -1,6 +1,7 @@
 //! The largest entry by one submit, from the last place.
 
-ghost use Rattle.std.specs.Prelude.{◌≡◌, ◌≢◌, ◌≤◌, [], length};
+ghost use Rattle.std.specs.Prelude.{◌≡◌, ◌≢◌, ◌≤◌, [], false, length, IfSome};
+ghost use Rattle.rs_message.specs.Messages.{is_sweep};
 
 use super::{Opened, blank_store, open_both};
 use crate::{BlankQueue, LineName, blank_queue, run_writer};
@@ -44,7 +45,9 @@ fn repeated(alloc: Global, byte: u8, count: usize) -> Option<Vec<u8>> {
     Some(bytes)
 }
 
-fn largest(alloc: Global) -> Option<Operation> {
+fn largest(alloc: Global) -> Option<Operation>
+    ensures { IfSome result (λ o. is_sweep o ≡ false) }
+{
     let payload = repeated(alloc, b'x', PAYLOAD)?;
     if payload.is_empty() || payload.len() > PAYLOAD {
         return None;
@@ -72,7 +75,9 @@ fn largest_named<
     let mut line = lines.pop().ok_or("there are lines")?;
     let mut seat = seats.pop().ok_or("there are seats")?;
     drop(lines);
-    let operation = largest(alloc).ok_or("an operation")?;
+    let Some(operation) = largest(alloc) else {
+        return Err(Fail::from("an operation"));
+    };
     let thread = spawn(&rt, move || run_writer(&rt, queue, writer))?;
     let answer = intake.submit(&rt, &mut line, operation);
     drop(line.close(&rt));

@@ -1,6 +1,7 @@
 //! Random schedules of eight places, compared with a store of one thread by the numbers of the receipts.
 
-ghost use Rattle.std.specs.Prelude.{◌≡◌};
+ghost use Rattle.std.specs.Prelude.{◌≡◌, false, IfSome};
+ghost use Rattle.rs_message.specs.Messages.{is_sweep};
 
 use super::{Opened, blank_store, clear, open_both, set};
 use crate::{BlankQueue, Intake, LineName, SeatLine, blank_queue, run_writer};
@@ -47,7 +48,9 @@ fn next_random(state: u64) -> u64 {
 }
 
 /// A Set of one of four topics, three of four times, or its Clear.
-fn change(alloc: Global, random: u64, place: u8, turn: u32) -> Option<Operation> {
+fn change(alloc: Global, random: u64, place: u8, turn: u32) -> Option<Operation>
+    ensures { IfSome result (λ o. is_sweep o ≡ false) }
+{
     let topic = random % 4;
     let topic = format!(in alloc; "{topic}").ok()?;
     if random / 4 % 4 == 0 {
@@ -148,7 +151,11 @@ fn texts<N: LineName>(alloc: Global, records: &[Record<N>], version: u64) -> Opt
         .push(text_of(alloc, catalogue.answer(&filter, 0).ok()?)?)
         .ok()?;
     for before in 0..version {
-        add(&mut catalogue, entry_at(records, before + 1)?).ok()?;
+        let entry = entry_at(records, before + 1)?;
+        if entry.operation.is_sweep() {
+            return None;
+        }
+        add(&mut catalogue, entry).ok()?;
         texts
             .push(text_of(alloc, catalogue.answer(&filter, 0).ok()?)?)
             .ok()?;

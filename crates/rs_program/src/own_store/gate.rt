@@ -1,11 +1,12 @@
 //! The program's store as a gate.
 
-ghost use Rattle.std.specs.Prelude.{◌≡◌, ◌↔◌, [], IfOk, IfErr, OnErr, OnOk, Err, ◌⊎◌};
+ghost use Rattle.std.specs.Prelude.{◌≡◌, ◌↔◌, [], false, IfOk, IfErr, OnOk, Err};
 ghost use Rattle.std.specs.Option.{option_map};
-ghost use Rattle.rs_store.specs.Contents.{empty, followed};
+ghost use Rattle.rs_message.specs.Messages.{is_sweep};
+ghost use Rattle.rs_store.specs.Contents.{IsAdded, empty};
 ghost use Rattle.rs_store.specs.History.{IsAnswer, IsAnswerWithin};
 ghost use Rattle.rs_session.specs.Gate.{Grows, Uses, Submits};
-ghost use Rattle.rs_session.specs.Local.{local_mark, next_entry, IsFull};
+ghost use Rattle.rs_session.specs.Local.{local_mark, next_entry, IsFull, IsLeft};
 ghost use Rattle.rs_program.specs.OwnStores.{IsOwn, content_of};
 ghost use Rattle.rs_program.specs.declared.own_store.TheConstants.{MAX_OWN_TOPICS};
 
@@ -40,16 +41,16 @@ impl Gate for OwnStore {
 
     ghost mark = { λ store. local_mark (content_of store) };
 
-    /// `Full` if no serial is left or the store has no room, `NoMemory` if memory is refused. On either the
-    /// store is as before.
+    /// `Full` if no serial is left or the store has no room, `NoMemory` if memory is refused. A Set for which a Sweep makes room is
+    /// preceded by that Sweep. Refused, the store is as before, but that this Sweep may stay if memory is refused.
     fn submit(&mut self, operation: Operation) -> Result<(), SubmitFault>
+        requires { is_sweep operation ≡ false }
         ensures list { Grows (IsOwn (content_of self.old)) (IsOwn (content_of self.new))
             (Submits operation (local_mark (content_of self.old)) (local_mark (content_of self.new)) result) }
         ensures mark { Uses (local_mark (content_of self.old)) (local_mark (content_of self.new)) }
         ensures full { (result ≡ Err SubmitFault.Full) ↔ IsFull (content_of self.old) operation }
-        ensures faults { IfErr result (λ fault. (fault ≡ SubmitFault.Full) ⊎ (fault ≡ SubmitFault.NoMemory)) }
-        ensures done { OnOk result (content_of self.new ≡ followed (content_of self.old) (next_entry (content_of self.old) operation)) }
-        ensures refused { OnErr result (content_of self.new ≡ content_of self.old) }
+        ensures done { OnOk result (IsAdded (content_of self.old) (next_entry (content_of self.old) operation) (content_of self.new)) }
+        ensures refused { IfErr result (λ fault. IsLeft (content_of self.old) operation fault (content_of self.new)) }
     {
         match self.gate.submit(operation) {
             Ok(()) => Ok(()),

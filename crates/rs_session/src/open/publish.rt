@@ -1,6 +1,7 @@
 //! PUBLISH: section 3.3.
 
 ghost use Rattle.std.specs.Prelude.{◌≡◌, ℕ, List, None, Some, Ok, Err, true, false, option_map};
+ghost use Rattle.rs_message.specs.Messages.{is_sweep};
 ghost use Rattle.rs_message.specs.declared.entry.Operation.{Operation};
 ghost use Rattle.rs_session.specs.Gate.{Grows, GrowsAnswering, IsHandedOver, Uses};
 ghost use Rattle.rs_session.specs.Points.{given_at, point_at};
@@ -62,6 +63,7 @@ impl Open {
     }
 
     /// Hands the change that a PUBLISH asks for to the store.
+    #[tactic(auto, using(crate::proofs::Submitting::no_sweep))]
     fn store<G: Gate>(&mut self, alloc: Global, gate: &mut G, p: Publish, now: u64) -> Outcome
         requires { outcome_before p self.old ≡ None }
         ensures { GrowsAnswering G.stands G.mark gate.old gate.new (λ seen answered list.
@@ -101,7 +103,8 @@ impl Open {
         qos: Qos,
         id: Option<PacketId>,
     ) -> Outcome
-        requires { is_one_too_many (held_id qos id) self.old.inbound ≡ false }
+        requires room { is_one_too_many (held_id qos id) self.old.inbound ≡ false }
+        requires change { is_sweep operation ≡ false }
         ensures list { Grows (G.stands gate.old) (G.stands gate.new) (λ seen list.
             IsHandedOver operation (G.mark gate.new) seen list
             × IsSettled operation qos id (point_at self.old seen (G.mark gate.old)) result (point_at self.new list (G.mark gate.new))) }

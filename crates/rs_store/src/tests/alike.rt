@@ -1,6 +1,7 @@
 //! Both catalogues over one list of entries, drawn by a fixed generator.
 
-ghost use Rattle.std.specs.Prelude.{◌<◌};
+ghost use Rattle.std.specs.Prelude.{◌≡◌, ◌<◌, false, IfOk};
+ghost use Rattle.rs_message.specs.Messages.{is_sweep};
 
 use super::{as_many, message, origin};
 use crate::{Catalogue, MapCatalogue, Refusal, TopicLimit, TreeCatalogue, add};
@@ -12,13 +13,13 @@ use std::test::Fail;
 
 /// A linear congruential generator.
 #[derive(Drop)]
-struct Draw {
-    state: u64,
+pub struct Draw {
+    pub state: u64,
 }
 
 impl Draw {
     /// A number below the bound.
-    fn below(&mut self, bound: u64) -> u64
+    pub fn below(&mut self, bound: u64) -> u64
         requires { 0 < bound }
         ensures { result < bound }
     {
@@ -40,7 +41,7 @@ impl Draw {
 }
 
 /// Levels of a topic name. Long names share most of theirs.
-fn name_of(alloc: Global, draw: &mut Draw) -> Result<Vec<u8>, Fail> {
+pub fn name_of(alloc: Global, draw: &mut Draw) -> Result<Vec<u8>, Fail> {
     let levels: [&[u8]; 8] = [b"a", b"a", b"b", b"", b"$s", b"a.b", b"$", b"aa"];
     let mut name = Vec::new(alloc);
     let length = draw.length();
@@ -79,7 +80,9 @@ fn filter_of(alloc: Global, draw: &mut Draw) -> Result<Vec<u8>, Fail> {
 }
 
 /// What an entry does: two Sets of three, with an interval or none.
-fn operation_of(alloc: Global, name: &[u8], kind: u64) -> Result<Operation, Fail> {
+fn operation_of(alloc: Global, name: &[u8], kind: u64) -> Result<Operation, Fail>
+    ensures { IfOk result (λ o. is_sweep o ≡ false) }
+{
     let topic = TopicName::read(alloc, name)?;
     Ok(match kind {
         0 => Operation::Set(topic, message(alloc, b"x", Some(10))?),
@@ -120,7 +123,7 @@ fn answer_of<C: Catalogue>(
 }
 
 /// The filter is answered alike. Says whether there was anything to find.
-fn is_alike<C: Catalogue, D: Catalogue>(
+pub fn is_alike<C: Catalogue, D: Catalogue>(
     rt: &impl Abort,
     alloc: Global,
     first: &C,

@@ -2,9 +2,10 @@ use Rattle.std.proofs.Common.{◌≡◌, ◌+◌, ◌<◌, length}
 use Rattle.crossbeam_channel.specs.Ends.{receives_on}
 use Rattle.rs_version.specs.Writer.{kept_of}
 use Rattle.rs_intake.specs.Names.{IsQueue}
-use Rattle.rs_intake.specs.Parts.{IsPart}
+use Rattle.rs_intake.specs.Sweeps.{without_sweeps}
+use Rattle.rs_intake.proofs.Sweeps.{Serves}
 use Rattle.rs_intake.proofs.writer.run_writer_for.Given as goal
 
 abbrev pub invariant-loop : goal.invariant-loop
 invariant-loop g l = IsQueue g.N.LineName.queue (receives_on l.receiver)
-    × IsPart (kept_of l.writer) l.jobs.entries × (l.taken ≡ length l.jobs.entries) × (length (kept_of l.writer) + l.refused ≡ l.taken) × (0 < l.open)
+    × Serves l.jobs.entries (kept_of l.writer) × (l.taken ≡ length l.jobs.entries) × (length (without_sweeps (kept_of l.writer)) + l.refused ≡ l.taken) × (0 < l.open)

@@ -1,10 +1,13 @@
-use Rattle.std.proofs.Common.{sym, subst, ◌∙◌}
-use Rattle.rs_version.specs.Writer.{Declines, Written}
-use Rattle.rs_version.proofs.WriterState.{declines_refuses}
+use Rattle.std.proofs.Common.{ap, ◌∙◌}
+use Rattle.rs_version.specs.Writer.{settled}
+use Rattle.rs_version.proofs.WriterState.{ready_adds, ready_holds, ready_refuses}
 use Rattle.rs_version.proofs.writer.VersionWriter.put.Goals as goal
 
-pub returns-in-Err-accept-clause-refused : goal.returns-in-Err-accept-clause-refused
-returns-in-Err-accept-clause-refused g c =
-    let same = c.in-Err-accept.ensures.1 in
-    let P : Written → Type 0 = λ w. Declines g.N.StoreName.limit w.published c.args.entry c.in-Err-accept.fault in
-    declines_refuses _ _ _ _ c.in-Err-accept.fault (same ∙ c.in-Ok.ensures.1) (subst P (sym same) c.in-Err-accept.ensures.0)
+pub returns-in-Err-append-clause-refused : goal.returns-in-Err-append-clause-refused
+returns-in-Err-append-clause-refused g c = ready_refuses g.N.StoreName.limit c.args.self.now c.make_room.new.self c.append.new.self c.args.entry c.in_default.ensures.ready c.in-Err-append.ensures
+
+pub returns-in-Ok-Some-clause-published : goal.returns-in-Ok-Some-clause-published
+returns-in-Ok-Some-clause-published g c = ready_adds g.N.StoreName.limit c.args.self.now c.make_room.new.self c.retry.new.self c.args.entry c.in_default.ensures.ready (c.in-Ok-Some.ensures.published ∙ ap settled c.in-Ok.ensures)
+
+pub returns-in-Err-retry-clause-refused : goal.returns-in-Err-retry-clause-refused
+returns-in-Err-retry-clause-refused g c = ready_holds g.N.StoreName.limit c.args.self.now c.make_room.new.self c.retry.new.self c.args.entry c.in_default.ensures.ready (c.in-Err-retry.ensures.refused.1 ∙ c.in-Ok.ensures)

@@ -1,12 +1,9 @@
 use Rattle.rs_program.specs.OwnStores.{content_of}
-use Rattle.rs_session.proofs.Submitting.{not_submitted}
-use Rattle.rs_program.specs.OwnStores.{IsOwn}
-use Rattle.rs_program.proofs.Submits.{own_submitted}
+use Rattle.rs_program.proofs.Submits.{own_left, own_submitted}
 use Rattle.rs_program.proofs.own_store.gate.OwnStoreGate.submit.Goals as goal
 
 pub returns-in-Ok-clause-list : goal.returns-in-Ok-clause-list
-returns-in-Ok-clause-list c = λ seen own.
-    own_submitted (content_of c.args.self.now) _ c.args.operation seen c.args.self.now.limit (λ full. let e = c.in-Ok.ensures.full.1 full in absurd cc) c.in-Ok.ensures.done own
+returns-in-Ok-clause-list c = λ seen own. own_submitted (content_of c.args.self.now) _ c.args.operation seen c.args.self.now.limit c.in-Ok.ensures.done own
 
 pub returns-in-Err-clause-list : goal.returns-in-Err-clause-list
-returns-in-Err-clause-list c = not_submitted IsOwn (content_of c.args.self.now) _ c.args.operation _ _ _ c.in-Err.ensures.refused
+returns-in-Err-clause-list c = λ seen own. own_left (content_of c.args.self.now) _ c.args.operation c.in-Err.fault seen c.args.self.now.limit c.in-Err.ensures.refused own
