@@ -56,6 +56,28 @@ impl<N: LineName> Queue<N> {
         } = self;
         taken.next(rt, &receiver, &mut Patience::new())
     }
+
+    /// Takes one job, puts another entry in its stead, and answers the job with that receipt. Gives the queue up.
+    #[cfg(test)]
+    pub(crate) fn answer_with<R: Wait + Drop, W: Wait>(
+        self,
+        rt: &W,
+        writer: &mut VersionWriter<N, R>,
+        other: Entry,
+    ) {
+        let Queue {
+            receiver,
+            mut taken,
+            mut replies,
+        } = self;
+        if let Some(Job::Put(job)) = taken.next(rt, &receiver, &mut Patience::new()) {
+            let origin = job.origin;
+            let answer = writer.put(other);
+            if let Some(to) = replies.get_mut(origin.place() as usize - 1) {
+                to.send(rt, Reply { origin, answer });
+            }
+        }
+    }
 }
 
 /// What the writer's loop leaves.

@@ -87,7 +87,7 @@ impl Server {
     ///
     /// # Errors
     ///
-    /// [`NoMemory`](ListenFault::NoMemory) if memory is refused for the store, the queue or the places,
+    /// [`NoMemory`](ListenFault::NoMemory) if memory is refused for the store, the queue or the gates of the places,
     /// [`NoThread`](ListenFault::NoThread) if the thread of the store's writer, or that of every place, cannot be started. No client
     /// was served.
     pub fn run<H: Clock + Threads + Wait + Copy + Send + Sync + 'static>(

@@ -59,7 +59,6 @@ abbrev pub outcome_of_alias : Option ℕ → Option Outcome → Option Outcome
 outcome_of_alias (Some alias) rest = Some (Closes TopicAliasInvalid)
 outcome_of_alias None rest = rest
 
--- what a PUBLISH leads to before its topic is used: by a topic alias, then by its topic, then by its identifier
 -- what a PUBLISH leads to before its topic is used: a topic alias, then a topic that is not a topic name, then
 -- its identifier
 abbrev pub outcome_before : Publish → Open → Option Outcome

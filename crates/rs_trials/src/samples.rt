@@ -29,15 +29,21 @@ pub fn found(alloc: Global, topic: &TopicName, qos: Qos) -> Result<Found, Failur
     })
 }
 
+/// So many topics in a row make a house: more below one level than the tree keeps without a branch.
+pub const HOUSE: u64 = 16;
+
 /// The topic of this number. In a tree of levels, of four topics in a row the first is new at the root, the second in the middle,
-/// the third below a message, and the fourth above others.
+/// the third below a message, and the fourth above others. The last of a house stands beside a level below which all its other doors
+/// are.
 pub fn topic(alloc: Global, number: u64) -> Result<TopicName, Failure> {
-    let device = number / 4;
-    let text = match number % 4 {
-        0 => format!(in alloc; "{device:06}/door/state")?,
-        1 => format!(in alloc; "{device:06}/door/lock")?,
-        2 => format!(in alloc; "{device:06}/door/state/since")?,
-        _ => format!(in alloc; "{device:06}")?,
+    let (house, part) = (number / HOUSE, number % HOUSE);
+    let door = part / 4;
+    let text = match part % 4 {
+        0 => format!(in alloc; "{house:06}-{door}")?,
+        1 => format!(in alloc; "{house:06}/door/main/{door}/state")?,
+        2 => format!(in alloc; "{house:06}/door/main/{door}/state/since")?,
+        _ if part == HOUSE - 1 => format!(in alloc; "{house:06}/door/side")?,
+        _ => format!(in alloc; "{house:06}/door/main/{door}")?,
     };
     Ok(TopicName::read(alloc, text.as_str().as_bytes())?)
 }
@@ -51,14 +57,17 @@ fn even_topic(alloc: Global, number: u64) -> Result<TopicName, Failure> {
     Ok(TopicName::read(alloc, text.as_str().as_bytes())?)
 }
 
-/// The topic of this number, of the most levels. Those of 2n and 2n + 1 share all levels but the last.
+/// The topic of this number, of the most levels. Of eleven in a row the first two share all levels but the last, and so do the other
+/// nine, which are more than the tree keeps without a branch.
 fn deep_topic(alloc: Global, number: u64) -> Result<TopicName, Failure> {
-    let pair = number / 2;
-    let mut text = format!(in alloc; "{pair:05}/")?;
+    let (row, part) = (number / 11, number % 11);
+    let group = if part < 2 { 2 * row } else { 2 * row + 1 };
+    let mut text = format!(in alloc; "{group:05}/")?;
     for _ in 2..MAX_LEVELS {
         text.push_str("a/")?;
     }
-    text.push_str(if number % 2 == 0 { "a" } else { "b" })?;
+    let last = format!(in alloc; "{part:x}")?;
+    text.push_str(last.as_str())?;
     Ok(TopicName::read(alloc, text.as_str().as_bytes())?)
 }
 

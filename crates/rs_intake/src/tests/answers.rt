@@ -120,6 +120,37 @@ fn dropped_queue(rt: HostRuntime) -> Result<(), Fail> {
     dropped_queue_named::<Brand, _>(rt, alloc, blank, blank_queue(alloc, 1)?)
 }
 
+fn strange_receipt_named<
+    N: LineName + Send + Sync + 'static,
+    R: Threads + Wait + Abort + Copy + Send + Sync + 'static,
+>(rt: R, alloc: Global, blank: Blank, queue: BlankQueue) -> Result<(), Fail>
+    requires store { (blank.history ≡ N.history) × (blank.limit ≡ N.limit) }
+    requires queue { (queue.name ≡ N.queue) × (queue.places ≡ N.places) }
+{
+    let Opened {
+        mut writer,
+        seats: _seats,
+        intake,
+        mut lines,
+        queue,
+    } = open_both::<N, R>(rt, blank, queue)?;
+    let mut line = lines.pop().ok_or("there are lines")?;
+    // The receipt of an entry of another place.
+    let other = entry_of(2, 1, set(alloc, b"a", b"1")).ok_or("an entry")?;
+    let thread = spawn(&rt, move || queue.answer_with(&rt, &mut writer, other))?;
+    let strange = answer(&rt, &intake, &mut line, set(alloc, b"a", b"1"))?;
+    thread.join(&rt);
+    assert_eq!(rt; (strange, line.serial()), ((0, 43), 1));
+    Ok(())
+}
+
+#[test]
+fn strange_receipt(rt: HostRuntime) -> Result<(), Fail> {
+    let alloc = rt.alloc();
+    let blank = blank_store(alloc, 2, 1)?;
+    strange_receipt_named::<Brand, _>(rt, alloc, blank, blank_queue(alloc, 1)?)
+}
+
 fn entry_of(place: u8, serial: u64, operation: Option<Operation>) -> Option<Entry> {
     let origin = Origin::new(place, serial)?;
     let operation = operation?;

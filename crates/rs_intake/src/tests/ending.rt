@@ -10,12 +10,10 @@ use rs_version::Blank;
 use std::alloc::Global;
 use std::marker::{Brand, PhantomData};
 use std::process::Abort;
-use std::rt::Clock;
 use std::sync::atomic::{AtomicU64, Ordering};
 use std::sync::{Arc, Wait};
 use std::test::Fail;
-use std::thread::{Threads, sleep, spawn};
-use std::time::Duration;
+use std::thread::{Threads, spawn, yield_now};
 
 /// How many submits a place makes at most.
 const TURNS: u32 = 100;
@@ -23,16 +21,16 @@ const TURNS: u32 = 100;
 /// How many jobs the writer takes: fewer than the places have to submit, more than one round of them.
 const JOBS: u64 = 1000;
 
-/// How often is looked, a hundredth of a second apart, whether all places have ended. They take less than a second.
-const LOOKS: u32 = 3000;
+/// How often is looked whether all places have ended. After each look the processor is given up.
+const LOOKS: u32 = 100_000_000;
 
-/// Fails if not all places end in time, since a place that waits for ever can't be joined.
-fn watch<R: Clock + Abort>(rt: &R, ended: &AtomicU64) {
+/// Fails if not all places have ended after so many turns, since a place that waits for ever can't be joined.
+fn watch<R: Abort>(rt: &R, ended: &AtomicU64) {
     for _ in 0..LOOKS {
         if ended.load(Ordering::SeqCst) == u64::from(MAX_PLACES) {
             return;
         }
-        sleep(rt, Duration::from_millis(10));
+        yield_now();
     }
     let ended = ended.load(Ordering::SeqCst);
     assert!(rt;
@@ -71,7 +69,7 @@ fn is_answered(kept: u32, fault: u8) -> bool {
 
 fn each_is_answered_named<
     N: LineName + Send + Sync + 'static,
-    R: Threads + Wait + Abort + Clock + Copy + Send + Sync + 'static,
+    R: Threads + Wait + Abort + Copy + Send + Sync + 'static,
 >(rt: R, alloc: Global, blank: Blank, queue: BlankQueue) -> Result<(), Fail>
     requires store { (blank.history ≡ N.history) × (blank.limit ≡ N.limit) }
     requires queue { (queue.name ≡ N.queue) × (queue.places ≡ N.places) }

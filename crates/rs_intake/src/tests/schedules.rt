@@ -142,23 +142,26 @@ fn entry_at<N: LineName>(records: &[Record<N>], number: u64) -> Option<Entry> {
     entry
 }
 
+/// Appends what the store reads.
+fn add_text(alloc: Global, catalogue: &MapCatalogue, texts: &mut Vec<Vec<u8>>) -> Option<()> {
+    let filter = TopicFilter::read(alloc, b"#").ok()?;
+    let found = catalogue.answer(&filter, 0).ok()?;
+    texts.push(text_of(alloc, found)?).ok()
+}
+
 /// What a store of one thread reads after each of the entries, from none to this many, in the order of their numbers.
 fn texts<N: LineName>(alloc: Global, records: &[Record<N>], version: u64) -> Option<Vec<Vec<u8>>> {
-    let filter = TopicFilter::read(alloc, b"#").ok()?;
-    let mut catalogue = MapCatalogue::new(alloc, TopicLimit::new(TOPICS)?).ok()?;
+    let limit = TopicLimit::new(TOPICS)?;
+    let mut catalogue = MapCatalogue::new(alloc, limit).ok()?;
     let mut texts = Vec::new(alloc);
-    texts
-        .push(text_of(alloc, catalogue.answer(&filter, 0).ok()?)?)
-        .ok()?;
+    add_text(alloc, &catalogue, &mut texts)?;
     for before in 0..version {
         let entry = entry_at(records, before + 1)?;
         if entry.operation.is_sweep() {
             return None;
         }
         add(&mut catalogue, entry).ok()?;
-        texts
-            .push(text_of(alloc, catalogue.answer(&filter, 0).ok()?)?)
-            .ok()?;
+        add_text(alloc, &catalogue, &mut texts)?;
     }
     Some(texts)
 }

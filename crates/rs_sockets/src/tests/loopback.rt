@@ -2,6 +2,7 @@
 
 use crate::connection::{FromClient, ToClient, close};
 use crate::listener::Listener;
+use crate::splitting::finish;
 use std::alloc::Global;
 use std::io::{Read, Write};
 use std::net::{Net, Shutdown, TcpListener, TcpStream};
@@ -31,6 +32,16 @@ fn serve(input: &mut FromClient, output: &mut ToClient) -> io::Result<()> {
         output.write_all(&[byte[0], b'-', byte[0], b'.'])?;
         output.flush()?;
     }
+    Ok(())
+}
+
+#[test]
+fn nothing_waits_for_more(rt: HostRuntime) -> Result<(), Fail> {
+    let alloc = rt.alloc();
+    let (listener, _client) = meet(&rt, alloc)?;
+    let (input, output) = listener.accept(&rt, alloc).ok_or("no connection")?;
+    let (_reader, stream) = finish(input, output)?;
+    assert!(rt; stream.nodelay()?);
     Ok(())
 }
 

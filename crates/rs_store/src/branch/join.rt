@@ -1,4 +1,4 @@
-//! Joins a branch that is left with one child and no message to that child.
+//! Does without a branch that is left with one child and no message, or with one message and no child.
 
 ghost use Rattle.std.specs.Prelude.{◌≡◌, false, [], ◌∷◌, IfNone, IfSome, IsSome, IsTrue};
 ghost use Rattle.rs_topic.specs.Topics.{levels};
@@ -7,8 +7,10 @@ ghost use Rattle.rs_store.specs.Nodes.{stem_spots};
 ghost use Rattle.rs_store.specs.Spots.{below, levels_from, under};
 
 use super::{Child, Node, Stem};
-use crate::chain::joined;
-use crate::level::is_level;
+use crate::chain::{behind, joined};
+use crate::found::copied;
+use crate::level::{is_level, level_at};
+use rs_message::Found;
 use std::alloc::Global;
 use std::collections::BTreeMap;
 
@@ -40,6 +42,26 @@ fn take_only(
     Some(child)
 }
 
+/// A bucket of a message, if the rest of its topic is the levels of a chain. `None` if not, or if memory is refused.
+fn lone(alloc: Global, chain: &[u8], found: &Found, at: usize) -> Option<Child>
+    ensures { IfSome result (λ child. child ≡ under_all (levels_from 1 chain.now) (([], found.now) ∷ [])) }
+{
+    let topic = found.topic.as_bytes();
+    let Some(next) = behind(chain, topic, at) else {
+        return None;
+    };
+    let None = level_at(topic, next) else {
+        return None;
+    };
+    let Ok(copy) = copied(found) else {
+        return None;
+    };
+    match Child::of(alloc, copy, at) {
+        Ok(child) => Some(child),
+        Err(_) => None,
+    }
+}
+
 impl Stem {
     /// Takes out the only child, if the branch has one child and no message. If not, or if memory is refused, nothing changes.
     fn only_child(&mut self, alloc: Global, at: usize) -> Option<Child>
@@ -50,6 +72,19 @@ impl Stem {
             return None;
         }
         take_only(&mut self.branch.children, alloc, self.chain.as_slice(), at)
+    }
+
+    /// A bucket of the only message, if the branch has no child. `None` if not, or if memory is refused.
+    fn only_message(&self, alloc: Global, at: usize) -> Option<Child>
+        ensures { IfSome result (λ child. child ≡ stem_spots self.now) }
+    {
+        if !self.branch.children.is_empty() {
+            return None;
+        }
+        let Some(found) = &self.branch.held else {
+            return None;
+        };
+        lone(alloc, self.chain.as_slice(), found, at)
     }
 }
 
@@ -66,15 +101,19 @@ impl Child {
         }
     }
 
-    /// Puts the only child of a branch without a message in the place of the branch. If memory is refused, the branch stays, and the
-    /// next Set or Clear that goes through it tries again.
+    /// Puts the only child of a branch without a message, or a bucket of the only message of a branch without a child, in the place of
+    /// the branch. If memory is refused, the branch stays, and the next Set or Clear that goes through it tries again.
     pub fn join(&mut self, alloc: Global, at: usize)
         ensures { self.new ≡ self.old }
     {
         let Node::Inner(stem) = &mut self.node else {
             return;
         };
-        if let Some(child) = stem.only_child(alloc, at) {
+        let only = match stem.only_message(alloc, at) {
+            Some(child) => Some(child),
+            None => stem.only_child(alloc, at),
+        };
+        if let Some(child) = only {
             *self = child;
         }
     }

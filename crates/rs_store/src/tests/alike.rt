@@ -248,3 +248,43 @@ fn shared_levels(rt: HostRuntime) -> Result<(), Fail> {
     assert_eq!(rt; tree.count(), 2);
     Ok(())
 }
+
+/// Sets or clears a topic, and then eight below it, in both.
+fn with_eight_below<C: Catalogue, D: Catalogue>(
+    alloc: Global,
+    first: &mut C,
+    second: &mut D,
+    name: &[u8],
+    kinds: (u64, u64),
+) -> Result<(), Fail> {
+    let (own, below) = kinds;
+    let lasts: [&[u8]; 9] = [b"", b"/1", b"/2", b"/3", b"/4", b"/5", b"/6", b"/7", b"/8"];
+    for last in lasts {
+        let mut whole = Vec::from_slice(alloc, name)?;
+        whole.extend_from_slice(last)?;
+        let kind = if last.is_empty() { own } else { below };
+        let serial = first.last_serial(1).saturating_add(1);
+        put(alloc, first, serial, whole.as_slice(), kind)??;
+        put(alloc, second, serial, whole.as_slice(), kind)??;
+    }
+    Ok(())
+}
+
+#[test]
+fn lone_messages(rt: HostRuntime) -> Result<(), Fail> {
+    let alloc = rt.alloc();
+    let limit = TopicLimit::new(300).ok_or("300 is a limit")?;
+    let mut map = MapCatalogue::new(alloc, limit)?;
+    let mut tree = TreeCatalogue::new(alloc, limit)?;
+    let names: [&[u8]; 5] = [b"a/a", b"a/b", b"b/a", b"b/b", b"c"];
+    for name in names {
+        with_eight_below(alloc, &mut map, &mut tree, name, (1, 1))?;
+        assert!(rt; 1 < tree.branches());
+        // The topic is set again.
+        with_eight_below(alloc, &mut map, &mut tree, name, (1, 4))?;
+        is_alike(&rt, alloc, &map, &tree, b"#")?;
+    }
+    // The root, and those of `a` and `b`, which have two children.
+    assert_eq!(rt; (tree.count(), tree.branches()), (5, 3));
+    Ok(())
+}

@@ -3,18 +3,18 @@
 ghost use Rattle.std.specs.Prelude.{◌<◌};
 
 use crate::failure::{Failure, expect};
-use crate::samples::{clear, set, topic};
+use crate::samples::{HOUSE, clear, set, topic};
 use rs_message::Found;
 use rs_store::{Catalogue, Refusal, TopicLimit, add};
 use rs_topic::TopicFilter;
 use std::alloc::{AllocError, Global};
 
 /// How many topics are added: so many that the catalogue has to grow more than once.
-const TOPICS: u32 = 60;
+const TOPICS: u32 = 64;
 
 /// Each time that so many topics were added, the last one is cleared and added again. The catalogue is copied before, between and
 /// after.
-const ROUND: u32 = 12;
+const ROUND: u32 = HOUSE as u32;
 
 /// What a catalogue shows: the last is its answers to some filters.
 #[derive(Drop)]
@@ -160,9 +160,9 @@ impl<C: Catalogue + Drop> Run<C> {
     }
 }
 
-/// All topics, those of one device, and some whose levels lie on both sides of a branch that a Clear joins to its only child.
+/// All topics, those of one house, and some whose levels lie on both sides of a branch that a Clear joins to its only child.
 fn filters(alloc: Global) -> Result<Vec<TopicFilter>, Failure> {
-    let texts: [&[u8]; 4] = [b"#", b"000002/#", b"+/door/+", b"+"];
+    let texts: [&[u8]; 4] = [b"#", b"000002/#", b"+/door/main/+", b"+/+/side"];
     let mut filters = Vec::new(alloc);
     for text in texts {
         filters.push(TopicFilter::read(alloc, text)?)?;

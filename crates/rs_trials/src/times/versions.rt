@@ -142,7 +142,7 @@ fn beside<H: Clock + Threads + Wait + Sync, N: StoreName + Send + Sync, W: Wait 
     load: Load,
 ) -> Result<(Times, u64), Failure> {
     let shared = Shared {
-        filter: TopicFilter::read(alloc, b"000000/door/lock")?,
+        filter: TopicFilter::read(alloc, b"000000/door/main/0/state")?,
         threads: load.readers.saturating_add(1),
         started: AtomicU32::new(0),
         stop: AtomicBool::new(false),
