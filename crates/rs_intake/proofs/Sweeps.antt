@@ -6,9 +6,8 @@ use Rattle.std.proofs.lemmas.List.Elements.{filter-append}
 use Rattle.std.proofs.lemmas.Bool.Decides.{nat_tests}
 use Rattle.rs_message.specs.Messages.{is_sweep}
 use Rattle.rs_message.specs.declared.entry.Entry.{Entry}
-use Rattle.rs_message.specs.declared.entry.Operation.TheVariants.{Sweep}
 use Rattle.rs_store.specs.Adding.{Adds}
-use Rattle.rs_store.specs.History.{IsLegal, IsSweptFor, SerialsRise, cleaned, extended, last_serial, serials_of}
+use Rattle.rs_store.specs.History.{IsLegal, NeedsSweepAfter, SerialsRise, cleaned, extended, last_serial, serials_of, sweep_after}
 use Rattle.rs_store.proofs.Entries.{all_weaker}
 use Rattle.rs_store.proofs.Histories.{last_is_above, legal_front, serials_rise_more}
 use Rattle.rs_version.specs.Writer.{Refuses, Written, kept_of, settled, shows}
@@ -25,7 +24,7 @@ without_more history e plain = filter-append (λ (z : Entry). not (is_sweep z.op
 
 pub without_cleaned : (moment : ℕ) (history : List Entry) → without_sweeps (cleaned moment history) ≡ without_sweeps history
 without_cleaned moment history =
-    let sweep : Entry = record { origin = record { place = 0; serial = last_serial 0 history + 1 }; operation = Sweep moment } in
+    let sweep = sweep_after moment history in
     filter-append (λ (z : Entry). not (is_sweep z.operation)) history (sweep ∷ []) ∙ append-nil (without_sweeps history)
 
 -- a place that is not the writer's has the same serials
@@ -82,9 +81,9 @@ sweeps_more jobs kept job a = all_weaker (λ e. is_sweep e.operation ≡ true �
 sweeps_with_job : (jobs kept : List Entry) (job : Entry) → is_sweep job.operation ≡ false → AreSweepsFor jobs kept → AreSweepsFor jobs (extended kept job)
 sweeps_with_job jobs kept job plain a = all_more (λ e. is_sweep e.operation ≡ true → IsSweepFor jobs e) kept job a (λ is. absurd (cc (plain, is)))
 
-sweeps_cleaned : (limit : ℕ) (jobs kept : List Entry) (job : Entry) → AreSweepsFor jobs kept → (s : IsSweptFor limit kept job) → AreSweepsFor (jobs ++ job ∷ []) (cleaned s.message.received kept)
+sweeps_cleaned : (limit : ℕ) (jobs kept : List Entry) (job : Entry) → AreSweepsFor jobs kept → (s : NeedsSweepAfter limit kept job) → AreSweepsFor (jobs ++ job ∷ []) (cleaned s.message.received kept)
 sweeps_cleaned limit jobs kept job a s =
-    let sweep : Entry = record { origin = record { place = 0; serial = last_serial 0 kept + 1 }; operation = Sweep s.message.received } in
+    let sweep = sweep_after s.message.received kept in
     all_more (λ e. is_sweep e.operation ≡ true → IsSweepFor (jobs ++ job ∷ []) e) kept sweep (sweeps_more jobs kept job a) (λ is. record {
       before = jobs;
       setting = job;

@@ -5,7 +5,7 @@ use Rattle.rs_message.specs.Messages.{is_sweep}
 use Rattle.rs_message.specs.Values.{MessageValue}
 use Rattle.rs_message.specs.declared.entry.Entry.{Entry}
 use Rattle.rs_message.specs.declared.entry.Operation.TheVariants.{Set, Sweep}
-use Rattle.rs_store.specs.History.{IsSweptFor, cleaned}
+use Rattle.rs_store.specs.History.{NeedsSweepAfter, cleaned}
 
 -- the entries that are no Sweep
 abbrev pub without_sweeps : List Entry → List Entry
@@ -29,4 +29,4 @@ AreSweepsFor jobs list = AllByRecursion (λ e. is_sweep e.operation ≡ true →
 
 -- the list is the history, or has the Sweep that comes before the entry behind it
 abbrev pub IsSweptAtMost : ℕ → List Entry → Entry → List Entry → Type 0
-IsSweptAtMost limit history e list = (list ≡ history) ⊎ ((s : IsSweptFor limit history e) × (list ≡ cleaned s.message.received history))
+IsSweptAtMost limit history e list = (list ≡ history) ⊎ ((s : NeedsSweepAfter limit history e) × (list ≡ cleaned s.message.received history))

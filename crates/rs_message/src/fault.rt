@@ -5,13 +5,14 @@ ghost use Rattle.rs_message.specs.Codes.{code_of};
 
 use thiserror::Error;
 
-/// Why a gate to the store gave no receipt for a change.
+/// Why a gate to the store gave no receipt for a change. Messages that are expired may have been removed all the same.
 #[derive(Clone, Copy, Debug, PartialEq, Eq, Error)]
 pub enum SubmitFault {
-    /// No entry was made: the store is full, or the place has used its last serial number.
+    /// The change was not made: the store is full of messages that are not expired, or has no number left, or the place has used its
+    /// last serial.
     #[error("the store holds as many topics as it may, or has no number left; clear a topic or raise the limit")]
     Full = 40,
-    /// Out of memory; no entry was made.
+    /// Out of memory; the change was not made.
     #[error("memory was refused, and nothing was stored; free memory and try again")]
     NoMemory = 41,
     /// No receipt came; the change may still become an entry, at most once.
@@ -20,7 +21,7 @@ pub enum SubmitFault {
     /// The receipt was for another change; whether this one is an entry is not known.
     #[error("the store answered for another change; whether this one was made is not known")]
     Strange = 43,
-    /// The gate is closed; no entry was made.
+    /// The gate is closed; the change was not made.
     #[error("the store takes no more changes; start it again")]
     Closed = 44,
 }

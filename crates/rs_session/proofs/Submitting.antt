@@ -9,12 +9,12 @@ use Rattle.rs_message.specs.Messages.{change_of, is_sweep, operation_of}
 use Rattle.rs_message.specs.Values.{MessageValue, OriginValue}
 use Rattle.rs_message.specs.declared.entry.Entry.{Entry}
 use Rattle.rs_message.specs.declared.entry.Operation.{Operation}
-use Rattle.rs_message.specs.declared.entry.Operation.TheVariants.{Set, Clear, Sweep}
+use Rattle.rs_message.specs.declared.entry.Operation.TheVariants.{Set, Clear}
 use Rattle.rs_store.specs.declared.content.Content.{Content}
 use Rattle.rs_message.specs.declared.entry.TheConstants.{MAX_PLACES}
 use Rattle.rs_store.specs.Adding.{Adds, NotAdds}
-use Rattle.rs_store.specs.Contents.{IsAdded, IsSwept, NotAddedBy, next_sweep, serial_count, swept}
-use Rattle.rs_store.specs.History.{Stands, cleaned, extended, last_serial}
+use Rattle.rs_store.specs.Contents.{IsAdded, NeedsSweep, NotAddedBy, next_sweep, serial_count, swept}
+use Rattle.rs_store.specs.History.{Stands, cleaned, extended, sweep_after}
 use Rattle.rs_store.specs.declared.fault.Refusal.TheVariants as refusal
 use Rattle.rs_session.specs.Gate.{Mark, Extends, Grows, IsHandedOver, Submits, last_origin}
 use Rattle.rs_session.specs.Local.{local_mark, next_entry}
@@ -55,10 +55,6 @@ pub not_submitted : {A : Type 0} (stands : A → List Entry → Type 0) (before 
 not_submitted stands before after operation old used fault same = λ seen s.
     (seen, subst (λ a. stands a seen) (sym same) s, ([], sym (append-nil seen)), record { handed_over = nothing_new operation used seen; kept = tt })
 
--- the Sweep of a list
-abbrev sweep_of : ℕ → List Entry → Entry
-sweep_of moment seen = record { origin = record { place = 0; serial = last_serial 0 seen + 1 }; operation = Sweep moment }
-
 -- the serial of its place is that of the entry
 serial_added : (c : Content) (e : Entry) (new : Content) → length c.serials ≡ serial_count → e.origin.place ≤ MAX_PLACES → IsAdded c e new → slice_index new.serials e.origin.place ≡ e.origin.serial
 serial_added c e new wide small (inl a) = ap (λ (w : Content). slice_index w.serials e.origin.place) a.1 ∙ get_or-set_same c.serials e.origin.place e.origin.serial 0 (omega (arith, wide, small))
@@ -89,7 +85,7 @@ submitted stands limit old new operation seen serial (inl a) =
     )
 submitted stands limit old new operation seen serial (inr a) =
     let e = next_entry old operation in
-    let sweep : Entry = sweep_of a.0.message.received seen in
+    let sweep : Entry = sweep_after a.0.message.received seen in
     let clean : List Entry = cleaned a.0.message.received seen in (
       clean ++ e ∷ [],
       a.1,
@@ -106,7 +102,7 @@ pub not_added : (stands : List Entry → Type 0) (limit : ℕ) (old new : Conten
 not_added stands limit old new operation seen fault (inl n) = (seen, n.1, ([], sym (append-nil seen)), record { handed_over = nothing_new operation (local_mark new) seen; kept = tt })
 not_added stands limit old new operation seen fault (inr (s, inl n)) = (seen, n, ([], sym (append-nil seen)), record { handed_over = nothing_new operation (local_mark new) seen; kept = tt })
 not_added stands limit old new operation seen fault (inr (s, inr n)) =
-    let sweep : Entry = sweep_of s.message.received seen in (
+    let sweep : Entry = sweep_after s.message.received seen in (
       cleaned s.message.received seen,
       n,
       (sweep ∷ [], refl),
@@ -122,7 +118,7 @@ entry_is old operation origin last is same =
     ap (λ (v : OriginValue). entry_of v operation) is ∙ ap (λ (k : ℕ). let x : Entry = record { origin = record { place = 1; serial = k + 1 }; operation = operation } in x) same
 
 -- what is left if memory is refused
-pub left_of : (c : Content) (e : Entry) (new : Content) → NotAddedBy c e refusal.NoMemory new → (new ≡ c) ⊎ ((s : IsSwept c e) × (new ≡ swept s.message.received c))
+pub left_of : (c : Content) (e : Entry) (new : Content) → NotAddedBy c e refusal.NoMemory new → (new ≡ c) ⊎ ((s : NeedsSweep c e) × (new ≡ swept s.message.received c))
 left_of c e new (inl n) = inl n.1
 left_of c e new (inr (s, inl n)) = inl n
 left_of c e new (inr (s, inr n)) = inr (s, n)

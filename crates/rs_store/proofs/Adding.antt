@@ -12,15 +12,15 @@ use Rattle.rs_message.specs.Values.{MessageValue}
 use Rattle.rs_message.specs.declared.entry.Entry.{Entry}
 use Rattle.rs_message.specs.declared.entry.Operation.TheVariants.{Set}
 use Rattle.rs_message.specs.declared.entry.TheConstants.{MAX_PLACES}
-use Rattle.rs_store.specs.Contents.{Accepts, HasRoom, IsAdded, IsNew, IsNotNext, IsSwept, NotAddedBy, after, expired_in, followed, is_gone, next_sweep, serial_count, stays, swept}
-use Rattle.rs_store.specs.History.{IsLegal, IsSweptFor, MayNotCome, Stands, cleaned, extended}
+use Rattle.rs_store.specs.Contents.{Accepts, HasRoom, IsAdded, IsNew, IsNotNext, NeedsSweep, NotAddedBy, after, expired_in, followed, is_gone, next_sweep, serial_count, stays, swept}
+use Rattle.rs_store.specs.History.{IsLegal, MayNotCome, NeedsSweepAfter, Stands, cleaned, extended, sweep_after}
 use Rattle.rs_store.specs.Adding.{Adds, NotAdds}
 use Rattle.rs_store.specs.declared.content.Content.{Content}
 use Rattle.rs_store.specs.declared.fault.Refusal.{Refusal}
 use Rattle.rs_store.specs.declared.fault.Refusal.TheVariants.{Full, Stale, NoMemory}
 use Rattle.rs_store.proofs.Maps.{filter_few}
 use Rattle.rs_store.proofs.Histories.{holds_few, legal_front, never_overfull_more}
-use Rattle.rs_store.proofs.Standing.{accepts, at_most, held_more, keeps_at_most, legal_more, may_not_follow, new_rises, rising_is_new, stands_more}
+use Rattle.rs_store.proofs.Standing.{accepts, at_most, has_room, held_more, keeps_at_most, legal_more, new_rises, rising_is_new, stands_more}
 use Rattle.rs_store.proofs.Trees.{all_counted}
 use Rattle.std.proofs.lemmas.Bool.{cases_lt}
 use Rattle.std.proofs.lemmas.Bool.Decides.{nat_tests}
@@ -45,7 +45,7 @@ all_stay moment (e ∷ es) none = at (is_gone moment e) refl (all_stay moment es
     at false is more = let n : length (filter (is_gone moment) es) ≡ 0 = rw is at none in rw is (ap (λ w. e ∷ w) (more n))
 
 -- without an expired message no Sweep makes room
-pub not_without : (c : Content) (e : Entry) (topic : List ℕ) (message : MessageValue) → e.operation ≡ Set topic message → expired_in message.received c ≡ 0 → IsSwept c e → ⊥
+pub not_without : (c : Content) (e : Entry) (topic : List ℕ) (message : MessageValue) → e.operation ≡ Set topic message → expired_in message.received c ≡ 0 → NeedsSweep c e → ⊥
 not_without c e topic message is none s =
     let same : Set s.topic s.message ≡ Set topic message = sym s.sets ∙ is in
     let one : s.message ≡ message = cc (same) in
@@ -55,7 +55,7 @@ not_without c e topic message is none s =
 
 -- with one, a Sweep makes room
 room_made : (c : Content) (e : Entry) (topic : List ℕ) (message : MessageValue) → length c.serials ≡ serial_count → e.operation ≡ Set topic message → IsNew c e → ¬ HasRoom c e → length c.held ≤ c.limit → 0 < expired_in message.received c
-    → c.version + 2 < 2 ^ 64 → slice_index c.serials 0 + 1 < 2 ^ 64 → (e.origin.place ≡ 0 → slice_index c.serials 0 + 1 < e.origin.serial) → IsSwept c e
+    → c.version + 2 < 2 ^ 64 → slice_index c.serials 0 + 1 < 2 ^ 64 → (e.origin.place ≡ 0 → slice_index c.serials 0 + 1 < e.origin.serial) → NeedsSweep c e
 room_made c e topic message wide is new full few some version serial above = record {
   topic = topic;
   message = message;
@@ -80,12 +80,12 @@ room_made c e topic message wide is new full few some version serial above = rec
         rw (get_or-set_other c.serials 0 e.origin.place (slice_index c.serials 0 + 1) 0 other) new
 
 pub makes_room : (c : Content) (e : Entry) (topic : List ℕ) (message : MessageValue) → length c.serials ≡ serial_count → e.operation ≡ Set topic message → IsNew c e → ¬ HasRoom c e → length c.held ≤ c.limit → 0 < expired_in message.received c
-    → c.version + 2 < 2 ^ 64 → slice_index c.serials 0 + 1 < 2 ^ 64 → (e.origin.place ≡ 0 → slice_index c.serials 0 + 1 < e.origin.serial) → (s : IsSwept c e) × (s.message ≡ message)
+    → c.version + 2 < 2 ^ 64 → slice_index c.serials 0 + 1 < 2 ^ 64 → (e.origin.place ≡ 0 → slice_index c.serials 0 + 1 < e.origin.serial) → (s : NeedsSweep c e) × (s.message ≡ message)
 unfolding room_made
 makes_room c e topic message wide is new full few some version serial above = (room_made c e topic message wide is new full few some version serial above, refl)
 
 -- nor does one whose serial is not below that of the Set, if that is the writer's too
-pub not_above : (c : Content) (e : Entry) → length c.serials ≡ serial_count → e.origin.place ≡ 0 → e.origin.serial ≤ slice_index c.serials 0 + 1 → IsSwept c e → ⊥
+pub not_above : (c : Content) (e : Entry) → length c.serials ≡ serial_count → e.origin.place ≡ 0 → e.origin.serial ≤ slice_index c.serials 0 + 1 → NeedsSweep c e → ⊥
 not_above c e wide zero small s =
     let there : get_or (set c.serials 0 (slice_index c.serials 0 + 1)) 0 0 ≡ slice_index c.serials 0 + 1 = get_or-set_same c.serials 0 (slice_index c.serials 0 + 1) 0 (omega (arith, wide)) in
     let above : get_or (set c.serials 0 (slice_index c.serials 0 + 1)) 0 0 < e.origin.serial = rw zero at s.fits.0 in
@@ -93,13 +93,13 @@ not_above c e wide zero small s =
 
 -- ---- the same of lists
 
-same_sweep : (c : Content) (history : List Entry) (moment : ℕ) → Stands c history → extended history (next_sweep moment c) ≡ cleaned moment history
+same_sweep : (c : Content) (history : List Entry) (moment : ℕ) → Stands c history → next_sweep moment c ≡ sweep_after moment history
 same_sweep c history moment s = rw (s.serials 0) refl
 
 pub stands_swept : (c : Content) (history : List Entry) (moment : ℕ) → Stands c history → Accepts c (next_sweep moment c) → Stands (swept moment c) (cleaned moment history)
-stands_swept c history moment s a = let P : List Entry → Type 0 = λ l. Stands (swept moment c) l in subst P (same_sweep c history moment s) (stands_more c history (next_sweep moment c) s (omega arith) a)
+stands_swept c history moment s a = let P : List Entry → Type 0 = λ l. Stands (swept moment c) l in subst P (ap (λ (z : Entry). extended history z) (same_sweep c history moment s)) (stands_more c history (next_sweep moment c) s (omega arith) a)
 
-pub swept_for : (c : Content) (history : List Entry) (e : Entry) → Stands c history → e.origin.place ≤ MAX_PLACES → (s : IsSwept c e) → IsSweptFor c.limit history e
+pub swept_for : (c : Content) (history : List Entry) (e : Entry) → Stands c history → e.origin.place ≤ MAX_PLACES → (s : NeedsSweep c e) → NeedsSweepAfter c.limit history e
 swept_for c history e stands small s = record {
   topic = s.topic;
   message = s.message;
@@ -110,10 +110,10 @@ swept_for c history e stands small s = record {
   legal = legal_more (swept s.message.received c) (cleaned s.message.received history) e (stands_swept c history s.message.received stands s.sweeps) s.fits;
 }
 
-pub swept_back : (c : Content) (history : List Entry) (e : Entry) → Stands c history → 0 < e.origin.serial → IsSweptFor c.limit history e → IsSwept c e
+pub swept_back : (c : Content) (history : List Entry) (e : Entry) → Stands c history → 0 < e.origin.serial → NeedsSweepAfter c.limit history e → NeedsSweep c e
 swept_back c history e stands some s =
     let clean = legal_front c.limit (cleaned s.message.received history) (extended (cleaned s.message.received history) e) (e ∷ [], refl) s.legal in
-    let sweeps = accepts c history (next_sweep s.message.received c) stands (omega arith) (let P : List Entry → Type 0 = λ l. IsLegal c.limit l in subst P (sym (same_sweep c history s.message.received stands)) clean) in
+    let sweeps = accepts c history (next_sweep s.message.received c) stands (omega arith) (let P : List Entry → Type 0 = λ l. IsLegal c.limit l in subst P (sym (ap (λ (z : Entry). extended history z) (same_sweep c history s.message.received stands))) clean) in
     record {
       topic = s.topic;
       message = s.message;
@@ -137,22 +137,22 @@ named n o r some is = at (nat_lt 0 n) refl is
 
 -- the Sweep that comes before the entry
 abbrev pub Precedes : Content → Entry → Entry → Type 0
-Precedes c e sweep = (s : IsSwept c e) × (sweep ≡ next_sweep s.message.received c)
+Precedes c e sweep = (s : NeedsSweep c e) × (sweep ≡ next_sweep s.message.received c)
 
-pub precedes : (c : Content) (history : List Entry) (e sweep : Entry) → Stands c history → e.origin.place ≤ MAX_PLACES → Precedes c e sweep → (s : IsSweptFor c.limit history e) × (extended history sweep ≡ cleaned s.message.received history)
+pub precedes : (c : Content) (history : List Entry) (e sweep : Entry) → Stands c history → e.origin.place ≤ MAX_PLACES → Precedes c e sweep → (s : NeedsSweepAfter c.limit history e) × (sweep ≡ sweep_after s.message.received history)
 unfolding swept_for
-precedes c history e sweep s small p = (swept_for c history e s small p.0, ap (λ (z : Entry). extended history z) p.1 ∙ same_sweep c history p.0.message.received s)
+precedes c history e sweep s small p = (swept_for c history e s small p.0, p.1 ∙ same_sweep c history p.0.message.received s)
 
 pub may_not_come : (c : Content) (history : List Entry) (e : Entry) (r : Refusal) → Stands c history → 0 < e.origin.serial → IsNotNext c e r → MayNotCome c.limit history e r
-may_not_come c history e Stale s some n = may_not_follow c history e Stale s some n
-may_not_come c history e Full s some n = (may_not_follow c history e Full s some (n.0, n.1), λ w. n.2 (swept_back c history e s some w))
+may_not_come c history e Stale s some n = λ rises. n (rising_is_new c history e s some rises)
+may_not_come c history e Full s some n = (new_rises c history e s n.0.0, λ room. n.0.1 (has_room c history e s room), λ w. n.1 (swept_back c history e s some w))
 may_not_come c history e NoMemory s some n = absurd n
 
 -- ---- what `add` makes of a content, and of its lists
 
 -- the entry may come next, after the Sweep that comes before it if there is one
 abbrev pub IsReady : Content → Entry → Content → Type 0
-IsReady c e new = (Accepts c e × (new ≡ c)) ⊎ ((s : IsSwept c e) × (new ≡ swept s.message.received c))
+IsReady c e new = (Accepts c e × (new ≡ c)) ⊎ ((s : NeedsSweep c e) × (new ≡ swept s.message.received c))
 
 pub precedes_accepts : (c : Content) (e sweep : Entry) → Precedes c e sweep → Accepts c sweep
 precedes_accepts c e sweep p = let P : Entry → Type 0 = λ z. Accepts c z in subst P (sym p.1) p.0.sweeps

@@ -19,7 +19,7 @@ use Rattle.rs_store.specs.Buckets.{spots_in}
 use Rattle.rs_store.specs.Chains.{under_all}
 use Rattle.rs_store.specs.History.{Ends, Holds, IsAnswer, extended}
 use Rattle.rs_store.specs.Spots.{Spot, spot_of, under, below, own, spots, is_nothing, IsFull, AreFull, weight}
-use Rattle.rs_store.specs.Sweeping.{is_spot_gone, spot_stays}
+use Rattle.rs_store.specs.Sweeping.{is_expired_spot, spot_stays}
 use Rattle.rs_store.specs.Weights.{branch_weight, child_weight}
 use Rattle.rs_store.proofs.Buckets.{Sorted, next_leaf}
 use Rattle.rs_store.proofs.Entries.{sorted_filter}
@@ -124,12 +124,12 @@ child_lighter es (b ∷ bs) after k v full is = let f : AreFull (b ∷ bs ++ (k,
 
 -- ---- how many messages are expired
 
-gone_under : (now : ℕ) (k : List ℕ) (ss : List Spot) → length (filter (is_spot_gone now) (under k ss)) ≡ length (filter (is_spot_gone now) ss)
+gone_under : (now : ℕ) (k : List ℕ) (ss : List Spot) → length (filter (is_expired_spot now) (under k ss)) ≡ length (filter (is_expired_spot now) ss)
 gone_under now k [] = refl
-gone_under now k (s ∷ ss) = at (is_spot_gone now s) refl (gone_under now k ss)
+gone_under now k (s ∷ ss) = at (is_expired_spot now s) refl (gone_under now k ss)
   where
-    at : (b : Bool) → is_spot_gone now s ≡ b → length (filter (is_spot_gone now) (under k ss)) ≡ length (filter (is_spot_gone now) ss)
-        → length (filter (is_spot_gone now) (under k (s ∷ ss))) ≡ length (filter (is_spot_gone now) (s ∷ ss))
+    at : (b : Bool) → is_expired_spot now s ≡ b → length (filter (is_expired_spot now) (under k ss)) ≡ length (filter (is_expired_spot now) ss)
+        → length (filter (is_expired_spot now) (under k (s ∷ ss))) ≡ length (filter (is_expired_spot now) (s ∷ ss))
     at true is more = rw is (omega (arith, more))
     at false is more = rw is more
 
@@ -137,7 +137,7 @@ many_under : (k : List ℕ) (ss : List Spot) → length (under k ss) ≡ length 
 many_under k [] = refl
 many_under k (s ∷ ss) = omega (arith, many_under k ss)
 
-pub gone_chain : (now : ℕ) (ks : List (List ℕ)) (ss : List Spot) → length (filter (is_spot_gone now) (under_all ks ss)) ≡ length (filter (is_spot_gone now) ss)
+pub gone_chain : (now : ℕ) (ks : List (List ℕ)) (ss : List Spot) → length (filter (is_expired_spot now) (under_all ks ss)) ≡ length (filter (is_expired_spot now) ss)
 gone_chain now [] ss = refl
 gone_chain now (k ∷ ks) ss = gone_under now k (under_all ks ss) ∙ gone_chain now ks ss
 
@@ -145,20 +145,20 @@ pub many_chain : (ks : List (List ℕ)) (ss : List Spot) → length (under_all k
 many_chain [] ss = refl
 many_chain (k ∷ ks) ss = many_under k (under_all ks ss) ∙ many_chain ks ss
 
-pub gone_both : (now : ℕ) (xs ys : List Spot) → length (filter (is_spot_gone now) (xs ++ ys)) ≡ length (filter (is_spot_gone now) xs) + length (filter (is_spot_gone now) ys)
-gone_both now xs ys = ap length (filter-append (is_spot_gone now) xs ys) ∙ length-append (filter (is_spot_gone now) xs) (filter (is_spot_gone now) ys)
+pub gone_both : (now : ℕ) (xs ys : List Spot) → length (filter (is_expired_spot now) (xs ++ ys)) ≡ length (filter (is_expired_spot now) xs) + length (filter (is_expired_spot now) ys)
+gone_both now xs ys = ap length (filter-append (is_expired_spot now) xs ys) ∙ length-append (filter (is_expired_spot now) xs) (filter (is_expired_spot now) ys)
 
 -- of the first child and of the others
 pub gone_turn : {A : Type 0} (now : ℕ) (left : List (Vec ℕ A × List Spot)) (e : Vec ℕ A × List Spot) (rest : List (Vec ℕ A × List Spot)) → left ≡ e ∷ rest
-    → length (filter (is_spot_gone now) (below left)) ≡ length (filter (is_spot_gone now) e.1) + length (filter (is_spot_gone now) (below rest))
+    → length (filter (is_expired_spot now) (below left)) ≡ length (filter (is_expired_spot now) e.1) + length (filter (is_expired_spot now) (below rest))
 gone_turn now left e rest is = rw is (omega (arith, gone_both now (under e.0.items e.1) (below rest), gone_under now e.0.items e.1))
 
 pub many_turn : {A : Type 0} (left : List (Vec ℕ A × List Spot)) (e : Vec ℕ A × List Spot) (rest : List (Vec ℕ A × List Spot)) → left ≡ e ∷ rest
     → length (below left) ≡ length e.1 + length (below rest)
 many_turn left e rest is = rw is (omega (arith, length-append (under e.0.items e.1) (below rest), many_under e.0.items e.1))
 
-pub gone_few : (now : ℕ) (ss : List Spot) → length (filter (is_spot_gone now) ss) ≤ length ss
-gone_few now ss = filter_few (is_spot_gone now) ss
+pub gone_few : (now : ℕ) (ss : List Spot) → length (filter (is_expired_spot now) ss) ≤ length ss
+gone_few now ss = filter_few (is_expired_spot now) ss
 
 -- ---- the messages of a bucket
 
@@ -173,15 +173,3 @@ swept_leaves moment (l ∷ ls) = at (not (is_expired moment l.found.message)) re
 
 pub sorted_swept : (moment : ℕ) (w new : List Spot) → Sorted w → new ≡ filter (spot_stays moment) w → Sorted new
 sorted_swept moment w new s is = rw is (sorted_filter path_cmp (spot_stays moment) w s)
-
--- the leaf that is looked at is expired, or it is not
-pub gone_leaf : (now : ℕ) (ls : List Leaf) (i : ℕ) (l : Leaf) → i < length ls → l ≡ get_or ls i l → is_expired now l.found.message ≡ true
-    → length (filter (is_spot_gone now) (spots_in (drop i ls))) ≡ 1 + length (filter (is_spot_gone now) (spots_in (drop (i + 1) ls)))
-gone_leaf now ls i l small is over = rw (next_leaf ls i l small is, over) (omega arith)
-
-pub kept_leaf : (now : ℕ) (ls : List Leaf) (i : ℕ) (l : Leaf) → i < length ls → l ≡ get_or ls i l → is_expired now l.found.message ≡ false
-    → length (filter (is_spot_gone now) (spots_in (drop i ls))) ≡ length (filter (is_spot_gone now) (spots_in (drop (i + 1) ls)))
-kept_leaf now ls i l small is over = rw (next_leaf ls i l small is, over) refl
-
-pub leaf_more : (ls : List Leaf) (i : ℕ) (l : Leaf) → i < length ls → l ≡ get_or ls i l → length (spots_in (drop i ls)) ≡ 1 + length (spots_in (drop (i + 1) ls))
-leaf_more ls i l small is = rw (next_leaf ls i l small is) (omega arith)

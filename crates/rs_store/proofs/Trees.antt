@@ -18,7 +18,7 @@ use Rattle.rs_topic.specs.Matching.{begins_with_dollar}
 use Rattle.rs_message.specs.declared.entry.Operation.{Operation}
 use Rattle.rs_message.specs.declared.entry.Operation.TheVariants.{Set, Clear, Sweep}
 use Rattle.rs_store.specs.Contents.{after, found_of, is_answered, is_gone, stays}
-use Rattle.rs_store.specs.Sweeping.{is_spot_gone, spot_stays}
+use Rattle.rs_store.specs.Sweeping.{is_expired_spot, spot_stays}
 use Rattle.rs_store.specs.Trees.{IsTree}
 use Rattle.rs_store.specs.Chosen.{chosen_at_root, is_matched, is_dollar}
 use Rattle.rs_store.proofs.Places.{from_start}
@@ -151,11 +151,11 @@ room_below root (Sweep moment) count limit t few = sym (room_after_sweep (stays 
 
 -- ---- a Sweep
 
-pub pairs_gone : (now : ℕ) (ss : List Spot) → length (filter (is_gone now) (pairs ss)) ≡ length (filter (is_spot_gone now) ss)
+pub pairs_gone : (now : ℕ) (ss : List Spot) → length (filter (is_gone now) (pairs ss)) ≡ length (filter (is_expired_spot now) ss)
 pairs_gone now [] = refl
-pairs_gone now (s ∷ ss) = at (is_spot_gone now s) refl (pairs_gone now ss)
+pairs_gone now (s ∷ ss) = at (is_expired_spot now s) refl (pairs_gone now ss)
   where
-    at : (b : Bool) → is_spot_gone now s ≡ b → length (filter (is_gone now) (pairs ss)) ≡ length (filter (is_spot_gone now) ss) → length (filter (is_gone now) (pairs (s ∷ ss))) ≡ length (filter (is_spot_gone now) (s ∷ ss))
+    at : (b : Bool) → is_expired_spot now s ≡ b → length (filter (is_gone now) (pairs ss)) ≡ length (filter (is_expired_spot now) ss) → length (filter (is_gone now) (pairs (s ∷ ss))) ≡ length (filter (is_expired_spot now) (s ∷ ss))
     at true is more = rw is (omega (arith, more))
     at false is more = rw is more
 

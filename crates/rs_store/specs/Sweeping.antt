@@ -3,8 +3,8 @@ use Rattle.std.specs.Prelude.{ℕ, Bool, not}
 use Rattle.rs_message.specs.Messages.{is_expired}
 use Rattle.rs_store.specs.Spots.{Spot}
 
-abbrev pub is_spot_gone : ℕ → Spot → Bool
-is_spot_gone now s = is_expired now s.1.message
+abbrev pub is_expired_spot : ℕ → Spot → Bool
+is_expired_spot now s = is_expired now s.1.message
 
 abbrev pub spot_stays : ℕ → Spot → Bool
 spot_stays moment s = not (is_expired moment s.1.message)

@@ -1,8 +1,8 @@
 //! The retained messages as a tree of levels. A few messages below one place are a bucket, which becomes a branch if it is full and
-//! one more message comes. Levels that all messages below a place share are one text. A branch that a Clear leaves with one child and
-//! no message is joined to that child, and one that it leaves with one message and no child becomes a bucket again. So there are fewer
-//! branches than messages, beside the root. A branch that is refused the memory for that waits for the next Set or Clear that goes
-//! through it.
+//! one more message comes. Levels that all messages below a place share are one text. A branch that a Clear or a
+//! Sweep leaves with one child and no message is joined to that child, and one that it leaves with one message and no child becomes a
+//! bucket again. So there are fewer branches than messages, beside the root. A branch that is refused the memory for that waits for the
+//! next entry that goes through it.
 
 ghost use Rattle.std.specs.Prelude.{◌≡◌, [], ◌∷◌, ◌++◌, ◌≤◌, IfOk, IsSome, OnOk, OnErr};
 ghost use Rattle.std.specs.BTreeMap.{insert_entry, is_at};

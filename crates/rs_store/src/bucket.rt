@@ -12,7 +12,7 @@ ghost use Rattle.rs_store.specs.Chosen.{chosen};
 ghost use Rattle.rs_store.specs.Expiring.{earliest};
 ghost use Rattle.rs_store.specs.Room.{IsStop};
 ghost use Rattle.rs_store.specs.Spots.{is_nothing, is_there, levels_from, spot_of, under};
-ghost use Rattle.rs_store.specs.Sweeping.{is_spot_gone, spot_stays};
+ghost use Rattle.rs_store.specs.Sweeping.{is_expired_spot, spot_stays};
 ghost use Rattle.rs_store.specs.declared.limit.TheConstants.{MAX_TOPICS};
 
 use crate::answer::{Answer, Stop};
@@ -118,7 +118,7 @@ fn risen(
 
 /// Counts the messages that are expired.
 fn count_each(leaves: &[Leaf], now: u64, count: &mut u32)
-    ensures { count.old + length (spots_in leaves.now) ≤ MAX_TOPICS → count.new ≡ count.old + length (filter (is_spot_gone now) (spots_in leaves.now)) }
+    ensures { count.old + length (spots_in leaves.now) ≤ MAX_TOPICS → count.new ≡ count.old + length (filter (is_expired_spot now) (spots_in leaves.now)) }
 {
     for leaf in leaves {
         if is_expired(&leaf.found.message, now) {
@@ -217,7 +217,7 @@ impl Bucket {
 
     /// Adds how many of its messages are expired.
     pub fn expired(&self, now: u64, count: &mut u32)
-        ensures { count.old + length self.now ≤ MAX_TOPICS → count.new ≡ count.old + length (filter (is_spot_gone now) self.now) }
+        ensures { count.old + length self.now ≤ MAX_TOPICS → count.new ≡ count.old + length (filter (is_expired_spot now) self.now) }
     {
         count_each(self.leaves.as_slice(), now, count);
     }

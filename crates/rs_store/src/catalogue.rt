@@ -4,9 +4,9 @@ ghost use Rattle.std.specs.Prelude.{◌≡◌, ◌⊎◌, ◌<◌, ◌≤◌, fa
 ghost use Rattle.std.specs.Option.{option_map};
 ghost use Rattle.rs_message.specs.declared.entry.Entry.{Entry};
 ghost use Rattle.rs_store.specs.declared.content.Content.{Content};
-ghost use Rattle.rs_store.specs.Contents.{Accepts, IsAdded, IsNotNext, IsSwept, NotAddedBy, RefusedBy, answer_in, answer_within, empty, expired_in, followed, next_sweep, serial_count, swept};
+ghost use Rattle.rs_store.specs.Contents.{Accepts, IsAdded, IsNotNext, NeedsSweep, NotAddedBy, RefusedBy, answer_in, answer_within, empty, expired_in, followed, next_sweep, serial_count, swept};
 ghost use Rattle.rs_message.specs.Messages.{is_sweep};
-ghost use Rattle.rs_store.specs.History.{IsLegal, IsSweptFor, MayNotCome, Stands, cleaned, extended};
+ghost use Rattle.rs_store.specs.History.{IsLegal, MayNotCome, NeedsSweepAfter, Stands, extended, sweep_after};
 ghost use Rattle.rs_store.specs.Adding.{Adds, NotAdds};
 ghost use Rattle.rs_store.specs.declared.fault.Refusal.TheVariants.{Full};
 
@@ -21,7 +21,7 @@ use std::alloc::{AllocError, Global};
 pub trait Catalogue {
     ghost content: { Self → Content };
 
-    /// An empty catalogue: version 0, no topic, and 0 as the last serial of each place.
+    /// An empty catalogue: version 0, no topic, and 0 as the last serial of each place and of the writer.
     fn new(alloc: Global, limit: TopicLimit) -> Result<Self, AllocError>
         ensures { IfOk result (λ c. content c ≡ empty limit) };
 
@@ -83,8 +83,8 @@ pub trait Catalogue {
 fn sweep_for<C: Catalogue>(catalogue: &mut C, entry: &Entry) -> Option<Entry>
     requires { RefusedBy (C.content catalogue.old) entry.now Full }
     ensures same { C.content catalogue.new ≡ C.content catalogue.old }
-    ensures some { IfSome result (λ sweep. (s : IsSwept (C.content catalogue.old) entry.now) × (sweep ≡ next_sweep s.message.received (C.content catalogue.old))) }
-    ensures none { IfNone result (¬ IsSwept (C.content catalogue.old) entry.now) }
+    ensures some { IfSome result (λ sweep. (s : NeedsSweep (C.content catalogue.old) entry.now) × (sweep ≡ next_sweep s.message.received (C.content catalogue.old))) }
+    ensures none { IfNone result (¬ NeedsSweep (C.content catalogue.old) entry.now) }
 {
     let Operation::Set(_, message) = &entry.operation else {
         return None;
@@ -119,11 +119,11 @@ fn sweep_for<C: Catalogue>(catalogue: &mut C, entry: &Entry) -> Option<Entry>
 pub fn judge<C: Catalogue>(catalogue: &mut C, entry: &Entry) -> Result<Option<Entry>, Refusal>
     ensures same { C.content catalogue.new ≡ C.content catalogue.old }
     ensures next { IfOk result (λ before. MatchOption before (Accepts (C.content catalogue.old) entry.now)
-        (λ sweep. (s : IsSwept (C.content catalogue.old) entry.now) × (sweep ≡ next_sweep s.message.received (C.content catalogue.old)))) }
+        (λ sweep. (s : NeedsSweep (C.content catalogue.old) entry.now) × (sweep ≡ next_sweep s.message.received (C.content catalogue.old)))) }
     ensures refused { IfErr result (λ r. IsNotNext (C.content catalogue.old) entry.now r) }
     ensures stands { (history : List Entry) → Stands (C.content catalogue.old) history → MatchResult result
         (λ before. MatchOption before (IsLegal (C.content catalogue.old).limit (extended history entry.now))
-        (λ sweep. (s : IsSweptFor (C.content catalogue.old).limit history entry.now) × (extended history sweep ≡ cleaned s.message.received history)))
+        (λ sweep. (s : NeedsSweepAfter (C.content catalogue.old).limit history entry.now) × (sweep ≡ sweep_after s.message.received history)))
         (λ r. MayNotCome (C.content catalogue.old).limit history entry.now r) }
 {
     // For the proof: these calls say which places and serials an origin may have.
@@ -142,7 +142,7 @@ pub fn judge<C: Catalogue>(catalogue: &mut C, entry: &Entry) -> Result<Option<En
 /// Appends the Sweep that comes before an entry, if there is one.
 fn make_room<C: Catalogue>(catalogue: &mut C, entry: &Entry) -> Result<(), Refusal>
     ensures done { OnOk result ((Accepts (C.content catalogue.old) entry.now × (C.content catalogue.new ≡ C.content catalogue.old))
-        ⊎ ((s : IsSwept (C.content catalogue.old) entry.now) × (C.content catalogue.new ≡ swept s.message.received (C.content catalogue.old)))) }
+        ⊎ ((s : NeedsSweep (C.content catalogue.old) entry.now) × (C.content catalogue.new ≡ swept s.message.received (C.content catalogue.old)))) }
     ensures refused { IfErr result (λ r. NotAddedBy (C.content catalogue.old) entry.now r (C.content catalogue.new)) }
 {
     match judge(catalogue, entry) {

@@ -1,9 +1,10 @@
 //! The store of retained messages (3.3.1.3): what it holds after a list of entries, which entry may come next, and how a SUBSCRIBE is
 //! answered.
 //!
-//! A [`Catalogue`] keeps the content of a list of entries: the message of each topic, the last serial of each place and the number
-//! of entries. [`add`] appends one entry or says why not. [`TreeCatalogue`] keeps the messages in a tree of levels, [`MapCatalogue`]
-//! in one ordered map.
+//! A [`Catalogue`] keeps the content of a list of entries: the message of each topic, the last serial of each place and of the writer,
+//! and the number of entries. [`add`] appends one entry or says why not. If a Set is one topic too many, it first appends a Sweep, by
+//! which expired messages free their topics. [`TreeCatalogue`] keeps the messages in a tree of levels, [`MapCatalogue`] in one ordered
+//! map.
 #![tactic(auto)]
 
 mod answer;

@@ -7,7 +7,7 @@ use Rattle.rs_message.specs.declared.entry.TheConstants.{MAX_PLACES}
 use Rattle.rs_store.specs.declared.content.Content.{Content}
 use Rattle.rs_store.specs.Contents.{Accepts}
 use Rattle.rs_store.specs.Adding.{Adds}
-use Rattle.rs_store.specs.History.{IsLegal, IsSweptFor, Stands, cleaned, extended}
+use Rattle.rs_store.specs.History.{IsLegal, NeedsSweepAfter, Stands, cleaned, extended}
 use Rattle.rs_store.proofs.Histories.{legal_front}
 use Rattle.rs_store.proofs.Standing.{accepts, legal_more, stands_more}
 use Rattle.rs_version.specs.Catalogues.{KeptCatalogue, content_of}
@@ -19,7 +19,7 @@ use Rattle.rs_version.specs.declared.fault.PutFault.TheVariants.{Full, Stale, No
 use Rattle.rs_version.specs.Copies.{listed, shown, steps_of}
 use Rattle.rs_version.specs.Receipts.{StandsAt}
 use Rattle.rs_version.specs.VersionRule.{Follows, IsSound, applied, state}
-use Rattle.rs_version.specs.Writer.{CatchesUp, Declines, IsReady, IsSweptInPart, IsWriting, Precedes, Refuses, StepsFor, Written, holds_back, kept_of, settled, shows, sweep_after}
+use Rattle.rs_version.specs.Writer.{CatchesUp, Declines, IsReady, IsSweptInPart, IsWriting, Precedes, Refuses, StepsFor, Written, holds_back, kept_of, settled, shows}
 use Rattle.rs_version.proofs.VersionRule.{settled as goes_on}
 
 -- the writer's own catalogue stands for the published list
@@ -171,17 +171,13 @@ declines_refuses limit w w' e Held is h = absurd h
 pub kept_refuses : (limit : ℕ) (w w' : Written) (e : Entry) → (w.held ≡ None → ⊥) → w' ≡ w → Refuses limit w e NoMemory w'
 kept_refuses limit w w' e some is = inr (inr (some, is))
 
-last_alike : {A : Type 0} (xs : List A) (x y : A) → xs ++ x ∷ [] ≡ xs ++ y ∷ [] → x ≡ y
-last_alike [] x y e = cc (e)
-last_alike (z ∷ zs) x y e = last_alike zs x y (cc (e))
-
 -- the Sweep before an entry may come next
 pub precedes_legal : (limit : ℕ) (history : List Entry) (e sweep : Entry) → Precedes limit history e sweep → IsLegal limit (extended history sweep)
 precedes_legal limit history e sweep p =
     let m = p.0.message.received in
     let clean : IsLegal limit (cleaned m history) = legal_front limit (cleaned m history) (extended (cleaned m history) e) (e ∷ [], refl) p.0.legal in
     let P : List Entry → Type 0 = λ l. IsLegal limit l in
-    subst P (sym p.1) clean
+    subst P (sym (ap (λ (z : Entry). extended history z) p.1)) clean
 
 precedes_at : (limit : ℕ) (w w' : Written) (e sweep : Entry) → w' ≡ settled w → Precedes limit w'.published e sweep → Precedes limit (kept_of w) e sweep
 precedes_at limit w w' e sweep is p = let P : List Entry → Type 0 = λ l. Precedes limit l e sweep in subst P (settled_log w w' is) p
@@ -192,18 +188,16 @@ plain_ready limit w w' e is legal = inl (let P : List Entry → Type 0 = λ l. I
 pub swept_ready : (limit : ℕ) (w w' w'' : Written) (e sweep : Entry) → w' ≡ settled w → Precedes limit w'.published e sweep → w'' ≡ shows (extended w'.published sweep) → IsReady limit w e w''
 swept_ready limit w w' w'' e sweep is p now =
     let q = precedes_at limit w w' e sweep is p in
-    inr (q.0, now ∙ (ap (λ (l : List Entry). shows (extended l sweep)) (settled_log w w' is) ∙ ap shows q.1))
+    inr (q.0, now ∙ (ap (λ (l : List Entry). shows (extended l sweep)) (settled_log w w' is) ∙ ap (λ (z : Entry). shows (extended (kept_of w) z)) q.1))
 
 pub swept_refuses : (limit : ℕ) (w w' w'' : Written) (e sweep : Entry) → w' ≡ settled w → Precedes limit w'.published e sweep → (w'' ≡ w') ⊎ (w'' ≡ holds_back w'.published sweep) → Refuses limit w e NoMemory w''
 swept_refuses limit w w' w'' e sweep is p left =
     let q = precedes_at limit w w' e sweep is p in
-    let m = q.0.message.received in
-    let named : sweep ≡ sweep_after m (kept_of w) = last_alike (kept_of w) sweep (sweep_after m (kept_of w)) q.1 in
     inr (inl (
       q.0,
       ⊎_elim
           (λ k. inl (k ∙ is))
-          (λ k. inr (inl (k ∙ (ap (λ (l : List Entry). holds_back l sweep) (settled_log w w' is) ∙ ap (λ (z : Entry). holds_back (kept_of w) z) named))))
+          (λ k. inr (inl (k ∙ (ap (λ (l : List Entry). holds_back l sweep) (settled_log w w' is) ∙ ap (λ (z : Entry). holds_back (kept_of w) z) q.1))))
           left,
     ))
 

@@ -2,12 +2,11 @@
 use Rattle.std.specs.Prelude.{ℕ, ◌≡◌, ◌≢◌, ◌+◌, ◌<◌, ◌≤◌, ◌++◌, ◌∷◌, ◌⊎◌, [], List, Option, Some, None}
 use Rattle.logbook.specs.Pages.{Book}
 use Rattle.rs_message.specs.declared.entry.Entry.{Entry}
-use Rattle.rs_message.specs.declared.entry.Operation.TheVariants.{Sweep}
 use Rattle.rs_store.specs.declared.content.Content.{Content}
 use Rattle.rs_store.specs.declared.fault.Refusal.{Refusal}
 use Rattle.rs_store.specs.declared.fault.Refusal.TheVariants as refusal
 use Rattle.rs_store.specs.Contents.{followed}
-use Rattle.rs_store.specs.History.{IsLegal, IsSweptFor, MayNotCome, Stands, cleaned, extended, last_serial}
+use Rattle.rs_store.specs.History.{IsLegal, MayNotCome, NeedsSweepAfter, Stands, cleaned, extended, sweep_after}
 use Rattle.rs_version.specs.declared.catalogue_copy.CatalogueCopy.{CatalogueCopy}
 use Rattle.rs_version.specs.declared.catalogue_copy.Step.{Step}
 use Rattle.rs_version.specs.declared.copies.Copies.{Copies}
@@ -52,17 +51,13 @@ shows list = record { published = list; held = None }
 abbrev pub holds_back : List Entry → Entry → Written
 holds_back list e = record { published = list; held = Some e }
 
--- the Sweep of the moment that comes behind the list
-abbrev pub sweep_after : ℕ → List Entry → Entry
-sweep_after moment history = record { origin = record { place = 0; serial = last_serial 0 history + 1 }; operation = Sweep moment }
-
 -- the Sweep is the one that comes before the entry
 abbrev pub Precedes : ℕ → List Entry → Entry → Entry → Type 0
-Precedes limit history e sweep = (s : IsSweptFor limit history e) × (extended history sweep ≡ cleaned s.message.received history)
+Precedes limit history e sweep = (s : NeedsSweepAfter limit history e) × (sweep ≡ sweep_after s.message.received history)
 
 -- all that was kept is published, and behind it the Sweep that comes before the entry, if it does not come next without
 abbrev pub IsReady : ℕ → Written → Entry → Written → Type 0
-IsReady limit w e w' = (IsLegal limit (extended (kept_of w) e) × (w' ≡ settled w)) ⊎ ((s : IsSweptFor limit (kept_of w) e) × (w' ≡ shows (cleaned s.message.received (kept_of w))))
+IsReady limit w e w' = (IsLegal limit (extended (kept_of w) e) × (w' ≡ settled w)) ⊎ ((s : NeedsSweepAfter limit (kept_of w) e) × (w' ≡ shows (cleaned s.message.received (kept_of w))))
 
 -- why the entry does not come next behind the published list, if nothing is held
 abbrev pub Declines : ℕ → List Entry → Entry → PutFault → Type 0
@@ -86,8 +81,8 @@ IsSweptInPart moment w w' = (w' ≡ settled w) ⊎ (w' ≡ holds_back (kept_of w
 abbrev pub Refuses : ℕ → Written → Entry → PutFault → Written → Type 0
 Refuses limit w e fault.Stale w' = IsDeclined limit w e refusal.Stale w'
 Refuses limit w e fault.Full w' = IsDeclined limit w e refusal.Full w'
-Refuses limit w e fault.NoMemory w' = (IsLegal limit (extended (kept_of w) e) × (w' ≡ settled w)) ⊎ ((s : IsSweptFor limit (kept_of w) e) × IsSweptInPart s.message.received w w') ⊎ ((w.held ≢ None) × (w' ≡ w))
-Refuses limit w e fault.Held w' = (IsLegal limit (extended (kept_of w) e) × (w' ≡ holds_back (kept_of w) e)) ⊎ ((s : IsSweptFor limit (kept_of w) e) × (w' ≡ holds_back (cleaned s.message.received (kept_of w)) e))
+Refuses limit w e fault.NoMemory w' = (IsLegal limit (extended (kept_of w) e) × (w' ≡ settled w)) ⊎ ((s : NeedsSweepAfter limit (kept_of w) e) × IsSweptInPart s.message.received w w') ⊎ ((w.held ≢ None) × (w' ≡ w))
+Refuses limit w e fault.Held w' = (IsLegal limit (extended (kept_of w) e) × (w' ≡ holds_back (kept_of w) e)) ⊎ ((s : NeedsSweepAfter limit (kept_of w) e) × (w' ≡ holds_back (cleaned s.message.received (kept_of w)) e))
 
 -- a copy of the held entry, if there is one
 abbrev pub IsSpare : Option Entry → Option Entry → Type 0

@@ -102,7 +102,7 @@ impl Child {
     }
 
     /// Puts the only child of a branch without a message, or a bucket of the only message of a branch without a child, in the place of
-    /// the branch. If memory is refused, the branch stays, and the next Set or Clear that goes through it tries again.
+    /// the branch. If memory is refused, the branch stays, and the next entry that goes through it tries again.
     pub fn join(&mut self, alloc: Global, at: usize)
         ensures { self.new ≡ self.old }
     {

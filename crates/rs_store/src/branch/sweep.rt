@@ -3,7 +3,7 @@
 ghost use Rattle.std.specs.Prelude.{◌≡◌, ◌+◌, ◌≤◌, length, not};
 ghost use Rattle.std.specs.List.{filter};
 ghost use Rattle.rs_store.specs.Spots.{held_found, is_nothing, own};
-ghost use Rattle.rs_store.specs.Sweeping.{is_spot_gone, spot_stays};
+ghost use Rattle.rs_store.specs.Sweeping.{is_expired_spot, spot_stays};
 ghost use Rattle.rs_store.specs.declared.limit.TheConstants.{MAX_TOPICS};
 
 use super::{Branch, Child, Node};
@@ -13,7 +13,7 @@ use std::alloc::Global;
 
 /// Counts the message of one place, if it is expired.
 fn count_held(held: &Option<Box<Found>>, now: u64, count: &mut u32)
-    ensures { count.old + length (own (held_found held.now)) ≤ MAX_TOPICS → count.new ≡ count.old + length (filter (is_spot_gone now) (own (held_found held.now))) }
+    ensures { count.old + length (own (held_found held.now)) ≤ MAX_TOPICS → count.new ≡ count.old + length (filter (is_expired_spot now) (own (held_found held.now))) }
 {
     if let Some(found) = held {
         if is_expired(&found.message, now) {
@@ -39,7 +39,7 @@ impl Child {
     /// Adds how many of its messages are expired.
     #[cycle(expired)]
     fn expired(&self, now: u64, count: &mut u32)
-        ensures { count.old + length self.now ≤ MAX_TOPICS → count.new ≡ count.old + length (filter (is_spot_gone now) self.now) }
+        ensures { count.old + length self.now ≤ MAX_TOPICS → count.new ≡ count.old + length (filter (is_expired_spot now) self.now) }
     {
         match &self.node {
             Node::Few(bucket) => bucket.expired(now, count),
@@ -67,7 +67,7 @@ impl Branch {
     /// Adds how many of its messages are expired.
     #[cycle(expired)]
     pub fn expired(&self, now: u64, count: &mut u32)
-        ensures { count.old + length self.now ≤ MAX_TOPICS → count.new ≡ count.old + length (filter (is_spot_gone now) self.now) }
+        ensures { count.old + length self.now ≤ MAX_TOPICS → count.new ≡ count.old + length (filter (is_expired_spot now) self.now) }
     {
         count_held(&self.held, now, count);
         for (_, child) in &self.children {

@@ -16,7 +16,7 @@ pub returns-in-None-clause-stands : goal.returns-in-None-clause-stands
 returns-in-None-clause-stands g c = λ history s.
     let content = g.C.Catalogue.content c.args.catalogue.now in
     let full = subst (RefusedBy content c.args.entry.now) c.in-Err-Full.field-0-is c.in-Err-Full.ensures in
-    may_not_come content history c.args.entry.now Full s (omega (arith, c.serial-serial.ensures.value, c.serial-serial.ensures.some)) (full.0, full.1, c.in-None.ensures.none)
+    may_not_come content history c.args.entry.now Full s (omega (arith, c.serial-serial.ensures.value, c.serial-serial.ensures.some)) (full, c.in-None.ensures.none)
 
 pub returns-in-Err-Stale-clause-stands : goal.returns-in-Err-Stale-clause-stands
 returns-in-Err-Stale-clause-stands g c = λ history s.
