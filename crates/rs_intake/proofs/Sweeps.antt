@@ -1,20 +1,22 @@
 -- What the writer keeps against what it took, with the Sweeps among it.
 use Rattle.std.proofs.Common.{◌≡◌, ◌≢◌, ◌==◌, ℕ, ◌+◌, ◌<◌, Bool, true, false, not, cond, List, [], ◌∷◌, ◌++◌, max, fold, map, length, inl, inr, refl, sym, ap, subst, ◌∙◌, ⊎_elim, append_assoc, length-append, Result, Ok, Err, OnOk, IfOk, IfErr, MatchBool, arith}
 use Rattle.std.specs.List.{AllByRecursion, filter}
+use Rattle.std.specs.Prelude.{Contains}
 use Rattle.std.proofs.lemmas.List.{append-nil}
-use Rattle.std.proofs.lemmas.List.Elements.{filter-append}
+use Rattle.std.proofs.lemmas.List.Elements.{Contains-append_left, Contains-append_right, filter-append}
 use Rattle.std.proofs.lemmas.Bool.Decides.{nat_tests}
 use Rattle.rs_message.specs.Messages.{is_sweep}
 use Rattle.rs_message.specs.declared.entry.Entry.{Entry}
 use Rattle.rs_store.specs.Adding.{Adds}
+use Rattle.rs_store.specs.Needed.{AreNeeded}
 use Rattle.rs_store.specs.History.{IsLegal, NeedsSweepAfter, SerialsRise, cleaned, extended, last_serial, serials_of, sweep_after}
-use Rattle.rs_store.proofs.Entries.{all_weaker}
 use Rattle.rs_store.proofs.Histories.{last_is_above, legal_front, serials_rise_more}
+use Rattle.rs_store.proofs.Needed.{all_needed, needed_cleaned, needed_more, needed_none, needed_weaker}
 use Rattle.rs_version.specs.Writer.{Refuses, Written, kept_of, settled, shows}
 use Rattle.rs_version.specs.declared.fault.PutFault.{PutFault}
 use Rattle.rs_version.specs.declared.fault.PutFault.TheVariants.{Full, Held, NoMemory, Stale}
 use Rattle.rs_intake.specs.Parts.{IsPart}
-use Rattle.rs_intake.specs.Sweeps.{AreSweepsFor, IsSweepFor, IsSweptAtMost, without_sweeps}
+use Rattle.rs_intake.specs.Sweeps.{IsSweptAtMost, without_sweeps}
 use Rattle.rs_intake.proofs.Parts.{part_both, part_rises, part_skip, rises_none}
 
 -- ---- without the Sweeps
@@ -28,9 +30,9 @@ without_cleaned moment history =
     filter-append (λ (z : Entry). not (is_sweep z.operation)) history (sweep ∷ []) ∙ append-nil (without_sweeps history)
 
 -- a place that is not the writer's has the same serials
-same_serials : (jobs : List Entry) (place : ℕ) → 0 < place → (kept : List Entry) → AreSweepsFor jobs kept → serials_of place (without_sweeps kept) ≡ serials_of place kept
-same_serials jobs place some [] a = refl
-same_serials jobs place some (e ∷ es) a = at (is_sweep e.operation) refl (same_serials jobs place some es a.1)
+same_serials : (place : ℕ) → 0 < place → (kept : List Entry) → AllByRecursion (λ e. is_sweep e.operation ≡ true → e.origin.place ≡ 0) kept → serials_of place (without_sweeps kept) ≡ serials_of place kept
+same_serials place some [] a = refl
+same_serials place some (e ∷ es) a = at (is_sweep e.operation) refl (same_serials place some es a.1)
   where
     here : Entry → Bool
     here z = z.origin.place == place
@@ -46,77 +48,51 @@ same_serials jobs place some (e ∷ es) a = at (is_sweep e.operation) refl (same
     at : (b : Bool) → is_sweep e.operation ≡ b → serials_of place (without_sweeps es) ≡ serials_of place es → serials_of place (without_sweeps (e ∷ es)) ≡ serials_of place (e ∷ es)
     at false is more = rw is (same (e.origin.place == place) more)
     at true is more =
-        let zero : e.origin.place ≡ 0 = (a.0 is).of_writer in
+        let zero : e.origin.place ≡ 0 = a.0 is in
         let other : (e.origin.place == place) ≡ false = grind (arith, nat_tests) in
         rw (is, other) more
 
 -- ---- what is kept against the jobs that were taken
 
-pub record Serves (jobs kept : List Entry) : Type 0 where
+pub record Serves (limit : ℕ) (jobs kept : List Entry) : Type 0 where
   pub part : IsPart (without_sweeps kept) jobs
-  pub sweeps : AreSweepsFor jobs kept
+  pub sweeps : AreNeeded limit (Contains jobs) kept
   pub rises : SerialsRise kept
 
-all_more : {A : Type 0} (P : A → Type 0) (xs : List A) (x : A) → AllByRecursion P xs → P x → AllByRecursion P (xs ++ x ∷ [])
-all_more P [] x all p = (p, tt)
-all_more P (y ∷ ys) x all p = (all.0, all_more P ys x all.1 p)
+among_more : (jobs : List Entry) (job e : Entry) → Contains jobs e → Contains (jobs ++ job ∷ []) e
+among_more jobs job e there = Contains-append_left jobs (job ∷ []) e there
 
-sweep_more : (jobs : List Entry) (job e : Entry) → IsSweepFor jobs e → IsSweepFor (jobs ++ job ∷ []) e
-sweep_more jobs job e s = record {
-  before = s.before;
-  setting = s.setting;
-  after = s.after ++ job ∷ [];
-  topic = s.topic;
-  message = s.message;
-  whole = ap (λ l. l ++ job ∷ []) s.whole ∙ append_assoc s.before (s.setting ∷ s.after) (job ∷ []);
-  sets = s.sets;
-  sweeps = s.sweeps;
-  of_writer = s.of_writer;
-}
+sweeps_more : (limit : ℕ) (jobs kept : List Entry) (job : Entry) → AreNeeded limit (Contains jobs) kept → AreNeeded limit (Contains (jobs ++ job ∷ [])) kept
+sweeps_more limit jobs kept job a = needed_weaker limit (Contains jobs) (Contains (jobs ++ job ∷ [])) kept (among_more jobs job) a
 
-sweeps_more : (jobs kept : List Entry) (job : Entry) → AreSweepsFor jobs kept → AreSweepsFor (jobs ++ job ∷ []) kept
-sweeps_more jobs kept job a = all_weaker (λ e. is_sweep e.operation ≡ true → IsSweepFor jobs e) (λ e. is_sweep e.operation ≡ true → IsSweepFor (jobs ++ job ∷ []) e)
-    (λ e s is. sweep_more jobs job e (s is)) kept a
+last_job : (jobs : List Entry) (job : Entry) → Contains (jobs ++ job ∷ []) job
+last_job jobs job = Contains-append_right jobs (job ∷ []) job (0, omega arith, refl)
 
-sweeps_with_job : (jobs kept : List Entry) (job : Entry) → is_sweep job.operation ≡ false → AreSweepsFor jobs kept → AreSweepsFor jobs (extended kept job)
-sweeps_with_job jobs kept job plain a = all_more (λ e. is_sweep e.operation ≡ true → IsSweepFor jobs e) kept job a (λ is. absurd (cc (plain, is)))
-
-sweeps_cleaned : (limit : ℕ) (jobs kept : List Entry) (job : Entry) → AreSweepsFor jobs kept → (s : NeedsSweepAfter limit kept job) → AreSweepsFor (jobs ++ job ∷ []) (cleaned s.message.received kept)
-sweeps_cleaned limit jobs kept job a s =
-    let sweep = sweep_after s.message.received kept in
-    all_more (λ e. is_sweep e.operation ≡ true → IsSweepFor (jobs ++ job ∷ []) e) kept sweep (sweeps_more jobs kept job a) (λ is. record {
-      before = jobs;
-      setting = job;
-      after = [];
-      topic = s.topic;
-      message = s.message;
-      whole = refl;
-      sets = s.sets;
-      sweeps = refl;
-      of_writer = refl;
-    })
+sweeps_cleaned : (limit : ℕ) (jobs kept : List Entry) (job : Entry) → AreNeeded limit (Contains jobs) kept → (s : NeedsSweepAfter limit kept job) → AreNeeded limit (Contains (jobs ++ job ∷ [])) (cleaned s.message.received kept)
+sweeps_cleaned limit jobs kept job a s = needed_cleaned limit (Contains (jobs ++ job ∷ [])) kept job (last_job jobs job) s (sweeps_more limit jobs kept job a)
 
 -- a job whose serial rises among the jobs rises among what is kept
-pub job_rises : (jobs kept : List Entry) (job : Entry) → Serves jobs kept → 0 < job.origin.place → 0 < job.origin.serial → SerialsRise (jobs ++ job ∷ []) → SerialsRise (extended kept job)
-job_rises jobs kept job s place serial rises =
+pub job_rises : (limit : ℕ) (jobs kept : List Entry) (job : Entry) → Serves limit jobs kept → 0 < job.origin.place → 0 < job.origin.serial → SerialsRise (jobs ++ job ∷ []) → SerialsRise (extended kept job)
+job_rises limit jobs kept job s place serial rises =
     let part : SerialsRise (without_sweeps kept ++ job ∷ []) = part_rises (without_sweeps kept ++ job ∷ []) (jobs ++ job ∷ []) (part_both (without_sweeps kept) jobs job s.part) rises in
     let above : last_serial job.origin.place (without_sweeps kept) < job.origin.serial = last_is_above (without_sweeps kept) job serial part in
-    let same : last_serial job.origin.place (without_sweeps kept) ≡ last_serial job.origin.place kept = ap (fold max 0) (same_serials jobs job.origin.place place kept s.sweeps) in
+    let zeros = all_needed limit (Contains jobs) (λ e. e.origin.place ≡ 0) (λ history moment. refl) [] kept s.sweeps in
+    let same : last_serial job.origin.place (without_sweeps kept) ≡ last_serial job.origin.place kept = ap (fold max 0) (same_serials job.origin.place place kept zeros) in
     serials_rise_more kept job s.rises (omega (arith, above, same))
 
 -- what the jobs serve, after one more
-abbrev pub OneMore : List Entry → List Entry → List Entry → Type 0
-OneMore jobs kept kept' = Serves jobs kept' × (length (without_sweeps kept') ≡ length (without_sweeps kept) + 1)
+abbrev pub OneMore : ℕ → List Entry → List Entry → List Entry → Type 0
+OneMore limit jobs kept kept' = Serves limit jobs kept' × (length (without_sweeps kept') ≡ length (without_sweeps kept) + 1)
 
-pub serves_job : (limit : ℕ) (jobs kept kept' : List Entry) (job : Entry) → Serves jobs kept → is_sweep job.operation ≡ false → Adds limit kept job (λ list. kept' ≡ list) → OneMore (jobs ++ job ∷ []) kept kept'
+pub serves_job : (limit : ℕ) (jobs kept kept' : List Entry) (job : Entry) → Serves limit jobs kept → is_sweep job.operation ≡ false → Adds limit kept job (λ list. kept' ≡ list) → OneMore limit (jobs ++ job ∷ []) kept kept'
 serves_job limit jobs kept kept' job s plain (inl a) =
     let without = without_more kept job plain in
-    let P : List Entry → Type 0 = λ l. OneMore (jobs ++ job ∷ []) kept l in
+    let P : List Entry → Type 0 = λ l. OneMore limit (jobs ++ job ∷ []) kept l in
     let Q : List Entry → Type 0 = λ l. IsPart l (jobs ++ job ∷ []) in
     subst P (sym a.1) (
       record {
         part = subst Q (sym without) (part_both (without_sweeps kept) jobs job s.part);
-        sweeps = sweeps_with_job (jobs ++ job ∷ []) kept job plain (sweeps_more jobs kept job s.sweeps);
+        sweeps = needed_more limit (Contains (jobs ++ job ∷ [])) kept job plain (sweeps_more limit jobs kept job s.sweeps);
         rises = a.0.rises;
       },
       ap length without ∙ length-append (without_sweeps kept) (job ∷ []),
@@ -124,28 +100,28 @@ serves_job limit jobs kept kept' job s plain (inl a) =
 serves_job limit jobs kept kept' job s plain (inr a) =
     let clean = cleaned a.0.message.received kept in
     let without : without_sweeps (extended clean job) ≡ without_sweeps kept ++ job ∷ [] = without_more clean job plain ∙ ap (λ l. l ++ job ∷ []) (without_cleaned a.0.message.received kept) in
-    let P : List Entry → Type 0 = λ l. OneMore (jobs ++ job ∷ []) kept l in
+    let P : List Entry → Type 0 = λ l. OneMore limit (jobs ++ job ∷ []) kept l in
     let Q : List Entry → Type 0 = λ l. IsPart l (jobs ++ job ∷ []) in
     subst P (sym a.1) (
       record {
         part = subst Q (sym without) (part_both (without_sweeps kept) jobs job s.part);
-        sweeps = sweeps_with_job (jobs ++ job ∷ []) clean job plain (sweeps_cleaned limit jobs kept job s.sweeps a.0);
+        sweeps = needed_more limit (Contains (jobs ++ job ∷ [])) clean job plain (sweeps_cleaned limit jobs kept job s.sweeps a.0);
         rises = a.0.legal.rises;
       },
       ap length without ∙ length-append (without_sweeps kept) (job ∷ []),
     )
 
 -- and after one that is not kept
-abbrev pub NoMore : List Entry → List Entry → List Entry → Type 0
-NoMore jobs kept kept' = Serves jobs kept' × (length (without_sweeps kept') ≡ length (without_sweeps kept))
+abbrev pub NoMore : ℕ → List Entry → List Entry → List Entry → Type 0
+NoMore limit jobs kept kept' = Serves limit jobs kept' × (length (without_sweeps kept') ≡ length (without_sweeps kept))
 
-pub serves_refused : (limit : ℕ) (jobs kept kept' : List Entry) (job : Entry) → Serves jobs kept → IsSweptAtMost limit kept job kept' → NoMore (jobs ++ job ∷ []) kept kept'
+pub serves_refused : (limit : ℕ) (jobs kept kept' : List Entry) (job : Entry) → Serves limit jobs kept → IsSweptAtMost limit kept job kept' → NoMore limit (jobs ++ job ∷ []) kept kept'
 serves_refused limit jobs kept kept' job s (inl same) =
-    let P : List Entry → Type 0 = λ l. NoMore (jobs ++ job ∷ []) kept l in
+    let P : List Entry → Type 0 = λ l. NoMore limit (jobs ++ job ∷ []) kept l in
     subst P (sym same) (
       record {
         part = part_skip (without_sweeps kept) jobs job s.part;
-        sweeps = sweeps_more jobs kept job s.sweeps;
+        sweeps = sweeps_more limit jobs kept job s.sweeps;
         rises = s.rises;
       },
       refl,
@@ -154,7 +130,7 @@ serves_refused limit jobs kept kept' job s (inr a) =
     let m = a.0.message.received in
     let without = without_cleaned m kept in
     let clean : IsLegal limit (cleaned m kept) = legal_front limit (cleaned m kept) (extended (cleaned m kept) job) (job ∷ [], refl) a.0.legal in
-    let P : List Entry → Type 0 = λ l. NoMore (jobs ++ job ∷ []) kept l in
+    let P : List Entry → Type 0 = λ l. NoMore limit (jobs ++ job ∷ []) kept l in
     let Q : List Entry → Type 0 = λ l. IsPart l (jobs ++ job ∷ []) in
     subst P (sym a.1) (
       record {
@@ -165,11 +141,11 @@ serves_refused limit jobs kept kept' job s (inr a) =
       ap length without,
     )
 
-pub serves_start : (jobs kept : List Entry) → jobs ≡ [] → kept ≡ [] → Serves jobs kept
-serves_start jobs kept no_jobs none =
-    let start : Serves [] [] = record { part = tt; sweeps = tt; rises = rises_none } in
-    let Q : List Entry → Type 0 = λ k. Serves jobs k in
-    let R : List Entry → Type 0 = λ j. Serves j [] in
+pub serves_start : (limit : ℕ) (jobs kept : List Entry) → jobs ≡ [] → kept ≡ [] → Serves limit jobs kept
+serves_start limit jobs kept no_jobs none =
+    let start : Serves limit [] [] = record { part = tt; sweeps = needed_none limit (Contains []); rises = rises_none } in
+    let Q : List Entry → Type 0 = λ k. Serves limit jobs k in
+    let R : List Entry → Type 0 = λ j. Serves limit j [] in
     subst Q (sym none) (subst R (sym no_jobs) start)
 
 -- ---- what a put leaves

@@ -1,16 +1,17 @@
 //! The writer's loop over the queue.
 
-ghost use Rattle.std.specs.Prelude.{◌≡◌, ◌≢◌, ◌+◌, ◌<◌, [], length, false, true, IfErr, IfOk, MatchBool};
+ghost use Rattle.std.specs.Prelude.{◌≡◌, ◌≢◌, ◌+◌, ◌<◌, [], Contains, length, false, true, IfErr, IfOk, MatchBool};
 ghost use Rattle.std.specs.Option.{option_map};
 ghost use Rattle.crossbeam_channel.specs.Ends.{receives_on};
 ghost use Rattle.rs_message.specs.Messages.{is_sweep};
 ghost use Rattle.rs_store.specs.Adding.{Adds};
 ghost use Rattle.rs_store.specs.History.{SerialsRise, extended};
+ghost use Rattle.rs_store.specs.Needed.{AreNeeded};
 ghost use Rattle.rs_version.specs.Writer.{Refuses, kept_of};
 ghost use Rattle.rs_version.specs.declared.fault.PutFault.TheVariants.{Held, Stale};
 ghost use Rattle.rs_intake.specs.Names.{IsQueue};
 ghost use Rattle.rs_intake.specs.Parts.{IsPart};
-ghost use Rattle.rs_intake.specs.Sweeps.{AreSweepsFor, IsSweptAtMost, without_sweeps};
+ghost use Rattle.rs_intake.specs.Sweeps.{IsSweptAtMost, without_sweeps};
 
 use crate::name::LineName;
 use crate::reply::{Reply, ReplySender};
@@ -159,8 +160,8 @@ fn put_job<N: LineName, R: Wait + Drop, W: Wait>(
 }
 
 /// Puts each job that it takes, and tells the job's line what the writer answers, until each place has ended or all lines are
-/// gone. Then it tries once more to publish a held entry. Of what the writer keeps, all but the Sweeps are jobs. Each Sweep has the
-/// writer's place, and the moment at which the message of a job came.
+/// gone. Then it tries once more to publish a held entry. Of what the writer keeps, all but the Sweeps are jobs. Each Sweep is
+/// the one that a job needed there.
 pub fn run_writer<N: LineName, R: Wait + Drop, W: Wait>(
     rt: &W,
     queue: Queue<N>,
@@ -170,7 +171,7 @@ pub fn run_writer<N: LineName, R: Wait + Drop, W: Wait>(
     ensures part { IsPart (without_sweeps (kept_of result.writer)) result.jobs.entries }
     ensures taken { result.taken ≡ length result.jobs.entries }
     ensures refused { length (without_sweeps (kept_of result.writer)) + result.refused ≡ result.taken }
-    ensures sweeps { AreSweepsFor result.jobs.entries (kept_of result.writer) }
+    ensures sweeps { AreNeeded N.limit (Contains result.jobs.entries) (kept_of result.writer) }
     ensures held { result.held ≡ option_map (λ e. e.origin) result.writer.held }
 {
     run_writer_for(rt, queue, writer, u64::MAX)
@@ -187,7 +188,7 @@ pub(crate) fn run_writer_for<N: LineName, R: Wait + Drop, W: Wait>(
     ensures part { IsPart (without_sweeps (kept_of result.writer)) result.jobs.entries }
     ensures taken { result.taken ≡ length result.jobs.entries }
     ensures refused { length (without_sweeps (kept_of result.writer)) + result.refused ≡ result.taken }
-    ensures sweeps { AreSweepsFor result.jobs.entries (kept_of result.writer) }
+    ensures sweeps { AreNeeded N.limit (Contains result.jobs.entries) (kept_of result.writer) }
     ensures held { result.held ≡ option_map (λ e. e.origin) result.writer.held }
 {
     let Queue {

@@ -5,16 +5,17 @@ use Rattle.std.specs.List.{All}
 use Rattle.rs_message.specs.declared.entry.Entry.{Entry}
 use Rattle.rs_store.specs.declared.content.Content.{Content}
 use Rattle.rs_store.specs.History.{IsLegal, Stands}
+use Rattle.rs_store.specs.Needed.{AreNeeded}
 use Rattle.rs_session.specs.Gate.{Mark, Extends}
 use Rattle.rs_session.specs.Local.{local_mark}
 use Rattle.rs_program.specs.declared.own_store.OwnStore.{OwnStore}
 use Rattle.rs_program.specs.declared.own_store.TheConstants.{MAX_OWN_TOPICS}
 use Rattle.rs_program.specs.Memory.{IsOfMark}
-use Rattle.rs_program.specs.OwnStores.{content_of, IsOwn, IsOwnEntry}
+use Rattle.rs_program.specs.OwnStores.{content_of, IsOfOwnPlace, IsOwn, IsOwnEntry}
 
 -- what it stands for has no serial above its mark's
 pub of_mark : (store : OwnStore) (mark : Mark) (list : List Entry) → IsOwn (content_of store) list → local_mark (content_of store) ≡ mark → IsOfMark mark list
-of_mark store mark list own is = record { legal = own.legal; places = own.places; serial = sym (own.stands.serials 1) ∙ ap (λ (m : Mark). m.serial) is }
+of_mark store mark list own is = record { legal = own.legal; places = own.places; needed = own.needed; serial = sym (own.stands.serials 1) ∙ ap (λ (m : Mark). m.serial) is }
 
 -- if the content stays, a list with the one before as prefix is the same list
 pub own_stays : (old new : Content) (seen list : List Entry) → old.limit ≡ MAX_OWN_TOPICS → new ≡ old → IsOwn old seen → Stands new list → Extends list seen → IsOwn new list
@@ -26,4 +27,5 @@ own_stays old new seen list limit same own stands begins =
       stands = stands;
       legal = subst (λ (n : ℕ). IsLegal n list) (ap (λ (c : Content). c.limit) same ∙ limit) stands.legal;
       places = subst (λ (l : List Entry). All IsOwnEntry l) (sym is) own.places;
+      needed = (let P : List Entry → Type 0 = λ l. AreNeeded MAX_OWN_TOPICS IsOfOwnPlace l in subst P (sym is) own.needed);
     }

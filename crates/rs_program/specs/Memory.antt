@@ -3,19 +3,22 @@ use Rattle.std.specs.Prelude.{◌≡◌, ℕ, List, [], ◌++◌}
 use Rattle.std.specs.List.{All}
 use Rattle.rs_message.specs.declared.entry.Entry.{Entry}
 use Rattle.rs_store.specs.History.{IsLegal, last_serial}
+use Rattle.rs_store.specs.Needed.{AreNeeded}
 use Rattle.rs_session.specs.Gate.{Mark}
 use Rattle.rs_session.specs.Points.{Point}
 use Rattle.rs_session.specs.Run.{Turn, Run, AreOfGate}
 use Rattle.rs_session.specs.State.{State}
 use Rattle.rs_server.specs.declared.connection.Served.{Served}
-use Rattle.rs_program.specs.OwnStores.{IsOwnEntry}
+use Rattle.rs_program.specs.OwnStores.{IsOfOwnPlace, IsOwnEntry}
 use Rattle.rs_program.specs.declared.own_store.TheConstants.{MAX_OWN_TOPICS}
 use Rattle.rs_server.specs.Conversation.{InputsOf, inputs_of, moments_of, replies_of, assigned_of, start, ClosesAs}
 
--- The list is legal for the topics of an own store, its entries are of place 1, but for Sweeps, and the last serial is the mark's.
+-- The list is legal for the topics of an own store, its entries are of place 1, but for Sweeps that these needed, and the last serial
+-- is the mark's.
 pub record IsOfMark (mark : Mark) (list : List Entry) : Type 0 where
   pub legal : IsLegal MAX_OWN_TOPICS list
   pub places : All IsOwnEntry list
+  pub needed : AreNeeded MAX_OWN_TOPICS IsOfOwnPlace list
   pub serial : last_serial 1 list ≡ mark.serial
 
 -- From an empty store, as connection 1 at place 1, a session was run over the packets of a prefix of the

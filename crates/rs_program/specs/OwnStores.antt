@@ -5,6 +5,7 @@ use Rattle.rs_message.specs.declared.entry.Entry.{Entry}
 use Rattle.rs_message.specs.Messages.{is_sweep}
 use Rattle.rs_store.specs.declared.content.Content.{Content}
 use Rattle.rs_store.specs.History.{IsLegal, Stands}
+use Rattle.rs_store.specs.Needed.{AreNeeded}
 use Rattle.rs_session.specs.Local.{catalogue_of}
 use Rattle.rs_program.specs.declared.own_store.OwnStore.{OwnStore}
 use Rattle.rs_program.specs.declared.own_store.TheConstants.{MAX_OWN_TOPICS}
@@ -12,12 +13,16 @@ use Rattle.rs_program.specs.declared.own_store.TheConstants.{MAX_OWN_TOPICS}
 abbrev pub content_of : OwnStore → Content
 content_of store = catalogue_of store.gate
 
--- it is of place 1, or a Sweep of the writer, whose place is 0
-abbrev pub IsOwnEntry : Entry → Type 0
-IsOwnEntry e = (e.origin.place ≡ 1) ⊎ ((e.origin.place ≡ 0) × (is_sweep e.operation ≡ true))
+abbrev pub IsOfOwnPlace : Entry → Type 0
+IsOfOwnPlace e = e.origin.place ≡ 1
 
--- the content is that of the list, which is legal for its topics, and whose entries are of place 1, but for Sweeps
+-- it is of the one place, or a Sweep of the writer, whose place is 0
+abbrev pub IsOwnEntry : Entry → Type 0
+IsOwnEntry e = IsOfOwnPlace e ⊎ ((e.origin.place ≡ 0) × (is_sweep e.operation ≡ true))
+
+-- the content is that of the list, which is legal for its topics, and whose entries are of the one place, but for Sweeps that these needed
 pub record IsOwn (c : Content) (history : List Entry) : Type 0 where
   pub stands : Stands c history
   pub legal : IsLegal MAX_OWN_TOPICS history
   pub places : All IsOwnEntry history
+  pub needed : AreNeeded MAX_OWN_TOPICS IsOfOwnPlace history

@@ -11,6 +11,7 @@ pub mod Histories
 pub mod Joining
 pub mod Looking
 pub mod Maps
+pub mod Needed
 pub mod Places
 pub mod Rooms
 pub mod Sent

@@ -9,6 +9,7 @@ pub mod Expiring
 pub mod History
 pub mod Law
 pub mod Maps
+pub mod Needed
 pub mod Nodes
 pub mod Room
 pub mod Spots

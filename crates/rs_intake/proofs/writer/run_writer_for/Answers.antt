@@ -14,7 +14,7 @@ put_job-requires-clause-rises g c =
     let kept = kept_of c.loop.writer in
     let more : c.next-in-loop.new.self.entries ≡ entries ++ job ∷ [] = c.in-Some-Put.ensures.0 ∙ (ap (λ (x : Job). entries ++ entries_of (x ∷ [])) c.in-Some-Put.field-0-is ∙ ap (λ (x : Entry). entries ++ x ∷ []) (sym c.into_entry-job.ensures.entry)) in
     let P : List Entry → Type 0 = λ l. SerialsRise l in
-    job_rises entries kept job c.loop.invariant.1 c.into_entry-job.ensures.place (omega (arith, c.serial-serial.ensures.value, c.serial-serial.ensures.some)) (subst P more c.in-Some-Put.ensures.1)
+    job_rises g.N.StoreName.limit entries kept job c.loop.invariant.1 c.into_entry-job.ensures.place (omega (arith, c.serial-serial.ensures.value, c.serial-serial.ensures.some)) (subst P more c.in-Some-Put.ensures.1)
 
 pub loop-preserved-then-not-put_job : goal.loop-preserved-then-not-put_job
 loop-preserved-then-not-put_job g c =
@@ -24,7 +24,7 @@ loop-preserved-then-not-put_job g c =
     let kept = kept_of c.loop.writer in
     let more : c.next-in-loop.new.self.entries ≡ entries ++ job ∷ [] = c.in-Some-Put.ensures.0 ∙ (ap (λ (x : Job). entries ++ entries_of (x ∷ [])) c.in-Some-Put.field-0-is ∙ ap (λ (x : Entry). entries ++ x ∷ []) (sym c.into_entry-job.ensures.entry)) in
     let s = serves_refused g.N.StoreName.limit entries kept (kept_of c.put_job.new.writer) job i.1 c.if-not-put_job.ensures in
-    let P : List Entry → Type 0 = λ l. Serves l (kept_of c.put_job.new.writer) in
+    let P : List Entry → Type 0 = λ l. Serves g.N.StoreName.limit l (kept_of c.put_job.new.writer) in
     (i.0, subst P (sym more) s.0, omega (arith, i.2, ap length more, length-append entries (job ∷ [])), omega (arith, i.3, s.1), i.4)
 
 pub loop-preserved-else-not-put_job : goal.loop-preserved-else-not-put_job
@@ -35,5 +35,5 @@ loop-preserved-else-not-put_job g c =
     let kept = kept_of c.loop.writer in
     let more : c.next-in-loop.new.self.entries ≡ entries ++ job ∷ [] = c.in-Some-Put.ensures.0 ∙ (ap (λ (x : Job). entries ++ entries_of (x ∷ [])) c.in-Some-Put.field-0-is ∙ ap (λ (x : Entry). entries ++ x ∷ []) (sym c.into_entry-job.ensures.entry)) in
     let s = serves_job g.N.StoreName.limit entries kept (kept_of c.put_job.new.writer) job i.1 c.into_entry-job.ensures.no_sweep c.if-not-put_job.ensures in
-    let P : List Entry → Type 0 = λ l. Serves l (kept_of c.put_job.new.writer) in
+    let P : List Entry → Type 0 = λ l. Serves g.N.StoreName.limit l (kept_of c.put_job.new.writer) in
     (i.0, subst P (sym more) s.0, omega (arith, i.2, ap length more, length-append entries (job ∷ [])), omega (arith, i.3, s.1), i.4)

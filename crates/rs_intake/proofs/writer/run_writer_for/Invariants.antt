@@ -8,4 +8,4 @@ use Rattle.rs_intake.proofs.writer.run_writer_for.Given as goal
 
 abbrev pub invariant-loop : goal.invariant-loop
 invariant-loop g l = IsQueue g.N.LineName.queue (receives_on l.receiver)
-    × Serves l.jobs.entries (kept_of l.writer) × (l.taken ≡ length l.jobs.entries) × (length (without_sweeps (kept_of l.writer)) + l.refused ≡ l.taken) × (0 < l.open)
+    × Serves g.N.StoreName.limit l.jobs.entries (kept_of l.writer) × (l.taken ≡ length l.jobs.entries) × (length (without_sweeps (kept_of l.writer)) + l.refused ≡ l.taken) × (0 < l.open)

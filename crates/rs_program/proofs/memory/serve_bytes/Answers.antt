@@ -34,5 +34,5 @@ returns-in-Ok-0₀ g c =
       replies = ap (λ (v : Vec ℕ Global). v.items) c.into_inner.ensures ∙ written ∙ ap (λ (l : List ℕ). l ++ replies_of conversation.turns) c.new-2.ensures.items;
       closes = closes;
       each = of_gate_weaker _ IsOfMark conversation.turns (λ mark list h. of_mark h.0 mark list h.1 h.2) conversation.of_gate;
-      last = record { legal = conversation.stood_for.legal; places = conversation.stood_for.places; serial = sym (conversation.stood_for.stands.serials 1) };
+      last = record { legal = conversation.stood_for.legal; places = conversation.stood_for.places; needed = conversation.stood_for.needed; serial = sym (conversation.stood_for.stands.serials 1) };
     }
