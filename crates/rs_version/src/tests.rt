@@ -6,16 +6,16 @@ ghost use Rattle.rs_message.specs.declared.entry.TheConstants.{MAX_PLACES};
 
 use super::*;
 use bytes::Bytes;
-use rs_message::{Entry, MAX_PLACES, Message, Operation, Origin};
+use rs_message::{Entry, Message, Operation, Origin};
 use rs_packet::{Properties, Qos};
-use rs_store::{MAX_TOPICS, TopicLimit};
+use rs_store::TopicLimit;
 use rs_topic::{TopicFilter, TopicName};
 use std::alloc::Global;
 use std::marker::Brand;
 use std::process::Abort;
 use std::sync::Wait;
 use std::test::Fail;
-use std::thread::{Threads, join, spawn};
+use std::thread::{Threads, join};
 
 mod sweeping;
 
@@ -255,6 +255,13 @@ fn told<N: StoreName, R: Wait + Drop>(
     Ok(())
 }
 
+/// The version that the seat reads. `None` if it is answered an error.
+fn read_version<N: StoreName>(alloc: Global, seat: &mut Seat<N>) -> Option<u64> {
+    let filter = TopicFilter::read(alloc, b"#").ok()?;
+    Some(seat.answer(&filter, 0).ok()?.version)
+}
+
+/// A seat reads what is published, and nothing once the writer has ended.
 fn told_seat_named<N: StoreName, R: Wait + Abort>(
     rt: &R,
     alloc: Global,
@@ -262,15 +269,20 @@ fn told_seat_named<N: StoreName, R: Wait + Abort>(
 ) -> Result<(), Fail>
     requires { (blank.history ≡ N.history) × (blank.limit ≡ N.limit) }
 {
-    let (mut writer, seats) = blank.open::<N, &R>(rt)?;
+    let (mut writer, mut seats) = blank.open::<N, &R>(rt)?;
+    let mut last = seats.pop().ok_or("there is a seat")?;
     assert_eq!(rt; seats.len(), 2);
-    told(rt, alloc, &mut writer, seats)
+    told(rt, alloc, &mut writer, seats)?;
+    assert!(rt; read_version(alloc, &mut last).is_some());
+    drop(writer);
+    assert!(rt; read_version(alloc, &mut last).is_none());
+    Ok(())
 }
 
 #[test]
 fn told_seat(rt: HostRuntime) -> Result<(), Fail> {
     let alloc = rt.alloc();
-    told_seat_named::<Brand, _>(&rt, alloc, blank(alloc, 10, 2)?)
+    told_seat_named::<Brand, _>(&rt, alloc, blank(alloc, 10, 3)?)
 }
 
 /// The writer, once it has put a hundred entries, and whether it did.
@@ -372,117 +384,6 @@ fn readers_beside_a_writer_named<N: StoreName + Send + Sync, R: Threads + Wait +
 fn readers_beside_a_writer(rt: HostRuntime) -> Result<(), Fail> {
     let alloc = rt.alloc();
     readers_beside_a_writer_named::<Brand, _>(&rt, alloc, blank(alloc, 4, 3)?)
-}
-
-/// A message of this payload and interval, which came as late as can be said.
-#[tactic(auto, using(rs_message::proofs::Sizes::large_message))]
-fn rare_message(alloc: Global, payload: Bytes, expiry: Option<u32>) -> Option<Message>
-    requires some { payload ≢ [] }
-    requires fits { length payload ≤ 262000 }
-{
-    Message::new(
-        alloc,
-        payload,
-        Qos::ExactlyOnce,
-        u64::MAX,
-        expiry,
-        Properties::none(),
-    )
-    .ok()
-}
-
-/// The last entry of the last place, which sets the longest topic to this payload.
-fn rare_entry(alloc: Global, payload: &[u8]) -> Option<Entry> {
-    if payload.is_empty() || payload.len() > 262_000 {
-        return None;
-    }
-    let topic = vec![in alloc; b't'; 65_535].ok()?;
-    let topic = TopicName::read(alloc, &topic).ok()?;
-    let payload = Bytes::copy_from_slice(alloc, payload).ok()?;
-    let message = rare_message(alloc, payload, Some(u32::MAX))?;
-    entry_of(MAX_PLACES, u64::MAX, Operation::Set(topic, message))
-}
-
-/// Whether the seat finds one message, of the longest topic and with this payload.
-fn finds<N: StoreName>(alloc: Global, seat: &mut Seat<N>, payload: &[u8]) -> Result<bool, Fail> {
-    let filter = TopicFilter::read(alloc, b"#")?;
-    let snapshot = seat.answer(&filter, u64::MAX)?;
-    match snapshot.found.as_slice() {
-        [found] => Ok(
-            found.topic.as_bytes().len() == 65_535 && found.message.payload().as_slice() == payload,
-        ),
-        _ => Ok(false),
-    }
-}
-
-fn a_large_message_named<N: StoreName, R: Wait + Abort>(
-    rt: &R,
-    alloc: Global,
-    blank: Blank,
-) -> Result<(), Fail>
-    requires { (blank.history ≡ N.history) × (blank.limit ≡ N.limit) }
-{
-    let (mut writer, seats) = blank.open::<N, &R>(rt)?;
-    assert_eq!(rt; seats.len(), 64);
-    let payload = vec![in alloc; b'x'; 262_000]?;
-    let receipt = receipt_of(&mut writer, rare_entry(alloc, &payload))?;
-    assert_eq!(rt; receipt.number(), 1);
-    for seat in seats {
-        let mut seat = seat;
-        seat.learn(receipt.told());
-        assert!(rt; finds(alloc, &mut seat, &payload)?);
-    }
-    let again = fault_of(&mut writer, rare_entry(alloc, &payload))?;
-    assert_eq!(rt; again, Some(PutFault::Stale));
-    Ok(())
-}
-
-/// Each of all seats of the largest store reads a large message with the rarest fields.
-#[test]
-fn a_large_message(rt: HostRuntime) -> Result<(), Fail> {
-    let alloc = rt.alloc();
-    a_large_message_named::<Brand, _>(&rt, alloc, blank(alloc, MAX_TOPICS, MAX_PLACES)?)
-}
-
-/// The version that the seat reads. `None` if it is answered an error.
-fn read_version<N: StoreName>(alloc: Global, seat: &mut Seat<N>) -> Option<u64> {
-    let filter = TopicFilter::read(alloc, b"#").ok()?;
-    Some(seat.answer(&filter, 0).ok()?.version)
-}
-
-/// Puts one entry, and gives what the seat reads, once it has learned the token, and what it reads without a writer.
-fn put_and_end<N: StoreName, R: Wait + Drop>(
-    alloc: Global,
-    writer: VersionWriter<N, R>,
-    seat: Seat<N>,
-) -> Option<(Option<u64>, Option<u64>)> {
-    let mut writer = writer;
-    let mut seat = seat;
-    let entry = no_sweep(set(alloc, 1, 1, b"x"))?;
-    let receipt = writer.put(entry).ok()?;
-    seat.learn(receipt.told());
-    let read = read_version(alloc, &mut seat);
-    drop(writer);
-    Some((read, read_version(alloc, &mut seat)))
-}
-
-fn in_a_thread_named<
-    N: StoreName + Send + Sync + 'static,
-    R: Threads + Wait + Abort + Copy + Send + 'static,
->(rt: R, alloc: Global, blank: Blank) -> Result<(), Fail>
-    requires { (blank.history ≡ N.history) × (blank.limit ≡ N.limit) }
-{
-    let (writer, mut seats) = blank.open::<N, R>(rt)?;
-    let seat = seats.pop().ok_or("there is a seat")?;
-    let thread = spawn(&rt, move || put_and_end(alloc, writer, seat))?;
-    assert_eq!(rt; thread.join(&rt), Some((Some(1), None)));
-    Ok(())
-}
-
-#[test]
-fn in_a_thread(rt: HostRuntime) -> Result<(), Fail> {
-    let alloc = rt.alloc();
-    in_a_thread_named::<Brand, _>(rt, alloc, blank(alloc, 4, 1)?)
 }
 
 #[test]
