@@ -8,7 +8,6 @@ use Rattle.std.proofs.lemmas.Bool.Decides.{nat_tests}
 use Rattle.rs_message.specs.Messages.{is_sweep}
 use Rattle.rs_message.specs.declared.entry.Entry.{Entry}
 use Rattle.rs_store.specs.Adding.{Adds}
-use Rattle.rs_store.specs.Needed.{AreNeeded}
 use Rattle.rs_store.specs.History.{IsLegal, NeedsSweepAfter, SerialsRise, cleaned, extended, last_serial, serials_of, sweep_after}
 use Rattle.rs_store.proofs.Histories.{last_is_above, legal_front, serials_rise_more}
 use Rattle.rs_store.proofs.Needed.{all_needed, needed_cleaned, needed_more, needed_none, needed_weaker}
@@ -16,7 +15,7 @@ use Rattle.rs_version.specs.Writer.{Refuses, Written, kept_of, settled, shows}
 use Rattle.rs_version.specs.declared.fault.PutFault.{PutFault}
 use Rattle.rs_version.specs.declared.fault.PutFault.TheVariants.{Full, Held, NoMemory, Stale}
 use Rattle.rs_intake.specs.Parts.{IsPart}
-use Rattle.rs_intake.specs.Sweeps.{IsSweptAtMost, without_sweeps}
+use Rattle.rs_intake.specs.Sweeps.{AreForJobs, IsSweptAtMost, without_sweeps}
 use Rattle.rs_intake.proofs.Parts.{part_both, part_rises, part_skip, rises_none}
 
 -- ---- without the Sweeps
@@ -56,27 +55,30 @@ same_serials place some (e ∷ es) a = at (is_sweep e.operation) refl (same_seri
 
 pub record Serves (limit : ℕ) (jobs kept : List Entry) : Type 0 where
   pub part : IsPart (without_sweeps kept) jobs
-  pub sweeps : AreNeeded limit (Contains jobs) kept
+  pub sweeps : AreForJobs limit jobs kept
   pub rises : SerialsRise kept
 
 among_more : (jobs : List Entry) (job e : Entry) → Contains jobs e → Contains (jobs ++ job ∷ []) e
 among_more jobs job e there = Contains-append_left jobs (job ∷ []) e there
 
-sweeps_more : (limit : ℕ) (jobs kept : List Entry) (job : Entry) → AreNeeded limit (Contains jobs) kept → AreNeeded limit (Contains (jobs ++ job ∷ [])) kept
-sweeps_more limit jobs kept job a = needed_weaker limit (Contains jobs) (Contains (jobs ++ job ∷ [])) kept (among_more jobs job) a
+sweeps_more : (limit : ℕ) (jobs kept : List Entry) (job : Entry) → AreForJobs limit jobs kept → AreForJobs limit (jobs ++ job ∷ []) kept
+sweeps_more limit jobs kept job a = record { needed = needed_weaker limit (Contains jobs) (Contains (jobs ++ job ∷ [])) kept (among_more jobs job) a.needed }
+
+sweeps_with_job : (limit : ℕ) (jobs kept : List Entry) (job : Entry) → is_sweep job.operation ≡ false → AreForJobs limit jobs kept → AreForJobs limit jobs (extended kept job)
+sweeps_with_job limit jobs kept job plain a = record { needed = needed_more limit (Contains jobs) kept job plain a.needed }
 
 last_job : (jobs : List Entry) (job : Entry) → Contains (jobs ++ job ∷ []) job
 last_job jobs job = Contains-append_right jobs (job ∷ []) job (0, omega arith, refl)
 
-sweeps_cleaned : (limit : ℕ) (jobs kept : List Entry) (job : Entry) → AreNeeded limit (Contains jobs) kept → (s : NeedsSweepAfter limit kept job) → AreNeeded limit (Contains (jobs ++ job ∷ [])) (cleaned s.message.received kept)
-sweeps_cleaned limit jobs kept job a s = needed_cleaned limit (Contains (jobs ++ job ∷ [])) kept job (last_job jobs job) s (sweeps_more limit jobs kept job a)
+sweeps_cleaned : (limit : ℕ) (jobs kept : List Entry) (job : Entry) → AreForJobs limit jobs kept → (s : NeedsSweepAfter limit kept job) → AreForJobs limit (jobs ++ job ∷ []) (cleaned s.message.received kept)
+sweeps_cleaned limit jobs kept job a s = record { needed = needed_cleaned limit (Contains (jobs ++ job ∷ [])) kept job (last_job jobs job) s (sweeps_more limit jobs kept job a).needed }
 
 -- a job whose serial rises among the jobs rises among what is kept
 pub job_rises : (limit : ℕ) (jobs kept : List Entry) (job : Entry) → Serves limit jobs kept → 0 < job.origin.place → 0 < job.origin.serial → SerialsRise (jobs ++ job ∷ []) → SerialsRise (extended kept job)
 job_rises limit jobs kept job s place serial rises =
     let part : SerialsRise (without_sweeps kept ++ job ∷ []) = part_rises (without_sweeps kept ++ job ∷ []) (jobs ++ job ∷ []) (part_both (without_sweeps kept) jobs job s.part) rises in
     let above : last_serial job.origin.place (without_sweeps kept) < job.origin.serial = last_is_above (without_sweeps kept) job serial part in
-    let zeros = all_needed limit (Contains jobs) (λ e. e.origin.place ≡ 0) (λ history moment. refl) [] kept s.sweeps in
+    let zeros = all_needed limit (Contains jobs) (λ e. e.origin.place ≡ 0) (λ history moment. refl) [] kept s.sweeps.needed in
     let same : last_serial job.origin.place (without_sweeps kept) ≡ last_serial job.origin.place kept = ap (fold max 0) (same_serials job.origin.place place kept zeros) in
     serials_rise_more kept job s.rises (omega (arith, above, same))
 
@@ -92,7 +94,7 @@ serves_job limit jobs kept kept' job s plain (inl a) =
     subst P (sym a.1) (
       record {
         part = subst Q (sym without) (part_both (without_sweeps kept) jobs job s.part);
-        sweeps = needed_more limit (Contains (jobs ++ job ∷ [])) kept job plain (sweeps_more limit jobs kept job s.sweeps);
+        sweeps = sweeps_with_job limit (jobs ++ job ∷ []) kept job plain (sweeps_more limit jobs kept job s.sweeps);
         rises = a.0.rises;
       },
       ap length without ∙ length-append (without_sweeps kept) (job ∷ []),
@@ -105,7 +107,7 @@ serves_job limit jobs kept kept' job s plain (inr a) =
     subst P (sym a.1) (
       record {
         part = subst Q (sym without) (part_both (without_sweeps kept) jobs job s.part);
-        sweeps = needed_more limit (Contains (jobs ++ job ∷ [])) clean job plain (sweeps_cleaned limit jobs kept job s.sweeps a.0);
+        sweeps = sweeps_with_job limit (jobs ++ job ∷ []) clean job plain (sweeps_cleaned limit jobs kept job s.sweeps a.0);
         rises = a.0.legal.rises;
       },
       ap length without ∙ length-append (without_sweeps kept) (job ∷ []),
@@ -143,7 +145,7 @@ serves_refused limit jobs kept kept' job s (inr a) =
 
 pub serves_start : (limit : ℕ) (jobs kept : List Entry) → jobs ≡ [] → kept ≡ [] → Serves limit jobs kept
 serves_start limit jobs kept no_jobs none =
-    let start : Serves limit [] [] = record { part = tt; sweeps = needed_none limit (Contains []); rises = rises_none } in
+    let start : Serves limit [] [] = record { part = tt; sweeps = record { needed = needed_none limit (Contains []) }; rises = rises_none } in
     let Q : List Entry → Type 0 = λ k. Serves limit jobs k in
     let R : List Entry → Type 0 = λ j. Serves limit j [] in
     subst Q (sym none) (subst R (sym no_jobs) start)

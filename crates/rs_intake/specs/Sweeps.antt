@@ -1,13 +1,18 @@
 -- The Sweeps among the entries that the writer keeps.
-use Rattle.std.specs.Prelude.{ℕ, ◌≡◌, ◌⊎◌, not, List}
+use Rattle.std.specs.Prelude.{ℕ, ◌≡◌, ◌⊎◌, not, List, Contains}
 use Rattle.std.specs.List.{filter}
 use Rattle.rs_message.specs.Messages.{is_sweep}
 use Rattle.rs_message.specs.declared.entry.Entry.{Entry}
 use Rattle.rs_store.specs.History.{NeedsSweepAfter, cleaned}
+use Rattle.rs_store.specs.Needed.{AreNeeded}
 
 -- the entries that are no Sweep
 abbrev pub without_sweeps : List Entry → List Entry
 without_sweeps entries = filter (λ e. not (is_sweep e.operation)) entries
+
+-- each Sweep of the list is the one that a job needed there
+pub record AreForJobs (limit : ℕ) (jobs list : List Entry) : Type 0 where
+  pub needed : AreNeeded limit (Contains jobs) list
 
 -- the list is the history, or has the Sweep that comes before the entry behind it
 abbrev pub IsSweptAtMost : ℕ → List Entry → Entry → List Entry → Type 0

@@ -1,17 +1,16 @@
 //! The writer's loop over the queue.
 
-ghost use Rattle.std.specs.Prelude.{◌≡◌, ◌≢◌, ◌+◌, ◌<◌, [], Contains, length, false, true, IfErr, IfOk, MatchBool};
+ghost use Rattle.std.specs.Prelude.{◌≡◌, ◌≢◌, ◌+◌, ◌<◌, [], length, false, true, IfErr, IfOk, MatchBool};
 ghost use Rattle.std.specs.Option.{option_map};
 ghost use Rattle.crossbeam_channel.specs.Ends.{receives_on};
 ghost use Rattle.rs_message.specs.Messages.{is_sweep};
 ghost use Rattle.rs_store.specs.Adding.{Adds};
 ghost use Rattle.rs_store.specs.History.{SerialsRise, extended};
-ghost use Rattle.rs_store.specs.Needed.{AreNeeded};
 ghost use Rattle.rs_version.specs.Writer.{Refuses, kept_of};
 ghost use Rattle.rs_version.specs.declared.fault.PutFault.TheVariants.{Held, Stale};
 ghost use Rattle.rs_intake.specs.Names.{IsQueue};
 ghost use Rattle.rs_intake.specs.Parts.{IsPart};
-ghost use Rattle.rs_intake.specs.Sweeps.{IsSweptAtMost, without_sweeps};
+ghost use Rattle.rs_intake.specs.Sweeps.{AreForJobs, IsSweptAtMost, without_sweeps};
 
 use crate::name::LineName;
 use crate::reply::{Reply, ReplySender};
@@ -171,7 +170,7 @@ pub fn run_writer<N: LineName, R: Wait + Drop, W: Wait>(
     ensures part { IsPart (without_sweeps (kept_of result.writer)) result.jobs.entries }
     ensures taken { result.taken ≡ length result.jobs.entries }
     ensures refused { length (without_sweeps (kept_of result.writer)) + result.refused ≡ result.taken }
-    ensures sweeps { AreNeeded N.limit (Contains result.jobs.entries) (kept_of result.writer) }
+    ensures sweeps { AreForJobs N.limit result.jobs.entries (kept_of result.writer) }
     ensures held { result.held ≡ option_map (λ e. e.origin) result.writer.held }
 {
     run_writer_for(rt, queue, writer, u64::MAX)
@@ -188,7 +187,7 @@ pub(crate) fn run_writer_for<N: LineName, R: Wait + Drop, W: Wait>(
     ensures part { IsPart (without_sweeps (kept_of result.writer)) result.jobs.entries }
     ensures taken { result.taken ≡ length result.jobs.entries }
     ensures refused { length (without_sweeps (kept_of result.writer)) + result.refused ≡ result.taken }
-    ensures sweeps { AreNeeded N.limit (Contains result.jobs.entries) (kept_of result.writer) }
+    ensures sweeps { AreForJobs N.limit result.jobs.entries (kept_of result.writer) }
     ensures held { result.held ≡ option_map (λ e. e.origin) result.writer.held }
 {
     let Queue {

@@ -25,9 +25,9 @@ needed_more limit P list last plain all = λ front rest e is sweep. ⊎_elim
 pub needed_cleaned : (limit : ℕ) (P : Entry → Type 0) (list : List Entry) (setting : Entry) → P setting → (s : NeedsSweepAfter limit list setting) → AreNeeded limit P list → AreNeeded limit P (cleaned s.message.received list)
 needed_cleaned limit P list setting p s all = λ front rest e is sweep. ⊎_elim
     (λ t.
-      let Q : List Entry → Type 0 = λ l. (z : NeedsSweepAfter limit l setting) × (e ≡ sweep_after z.message.received l) in
-      let w : Q front = subst Q t.0 (s, sym t.1) in
-      (setting, p, w.0, w.1))
+    let Q : List Entry → Type 0 = λ l. (z : NeedsSweepAfter limit l setting) × (e ≡ sweep_after z.message.received l) in
+    let w : Q front = subst Q t.0 (s, sym t.1) in
+    (setting, p, w.0, w.1))
     (λ t. all front t.0 e t.1 sweep)
     (snoc_splits list front rest (sweep_after s.message.received list) e is)
 

@@ -164,30 +164,6 @@ fn answered<C: Catalogue>(rt: &impl Abort, alloc: Global, catalogue: &C) -> Resu
     Ok(())
 }
 
-fn filled_and_cleared<C: Catalogue>(
-    rt: &impl Abort,
-    alloc: Global,
-    catalogue: &mut C,
-) -> Result<(), Fail> {
-    fill(alloc, catalogue)?;
-    answered(rt, alloc, catalogue)?;
-    clear(alloc, catalogue, 2, 1, b"c")??;
-    assert_eq!(rt;
-        topics(alloc, catalogue, b"#", 100)?.as_slice(),
-        b"a/b a.b ".as_slice()
-    );
-    Ok(())
-}
-
-#[test]
-fn answers(rt: HostRuntime) -> Result<(), Fail> {
-    let alloc = rt.alloc();
-    let limit = TopicLimit::new(10).ok_or("10 is a limit")?;
-    filled_and_cleared(&rt, alloc, &mut MapCatalogue::new(alloc, limit)?)?;
-    filled_and_cleared(&rt, alloc, &mut TreeCatalogue::new(alloc, limit)?)?;
-    Ok(())
-}
-
 /// Topics with empty levels, with a level that is a prefix of another, and with a dollar.
 fn set_by_levels<C: Catalogue>(alloc: Global, catalogue: &mut C) -> Result<(), Fail> {
     let names: [&[u8]; 6] = [b"a.b", b"a/b", b"$s", b"a/", b"/", b"a"];
@@ -243,26 +219,6 @@ fn as_many<C: Catalogue>(
         assert!(rt; catalogue.answer_within(filter, now, wanted - 1)?.is_none());
         assert!(rt; catalogue.answer_within(filter, now, 0)?.is_none());
     }
-    Ok(())
-}
-
-fn within<C: Catalogue>(rt: &impl Abort, alloc: Global, catalogue: &mut C) -> Result<(), Fail> {
-    set_by_levels(alloc, catalogue)?;
-    let rows: [(&[u8], usize); 5] = [(b"#", 5), (b"+/+", 3), (b"a/#", 3), (b"$s", 1), (b"b", 0)];
-    for (filter, wanted) in rows {
-        let filter = TopicFilter::read(alloc, filter)?;
-        as_many(rt, catalogue, &filter, 100, wanted)?;
-        as_many(rt, catalogue, &filter, 110, 0)?;
-    }
-    Ok(())
-}
-
-#[test]
-fn answers_within_a_room(rt: HostRuntime) -> Result<(), Fail> {
-    let alloc = rt.alloc();
-    let limit = TopicLimit::new(10).ok_or("10 is a limit")?;
-    within(&rt, alloc, &mut MapCatalogue::new(alloc, limit)?)?;
-    within(&rt, alloc, &mut TreeCatalogue::new(alloc, limit)?)?;
     Ok(())
 }
 
