@@ -9,6 +9,10 @@ READERS = (0, 3, 63)
 # How long a run lasts at least.
 MILLIS = 500
 
+# The milliseconds that a put may take that sweeps half of so many topics beside so many seats.
+SWEEP_LIMIT = 100
+SWEEP_LOAD = (65_536, 3)
+
 # How many times as many answers four seats have to be given as one, each on a thread of its own beside a writer that puts. This
 # is for four processors; other work on the machine takes some of them.
 SEATS_LIMIT = 3
@@ -34,6 +38,17 @@ def put_times(program, topics, readers, tries=3):
     runs = [run(program, topics, readers, MILLIS) for _ in range(tries)]
     new, replace = (min(made[name] / made["rounds"] for made in runs) for name in ("new", "replace"))
     print(f"put beside {readers} seats that read, {topics:,} topics: new {new:.1f} us, replacement {replace:.1f} us")
+
+
+def sweeps_are_short(program, rounds=3, tries=3):
+    """Whether a put that sweeps half of the topics keeps no other waiting for long; other work on the machine may spoil a round."""
+    topics, readers = SWEEP_LOAD
+    for _ in range(rounds):
+        took = min(run(program, topics, readers, MILLIS)["sweep"] for _ in range(tries)) / 1_000
+        print(f"put that sweeps half of {topics:,} topics beside {readers} seats that read: {took:.1f} ms (less than {SWEEP_LIMIT} wanted)")
+        if took < SWEEP_LIMIT:
+            return True
+    return False
 
 
 def answers_a_second(program, readers, tries=3):
@@ -93,7 +108,8 @@ def versions_are_fast(program):
     for topics in TOPICS:
         for readers in READERS:
             put_times(program, topics, readers)
-    good = seats_are_fast(program)
+    good = sweeps_are_short(program)
+    good = seats_are_fast(program) and good
     good = copies_share(program) and good
     return copies_are_small(program) and good
 

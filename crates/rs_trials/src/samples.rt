@@ -1,6 +1,7 @@
 //! Topics, messages and entries to work with.
 
-ghost use Rattle.std.specs.Prelude.{◌≤◌, ◌≢◌, [], length};
+ghost use Rattle.std.specs.Prelude.{◌≡◌, ◌≤◌, ◌≢◌, [], false, length, IfOk};
+ghost use Rattle.rs_message.specs.Messages.{is_sweep};
 
 use crate::failure::Failure;
 use bytes::Bytes;
@@ -11,21 +12,27 @@ use std::alloc::{AllocError, Global};
 
 const PAYLOAD: &[u8] = b"0123456789abcdef0123456789abcdef0123456789abcdef0123456789abcdef";
 
-/// A message of this payload, in memory of its own, and of this quality.
+/// A message of this payload, in memory of its own, and of this quality, that came at this moment.
 #[tactic(auto, using(rs_message::proofs::Sizes::small_message))]
-fn message(alloc: Global, payload: &[u8], qos: Qos) -> Result<Message, AllocError>
+fn message(
+    alloc: Global,
+    payload: &[u8],
+    qos: Qos,
+    received: u64,
+    expiry: Option<u32>,
+) -> Result<Message, AllocError>
     requires some { payload.now ≢ [] }
     requires small { length payload.now ≤ 1000 }
 {
     let payload = Bytes::copy_from_slice(alloc, payload)?;
-    Message::new(alloc, payload, qos, 0, None, Properties::none())
+    Message::new(alloc, payload, qos, received, expiry, Properties::none())
 }
 
 /// A message of this topic and quality, as the store finds it.
 pub fn found(alloc: Global, topic: &TopicName, qos: Qos) -> Result<Found, Failure> {
     Ok(Found {
         topic: topic.copy()?,
-        message: message(alloc, PAYLOAD, qos)?,
+        message: message(alloc, PAYLOAD, qos, 0, None)?,
     })
 }
 
@@ -72,43 +79,86 @@ fn deep_topic(alloc: Global, number: u64) -> Result<TopicName, Failure> {
 }
 
 /// An entry of place 1 with this serial, which is not 0.
-fn entry(serial: u64, operation: Operation) -> Result<Entry, Failure> {
+fn entry(serial: u64, operation: Operation) -> Result<Entry, Failure>
+    requires { is_sweep operation ≡ false }
+    ensures { IfOk result (λ e. is_sweep e.operation ≡ false) }
+{
     let origin = Origin::new(1, serial).ok_or(Failure::Wrong)?;
     Ok(Entry { origin, operation })
 }
 
-/// A Set of a topic, as an operation of any place.
-fn set_of(alloc: Global, topic: TopicName) -> Result<Operation, Failure> {
-    let message = message(alloc, PAYLOAD, Qos::AtMostOnce)?;
+/// A Set of a topic, as an operation of any place. Its message came at this moment.
+fn set_of(
+    alloc: Global,
+    topic: TopicName,
+    received: u64,
+    expiry: Option<u32>,
+) -> Result<Operation, Failure>
+    ensures { IfOk result (λ o. is_sweep o ≡ false) }
+{
+    let message = message(alloc, PAYLOAD, Qos::AtMostOnce, received, expiry)?;
     Ok(Operation::Set(topic, message))
 }
 
 /// A Set of the topic of this number, as an operation of any place.
-pub fn change(alloc: Global, number: u64) -> Result<Operation, Failure> {
-    set_of(alloc, topic(alloc, number)?)
+pub fn change(alloc: Global, number: u64) -> Result<Operation, Failure>
+    ensures { IfOk result (λ o. is_sweep o ≡ false) }
+{
+    set_of(alloc, topic(alloc, number)?, 0, None)
 }
 
-/// A Set of the topic of this number.
-pub fn set(alloc: Global, serial: u64, number: u64) -> Result<Entry, Failure> {
-    entry(serial, change(alloc, number)?)
+/// A Set of the topic of this number. Its message came at this moment, and has this interval.
+pub fn set_at(
+    alloc: Global,
+    serial: u64,
+    number: u64,
+    received: u64,
+    interval: u32,
+) -> Result<Entry, Failure>
+    ensures { IfOk result (λ e. is_sweep e.operation ≡ false) }
+{
+    let topic = topic(alloc, number)?;
+    entry(serial, set_of(alloc, topic, received, Some(interval))?)
 }
 
 /// A Set of the topic of this number, of four levels and 64 bytes.
-pub fn set_even(alloc: Global, serial: u64, number: u64) -> Result<Entry, Failure> {
-    entry(serial, set_of(alloc, even_topic(alloc, number)?)?)
+pub fn set_even(alloc: Global, serial: u64, number: u64) -> Result<Entry, Failure>
+    ensures { IfOk result (λ e. is_sweep e.operation ≡ false) }
+{
+    entry(serial, set_of(alloc, even_topic(alloc, number)?, 0, None)?)
+}
+
+/// The same of a message that came at this moment, and has this interval.
+pub fn set_even_at(
+    alloc: Global,
+    serial: u64,
+    number: u64,
+    received: u64,
+    interval: u32,
+) -> Result<Entry, Failure>
+    ensures { IfOk result (λ e. is_sweep e.operation ≡ false) }
+{
+    let topic = even_topic(alloc, number)?;
+    entry(serial, set_of(alloc, topic, received, Some(interval))?)
 }
 
 /// A Clear of the same topic.
-pub fn clear_even(alloc: Global, serial: u64, number: u64) -> Result<Entry, Failure> {
+pub fn clear_even(alloc: Global, serial: u64, number: u64) -> Result<Entry, Failure>
+    ensures { IfOk result (λ e. is_sweep e.operation ≡ false) }
+{
     entry(serial, Operation::Clear(even_topic(alloc, number)?))
 }
 
 /// A Set of the topic of this number, of the most levels.
-pub fn set_deep(alloc: Global, serial: u64, number: u64) -> Result<Entry, Failure> {
-    entry(serial, set_of(alloc, deep_topic(alloc, number)?)?)
+pub fn set_deep(alloc: Global, serial: u64, number: u64) -> Result<Entry, Failure>
+    ensures { IfOk result (λ e. is_sweep e.operation ≡ false) }
+{
+    entry(serial, set_of(alloc, deep_topic(alloc, number)?, 0, None)?)
 }
 
 /// A Clear of the topic of this number.
-pub fn clear(alloc: Global, serial: u64, number: u64) -> Result<Entry, Failure> {
+pub fn clear(alloc: Global, serial: u64, number: u64) -> Result<Entry, Failure>
+    ensures { IfOk result (λ e. is_sweep e.operation ≡ false) }
+{
     entry(serial, Operation::Clear(topic(alloc, number)?))
 }

@@ -2,6 +2,7 @@
 
 mod catalogue;
 mod codec;
+mod full;
 mod sessions;
 mod submits;
 mod versions;
@@ -36,6 +37,7 @@ fn work_one<H: AllocGlobal + Print + Clock + Wait, R: Read>(
     match name {
         "map" => catalogue::measure::<H, MapCatalogue>(rt, alloc, topics(word)?),
         "tree" => catalogue::measure::<H, TreeCatalogue>(rt, alloc, topics(word)?),
+        "full" => full::measure(rt, alloc, topics(word)?),
         "keep" => catalogue::keep(alloc, topics(word)?),
         "keep_deep" => catalogue::keep_deep(alloc, topics(word)?),
         "keep_versions" => versions::keep(rt, alloc, topics(word)?),

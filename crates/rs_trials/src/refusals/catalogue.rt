@@ -1,20 +1,30 @@
 //! What a catalogue shows after memory was refused to `add` or to `copy`.
 
-ghost use Rattle.std.specs.Prelude.{◌<◌};
+ghost use Rattle.std.specs.Prelude.{◌≡◌, ◌<◌, false, IfOk};
+ghost use Rattle.rs_message.specs.Messages.{is_sweep};
 
 use crate::failure::{Failure, expect};
-use crate::samples::{HOUSE, clear, set, topic};
-use rs_message::Found;
+use crate::samples::{HOUSE, clear, set_at, topic};
+use rs_message::{Entry, Found, Remaining};
 use rs_store::{Catalogue, Refusal, TopicLimit, add};
-use rs_topic::TopicFilter;
+use rs_topic::{TopicFilter, TopicName};
 use std::alloc::{AllocError, Global};
 
-/// How many topics are added: so many that the catalogue has to grow more than once.
+/// How many topics the catalogue takes: so many that it has to grow more than once.
 const TOPICS: u32 = 64;
 
 /// Each time that so many topics were added, the last one is cleared and added again. The catalogue is copied before, between and
 /// after.
 const ROUND: u32 = HOUSE as u32;
+
+/// How many topics are added. So many of them find the catalogue full, or the room of those that are swept.
+const ADDED: u32 = TOPICS + ROUND;
+
+/// Of so many topics in a row the messages come at one moment, the next of those of the row before.
+const ROW: u32 = 3;
+
+/// The interval of all messages: when the catalogue is full, those of one row are expired.
+const INTERVAL: u32 = TOPICS / ROW;
 
 /// What a catalogue shows: the last is its answers to some filters.
 #[derive(Drop)]
@@ -22,13 +32,16 @@ struct Shown {
     version: u64,
     count: u32,
     serial: u64,
+    sweeps: u64,
     answers: Vec<Vec<Found>>,
 }
 
-/// How often memory was refused: to a topic of each kind of place, which `samples::topic` has in turn, and to a copy.
+/// How often memory was refused: to a topic of each kind of place, which `samples::topic` has in turn, to one behind a Sweep, and to
+/// a copy.
 #[derive(Clone, Copy)]
 struct Refused {
     adds: [u32; 4],
+    swept: u32,
     copies: u32,
 }
 
@@ -68,6 +81,7 @@ fn is_same(a: &Shown, b: &Shown) -> bool {
     a.version == b.version
         && a.count == b.count
         && a.serial == b.serial
+        && a.sweeps == b.sweeps
         && are_same_answers(a.answers.as_slice(), b.answers.as_slice())
 }
 
@@ -84,8 +98,44 @@ fn shown_by<C: Catalogue>(
         version: catalogue.version(),
         count: catalogue.count(),
         serial: catalogue.last_serial(1),
+        sweeps: catalogue.last_serial(0),
         answers,
     })
+}
+
+/// The moment at which the message of the topic of this number comes.
+fn moment(number: u32) -> u64 {
+    u64::from(number / ROW)
+}
+
+/// What a Sweep of this moment makes of it. The first of the answers has all topics.
+fn swept(shown: Shown, moment: u64) -> Shown {
+    let mut shown = shown;
+    for answer in &mut shown.answers {
+        answer.retain(|one| one.message.remaining(moment) != Remaining::Expired);
+    }
+    shown.version = shown.version.saturating_add(1);
+    shown.count = shown.answers.first().map_or(0, |all| all.len() as u32);
+    shown.sweeps = shown.sweeps.saturating_add(1);
+    shown
+}
+
+/// What one more entry makes of it, by which no other topic changes.
+fn added(shown: Shown, serial: u64) -> Shown {
+    let mut shown = shown;
+    shown.version = shown.version.saturating_add(1);
+    shown.count = shown.count.saturating_add(1);
+    shown.serial = serial;
+    shown
+}
+
+/// The same without a topic in the answers.
+fn without(shown: Shown, topic: &TopicName) -> Shown {
+    let mut shown = shown;
+    for answer in &mut shown.answers {
+        answer.retain(|one| one.topic != *topic);
+    }
+    shown
 }
 
 impl<C: Catalogue + Drop> Run<C> {
@@ -97,9 +147,23 @@ impl<C: Catalogue + Drop> Run<C> {
         self.catalogue.last_serial(1).saturating_add(1)
     }
 
+    /// A Set of the topic of this number.
+    fn set(&self, alloc: Global, number: u32) -> Result<Entry, Failure>
+        ensures { IfOk result (λ e. is_sweep e.operation ≡ false) }
+    {
+        let received = moment(number);
+        set_at(
+            alloc,
+            self.next_serial(),
+            u64::from(number),
+            received,
+            INTERVAL,
+        )
+    }
+
     /// Adds a Set of a new topic. If memory is refused for it, the catalogue must show the same as before, and take the same Set.
     fn add_new(&mut self, alloc: Global, number: u32) -> Result<(), Failure> {
-        let entry = set(alloc, self.next_serial(), u64::from(number))?;
+        let entry = self.set(alloc, number)?;
         let again = entry.copy()?;
         let before = self.shown(alloc)?;
         match add(&mut self.catalogue, entry) {
@@ -114,16 +178,36 @@ impl<C: Catalogue + Drop> Run<C> {
         Ok(())
     }
 
+    /// Adds a Set of a new topic to the full catalogue, of which a Sweep makes room. If memory is refused for it, the catalogue must
+    /// show the same as before, but for the Sweep, and take the same Set.
+    fn add_swept(&mut self, alloc: Global, number: u32) -> Result<(), Failure> {
+        let new = topic(alloc, u64::from(number))?;
+        let entry = self.set(alloc, number)?;
+        let again = entry.copy()?;
+        let before = self.shown(alloc)?;
+        let room = swept(self.shown(alloc)?, moment(number));
+        let serial = entry.origin.serial();
+        match add(&mut self.catalogue, entry) {
+            Ok(()) => {}
+            Err(Refusal::NoMemory) => {
+                let left = self.shown(alloc)?;
+                expect(is_same(&before, &left) || is_same(&room, &left))?;
+                expect(add(&mut self.catalogue, again).is_ok())?;
+                self.refused.swept = self.refused.swept.saturating_add(1);
+            }
+            Err(_) => return Err(Failure::Wrong),
+        }
+        let after = self.shown(alloc)?;
+        expect(is_same(&added(room, serial), &without(after, &new)))
+    }
+
     /// Clears a topic. All answers must be as before without it: they do not tell whether memory was refused for joining a branch
     /// to its only child.
     fn clear(&mut self, alloc: Global, number: u32) -> Result<(), Failure> {
         let number = u64::from(number);
         let gone = topic(alloc, number)?;
         let entry = clear(alloc, self.next_serial(), number)?;
-        let mut wanted = self.shown(alloc)?;
-        for answer in &mut wanted.answers {
-            answer.retain(|one| one.topic != gone);
-        }
+        let mut wanted = without(self.shown(alloc)?, &gone);
         wanted.version = wanted.version.saturating_add(1);
         wanted.count = wanted.count.saturating_sub(1);
         wanted.serial = entry.origin.serial();
@@ -171,7 +255,7 @@ fn filters(alloc: Global) -> Result<Vec<TopicFilter>, Failure> {
 }
 
 /// Adds new topics one after the other, clears and copies now and then, and prints how often memory was refused for a topic of each
-/// kind of place and for a copy.
+/// kind of place, for one behind a Sweep, and for a copy.
 pub fn work<C: Catalogue + Drop>(rt: &impl Print, alloc: Global) -> Result<(), Failure> {
     let limit = TopicLimit::new(TOPICS).ok_or(Failure::Wrong)?;
     let mut run = Run {
@@ -179,20 +263,26 @@ pub fn work<C: Catalogue + Drop>(rt: &impl Print, alloc: Global) -> Result<(), F
         filters: filters(alloc)?,
         refused: Refused {
             adds: [0; 4],
+            swept: 0,
             copies: 0,
         },
     };
-    for number in 0..TOPICS {
-        run.add_new(alloc, number)?;
+    for number in 0..ADDED {
+        if run.catalogue.count() == TOPICS {
+            run.add_swept(alloc, number)?;
+        } else {
+            run.add_new(alloc, number)?;
+        }
         if number % ROUND == ROUND - 1 {
             run.clear_last(alloc, number)?;
         }
     }
-    expect(run.catalogue.count() == TOPICS)?;
+    expect(run.catalogue.last_serial(0) == u64::from(ROUND.div_ceil(ROW)))?;
     let Refused {
         adds: [root, middle, leaf, above],
+        swept,
         copies,
     } = run.refused;
-    println!(rt; "refused {root} {middle} {leaf} {above} {copies}")?;
+    println!(rt; "refused {root} {middle} {leaf} {above} {swept} {copies}")?;
     Ok(())
 }

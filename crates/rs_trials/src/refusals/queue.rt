@@ -61,6 +61,9 @@ impl<N: LineName> Place<N> {
         intake: &Intake<N>,
         change: Operation,
     ) -> Result<(), Failure> {
+        if change.is_sweep() {
+            return Err(Failure::Wrong);
+        }
         match intake.submit(rt, &mut self.line, change) {
             Ok(receipt) => {
                 let before = self.kept.saturating_add(u64::from(self.is_open));

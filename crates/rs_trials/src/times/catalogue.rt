@@ -11,7 +11,7 @@ use std::alloc::Global;
 use std::rt::Clock;
 use std::time::{Duration, Instant};
 
-/// A prime that divides no power of 2 or 10.
+/// A prime that divides no number of topics that is timed.
 const STEP: u64 = 7919;
 
 /// How many topics share the first two levels.
@@ -23,7 +23,7 @@ const CALLS: u32 = 10_000;
 const MILLIS: u64 = 20;
 
 /// A number below so many topics. Those of 0, 1, 2 .. differ, and are in no order.
-fn mixed(i: u32, topics: u32) -> u64
+pub fn mixed(i: u32, topics: u32) -> u64
     requires { i < topics }
 {
     u64::from(i) * STEP % u64::from(topics)
@@ -47,6 +47,9 @@ fn clears(alloc: Global, topics: u32, used: u32) -> Result<Vec<Entry>, Failure> 
 
 fn add_all<C: Catalogue>(catalogue: &mut C, entries: Vec<Entry>) -> Result<(), Failure> {
     for entry in entries {
+        if entry.operation.is_sweep() {
+            return Err(Failure::Wrong);
+        }
         expect(add(catalogue, entry).is_ok())?;
     }
     Ok(())

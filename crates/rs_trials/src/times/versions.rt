@@ -1,9 +1,10 @@
 //! How long a put takes while seats read, and how many answers they get meanwhile.
 
-ghost use Rattle.std.specs.Prelude.{◌≡◌, ◌<◌, ◌≤◌, ◌^◌};
+ghost use Rattle.std.specs.Prelude.{◌≡◌, ◌<◌, ◌≤◌, ◌^◌, false, IfOk};
+ghost use Rattle.rs_message.specs.Messages.{is_sweep};
 
 use crate::failure::{Failure, expect};
-use crate::samples::{clear, set, set_even};
+use crate::samples::{clear, set_at, set_even};
 use rs_message::{Entry, MAX_PLACES};
 use rs_store::TopicLimit;
 use rs_topic::TopicFilter;
@@ -25,12 +26,19 @@ struct Load {
     time: Duration,
 }
 
-/// How many rounds were made, and how long the puts of new topics took, those of replacements, and all rounds.
+/// All messages come at 0, and those of the topics of even numbers are expired at this moment.
+const EARLY: u32 = 1;
+
+/// The interval of the others.
+const LATE: u32 = 2;
+
+/// How many rounds were made, and how long the puts of new topics took, those of replacements, the one that swept, and all.
 #[derive(Clone, Copy)]
 struct Times {
     rounds: u32,
     new: Duration,
     replace: Duration,
+    sweep: Duration,
     all: Duration,
 }
 
@@ -58,12 +66,22 @@ impl Shared {
     }
 }
 
+/// A Set of the topic of this number, whose message came at this moment.
+fn set(alloc: Global, serial: u64, number: u64, received: u32) -> Result<Entry, Failure>
+    ensures { IfOk result (λ e. is_sweep e.operation ≡ false) }
+{
+    let interval = if number % 2 == 0 { EARLY } else { LATE };
+    set_at(alloc, serial, number, u64::from(received), interval)
+}
+
 /// How long the put took.
 fn put<C: Clock, N: StoreName, W: Wait + Drop>(
     rt: &C,
     writer: &mut VersionWriter<N, W>,
     entry: Entry,
-) -> Result<Duration, Failure> {
+) -> Result<Duration, Failure>
+    requires { is_sweep entry.operation ≡ false }
+{
     let start = Instant::now(rt)?;
     let put = writer.put(entry);
     let took = start.elapsed(rt)?;
@@ -79,12 +97,33 @@ fn fill<N: StoreName, W: Wait + Drop>(
 ) -> Result<(), Failure> {
     for number in 1..topics {
         let number = u64::from(number);
-        expect(writer.put(set(alloc, number, number)?).is_ok())?;
+        expect(writer.put(set(alloc, number, number, 0)?).is_ok())?;
     }
     Ok(())
 }
 
-/// As long as it is time, puts the topic of number 0, which is new, replaces a topic, and clears the new one.
+/// How long a put takes by which half of the topics are swept, once the one of number 0 is put, by which all hold a message.
+fn sweep<C: Clock, N: StoreName, W: Wait + Drop>(
+    rt: &C,
+    alloc: Global,
+    writer: &mut VersionWriter<N, W>,
+    serial: u64,
+    topics: u32,
+) -> Result<Duration, Failure>
+    requires { serial < 2 ^ 63 }
+{
+    put(rt, writer, set(alloc, serial, 0, 0)?)?;
+    let version = writer.tell().version();
+    let took = put(
+        rt,
+        writer,
+        set(alloc, serial + 1, u64::from(topics), EARLY)?,
+    )?;
+    expect(writer.tell().version() == version.saturating_add(2))?;
+    Ok(took)
+}
+
+/// As long as it is time, puts the topic of number 0, which is new, replaces a topic, and clears the new one. Then sweeps.
 fn rounds<C: Clock, N: StoreName, W: Wait + Drop>(
     rt: &C,
     alloc: Global,
@@ -102,15 +141,18 @@ fn rounds<C: Clock, N: StoreName, W: Wait + Drop>(
         count = round + 1;
         let serial = u64::from(topics) + 3 * u64::from(round);
         let other = u64::from(round % topics);
-        new = new.saturating_add(put(rt, writer, set(alloc, serial, 0)?)?);
-        replace = replace.saturating_add(put(rt, writer, set(alloc, serial + 1, other)?)?);
+        new = new.saturating_add(put(rt, writer, set(alloc, serial, 0, 0)?)?);
+        replace = replace.saturating_add(put(rt, writer, set(alloc, serial + 1, other, 0)?)?);
         put(rt, writer, clear(alloc, serial + 2, 0)?)?;
     }
+    let serial = u64::from(topics) + 3 * u64::from(count);
+    let sweep = sweep(rt, alloc, writer, serial, topics)?;
     let all = start.elapsed(rt)?;
     Ok(Times {
         rounds: count,
         new,
         replace,
+        sweep,
         all,
     })
 }
@@ -183,7 +225,7 @@ fn timed<H: Clock + Threads + Wait + Sync, N: StoreName + Send + Sync>(
 }
 
 /// Prints, a line each, how many rounds were made in so many milliseconds, how long the puts of new topics took, those of replacements,
-/// and all rounds, and how often the seats were answered meanwhile, each of which reads one topic all the time.
+/// the one that swept, and all, and how often the seats were answered meanwhile, each of which reads one topic all the time.
 pub fn measure<H: Print + Clock + Threads + Wait + Sync>(
     rt: &H,
     alloc: Global,
@@ -204,6 +246,7 @@ pub fn measure<H: Print + Clock + Threads + Wait + Sync>(
     println!(rt; "rounds {}", times.rounds)?;
     println!(rt; "new {}", times.new.as_micros())?;
     println!(rt; "replace {}", times.replace.as_micros())?;
+    println!(rt; "sweep {}", times.sweep.as_micros())?;
     println!(rt; "all {}", times.all.as_micros())?;
     println!(rt; "answers {answers}")?;
     Ok(())
