@@ -13,8 +13,9 @@ sys.path.insert(0, os.path.join(ROOT, "bench"))
 
 import packets  # noqa: E402
 
-# The answer to a PUBLISH of QoS 1, and to a SUBSCRIBE to one filter at QoS 0.
+# The answer to a PUBLISH of QoS 1, the one if there is no room for it, and the answer to a SUBSCRIBE to one filter at QoS 0.
 PUBACK = bytes.fromhex("40020001")
+NO_ROOM = bytes.fromhex("4003000197")
 SUBACK = bytes.fromhex("900400010000")
 
 
@@ -23,8 +24,14 @@ def publish(topic, payload):
     return packets.publish(topic, payload, qos=1)
 
 
+def expiring(topic, payload, seconds):
+    """The same with a Message Expiry Interval (3.3.2.3.3)."""
+    interval = b"\x05\x02" + seconds.to_bytes(4, "big")
+    return packets.packet(0x33, packets.counted(topic) + b"\x00\x01" + interval + payload)
+
+
 def replayed(topic, payload):
-    """The same as it is sent at QoS 0."""
+    """A retained PUBLISH as it is sent at QoS 0."""
     return packets.publish(topic, payload)
 
 
@@ -62,6 +69,13 @@ class Client:
         if data != wanted:
             at = next((i for i, pair in enumerate(zip(data, wanted)) if pair[0] != pair[1]), len(data))
             raise AssertionError(f"after {at} bytes {data[at : at + 20].hex()} came, and not {wanted[at : at + 20].hex()}")
+
+    def take_packet(self):
+        """Reads a packet of less than 130 bytes, whatever it is."""
+        head = self.reader.read(2)
+        if len(head) < 2:
+            raise AssertionError("the end came, and no packet")
+        return head + self.reader.read(head[1])
 
     def ask(self, sent, replies):
         self.send(sent)

@@ -8,6 +8,7 @@ mod in_turn;
 mod peers;
 mod places;
 mod script;
+mod sweeping;
 
 use super::*;
 use rs_intake::{BlankQueue, Ended, Intake, LineEnd, LineName, SeatLine, run_writer, settle};

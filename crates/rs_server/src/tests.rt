@@ -4,6 +4,7 @@ mod gate;
 mod handed;
 mod long;
 mod streams;
+mod sweeping;
 
 use crate::writing::ServeFault;
 use std::test::Fail;

@@ -8,6 +8,7 @@ use super::{
     opened, settled,
 };
 use crate::run_places;
+use crate::turn::Turn;
 use rs_intake::{BlankQueue, LineName, blank_queue};
 use rs_version::Blank;
 use std::alloc::{AllocError, Global};
@@ -47,13 +48,14 @@ pub fn script(
 }
 
 /// Runs the places: how many were served, how many connections were right, how many jobs were settled, and the version.
-fn ran<
+pub fn ran<
+    T: Turn + Send + Drop + 'static,
     N: LineName + Send + Sync + 'static,
     R: Threads + Wait + Abort + Copy + Send + Sync + 'static,
 >(
     rt: R,
     alloc: Global,
-    turns: Vec<Script>,
+    turns: Vec<T>,
     counts: &Counts,
     store: Store<N, R>,
 ) -> (usize, u64, Option<u64>, u64) {

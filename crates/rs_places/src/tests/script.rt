@@ -11,7 +11,7 @@ use std::sync::atomic::{AtomicU64, Ordering};
 use std::thread::yield_now;
 
 /// How often a turn looks whether another one came so far.
-const LOOKS: u32 = 1_000_000;
+const LOOKS: u32 = 10_000_000;
 
 /// What a client sends.
 #[derive(Drop)]
