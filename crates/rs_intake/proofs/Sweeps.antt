@@ -1,5 +1,5 @@
 -- What the writer keeps against what it took, with the Sweeps among it.
-use Rattle.std.proofs.Common.{◌≡◌, ◌≢◌, ◌==◌, ℕ, ◌+◌, ◌<◌, Bool, true, false, not, cond, List, [], ◌∷◌, ◌++◌, max, fold, map, length, inl, inr, refl, sym, ap, subst, ◌∙◌, ⊎_elim, append_assoc, length-append, Result, Ok, Err, OnOk, IfOk, IfErr, MatchBool, arith}
+use Rattle.std.proofs.Common.{◌≡◌, ◌≢◌, ◌==◌, ℕ, ◌+◌, ◌<◌, Bool, true, false, not, cond, List, [], ◌∷◌, ◌++◌, max, fold, map, length, inl, inr, refl, sym, ap, subst, ◌∙◌, ⊎_elim, append_assoc, length-append, Result, Ok, Err, OnOk, OnErr, None, IfOk, IfErr, MatchBool, arith}
 use Rattle.std.specs.List.{AllByRecursion, filter}
 use Rattle.std.specs.Prelude.{Contains}
 use Rattle.std.proofs.lemmas.List.{append-nil}
@@ -82,6 +82,12 @@ job_rises limit jobs kept job s place serial rises =
     let same : last_serial job.origin.place (without_sweeps kept) ≡ last_serial job.origin.place kept = ap (fold max 0) (same_serials job.origin.place place kept zeros) in
     serials_rise_more kept job s.rises (omega (arith, above, same))
 
+pub are_for_same : (limit : ℕ) (jobs jobs' kept kept' : List Entry) → jobs' ≡ jobs → kept' ≡ kept → AreForJobs limit jobs kept → AreForJobs limit jobs' kept'
+are_for_same limit jobs jobs' kept kept' same alike a =
+    let P : List Entry → Type 0 = λ l. AreForJobs limit l kept' in
+    let Q : List Entry → Type 0 = λ l. AreForJobs limit jobs l in
+    subst P (sym same) (subst Q (sym alike) a)
+
 -- what the jobs serve, after one more
 abbrev pub OneMore : ℕ → List Entry → List Entry → List Entry → Type 0
 OneMore limit jobs kept kept' = Serves limit jobs kept' × (length (without_sweeps kept') ≡ length (without_sweeps kept) + 1)
@@ -154,6 +160,10 @@ serves_start limit jobs kept no_jobs none =
 
 settled_kept : (w w' : Written) → w' ≡ settled w → kept_of w' ≡ kept_of w
 settled_kept w w' is = ap kept_of is ∙ append-nil (kept_of w)
+
+pub retried_kept : {A E : Type 0} (answer : Result A E) (w w' : Written) → OnOk answer (w' ≡ settled w) → OnErr answer ((w.held ≢ None) × (w' ≡ w)) → kept_of w' ≡ kept_of w
+retried_kept (Ok a) w w' done refused = settled_kept w w' done
+retried_kept (Err e) w w' done refused = ap kept_of refused.1
 
 pub adds_kept : (limit : ℕ) (history : List Entry) (e : Entry) (w : Written) → Adds limit history e (λ list. w ≡ shows list) → Adds limit history e (λ list. kept_of w ≡ list)
 adds_kept limit history e w (inl a) = inl (a.0, ap kept_of a.1 ∙ append-nil (extended history e))
