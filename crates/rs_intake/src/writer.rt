@@ -57,7 +57,8 @@ impl<N: LineName> Queue<N> {
         taken.next(rt, &receiver, &mut Patience::new())
     }
 
-    /// Takes one job, puts another entry in its stead, and answers the job with that receipt. Gives the queue up.
+    /// Takes one job, puts another entry in its stead, which must be no Sweep, and answers the job with that receipt. Gives the queue
+    /// up.
     #[cfg(test)]
     pub(crate) fn answer_with<R: Wait + Drop, W: Wait>(
         self,
@@ -70,8 +71,11 @@ impl<N: LineName> Queue<N> {
             mut taken,
             mut replies,
         } = self;
-        if let Some(Job::Put(job)) = taken.next(rt, &receiver, &mut Patience::new()) {
-            let origin = job.origin;
+        if other.operation.is_sweep() {
+            return;
+        }
+        if let Some(Job::Put(change)) = taken.next(rt, &receiver, &mut Patience::new()) {
+            let origin = change.into_entry().origin;
             let answer = writer.put(other);
             if let Some(to) = replies.get_mut(origin.place() as usize - 1) {
                 to.send(rt, Reply { origin, answer });
