@@ -30,7 +30,7 @@ const INTERVAL: u32 = TOPICS / ROW;
 #[derive(Drop)]
 struct Shown {
     version: u64,
-    count: u32,
+    count: usize,
     serial: u64,
     sweeps: u64,
     answers: Vec<Vec<Found>>,
@@ -96,7 +96,7 @@ fn shown_by<C: Catalogue>(
     }
     Ok(Shown {
         version: catalogue.version(),
-        count: catalogue.count(),
+        count: catalogue.count() as usize,
         serial: catalogue.last_serial(1),
         sweeps: catalogue.last_serial(0),
         answers,
@@ -115,7 +115,10 @@ fn swept(shown: Shown, moment: u64) -> Shown {
         answer.retain(|one| one.message.remaining(moment) != Remaining::Expired);
     }
     shown.version = shown.version.saturating_add(1);
-    shown.count = shown.answers.first().map_or(0, |all| all.len() as u32);
+    shown.count = match shown.answers.first() {
+        Some(all) => all.len(),
+        None => 0,
+    };
     shown.sweeps = shown.sweeps.saturating_add(1);
     shown
 }
