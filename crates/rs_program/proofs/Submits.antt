@@ -1,5 +1,5 @@
 -- What a submit to the store of a single connection leads to.
-use Rattle.std.proofs.Common.{◌≡◌, ◌⊎◌, inl, inr, false, ℕ, ◌+◌, List, [], ◌∷◌, ◌++◌, refl, sym, ap, subst, ◌∙◌, Ok, Err, arith, append-nil}
+use Rattle.std.proofs.Common.{◌≡◌, ◌⊎◌, inl, inr, false, ℕ, ◌+◌, List, [], ◌∷◌, ◌++◌, refl, sym, ap, subst, ◌∙◌, Ok, Err, arith, append-nil, All}
 use Rattle.std.proofs.lemmas.List.Elements.{All-append, All-cons, All-nil}
 use Rattle.rs_message.specs.Messages.{is_sweep}
 use Rattle.rs_message.specs.declared.entry.Entry.{Entry}
@@ -13,7 +13,7 @@ use Rattle.rs_store.specs.Needed.{AreNeeded}
 use Rattle.rs_store.specs.declared.content.Content.{Content}
 use Rattle.rs_store.specs.declared.fault.Refusal.TheVariants as refusal
 use Rattle.rs_store.proofs.Adding.{adds, not_adds}
-use Rattle.rs_store.proofs.Needed.{needed_cleaned, needed_more}
+use Rattle.rs_store.proofs.Needed.{needed_cleaned, needed_more, needed_none}
 use Rattle.rs_session.specs.Gate.{Extends, Submits}
 use Rattle.rs_session.specs.Local.{IsLeft, local_mark, next_entry}
 use Rattle.rs_session.proofs.Submitting.{next_serial_added, not_added, nothing_new, submitted}
@@ -30,6 +30,9 @@ clean seen moment all = more seen _ all (inr (refl, refl))
 
 own : (c : Content) (list : List Entry) → c.limit ≡ MAX_OWN_TOPICS → Stands c list → All IsOwnEntry list → AreNeeded MAX_OWN_TOPICS IsOfOwnPlace list → IsOwn c list
 own c list limit stands places needed = record { stands = stands; legal = subst (λ (n : ℕ). IsLegal n list) limit stands.legal; places = places; needed = needed }
+
+pub own_empty : (c : Content) → c.limit ≡ MAX_OWN_TOPICS → Stands c [] → IsOwn c []
+own_empty c limit stands = own c [] limit stands (All-nil IsOwnEntry) (needed_none MAX_OWN_TOPICS IsOfOwnPlace)
 
 own_cleaned : (old new : Content) (seen : List Entry) (e : Entry) → new.limit ≡ MAX_OWN_TOPICS → IsOwn old seen → IsOfOwnPlace e → (s : NeedsSweepAfter MAX_OWN_TOPICS seen e) → Stands new (cleaned s.message.received seen) → IsOwn new (cleaned s.message.received seen)
 own_cleaned old new seen e topics o one s stands =
@@ -70,6 +73,6 @@ own_left old new operation submit.NoMemory seen limit (inr w) o =
     let P : ℕ → Type 0 = λ n. NotAdds n seen e refusal.NoMemory (Stands new) in
     not_added (IsOwn new) MAX_OWN_TOPICS old new operation seen submit.NoMemory
     (own_not_adds old new seen e (ap (λ (c : Content). c.limit) w.1 ∙ limit) o refl (subst P limit (not_adds old seen e refusal.NoMemory new o.stands (omega arith) (omega arith) (inr (w.0, inr w.1)))))
-own_left old new operation submit.Open seen limit no o = absurd no
-own_left old new operation submit.Strange seen limit no o = absurd no
-own_left old new operation submit.Closed seen limit no o = absurd no
+own_left old new operation submit.Open seen limit none o = absurd none
+own_left old new operation submit.Strange seen limit none o = absurd none
+own_left old new operation submit.Closed seen limit none o = absurd none
