@@ -109,15 +109,13 @@ fn sweep<C: Clock, N: StoreName, W: Wait + Drop>(
     writer: &mut VersionWriter<N, W>,
     serial: u64,
     topics: u32,
-) -> Result<Duration, Failure>
-    requires { serial < 2 ^ 63 }
-{
+) -> Result<Duration, Failure> {
     put(rt, writer, set(alloc, serial, 0, 0)?)?;
     let version = writer.tell().version();
     let took = put(
         rt,
         writer,
-        set(alloc, serial + 1, u64::from(topics), EARLY)?,
+        set(alloc, serial.saturating_add(1), u64::from(topics), EARLY)?,
     )?;
     expect(writer.tell().version() == version.saturating_add(2))?;
     Ok(took)
@@ -145,7 +143,7 @@ fn rounds<C: Clock, N: StoreName, W: Wait + Drop>(
         replace = replace.saturating_add(put(rt, writer, set(alloc, serial + 1, other, 0)?)?);
         put(rt, writer, clear(alloc, serial + 2, 0)?)?;
     }
-    let serial = u64::from(topics) + 3 * u64::from(count);
+    let serial = u64::from(topics).saturating_add(u64::from(count).saturating_mul(3));
     let sweep = sweep(rt, alloc, writer, serial, topics)?;
     let all = start.elapsed(rt)?;
     Ok(Times {
