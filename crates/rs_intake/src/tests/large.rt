@@ -10,7 +10,7 @@ use rs_message::{MAX_PLACES, Message, Operation};
 use rs_packet::{Properties, Qos};
 use rs_store::MAX_TOPICS;
 use rs_topic::{MAX_TEXT_SIZE, TopicFilter, TopicName};
-use rs_version::Blank;
+use rs_version::{Blank, Receipt, Seat};
 use std::alloc::Global;
 use std::marker::Brand;
 use std::process::Abort;
@@ -58,6 +58,32 @@ fn largest(alloc: Global) -> Option<Operation>
     Some(Operation::Set(topic, message_of(alloc, payload, Some(u32::MAX))?))
 }
 
+/// The receipt is for the first entry, which the seat reads as it was sent.
+fn is_read<N: LineName>(
+    rt: &impl Abort,
+    alloc: Global,
+    receipt: &Receipt<N>,
+    seat: Seat<N>,
+) -> Result<(), Fail> {
+    let origin = receipt.entry().origin;
+    assert_eq!(rt;
+        (receipt.number(), origin.place(), origin.serial()),
+        (1, MAX_PLACES, 1)
+    );
+    let mut seat = seat;
+    seat.learn(receipt.told());
+    let filter = TopicFilter::read(alloc, b"#")?;
+    let snapshot = seat.answer(&filter, u64::MAX)?;
+    let [found] = snapshot.found.as_slice() else {
+        return Err(Fail::from("one message"));
+    };
+    let Operation::Set(topic, message) = largest(alloc).ok_or("an operation")? else {
+        return Err(Fail::from("a Set"));
+    };
+    assert!(rt; found.topic.as_bytes() == topic.as_bytes() && found.message == message);
+    Ok(())
+}
+
 fn largest_named<
     N: LineName + Send + Sync + 'static,
     R: Threads + Wait + Abort + Copy + Send + Sync + 'static,
@@ -73,7 +99,7 @@ fn largest_named<
         queue,
     } = open_both::<N, R>(rt, blank, queue)?;
     let mut line = lines.pop().ok_or("there are lines")?;
-    let mut seat = seats.pop().ok_or("there are seats")?;
+    let seat = seats.pop().ok_or("there are seats")?;
     drop(lines);
     let Some(operation) = largest(alloc) else {
         return Err(Fail::from("an operation"));
@@ -84,22 +110,7 @@ fn largest_named<
     let ended = thread.join(&rt);
     assert_eq!(rt; (ended.taken, ended.refused), (1, 0));
     let receipt = answer.ok().ok_or("a receipt")?;
-    let origin = receipt.entry().origin;
-    assert_eq!(rt;
-        (receipt.number(), origin.place(), origin.serial()),
-        (1, MAX_PLACES, 1)
-    );
-    seat.learn(receipt.told());
-    let filter = TopicFilter::read(alloc, b"#")?;
-    let snapshot = seat.answer(&filter, u64::MAX)?;
-    let [found] = snapshot.found.as_slice() else {
-        return Err(Fail::from("one message"));
-    };
-    let Operation::Set(topic, message) = largest(alloc).ok_or("an operation")? else {
-        return Err(Fail::from("a Set"));
-    };
-    assert!(rt; found.topic.as_bytes() == topic.as_bytes() && found.message == message);
-    Ok(())
+    is_read(&rt, alloc, &receipt, seat)
 }
 
 #[test]
