@@ -13,8 +13,8 @@ use Rattle.rs_program.specs.OwnStores.{IsOfOwnPlace, IsOwnEntry}
 use Rattle.rs_program.specs.declared.own_store.TheConstants.{MAX_OWN_TOPICS}
 use Rattle.rs_server.specs.Conversation.{InputsOf, inputs_of, moments_of, replies_of, assigned_of, start, ClosesAs}
 
--- The list is legal for the topics of an own store, its entries are of place 1, but for Sweeps that these needed, and the last serial
--- is the mark's.
+-- The list is legal for the topics of an own store, its entries are of place 1, but for Sweeps that a Set of it would need
+-- there, and the last serial is the mark's.
 pub record IsOfMark (mark : Mark) (list : List Entry) : Type 0 where
   pub legal : IsLegal MAX_OWN_TOPICS list
   pub places : All IsOwnEntry list
