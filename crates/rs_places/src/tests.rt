@@ -102,6 +102,21 @@ fn settled<N: LineName, R: Threads + Wait + Copy>(
     (settle(ends, &mut ended).ok(), version)
 }
 
+/// Closes the gates: so many jobs are settled, and so many entries are kept.
+fn close_both<N: LineName, R: Threads + Wait + Abort + Copy>(
+    rt: &R,
+    alloc: Global,
+    writer: JoinHandle<Ended<N, R>>,
+    gates: (SharedGate<N, R>, SharedGate<N, R>),
+    count: u64,
+) -> Result<(), Fail> {
+    let ends = vec![in alloc; gates.0.close(), gates.1.close()]?;
+    let (taken, version) = settled(rt, writer, ends);
+    assert_eq!(rt; taken, Some(count));
+    assert_eq!(rt; version, count);
+    Ok(())
+}
+
 fn blank_store(alloc: Global, topics: u32, places: u8) -> Result<Blank, Fail>
     requires { (0 < places) × (places ≤ 64) }
 {

@@ -99,6 +99,20 @@ fn seen<N: StoreName>(alloc: Global, seat: &mut Seat<N>) -> Result<(u64, Vec<u8>
     seen_at(alloc, seat, 0)
 }
 
+/// The seat reads this version, with these topics.
+fn reads<N: StoreName>(
+    rt: &impl Abort,
+    alloc: Global,
+    seat: &mut Seat<N>,
+    version: u64,
+    topics: &[u8],
+) -> Result<(), Fail> {
+    let (read, found) = seen(alloc, seat)?;
+    assert_eq!(rt; read, version);
+    assert_eq!(rt; found.as_slice(), topics);
+    Ok(())
+}
+
 fn receipt_of<N: StoreName, R: Wait + Drop>(
     writer: &mut VersionWriter<N, R>,
     entry: Option<Entry>,
@@ -134,13 +148,10 @@ fn learn_both<N: StoreName>(
     first: Receipt<N>,
     second: Receipt<N>,
 ) -> Result<(), Fail> {
-    assert_eq!(rt; (first.number(), second.number()), (1, 2));
+    assert!(rt; first.number() == 1 && second.number() == 2);
     seat.learn(second.told());
     seat.learn(first.told());
-    let (version, topics) = seen(alloc, seat)?;
-    assert_eq!(rt; version, 2);
-    assert_eq!(rt; topics.as_slice(), b"a ".as_slice());
-    Ok(())
+    reads(rt, alloc, seat, 2, b"a ")
 }
 
 fn puts_in_order<N: StoreName, R: Wait + Drop>(
@@ -236,6 +247,13 @@ fn tokens_compared(rt: HostRuntime) -> Result<(), Fail> {
     tokens_compared_named::<Brand, _>(&rt, alloc, blank(alloc, 10, 1)?)
 }
 
+/// The receipt is of the first entry, which place 1 made.
+fn is_first<N: StoreName>(rt: &impl Abort, receipt: &Receipt<N>) {
+    assert_eq!(rt; receipt.entry().origin.place(), 1);
+    assert_eq!(rt; receipt.number(), 1);
+    assert_eq!(rt; receipt.told().version(), 1);
+}
+
 /// Each seat reads what this writer published.
 fn told<N: StoreName, R: Wait + Drop>(
     rt: &impl Abort,
@@ -244,8 +262,7 @@ fn told<N: StoreName, R: Wait + Drop>(
     seats: Vec<Seat<N>>,
 ) -> Result<(), Fail> {
     let receipt = receipt_of(writer, set(alloc, 1, 1, b"x"))?;
-    assert_eq!(rt; receipt.entry().origin.place(), 1);
-    assert_eq!(rt; (receipt.number(), receipt.told().version()), (1, 1));
+    is_first(rt, &receipt);
     for seat in seats {
         let mut seat = seat;
         let version = reads_told(rt, alloc, receipt.told(), &mut seat)?;

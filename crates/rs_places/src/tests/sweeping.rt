@@ -4,7 +4,7 @@ ghost use Rattle.std.specs.Prelude.{◌≡◌};
 
 use super::places::{exchange, ran, script};
 use super::script::{Counts, Exchange, Input, Output, Script};
-use super::{CONNECT, CONNECTED, Store, blank_store, joined, opened, settled};
+use super::{CONNECT, CONNECTED, Store, blank_store, close_both, joined, opened};
 use crate::turn::Turn;
 use crate::{SharedGate, serve_place};
 use rs_intake::{BlankQueue, LineName, blank_queue};
@@ -59,6 +59,23 @@ fn written(alloc: Global, replies: &[u8], messages: &[u8]) -> Result<Vec<u8>, Al
     joined(alloc, &replies, messages)
 }
 
+/// The first connection is answered so, and then a second, at 110.
+fn publish_and_read<N: LineName, R: Wait + Abort + Copy>(
+    rt: &R,
+    alloc: Global,
+    first: SharedGate<N, R>,
+    second: SharedGate<N, R>,
+) -> Result<(SharedGate<N, R>, SharedGate<N, R>), Fail> {
+    let (replies, first) = answered(rt, alloc, first, SENT, &MOMENTS)?;
+    assert_eq!(rt;
+        replies.as_slice(),
+        written(alloc, REPLIES, LEFT)?.as_slice()
+    );
+    let (read, second) = answered(rt, alloc, second, SUBSCRIBE, &[110])?;
+    assert_eq!(rt; read.as_slice(), written(alloc, GRANTED, LEFT)?.as_slice());
+    Ok((first, second))
+}
+
 fn room_for_a_third_named<
     N: LineName + Send + Sync + 'static,
     R: Threads + Wait + Abort + Copy + Send + Sync + 'static,
@@ -70,18 +87,10 @@ fn room_for_a_third_named<
     let (Some(second), Some(first)) = (gates.pop(), gates.pop()) else {
         return Err(Fail::from("there are two places"));
     };
-    let (replies, first) = answered(&rt, alloc, first, SENT, &MOMENTS)?;
-    let (read, second) = answered(&rt, alloc, second, SUBSCRIBE, &[110])?;
-    assert_eq!(rt;
-        replies.as_slice(),
-        written(alloc, REPLIES, LEFT)?.as_slice()
-    );
-    assert_eq!(rt; read.as_slice(), written(alloc, GRANTED, LEFT)?.as_slice());
-    assert_eq!(rt; (first.version(), second.version()), (4, 4));
+    let (first, second) = publish_and_read(&rt, alloc, first, second)?;
+    assert!(rt; first.version() == 4 && second.version() == 4);
     // Four jobs, of which one was refused, and four entries: of a, of b, the Sweep, and of c.
-    let ends = vec![in alloc; first.close(), second.close()]?;
-    assert_eq!(rt; settled(&rt, writer, ends), (Some(4), 4));
-    Ok(())
+    close_both(&rt, alloc, writer, (first, second), 4)
 }
 
 /// In a store of two topics, a third finds no room while one has a second left, and takes its place when it has expired. Another

@@ -3,7 +3,7 @@
 ghost use Rattle.std.specs.Prelude.{◌≡◌};
 
 use super::{entry_of, message, no_sweep, receipt_of, seen_at};
-use crate::{Blank, PutFault, Seat, StoreName, VersionWriter};
+use crate::{Blank, PutFault, Receipt, Seat, StoreName, VersionWriter};
 use rs_message::{Entry, Operation, Origin};
 use rs_topic::TopicName;
 use std::alloc::Global;
@@ -36,15 +36,49 @@ fn answer<N: StoreName, R: Wait + Drop>(
     }
 }
 
+/// The entry is answered this number, or this code.
+fn puts<N: StoreName, R: Wait + Drop>(
+    rt: &impl Abort,
+    writer: &mut VersionWriter<N, R>,
+    entry: Option<Entry>,
+    number: u64,
+    code: u8,
+) -> Result<(), Fail> {
+    let got = answer(writer, entry)?;
+    assert!(rt; got.0 == number && got.1 == code);
+    Ok(())
+}
+
 /// `a` is held until 110, and `b` for ever.
 fn fill<N: StoreName, R: Wait + Drop>(
     rt: &impl Abort,
     alloc: Global,
     writer: &mut VersionWriter<N, R>,
 ) -> Result<(), Fail> {
-    let a = answer(writer, set_at(alloc, 1, b"a", 100, Some(10)))?;
-    let b = answer(writer, set_at(alloc, 2, b"b", 100, None))?;
-    assert_eq!(rt; (a, b), ((1, 0), (2, 0)));
+    puts(rt, writer, set_at(alloc, 1, b"a", 100, Some(10)), 1, 0)?;
+    puts(rt, writer, set_at(alloc, 2, b"b", 100, None), 2, 0)
+}
+
+/// The receipt is of entry 5, whose serial is 5 at place 1.
+fn is_fifth<N: StoreName>(rt: &impl Abort, receipt: &Receipt<N>) {
+    assert_eq!(rt; receipt.number(), 5);
+    assert_eq!(rt; receipt.told().version(), 5);
+    let origin = receipt.entry().origin;
+    assert_eq!(rt; origin.place(), 1);
+    assert_eq!(rt; origin.serial(), 5);
+}
+
+/// At 110 the seat reads this version, with these topics.
+fn reads_at_110<N: StoreName>(
+    rt: &impl Abort,
+    alloc: Global,
+    seat: &mut Seat<N>,
+    version: u64,
+    topics: &[u8],
+) -> Result<(), Fail> {
+    let (read, found) = seen_at(alloc, seat, 110)?;
+    assert_eq!(rt; read, version);
+    assert_eq!(rt; found.as_slice(), topics);
     Ok(())
 }
 
@@ -56,22 +90,17 @@ fn swept<N: StoreName, R: Wait + Drop>(
     seat: &mut Seat<N>,
 ) -> Result<(), Fail> {
     fill(rt, alloc, writer)?;
-    let early = answer(writer, set_at(alloc, 3, b"c", 109, None))?;
+    puts(rt, writer, set_at(alloc, 3, b"c", 109, None), 0, 30)?;
     // It needs no room, so nothing is swept.
-    let again = answer(writer, set_at(alloc, 4, b"b", 110, None))?;
-    assert_eq!(rt; (early, again), ((0, 30), (3, 0)));
+    puts(rt, writer, set_at(alloc, 4, b"b", 110, None), 3, 0)?;
     let receipt = receipt_of(writer, set_at(alloc, 5, b"c", 110, None))?;
-    assert_eq!(rt; (receipt.number(), receipt.told().version()), (5, 5));
-    let origin = receipt.entry().origin;
-    assert_eq!(rt; (origin.place(), origin.serial()), (1, 5));
-    assert!(rt; writer.held().is_none());
+    is_fifth(rt, &receipt);
     seat.learn(receipt.told());
-    let (version, topics) = seen_at(alloc, seat, 110)?;
-    assert_eq!(rt; version, 5);
-    assert_eq!(rt; topics.as_slice(), b"b c ".as_slice());
+    reads_at_110(rt, alloc, seat, 5, b"b c ")?;
+    assert!(rt; writer.held().is_none());
     // Both stay for ever, so no place comes free, and nothing is swept.
-    let full = answer(writer, set_at(alloc, 6, b"d", u64::MAX, None))?;
-    assert_eq!(rt; (full, writer.tell().version()), ((0, 30), 5));
+    puts(rt, writer, set_at(alloc, 6, b"d", u64::MAX, None), 0, 30)?;
+    assert_eq!(rt; writer.tell().version(), 5);
     Ok(())
 }
 
@@ -190,10 +219,7 @@ fn refused_named<N: StoreName, R: Wait + Abort>(
     assert_eq!(rt; puts_at_last(rt, alloc, &mut writer)?, 4);
     assert!(rt; writer.retry()?.is_none());
     seat.learn(writer.tell());
-    let (version, topics) = seen_at(alloc, &mut seat, 110)?;
-    assert_eq!(rt; version, 4);
-    assert_eq!(rt; topics.as_slice(), b"b c ".as_slice());
-    Ok(())
+    reads_at_110(rt, alloc, &mut seat, 4, b"b c ")
 }
 
 /// Whichever growth is refused, the Sweep is made once. It is run with each allocation refused in turn.
