@@ -226,26 +226,48 @@ fn at_each_level<C: Catalogue, D: Catalogue>(
     Ok(())
 }
 
+/// Sets a topic of the most levels in both.
+fn set_deepest<C: Catalogue, D: Catalogue>(
+    alloc: Global,
+    first: &mut C,
+    second: &mut D,
+    serial: u64,
+    last: &[u8],
+) -> Result<(), Fail> {
+    let name = below(alloc, 127, last)?;
+    put(alloc, first, serial, name.as_slice(), 1)??;
+    put(alloc, second, serial, name.as_slice(), 1)??;
+    Ok(())
+}
+
+/// There are branches while levels are shared, and then no more.
+fn shared<C: Catalogue>(
+    rt: &impl Abort,
+    alloc: Global,
+    map: &mut C,
+    tree: &mut TreeCatalogue,
+) -> Result<(), Fail> {
+    set_deepest(alloc, map, tree, 1, b"c")?;
+    set_deepest(alloc, map, tree, 2, b"d")?;
+    assert_eq!(rt; tree.branches(), 1);
+    at_each_level(rt, alloc, map, tree, 1)?;
+    assert!(rt; 100 < tree.branches());
+    at_each_level(rt, alloc, map, tree, 4)?;
+    assert_eq!(rt; tree.branches(), 1);
+    assert_eq!(rt; tree.count(), 2);
+    Ok(())
+}
+
 #[test]
 fn shared_levels(rt: HostRuntime) -> Result<(), Fail> {
     let alloc = rt.alloc();
     let limit = TopicLimit::new(300).ok_or("300 is a limit")?;
     let mut map = MapCatalogue::new(alloc, limit)?;
     let mut tree = TreeCatalogue::new(alloc, limit)?;
-    for (serial, last) in [(1, b"c".as_slice()), (2, b"d".as_slice())] {
-        let name = below(alloc, 127, last)?;
-        put(alloc, &mut map, serial, name.as_slice(), 1)??;
-        put(alloc, &mut tree, serial, name.as_slice(), 1)??;
-    }
-    assert_eq!(rt; tree.branches(), 1);
-    at_each_level(&rt, alloc, &mut map, &mut tree, 1)?;
-    assert!(rt; 100 < tree.branches());
-    at_each_level(&rt, alloc, &mut map, &mut tree, 4)?;
-    assert_eq!(rt; tree.branches(), 1);
-    for filter in [b"a/#".as_slice(), b"+/a/#".as_slice(), b"a/a/+".as_slice()] {
-        is_alike(&rt, alloc, &map, &tree, filter)?;
-    }
-    assert_eq!(rt; tree.count(), 2);
+    shared(&rt, alloc, &mut map, &mut tree)?;
+    is_alike(&rt, alloc, &map, &tree, b"a/#")?;
+    is_alike(&rt, alloc, &map, &tree, b"+/a/#")?;
+    is_alike(&rt, alloc, &map, &tree, b"a/a/+")?;
     Ok(())
 }
 

@@ -125,29 +125,42 @@ fn sweeps_alike(rt: HostRuntime) -> Result<(), Fail> {
     Ok(())
 }
 
+/// What a Sweep is answered.
+fn sweeps<C: Catalogue>(
+    rt: &impl Abort,
+    catalogue: &mut C,
+    serial: u64,
+    moment: u64,
+    wanted: Result<(), Refusal>,
+) -> Result<(), Fail> {
+    assert_eq!(rt; take(catalogue, &sweep_of(serial, moment)?)?, wanted);
+    Ok(())
+}
+
+/// One message, which expires at 110.
+fn has_one<C: Catalogue>(rt: &impl Abort, catalogue: &C) {
+    assert_eq!(rt; catalogue.count(), 1);
+    assert_eq!(rt; catalogue.expired(109), 0);
+    assert_eq!(rt; catalogue.expired(110), 1);
+}
+
+/// No message, after three entries.
+fn has_none<C: Catalogue>(rt: &impl Abort, catalogue: &C) {
+    assert_eq!(rt; catalogue.count(), 0);
+    assert_eq!(rt; catalogue.version(), 3);
+    assert_eq!(rt; catalogue.last_serial(0), 4);
+    assert_eq!(rt; catalogue.last_serial(1), 1);
+}
+
 /// A Sweep is stale with a serial of before, and else accepted, also by a full store; with the greatest version it is not.
 fn judged<C: Catalogue>(rt: &impl Abort, alloc: Global, catalogue: &mut C) -> Result<(), Fail> {
-    let topic = TopicName::read(alloc, b"a")?;
-    let operation = Operation::Set(topic, message_at(alloc, b"x", 100, Some(10))?);
-    let origin = origin(1, 7)?;
-    take(catalogue, &Entry { origin, operation })??;
-    assert_eq!(rt; take(catalogue, &sweep_of(3, 109)?)?, Ok(()));
-    assert_eq!(rt;
-        (
-            catalogue.count(),
-            catalogue.expired(109),
-            catalogue.expired(110)
-        ),
-        (1, 0, 1)
-    );
-    assert_eq!(rt; take(catalogue, &sweep_of(3, 110)?)?, Err(Refusal::Stale));
-    assert_eq!(rt; take(catalogue, &sweep_of(2, 110)?)?, Err(Refusal::Stale));
-    assert_eq!(rt; take(catalogue, &sweep_of(4, 110)?)?, Ok(()));
-    assert_eq!(rt; (catalogue.count(), catalogue.version()), (0, 3));
-    assert_eq!(rt;
-        (catalogue.last_serial(0), catalogue.last_serial(1)),
-        (4, 7)
-    );
+    set_until(alloc, catalogue, b"a", Some(10))?;
+    sweeps(rt, catalogue, 3, 109, Ok(()))?;
+    has_one(rt, catalogue);
+    sweeps(rt, catalogue, 3, 110, Err(Refusal::Stale))?;
+    sweeps(rt, catalogue, 2, 110, Err(Refusal::Stale))?;
+    sweeps(rt, catalogue, 4, 110, Ok(()))?;
+    has_none(rt, catalogue);
     Ok(())
 }
 
