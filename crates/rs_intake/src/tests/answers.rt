@@ -8,7 +8,7 @@ use crate::intake::read;
 use crate::reply::Reply;
 use crate::{BlankQueue, Intake, LineName, SeatLine, SettleFault, blank_queue, run_writer, settle};
 use rs_message::{Entry, Operation, Origin, SubmitFault};
-use rs_version::{Blank, PutFault};
+use rs_version::{Blank, PutFault, VersionWriter};
 use std::alloc::Global;
 use std::marker::Brand;
 use std::process::Abort;
@@ -163,6 +163,37 @@ fn refusal<N: LineName>(origin: Origin, fault: PutFault, entry: &Entry) -> Optio
     read::<N>(Reply { origin, answer }, entry).err()
 }
 
+/// What a line of this entry answers if the receipt is for another entry, whose operation is no Sweep.
+fn strange_of<N: LineName, R: Wait + Drop>(
+    writer: &mut VersionWriter<N, R>,
+    entry: &Entry,
+    other: Entry,
+) -> Option<SubmitFault> {
+    if other.operation.is_sweep() {
+        return None;
+    }
+    let origin = entry.origin;
+    let answer = writer.put(other);
+    read::<N>(Reply { origin, answer }, entry).err()
+}
+
+/// What a line of this entry answers to each fault, and to the answer of another entry.
+fn refusals<N: LineName>(rt: &impl Abort, entry: &Entry) -> Result<(), Fail> {
+    let origin = entry.origin;
+    let elsewhere = Origin::new(1, 2).ok_or("an origin")?;
+    let rows = [
+        (elsewhere, PutFault::Full, SubmitFault::Strange),
+        (origin, PutFault::Stale, SubmitFault::Strange),
+        (origin, PutFault::Full, SubmitFault::Full),
+        (origin, PutFault::NoMemory, SubmitFault::NoMemory),
+        (origin, PutFault::Held, SubmitFault::Open),
+    ];
+    for (origin, fault, wanted) in rows {
+        assert_eq!(rt; refusal::<N>(origin, fault, entry), Some(wanted));
+    }
+    Ok(())
+}
+
 fn strange_named<N: LineName, R: Wait + Abort>(
     rt: &R,
     alloc: Global,
@@ -174,27 +205,11 @@ fn strange_named<N: LineName, R: Wait + Abort>(
 {
     let mut opened = open_both::<N, &R>(rt, blank, queue)?;
     let entry = entry_of(1, 1, set(alloc, b"a", b"1")).ok_or("an entry")?;
-    let origin = entry.origin;
-    // A receipt for another operation of the same origin.
+    // Another operation of the same origin.
     let other = entry_of(1, 1, set(alloc, b"a", b"2")).ok_or("an entry")?;
-    if other.operation.is_sweep() {
-        return Err(Fail::from("a Sweep"));
-    }
-    let answer = opened.writer.put(other);
-    let strange = read::<N>(Reply { origin, answer }, &entry).err();
+    let strange = strange_of(&mut opened.writer, &entry, other);
     assert_eq!(rt; strange, Some(SubmitFault::Strange));
-    let elsewhere = Origin::new(1, 2).ok_or("an origin")?;
-    let rows = [
-        (elsewhere, PutFault::Full, SubmitFault::Strange),
-        (origin, PutFault::Stale, SubmitFault::Strange),
-        (origin, PutFault::Full, SubmitFault::Full),
-        (origin, PutFault::NoMemory, SubmitFault::NoMemory),
-        (origin, PutFault::Held, SubmitFault::Open),
-    ];
-    for (origin, fault, wanted) in rows {
-        assert_eq!(rt; refusal::<N>(origin, fault, &entry), Some(wanted));
-    }
-    Ok(())
+    refusals::<N>(rt, &entry)
 }
 
 #[test]
