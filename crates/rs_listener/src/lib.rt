@@ -11,8 +11,6 @@
 mod fault;
 mod opening;
 mod server;
-#[cfg(test)]
-mod tests;
 mod turn;
 
 pub use fault::ListenFault;

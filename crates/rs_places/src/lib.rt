@@ -6,8 +6,6 @@
 mod running;
 mod serving;
 mod shared_gate;
-#[cfg(test)]
-mod tests;
 mod turn;
 
 pub use running::{run_places, serve_turns};

@@ -26,8 +26,6 @@ mod prefix;
 mod receipt;
 mod rule;
 mod seat;
-#[cfg(test)]
-mod tests;
 mod writer;
 
 pub use blank::Blank;

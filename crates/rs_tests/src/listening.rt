@@ -1,0 +1,115 @@
+//! Clients on the loopback.
+
+ghost use Rattle.std.specs.Prelude.{◌<◌, ◌≤◌};
+
+use rs_listener::{Server, Summary};
+use rs_store::TopicLimit;
+use std::alloc::Global;
+use std::io;
+use std::io::{Read, Write};
+use std::net::{Net, TcpListener, TcpStream};
+use std::sync::Wait;
+use std::test::Fail;
+use std::thread::{Threads, spawn};
+use std::time::Clock;
+
+const CONNECT: &[u8] = b"\x10\x0E\x00\x04MQTT\x05\x02\x00\x3C\x00\x00\x01a";
+
+const CONNACK: &[u8] = b"\x20\x0D\x00\x00\x0A\x21\x00\x10\x27\x00\x04\x00\x00\x2A\x00";
+
+const DISCONNECT: &[u8] = b"\xE0\x00";
+
+/// PUBLISH at QoS 1 of a/b and of a/c, retained, identifier 1.
+const PUBLISHES: [&[u8]; 2] = [
+    b"\x33\x09\x00\x03a/b\x00\x01\x00x",
+    b"\x33\x09\x00\x03a/c\x00\x01\x00y",
+];
+
+const PUBACK: &[u8] = b"\x40\x02\x00\x01";
+
+/// SUBSCRIBE of a/# at QoS 0.
+const SUBSCRIBE: &[u8] = b"\x82\x09\x00\x01\x00\x00\x03a/#\x00";
+
+/// SUBACK and both messages.
+const REPLAY: &[u8] = b"\x90\x04\x00\x01\x00\x001\x07\x00\x03a/b\x00x1\x07\x00\x03a/c\x00y";
+
+/// What is sent, and what has to be the answer.
+type Exchange<'a> = (&'a [u8], &'a [u8]);
+
+/// Whether each exchange went so, and after the last one the server closed the connection.
+fn exchange<H: Net<Listener = TcpListener, Stream = TcpStream>>(
+    rt: &H,
+    address: &str,
+    exchanges: &[Exchange<'_>],
+) -> io::Result<bool> {
+    let mut client = TcpStream::connect(rt, address)?;
+    for (sent, wanted) in exchanges {
+        client.write_all(sent)?;
+        let mut room = [0u8; 64];
+        let Some(answer) = room.get_mut(..wanted.len()) else {
+            return Ok(false);
+        };
+        client.read_exact(answer)?;
+        if *answer != **wanted {
+            return Ok(false);
+        }
+    }
+    Ok(client.read(&mut [0u8; 1])? == 0)
+}
+
+/// A client that publishes, and another at the same time. Then one that subscribes, whatever the order of the two was.
+fn publish_and_read<
+    H: Clock
+        + Net<Listener = TcpListener, Stream = TcpStream>
+        + Threads
+        + Wait
+        + Copy
+        + Send
+        + Sync
+        + 'static,
+>(rt: H, alloc: Global, places: u8) -> Result<(bool, Option<Summary>), Fail>
+    requires { (0 < places) × (places ≤ 64) }
+{
+    let limit = TopicLimit::new(10).ok_or("10 topics")?;
+    let server = Server::bind(&rt, alloc, "127.0.0.1:0", 3, limit, places)?;
+    let address = server.address()?;
+    let serving = spawn(&rt, move || server.run(rt).ok())?;
+    let mut publishing = Vec::new(alloc);
+    for publish in PUBLISHES {
+        let address = address.clone()?;
+        publishing.push(spawn(&rt, move || {
+            let exchanges = [
+                (CONNECT, CONNACK),
+                (publish, PUBACK),
+                (DISCONNECT, b"".as_slice()),
+            ];
+            exchange(&rt, address.as_str(), exchanges.as_slice()).is_ok_and(|went| went)
+        })?)?;
+    }
+    let mut went = true;
+    for client in publishing {
+        went = client.join(&rt) && went;
+    }
+    let exchanges = [
+        (CONNECT, CONNACK),
+        (SUBSCRIBE, REPLAY),
+        (DISCONNECT, b"".as_slice()),
+    ];
+    let read = exchange(&rt, address.as_str(), exchanges.as_slice())?;
+    Ok((went && read, serving.join(&rt)))
+}
+
+#[test]
+fn clients_share_a_store(rt: HostRuntime) -> Result<(), Fail> {
+    // One place serves the clients one after the other. Of four, one is never used.
+    for places in [1u8, 2, 4] {
+        let summary = Summary {
+            places: usize::from(places),
+            changes: Some(2),
+        };
+        let (went, told) = publish_and_read(rt, rt.alloc(), places)?;
+        assert!(rt; went);
+        assert_eq!(rt; told, Some(summary));
+    }
+    Ok(())
+}

@@ -1,0 +1,278 @@
+//! Places on threads of their own.
+
+ghost use Rattle.std.specs.Prelude.{◌≡◌};
+
+use super::script::{Counts, Exchange, Script};
+use super::{
+    CONNECT, CONNECTED, PUBLISHES, REPLAYED, SUBSCRIBED, SUBSCRIBES, Store, blank_store, joined,
+    opened, settled,
+};
+use rs_intake::{BlankQueue, LineName, blank_queue};
+use rs_places::{Turn, run_places};
+use rs_version::Blank;
+use std::alloc::{AllocError, Global};
+use std::marker::Brand;
+use std::process::Abort;
+use std::sync::atomic::Ordering;
+use std::sync::{Arc, Wait};
+use std::test::Fail;
+use std::thread::Threads;
+
+pub fn exchange(alloc: Global, input: &[u8], output: &[u8]) -> Result<Exchange, AllocError> {
+    let (mut sent, mut written) = (Vec::new(alloc), Vec::new(alloc));
+    sent.extend_from_slice(input)?;
+    written.extend_from_slice(output)?;
+    Ok(Exchange {
+        input: sent,
+        output: written,
+    })
+}
+
+pub fn script(
+    alloc: Global,
+    counts: &Arc<Counts>,
+    exchanges: Vec<Exchange>,
+    after: u64,
+    together: u64,
+) -> Result<Script, AllocError> {
+    Ok(Script {
+        alloc,
+        exchanges,
+        counts: Arc::try_clone(counts)?,
+        after,
+        together,
+        wanted: Vec::new(alloc),
+        packets: 0,
+    })
+}
+
+/// Runs the places: how many were served, how many connections were right, how many jobs were settled, and the version.
+pub fn ran<
+    T: Turn + Send + Drop + 'static,
+    N: LineName + Send + Sync + 'static,
+    R: Threads + Wait + Abort + Copy + Send + Sync + 'static,
+>(
+    rt: R,
+    alloc: Global,
+    turns: Vec<T>,
+    counts: &Counts,
+    store: Store<N, R>,
+) -> (usize, u64, Option<u64>, u64) {
+    let Store { writer, gates } = store;
+    let ends = run_places(rt, alloc, turns, gates);
+    let served = ends.len();
+    let (taken, version) = settled(&rt, writer, ends);
+    (served, counts.right.load(Ordering::SeqCst), taken, version)
+}
+
+fn meeting_named<
+    N: LineName + Send + Sync + 'static,
+    R: Threads + Wait + Abort + Copy + Send + Sync + 'static,
+>(rt: R, alloc: Global, blank: Blank, queue: BlankQueue) -> Result<(), Fail>
+    requires store { (blank.history ≡ N.history) × (blank.limit ≡ N.limit) }
+    requires queue { (queue.name ≡ N.queue) × (queue.places ≡ N.places) }
+{
+    let store = opened::<N, R>(rt, alloc, blank, queue)?;
+    let counts = Arc::new(alloc, Counts::new())?;
+    let mut turns = Vec::new(alloc);
+    for _ in 0..2u8 {
+        let exchanges = vec![in alloc; exchange(alloc, SUBSCRIBES, SUBSCRIBED)?]?;
+        turns.push(script(alloc, &counts, exchanges, 0, 2)?)?;
+    }
+    let ran = ran(rt, alloc, turns, &counts, store);
+    assert_eq!(rt; ran, (2, 2, Some(0), 0));
+    assert_eq!(rt; counts.met.load(Ordering::SeqCst), 2);
+    Ok(())
+}
+
+/// Each of two connections is held in its SUBSCRIBE until the other has come to its own. One thread for both would not do.
+#[test]
+fn meeting(rt: HostRuntime) -> Result<(), Fail> {
+    let alloc = rt.alloc();
+    meeting_named::<Brand, _>(
+        rt,
+        alloc,
+        blank_store(alloc, 10, 2)?,
+        blank_queue(alloc, 2)?,
+    )
+}
+
+fn later_named<
+    N: LineName + Send + Sync + 'static,
+    R: Threads + Wait + Abort + Copy + Send + Sync + 'static,
+>(rt: R, alloc: Global, blank: Blank, queue: BlankQueue) -> Result<(), Fail>
+    requires store { (blank.history ≡ N.history) × (blank.limit ≡ N.limit) }
+    requires queue { (queue.name ≡ N.queue) × (queue.places ≡ N.places) }
+{
+    let store = opened::<N, R>(rt, alloc, blank, queue)?;
+    let counts = Arc::new(alloc, Counts::new())?;
+    let next = exchange(alloc, SUBSCRIBES, REPLAYED)?;
+    let first = vec![in alloc; next, exchange(alloc, PUBLISHES, CONNECTED)?]?;
+    let later = vec![in alloc; exchange(alloc, SUBSCRIBES, REPLAYED)?]?;
+    let turns = vec![in alloc;
+        script(alloc, &counts, first, 0, 0)?,
+        script(alloc, &counts, later, 1, 0)?,
+        script(alloc, &counts, Vec::new(alloc), 0, 0)?,
+    ]?;
+    assert_eq!(rt; ran(rt, alloc, turns, &counts, store), (3, 3, Some(1), 1));
+    Ok(())
+}
+
+/// The next connection of a place is sent what the one before published, and so is that of a place that was told nothing. A third
+/// place has no connection, and is served too.
+#[test]
+fn later(rt: HostRuntime) -> Result<(), Fail> {
+    let alloc = rt.alloc();
+    later_named::<Brand, _>(
+        rt,
+        alloc,
+        blank_store(alloc, 10, 3)?,
+        blank_queue(alloc, 3)?,
+    )
+}
+
+/// Appends fifty PUBLISHes of QoS 1 to a topic, whose payloads are the numbers from this one on, and the PUBACKs.
+fn publish_fifty(
+    topic: u8,
+    first: u8,
+    input: &mut Vec<u8>,
+    output: &mut Vec<u8>,
+) -> Result<(), AllocError> {
+    for before in 0..50u8 {
+        let id = before + 1;
+        input.extend_from_slice(b"\x33\x07\x00\x01")?;
+        input.extend_from_slice(&[topic, 0, id, 0, first.saturating_add(before)])?;
+        output.extend_from_slice(&[0x40, 0x02, 0, id])?;
+    }
+    Ok(())
+}
+
+/// A CONNECT without a client identifier, fifty PUBLISHes to the topic of the place, and a SUBSCRIBE of it.
+fn own_exchange(alloc: Global, place: u8, number: u8) -> Result<Exchange, AllocError> {
+    let topic = place.saturating_add(b'/');
+    let (mut input, mut output) = (Vec::new(alloc), Vec::new(alloc));
+    input.extend_from_slice(b"\x10\x0D\x00\x04MQTT\x05\x02\x00\x3C\x00\x00\x00")?;
+    let assigned = format!(in alloc; "rs{place}-{number}")?;
+    let len = assigned.as_bytes().len();
+    output.extend_from_slice(b"\x20")?;
+    output.push((16 + len.min(20)) as u8)?;
+    output.extend_from_slice(b"\x00\x00")?;
+    output.push((13 + len.min(20)) as u8)?;
+    output.extend_from_slice(b"\x12\x00")?;
+    output.push(len.min(20) as u8)?;
+    output.extend_from_slice(assigned.as_bytes())?;
+    output.extend_from_slice(b"\x21\x00\x10\x27\x00\x04\x00\x00\x2A\x00")?;
+    let last = number.saturating_mul(50);
+    publish_fifty(topic, last.saturating_sub(49), &mut input, &mut output)?;
+    input.extend_from_slice(b"\x82\x07\x00\x02\x00\x00\x01")?;
+    input.extend_from_slice(&[topic, 0, 0xE0, 0])?;
+    output.extend_from_slice(b"\x90\x04\x00\x02\x00\x00\x31\x05\x00\x01")?;
+    output.extend_from_slice(&[topic, 0, last])?;
+    Ok(Exchange { input, output })
+}
+
+fn all_places_named<
+    N: LineName + Send + Sync + 'static,
+    R: Threads + Wait + Abort + Copy + Send + Sync + 'static,
+>(rt: R, alloc: Global, blank: Blank, queue: BlankQueue) -> Result<(), Fail>
+    requires store { (blank.history ≡ N.history) × (blank.limit ≡ N.limit) }
+    requires queue { (queue.name ≡ N.queue) × (queue.places ≡ N.places) }
+{
+    let store = opened::<N, R>(rt, alloc, blank, queue)?;
+    let counts = Arc::new(alloc, Counts::new())?;
+    let mut turns = Vec::new(alloc);
+    for before in 0..64u8 {
+        let place = before + 1;
+        let second = own_exchange(alloc, place, 2)?;
+        let exchanges = vec![in alloc; second, own_exchange(alloc, place, 1)?]?;
+        turns.push(script(alloc, &counts, exchanges, 0, 0)?)?;
+    }
+    assert_eq!(rt;
+        ran(rt, alloc, turns, &counts, store),
+        (64, 128, Some(6400), 6400)
+    );
+    Ok(())
+}
+
+/// 64 places with two connections each, whose assigned client identifiers name the place and the number of the connection. Each
+/// connection publishes the next numbers and reads the last one back, so the changes of a place are made in its order.
+#[test]
+fn all_places(rt: HostRuntime) -> Result<(), Fail> {
+    let alloc = rt.alloc();
+    all_places_named::<Brand, _>(
+        rt,
+        alloc,
+        blank_store(alloc, 100, 64)?,
+        blank_queue(alloc, 64)?,
+    )
+}
+
+/// A retained PUBLISH of a, as large as a packet may be.
+fn large_publish(alloc: Global) -> Result<Vec<u8>, AllocError> {
+    let payload = vec![in alloc; b'x'; 262_136]?;
+    joined(alloc, b"\x31\xFC\xFF\x0F\x00\x01a\x00", &payload)
+}
+
+fn large_named<
+    N: LineName + Send + Sync + 'static,
+    R: Threads + Wait + Abort + Copy + Send + Sync + 'static,
+>(rt: R, alloc: Global, blank: Blank, queue: BlankQueue) -> Result<(), Fail>
+    requires store { (blank.history ≡ N.history) × (blank.limit ≡ N.limit) }
+    requires queue { (queue.name ≡ N.queue) × (queue.places ≡ N.places) }
+{
+    let store = opened::<N, R>(rt, alloc, blank, queue)?;
+    let counts = Arc::new(alloc, Counts::new())?;
+    let publish = large_publish(alloc)?;
+    let input = joined(alloc, CONNECT, &publish)?;
+    let output = joined(alloc, SUBSCRIBED, &publish)?;
+    let first = vec![in alloc; exchange(alloc, &input, CONNECTED)?]?;
+    let later = vec![in alloc; exchange(alloc, SUBSCRIBES, &output)?]?;
+    let turns = vec![in alloc;
+        script(alloc, &counts, first, 0, 0)?,
+        script(alloc, &counts, later, 1, 0)?,
+    ]?;
+    assert_eq!(rt; ran(rt, alloc, turns, &counts, store), (2, 2, Some(1), 1));
+    Ok(())
+}
+
+/// A packet that is as large as it may be goes from one place to another.
+#[test]
+fn large(rt: HostRuntime) -> Result<(), Fail> {
+    let alloc = rt.alloc();
+    large_named::<Brand, _>(
+        rt,
+        alloc,
+        blank_store(alloc, 10, 2)?,
+        blank_queue(alloc, 2)?,
+    )
+}
+
+/// CONNECT; of QoS 1 a, b, c, a again, and a clearing of d; DISCONNECT.
+const FILLS: &[u8] =
+    b"\x10\x0E\x00\x04MQTT\x05\x02\x00\x3C\x00\x00\x01a\x33\x07\x00\x01a\x00\x01\x001\x33\x07\x00\x01b\x00\x02\x002\x33\x07\x00\x01c\x00\x03\x003\x33\x07\x00\x01a\x00\x04\x004\x33\x06\x00\x01d\x00\x05\x00\xE0\x00";
+
+/// CONNACK, and a PUBACK for each, the third with 0x97 (Quota exceeded).
+const FILLED: &[u8] =
+    b"\x20\x0D\x00\x00\x0A\x21\x00\x10\x27\x00\x04\x00\x00\x2A\x00\x40\x02\x00\x01\x40\x02\x00\x02\x40\x03\x00\x03\x97\x40\x02\x00\x04\x40\x02\x00\x05";
+
+fn full_named<
+    N: LineName + Send + Sync + 'static,
+    R: Threads + Wait + Abort + Copy + Send + Sync + 'static,
+>(rt: R, alloc: Global, blank: Blank, queue: BlankQueue) -> Result<(), Fail>
+    requires store { (blank.history ≡ N.history) × (blank.limit ≡ N.limit) }
+    requires queue { (queue.name ≡ N.queue) × (queue.places ≡ N.places) }
+{
+    let store = opened::<N, R>(rt, alloc, blank, queue)?;
+    let counts = Arc::new(alloc, Counts::new())?;
+    let exchanges = vec![in alloc; exchange(alloc, FILLS, FILLED)?]?;
+    let turns = vec![in alloc; script(alloc, &counts, exchanges, 0, 0)?]?;
+    assert_eq!(rt; ran(rt, alloc, turns, &counts, store), (1, 1, Some(5), 4));
+    Ok(())
+}
+
+/// A store of two topics takes a replacement and a clearing, and no third topic.
+#[test]
+fn full(rt: HostRuntime) -> Result<(), Fail> {
+    let alloc = rt.alloc();
+    full_named::<Brand, _>(rt, alloc, blank_store(alloc, 2, 1)?, blank_queue(alloc, 1)?)
+}
