@@ -15,7 +15,7 @@ fn digits_are_read(rt: HostRuntime) -> Result<(), Fail> {
     ];
     for (line, bytes) in read {
         let found = read_hex(rt.alloc(), line)?;
-        assert_eq!(rt; found.as_slice(), bytes);
+        assert!(rt; found.as_slice() == bytes);
     }
     for line in [
         b"0".as_slice(),
@@ -45,7 +45,7 @@ fn faults_have_a_text(rt: HostRuntime) -> Result<(), Fail> {
     ];
     for (fault, text) in rows {
         let shown = format!(in rt.alloc(); "{fault}")?;
-        assert_eq!(rt; shown.as_str(), text);
+        assert!(rt; shown.as_str() == text);
     }
     Ok(())
 }

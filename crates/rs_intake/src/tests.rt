@@ -20,6 +20,7 @@ use rs_version::{Blank, Seat, VersionWriter};
 use std::alloc::{AllocError, Global};
 use std::sync::Wait;
 use std::test::Fail;
+use std::thread::{JoinHandle, Threads, spawn};
 
 #[tactic(auto, using(rs_message::proofs::Sizes::small_message))]
 fn message(alloc: Global, payload: &[u8], received: u64, expiry: Option<u32>) -> Option<Message> {
@@ -88,14 +89,47 @@ fn open_both<N: LineName, R: Wait + Drop>(
     })
 }
 
+/// The same once the writer runs on a thread of its own.
+#[derive(Drop)]
+struct Running<N: LineName, R: Wait + Copy> {
+    writer: JoinHandle<Ended<N, R>>,
+    seats: Vec<Seat<N>>,
+    intake: Intake<N>,
+    lines: Vec<SeatLine<N>>,
+}
+
+fn run_both<N: LineName + Send + Sync + 'static, R: Threads + Wait + Copy + Send + Sync + 'static>(
+    rt: R,
+    blank: Blank,
+    queue: BlankQueue,
+) -> Result<Running<N, R>, Fail>
+    requires store { (blank.history ≡ N.history) × (blank.limit ≡ N.limit) }
+    requires queue { (queue.name ≡ N.queue) × (queue.places ≡ N.places) }
+{
+    let Opened {
+        writer,
+        seats,
+        intake,
+        lines,
+        queue,
+    } = open_both::<N, R>(rt, blank, queue)?;
+    let writer = spawn(&rt, move || run_writer(&rt, queue, writer))?;
+    Ok(Running {
+        writer,
+        seats,
+        intake,
+        lines,
+    })
+}
+
 #[test]
 fn codes(rt: HostRuntime) -> Result<(), Fail> {
     let fault = SettleFault::Unsettled;
-    assert_eq!(rt; fault.code(), 45);
+    assert!(rt; fault.code() == 45);
     let shown = format!(in rt.alloc(); "{fault}")?;
-    assert_eq!(rt;
-        shown.as_str(),
-        "not all that was sent is known to be taken; close each line once, and settle after the writer has ended"
+    assert!(rt;
+        shown.as_str()
+            == "not all that was sent is known to be taken; close each line once, and settle after the writer has ended"
     );
     Ok(())
 }

@@ -18,13 +18,13 @@ fn faults_have_a_status_and_a_text(rt: HostRuntime) -> Result<(), Fail> {
         (PipeFault::NotHex(7), 2, "line 7 is not hex"),
     ];
     for (fault, status, text) in faults {
-        assert_eq!(rt; fault.status(), status);
+        assert!(rt; fault.status() == status);
         let found = format!(in rt.alloc(); "{fault}")?;
-        assert_eq!(rt; found.as_str(), text);
+        assert!(rt; found.as_str() == text);
         let run = RunFault::Pipe(fault);
-        assert_eq!(rt; run.status(), status);
+        assert!(rt; run.status() == status);
         let found = format!(in rt.alloc(); "{run}")?;
-        assert_eq!(rt; found.as_str(), text);
+        assert!(rt; found.as_str() == text);
     }
     let unsettled = RunFault::Unsettled {
         served: 3,
@@ -38,9 +38,9 @@ fn faults_have_a_status_and_a_text(rt: HostRuntime) -> Result<(), Fail> {
         ),
     ];
     for (fault, text) in listen_faults {
-        assert_eq!(rt; fault.status(), 1);
+        assert!(rt; fault.status() == 1);
         let found = format!(in rt.alloc(); "{fault}")?;
-        assert_eq!(rt; found.as_str(), text);
+        assert!(rt; found.as_str() == text);
     }
     Ok(())
 }
@@ -58,13 +58,13 @@ fn words_have_a_status_and_a_text(rt: HostRuntime) -> Result<(), Fail> {
         (WordsFault::NoMemory, 1, "out of memory"),
     ];
     for (fault, status, text) in faults {
-        assert_eq!(rt; fault.status(), status);
+        assert!(rt; fault.status() == status);
         let found = format!(in alloc; "{fault}")?;
-        assert_eq!(rt; found.as_str(), text);
+        assert!(rt; found.as_str() == text);
         let run = RunFault::Words(fault);
-        assert_eq!(rt; run.status(), status);
+        assert!(rt; run.status() == status);
         let found = format!(in alloc; "{run}")?;
-        assert_eq!(rt; found.as_str(), text);
+        assert!(rt; found.as_str() == text);
     }
     Ok(())
 }

@@ -1,6 +1,7 @@
 //! Worked examples, and each public call once with ample memory.
 
-ghost use Rattle.std.specs.Prelude.{◌≢◌, ◌≤◌, [], length};
+ghost use Rattle.std.specs.Prelude.{◌≡◌, ◌≢◌, ◌≤◌, [], false, length, IfOk};
+ghost use Rattle.rs_message.specs.Messages.{is_sweep};
 
 use crate::{
     Catalogue, MAX_TOPICS, MapCatalogue, Refusal, TopicLimit, TreeCatalogue, add, content_law,
@@ -49,6 +50,22 @@ fn message_at(
     )
 }
 
+/// A Set of a message that came at a moment.
+fn set_at(
+    alloc: Global,
+    topic: TopicName,
+    payload: &'static [u8],
+    received: u64,
+    expiry: Option<u32>,
+) -> Result<Operation, AllocError>
+    requires some { payload.now ≢ [] }
+    requires small { length payload.now ≤ 1000 }
+    ensures { IfOk result (λ o. is_sweep o ≡ false) }
+{
+    let message = message_at(alloc, payload, received, expiry)?;
+    Ok(Operation::Set(topic, message))
+}
+
 fn origin(place: u8, serial: u64) -> Result<Origin, Fail> {
     Ok(Origin::new(place, serial).ok_or("no place or no serial")?)
 }
@@ -82,22 +99,25 @@ fn clear<C: Catalogue>(
 
 /// Adds entries one after the other, by the bound alone.
 fn limit_of_2<C: Catalogue>(rt: &impl Abort, alloc: Global, catalogue: &mut C) -> Result<(), Fail> {
-    assert_eq!(rt; set(alloc, catalogue, 1, 1, b"a")?, Ok(()));
-    assert_eq!(rt; set(alloc, catalogue, 1, 2, b"b")?, Ok(()));
-    assert_eq!(rt; set(alloc, catalogue, 1, 3, b"c")?, Err(Refusal::Full));
-    assert_eq!(rt; set(alloc, catalogue, 1, 2, b"c")?, Err(Refusal::Stale));
-    assert_eq!(rt; set(alloc, catalogue, 1, 3, b"a")?, Ok(()));
-    assert_eq!(rt; clear(alloc, catalogue, 2, 1, b"d")?, Ok(()));
+    let rows: [(u64, &[u8], Result<(), Refusal>); 5] = [
+        (1, b"a", Ok(())),
+        (2, b"b", Ok(())),
+        (3, b"c", Err(Refusal::Full)),
+        (2, b"c", Err(Refusal::Stale)),
+        (3, b"a", Ok(())),
+    ];
+    for (serial, topic, wanted) in rows {
+        assert!(rt; set(alloc, catalogue, 1, serial, topic)? == wanted);
+    }
+    assert!(rt; clear(alloc, catalogue, 2, 1, b"d")? == Ok(()));
     Ok(())
 }
 
 fn after_these<C: Catalogue>(rt: &impl Abort, catalogue: &C) {
-    assert_eq!(rt; catalogue.version(), 4);
-    assert_eq!(rt; catalogue.count(), 2);
-    assert_eq!(rt; catalogue.last_serial(1), 3);
-    assert_eq!(rt; catalogue.last_serial(2), 1);
-    assert_eq!(rt; catalogue.last_serial(3), 0);
-    assert_eq!(rt; catalogue.last_serial(255), 0);
+    assert!(rt; (catalogue.version(), catalogue.count()) == (4, 2));
+    for (place, serial) in [(1, 3), (2, 1), (3, 0), (255, 0)] {
+        assert!(rt; catalogue.last_serial(place) == serial);
+    }
 }
 
 #[test]
@@ -117,11 +137,8 @@ fn full_and_stale(rt: HostRuntime) -> Result<(), Fail> {
 fn limits(rt: HostRuntime) -> Result<(), Fail> {
     assert!(rt; TopicLimit::new(0).is_none());
     assert!(rt; TopicLimit::new(MAX_TOPICS + 1).is_none());
-    assert_eq!(rt; TopicLimit::new(1).ok_or("the least")?.get(), 1);
-    assert_eq!(rt;
-        TopicLimit::new(MAX_TOPICS).ok_or("the greatest")?.get(),
-        65_536
-    );
+    assert!(rt; TopicLimit::new(1).ok_or("the least")?.get() == 1);
+    assert!(rt; TopicLimit::new(MAX_TOPICS).ok_or("the greatest")?.get() == 65_536);
     content_law();
     Ok(())
 }
@@ -159,7 +176,7 @@ fn answered<C: Catalogue>(rt: &impl Abort, alloc: Global, catalogue: &C) -> Resu
         (b"a/+", 100, b"a/b "),
     ];
     for (filter, now, wanted) in rows {
-        assert_eq!(rt; topics(alloc, catalogue, filter, now)?.as_slice(), wanted);
+        assert!(rt; topics(alloc, catalogue, filter, now)?.as_slice() == wanted);
     }
     Ok(())
 }
@@ -186,8 +203,20 @@ fn by_levels<C: Catalogue>(rt: &impl Abort, alloc: Global, catalogue: &C) -> Res
         (b"+", b"a a.b "),
     ];
     for (filter, wanted) in rows {
-        assert_eq!(rt; topics(alloc, catalogue, filter, 100)?.as_slice(), wanted);
+        assert!(rt; topics(alloc, catalogue, filter, 100)?.as_slice() == wanted);
     }
+    Ok(())
+}
+
+/// By the bound alone, and so also in a copy.
+fn set_and_copied<C: Catalogue + Drop>(
+    rt: &impl Abort,
+    alloc: Global,
+    mut catalogue: C,
+) -> Result<(), Fail> {
+    set_by_levels(alloc, &mut catalogue)?;
+    by_levels(rt, alloc, &catalogue)?;
+    by_levels(rt, alloc, &catalogue.copy()?)?;
     Ok(())
 }
 
@@ -195,13 +224,8 @@ fn by_levels<C: Catalogue>(rt: &impl Abort, alloc: Global, catalogue: &C) -> Res
 fn levels(rt: HostRuntime) -> Result<(), Fail> {
     let alloc = rt.alloc();
     let limit = TopicLimit::new(10).ok_or("10 is a limit")?;
-    let mut map = MapCatalogue::new(alloc, limit)?;
-    set_by_levels(alloc, &mut map)?;
-    by_levels(&rt, alloc, &map)?;
-    let mut tree = TreeCatalogue::new(alloc, limit)?;
-    set_by_levels(alloc, &mut tree)?;
-    by_levels(&rt, alloc, &tree)?;
-    by_levels(&rt, alloc, &tree.copy()?)?;
+    set_and_copied(&rt, alloc, MapCatalogue::new(alloc, limit)?)?;
+    set_and_copied(&rt, alloc, TreeCatalogue::new(alloc, limit)?)?;
     Ok(())
 }
 
@@ -226,7 +250,7 @@ fn as_many<C: Catalogue>(
     now: u64,
     wanted: usize,
 ) -> Result<(), Fail> {
-    assert_eq!(rt; within(catalogue, filter, now, wanted)?, Some(wanted));
+    assert!(rt; within(catalogue, filter, now, wanted)? == Some(wanted));
     if wanted > 0 {
         assert!(rt; within(catalogue, filter, now, wanted - 1)?.is_none());
         assert!(rt; within(catalogue, filter, now, 0)?.is_none());
@@ -254,9 +278,9 @@ fn codes(rt: HostRuntime) -> Result<(), Fail> {
         ),
     ];
     for (refusal, code, text) in rows {
-        assert_eq!(rt; refusal.code(), code);
+        assert!(rt; refusal.code() == code);
         let shown = format!(in rt.alloc(); "{refusal}")?;
-        assert_eq!(rt; shown.as_str(), text);
+        assert!(rt; shown.as_str() == text);
     }
     Ok(())
 }
@@ -271,11 +295,8 @@ fn copied<C: Catalogue + Drop>(
     let copy = catalogue.copy()?;
     clear(alloc, &mut catalogue, 2, 1, b"c")??;
     answered(rt, alloc, &copy)?;
-    assert_eq!(rt;
-        (copy.version(), copy.count(), copy.last_serial(1)),
-        (4, 4, 4)
-    );
-    assert_eq!(rt; (catalogue.version(), catalogue.count()), (5, 3));
+    assert!(rt; (copy.version(), copy.count(), copy.last_serial(1)) == (4, 4, 4));
+    assert!(rt; (catalogue.version(), catalogue.count()) == (5, 3));
     Ok(())
 }
 

@@ -36,6 +36,18 @@ const REPLAY: &[u8] = b"\x90\x04\x00\x01\x00\x001\x07\x00\x03a/b\x00x1\x07\x00\x
 /// What is sent, and what has to be the answer.
 type Exchange<'a> = (&'a [u8], &'a [u8]);
 
+/// Whether the exchange goes so.
+fn is_answered(client: &mut TcpStream, exchange: &Exchange<'_>) -> io::Result<bool> {
+    let (sent, wanted) = exchange;
+    client.write_all(sent)?;
+    let mut room = [0u8; 64];
+    let Some(answer) = room.get_mut(..wanted.len()) else {
+        return Ok(false);
+    };
+    client.read_exact(answer)?;
+    Ok(*answer == **wanted)
+}
+
 /// Whether each exchange went so, and after the last one the server closed the connection.
 fn exchange<H: Net<Listener = TcpListener, Stream = TcpStream>>(
     rt: &H,
@@ -43,18 +55,27 @@ fn exchange<H: Net<Listener = TcpListener, Stream = TcpStream>>(
     exchanges: &[Exchange<'_>],
 ) -> io::Result<bool> {
     let mut client = TcpStream::connect(rt, address)?;
-    for (sent, wanted) in exchanges {
-        client.write_all(sent)?;
-        let mut room = [0u8; 64];
-        let Some(answer) = room.get_mut(..wanted.len()) else {
-            return Ok(false);
-        };
-        client.read_exact(answer)?;
-        if *answer != **wanted {
+    for exchange in exchanges {
+        if !is_answered(&mut client, exchange)? {
             return Ok(false);
         }
     }
     Ok(client.read(&mut [0u8; 1])? == 0)
+}
+
+/// Whether a client connects, has this answer to this packet, and leaves.
+fn is_served<H: Net<Listener = TcpListener, Stream = TcpStream>>(
+    rt: &H,
+    address: &str,
+    packet: &[u8],
+    answer: &[u8],
+) -> bool {
+    let exchanges = [
+        (CONNECT, CONNACK),
+        (packet, answer),
+        (DISCONNECT, b"".as_slice()),
+    ];
+    exchange(rt, address, exchanges.as_slice()).is_ok_and(|went| went)
 }
 
 /// A client that publishes, and another at the same time. Then one that subscribes, whatever the order of the two was.
@@ -77,26 +98,18 @@ fn publish_and_read<
     let mut publishing = Vec::new(alloc);
     for publish in PUBLISHES {
         let address = address.clone()?;
-        publishing.push(spawn(&rt, move || {
-            let exchanges = [
-                (CONNECT, CONNACK),
-                (publish, PUBACK),
-                (DISCONNECT, b"".as_slice()),
-            ];
-            exchange(&rt, address.as_str(), exchanges.as_slice()).is_ok_and(|went| went)
-        })?)?;
+        let client = spawn(
+            &rt,
+            move || is_served(&rt, address.as_str(), publish, PUBACK),
+        )?;
+        publishing.push(client)?;
     }
     let mut went = true;
     for client in publishing {
         went = client.join(&rt) && went;
     }
-    let exchanges = [
-        (CONNECT, CONNACK),
-        (SUBSCRIBE, REPLAY),
-        (DISCONNECT, b"".as_slice()),
-    ];
-    let read = exchange(&rt, address.as_str(), exchanges.as_slice())?;
-    Ok((went && read, serving.join(&rt)))
+    went = is_served(&rt, address.as_str(), SUBSCRIBE, REPLAY) && went;
+    Ok((went, serving.join(&rt)))
 }
 
 #[test]
@@ -109,7 +122,7 @@ fn clients_share_a_store(rt: HostRuntime) -> Result<(), Fail> {
         };
         let (went, told) = publish_and_read(rt, rt.alloc(), places)?;
         assert!(rt; went);
-        assert_eq!(rt; told, Some(summary));
+        assert!(rt; told == Some(summary));
     }
     Ok(())
 }

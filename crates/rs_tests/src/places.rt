@@ -112,8 +112,8 @@ fn close_both<N: LineName, R: Threads + Wait + Abort + Copy>(
 ) -> Result<(), Fail> {
     let ends = vec![in alloc; gates.0.close(), gates.1.close()]?;
     let (taken, version) = settled(rt, writer, ends);
-    assert_eq!(rt; taken, Some(count));
-    assert_eq!(rt; version, count);
+    assert!(rt; taken == Some(count));
+    assert!(rt; version == count);
     Ok(())
 }
 

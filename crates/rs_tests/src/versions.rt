@@ -108,8 +108,8 @@ fn reads<N: StoreName>(
     topics: &[u8],
 ) -> Result<(), Fail> {
     let (read, found) = seen(alloc, seat)?;
-    assert_eq!(rt; read, version);
-    assert_eq!(rt; found.as_slice(), topics);
+    assert!(rt; read == version);
+    assert!(rt; found.as_slice() == topics);
     Ok(())
 }
 
@@ -133,9 +133,9 @@ fn refusals<N: StoreName, R: Wait + Drop>(
     writer: &mut VersionWriter<N, R>,
 ) -> Result<(), Fail> {
     let full = fault_of(writer, set(alloc, 1, 2, b"b"))?;
-    assert_eq!(rt; full, Some(PutFault::Full));
+    assert!(rt; full == Some(PutFault::Full));
     let stale = fault_of(writer, set(alloc, 1, 1, b"a"))?;
-    assert_eq!(rt; stale, Some(PutFault::Stale));
+    assert!(rt; stale == Some(PutFault::Stale));
     assert!(rt; writer.held().is_none());
     assert!(rt; writer.retry()?.is_none());
     Ok(())
@@ -194,7 +194,7 @@ fn reads_told<N: StoreName>(
     seat.learn(told);
     let (version, topics) = seen(alloc, seat)?;
     assert!(rt; version >= 1);
-    assert_eq!(rt; topics.as_slice(), b"x ".as_slice());
+    assert!(rt; topics.as_slice() == b"x ".as_slice());
     Ok(version)
 }
 
@@ -211,21 +211,12 @@ fn compared<N: StoreName, R: Wait + Drop>(
     seat: &mut Seat<N>,
 ) -> Result<(), Fail> {
     let receipt = receipt_of(writer, set(alloc, 1, 1, b"x"))?;
-    assert_eq!(rt;
-        reach_each_other(&seat.told(), &receipt.told()),
-        (false, true)
-    );
+    assert!(rt; reach_each_other(&seat.told(), &receipt.told()) == (false, true));
     seat.learn(receipt.told());
-    assert_eq!(rt;
-        reach_each_other(&seat.told(), &receipt.told()),
-        (true, true)
-    );
+    assert!(rt; reach_each_other(&seat.told(), &receipt.told()) == (true, true));
     let _next = receipt_of(writer, clear(alloc, 1, 2, b"x"))?;
-    assert_eq!(rt;
-        reach_each_other(&writer.tell(), &seat.told()),
-        (true, false)
-    );
-    assert_eq!(rt; (seat.told().version(), writer.tell().version()), (1, 2));
+    assert!(rt; reach_each_other(&writer.tell(), &seat.told()) == (true, false));
+    assert!(rt; (seat.told().version(), writer.tell().version()) == (1, 2));
     Ok(())
 }
 
@@ -249,9 +240,9 @@ fn tokens_compared(rt: HostRuntime) -> Result<(), Fail> {
 
 /// The receipt is of the first entry, which place 1 made.
 fn is_first<N: StoreName>(rt: &impl Abort, receipt: &Receipt<N>) {
-    assert_eq!(rt; receipt.entry().origin.place(), 1);
-    assert_eq!(rt; receipt.number(), 1);
-    assert_eq!(rt; receipt.told().version(), 1);
+    assert!(rt; receipt.entry().origin.place() == 1);
+    assert!(rt; receipt.number() == 1);
+    assert!(rt; receipt.told().version() == 1);
 }
 
 /// Each seat reads what this writer published.
@@ -288,7 +279,7 @@ fn told_seat_named<N: StoreName, R: Wait + Abort>(
 {
     let (mut writer, mut seats) = blank.open::<N, &R>(rt)?;
     let mut last = seats.pop().ok_or("there is a seat")?;
-    assert_eq!(rt; seats.len(), 2);
+    assert!(rt; seats.len() == 2);
     told(rt, alloc, &mut writer, seats)?;
     assert!(rt; read_version(alloc, &mut last).is_some());
     drop(writer);
@@ -390,7 +381,7 @@ fn readers_beside_a_writer_named<N: StoreName + Send + Sync, R: Threads + Wait +
     match (seats.pop(), seats.pop(), seats.pop()) {
         (Some(one), Some(two), Some(three)) => {
             let versions = side_by_side(rt, alloc, writer, (one, two, three))?;
-            assert_eq!(rt; versions, [100, 100, 100]);
+            assert!(rt; versions == [100, 100, 100]);
             Ok(())
         }
         _ => Err(Fail::from("there are three seats")),
@@ -428,9 +419,9 @@ fn codes(rt: HostRuntime) -> Result<(), Fail> {
         ),
     ];
     for (fault, code, text) in rows {
-        assert_eq!(rt; fault.code(), code);
+        assert!(rt; fault.code() == code);
         let shown = format!(in rt.alloc(); "{fault}")?;
-        assert_eq!(rt; shown.as_str(), text);
+        assert!(rt; shown.as_str() == text);
     }
     Ok(())
 }

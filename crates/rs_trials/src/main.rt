@@ -19,6 +19,7 @@
 
 mod failure;
 mod refusals;
+mod running;
 mod samples;
 mod times;
 

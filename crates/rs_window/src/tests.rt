@@ -170,7 +170,7 @@ fn too_long_for_the_client(rt: HostRuntime) -> Result<(), Fail> {
 fn gives(rt: &impl Abort, alloc: Global, window: &mut Window, sent: &[u8]) -> Result<(), Fail> {
     let publish = window.next(9).ok_or("nothing is given")?;
     let packet = encode(alloc, &publish.reply())?;
-    assert_eq!(rt; packet.as_slice(), sent);
+    assert!(rt; packet.as_slice() == sent);
     assert!(rt; window.next(9).is_none());
     Ok(())
 }
@@ -244,10 +244,7 @@ fn identifiers_in_order(rt: HostRuntime) -> Result<(), Fail> {
         Qos::AtLeastOnce,
     )?;
     for number in 1..1025u16 {
-        assert_eq!(rt;
-            answer_of(&mut window, Call::Next(0))?,
-            Answer::Gives(b'a', number)
-        );
+        assert!(rt; answer_of(&mut window, Call::Next(0))? == Answer::Gives(b'a', number));
     }
     let rows = [
         (Call::Next(0), Answer::Nothing),
@@ -277,7 +274,7 @@ fn no_more_than_the_limit_wait(rt: HostRuntime) -> Result<(), Fail> {
     )?;
     let more = many(alloc, b"b", 1, Qos::AtLeastOnce).ok_or("no memory")?;
     let refused = window.queue(more, Qos::AtLeastOnce, None);
-    assert_eq!(rt; refused, Err(WindowFault::TooManyWaiting));
+    assert!(rt; refused == Err(WindowFault::TooManyWaiting));
     run(&rt, &mut window, &[(Call::Next(0), Answer::Gives(b'a', 1))])?;
     queue(
         &mut window,
@@ -292,7 +289,7 @@ fn more_than_the_limit_at_once(rt: HostRuntime) -> Result<(), Fail> {
     let mut window = Window::new(alloc, u16::MAX, 1)?;
     let more = many(alloc, b"a", MAX_WAITING as u32 + 1, Qos::AtMostOnce);
     let refused = window.queue(more.ok_or("no memory")?, Qos::AtMostOnce, None);
-    assert_eq!(rt; refused, Err(WindowFault::TooManyWaiting));
+    assert!(rt; refused == Err(WindowFault::TooManyWaiting));
     run(&rt, &mut window, &[(Call::Next(0), Answer::Nothing)])
 }
 
@@ -373,7 +370,7 @@ fn queue_if_memory_is_refused(rt: HostRuntime) -> Result<(), Fail> {
         let later = (Call::Next(0), Answer::Gives(b'b', 0));
         run(&rt, &mut window, &[later; 9])?;
     } else {
-        assert_eq!(rt; answer, Err(WindowFault::NoMemory));
+        assert!(rt; answer == Err(WindowFault::NoMemory));
     }
     run(&rt, &mut window, &[(Call::Next(0), Answer::Nothing)])
 }
@@ -386,7 +383,7 @@ fn as_many_are_held_as_announced(rt: HostRuntime) -> Result<(), Fail> {
         assert!(rt; inbound.begin(id(number + 1)?).is_ok());
     }
     assert!(rt; inbound.is_full());
-    assert_eq!(rt; inbound.begin(id(17)?), Err(WindowFault::TooManyHeld));
+    assert!(rt; inbound.begin(id(17)?) == Err(WindowFault::TooManyHeld));
     assert!(rt; !inbound.holds(id(17)?));
     assert!(rt; inbound.begin(id(16)?).is_ok());
     assert!(rt; inbound.release(id(3)?));
@@ -421,9 +418,9 @@ fn faults_have_codes_and_texts(rt: HostRuntime) -> Result<(), Fail> {
         ),
     ];
     for (fault, code, text) in rows {
-        assert_eq!(rt; fault.code(), code);
+        assert!(rt; fault.code() == code);
         let shown = format!(in rt.alloc(); "{fault}")?;
-        assert_eq!(rt; shown.as_str(), text);
+        assert!(rt; shown.as_str() == text);
     }
     Ok(())
 }

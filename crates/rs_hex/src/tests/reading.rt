@@ -146,7 +146,7 @@ fn a_long_line_is_read(rt: HostRuntime) -> Result<(), Fail> {
             n => count = count.saturating_add(n),
         }
     }
-    assert_eq!(rt; count, 300_001);
+    assert!(rt; count == 300_001);
     assert!(rt; lines.not_hex().is_none());
     Ok(())
 }

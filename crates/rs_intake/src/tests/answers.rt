@@ -3,10 +3,10 @@
 ghost use Rattle.std.specs.Prelude.{◌≡◌, false, IfSome};
 ghost use Rattle.rs_message.specs.Messages.{is_sweep};
 
-use super::{Opened, blank_store, clear, open_both, set};
+use super::{Opened, Running, blank_store, clear, open_both, run_both, set};
 use crate::intake::read;
 use crate::reply::Reply;
-use crate::{BlankQueue, Intake, LineName, SeatLine, SettleFault, blank_queue, run_writer, settle};
+use crate::{BlankQueue, Intake, LineName, SeatLine, SettleFault, blank_queue, settle};
 use rs_message::{Entry, Operation, Origin, SubmitFault};
 use rs_version::{Blank, PutFault, VersionWriter};
 use std::alloc::Global;
@@ -56,28 +56,23 @@ fn full_store_named<
     requires store { (blank.history ≡ N.history) × (blank.limit ≡ N.limit) }
     requires queue { (queue.name ≡ N.queue) × (queue.places ≡ N.places) }
 {
-    let Opened {
+    let Running {
         writer,
         seats: _seats,
         intake,
         mut lines,
-        queue,
-    } = open_both::<N, R>(rt, blank, queue)?;
+    } = run_both::<N, R>(rt, blank, queue)?;
     let mut line = lines.pop().ok_or("there is a line")?;
-    let thread = spawn(&rt, move || run_writer(&rt, queue, writer))?;
     let answers = submit_all(&rt, alloc, &intake, &mut line);
     let serial = line.serial();
     let end = line.close(&rt);
-    let mut ended = thread.join(&rt);
-    assert_eq!(rt; answers?, [(1, 0), (2, 0), (0, 40), (3, 0), (4, 0)]);
-    assert_eq!(rt; (serial, end.place(), end.sent()), (5, 1, 5));
-    assert_eq!(rt;
-        (ended.taken, ended.refused, ended.writer.tell().version()),
-        (5, 1, 4)
-    );
+    let mut ended = writer.join(&rt);
+    assert!(rt; answers? == [(1, 0), (2, 0), (0, 40), (3, 0), (4, 0)]);
+    assert!(rt; (serial, end.place(), end.sent()) == (5, 1, 5));
+    assert!(rt; (ended.taken, ended.refused, ended.writer.tell().version()) == (5, 1, 4));
     let unsettled = settle(Vec::new(alloc), &mut ended).err();
-    assert_eq!(rt; unsettled, Some(SettleFault::Unsettled));
-    assert_eq!(rt; settle(vec![in alloc; end]?, &mut ended).ok(), Some(5));
+    assert!(rt; unsettled == Some(SettleFault::Unsettled));
+    assert!(rt; settle(vec![in alloc; end]?, &mut ended).ok() == Some(5));
     Ok(())
 }
 
@@ -108,8 +103,8 @@ fn dropped_queue_named<
     let open = answer(&rt, &intake, &mut line, set(alloc, b"a", b"1"))?;
     assert!(rt; thread.join(&rt).is_some());
     let closed = answer(&rt, &intake, &mut line, set(alloc, b"a", b"1"))?;
-    assert_eq!(rt; (open, closed), ((0, 42), (0, 44)));
-    assert_eq!(rt; line.serial(), 2);
+    assert!(rt; (open, closed) == ((0, 42), (0, 44)));
+    assert!(rt; line.serial() == 2);
     Ok(())
 }
 
@@ -140,7 +135,7 @@ fn strange_receipt_named<
     let thread = spawn(&rt, move || queue.answer_with(&rt, &mut writer, other))?;
     let strange = answer(&rt, &intake, &mut line, set(alloc, b"a", b"1"))?;
     thread.join(&rt);
-    assert_eq!(rt; (strange, line.serial()), ((0, 43), 1));
+    assert!(rt; (strange, line.serial()) == ((0, 43), 1));
     Ok(())
 }
 
@@ -189,7 +184,7 @@ fn refusals<N: LineName>(rt: &impl Abort, entry: &Entry) -> Result<(), Fail> {
         (origin, PutFault::Held, SubmitFault::Open),
     ];
     for (origin, fault, wanted) in rows {
-        assert_eq!(rt; refusal::<N>(origin, fault, entry), Some(wanted));
+        assert!(rt; refusal::<N>(origin, fault, entry) == Some(wanted));
     }
     Ok(())
 }
@@ -208,7 +203,7 @@ fn strange_named<N: LineName, R: Wait + Abort>(
     // Another operation of the same origin.
     let other = entry_of(1, 1, set(alloc, b"a", b"2")).ok_or("an entry")?;
     let strange = strange_of(&mut opened.writer, &entry, other);
-    assert_eq!(rt; strange, Some(SubmitFault::Strange));
+    assert!(rt; strange == Some(SubmitFault::Strange));
     refusals::<N>(rt, &entry)
 }
 

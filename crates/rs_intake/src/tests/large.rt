@@ -3,8 +3,8 @@
 ghost use Rattle.std.specs.Prelude.{◌≡◌, ◌≢◌, ◌≤◌, [], false, length, IfSome};
 ghost use Rattle.rs_message.specs.Messages.{is_sweep};
 
-use super::{Opened, blank_store, open_both};
-use crate::{BlankQueue, LineName, blank_queue, run_writer};
+use super::{Running, blank_store, run_both};
+use crate::{BlankQueue, LineName, blank_queue};
 use bytes::Bytes;
 use rs_message::{MAX_PLACES, Message, Operation};
 use rs_packet::{Properties, Qos};
@@ -16,7 +16,7 @@ use std::marker::Brand;
 use std::process::Abort;
 use std::sync::Wait;
 use std::test::Fail;
-use std::thread::{Threads, spawn};
+use std::thread::Threads;
 
 /// The bytes of a payload that fits a packet beside its properties.
 const PAYLOAD: usize = 262_000;
@@ -66,10 +66,7 @@ fn is_read<N: LineName>(
     seat: Seat<N>,
 ) -> Result<(), Fail> {
     let origin = receipt.entry().origin;
-    assert_eq!(rt;
-        (receipt.number(), origin.place(), origin.serial()),
-        (1, MAX_PLACES, 1)
-    );
+    assert!(rt; (receipt.number(), origin.place(), origin.serial()) == (1, MAX_PLACES, 1));
     let mut seat = seat;
     seat.learn(receipt.told());
     let filter = TopicFilter::read(alloc, b"#")?;
@@ -91,24 +88,22 @@ fn largest_named<
     requires store { (blank.history ≡ N.history) × (blank.limit ≡ N.limit) }
     requires queue { (queue.name ≡ N.queue) × (queue.places ≡ N.places) }
 {
-    let Opened {
+    let Running {
         writer,
         mut seats,
         intake,
         mut lines,
-        queue,
-    } = open_both::<N, R>(rt, blank, queue)?;
+    } = run_both::<N, R>(rt, blank, queue)?;
     let mut line = lines.pop().ok_or("there are lines")?;
     let seat = seats.pop().ok_or("there are seats")?;
     drop(lines);
     let Some(operation) = largest(alloc) else {
         return Err(Fail::from("an operation"));
     };
-    let thread = spawn(&rt, move || run_writer(&rt, queue, writer))?;
     let answer = intake.submit(&rt, &mut line, operation);
     drop(line.close(&rt));
-    let ended = thread.join(&rt);
-    assert_eq!(rt; (ended.taken, ended.refused), (1, 0));
+    let ended = writer.join(&rt);
+    assert!(rt; (ended.taken, ended.refused) == (1, 0));
     let receipt = answer.ok().ok_or("a receipt")?;
     is_read(&rt, alloc, &receipt, seat)
 }

@@ -95,12 +95,9 @@ fn per_place_order_named<
         ends.push(handle.join(&rt))?;
     }
     let mut seat = seats.pop().ok_or("there are seats")?;
-    assert_eq!(rt; read(alloc, &mut seat)?, (6400, 64, 64));
-    assert_eq!(rt;
-        (ended.taken, ended.refused, ended.held.is_none()),
-        (6400, 0, true)
-    );
-    assert_eq!(rt; settle(ends, &mut ended).ok(), Some(6400));
+    assert!(rt; read(alloc, &mut seat)? == (6400, 64, 64));
+    assert!(rt; (ended.taken, ended.refused, ended.held.is_none()) == (6400, 0, true));
+    assert!(rt; settle(ends, &mut ended).ok() == Some(6400));
     Ok(())
 }
 

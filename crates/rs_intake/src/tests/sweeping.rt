@@ -3,8 +3,8 @@
 ghost use Rattle.std.specs.Prelude.{◌≡◌, false, IfSome};
 ghost use Rattle.rs_message.specs.Messages.{is_sweep};
 
-use super::{Opened, blank_store, message, open_both};
-use crate::{BlankQueue, Intake, LineName, SeatLine, blank_queue, run_writer, settle};
+use super::{Running, blank_store, message, run_both};
+use crate::{BlankQueue, Intake, LineName, SeatLine, blank_queue, settle};
 use rs_message::{MAX_PLACES, Operation};
 use rs_topic::{TopicFilter, TopicName};
 use rs_version::Blank;
@@ -83,14 +83,12 @@ fn filled_again_named<
     requires store { (blank.history ≡ N.history) × (blank.limit ≡ N.limit) }
     requires queue { (queue.name ≡ N.queue) × (queue.places ≡ N.places) }
 {
-    let Opened {
+    let Running {
         writer,
         mut seats,
         intake: _intake,
         lines,
-        queue,
-    } = open_both::<N, R>(rt, blank, queue)?;
-    let thread = spawn(&rt, move || run_writer(&rt, queue, writer))?;
+    } = run_both::<N, R>(rt, blank, queue)?;
     let (lines, first) = round(rt, alloc, lines, 10)?;
     let (lines, second) = round(rt, alloc, lines, 20)?;
     let (lines, third) = round(rt, alloc, lines, 30)?;
@@ -98,18 +96,15 @@ fn filled_again_named<
     for line in lines {
         ends.push(line.close(&rt))?;
     }
-    let mut ended = thread.join(&rt);
+    let mut ended = writer.join(&rt);
     // 1 to 64, 66 to 129, and 131 to 194: before each of the later rounds one Sweep makes room for all.
-    assert_eq!(rt; (first, second, third), (2_080, 6_240, 10_400));
-    assert_eq!(rt;
-        (ended.taken, ended.refused, ended.writer.tell().version()),
-        (192, 0, 194)
-    );
+    assert!(rt; (first, second, third) == (2_080, 6_240, 10_400));
+    assert!(rt; (ended.taken, ended.refused, ended.writer.tell().version()) == (192, 0, 194));
     let mut seat = seats.pop().ok_or("there are seats")?;
     seat.learn(ended.writer.tell());
     let snapshot = seat.answer(&TopicFilter::read(alloc, b"#")?, 30)?;
-    assert_eq!(rt; (snapshot.version, snapshot.found.len()), (194, 64));
-    assert_eq!(rt; settle(ends, &mut ended).ok(), Some(192));
+    assert!(rt; (snapshot.version, snapshot.found.len()) == (194, 64));
+    assert!(rt; settle(ends, &mut ended).ok() == Some(192));
     Ok(())
 }
 

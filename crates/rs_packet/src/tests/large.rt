@@ -2,7 +2,7 @@
 
 ghost use Rattle.std.specs.Prelude.{◌≤◌};
 
-use super::{is_encoded, sent_on};
+use super::{is_encoded, sent_on, size_of};
 use crate::*;
 use bytes::Bytes;
 use rs_field::put_varint;
@@ -33,10 +33,9 @@ fn connect_with(alloc: Global, properties: &[u8], client: u16) -> Result<Bytes, 
 // The length of the client identifier and the Receive Maximum, or zeros if the bytes are no CONNECT.
 fn connected(rt: &HostRuntime, bytes: &Bytes) -> (usize, u16) {
     match decode(rt.alloc(), bytes) {
-        Ok(Decoded::Whole(Packet::Connect(c), _)) => match (&c.client, c.receive_maximum) {
-            (Some(client), Some(receive)) => (client.as_bytes().len(), receive),
-            (Some(client), None) => (client.as_bytes().len(), 0),
-            _ => (0, 0),
+        Ok(Decoded::Whole(Packet::Connect(c), _)) => match &c.client {
+            Some(client) => (client.as_bytes().len(), c.receive_maximum.unwrap_or(0)),
+            None => (0, 0),
         },
         _ => (0, 0),
     }
@@ -46,7 +45,7 @@ fn connected(rt: &HostRuntime, bytes: &Bytes) -> (usize, u16) {
 fn long_client_identifiers_are_read(rt: HostRuntime) -> Result<(), Fail> {
     for client in [24_u16, 65, 1_025, 65_535] {
         let bytes = connect_with(rt.alloc(), &[0], client)?;
-        assert_eq!(rt; connected(&rt, &bytes), (usize::from(client), 0));
+        assert!(rt; connected(&rt, &bytes) == (usize::from(client), 0));
     }
     Ok(())
 }
@@ -56,7 +55,7 @@ fn large_receive_maxima_are_read(rt: HostRuntime) -> Result<(), Fail> {
     for receive in [1_024_u16, 1_025, 10_000, 65_534, 65_535] {
         let [high, low] = receive.to_be_bytes();
         let bytes = connect_with(rt.alloc(), &[3, 0x21, high, low], 1)?;
-        assert_eq!(rt; connected(&rt, &bytes), (1, receive));
+        assert!(rt; connected(&rt, &bytes) == (1, receive));
     }
     Ok(())
 }
@@ -93,6 +92,14 @@ fn sizes(publish: &Publish) -> (usize, usize, usize) {
     (users, copied, publish.payload.len())
 }
 
+// Whether it is encoded just so when it is sent on.
+fn is_encoded_again(rt: &HostRuntime, publish: Publish, want: &[u8]) -> bool {
+    match sent_on(rt.alloc(), publish, Qos::AtMostOnce, None, None) {
+        Some(reply) => is_encoded(rt, &reply, want),
+        None => false,
+    }
+}
+
 // Whether it is read with this many User Properties and bytes of payload, and encoded again just as it came.
 fn is_sent_on(rt: &HostRuntime, users: u16, payload: usize) -> Result<bool, AllocError> {
     let bytes = publish_with(rt.alloc(), users, payload)?;
@@ -103,10 +110,7 @@ fn is_sent_on(rt: &HostRuntime, users: u16, payload: usize) -> Result<bool, Allo
     if sizes(&publish) != (all, all, payload) {
         return Ok(false);
     }
-    match sent_on(rt.alloc(), publish, Qos::AtMostOnce, None, None) {
-        Some(reply) => Ok(is_encoded(rt, &reply, bytes.as_slice())),
-        None => Ok(false),
-    }
+    Ok(is_encoded_again(rt, publish, bytes.as_slice()))
 }
 
 #[test]
@@ -150,10 +154,7 @@ fn long_is_sent_on(rt: &HostRuntime, len: u16) -> Result<bool, AllocError> {
     let Some(publish) = published(rt, &bytes) else {
         return Ok(false);
     };
-    match sent_on(rt.alloc(), publish, Qos::AtMostOnce, None, None) {
-        Some(reply) => Ok(is_encoded(rt, &reply, bytes.as_slice())),
-        None => Ok(false),
-    }
+    Ok(is_encoded_again(rt, publish, bytes.as_slice()))
 }
 
 #[test]
@@ -177,7 +178,7 @@ fn connect_of_long(alloc: Global, len: u16) -> Result<Bytes, AllocError> {
 fn long_passwords_are_passed_over(rt: HostRuntime) -> Result<(), Fail> {
     for len in [24_u16, 65_535] {
         let bytes = connect_of_long(rt.alloc(), len)?;
-        assert_eq!(rt; connected(&rt, &bytes), (usize::from(len), 0));
+        assert!(rt; connected(&rt, &bytes) == (usize::from(len), 0));
     }
     Ok(())
 }
@@ -199,26 +200,26 @@ fn with_users(
     packet(alloc, first, &body)
 }
 
-fn is_read(rt: &HostRuntime, bytes: &Bytes) -> bool {
-    match decode(rt.alloc(), bytes) {
-        Ok(Decoded::Whole(_, size)) => size == bytes.len(),
-        _ => false,
-    }
+fn is_read_with(rt: &HostRuntime, first: u8, head: &[u8], users: u16) -> Result<bool, AllocError> {
+    let bytes = with_users(rt.alloc(), first, head, users, &[])?;
+    Ok(size_of(rt, &bytes) == bytes.len())
+}
+
+// The number of filters, of which there is one in `tail`.
+fn filters_with(rt: &HostRuntime, first: u8, users: u16, tail: &[u8]) -> Result<usize, AllocError> {
+    let bytes = with_users(rt.alloc(), first, &[0, 1], users, tail)?;
+    Ok(filter_count(rt, &bytes))
 }
 
 #[test]
 fn user_properties_are_passed_over(rt: HostRuntime) -> Result<(), Fail> {
     for users in [65_u16, 1_000] {
         for first in [0x40_u8, 0x50, 0x62, 0x70] {
-            let bytes = with_users(rt.alloc(), first, &[0, 1, 0x97], users, &[])?;
-            assert!(rt; is_read(&rt, &bytes));
+            assert!(rt; is_read_with(&rt, first, &[0, 1, 0x97], users)?);
         }
-        let subscribe = with_users(rt.alloc(), 0x82, &[0, 1], users, &[0, 1, 0x61, 0])?;
-        assert_eq!(rt; filter_count(&rt, &subscribe), 1);
-        let unsubscribe = with_users(rt.alloc(), 0xA2, &[0, 1], users, &[0, 1, 0x61])?;
-        assert_eq!(rt; filter_count(&rt, &unsubscribe), 1);
-        let disconnect = with_users(rt.alloc(), 0xE0, &[4], users, &[])?;
-        assert!(rt; is_read(&rt, &disconnect));
+        assert!(rt; filters_with(&rt, 0x82, users, &[0, 1, 0x61, 0])? == 1);
+        assert!(rt; filters_with(&rt, 0xA2, users, &[0, 1, 0x61])? == 1);
+        assert!(rt; is_read_with(&rt, 0xE0, &[4], users)?);
     }
     Ok(())
 }
@@ -244,9 +245,9 @@ fn filter_count(rt: &HostRuntime, bytes: &Bytes) -> usize {
 fn many_filters_are_read(rt: HostRuntime) -> Result<(), Fail> {
     for count in [9_u16, 257, 17_000] {
         let subscribe = filters(rt.alloc(), 0x82, &[0, 1, 0x61, 0], count)?;
-        assert_eq!(rt; filter_count(&rt, &subscribe), usize::from(count));
+        assert!(rt; filter_count(&rt, &subscribe) == usize::from(count));
         let unsubscribe = filters(rt.alloc(), 0xA2, &[0, 1, 0x61], count)?;
-        assert_eq!(rt; filter_count(&rt, &unsubscribe), usize::from(count));
+        assert!(rt; filter_count(&rt, &unsubscribe) == usize::from(count));
     }
     Ok(())
 }
@@ -272,6 +273,14 @@ fn long_reason_strings_are_read(rt: HostRuntime) -> Result<(), Fail> {
     Ok(())
 }
 
+// The size of the encoding, or 0 if there is none of the size that is told before.
+fn encoded_size(rt: &HostRuntime, reply: &Reply) -> usize {
+    match encode(rt.alloc(), reply) {
+        Ok(bytes) if bytes.len() == encoded_len(reply) => bytes.len(),
+        _ => 0,
+    }
+}
+
 // Whether the SUBACK with `count` codes takes `want` bytes.
 fn suback_takes(
     rt: &HostRuntime,
@@ -283,10 +292,7 @@ fn suback_takes(
 {
     let codes = vec![in rt.alloc(); 0x8F; count]?;
     let reply = Reply::Suback(Codes::new(id, codes));
-    match encode(rt.alloc(), &reply) {
-        Ok(bytes) => Ok(bytes.len() == want && encoded_len(&reply) == want),
-        Err(_) => Ok(false),
-    }
+    Ok(encoded_size(rt, &reply) == want)
 }
 
 #[test]
@@ -310,10 +316,7 @@ fn is_assigned(rt: &HostRuntime, client: u16) -> Result<bool, AllocError> {
         session_expiry_zero: true,
         assigned_client,
     });
-    match encode(rt.alloc(), &reply) {
-        Ok(bytes) => Ok(bytes.len() > want && bytes.len() == encoded_len(&reply)),
-        Err(_) => Ok(false),
-    }
+    Ok(encoded_size(rt, &reply) > want)
 }
 
 #[test]

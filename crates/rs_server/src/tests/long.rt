@@ -59,6 +59,6 @@ fn a_long_reply_is_flushed(rt: HostRuntime) -> Result<(), Fail> {
     assert!(rt; served == Ok(Served::EndOfInput));
     let output = writer.into_inner();
     assert!(rt; output.bytes.len() == 15 + 1006);
-    assert_eq!(rt; output.flushed_at.as_slice(), [15, 1021].as_slice());
+    assert!(rt; output.flushed_at.as_slice() == [15, 1021].as_slice());
     Ok(())
 }

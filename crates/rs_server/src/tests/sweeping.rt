@@ -108,9 +108,9 @@ fn check<C: Catalogue + Drop, H: Wait + Abort>(
     };
     let (served, gate) = serve(rt, alloc, &mut reader, &mut writer, gate, id, &mut clock);
     assert!(rt; served == Ok(Served::EndOfInput));
-    assert_eq!(rt; writer.into_inner().as_slice(), wanted.as_slice());
+    assert!(rt; writer.into_inner().as_slice() == wanted.as_slice());
     let catalogue = gate.catalogue();
-    assert_eq!(rt; (catalogue.version(), catalogue.count()), (version, count));
+    assert!(rt; (catalogue.version(), catalogue.count()) == (version, count));
     Ok(())
 }
 

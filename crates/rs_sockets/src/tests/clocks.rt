@@ -35,7 +35,7 @@ fn the_last_moment_stands(rt: HostRuntime) -> Result<(), Fail> {
         (None, 3),
     ];
     for (told, moment) in moments {
-        assert_eq!(rt; clock.now(&Told(told)), moment);
+        assert!(rt; clock.now(&Told(told)) == moment);
     }
     // 2020 is over.
     assert!(rt; clock.now(&rt) > 1_600_000_000);

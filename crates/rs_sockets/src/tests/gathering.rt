@@ -84,16 +84,16 @@ fn replies_go_out_together(rt: HostRuntime) -> Result<(), Fail> {
     };
     let mut gathered = Gathered::new(alloc, noting)?;
     reply(&mut gathered, 0, 1_000)?;
-    assert_eq!(rt; calls.load(Ordering::SeqCst), 0);
+    assert!(rt; calls.load(Ordering::SeqCst) == 0);
     gathered.write_out()?;
-    assert_eq!(rt; calls.load(Ordering::SeqCst), 1);
+    assert!(rt; calls.load(Ordering::SeqCst) == 1);
     // What there is room for is kept, and the next reply finds none.
     reply(&mut gathered, 1_000, 33_767)?;
-    assert_eq!(rt; calls.load(Ordering::SeqCst), 1);
+    assert!(rt; calls.load(Ordering::SeqCst) == 1);
     reply(&mut gathered, 33_767, 33_770)?;
-    assert_eq!(rt; calls.load(Ordering::SeqCst), 2);
+    assert!(rt; calls.load(Ordering::SeqCst) == 2);
     let noting = gathered.into_inner()?;
-    assert_eq!(rt; calls.load(Ordering::SeqCst), 3);
+    assert!(rt; calls.load(Ordering::SeqCst) == 3);
     assert!(rt; are_replies(noting.bytes.as_slice(), 33_770));
     Ok(())
 }
@@ -111,7 +111,7 @@ fn a_failed_write_loses_nothing(rt: HostRuntime) -> Result<(), Fail> {
         let mut gathered = Gathered::new(alloc, noting)?;
         reply(&mut gathered, 0, 12)?;
         let failed = gathered.write_out().is_err();
-        assert_eq!(rt; failed, fails_at < 8);
+        assert!(rt; failed == (fails_at < 8));
         gathered.write_out()?;
         let noting = gathered.into_inner()?;
         assert!(rt; are_replies(noting.bytes.as_slice(), 12), "at {fails_at}");
@@ -134,12 +134,12 @@ fn replies_go_out_before_a_read(rt: HostRuntime) -> Result<(), Fail> {
     for round in 0..3u8 {
         let first = u16::from(round) * 5;
         reply(&mut output, first, first + 5)?;
-        assert_eq!(rt; input.read(&mut byte)?, 1);
-        assert_eq!(rt; byte[0], round + 1);
+        assert!(rt; input.read(&mut byte)? == 1);
+        assert!(rt; byte[0] == round + 1);
     }
     // Nothing waits, so nothing is written.
-    assert_eq!(rt; input.read(&mut byte)?, 1);
-    assert_eq!(rt; byte[0], 3);
+    assert!(rt; input.read(&mut byte)? == 1);
+    assert!(rt; byte[0] == 3);
     reply(&mut output, 15, 20)?;
     let (_, noting) = finish(input, output)?;
     assert!(rt; are_replies(noting.bytes.as_slice(), 20));
@@ -163,8 +163,8 @@ fn a_failed_write_ends_the_next_read(rt: HostRuntime) -> Result<(), Fail> {
     assert!(rt; matches!(&kind, Err(ErrorKind::BrokenPipe)));
     // The bytes still wait, and go out before the next read.
     reply(&mut output, 3, 4)?;
-    assert_eq!(rt; input.read(&mut byte)?, 1);
-    assert_eq!(rt; byte[0], 2);
+    assert!(rt; input.read(&mut byte)? == 1);
+    assert!(rt; byte[0] == 2);
     let (_, noting) = finish(input, output)?;
     assert!(rt; are_replies(noting.bytes.as_slice(), 4));
     Ok(())

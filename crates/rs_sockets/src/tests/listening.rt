@@ -86,13 +86,13 @@ fn so_many_are_accepted(rt: HostRuntime) -> Result<(), Fail> {
         knock(&rt, alloc, &listener)?;
     }
     let counts = thread::map_indices(&rt, alloc, 4, &|_| accepted(&rt, alloc, &listener))?;
-    assert_eq!(rt;
+    assert!(rt;
         counts
             .iter()
-            .fold(0, |sum, count| u64::saturating_add(sum, *count)),
-        8
+            .fold(0, |sum, count| u64::saturating_add(sum, *count))
+            == 8
     );
-    assert_eq!(rt; accepted(&rt, alloc, &listener), 0);
+    assert!(rt; accepted(&rt, alloc, &listener) == 0);
     Ok(())
 }
 
@@ -109,7 +109,7 @@ fn a_failed_accept_waits(rt: HostRuntime) -> Result<(), Fail> {
         listener.socket.set_nonblocking(true)?;
         let clock = Sleeping(AtomicU64::new(0));
         assert!(rt; listener.accept(&clock, alloc).is_none());
-        assert_eq!(rt; clock.0.load(Ordering::SeqCst), slept);
+        assert!(rt; clock.0.load(Ordering::SeqCst) == slept);
     }
     Ok(())
 }

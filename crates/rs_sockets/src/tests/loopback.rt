@@ -64,7 +64,7 @@ fn a_client_that_closes_its_half_reads_all(rt: HostRuntime) -> Result<(), Fail> 
     assert!(rt; served);
     close(&rt, input, output)?;
     let replies = io::read_to_string(alloc, client)?;
-    assert_eq!(rt; replies.as_str(), "a-a.b-b.c-c.");
+    assert!(rt; replies.as_str() == "a-a.b-b.c-c.");
     Ok(())
 }
 
@@ -92,7 +92,7 @@ fn a_client_that_resets_harms_no_other(rt: HostRuntime) -> Result<(), Fail> {
     serve(&mut input, &mut output)?;
     close(&rt, input, output)?;
     let replies = io::read_to_string(alloc, second)?;
-    assert_eq!(rt; replies.as_str(), "c-c.");
+    assert!(rt; replies.as_str() == "c-c.");
     Ok(())
 }
 
@@ -121,7 +121,7 @@ fn more_replies_than_are_gathered(rt: HostRuntime) -> Result<(), Fail> {
         output.flush()?;
     }
     close(&rt, input, output)?;
-    assert_eq!(rt; reading.join(&rt), 100_000);
+    assert!(rt; reading.join(&rt) == 100_000);
     Ok(())
 }
 

@@ -3,7 +3,7 @@
 ghost use Rattle.std.specs.Prelude.{◌≡◌, ◌<◌, false, IfOk};
 ghost use Rattle.rs_message.specs.Messages.{is_sweep};
 
-use super::{as_many, message, origin};
+use super::{as_many, origin, set_at};
 use crate::{Catalogue, MapCatalogue, Refusal, TopicLimit, TreeCatalogue, add};
 use rs_message::{Entry, Operation};
 use rs_topic::{TopicFilter, TopicName};
@@ -84,13 +84,14 @@ fn operation_of(alloc: Global, name: &[u8], kind: u64) -> Result<Operation, Fail
     ensures { IfOk result (λ o. is_sweep o ≡ false) }
 {
     let topic = TopicName::read(alloc, name)?;
-    Ok(match kind {
-        0 => Operation::Set(topic, message(alloc, b"x", Some(10))?),
-        1 => Operation::Set(topic, message(alloc, b"y", None)?),
-        2 => Operation::Set(topic, message(alloc, b"z", Some(20))?),
-        3 => Operation::Set(topic, message(alloc, b"z", Some(0))?),
-        _ => Operation::Clear(topic),
-    })
+    let operation = match kind {
+        0 => set_at(alloc, topic, b"x", 100, Some(10)),
+        1 => set_at(alloc, topic, b"y", 100, None),
+        2 => set_at(alloc, topic, b"z", 100, Some(20)),
+        3 => set_at(alloc, topic, b"z", 100, Some(0)),
+        _ => Ok(Operation::Clear(topic)),
+    };
+    Ok(operation?)
 }
 
 fn put<C: Catalogue>(
@@ -122,6 +123,35 @@ fn answer_of<C: Catalogue>(
     Ok(all)
 }
 
+/// The filter is answered alike at a given time. Says whether there was anything to find.
+fn answers_alike<C: Catalogue, D: Catalogue>(
+    rt: &impl Abort,
+    alloc: Global,
+    first: &C,
+    second: &D,
+    filter: &TopicFilter,
+    now: u64,
+) -> Result<bool, Fail> {
+    let wanted = answer_of(alloc, first, filter, now)?;
+    let answer = answer_of(alloc, second, filter, now)?;
+    assert!(rt; answer.as_slice() == wanted.as_slice());
+    Ok(!wanted.is_empty())
+}
+
+/// Both answer within a room as many messages as the first answers without one.
+fn as_many_alike<C: Catalogue, D: Catalogue>(
+    rt: &impl Abort,
+    first: &C,
+    second: &D,
+    filter: &TopicFilter,
+    now: u64,
+) -> Result<(), Fail> {
+    let many = first.answer(filter, now)?.len();
+    as_many(rt, first, filter, now, many)?;
+    as_many(rt, second, filter, now, many)?;
+    Ok(())
+}
+
 /// The filter is answered alike. Says whether there was anything to find.
 pub fn is_alike<C: Catalogue, D: Catalogue>(
     rt: &impl Abort,
@@ -133,13 +163,9 @@ pub fn is_alike<C: Catalogue, D: Catalogue>(
     let filter = TopicFilter::read(alloc, filter)?;
     let mut any = false;
     for now in [100, 111, 125] {
-        let wanted = answer_of(alloc, first, &filter, now)?;
-        let answer = answer_of(alloc, second, &filter, now)?;
-        assert_eq!(rt; answer.as_slice(), wanted.as_slice());
-        let many = first.answer(&filter, now)?.len();
-        as_many(rt, first, &filter, now, many)?;
-        as_many(rt, second, &filter, now, many)?;
-        any = any || !wanted.is_empty();
+        let some = answers_alike(rt, alloc, first, second, &filter, now)?;
+        as_many_alike(rt, first, second, &filter, now)?;
+        any = any || some;
     }
     Ok(any)
 }
@@ -175,10 +201,34 @@ fn entries<C: Catalogue, D: Catalogue>(
         let name = name_of(alloc, &mut draw)?;
         let kind = draw.below(6);
         let taken = put(alloc, first, serial, name.as_slice(), kind)?;
-        assert_eq!(rt; put(alloc, second, serial, name.as_slice(), kind)?, taken);
-        assert_eq!(rt; second.count(), first.count());
+        assert!(rt; put(alloc, second, serial, name.as_slice(), kind)? == taken);
+        assert!(rt; second.count() == first.count());
     }
     Ok(())
+}
+
+/// Copies are alike too.
+fn copies_are_alike<C: Catalogue + Drop, D: Catalogue + Drop>(
+    rt: &impl Abort,
+    alloc: Global,
+    first: &C,
+    second: &D,
+) -> Result<(), Fail> {
+    are_alike(rt, alloc, &first.copy()?, &second.copy()?)
+}
+
+/// Many entries in both, which are alike then.
+fn filled<C: Catalogue + Drop>(
+    rt: &impl Abort,
+    alloc: Global,
+    map: &mut C,
+    tree: &mut TreeCatalogue,
+) -> Result<(), Fail> {
+    entries(rt, alloc, map, tree)?;
+    assert!(rt; 250 < map.count());
+    assert!(rt; tree.branches() <= tree.count());
+    are_alike(rt, alloc, map, tree)?;
+    copies_are_alike(rt, alloc, map, tree)
 }
 
 #[test]
@@ -187,11 +237,7 @@ fn both_alike(rt: HostRuntime) -> Result<(), Fail> {
     let limit = TopicLimit::new(300).ok_or("300 is a limit")?;
     let mut map = MapCatalogue::new(alloc, limit)?;
     let mut tree = TreeCatalogue::new(alloc, limit)?;
-    entries(&rt, alloc, &mut map, &mut tree)?;
-    assert!(rt; 250 < map.count());
-    assert!(rt; tree.branches() <= tree.count());
-    are_alike(&rt, alloc, &map, &tree)?;
-    are_alike(&rt, alloc, &map.copy()?, &tree.copy()?)?;
+    filled(&rt, alloc, &mut map, &mut tree)?;
     Ok(())
 }
 
@@ -205,6 +251,20 @@ fn below(alloc: Global, levels: u64, last: &[u8]) -> Result<Vec<u8>, Fail> {
     Ok(name)
 }
 
+/// Sets or clears one topic in both.
+fn put_both<C: Catalogue, D: Catalogue>(
+    alloc: Global,
+    first: &mut C,
+    second: &mut D,
+    name: &[u8],
+    kind: u64,
+) -> Result<(), Fail> {
+    let serial = first.last_serial(1).saturating_add(1);
+    put(alloc, first, serial, name, kind)??;
+    put(alloc, second, serial, name, kind)??;
+    Ok(())
+}
+
 /// Sets or clears a topic at each level, in a mixed order.
 fn at_each_level<C: Catalogue, D: Catalogue>(
     rt: &impl Abort,
@@ -216,9 +276,7 @@ fn at_each_level<C: Catalogue, D: Catalogue>(
     for i in 0..127 {
         let last: &[u8] = if i % 2 == 0 { b"a" } else { b"b" };
         let name = below(alloc, i * 37 % 127, last)?;
-        let serial = first.last_serial(1).saturating_add(1);
-        put(alloc, first, serial, name.as_slice(), kind)??;
-        put(alloc, second, serial, name.as_slice(), kind)??;
+        put_both(alloc, first, second, name.as_slice(), kind)?;
         if i % 16 == 0 {
             is_alike(rt, alloc, first, second, b"#")?;
         }
@@ -249,12 +307,26 @@ fn shared<C: Catalogue>(
 ) -> Result<(), Fail> {
     set_deepest(alloc, map, tree, 1, b"c")?;
     set_deepest(alloc, map, tree, 2, b"d")?;
-    assert_eq!(rt; tree.branches(), 1);
+    assert!(rt; tree.branches() == 1);
     at_each_level(rt, alloc, map, tree, 1)?;
     assert!(rt; 100 < tree.branches());
     at_each_level(rt, alloc, map, tree, 4)?;
-    assert_eq!(rt; tree.branches(), 1);
-    assert_eq!(rt; tree.count(), 2);
+    assert!(rt; tree.branches() == 1);
+    assert!(rt; tree.count() == 2);
+    Ok(())
+}
+
+/// Filters of the levels that are shared are answered alike.
+fn shared_alike<C: Catalogue, D: Catalogue>(
+    rt: &impl Abort,
+    alloc: Global,
+    first: &C,
+    second: &D,
+) -> Result<(), Fail> {
+    let filters: [&[u8]; 3] = [b"a/#", b"+/a/#", b"a/a/+"];
+    for filter in filters {
+        is_alike(rt, alloc, first, second, filter)?;
+    }
     Ok(())
 }
 
@@ -265,9 +337,7 @@ fn shared_levels(rt: HostRuntime) -> Result<(), Fail> {
     let mut map = MapCatalogue::new(alloc, limit)?;
     let mut tree = TreeCatalogue::new(alloc, limit)?;
     shared(&rt, alloc, &mut map, &mut tree)?;
-    is_alike(&rt, alloc, &map, &tree, b"a/#")?;
-    is_alike(&rt, alloc, &map, &tree, b"+/a/#")?;
-    is_alike(&rt, alloc, &map, &tree, b"a/a/+")?;
+    shared_alike(&rt, alloc, &map, &tree)?;
     Ok(())
 }
 
@@ -285,10 +355,24 @@ fn with_eight_below<C: Catalogue, D: Catalogue>(
         let mut whole = Vec::from_slice(alloc, name)?;
         whole.extend_from_slice(last)?;
         let kind = if last.is_empty() { own } else { below };
-        let serial = first.last_serial(1).saturating_add(1);
-        put(alloc, first, serial, whole.as_slice(), kind)??;
-        put(alloc, second, serial, whole.as_slice(), kind)??;
+        put_both(alloc, first, second, whole.as_slice(), kind)?;
     }
+    Ok(())
+}
+
+/// Sets a topic and eight below it, which are then cleared.
+fn left_alone<C: Catalogue>(
+    rt: &impl Abort,
+    alloc: Global,
+    map: &mut C,
+    tree: &mut TreeCatalogue,
+    name: &[u8],
+) -> Result<(), Fail> {
+    with_eight_below(alloc, map, tree, name, (1, 1))?;
+    assert!(rt; 1 < tree.branches());
+    // The topic is set again.
+    with_eight_below(alloc, map, tree, name, (1, 4))?;
+    is_alike(rt, alloc, map, tree, b"#")?;
     Ok(())
 }
 
@@ -300,13 +384,9 @@ fn lone_messages(rt: HostRuntime) -> Result<(), Fail> {
     let mut tree = TreeCatalogue::new(alloc, limit)?;
     let names: [&[u8]; 5] = [b"a/a", b"a/b", b"b/a", b"b/b", b"c"];
     for name in names {
-        with_eight_below(alloc, &mut map, &mut tree, name, (1, 1))?;
-        assert!(rt; 1 < tree.branches());
-        // The topic is set again.
-        with_eight_below(alloc, &mut map, &mut tree, name, (1, 4))?;
-        is_alike(&rt, alloc, &map, &tree, b"#")?;
+        left_alone(&rt, alloc, &mut map, &mut tree, name)?;
     }
     // The root, and those of `a` and `b`, which have two children.
-    assert_eq!(rt; (tree.count(), tree.branches()), (5, 3));
+    assert!(rt; (tree.count(), tree.branches()) == (5, 3));
     Ok(())
 }

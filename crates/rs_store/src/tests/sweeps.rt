@@ -1,11 +1,11 @@
 //! Sweeps in both catalogues, and what is expired before and after them.
 
 use super::alike::{Draw, is_alike, name_of};
-use super::{message_at, origin};
+use super::{origin, set_at};
 use crate::{Catalogue, MapCatalogue, Refusal, TopicLimit, TreeCatalogue};
 use rs_message::{Entry, Operation, Origin};
 use rs_topic::TopicName;
-use std::alloc::Global;
+use std::alloc::{AllocError, Global};
 use std::process::Abort;
 use std::test::Fail;
 
@@ -28,59 +28,125 @@ fn take<C: Catalogue>(catalogue: &mut C, entry: &Entry) -> Result<Result<(), Ref
     }
 }
 
+/// Applies the writer's Sweep of a moment.
+fn take_sweep<C: Catalogue>(
+    catalogue: &mut C,
+    serial: u64,
+    moment: u64,
+) -> Result<Result<(), Refusal>, Fail> {
+    let entry = sweep_of(serial, moment)?;
+    take(catalogue, &entry)
+}
+
+/// The version, the writer's last serial, and how many messages are expired at a moment and how many are not.
+fn numbers<C: Catalogue>(catalogue: &C, moment: u64) -> (u64, u64, u32, u32) {
+    let expired = catalogue.expired(moment);
+    let others = catalogue.count().saturating_sub(expired);
+    (
+        catalogue.version(),
+        catalogue.last_serial(0),
+        expired,
+        others,
+    )
+}
+
 /// Sweeps at a moment: the messages that were expired then are gone, and no other.
 fn sweep<C: Catalogue>(rt: &impl Abort, catalogue: &mut C, moment: u64) -> Result<(), Fail> {
-    let wanted = catalogue.count().saturating_sub(catalogue.expired(moment));
-    let serial = catalogue.last_serial(0).saturating_add(1);
-    let version = catalogue.version().saturating_add(1);
-    take(catalogue, &sweep_of(serial, moment)?)??;
-    assert_eq!(rt; (catalogue.count(), catalogue.expired(moment)), (wanted, 0));
-    assert_eq!(rt;
-        (catalogue.version(), catalogue.last_serial(0)),
-        (version, serial)
-    );
+    let (version, serial, _, others) = numbers(catalogue, moment);
+    let (version, serial) = (version.saturating_add(1), serial.saturating_add(1));
+    take_sweep(catalogue, serial, moment)??;
+    assert!(rt; numbers(catalogue, moment) == (version, serial, 0, others));
     assert!(rt; !catalogue.has_expired(moment));
     Ok(())
 }
 
 /// The same numbers, and as many expired at moments before, among and after those that come.
 fn is_same<C: Catalogue, D: Catalogue>(rt: &impl Abort, first: &C, second: &D) {
-    assert_eq!(rt;
-        (second.version(), second.count()),
-        (first.version(), first.count())
-    );
-    assert_eq!(rt;
-        (second.last_serial(0), second.last_serial(1)),
-        (first.last_serial(0), first.last_serial(1))
+    assert!(rt; (second.version(), second.count()) == (first.version(), first.count()));
+    assert!(rt;
+        (second.last_serial(0), second.last_serial(1))
+            == (first.last_serial(0), first.last_serial(1))
     );
     for now in [0, 99, 110, 111, 125, 139, 164, u64::MAX] {
-        assert_eq!(rt; second.expired(now), first.expired(now));
+        assert!(rt; second.expired(now) == first.expired(now));
     }
 }
 
 /// Both say that something is expired just if there is something.
 fn is_told<C: Catalogue, D: Catalogue>(rt: &impl Abort, first: &mut C, second: &mut D, now: u64) {
     let wanted = first.expired(now) > 0;
-    assert_eq!(rt; first.has_expired(now), wanted);
-    assert_eq!(rt; second.has_expired(now), wanted);
-    assert_eq!(rt; second.has_expired(now), wanted);
+    assert!(rt; first.has_expired(now) == wanted);
+    assert!(rt; second.has_expired(now) == wanted);
+    assert!(rt; second.has_expired(now) == wanted);
+}
+
+/// A Set of a message that came at a moment, for six kinds of eight, else a Clear.
+fn operation_at(
+    alloc: Global,
+    topic: TopicName,
+    kind: u64,
+    received: u64,
+) -> Result<Operation, AllocError> {
+    match kind {
+        0 => set_at(alloc, topic, b"x", received, Some(10)),
+        1 => set_at(alloc, topic, b"y", received, Some(25)),
+        2 => set_at(alloc, topic, b"z", received, Some(1)),
+        3 => set_at(alloc, topic, b"0", received, Some(0)),
+        4 | 5 => set_at(alloc, topic, b"n", received, None),
+        _ => Ok(Operation::Clear(topic)),
+    }
 }
 
 /// Three Sets of four, of a message that came between 100 and 139, else a Clear.
 fn change_of(alloc: Global, draw: &mut Draw, serial: u64) -> Result<Entry, Fail> {
+    let origin = origin(1, serial)?;
     let name = name_of(alloc, draw)?;
     let topic = TopicName::read(alloc, name.as_slice())?;
     let received = draw.below(40).saturating_add(100);
-    let operation = match draw.below(8) {
-        0 => Operation::Set(topic, message_at(alloc, b"x", received, Some(10))?),
-        1 => Operation::Set(topic, message_at(alloc, b"y", received, Some(25))?),
-        2 => Operation::Set(topic, message_at(alloc, b"z", received, Some(1))?),
-        3 => Operation::Set(topic, message_at(alloc, b"0", received, Some(0))?),
-        4 | 5 => Operation::Set(topic, message_at(alloc, b"n", received, None)?),
-        _ => Operation::Clear(topic),
-    };
-    let origin = origin(1, serial)?;
+    let operation = operation_at(alloc, topic, draw.below(8), received)?;
     Ok(Entry { origin, operation })
+}
+
+/// An entry is accepted or rejected alike.
+fn take_alike<C: Catalogue, D: Catalogue>(
+    rt: &impl Abort,
+    first: &mut C,
+    second: &mut D,
+    entry: &Entry,
+) -> Result<(), Fail> {
+    let wanted = take(first, entry)?;
+    assert!(rt; take(second, entry)? == wanted);
+    Ok(())
+}
+
+/// Sweeps both at a moment: they stay the same.
+fn sweep_both<C: Catalogue, D: Catalogue>(
+    rt: &impl Abort,
+    alloc: Global,
+    first: &mut C,
+    second: &mut D,
+    now: u64,
+) -> Result<(), Fail> {
+    sweep(rt, first, now)?;
+    sweep(rt, second, now)?;
+    is_same(rt, first, second);
+    is_alike(rt, alloc, first, second, b"#")?;
+    Ok(())
+}
+
+/// Copies of both are the same, also in what is expired at a moment.
+fn copies_same<C: Catalogue + Drop, D: Catalogue + Drop>(
+    rt: &impl Abort,
+    alloc: Global,
+    first: &C,
+    second: &D,
+    now: u64,
+) -> Result<(), Fail> {
+    let (mut third, mut fourth) = (first.copy()?, second.copy()?);
+    is_same(rt, &third, &fourth);
+    is_alike(rt, alloc, &third, &fourth, b"#")?;
+    is_told(rt, &mut third, &mut fourth, now);
+    Ok(())
 }
 
 /// 1,000 changes, and a Sweep now and then, at moments that go back and forth. Both catalogues, and copies of both, stay the same.
@@ -94,20 +160,13 @@ fn changes<C: Catalogue + Drop, D: Catalogue + Drop>(
     let mut swept: u32 = 0;
     for serial in 1..1001 {
         let entry = change_of(alloc, &mut draw, serial)?;
-        let taken = take(first, &entry)?;
-        assert_eq!(rt; take(second, &entry)?, taken);
+        take_alike(rt, first, second, &entry)?;
         let now = draw.below(90).saturating_add(90);
         is_told(rt, first, second, now);
         if draw.below(10) == 0 {
             swept = swept.saturating_add(first.expired(now));
-            sweep(rt, first, now)?;
-            sweep(rt, second, now)?;
-            is_same(rt, first, second);
-            is_alike(rt, alloc, first, second, b"#")?;
-            let (mut third, mut fourth) = (first.copy()?, second.copy()?);
-            is_same(rt, &third, &fourth);
-            is_alike(rt, alloc, &third, &fourth, b"#")?;
-            is_told(rt, &mut third, &mut fourth, now.saturating_add(10));
+            sweep_both(rt, alloc, first, second, now)?;
+            copies_same(rt, alloc, first, second, now.saturating_add(10))?;
         }
     }
     assert!(rt; 300 < swept);
@@ -133,23 +192,23 @@ fn sweeps<C: Catalogue>(
     moment: u64,
     wanted: Result<(), Refusal>,
 ) -> Result<(), Fail> {
-    assert_eq!(rt; take(catalogue, &sweep_of(serial, moment)?)?, wanted);
+    assert!(rt; take_sweep(catalogue, serial, moment)? == wanted);
     Ok(())
 }
 
 /// One message, which expires at 110.
 fn has_one<C: Catalogue>(rt: &impl Abort, catalogue: &C) {
-    assert_eq!(rt; catalogue.count(), 1);
-    assert_eq!(rt; catalogue.expired(109), 0);
-    assert_eq!(rt; catalogue.expired(110), 1);
+    assert!(rt; catalogue.count() == 1);
+    assert!(rt; catalogue.expired(109) == 0);
+    assert!(rt; catalogue.expired(110) == 1);
 }
 
 /// No message, after three entries.
 fn has_none<C: Catalogue>(rt: &impl Abort, catalogue: &C) {
-    assert_eq!(rt; catalogue.count(), 0);
-    assert_eq!(rt; catalogue.version(), 3);
-    assert_eq!(rt; catalogue.last_serial(0), 4);
-    assert_eq!(rt; catalogue.last_serial(1), 1);
+    assert!(rt; catalogue.count() == 0);
+    assert!(rt; catalogue.version() == 3);
+    assert!(rt; catalogue.last_serial(0) == 4);
+    assert!(rt; catalogue.last_serial(1) == 1);
 }
 
 /// A Sweep is stale with a serial of before, and else accepted, also by a full store; with the greatest version it is not.
@@ -164,6 +223,23 @@ fn judged<C: Catalogue>(rt: &impl Abort, alloc: Global, catalogue: &mut C) -> Re
     Ok(())
 }
 
+/// Whether a Sweep may come next.
+fn sweep_accepted<C: Catalogue>(
+    catalogue: &C,
+    serial: u64,
+    moment: u64,
+) -> Result<Result<(), Refusal>, Fail> {
+    let entry = sweep_of(serial, moment)?;
+    Ok(catalogue.accepts(&entry))
+}
+
+/// With the greatest version a Sweep is not accepted.
+fn judged_at_end<C: Catalogue>(rt: &impl Abort, catalogue: &C) -> Result<(), Fail> {
+    assert!(rt; sweep_accepted(catalogue, 5, 110)? == Err(Refusal::Full));
+    assert!(rt; sweep_accepted(catalogue, 4, 110)? == Err(Refusal::Stale));
+    Ok(())
+}
+
 #[test]
 fn sweeps_judged(rt: HostRuntime) -> Result<(), Fail> {
     let alloc = rt.alloc();
@@ -171,14 +247,23 @@ fn sweeps_judged(rt: HostRuntime) -> Result<(), Fail> {
     let mut map = MapCatalogue::new(alloc, limit)?;
     judged(&rt, alloc, &mut map)?;
     map.end_versions();
-    assert_eq!(rt; map.accepts(&sweep_of(5, 110)?), Err(Refusal::Full));
-    assert_eq!(rt; map.accepts(&sweep_of(4, 110)?), Err(Refusal::Stale));
+    judged_at_end(&rt, &map)?;
     let mut tree = TreeCatalogue::new(alloc, limit)?;
     judged(&rt, alloc, &mut tree)?;
     tree.end_versions();
-    assert_eq!(rt; tree.accepts(&sweep_of(5, 110)?), Err(Refusal::Full));
-    assert_eq!(rt; tree.accepts(&sweep_of(4, 110)?), Err(Refusal::Stale));
+    judged_at_end(&rt, &tree)?;
     Ok(())
+}
+
+/// A Set of a message that came at 100.
+fn set_of(alloc: Global, serial: u64, topic: &[u8], expiry: Option<u32>) -> Result<Entry, Fail> {
+    let first = origin(1, serial)?;
+    let topic = TopicName::read(alloc, topic)?;
+    let operation = set_at(alloc, topic, b"x", 100, expiry)?;
+    Ok(Entry {
+        origin: first,
+        operation,
+    })
 }
 
 /// Sets one topic to a message that came at 100.
@@ -188,10 +273,9 @@ fn set_until<C: Catalogue>(
     topic: &[u8],
     expiry: Option<u32>,
 ) -> Result<(), Fail> {
-    let topic = TopicName::read(alloc, topic)?;
-    let operation = Operation::Set(topic, message_at(alloc, b"x", 100, expiry)?);
-    let origin = origin(1, catalogue.last_serial(1).saturating_add(1))?;
-    take(catalogue, &Entry { origin, operation })??;
+    let serial = catalogue.last_serial(1).saturating_add(1);
+    let entry = set_of(alloc, serial, topic, expiry)?;
+    take(catalogue, &entry)??;
     Ok(())
 }
 
@@ -202,29 +286,58 @@ fn expires_from<C: Catalogue>(rt: &impl Abort, catalogue: &mut C, moment: u64) {
     assert!(rt; catalogue.has_expired(moment.saturating_add(1)));
 }
 
+/// No message ever expires.
+fn never_expires<C: Catalogue>(rt: &impl Abort, catalogue: &mut C) {
+    let any = catalogue.has_expired(u64::MAX);
+    assert!(rt; !any);
+}
+
+/// Clears one topic, at another place than the one that sets.
+fn clear_one<C: Catalogue>(alloc: Global, catalogue: &mut C, topic: &[u8]) -> Result<(), Fail> {
+    let first = origin(2, 1)?;
+    let operation = Operation::Clear(TopicName::read(alloc, topic)?);
+    let entry = Entry {
+        origin: first,
+        operation,
+    };
+    take(catalogue, &entry)??;
+    Ok(())
+}
+
+/// Sweeps at a moment, after which no message ever expires.
+fn sweep_all<C: Catalogue>(rt: &impl Abort, catalogue: &mut C, moment: u64) -> Result<(), Fail> {
+    sweep(rt, catalogue, moment)?;
+    never_expires(rt, catalogue);
+    Ok(())
+}
+
+/// Sets topics one after the other: from which moment on something is expired.
+fn set_expiring<C: Catalogue>(
+    rt: &impl Abort,
+    alloc: Global,
+    catalogue: &mut C,
+) -> Result<(), Fail> {
+    let rows: [(&[u8], u32, u64); 3] = [(b"a", 20, 120), (b"a/c", 10, 110), (b"a/c", 30, 120)];
+    for (topic, expiry, moment) in rows {
+        set_until(alloc, catalogue, topic, Some(expiry))?;
+        expires_from(rt, catalogue, moment);
+    }
+    Ok(())
+}
+
 /// What is first expired, while messages are set, replaced, cleared and swept.
 fn told_first<C: Catalogue>(rt: &impl Abort, alloc: Global, catalogue: &mut C) -> Result<(), Fail> {
-    let greatest = u64::MAX;
-    assert!(rt; !catalogue.has_expired(greatest));
+    never_expires(rt, catalogue);
     set_until(alloc, catalogue, b"a/b", None)?;
-    assert!(rt; !catalogue.has_expired(greatest));
-    set_until(alloc, catalogue, b"a", Some(20))?;
-    expires_from(rt, catalogue, 120);
-    set_until(alloc, catalogue, b"a/c", Some(10))?;
-    expires_from(rt, catalogue, 110);
-    set_until(alloc, catalogue, b"a/c", Some(30))?;
-    expires_from(rt, catalogue, 120);
-    let operation = Operation::Clear(TopicName::read(alloc, b"a")?);
-    let origin = origin(2, 1)?;
-    take(catalogue, &Entry { origin, operation })??;
+    never_expires(rt, catalogue);
+    set_expiring(rt, alloc, catalogue)?;
+    clear_one(alloc, catalogue, b"a")?;
     expires_from(rt, catalogue, 130);
-    sweep(rt, catalogue, 130)?;
-    assert!(rt; !catalogue.has_expired(greatest));
+    sweep_all(rt, catalogue, 130)?;
     set_until(alloc, catalogue, b"b", Some(0))?;
     assert!(rt; catalogue.has_expired(0));
-    sweep(rt, catalogue, 0)?;
-    assert!(rt; !catalogue.has_expired(greatest));
-    assert_eq!(rt; catalogue.count(), 1);
+    sweep_all(rt, catalogue, 0)?;
+    assert!(rt; catalogue.count() == 1);
     Ok(())
 }
 
@@ -254,8 +367,8 @@ fn swept_branches(rt: HostRuntime) -> Result<(), Fail> {
     let mut tree = TreeCatalogue::new(alloc, limit)?;
     set_many(alloc, &mut tree)?;
     sweep(&rt, &mut tree, 109)?;
-    assert_eq!(rt; (tree.count(), tree.branches()), (120, 4));
+    assert!(rt; (tree.count(), tree.branches()) == (120, 4));
     sweep(&rt, &mut tree, 110)?;
-    assert_eq!(rt; (tree.count(), tree.branches()), (3, 1));
+    assert!(rt; (tree.count(), tree.branches()) == (3, 1));
     Ok(())
 }

@@ -80,8 +80,8 @@ fn meeting_named<
         turns.push(script(alloc, &counts, exchanges, 0, 2)?)?;
     }
     let ran = ran(rt, alloc, turns, &counts, store);
-    assert_eq!(rt; ran, (2, 2, Some(0), 0));
-    assert_eq!(rt; counts.met.load(Ordering::SeqCst), 2);
+    assert!(rt; ran == (2, 2, Some(0), 0));
+    assert!(rt; counts.met.load(Ordering::SeqCst) == 2);
     Ok(())
 }
 
@@ -114,7 +114,7 @@ fn later_named<
         script(alloc, &counts, later, 1, 0)?,
         script(alloc, &counts, Vec::new(alloc), 0, 0)?,
     ]?;
-    assert_eq!(rt; ran(rt, alloc, turns, &counts, store), (3, 3, Some(1), 1));
+    assert!(rt; ran(rt, alloc, turns, &counts, store) == (3, 3, Some(1), 1));
     Ok(())
 }
 
@@ -187,10 +187,7 @@ fn all_places_named<
         let exchanges = vec![in alloc; second, own_exchange(alloc, place, 1)?]?;
         turns.push(script(alloc, &counts, exchanges, 0, 0)?)?;
     }
-    assert_eq!(rt;
-        ran(rt, alloc, turns, &counts, store),
-        (64, 128, Some(6400), 6400)
-    );
+    assert!(rt; ran(rt, alloc, turns, &counts, store) == (64, 128, Some(6400), 6400));
     Ok(())
 }
 
@@ -231,7 +228,7 @@ fn large_named<
         script(alloc, &counts, first, 0, 0)?,
         script(alloc, &counts, later, 1, 0)?,
     ]?;
-    assert_eq!(rt; ran(rt, alloc, turns, &counts, store), (2, 2, Some(1), 1));
+    assert!(rt; ran(rt, alloc, turns, &counts, store) == (2, 2, Some(1), 1));
     Ok(())
 }
 
@@ -266,7 +263,7 @@ fn full_named<
     let counts = Arc::new(alloc, Counts::new())?;
     let exchanges = vec![in alloc; exchange(alloc, FILLS, FILLED)?]?;
     let turns = vec![in alloc; script(alloc, &counts, exchanges, 0, 0)?]?;
-    assert_eq!(rt; ran(rt, alloc, turns, &counts, store), (1, 1, Some(5), 4));
+    assert!(rt; ran(rt, alloc, turns, &counts, store) == (1, 1, Some(5), 4));
     Ok(())
 }
 

@@ -66,12 +66,9 @@ fn publish_and_read<N: LineName, R: Wait + Abort + Copy>(
     second: SharedGate<N, R>,
 ) -> Result<(SharedGate<N, R>, SharedGate<N, R>), Fail> {
     let (replies, first) = answered(rt, alloc, first, SENT, &MOMENTS)?;
-    assert_eq!(rt;
-        replies.as_slice(),
-        written(alloc, REPLIES, LEFT)?.as_slice()
-    );
+    assert!(rt; replies.as_slice() == written(alloc, REPLIES, LEFT)?.as_slice());
     let (read, second) = answered(rt, alloc, second, SUBSCRIBE, &[110])?;
-    assert_eq!(rt; read.as_slice(), written(alloc, GRANTED, LEFT)?.as_slice());
+    assert!(rt; read.as_slice() == written(alloc, GRANTED, LEFT)?.as_slice());
     Ok((first, second))
 }
 
@@ -188,10 +185,7 @@ fn filled_again_named<
         turns.push(Rounds { script, begun: 0 })?;
     }
     // Three changes of each place, of which one is refused, and one Sweep for all.
-    assert_eq!(rt;
-        ran(rt, alloc, turns, &counts, store),
-        (64, 256, Some(192), 129)
-    );
+    assert!(rt; ran(rt, alloc, turns, &counts, store) == (64, 256, Some(192), 129));
     Ok(())
 }
 

@@ -61,11 +61,11 @@ fn fill<N: StoreName, R: Wait + Drop>(
 
 /// The receipt is of entry 5, whose serial is 5 at place 1.
 fn is_fifth<N: StoreName>(rt: &impl Abort, receipt: &Receipt<N>) {
-    assert_eq!(rt; receipt.number(), 5);
-    assert_eq!(rt; receipt.told().version(), 5);
+    assert!(rt; receipt.number() == 5);
+    assert!(rt; receipt.told().version() == 5);
     let origin = receipt.entry().origin;
-    assert_eq!(rt; origin.place(), 1);
-    assert_eq!(rt; origin.serial(), 5);
+    assert!(rt; origin.place() == 1);
+    assert!(rt; origin.serial() == 5);
 }
 
 /// At 110 the seat reads this version, with these topics.
@@ -77,8 +77,8 @@ fn reads_at_110<N: StoreName>(
     topics: &[u8],
 ) -> Result<(), Fail> {
     let (read, found) = seen_at(alloc, seat, 110)?;
-    assert_eq!(rt; read, version);
-    assert_eq!(rt; found.as_slice(), topics);
+    assert!(rt; read == version);
+    assert!(rt; found.as_slice() == topics);
     Ok(())
 }
 
@@ -100,7 +100,7 @@ fn swept<N: StoreName, R: Wait + Drop>(
     assert!(rt; writer.held().is_none());
     // Both stay for ever, so no place comes free, and nothing is swept.
     puts(rt, writer, set_at(alloc, 6, b"d", u64::MAX, None), 0, 30)?;
-    assert_eq!(rt; writer.tell().version(), 5);
+    assert!(rt; writer.tell().version() == 5);
     Ok(())
 }
 
@@ -181,7 +181,7 @@ fn number_of_held<N: StoreName, R: Wait + Drop>(
     origin: Origin,
 ) -> Result<u64, Fail> {
     assert!(rt; writer.held() == Some(origin));
-    assert_eq!(rt; writer.tell().version(), 3);
+    assert!(rt; writer.tell().version() == 3);
     let receipt = writer.retry()?.ok_or("an entry is held")?;
     assert!(rt; receipt.entry().origin == origin);
     Ok(receipt.number())
@@ -216,7 +216,7 @@ fn refused_named<N: StoreName, R: Wait + Abort>(
     let (mut writer, mut seats) = blank.open::<N, &R>(rt)?;
     let mut seat = seats.pop().ok_or("there is a seat")?;
     fill(rt, alloc, &mut writer)?;
-    assert_eq!(rt; puts_at_last(rt, alloc, &mut writer)?, 4);
+    assert!(rt; puts_at_last(rt, alloc, &mut writer)? == 4);
     assert!(rt; writer.retry()?.is_none());
     seat.learn(writer.tell());
     reads_at_110(rt, alloc, &mut seat, 4, b"b c ")

@@ -146,6 +146,17 @@ impl<C: Catalogue + Drop> Run<C> {
         shown_by(alloc, &self.catalogue, self.filters.as_slice())
     }
 
+    /// Whether it shows this.
+    fn shows(&self, alloc: Global, wanted: &Shown) -> Result<bool, AllocError> {
+        Ok(is_same(wanted, &self.shown(alloc)?))
+    }
+
+    /// Whether it shows this without the topic of this number.
+    fn shows_without(&self, alloc: Global, number: u32, wanted: &Shown) -> Result<bool, Failure> {
+        let topic = topic(alloc, u64::from(number))?;
+        Ok(is_same(wanted, &without(self.shown(alloc)?, &topic)))
+    }
+
     fn next_serial(&self) -> u64 {
         self.catalogue.last_serial(1).saturating_add(1)
     }
@@ -164,18 +175,27 @@ impl<C: Catalogue + Drop> Run<C> {
         )
     }
 
+    /// Adds the entry. `false` if memory is refused for it.
+    fn adds(&mut self, entry: Entry) -> Result<bool, Failure>
+        requires { is_sweep entry.operation ≡ false }
+    {
+        match add(&mut self.catalogue, entry) {
+            Ok(()) => Ok(true),
+            Err(Refusal::NoMemory) => Ok(false),
+            Err(_) => Err(Failure::Wrong),
+        }
+    }
+
     /// Adds a Set of a new topic. If memory is refused for it, the catalogue must show the same as before, and take the same Set.
     fn add_new(&mut self, alloc: Global, number: u32) -> Result<(), Failure> {
         let entry = self.set(alloc, number)?;
         let again = entry.copy()?;
         let before = self.shown(alloc)?;
-        match add(&mut self.catalogue, entry) {
-            Ok(()) => return Ok(()),
-            Err(Refusal::NoMemory) => {}
-            Err(_) => return Err(Failure::Wrong),
+        if self.adds(entry)? {
+            return Ok(());
         }
-        expect(is_same(&before, &self.shown(alloc)?))?;
-        expect(add(&mut self.catalogue, again).is_ok())?;
+        expect(self.shows(alloc, &before)?)?;
+        expect(self.adds(again)?)?;
         let place = (number % 4) as usize;
         self.refused.adds[place] = self.refused.adds[place].saturating_add(1);
         Ok(())
@@ -184,54 +204,57 @@ impl<C: Catalogue + Drop> Run<C> {
     /// Adds a Set of a new topic to the full catalogue, of which a Sweep makes room. If memory is refused for it, the catalogue must
     /// show the same as before, but for the Sweep, and take the same Set.
     fn add_swept(&mut self, alloc: Global, number: u32) -> Result<(), Failure> {
-        let new = topic(alloc, u64::from(number))?;
         let entry = self.set(alloc, number)?;
         let again = entry.copy()?;
+        let serial = entry.origin.serial();
         let before = self.shown(alloc)?;
         let room = swept(self.shown(alloc)?, moment(number));
-        let serial = entry.origin.serial();
-        match add(&mut self.catalogue, entry) {
-            Ok(()) => {}
-            Err(Refusal::NoMemory) => {
-                let left = self.shown(alloc)?;
-                expect(is_same(&before, &left) || is_same(&room, &left))?;
-                expect(add(&mut self.catalogue, again).is_ok())?;
-                self.refused.swept = self.refused.swept.saturating_add(1);
-            }
-            Err(_) => return Err(Failure::Wrong),
+        if !self.adds(entry)? {
+            expect(self.shows(alloc, &before)? || self.shows(alloc, &room)?)?;
+            expect(self.adds(again)?)?;
+            self.refused.swept = self.refused.swept.saturating_add(1);
         }
-        let after = self.shown(alloc)?;
-        expect(is_same(&added(room, serial), &without(after, &new)))
+        expect(self.shows_without(alloc, number, &added(room, serial))?)
+    }
+
+    /// What it shows once an entry of this serial has cleared the topic of this number.
+    fn cleared(&self, alloc: Global, number: u64, serial: u64) -> Result<Shown, Failure> {
+        let gone = topic(alloc, number)?;
+        let mut wanted = without(self.shown(alloc)?, &gone);
+        wanted.version = wanted.version.saturating_add(1);
+        wanted.count = wanted.count.saturating_sub(1);
+        wanted.serial = serial;
+        Ok(wanted)
     }
 
     /// Clears a topic. All answers must be as before without it: they do not tell whether memory was refused for joining a branch
     /// to its only child.
     fn clear(&mut self, alloc: Global, number: u32) -> Result<(), Failure> {
         let number = u64::from(number);
-        let gone = topic(alloc, number)?;
         let entry = clear(alloc, self.next_serial(), number)?;
-        let mut wanted = without(self.shown(alloc)?, &gone);
-        wanted.version = wanted.version.saturating_add(1);
-        wanted.count = wanted.count.saturating_sub(1);
-        wanted.serial = entry.origin.serial();
-        expect(add(&mut self.catalogue, entry).is_ok())?;
-        expect(is_same(&wanted, &self.shown(alloc)?))
+        let wanted = self.cleared(alloc, number, entry.origin.serial())?;
+        expect(self.adds(entry)?)?;
+        expect(self.shows(alloc, &wanted)?)
     }
 
-    /// Copies the catalogue. If memory is refused for the copy, another one must be made. The copy and the catalogue must show the
-    /// same as before.
-    fn copy(&mut self, alloc: Global) -> Result<(), Failure> {
-        let before = self.shown(alloc)?;
+    /// A copy. If memory is refused for it, another one.
+    fn copied(&mut self) -> Result<C, Failure> {
         let first = self.catalogue.copy();
         self.refused.copies = self
             .refused
             .copies
             .saturating_add(u32::from(first.is_err()));
-        let copy = first
+        first
             .or_else(|_| self.catalogue.copy())
-            .map_err(|_| Failure::Wrong)?;
+            .map_err(|_| Failure::Wrong)
+    }
+
+    /// Copies the catalogue. The copy and the catalogue must show the same as before.
+    fn copy(&mut self, alloc: Global) -> Result<(), Failure> {
+        let before = self.shown(alloc)?;
+        let copy = self.copied()?;
         expect(is_same(&before, &shown_by(alloc, &copy, self.filters.as_slice())?))?;
-        expect(is_same(&before, &self.shown(alloc)?))
+        expect(self.shows(alloc, &before)?)
     }
 
     /// Clears the last topic and adds it again. Then the answers must be as before.

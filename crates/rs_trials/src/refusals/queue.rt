@@ -3,18 +3,17 @@
 ghost use Rattle.std.specs.Prelude.{◌≡◌};
 
 use crate::failure::{Failure, expect};
+use crate::running::{Running, run};
 use crate::samples::change;
-use rs_intake::{
-    BlankQueue, Ended, Intake, LineEnd, LineName, SeatLine, blank_queue, run_writer, settle,
-};
+use rs_intake::{BlankQueue, Ended, Intake, LineEnd, LineName, SeatLine, blank_queue, settle};
 use rs_message::{Operation, SubmitFault};
 use rs_store::TopicLimit;
 use rs_topic::TopicFilter;
-use rs_version::{Blank, Seat};
+use rs_version::{Blank, Receipt, Seat};
 use std::alloc::Global;
 use std::marker::Brand;
 use std::sync::Wait;
-use std::thread::{Threads, spawn};
+use std::thread::Threads;
 
 /// How many topics are submitted: so many that the catalogues have to grow more than once.
 const ROUNDS: u32 = 24;
@@ -54,7 +53,35 @@ impl<N: LineName> Place<N> {
         expect(snapshot.found.len() as u64 == self.kept)
     }
 
-    /// Submits a Set of a new topic. Its receipt has the next number, behind that of an entry that is held.
+    /// The receipt has the next number, behind that of an entry that is held. The seat learns it.
+    fn receive(&mut self, receipt: Receipt<N>) -> Result<(), Failure> {
+        let before = self.kept.saturating_add(u64::from(self.is_open));
+        expect(receipt.number() == before.saturating_add(1))?;
+        self.kept = receipt.number();
+        self.is_open = false;
+        self.seat.learn(receipt.told());
+        self.read()
+    }
+
+    /// Memory was refused: to the submit, or to the writer, by which the entry is held.
+    fn refuse(&mut self, fault: SubmitFault) -> Result<(), Failure> {
+        match fault {
+            SubmitFault::NoMemory => {
+                self.submit = self.submit.saturating_add(1);
+                Ok(())
+            }
+            SubmitFault::Open => {
+                // What was held before is published before another entry is held.
+                self.kept = self.kept.saturating_add(u64::from(self.is_open));
+                self.is_open = true;
+                self.held = self.held.saturating_add(1);
+                Ok(())
+            }
+            _ => Err(Failure::Wrong),
+        }
+    }
+
+    /// Submits a Set of a new topic.
     fn submit<H: Wait>(
         &mut self,
         rt: &H,
@@ -65,26 +92,8 @@ impl<N: LineName> Place<N> {
             return Err(Failure::Wrong);
         }
         match intake.submit(rt, &mut self.line, change) {
-            Ok(receipt) => {
-                let before = self.kept.saturating_add(u64::from(self.is_open));
-                expect(receipt.number() == before.saturating_add(1))?;
-                self.kept = receipt.number();
-                self.is_open = false;
-                self.seat.learn(receipt.told());
-                self.read()
-            }
-            Err(SubmitFault::NoMemory) => {
-                self.submit = self.submit.saturating_add(1);
-                Ok(())
-            }
-            Err(SubmitFault::Open) => {
-                // What was held before is published before another entry is held.
-                self.kept = self.kept.saturating_add(u64::from(self.is_open));
-                self.is_open = true;
-                self.held = self.held.saturating_add(1);
-                Ok(())
-            }
-            Err(_) => Err(Failure::Wrong),
+            Ok(receipt) => self.receive(receipt),
+            Err(fault) => self.refuse(fault),
         }
     }
 }
@@ -199,17 +208,18 @@ fn rounds<H: Wait + Threads + Copy + Send + Sync + 'static, N: LineName + Send +
     requires store { (blank.history ≡ N.history) × (blank.limit ≡ N.limit) }
     requires queue { (queue.name ≡ N.queue) × (queue.places ≡ N.places) }
 {
-    let (writer, seats) = blank.open::<N, H>(rt)?;
-    let (intake, lines, queue) = queue.open::<N>()?;
-    let mut place = Place::new(alloc, lines, seats)?;
     // They are made before: between two submits, only what the calls themselves need takes memory.
     let changes = changes(alloc)?;
-    let Ok(running) = spawn(&rt, move || run_writer(&rt, queue, writer)) else {
-        return Err(Failure::NoMemory);
-    };
+    let Running {
+        writer,
+        intake,
+        lines,
+        seats,
+    } = run::<H, N>(rt, blank, queue)?;
+    let mut place = Place::new(alloc, lines, seats)?;
     place.submit_all(&rt, &intake, changes, ends_at_held)?;
     let (end, tried) = place.close(&rt);
-    settled(alloc, end, tried, running.join(&rt))
+    settled(alloc, end, tried, writer.join(&rt))
 }
 
 /// The same in a new store.

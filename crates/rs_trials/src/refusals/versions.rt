@@ -147,34 +147,70 @@ impl<N: StoreName, R: Wait + Drop> Run<N, R> {
         self.sets = self.sets.saturating_add(1);
     }
 
+    /// This entry is kept and held. There were so many Sweeps before its `put`.
+    fn hold(&mut self, origin: Origin, sweeps: u64) -> Result<(), Failure> {
+        self.keep();
+        if self.sweeps == sweeps {
+            self.refused.held = self.refused.held.saturating_add(1);
+        } else {
+            self.refused.behind = self.refused.behind.saturating_add(1);
+        }
+        self.is_held(origin)
+    }
+
+    /// Puts the entry once. Returns whether it is published if it is kept.
+    fn put_once(&mut self, entry: Entry) -> Result<Option<bool>, Failure>
+        requires { is_sweep entry.operation ≡ false }
+    {
+        let origin = entry.origin;
+        let (held, sweeps) = (self.writer.held(), self.sweeps);
+        match self.writer.put(entry) {
+            Ok(receipt) => {
+                self.keep();
+                self.is_last(&receipt, origin)?;
+                Ok(Some(true))
+            }
+            Err(PutFault::Held) => {
+                self.hold(origin, sweeps)?;
+                Ok(Some(false))
+            }
+            Err(PutFault::NoMemory) => {
+                self.refused(held)?;
+                Ok(None)
+            }
+            Err(_) => Err(Failure::Wrong),
+        }
+    }
+
     /// Puts the entry, again if memory is refused and it is not kept. Returns whether it is published; if not, it is held.
     fn put(&mut self, entry: Entry) -> Result<bool, Failure>
         requires { is_sweep entry.operation ≡ false }
     {
-        let origin = entry.origin;
         for _ in 0..TRIES {
-            let (held, sweeps) = (self.writer.held(), self.sweeps);
-            match self.writer.put(entry.copy()?) {
-                Ok(receipt) => {
-                    self.keep();
-                    self.is_last(&receipt, origin)?;
-                    return Ok(true);
-                }
-                Err(PutFault::Held) => {
-                    self.keep();
-                    self.is_held(origin)?;
-                    if self.sweeps == sweeps {
-                        self.refused.held = self.refused.held.saturating_add(1);
-                    } else {
-                        self.refused.behind = self.refused.behind.saturating_add(1);
-                    }
-                    return Ok(false);
-                }
-                Err(PutFault::NoMemory) => self.refused(held)?,
-                Err(_) => return Err(Failure::Wrong),
+            if let Some(is_published) = self.put_once(entry.copy()?)? {
+                return Ok(is_published);
             }
         }
         Err(Failure::Wrong)
+    }
+
+    /// Puts the entry, and publishes it by `retry` if it is held.
+    fn publish(&mut self, entry: Entry) -> Result<(), Failure>
+        requires { is_sweep entry.operation ≡ false }
+    {
+        let origin = entry.origin;
+        if self.put(entry)? {
+            return Ok(());
+        }
+        self.retry(origin)
+    }
+
+    /// The Set of this serial is stale.
+    fn is_stale(&mut self, alloc: Global, serial: u64) -> Result<(), Failure> {
+        match self.writer.put(set(alloc, serial)?) {
+            Err(PutFault::Stale) => Ok(()),
+            _ => Err(Failure::Wrong),
+        }
     }
 
     /// Puts a new topic. If it is held it is published by `retry`, or by a `put` of another one, before or after a seat has read.
@@ -183,7 +219,7 @@ impl<N: StoreName, R: Wait + Drop> Run<N, R> {
         // They are made before: between two puts, only what the calls themselves need takes memory.
         let entry = set(alloc, serial)?;
         let next = set(alloc, serial.saturating_add(1))?;
-        let (origin, next_origin) = (entry.origin, next.origin);
+        let origin = entry.origin;
         if self.put(entry)? {
             return Ok(());
         }
@@ -193,13 +229,8 @@ impl<N: StoreName, R: Wait + Drop> Run<N, R> {
         if round % 3 == 1 {
             self.read()?;
         }
-        if !self.put(next)? {
-            self.retry(next_origin)?;
-        }
-        match self.writer.put(set(alloc, serial)?) {
-            Err(PutFault::Stale) => Ok(()),
-            _ => Err(Failure::Wrong),
-        }
+        self.publish(next)?;
+        self.is_stale(alloc, serial)
     }
 }
 

@@ -72,8 +72,8 @@ fn queue_later(
     Ok(refused)
 }
 
-/// Queues messages behind one that waits, more each time, and prints how often memory was refused for them.
-pub fn work(rt: &impl Print, alloc: Global) -> Result<(), Failure> {
+/// Queues messages behind one that waits, more each time. How often memory was refused for them.
+fn refusals(alloc: Global) -> Result<u32, Failure> {
     let mut window = Window::new(alloc, 1, u32::MAX)?;
     let topics = Topics {
         waiting: TopicName::read(alloc, b"a")?,
@@ -85,6 +85,11 @@ pub fn work(rt: &impl Print, alloc: Global) -> Result<(), Failure> {
             refused = refused.saturating_add(1);
         }
     }
-    println!(rt; "refused {refused}")?;
+    Ok(refused)
+}
+
+/// Prints how often memory was refused for messages that were queued behind one that waits.
+pub fn work(rt: &impl Print, alloc: Global) -> Result<(), Failure> {
+    println!(rt; "refused {}", refusals(alloc)?)?;
     Ok(())
 }

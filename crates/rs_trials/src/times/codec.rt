@@ -114,6 +114,18 @@ pub fn measure_decode<H: Print + Clock, R: Read>(
     Ok(())
 }
 
+/// How many microseconds it takes to encode the reply so often, and the sum of its lengths and last bytes.
+fn encoding<K: Clock>(
+    rt: &K,
+    alloc: Global,
+    reply: &Reply,
+    rounds: u32,
+) -> Result<(u128, u64), Failure> {
+    let start = Instant::now(rt)?;
+    let total = encode_often(alloc, reply, rounds)?;
+    Ok((start.elapsed(rt)?.as_micros(), total))
+}
+
 /// Prints how long it takes to encode so often what answers the packet, and the sum of its lengths and last bytes.
 pub fn measure_encode<H: Print + Clock, R: Read>(
     rt: &H,
@@ -123,9 +135,7 @@ pub fn measure_encode<H: Print + Clock, R: Read>(
 ) -> Result<(), Failure> {
     let bytes = read_input(alloc, input)?;
     let reply = reply_to(alloc, decode_whole(alloc, &bytes)?)?;
-    let start = Instant::now(rt)?;
-    let total = encode_often(alloc, &reply, rounds)?;
-    let took = start.elapsed(rt)?.as_micros();
+    let (took, total) = encoding(rt, alloc, &reply, rounds)?;
     println!(rt; "{took} {total}")?;
     Ok(())
 }

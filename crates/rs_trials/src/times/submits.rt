@@ -1,12 +1,14 @@
 //! How long submits to a writer take, beside the same to a store of one thread.
 
-ghost use Rattle.std.specs.Prelude.{◌≡◌, ◌<◌, ◌≤◌};
+ghost use Rattle.std.specs.Prelude.{◌≡◌, ◌<◌, ◌≤◌, false};
+ghost use Rattle.rs_message.specs.Messages.{is_sweep};
 ghost use Rattle.rs_message.specs.declared.entry.TheConstants.{MAX_PLACES};
 
 use crate::failure::{Failure, expect};
+use crate::running::{Running, run};
 use crate::samples::change;
-use rs_intake::{BlankQueue, Intake, LineName, SeatLine, blank_queue, run_writer};
-use rs_message::MAX_PLACES;
+use rs_intake::{BlankQueue, Intake, LineName, SeatLine, blank_queue};
+use rs_message::{MAX_PLACES, Operation};
 use rs_session::{Gate, LocalGate};
 use rs_store::{TopicLimit, TreeCatalogue};
 use rs_topic::TopicFilter;
@@ -17,7 +19,7 @@ use std::rt::Clock;
 use std::sync::Wait;
 use std::sync::atomic::{AtomicBool, Ordering};
 use std::thread;
-use std::thread::{Threads, spawn};
+use std::thread::Threads;
 use std::time::{Duration, Instant};
 
 /// The topic that is replaced by a submit of this number, if there are so many.
@@ -54,16 +56,17 @@ fn local<C: Clock>(
     Ok(start.elapsed(rt)?)
 }
 
-/// Submits a Set of this topic. The seat learns its token.
+/// Submits a change. The seat learns its token.
 fn submit<N: LineName, R: Wait>(
     rt: &R,
-    alloc: Global,
     intake: &Intake<N>,
     line: &mut SeatLine<N>,
     seat: &mut Seat<N>,
-    topic: u64,
-) -> Result<(), Failure> {
-    match intake.submit(rt, line, change(alloc, topic)?) {
+    change: Operation,
+) -> Result<(), Failure>
+    requires { is_sweep change ≡ false }
+{
+    match intake.submit(rt, line, change) {
         Ok(receipt) => {
             seat.learn(receipt.told());
             Ok(())
@@ -84,8 +87,8 @@ fn submit_all<N: LineName, R: Wait>(
 ) -> Result<(SeatLine<N>, Seat<N>), Failure> {
     let (mut line, mut seat) = (line, seat);
     for number in 0..count {
-        let topic = topic_of(number, topics);
-        submit(rt, alloc, intake, &mut line, &mut seat, topic)?;
+        let change = change(alloc, topic_of(number, topics))?;
+        submit(rt, intake, &mut line, &mut seat, change)?;
     }
     Ok((line, seat))
 }
@@ -172,6 +175,33 @@ fn beside<H: Clock + Threads + Wait + Sync, N: LineName + Send + Sync>(
     })
 }
 
+/// The lines of the places that submit, their seats, and those of the places that read. All topics hold a message.
+fn filled<H: Wait, N: LineName>(
+    rt: &H,
+    alloc: Global,
+    intake: &Intake<N>,
+    lines: Vec<SeatLine<N>>,
+    seats: Vec<Seat<N>>,
+    topics: u32,
+    submitters: u32,
+) -> Result<(Vec<SeatLine<N>>, (Vec<Seat<N>>, Vec<Seat<N>>)), Failure> {
+    let (mut places, mut readers) = (Vec::new(alloc), Vec::new(alloc));
+    let mut working = Vec::new(alloc);
+    for (index, (line, seat)) in lines.into_iter().zip(seats).enumerate() {
+        // The first place fills the store.
+        let fill = if index == 0 { topics } else { 0 };
+        let (line, seat) = submit_all(rt, alloc, intake, line, seat, topics, fill)?;
+        if index < submitters as usize {
+            working.push(line)?;
+            places.push(seat)?;
+        } else {
+            drop(line.close(rt));
+            readers.push(seat)?;
+        }
+    }
+    Ok((working, (places, readers)))
+}
+
 /// How long the submits take, once all topics hold a message. The seats of places that do not submit read.
 fn timed<
     H: Clock + Threads + Wait + Copy + Send + Sync + 'static,
@@ -188,28 +218,15 @@ fn timed<
     requires store { (blank.history ≡ N.history) × (blank.limit ≡ N.limit) }
     requires queue { (queue.name ≡ N.queue) × (queue.places ≡ N.places) }
 {
-    let (writer, seats) = blank.open::<N, H>(rt)?;
-    let (intake, lines, queue) = queue.open::<N>()?;
-    let Ok(running) = spawn(&rt, move || run_writer(&rt, queue, writer)) else {
-        return Err(Failure::NoMemory);
-    };
-    let (mut places, mut readers) = (Vec::new(alloc), Vec::new(alloc));
-    let mut working = Vec::new(alloc);
-    for (index, (line, seat)) in lines.into_iter().zip(seats).enumerate() {
-        // The first place fills the store.
-        let fill = if index == 0 { topics } else { 0 };
-        let (line, seat) = submit_all(&rt, alloc, &intake, line, seat, topics, fill)?;
-        if index < submitters as usize {
-            working.push(line)?;
-            places.push(seat)?;
-        } else {
-            drop(line.close(&rt));
-            readers.push(seat)?;
-        }
-    }
-    let seats = (places, readers);
+    let Running {
+        writer,
+        intake,
+        lines,
+        seats,
+    } = run::<H, N>(rt, blank, queue)?;
+    let (working, seats) = filled(&rt, alloc, &intake, lines, seats, topics, submitters)?;
     let took = beside(&rt, alloc, working, seats, &intake, topics, count)?;
-    let ended = running.join(&rt);
+    let ended = writer.join(&rt);
     expect(ended.refused == 0)?;
     Ok(took)
 }
