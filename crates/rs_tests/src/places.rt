@@ -59,6 +59,17 @@ struct Store<N: LineName, R: Wait + Copy> {
     gates: Vec<SharedGate<N, R>>,
 }
 
+/// The gate of a place.
+fn gate_of<N: LineName, R: Wait + Copy>(
+    rt: R,
+    intake: &Arc<Intake<N>>,
+    seat: Seat<N>,
+    line: SeatLine<N>,
+) -> Result<SharedGate<N, R>, AllocError> {
+    let intake = Arc::try_clone(intake)?;
+    Ok(SharedGate::new(rt, intake, seat, line))
+}
+
 /// The gates of the places from 1 on.
 fn gates_of<N: LineName, R: Wait + Copy>(
     rt: R,
@@ -70,7 +81,7 @@ fn gates_of<N: LineName, R: Wait + Copy>(
     let intake = Arc::new(alloc, intake)?;
     let mut gates = Vec::new(alloc);
     for (seat, line) in seats.into_iter().zip(lines) {
-        gates.push(SharedGate::new(rt, Arc::try_clone(&intake)?, seat, line))?;
+        gates.push(gate_of(rt, &intake, seat, line)?)?;
     }
     Ok(gates)
 }

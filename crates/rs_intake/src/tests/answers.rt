@@ -6,7 +6,7 @@ ghost use Rattle.rs_message.specs.Messages.{is_sweep};
 use super::{Opened, Running, blank_store, clear, open_both, run_both, set};
 use crate::intake::read;
 use crate::reply::Reply;
-use crate::{BlankQueue, Intake, LineName, SeatLine, SettleFault, blank_queue, settle};
+use crate::{BlankQueue, Intake, Job, LineName, SeatLine, SettleFault, blank_queue, settle};
 use rs_message::{Entry, Operation, Origin, SubmitFault};
 use rs_version::{Blank, PutFault, VersionWriter};
 use std::alloc::Global;
@@ -14,7 +14,7 @@ use std::marker::Brand;
 use std::process::Abort;
 use std::sync::Wait;
 use std::test::Fail;
-use std::thread::{Threads, spawn};
+use std::thread::{JoinHandle, Threads, spawn};
 
 /// The number of the receipt, or the code of the fault.
 fn answer<N: LineName, R: Wait>(
@@ -83,6 +83,23 @@ fn full_store(rt: HostRuntime) -> Result<(), Fail> {
     full_store_named::<Brand, _>(rt, alloc, blank, blank_queue(alloc, 1)?)
 }
 
+/// The first submit finds a queue, which takes one job and is dropped then, and the second finds none.
+fn are_refused<N: LineName, R: Threads + Wait + Abort>(
+    rt: &R,
+    alloc: Global,
+    intake: &Intake<N>,
+    line: SeatLine<N>,
+    queue: JoinHandle<Option<Job>>,
+) -> Result<(), Fail> {
+    let mut line = line;
+    let open = answer(rt, intake, &mut line, set(alloc, b"a", b"1"))?;
+    assert!(rt; queue.join(rt).is_some());
+    let closed = answer(rt, intake, &mut line, set(alloc, b"a", b"1"))?;
+    assert!(rt; (open, closed) == ((0, 42), (0, 44)));
+    assert!(rt; line.serial() == 2);
+    Ok(())
+}
+
 fn dropped_queue_named<
     N: LineName + Send + Sync + 'static,
     R: Threads + Wait + Abort + Copy + Send + Sync + 'static,
@@ -97,15 +114,9 @@ fn dropped_queue_named<
         mut lines,
         queue,
     } = open_both::<N, R>(rt, blank, queue)?;
-    let mut line = lines.pop().ok_or("there are lines")?;
-    // The writer's end takes one job, and is dropped then.
-    let thread = spawn(&rt, move || queue.next(&rt))?;
-    let open = answer(&rt, &intake, &mut line, set(alloc, b"a", b"1"))?;
-    assert!(rt; thread.join(&rt).is_some());
-    let closed = answer(&rt, &intake, &mut line, set(alloc, b"a", b"1"))?;
-    assert!(rt; (open, closed) == ((0, 42), (0, 44)));
-    assert!(rt; line.serial() == 2);
-    Ok(())
+    let line = lines.pop().ok_or("there are lines")?;
+    let queue = spawn(&rt, move || queue.next(&rt))?;
+    are_refused(&rt, alloc, &intake, line, queue)
 }
 
 #[test]

@@ -6,7 +6,7 @@ ghost use Rattle.rs_message.specs.Messages.{is_sweep};
 use super::{Running, blank_store, run_both};
 use crate::{BlankQueue, LineName, blank_queue};
 use bytes::Bytes;
-use rs_message::{MAX_PLACES, Message, Operation};
+use rs_message::{Found, MAX_PLACES, Message, Operation};
 use rs_packet::{Properties, Qos};
 use rs_store::MAX_TOPICS;
 use rs_topic::{MAX_TEXT_SIZE, TopicFilter, TopicName};
@@ -45,17 +45,34 @@ fn repeated(alloc: Global, byte: u8, count: usize) -> Option<Vec<u8>> {
     Some(bytes)
 }
 
-fn largest(alloc: Global) -> Option<Operation>
-    ensures { IfSome result (λ o. is_sweep o ≡ false) }
+fn payload(alloc: Global) -> Option<Bytes>
+    ensures { IfSome result (λ payload. (payload ≢ []) × (length payload ≤ 262000)) }
 {
     let payload = repeated(alloc, b'x', PAYLOAD)?;
     if payload.is_empty() || payload.len() > PAYLOAD {
         return None;
     }
-    let payload = Bytes::copy_from_slice(alloc, payload.as_slice()).ok()?;
+    Bytes::copy_from_slice(alloc, payload.as_slice()).ok()
+}
+
+fn topic(alloc: Global) -> Option<TopicName> {
     let topic = repeated(alloc, b'a', MAX_TEXT_SIZE)?;
-    let topic = TopicName::read(alloc, topic.as_slice()).ok()?;
-    Some(Operation::Set(topic, message_of(alloc, payload, Some(u32::MAX))?))
+    TopicName::read(alloc, topic.as_slice()).ok()
+}
+
+fn largest(alloc: Global) -> Option<Operation>
+    ensures { IfSome result (λ o. is_sweep o ≡ false) }
+{
+    let message = message_of(alloc, payload(alloc)?, Some(u32::MAX))?;
+    Some(Operation::Set(topic(alloc)?, message))
+}
+
+/// Whether this is the message that was sent.
+fn is_largest(alloc: Global, found: &Found) -> bool {
+    match largest(alloc) {
+        Some(Operation::Set(topic, message)) => found.topic == topic && found.message == message,
+        _ => false,
+    }
 }
 
 /// The receipt is for the first entry, which the seat reads as it was sent.
@@ -74,10 +91,7 @@ fn is_read<N: LineName>(
     let [found] = snapshot.found.as_slice() else {
         return Err(Fail::from("one message"));
     };
-    let Operation::Set(topic, message) = largest(alloc).ok_or("an operation")? else {
-        return Err(Fail::from("a Set"));
-    };
-    assert!(rt; found.topic.as_bytes() == topic.as_bytes() && found.message == message);
+    assert!(rt; is_largest(alloc, found));
     Ok(())
 }
 

@@ -5,7 +5,7 @@ ghost use Rattle.rs_session.specs.State.{due_of};
 
 use bytes::Bytes;
 use rs_message::{Found, Operation, SubmitFault};
-use rs_packet::{Decoded, RECEIVE_MAXIMUM, decode, encode};
+use rs_packet::{Decoded, Packet, RECEIVE_MAXIMUM, Reply, decode, encode};
 use rs_session::{Gate, Session};
 use rs_topic::{Text, TopicFilter};
 use std::alloc::{AllocError, Global};
@@ -89,20 +89,29 @@ const ENDING: [(SubmitFault, &[u8]); 3] = [
     (SubmitFault::Closed, b"\xE0\x01\x83"),
 ];
 
+/// The packet that these bytes are.
+fn packet_of(alloc: Global, bytes: &[u8]) -> Result<Packet, Fail> {
+    match decode(alloc, &Bytes::copy_from_slice(alloc, bytes)?) {
+        Ok(Decoded::Whole(packet, _)) => Ok(packet),
+        _ => Err(Fail::from("the packet")),
+    }
+}
+
+/// The bytes of the reply, none if there is none.
+fn bytes_of(alloc: Global, reply: Option<Reply>) -> Result<Bytes, Fail> {
+    match reply {
+        Some(reply) => Ok(encode(alloc, &reply)?),
+        None => Ok(Bytes::new()),
+    }
+}
+
 /// The first reply to a packet.
 fn reply_to(alloc: Global, session: &mut Session<Recording>, packet: &[u8]) -> Result<Bytes, Fail>
     requires { due_of session.old ≡ None }
     ensures { OnOk result (due_of session.new ≡ None) }
 {
-    let packet = Bytes::copy_from_slice(alloc, packet)?;
-    let Ok(Decoded::Whole(packet, _)) = decode(alloc, &packet) else {
-        return Err("the packet")?;
-    };
-    session.on_packet(packet, 0);
-    match session.next_reply(0) {
-        Some(reply) => Ok(encode(alloc, &reply)?),
-        None => Ok(Bytes::new()),
-    }
+    session.on_packet(packet_of(alloc, packet)?, 0);
+    bytes_of(alloc, session.next_reply(0))
 }
 
 /// A session that accepted the CONNECT.
@@ -177,15 +186,23 @@ fn what_has_no_receipt_was_handed_over(rt: HostRuntime) -> Result<(), Fail> {
     Ok(())
 }
 
-/// Holds the identifiers from 1 to [`RECEIVE_MAXIMUM`], by PUBLISH packets of QoS 2 with RETAIN 0.
+/// Holds this identifier, by a PUBLISH of QoS 2 with RETAIN 0.
+fn hold(alloc: Global, session: &mut Session<Recording>, id: u16) -> Result<(), Fail>
+    requires { due_of session.old ≡ None }
+    ensures { OnOk result (due_of session.new ≡ None) }
+{
+    let [high, low] = id.to_be_bytes();
+    reply_to(alloc, session, &[0x34, 7, 0, 1, b'a', high, low, 0, b'x'])?;
+    Ok(())
+}
+
+/// Holds the identifiers from 1 to [`RECEIVE_MAXIMUM`].
 fn holding(alloc: Global) -> Result<Session<Recording>, Fail>
     ensures { IfOk result (λ session. due_of session ≡ None) }
 {
     let mut session = connected(alloc, None)?;
     for id in 1..RECEIVE_MAXIMUM + 1 {
-        let [high, low] = id.to_be_bytes();
-        let packet = [0x34, 7, 0, 1, b'a', high, low, 0, b'x'];
-        reply_to(alloc, &mut session, &packet)?;
+        hold(alloc, &mut session, id)?;
     }
     Ok(session)
 }

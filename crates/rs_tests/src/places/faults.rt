@@ -157,6 +157,21 @@ fn outcome<N: LineName, R: Wait + Copy>(
     (served, bytes, gate)
 }
 
+/// Whether the connection ends so and is written these replies. The gate is that of the next connection.
+fn is_served<N: LineName, R: Wait + Copy>(
+    rt: &R,
+    alloc: Global,
+    gate: SharedGate<N, R>,
+    number: u64,
+    input: &'static [u8],
+    failing: Failing,
+    ends: Result<Served, ServeFault>,
+    replies: &[u8],
+) -> (bool, SharedGate<N, R>) {
+    let (end, bytes, gate) = outcome(rt, alloc, gate, number, input, failing);
+    (end == ends && bytes.as_slice() == replies, gate)
+}
+
 /// What a run of the row does to the store: how many changes are kept after a third connection, which publishes.
 fn run_named<
     N: LineName + Send + Sync + 'static,
@@ -175,26 +190,19 @@ fn run_named<
     requires queue { (queue.name ≡ N.queue) × (queue.places ≡ N.places) }
 {
     let Failing { call, at } = failing;
+    let none = Failing { call, at: 0 };
+    let replies = &FIRST_REPLIES[..written.min(19)];
+    let got = &SECOND_REPLIES[..if kept { 30 } else { 21 }];
     let Store { writer, mut gates } = opened::<N, R>(rt, alloc, blank, queue)?;
     let gate = gates.pop().ok_or("there is a place")?;
-    let (end, bytes, gate) = outcome(&rt, alloc, gate, 1, FIRST, failing);
-    assert!(rt; end == ends, "{call:?} {at}");
-    assert!(rt;
-        bytes.as_slice() == &FIRST_REPLIES[..written.min(19)],
-        "{call:?} {at}"
-    );
-    let none = Failing { call, at: 0 };
-    let (end, bytes, gate) = outcome(&rt, alloc, gate, 2, SECOND, none);
-    let got = if kept { 30 } else { 21 };
-    assert!(rt; end == Ok(Served::EndOfInput), "after {call:?} {at}");
-    assert!(rt;
-        bytes.as_slice() == &SECOND_REPLIES[..got],
-        "after {call:?} {at}"
-    );
+    let (went, gate) = is_served(&rt, alloc, gate, 1, FIRST, failing, ends, replies);
+    assert!(rt; went, "{call:?} {at}");
+    let end = Ok(Served::EndOfInput);
+    let (went, gate) = is_served(&rt, alloc, gate, 2, SECOND, none, end, got);
+    assert!(rt; went, "after {call:?} {at}");
     // Its serial is above that of the first, else the writer would refuse it.
-    let (end, bytes, gate) = outcome(&rt, alloc, gate, 3, PUBLISHES, none);
-    assert!(rt; end == CLOSED, "then {call:?} {at}");
-    assert!(rt; bytes.as_slice() == CONNECTED, "then {call:?} {at}");
+    let (went, gate) = is_served(&rt, alloc, gate, 3, PUBLISHES, none, CLOSED, CONNECTED);
+    assert!(rt; went, "then {call:?} {at}");
     let changes = if kept { 2 } else { 1 };
     let all = settled(&rt, writer, vec![in alloc; gate.close()]?);
     assert!(rt; all == (Some(changes), changes), "then {call:?} {at}");
