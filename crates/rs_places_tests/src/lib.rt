@@ -1,0 +1,6 @@
+//! Tests of the places by their public calls. They stand in a crate of their own, so that `rs_places` is not proved a second time
+//! with them.
+#![tactic(auto)]
+
+#[cfg(test)]
+mod places;
