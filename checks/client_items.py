@@ -1,4 +1,4 @@
-"""What each script of a client of others shows, in this order, each by a function of this name."""
+"""What each script of a client of others shows, in this order. Each function of the scripts in Python has the name of its item."""
 
 import os
 import sys

@@ -30,7 +30,7 @@ pub fn send<R: Wait>(
     }
 }
 
-/// Takes the oldest job. `None` if all lines are gone.
+/// Takes the oldest job. `None` if all lines and their ends are gone.
 pub fn take<R: Wait>(
     rt: &R,
     from: &JobReceiver,

@@ -56,7 +56,7 @@ impl<N: LineName> Taken<N> {
         self.places
     }
 
-    /// Takes the oldest job. `None` if all lines are gone.
+    /// Takes the oldest job. `None` if all lines and their ends are gone.
     pub(crate) fn next<R: Wait>(
         &mut self,
         rt: &R,

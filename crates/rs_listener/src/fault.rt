@@ -13,7 +13,7 @@ pub enum ListenFault {
     /// Memory was refused.
     #[error("out of memory")]
     NoMemory,
-    /// The system gives no thread.
+    /// No thread can be started, or memory was refused for their list.
     #[error("no thread can be started")]
     NoThread,
 }

@@ -88,8 +88,8 @@ impl Server {
     /// # Errors
     ///
     /// [`NoMemory`](ListenFault::NoMemory) if memory is refused for the store, the queue or the gates of the places,
-    /// [`NoThread`](ListenFault::NoThread) if the thread of the store's writer, or that of every place, cannot be started. No client
-    /// was served.
+    /// [`NoThread`](ListenFault::NoThread) if the thread of the store's writer, or that of every place, cannot be started, or memory is
+    /// refused for the list of the threads. No client was served.
     pub fn run<H: Clock + Threads + Wait + Copy + Send + Sync + 'static>(
         self,
         rt: H,
@@ -134,7 +134,7 @@ fn run_named<
             changes: settle(ends, &mut ended).ok(),
         });
     }
-    // The writer ends when all lines are gone. Those of the places that were left out are.
+    // The writer ends when all lines and their ends are gone. Those of the places that were left out are.
     drop(ends);
     drop(writing.join(&rt));
     if places == 0 {

@@ -143,7 +143,8 @@ fn join_places<N: LineName, H: Threads + Wait + Copy>(
 ///
 /// It gives the ends of the lines of the places that were served, in their order. A place whose thread cannot be started is
 /// dropped with its turn and its gate, and the others go on. If memory is refused, no place is served. The caller runs the writer
-/// meanwhile ([`run_writer`](rs_intake::run_writer)), and settles.
+/// meanwhile ([`run_writer`](rs_intake::run_writer)), and settles. If there are fewer ends than gates, nothing can be settled, and
+/// the caller drops the ends before it waits for the writer, which goes on as long as one is kept.
 pub fn run_places<
     T: Turn + Send + Drop + 'static,
     N: LineName + Send + Sync + 'static,
