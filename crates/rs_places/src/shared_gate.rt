@@ -1,6 +1,6 @@
 //! A gate over a seat and its line.
 
-ghost use Rattle.std.specs.Prelude.{◌≡◌, ◌≤◌, ◌∷◌, ◌++◌, [], false, length, OnOk};
+ghost use Rattle.std.specs.Prelude.{◌≡◌, ◌<◌, ◌≤◌, ◌∷◌, ◌++◌, [], false, length, OnOk};
 ghost use Rattle.rs_intake.specs.Lines.{AddsAtMost, job, next_serial};
 ghost use Rattle.rs_message.specs.declared.entry.TheConstants.{MAX_PLACES};
 ghost use Rattle.rs_message.specs.Messages.{is_sweep};
@@ -61,6 +61,7 @@ impl<N: LineName, R: Wait + Copy> SharedGate<N, R> {
     /// The place, 1 to the number of places.
     pub fn place(&self) -> u8
         ensures place { result ≡ self.now.mark.place }
+        ensures some { 0 < result }
         ensures there { result ≤ N.places }
         ensures small { result ≤ MAX_PLACES }
     {

@@ -7,7 +7,7 @@ use crate::{BlankQueue, Intake, LineEnd, LineName, SeatLine, blank_queue, run_wr
 use rs_message::MAX_PLACES;
 use rs_topic::TopicFilter;
 use rs_version::{Blank, Seat};
-use std::alloc::{AllocError, Global};
+use std::alloc::Global;
 use std::marker::{Brand, PhantomData};
 use std::process::Abort;
 use std::sync::Wait;
@@ -48,16 +48,10 @@ fn submitted<N: LineName, R: Wait>(
 fn started<
     N: LineName + Send + Sync + 'static,
     R: Threads + Wait + Abort + Copy + Send + Sync + 'static,
->(
-    rt: R,
-    alloc: Global,
-    lines: Vec<SeatLine<N>>,
-) -> Result<Vec<JoinHandle<LineEnd<N>>>, AllocError> {
+>(rt: R, alloc: Global, lines: Vec<SeatLine<N>>) -> Result<Vec<JoinHandle<LineEnd<N>>>, Fail> {
     let mut handles = Vec::new(alloc);
     for line in lines {
-        if let Ok(handle) = spawn(&rt, move || hundred(rt, alloc, line)) {
-            handles.push(handle).map_err(|_| AllocError)?;
-        }
+        handles.push(spawn(&rt, move || hundred(rt, alloc, line))?)?;
     }
     Ok(handles)
 }

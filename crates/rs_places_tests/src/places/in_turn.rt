@@ -93,6 +93,8 @@ fn told_named<
     assert!(rt; second.version() == 0 && knows(&second, &told, false));
     let (seen, second) = writes(&rt, alloc, second, 1, SUBSCRIBES, REPLAYED);
     assert!(rt; seen && second.version() == 1 && knows(&second, &told, true));
+    let (again, second) = writes(&rt, alloc, second, 2, SUBSCRIBES, REPLAYED);
+    assert!(rt; again && second.version() == 1);
     Ok(())
 }
 

@@ -90,13 +90,15 @@ fn malicious_named<
 {
     let Store { writer, mut gates } = opened::<N, R>(rt, alloc, blank, queue)?;
     let gate = gates.pop().ok_or("there is a place")?;
+    let (_connected, gate) = written(&rt, alloc, gate, PUBLISHES);
     let gate = serves_peers(&rt, alloc, gate)?;
+    // This publication has a serial of its own, so both are kept.
     let (published, gate) = written(&rt, alloc, gate, PUBLISHES);
     let (replayed, gate) = written(&rt, alloc, gate, SUBSCRIBES);
     assert!(rt; published.as_slice() == CONNECTED && replayed.as_slice() == REPLAYED);
     let (taken, version) = settled(&rt, writer, vec![in alloc; gate.close()]?);
-    assert!(rt; taken == Some(1));
-    assert!(rt; version == 1);
+    assert!(rt; taken == Some(2));
+    assert!(rt; version == 2);
     Ok(())
 }
 

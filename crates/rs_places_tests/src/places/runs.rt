@@ -59,8 +59,13 @@ pub fn ran<
     store: Store<N, R>,
 ) -> (usize, u64, Option<u64>, u64) {
     let Store { writer, gates } = store;
-    let ends = run_places(rt, alloc, turns, gates);
+    let places = gates.len();
+    let mut ends = run_places(rt, alloc, turns, gates);
     let served = ends.len();
+    if served < places {
+        // The writer waits as long as an end is kept.
+        ends.clear();
+    }
     let (taken, version) = settled(&rt, writer, ends);
     (served, counts.right.load(Ordering::SeqCst), taken, version)
 }
