@@ -1,6 +1,6 @@
 //! Lines, a writer and seats over threads, and each refusal.
 
-ghost use Rattle.std.specs.Prelude.{◌≡◌, ◌<◌, ◌≤◌, [], None, false, IfSome};
+ghost use Rattle.std.specs.Prelude.{◌≡◌, ◌≢◌, ◌<◌, ◌≤◌, [], None, false, length, IfSome};
 ghost use Rattle.rs_message.specs.Messages.{is_sweep};
 
 mod answers;
@@ -22,12 +22,10 @@ use std::sync::Wait;
 use std::test::Fail;
 use std::thread::{JoinHandle, Threads, spawn};
 
-#[tactic(auto, using(rs_message::proofs::Sizes::small_message))]
-fn message(alloc: Global, payload: &[u8], received: u64, expiry: Option<u32>) -> Option<Message> {
-    if payload.is_empty() || payload.len() > 1000 {
-        return None;
-    }
-    let payload = Bytes::copy_from_slice(alloc, payload).ok()?;
+fn message_of(alloc: Global, payload: Bytes, received: u64, expiry: Option<u32>) -> Option<Message>
+    requires some { payload ≢ [] }
+    requires small { length payload ≤ 1000 }
+{
     Message::new(
         alloc,
         payload,
@@ -37,6 +35,14 @@ fn message(alloc: Global, payload: &[u8], received: u64, expiry: Option<u32>) ->
         Properties::none(),
     )
     .ok()
+}
+
+fn message(alloc: Global, payload: &[u8], received: u64, expiry: Option<u32>) -> Option<Message> {
+    if payload.is_empty() || payload.len() > 1000 {
+        return None;
+    }
+    let payload = Bytes::copy_from_slice(alloc, payload).ok()?;
+    message_of(alloc, payload, received, expiry)
 }
 
 fn set(alloc: Global, topic: &[u8], payload: &[u8]) -> Option<Operation>

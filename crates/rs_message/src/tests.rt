@@ -9,7 +9,6 @@ use rs_topic::TopicName;
 use std::alloc::{AllocError, Global};
 use std::test::Fail;
 
-#[tactic(auto, using(crate::proofs::Sizes::small_message))]
 fn received_at_100(
     alloc: Global,
     payload: &'static [u8],
@@ -60,7 +59,6 @@ fn origins(rt: HostRuntime) -> Result<(), Fail> {
     Ok(())
 }
 
-#[tactic(auto, using(crate::proofs::Sizes::small_message))]
 fn published(
     alloc: Global,
     retain: bool,

@@ -7,7 +7,27 @@ mod words;
 use crate::piping::PipeFault;
 use crate::program::RunFault;
 use crate::words::WordsFault;
+use std::alloc::{AllocError, Global};
 use std::test::Fail;
+
+fn ends_with(alloc: Global, fault: &RunFault, status: u8, text: &str) -> Result<bool, AllocError> {
+    let found = format!(in alloc; "{fault}")?;
+    Ok(fault.status() == status && found.as_str() == text)
+}
+
+// Whether this is the status and the text of the fault, and of a run that it ends.
+fn pipe_ends_with(
+    alloc: Global,
+    fault: PipeFault,
+    status: u8,
+    text: &str,
+) -> Result<bool, AllocError> {
+    let found = format!(in alloc; "{fault}")?;
+    if fault.status() != status || found.as_str() != text {
+        return Ok(false);
+    }
+    ends_with(alloc, &RunFault::Pipe(fault), status, text)
+}
 
 #[test]
 fn faults_have_a_status_and_a_text(rt: HostRuntime) -> Result<(), Fail> {
@@ -18,53 +38,44 @@ fn faults_have_a_status_and_a_text(rt: HostRuntime) -> Result<(), Fail> {
         (PipeFault::NotHex(7), 2, "line 7 is not hex"),
     ];
     for (fault, status, text) in faults {
-        assert!(rt; fault.status() == status);
-        let found = format!(in rt.alloc(); "{fault}")?;
-        assert!(rt; found.as_str() == text);
-        let run = RunFault::Pipe(fault);
-        assert!(rt; run.status() == status);
-        let found = format!(in rt.alloc(); "{run}")?;
-        assert!(rt; found.as_str() == text);
-    }
-    let unsettled = RunFault::Unsettled {
-        served: 3,
-        places: 4,
-    };
-    let listen_faults = [
-        (RunFault::Listen, "cannot listen"),
-        (
-            unsettled,
-            "3 of 4 places served clients, and not all changes are known to be taken",
-        ),
-    ];
-    for (fault, text) in listen_faults {
-        assert!(rt; fault.status() == 1);
-        let found = format!(in rt.alloc(); "{fault}")?;
-        assert!(rt; found.as_str() == text);
+        assert!(rt; pipe_ends_with(rt.alloc(), fault, status, text)?);
     }
     Ok(())
 }
 
 #[test]
+fn a_server_ends_with_a_status_and_a_text(rt: HostRuntime) -> Result<(), Fail> {
+    let unsettled = RunFault::Unsettled {
+        served: 3,
+        places: 4,
+    };
+    let text = "3 of 4 places served clients, and not all changes are known to be taken";
+    assert!(rt; ends_with(rt.alloc(), &unsettled, 1, text)?);
+    assert!(rt; ends_with(rt.alloc(), &RunFault::Listen, 1, "cannot listen")?);
+    Ok(())
+}
+
+// As `pipe_ends_with`.
+fn words_end_with(
+    alloc: Global,
+    fault: WordsFault,
+    status: u8,
+    text: &str,
+) -> Result<bool, AllocError> {
+    let found = format!(in alloc; "{fault}")?;
+    if fault.status() != status || found.as_str() != text {
+        return Ok(false);
+    }
+    ends_with(alloc, &RunFault::Words(fault), status, text)
+}
+
+#[test]
 fn words_have_a_status_and_a_text(rt: HostRuntime) -> Result<(), Fail> {
     let alloc = rt.alloc();
-    let faults = [
-        (
-            WordsFault::Help(String::from_str(alloc, "help")?),
-            0,
-            "help",
-        ),
-        (WordsFault::Refused(String::from_str(alloc, "no")?), 2, "no"),
-        (WordsFault::NoMemory, 1, "out of memory"),
-    ];
-    for (fault, status, text) in faults {
-        assert!(rt; fault.status() == status);
-        let found = format!(in alloc; "{fault}")?;
-        assert!(rt; found.as_str() == text);
-        let run = RunFault::Words(fault);
-        assert!(rt; run.status() == status);
-        let found = format!(in alloc; "{run}")?;
-        assert!(rt; found.as_str() == text);
-    }
+    let help = WordsFault::Help(String::from_str(alloc, "help")?);
+    assert!(rt; words_end_with(alloc, help, 0, "help")?);
+    let refused = WordsFault::Refused(String::from_str(alloc, "no")?);
+    assert!(rt; words_end_with(alloc, refused, 2, "no")?);
+    assert!(rt; words_end_with(alloc, WordsFault::NoMemory, 1, "out of memory")?);
     Ok(())
 }

@@ -30,7 +30,6 @@ fn message(
 }
 
 /// A message that came at a moment.
-#[tactic(auto, using(rs_message::proofs::Sizes::small_message))]
 fn message_at(
     alloc: Global,
     payload: &'static [u8],

@@ -20,7 +20,6 @@ use std::thread::{Threads, join};
 mod sweeping;
 
 /// A message that came at this moment.
-#[tactic(auto, using(rs_message::proofs::Sizes::small_message))]
 fn message(
     alloc: Global,
     payload: &'static [u8],
@@ -30,10 +29,9 @@ fn message(
     requires some { payload.now ≢ [] }
     requires small { length payload.now ≤ 1000 }
 {
-    let payload = Bytes::from_static(payload);
     Message::new(
         alloc,
-        payload,
+        Bytes::from_static(payload),
         Qos::AtMostOnce,
         received,
         expiry,
@@ -100,6 +98,16 @@ fn seen<N: StoreName>(alloc: Global, seat: &mut Seat<N>) -> Result<(u64, Vec<u8>
 }
 
 /// The seat reads this version, with these topics.
+fn is_read<N: StoreName>(
+    alloc: Global,
+    seat: &mut Seat<N>,
+    version: u64,
+    topics: &[u8],
+) -> Result<bool, Fail> {
+    let (read, found) = seen(alloc, seat)?;
+    Ok(read == version && found.as_slice() == topics)
+}
+
 fn reads<N: StoreName>(
     rt: &impl Abort,
     alloc: Global,
@@ -107,9 +115,7 @@ fn reads<N: StoreName>(
     version: u64,
     topics: &[u8],
 ) -> Result<(), Fail> {
-    let (read, found) = seen(alloc, seat)?;
-    assert!(rt; read == version);
-    assert!(rt; found.as_slice() == topics);
+    assert!(rt; is_read(alloc, seat, version, topics)?);
     Ok(())
 }
 
@@ -127,17 +133,28 @@ fn fault_of<N: StoreName, R: Wait + Drop>(
     Ok(writer.put(no_sweep(entry).ok_or("an entry")?).err())
 }
 
+fn is_refused<N: StoreName, R: Wait + Drop>(
+    writer: &mut VersionWriter<N, R>,
+    entry: Option<Entry>,
+    fault: PutFault,
+) -> Result<bool, Fail> {
+    Ok(fault_of(writer, entry)? == Some(fault))
+}
+
+fn holds_nothing<N: StoreName, R: Wait + Drop>(
+    writer: &mut VersionWriter<N, R>,
+) -> Result<bool, Fail> {
+    Ok(writer.held().is_none() && writer.retry()?.is_none())
+}
+
 fn refusals<N: StoreName, R: Wait + Drop>(
     rt: &impl Abort,
     alloc: Global,
     writer: &mut VersionWriter<N, R>,
 ) -> Result<(), Fail> {
-    let full = fault_of(writer, set(alloc, 1, 2, b"b"))?;
-    assert!(rt; full == Some(PutFault::Full));
-    let stale = fault_of(writer, set(alloc, 1, 1, b"a"))?;
-    assert!(rt; stale == Some(PutFault::Stale));
-    assert!(rt; writer.held().is_none());
-    assert!(rt; writer.retry()?.is_none());
+    assert!(rt; is_refused(writer, set(alloc, 1, 2, b"b"), PutFault::Full)?);
+    assert!(rt; is_refused(writer, set(alloc, 1, 1, b"a"), PutFault::Stale)?);
+    assert!(rt; holds_nothing(writer)?);
     Ok(())
 }
 

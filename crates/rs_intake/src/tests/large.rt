@@ -21,7 +21,6 @@ use std::thread::Threads;
 /// The bytes of a payload that fits a packet beside its properties.
 const PAYLOAD: usize = 262_000;
 
-#[tactic(auto, using(rs_message::proofs::Sizes::large_message))]
 fn message_of(alloc: Global, payload: Bytes, expiry: Option<u32>) -> Option<Message>
     requires some { payload ≢ [] }
     requires fits { length payload ≤ 262000 }
