@@ -73,6 +73,32 @@ fn knows<N: LineName, R: Wait + Copy>(gate: &SharedGate<N, R>, told: &Told<N>, a
     told.reaches(&own) && own.reaches(told) == all
 }
 
+/// The gate of a place that publishes, and the token that it gives then.
+fn told_one<N: LineName, R: Wait + Abort + Copy>(
+    rt: &R,
+    alloc: Global,
+    gate: SharedGate<N, R>,
+) -> (SharedGate<N, R>, Told<N>) {
+    let (published, gate) = writes(rt, alloc, gate, 1, PUBLISHES, CONNECTED);
+    assert!(rt; published);
+    let told = gate.told();
+    assert!(rt; told.version() == 1);
+    (gate, told)
+}
+
+/// Whether this connection of the gate is sent what the token says, and the gate knows no more.
+fn sees<N: LineName, R: Wait + Copy>(
+    rt: &R,
+    alloc: Global,
+    gate: SharedGate<N, R>,
+    number: u64,
+    told: &Told<N>,
+) -> (bool, SharedGate<N, R>) {
+    let (seen, gate) = writes(rt, alloc, gate, number, SUBSCRIBES, REPLAYED);
+    let all = seen && gate.version() == 1 && knows(&gate, told, true);
+    (all, gate)
+}
+
 fn told_named<
     N: LineName + Send + Sync + 'static,
     R: Threads + Wait + Abort + Copy + Send + Sync + 'static,
@@ -87,14 +113,11 @@ fn told_named<
     let (Some(second), Some(first)) = (gates.pop(), gates.pop()) else {
         return Err(Fail::from("there are two places"));
     };
-    let (published, first) = writes(&rt, alloc, first, 1, PUBLISHES, CONNECTED);
-    let told = first.told();
-    assert!(rt; published && told.version() == 1);
+    let (_first, told) = told_one(&rt, alloc, first);
     assert!(rt; second.version() == 0 && knows(&second, &told, false));
-    let (seen, second) = writes(&rt, alloc, second, 1, SUBSCRIBES, REPLAYED);
-    assert!(rt; seen && second.version() == 1 && knows(&second, &told, true));
-    let (again, second) = writes(&rt, alloc, second, 2, SUBSCRIBES, REPLAYED);
-    assert!(rt; again && second.version() == 1);
+    let (seen, second) = sees(&rt, alloc, second, 1, &told);
+    let (again, _second) = sees(&rt, alloc, second, 2, &told);
+    assert!(rt; seen && again);
     Ok(())
 }
 

@@ -70,6 +70,16 @@ pub fn ran<
     (served, counts.right.load(Ordering::SeqCst), taken, version)
 }
 
+/// Two connections that meet.
+fn meeting_turns(alloc: Global, counts: &Arc<Counts>) -> Result<Vec<Script>, AllocError> {
+    let mut turns = Vec::new(alloc);
+    for _ in 0..2u8 {
+        let exchanges = vec![in alloc; exchange(alloc, SUBSCRIBES, SUBSCRIBED)?]?;
+        turns.push(script(alloc, counts, exchanges, 0, 2)?)?;
+    }
+    Ok(turns)
+}
+
 fn meeting_named<
     N: LineName + Send + Sync + 'static,
     R: Threads + Wait + Abort + Copy + Send + Sync + 'static,
@@ -77,13 +87,9 @@ fn meeting_named<
     requires store { (blank.history ≡ N.history) × (blank.limit ≡ N.limit) }
     requires queue { (queue.name ≡ N.queue) × (queue.places ≡ N.places) }
 {
-    let store = opened::<N, R>(rt, alloc, blank, queue)?;
     let counts = Arc::new(alloc, Counts::new())?;
-    let mut turns = Vec::new(alloc);
-    for _ in 0..2u8 {
-        let exchanges = vec![in alloc; exchange(alloc, SUBSCRIBES, SUBSCRIBED)?]?;
-        turns.push(script(alloc, &counts, exchanges, 0, 2)?)?;
-    }
+    let turns = meeting_turns(alloc, &counts)?;
+    let store = opened::<N, R>(rt, alloc, blank, queue)?;
     let ran = ran(rt, alloc, turns, &counts, store);
     assert!(rt; ran == (2, 2, Some(0), 0));
     assert!(rt; counts.met.load(Ordering::SeqCst) == 2);
@@ -102,6 +108,18 @@ fn meeting(rt: HostRuntime) -> Result<(), Fail> {
     )
 }
 
+/// A place that publishes and then subscribes, one that subscribes after that, and one that has no connection.
+fn later_turns(alloc: Global, counts: &Arc<Counts>) -> Result<Vec<Script>, AllocError> {
+    let next = exchange(alloc, SUBSCRIBES, REPLAYED)?;
+    let first = vec![in alloc; next, exchange(alloc, PUBLISHES, CONNECTED)?]?;
+    let later = vec![in alloc; exchange(alloc, SUBSCRIBES, REPLAYED)?]?;
+    Ok(vec![in alloc;
+        script(alloc, counts, first, 0, 0)?,
+        script(alloc, counts, later, 1, 0)?,
+        script(alloc, counts, Vec::new(alloc), 0, 0)?,
+    ]?)
+}
+
 fn later_named<
     N: LineName + Send + Sync + 'static,
     R: Threads + Wait + Abort + Copy + Send + Sync + 'static,
@@ -109,16 +127,9 @@ fn later_named<
     requires store { (blank.history ≡ N.history) × (blank.limit ≡ N.limit) }
     requires queue { (queue.name ≡ N.queue) × (queue.places ≡ N.places) }
 {
-    let store = opened::<N, R>(rt, alloc, blank, queue)?;
     let counts = Arc::new(alloc, Counts::new())?;
-    let next = exchange(alloc, SUBSCRIBES, REPLAYED)?;
-    let first = vec![in alloc; next, exchange(alloc, PUBLISHES, CONNECTED)?]?;
-    let later = vec![in alloc; exchange(alloc, SUBSCRIBES, REPLAYED)?]?;
-    let turns = vec![in alloc;
-        script(alloc, &counts, first, 0, 0)?,
-        script(alloc, &counts, later, 1, 0)?,
-        script(alloc, &counts, Vec::new(alloc), 0, 0)?,
-    ]?;
+    let turns = later_turns(alloc, &counts)?;
+    let store = opened::<N, R>(rt, alloc, blank, queue)?;
     assert!(rt; ran(rt, alloc, turns, &counts, store) == (3, 3, Some(1), 1));
     Ok(())
 }
@@ -136,6 +147,12 @@ fn later(rt: HostRuntime) -> Result<(), Fail> {
     )
 }
 
+/// Appends a PUBLISH of QoS 1.
+fn put_publish(input: &mut Vec<u8>, topic: u8, id: u8, payload: u8) -> Result<(), AllocError> {
+    input.extend_from_slice(b"\x33\x07\x00\x01")?;
+    input.extend_from_slice(&[topic, 0, id, 0, payload])
+}
+
 /// Appends fifty PUBLISHes of QoS 1 to a topic, whose payloads are the numbers from this one on, and the PUBACKs.
 fn publish_fifty(
     topic: u8,
@@ -145,8 +162,7 @@ fn publish_fifty(
 ) -> Result<(), AllocError> {
     for before in 0..50u8 {
         let id = before + 1;
-        input.extend_from_slice(b"\x33\x07\x00\x01")?;
-        input.extend_from_slice(&[topic, 0, id, 0, first.saturating_add(before)])?;
+        put_publish(input, topic, id, first.saturating_add(before))?;
         output.extend_from_slice(&[0x40, 0x02, 0, id])?;
     }
     Ok(())
@@ -257,6 +273,12 @@ const FILLS: &[u8] =
 const FILLED: &[u8] =
     b"\x20\x0D\x00\x00\x0A\x21\x00\x10\x27\x00\x04\x00\x00\x2A\x00\x40\x02\x00\x01\x40\x02\x00\x02\x40\x03\x00\x03\x97\x40\x02\x00\x04\x40\x02\x00\x05";
 
+/// A connection that fills the store.
+fn full_turns(alloc: Global, counts: &Arc<Counts>) -> Result<Vec<Script>, AllocError> {
+    let exchanges = vec![in alloc; exchange(alloc, FILLS, FILLED)?]?;
+    Ok(vec![in alloc; script(alloc, counts, exchanges, 0, 0)?]?)
+}
+
 fn full_named<
     N: LineName + Send + Sync + 'static,
     R: Threads + Wait + Abort + Copy + Send + Sync + 'static,
@@ -264,10 +286,9 @@ fn full_named<
     requires store { (blank.history ≡ N.history) × (blank.limit ≡ N.limit) }
     requires queue { (queue.name ≡ N.queue) × (queue.places ≡ N.places) }
 {
-    let store = opened::<N, R>(rt, alloc, blank, queue)?;
     let counts = Arc::new(alloc, Counts::new())?;
-    let exchanges = vec![in alloc; exchange(alloc, FILLS, FILLED)?]?;
-    let turns = vec![in alloc; script(alloc, &counts, exchanges, 0, 0)?]?;
+    let turns = full_turns(alloc, &counts)?;
+    let store = opened::<N, R>(rt, alloc, blank, queue)?;
     assert!(rt; ran(rt, alloc, turns, &counts, store) == (1, 1, Some(5), 4));
     Ok(())
 }

@@ -53,19 +53,30 @@ fn accepted<H: Clock>(rt: &H, alloc: Global, listener: &Listener) -> u64 {
     count
 }
 
+fn can_be_bound<H: Net<Listener = TcpListener, Stream = TcpStream>>(rt: &H, address: &str) -> bool {
+    Listener::bind(rt, address, 1).is_ok()
+}
+
+// Whether the address is bound at this host and a port, is in use then, and afterwards at once free again.
+fn is_bound<H: Net<Listener = TcpListener, Stream = TcpStream>>(
+    rt: &H,
+    alloc: Global,
+    address: &str,
+    host: &str,
+) -> io::Result<bool> {
+    let listener = Listener::bind(rt, address, 1)?;
+    let bound = listener.address(alloc)?;
+    let text = bound.as_str();
+    let told = text.starts_with(host) && !text.ends_with(":0") && !can_be_bound(rt, text);
+    drop(listener);
+    Ok(told && can_be_bound(rt, text))
+}
+
 #[test]
 fn an_address_is_bound(rt: HostRuntime) -> Result<(), Fail> {
     let alloc = rt.alloc();
     for (address, host) in [("127.0.0.1:0", "127.0.0.1:"), ("localhost:0", "")] {
-        let listener = Listener::bind(&rt, address, 1)?;
-        let bound = listener.address(alloc)?;
-        assert!(rt; bound.as_str().starts_with(host));
-        assert!(rt; !bound.as_str().ends_with(":0"));
-        // It is in use now.
-        assert!(rt; Listener::bind(&rt, bound.as_str(), 1).is_err());
-        // And at once free again.
-        drop(listener);
-        assert!(rt; Listener::bind(&rt, bound.as_str(), 1).is_ok());
+        assert!(rt; is_bound(&rt, alloc, address, host)?, "{address}");
     }
     // A system may have no IPv6.
     if let Ok(listener) = Listener::bind(&rt, "[::1]:0", 1) {

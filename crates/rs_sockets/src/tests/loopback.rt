@@ -11,14 +11,22 @@ use std::thread::Threads;
 use std::time::Clock;
 use std::{io, thread};
 
+fn connect<H: Net<Listener = TcpListener, Stream = TcpStream>>(
+    rt: &H,
+    alloc: Global,
+    listener: &Listener,
+) -> io::Result<TcpStream> {
+    let address = listener.address(alloc)?;
+    TcpStream::connect(rt, address.as_str())
+}
+
 // A listener for one client, and its client.
 fn meet<H: Net<Listener = TcpListener, Stream = TcpStream>>(
     rt: &H,
     alloc: Global,
 ) -> io::Result<(Listener, TcpStream)> {
     let listener = Listener::bind(rt, "127.0.0.1:0", 1)?;
-    let address = listener.address(alloc)?;
-    let client = TcpStream::connect(rt, address.as_str())?;
+    let client = connect(rt, alloc, &listener)?;
     Ok((listener, client))
 }
 
@@ -68,31 +76,63 @@ fn a_client_that_closes_its_half_reads_all(rt: HostRuntime) -> Result<(), Fail> 
     Ok(())
 }
 
+// Reads two bytes, and writes between them.
+fn read_two(input: &mut FromClient, output: &mut ToClient) -> io::Result<()> {
+    let mut byte = [0u8; 1];
+    input.read_exact(&mut byte)?;
+    output.write_all(b"unread")?;
+    input.read_exact(&mut byte)
+}
+
+// Whether more can be written, and nothing be read.
+fn is_lost(input: &mut FromClient, output: &mut ToClient) -> bool {
+    let mut byte = [0u8; 1];
+    output.write_all(b"more").is_ok() && input.read(&mut byte).is_err()
+}
+
+// Whether a client that resets its connection is lost.
+fn resets<H: Clock>(
+    rt: &H,
+    alloc: Global,
+    listener: &Listener,
+    client: TcpStream,
+) -> Result<bool, Fail> {
+    let mut client = client;
+    client.write_all(b"ab")?;
+    let (mut input, mut output) = listener.accept(rt, alloc).ok_or("no connection")?;
+    read_two(&mut input, &mut output)?;
+    // A socket that is closed while bytes are unread is reset.
+    drop(client);
+    let lost = is_lost(&mut input, &mut output);
+    let _ = close(rt, input, output);
+    Ok(lost)
+}
+
+// Whether a client that sends a byte and closes its half is answered.
+fn is_served<H: Clock>(
+    rt: &H,
+    alloc: Global,
+    listener: &Listener,
+    client: TcpStream,
+) -> Result<bool, Fail> {
+    let mut client = client;
+    client.write_all(b"c")?;
+    client.shutdown(Shutdown::Write)?;
+    let (mut input, mut output) = listener.accept(rt, alloc).ok_or("no connection")?;
+    serve(&mut input, &mut output)?;
+    close(rt, input, output)?;
+    let replies = io::read_to_string(alloc, client)?;
+    Ok(replies.as_str() == "c-c.")
+}
+
 #[test]
 fn a_client_that_resets_harms_no_other(rt: HostRuntime) -> Result<(), Fail> {
     let alloc = rt.alloc();
     let listener = Listener::bind(&rt, "127.0.0.1:0", 2)?;
-    let address = listener.address(alloc)?;
-    let mut first = TcpStream::connect(&rt, address.as_str())?;
-    let mut second = TcpStream::connect(&rt, address.as_str())?;
-    first.write_all(b"ab")?;
-    let (mut input, mut output) = listener.accept(&rt, alloc).ok_or("no connection")?;
-    let mut byte = [0u8; 1];
-    input.read_exact(&mut byte)?;
-    output.write_all(b"unread")?;
-    input.read_exact(&mut byte)?;
-    // A socket that is closed while bytes are unread is reset.
-    drop(first);
-    output.write_all(b"more")?;
-    assert!(rt; input.read(&mut byte).is_err());
-    let _ = close(&rt, input, output);
-    second.write_all(b"c")?;
-    second.shutdown(Shutdown::Write)?;
-    let (mut input, mut output) = listener.accept(&rt, alloc).ok_or("no connection")?;
-    serve(&mut input, &mut output)?;
-    close(&rt, input, output)?;
-    let replies = io::read_to_string(alloc, second)?;
-    assert!(rt; replies.as_str() == "c-c.");
+    let first = connect(&rt, alloc, &listener)?;
+    let second = connect(&rt, alloc, &listener)?;
+    assert!(rt; resets(&rt, alloc, &listener, first)?);
+    assert!(rt; is_served(&rt, alloc, &listener, second)?);
     Ok(())
 }
 
