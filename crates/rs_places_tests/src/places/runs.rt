@@ -70,14 +70,24 @@ pub fn ran<
     (served, counts.right.load(Ordering::SeqCst), taken, version)
 }
 
+/// A place with one connection.
+fn single(
+    alloc: Global,
+    counts: &Arc<Counts>,
+    input: &[u8],
+    output: &[u8],
+    after: u64,
+    together: u64,
+) -> Result<Script, AllocError> {
+    let exchanges = vec![in alloc; exchange(alloc, input, output)?]?;
+    script(alloc, counts, exchanges, after, together)
+}
+
 /// Two connections that meet.
 fn meeting_turns(alloc: Global, counts: &Arc<Counts>) -> Result<Vec<Script>, AllocError> {
-    let mut turns = Vec::new(alloc);
-    for _ in 0..2u8 {
-        let exchanges = vec![in alloc; exchange(alloc, SUBSCRIBES, SUBSCRIBED)?]?;
-        turns.push(script(alloc, counts, exchanges, 0, 2)?)?;
-    }
-    Ok(turns)
+    let first = single(alloc, counts, SUBSCRIBES, SUBSCRIBED, 0, 2)?;
+    let second = single(alloc, counts, SUBSCRIBES, SUBSCRIBED, 0, 2)?;
+    Ok(vec![in alloc; first, second]?)
 }
 
 fn meeting_named<
@@ -108,16 +118,19 @@ fn meeting(rt: HostRuntime) -> Result<(), Fail> {
     )
 }
 
+/// A place that subscribes after it has published.
+fn publishes_first(alloc: Global, counts: &Arc<Counts>) -> Result<Script, AllocError> {
+    let next = exchange(alloc, SUBSCRIBES, REPLAYED)?;
+    let exchanges = vec![in alloc; next, exchange(alloc, PUBLISHES, CONNECTED)?]?;
+    script(alloc, counts, exchanges, 0, 0)
+}
+
 /// A place that publishes and then subscribes, one that subscribes after that, and one that has no connection.
 fn later_turns(alloc: Global, counts: &Arc<Counts>) -> Result<Vec<Script>, AllocError> {
-    let next = exchange(alloc, SUBSCRIBES, REPLAYED)?;
-    let first = vec![in alloc; next, exchange(alloc, PUBLISHES, CONNECTED)?]?;
-    let later = vec![in alloc; exchange(alloc, SUBSCRIBES, REPLAYED)?]?;
-    Ok(vec![in alloc;
-        script(alloc, counts, first, 0, 0)?,
-        script(alloc, counts, later, 1, 0)?,
-        script(alloc, counts, Vec::new(alloc), 0, 0)?,
-    ]?)
+    let first = publishes_first(alloc, counts)?;
+    let later = single(alloc, counts, SUBSCRIBES, REPLAYED, 1, 0)?;
+    let silent = script(alloc, counts, Vec::new(alloc), 0, 0)?;
+    Ok(vec![in alloc; first, later, silent]?)
 }
 
 fn later_named<
@@ -243,12 +256,9 @@ fn large_named<
     let publish = large_publish(alloc)?;
     let input = joined(alloc, CONNECT, &publish)?;
     let output = joined(alloc, SUBSCRIBED, &publish)?;
-    let first = vec![in alloc; exchange(alloc, &input, CONNECTED)?]?;
-    let later = vec![in alloc; exchange(alloc, SUBSCRIBES, &output)?]?;
-    let turns = vec![in alloc;
-        script(alloc, &counts, first, 0, 0)?,
-        script(alloc, &counts, later, 1, 0)?,
-    ]?;
+    let first = single(alloc, &counts, &input, CONNECTED, 0, 0)?;
+    let later = single(alloc, &counts, SUBSCRIBES, &output, 1, 0)?;
+    let turns = vec![in alloc; first, later]?;
     assert!(rt; ran(rt, alloc, turns, &counts, store) == (2, 2, Some(1), 1));
     Ok(())
 }
@@ -273,12 +283,6 @@ const FILLS: &[u8] =
 const FILLED: &[u8] =
     b"\x20\x0D\x00\x00\x0A\x21\x00\x10\x27\x00\x04\x00\x00\x2A\x00\x40\x02\x00\x01\x40\x02\x00\x02\x40\x03\x00\x03\x97\x40\x02\x00\x04\x40\x02\x00\x05";
 
-/// A connection that fills the store.
-fn full_turns(alloc: Global, counts: &Arc<Counts>) -> Result<Vec<Script>, AllocError> {
-    let exchanges = vec![in alloc; exchange(alloc, FILLS, FILLED)?]?;
-    Ok(vec![in alloc; script(alloc, counts, exchanges, 0, 0)?]?)
-}
-
 fn full_named<
     N: LineName + Send + Sync + 'static,
     R: Threads + Wait + Abort + Copy + Send + Sync + 'static,
@@ -287,7 +291,7 @@ fn full_named<
     requires queue { (queue.name ≡ N.queue) × (queue.places ≡ N.places) }
 {
     let counts = Arc::new(alloc, Counts::new())?;
-    let turns = full_turns(alloc, &counts)?;
+    let turns = vec![in alloc; single(alloc, &counts, FILLS, FILLED, 0, 0)?]?;
     let store = opened::<N, R>(rt, alloc, blank, queue)?;
     assert!(rt; ran(rt, alloc, turns, &counts, store) == (1, 1, Some(5), 4));
     Ok(())
