@@ -12,6 +12,3 @@ mod writer;
 pub use digits::{HexFault, read_hex};
 pub use reader::HexReader;
 pub use writer::HexWriter;
-
-#[cfg(test)]
-mod tests;

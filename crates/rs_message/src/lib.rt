@@ -11,8 +11,6 @@
 mod entry;
 mod fault;
 mod message;
-#[cfg(test)]
-mod tests;
 
 pub use entry::{Entry, Found, MAX_PLACES, Operation, Origin};
 pub use fault::SubmitFault;

@@ -31,6 +31,3 @@ pub use packet::{
 };
 pub use reply::{Accepted, Codes, Publication, Reply};
 pub use rs_field::{MAX_REMAINING_LENGTH, PacketFault, Properties, PropertyFields, SubscriptionId};
-
-#[cfg(test)]
-mod tests;

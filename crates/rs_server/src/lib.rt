@@ -23,6 +23,3 @@ pub use connection::{ConnectionId, Served, serve};
 pub use counted::Counted;
 pub use law::inputs_determined;
 pub use writing::ServeFault;
-
-#[cfg(test)]
-mod tests;

@@ -18,8 +18,6 @@ mod limits;
 mod matching;
 mod name;
 mod order;
-#[cfg(test)]
-mod tests;
 mod text;
 
 pub use filter::TopicFilter;

@@ -16,8 +16,6 @@ mod identifiers;
 mod inbound;
 mod law;
 mod queue;
-#[cfg(test)]
-mod tests;
 mod window;
 
 pub use fault::{Ack, WindowFault};

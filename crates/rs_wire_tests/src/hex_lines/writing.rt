@@ -1,0 +1,113 @@
+//! Lines that are written in pieces of every size.
+
+use rs_hex::HexWriter;
+use std::alloc::Global;
+use std::io;
+use std::io::{ErrorKind, Write};
+use std::test::Fail;
+
+// Takes at most `step` bytes a call. The call with this number fails, a write or a flush, counted from 1.
+#[derive(Drop)]
+struct StepWriter {
+    text: Vec<u8>,
+    step: usize,
+    calls: usize,
+    fails_at: usize,
+    flushes: usize,
+}
+
+impl StepWriter {
+    fn call(&mut self) -> io::Result<()> {
+        self.calls = self.calls.saturating_add(1);
+        if self.calls == self.fails_at {
+            return Err(io::Error::from(ErrorKind::Interrupted));
+        }
+        Ok(())
+    }
+}
+
+impl Write for StepWriter {
+    fn write(&mut self, buf: &[u8]) -> io::Result<usize> {
+        self.call()?;
+        let n = buf.len().min(self.step);
+        self.text.extend_from_slice(&buf[..n])?;
+        Ok(n)
+    }
+
+    fn flush(&mut self) -> io::Result<()> {
+        self.call()?;
+        self.flushes = self.flushes.saturating_add(1);
+        Ok(())
+    }
+}
+
+fn writer(alloc: Global, step: usize, fails_at: usize) -> HexWriter<StepWriter> {
+    HexWriter::new(StepWriter {
+        text: Vec::new(alloc),
+        step,
+        calls: 0,
+        fails_at,
+        flushes: 0,
+    })
+}
+
+// Writes all of the bytes, and each call that failed again.
+fn write_line(writer: &mut HexWriter<StepWriter>, bytes: &[u8]) -> Result<(), Fail> {
+    let mut done = 0;
+    for _ in 0..1000 {
+        if done >= bytes.len() {
+            if writer.flush().is_ok() {
+                return Ok(());
+            }
+        } else if let Ok(n) = writer.write(&bytes[done..]) {
+            done = done.saturating_add(n);
+        }
+    }
+    Err(Fail::from("no end"))
+}
+
+fn written(writer: HexWriter<StepWriter>) -> (Vec<u8>, usize) {
+    let StepWriter {
+        text,
+        step: _,
+        calls: _,
+        fails_at: _,
+        flushes,
+    } = writer.into_inner();
+    (text, flushes)
+}
+
+// However few digits the output takes at once. Each line is flushed.
+#[test]
+fn all_bytes_are_written(rt: HostRuntime) -> Result<(), Fail> {
+    for step in 1..=7 {
+        let mut lines = writer(rt.alloc(), step, 0);
+        write_line(&mut lines, b"\x00\x0A\x1f\xF0\xff")?;
+        write_line(&mut lines, b"\x12")?;
+        let (text, flushes) = written(lines);
+        assert_eq!(rt; text.as_slice(), b"000a1ff0ff\n12\n".as_slice(), "{step}");
+        assert!(rt; flushes == 2, "{step}");
+    }
+    Ok(())
+}
+
+// A call that failed and is made again leaves no digit out, and writes none twice.
+#[test]
+fn a_failed_write_goes_on(rt: HostRuntime) -> Result<(), Fail> {
+    for fails_at in 1..=11 {
+        let mut lines = writer(rt.alloc(), 1, fails_at);
+        write_line(&mut lines, b"\x01\x23\x45\x67\x89")?;
+        let (text, flushes) = written(lines);
+        assert_eq!(rt; text.as_slice(), b"0123456789\n".as_slice(), "{fails_at}");
+        assert!(rt; flushes == 1, "{fails_at}");
+    }
+    Ok(())
+}
+
+// Nothing is written if the output takes nothing.
+#[test]
+fn an_output_that_takes_nothing(rt: HostRuntime) {
+    let mut lines = writer(rt.alloc(), 0, 0);
+    assert!(rt; lines.write(b"\x01").ok() == Some(0));
+    assert!(rt; lines.flush().is_err());
+}

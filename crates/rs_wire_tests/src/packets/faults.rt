@@ -1,0 +1,47 @@
+//! The codes and texts of faults.
+
+use rs_packet::PacketFault;
+
+// Each fault, its number, and its text.
+const FAULTS: &[(PacketFault, u8, &str)] = &[
+    (
+        PacketFault::Malformed,
+        10,
+        "the packet is malformed: see that its length, flags and fields have the form of MQTT 5.0",
+    ),
+    (
+        PacketFault::Protocol,
+        11,
+        "the packet breaks the protocol: see that a client may send its type, properties and values",
+    ),
+    (
+        PacketFault::TooLarge,
+        12,
+        "the packet is longer than the Maximum Packet Size of CONNACK: send less in one packet",
+    ),
+    (
+        PacketFault::Version,
+        13,
+        "the protocol is not MQTT 5.0: connect with protocol version 5",
+    ),
+    (
+        PacketFault::NoMemory,
+        14,
+        "memory ran out while the packet was read: try again later",
+    ),
+];
+
+fn is_told(rt: &HostRuntime, told: &(PacketFault, u8, &str)) -> bool {
+    let fault = told.0;
+    match format!(in rt.alloc(); "{fault}") {
+        Ok(shown) => shown.as_str() == told.2 && fault.code() == told.1,
+        Err(_) => false,
+    }
+}
+
+#[test]
+fn faults_have_codes_and_texts(rt: HostRuntime) {
+    for told in FAULTS {
+        assert!(rt; is_told(&rt, told));
+    }
+}
