@@ -10,7 +10,7 @@ use Rattle.rs_field.specs.declared.property.Identifier.{Identifier}
 use Rattle.rs_field.specs.declared.property.Identifier.TheVariants as id
 use Rattle.rs_field.specs.declared.property.Property.{Property}
 use Rattle.rs_field.specs.declared.property.Property.TheVariants as property
-use Rattle.rs_field.specs.declared.property.Place.{Place}
+use Rattle.rs_field.specs.declared.property.PropertyOwner.{PropertyOwner}
 use Rattle.rs_topic.specs.Topics.{is_plain}
 use Rattle.rs_field.specs.Properties.{varint, varint_end, number, identifier, value, property_bytes, may_stand, may_repeat, IsInRange, AreAllowed, AreProperties, properties, none_yet, counted, nothing, gathered}
 use Rattle.rs_field.specs.Values.{FoundValue}
@@ -95,11 +95,11 @@ value_again (property.PacketMaximum n) rest h = rw (number_again w32 (2 ^ 32) wi
 -- ---- identifiers
 
 -- what is judged right is what was read, may stand and is new
-pub record IsJudged (where_ : Place) (before : List Bool) (i : Identifier) : Type 0 where
+pub record IsJudged (where_ : PropertyOwner) (before : List Bool) (i : Identifier) : Type 0 where
   pub stands : may_stand where_ i ≡ true
   pub new : (may_repeat i || not (slice_index_or before (number i) false)) ≡ true
 
-judged_is : (where_ : Place) (before : List Bool) (o : Option Identifier) (i : Identifier) → judged where_ before o ≡ Ok i → (o ≡ Some i) × IsJudged where_ before i
+judged_is : (where_ : PropertyOwner) (before : List Bool) (o : Option Identifier) (i : Identifier) → judged where_ before o ≡ Ok i → (o ≡ Some i) × IsJudged where_ before i
 judged_is where_ before None i e = absurd cc
 judged_is where_ before (Some j) i e = go (may_stand where_ j) (may_repeat j || not (slice_index_or before (number j) false)) refl refl e
   where
@@ -108,7 +108,7 @@ judged_is where_ before (Some j) i e = go (may_stand where_ j) (may_repeat j || 
     go true false s n e = absurd cc
     go false b s n e = absurd cc
 
-judged_again : (where_ : Place) (before : List Bool) (i : Identifier) → IsJudged where_ before i → judged where_ before (Some i) ≡ Ok i
+judged_again : (where_ : PropertyOwner) (before : List Bool) (i : Identifier) → IsJudged where_ before i → judged where_ before (Some i) ≡ Ok i
 judged_again where_ before i h = rw (h.stands, h.new) refl
 
 -- ---- a property
@@ -119,7 +119,7 @@ identifier_byte i j n same is = rw (same, ← is) (one_byte j)
 section_is : (n : ℕ) (section : List ℕ) (ps : List Property) → length (flat_map property_bytes ps) ≡ n → section ≡ flat_map property_bytes ps → varint n ++ section ≡ properties ps
 section_is n section ps len is = rw (is, ← len) refl
 
-pub property_takes : (where_ : Place) (before : List Bool) (bytes : List ℕ) (x : Property × List ℕ) → IsBytes bytes → property_at where_ before bytes ≡ Ok x
+pub property_takes : (where_ : PropertyOwner) (before : List Bool) (bytes : List ℕ) (x : Property × List ℕ) → IsBytes bytes → property_at where_ before bytes ≡ Ok x
     → Takes bytes (property_bytes x.0) x.1 × IsInRange x.0 × IsJudged where_ before (identifier x.0)
 unfolding property_at
 property_takes where_ before bytes x fits e =
@@ -133,7 +133,7 @@ property_takes where_ before bytes x fits e =
     let both = Takes-then bytes (varint n.0.0) n.0.1 (value x.0) x.1 t.0 v.1 in
     (subst (λ (front : List ℕ). Takes bytes (front ++ value x.0) x.1) byte both, v.2, subst (IsJudged where_ before) (sym v.0) j.1)
 
-pub property_again : (where_ : Place) (before : List Bool) (p : Property) (rest : List ℕ) → IsInRange p → IsJudged where_ before (identifier p) → property_at where_ before (property_bytes p ++ rest) ≡ Ok (p, rest)
+pub property_again : (where_ : PropertyOwner) (before : List Bool) (p : Property) (rest : List ℕ) → IsInRange p → IsJudged where_ before (identifier p) → property_at where_ before (property_bytes p ++ rest) ≡ Ok (p, rest)
 unfolding property_at
 property_again where_ before p rest h j =
     let i = identifier p in
@@ -143,7 +143,7 @@ property_again where_ before p rest h j =
 
 -- ---- the properties
 
-pub properties_take : (n : ℕ) (where_ : Place) (before : List Bool) (bytes : List ℕ) (ps : List Property) → IsBytes bytes → length bytes ≤ n → properties_in n where_ before bytes ≡ Ok ps
+pub properties_take : (n : ℕ) (where_ : PropertyOwner) (before : List Bool) (bytes : List ℕ) (ps : List Property) → IsBytes bytes → length bytes ≤ n → properties_in n where_ before bytes ≡ Ok ps
     → (bytes ≡ flat_map property_bytes ps) × AreAllowed where_ ps × AreNew before ps
 unfolding properties_in
 properties_take n where_ before [] ps fits le e = subst (λ (qs : List Property). ([] ≡ flat_map property_bytes qs) × AreAllowed where_ qs × AreNew before qs) (ok_is [] ps e) (refl, tt, tt)
@@ -157,7 +157,7 @@ properties_take (suc n) where_ before (b ∷ bytes) ps fits le e =
     let whole : b ∷ bytes ≡ flat_map property_bytes (p.0.0 ∷ q.0) = t.0.parts ∙ ap (λ (r : List ℕ). property_bytes p.0.0 ++ r) others.0 in
     subst (λ (qs : List Property). (b ∷ bytes ≡ flat_map property_bytes qs) × AreAllowed where_ qs × AreNew before qs) (ok_is (p.0.0 ∷ q.0) ps q.2) (whole, (t.2.stands, t.1, others.1), (t.2.new, others.2))
 
-pub properties_again : (n : ℕ) (where_ : Place) (before : List Bool) (ps : List Property) → length (flat_map property_bytes ps) ≤ n → AreAllowed where_ ps → AreNew before ps → properties_in n where_ before (flat_map property_bytes ps) ≡ Ok ps
+pub properties_again : (n : ℕ) (where_ : PropertyOwner) (before : List Bool) (ps : List Property) → length (flat_map property_bytes ps) ≤ n → AreAllowed where_ ps → AreNew before ps → properties_in n where_ before (flat_map property_bytes ps) ≡ Ok ps
 unfolding properties_in
 properties_again n where_ before [] le allowed new = refl
 properties_again zero where_ before (p ∷ ps) le allowed new = absurd (omega (arith, le))
@@ -166,7 +166,7 @@ properties_again (suc n) where_ before (p ∷ ps) le allowed new =
     let small : length (flat_map property_bytes ps) ≤ n = omega (arith, le, length-append (value p) (flat_map property_bytes ps)) in
     rw (first, properties_again n where_ (slice_set before (number (identifier p)) true) ps small allowed.2 new.1) refl
 
-pub all_take : (where_ : Place) (bytes : List ℕ) (x : List Property × List ℕ) → IsBytes bytes → properties_at where_ bytes ≡ Ok x → Takes bytes (properties x.0) x.1 × AreProperties where_ x.0
+pub all_take : (where_ : PropertyOwner) (bytes : List ℕ) (x : List Property × List ℕ) → IsBytes bytes → properties_at where_ bytes ≡ Ok x → Takes bytes (properties x.0) x.1 × AreProperties where_ x.0
 unfolding properties_at
 all_take where_ bytes x fits e =
     let n = bind_ok (varint_at bytes) (λ n. part_at n.0 n.1 >>= λ section. properties_in (length section.0) where_ none_yet section.0 >>= λ ps. Ok (ps, section.1)) x e in
@@ -182,7 +182,7 @@ all_take where_ bytes x fits e =
     subst (λ (y : List Property × List ℕ). Takes bytes (properties y.0) y.1 × AreProperties where_ y.0) (ok_is made x ps.2)
     (subst (λ (front : List ℕ). Takes bytes front s.0.1) same both, record { allowed = in_.1; once = (once_when_new none_yet ps.0 refl in_.2).1; short = omega (arith, len, t.1) })
 
-pub all_again : (where_ : Place) (ps : List Property) (rest : List ℕ) → AreProperties where_ ps → properties_at where_ (properties ps ++ rest) ≡ Ok (ps, rest)
+pub all_again : (where_ : PropertyOwner) (ps : List Property) (rest : List ℕ) → AreProperties where_ ps → properties_at where_ (properties ps ++ rest) ≡ Ok (ps, rest)
 unfolding properties_at
 all_again where_ ps rest h =
     let text = flat_map property_bytes ps in
@@ -191,13 +191,13 @@ all_again where_ ps rest h =
 
 -- ---- the properties, by what they say
 
-pub record FoundIn (where_ : Place) (bytes : List ℕ) (x : FoundValue × List ℕ) : Type 0 where
+pub record FoundIn (where_ : PropertyOwner) (bytes : List ℕ) (x : FoundValue × List ℕ) : Type 0 where
   pub ps : List Property
   pub takes : Takes bytes (properties ps) x.1
   pub are : AreProperties where_ ps
   pub says : x.0 ≡ gathered nothing ps
 
-pub found_takes : (where_ : Place) (bytes : List ℕ) (x : FoundValue × List ℕ) → IsBytes bytes → found_at where_ bytes ≡ Ok x → FoundIn where_ bytes x
+pub found_takes : (where_ : PropertyOwner) (bytes : List ℕ) (x : FoundValue × List ℕ) → IsBytes bytes → found_at where_ bytes ≡ Ok x → FoundIn where_ bytes x
 unfolding found_at
 found_takes where_ bytes x fits e =
     let b = bind_ok (properties_at where_ bytes) (λ ps. Ok (gathered nothing ps.0, ps.1)) x e in
@@ -205,11 +205,11 @@ found_takes where_ bytes x fits e =
     let made : FoundValue × List ℕ = (gathered nothing b.0.0, b.0.1) in
     subst (FoundIn where_ bytes) (ok_is made x b.2) (record { ps = b.0.0; takes = t.0; are = t.1; says = refl })
 
-pub found_again : (where_ : Place) (ps : List Property) (rest : List ℕ) → AreProperties where_ ps → found_at where_ (properties ps ++ rest) ≡ Ok (gathered nothing ps, rest)
+pub found_again : (where_ : PropertyOwner) (ps : List Property) (rest : List ℕ) → AreProperties where_ ps → found_at where_ (properties ps ++ rest) ≡ Ok (gathered nothing ps, rest)
 unfolding found_at
 found_again where_ ps rest h = rw (all_again where_ ps rest h) refl
 
 -- a section of length 0 is taken at once
-pub found_none : (where_ : Place) (bytes rest : List ℕ) → varint_at bytes ≡ Ok (0, rest) → found_at where_ bytes ≡ Ok (nothing, rest)
+pub found_none : (where_ : PropertyOwner) (bytes rest : List ℕ) → varint_at bytes ≡ Ok (0, rest) → found_at where_ bytes ≡ Ok (nothing, rest)
 unfolding found_at properties_at properties_in gathered
 found_none where_ bytes rest h = rw (h, le-ltb (length rest) 0 (omega arith)) refl

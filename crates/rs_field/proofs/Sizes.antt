@@ -8,7 +8,7 @@ use Rattle.std.proofs.lemmas.List.Concat.{flat_map-append}
 use Rattle.rs_field.specs.declared.fault.PacketFault.{PacketFault}
 use Rattle.rs_field.specs.declared.property.Property.{Property}
 use Rattle.rs_field.specs.declared.property.Property.TheVariants as property
-use Rattle.rs_field.specs.declared.property.Place.{Place}
+use Rattle.rs_field.specs.declared.property.PropertyOwner.{PropertyOwner}
 use Rattle.rs_field.specs.Values.{FoundValue}
 use Rattle.rs_field.specs.Properties.{low_first, varint, property_bytes, value, IsInRange, AreAllowed, properties, nothing, put, gathered}
 use Rattle.rs_field.specs.Kept.{kept, optional, user_property, replayed}
@@ -114,7 +114,7 @@ put_found f (property.Alias n) h r = record { short = h.short; maxima = h.maxima
 put_found f (property.User k v) h r = record { short = h.short; maxima = h.maxima }
 put_found f (property.PacketMaximum n) h r = record { short = h.short; maxima = record { receive_fits = h.maxima.receive_fits; packet_fits = r.0 } }
 
-gathered_found : (where_ : Place) (f : FoundValue) (ps : List Property) → IsFound f → AreAllowed where_ ps → IsFound (gathered f ps)
+gathered_found : (where_ : PropertyOwner) (f : FoundValue) (ps : List Property) → IsFound f → AreAllowed where_ ps → IsFound (gathered f ps)
 unfolding gathered
 gathered_found where_ f [] h a = h
 gathered_found where_ f (p ∷ ps) h a = gathered_found where_ (put f p) ps (put_found f p h a.1) a.2
@@ -128,7 +128,7 @@ pub record FoundFits (bytes : List ℕ) (f : FoundValue) (rest : List ℕ) : Typ
   pub fits : IsFound f
   pub size_fits : length (properties (replayed f.expiry None (kept f))) + length rest ≤ length bytes
 
-pub found_fits : (where_ : Place) (bytes : List ℕ) (f : FoundValue) (rest : List ℕ) → IsBytes bytes → found_at where_ bytes ≡ Ok (f, rest) → FoundFits bytes f rest
+pub found_fits : (where_ : PropertyOwner) (bytes : List ℕ) (f : FoundValue) (rest : List ℕ) → IsBytes bytes → found_at where_ bytes ≡ Ok (f, rest) → FoundFits bytes f rest
 found_fits where_ bytes f rest fits e =
     let g = found_takes where_ bytes (f, rest) fits e in
     let made : FoundFits bytes (gathered nothing g.ps) rest = record {
@@ -139,11 +139,11 @@ found_fits where_ bytes f rest fits e =
     } in
     subst (λ (v : FoundValue). FoundFits bytes v rest) (sym g.says) made
 
-pub found_is : (where_ : Place) (bytes rest : List ℕ) (r : Result FoundValue PacketFault) → IsBytes bytes → Gives (λ f. (f, rest)) r (found_at where_ bytes) → IfOk r (λ f. IsFound f)
+pub found_is : (where_ : PropertyOwner) (bytes rest : List ℕ) (r : Result FoundValue PacketFault) → IsBytes bytes → Gives (λ f. (f, rest)) r (found_at where_ bytes) → IfOk r (λ f. IsFound f)
 found_is where_ bytes rest (Ok f) fits e = (found_fits where_ bytes f rest fits e).fits
 found_is where_ bytes rest (Err d) fits e = tt
 
-pub found_size : (where_ : Place) (bytes rest : List ℕ) (r : Result FoundValue PacketFault) → IsBytes bytes → Gives (λ f. (f, rest)) r (found_at where_ bytes)
+pub found_size : (where_ : PropertyOwner) (bytes rest : List ℕ) (r : Result FoundValue PacketFault) → IsBytes bytes → Gives (λ f. (f, rest)) r (found_at where_ bytes)
     → IfOk r (λ f. length (properties (replayed f.expiry None (kept f))) + length rest ≤ length bytes)
 found_size where_ bytes rest (Ok f) fits e = (found_fits where_ bytes f rest fits e).size_fits
 found_size where_ bytes rest (Err d) fits e = tt

@@ -6,8 +6,8 @@ use Rattle.rs_field.specs.declared.property.Identifier.TheVariants as id
 use Rattle.rs_field.specs.declared.property.Property.{Property}
 use Rattle.rs_field.specs.declared.property.TheConstants.{IDENTIFIERS}
 use Rattle.rs_field.specs.declared.property.Property.TheVariants as property
-use Rattle.rs_field.specs.declared.property.Place.{Place}
-use Rattle.rs_field.specs.declared.property.Place.TheVariants as place
+use Rattle.rs_field.specs.declared.property.PropertyOwner.{PropertyOwner}
+use Rattle.rs_field.specs.declared.property.PropertyOwner.TheVariants as owner
 use Rattle.rs_topic.specs.Texts.{IsText}
 use Rattle.rs_topic.specs.Topics.{is_plain}
 use Rattle.rs_field.specs.Values.{FoundValue}
@@ -101,31 +101,31 @@ abbrev pub property_bytes : Property → List ℕ
 property_bytes p = number (identifier p) ∷ value p
 
 -- table 2-4: which packet may have which property of a client
-abbrev pub may_stand : Place → Identifier → Bool
-may_stand place.Connect id.SessionExpiry = true
-may_stand place.Connect id.AuthenticationMethod = true
-may_stand place.Connect id.AuthenticationData = true
-may_stand place.Connect id.ProblemInformation = true
-may_stand place.Connect id.ResponseInformation = true
-may_stand place.Connect id.ReceiveMaximum = true
-may_stand place.Connect id.TopicAliasMaximum = true
-may_stand place.Connect id.MaximumPacketSize = true
-may_stand place.Connect id.UserProperty = true
-may_stand place.Publish id.PayloadFormat = true
-may_stand place.Publish id.MessageExpiry = true
-may_stand place.Publish id.ContentType = true
-may_stand place.Publish id.ResponseTopic = true
-may_stand place.Publish id.CorrelationData = true
-may_stand place.Publish id.TopicAlias = true
-may_stand place.Publish id.UserProperty = true
-may_stand place.Acknowledgement id.ReasonString = true
-may_stand place.Acknowledgement id.UserProperty = true
-may_stand place.Subscribe id.SubscriptionIdentifier = true
-may_stand place.Subscribe id.UserProperty = true
-may_stand place.Unsubscribe id.UserProperty = true
-may_stand place.Disconnect id.SessionExpiry = true
-may_stand place.Disconnect id.ReasonString = true
-may_stand place.Disconnect id.UserProperty = true
+abbrev pub may_stand : PropertyOwner → Identifier → Bool
+may_stand owner.Connect id.SessionExpiry = true
+may_stand owner.Connect id.AuthenticationMethod = true
+may_stand owner.Connect id.AuthenticationData = true
+may_stand owner.Connect id.ProblemInformation = true
+may_stand owner.Connect id.ResponseInformation = true
+may_stand owner.Connect id.ReceiveMaximum = true
+may_stand owner.Connect id.TopicAliasMaximum = true
+may_stand owner.Connect id.MaximumPacketSize = true
+may_stand owner.Connect id.UserProperty = true
+may_stand owner.Publish id.PayloadFormat = true
+may_stand owner.Publish id.MessageExpiry = true
+may_stand owner.Publish id.ContentType = true
+may_stand owner.Publish id.ResponseTopic = true
+may_stand owner.Publish id.CorrelationData = true
+may_stand owner.Publish id.TopicAlias = true
+may_stand owner.Publish id.UserProperty = true
+may_stand owner.Acknowledgement id.ReasonString = true
+may_stand owner.Acknowledgement id.UserProperty = true
+may_stand owner.Subscribe id.SubscriptionIdentifier = true
+may_stand owner.Subscribe id.UserProperty = true
+may_stand owner.Unsubscribe id.UserProperty = true
+may_stand owner.Disconnect id.SessionExpiry = true
+may_stand owner.Disconnect id.ReasonString = true
+may_stand owner.Disconnect id.UserProperty = true
 may_stand _ _ = false
 
 -- only a user property may occur more than once
@@ -150,11 +150,11 @@ AreOnce [] = Unit {0}
 AreOnce (p ∷ ps) = MayStandBeside p ps × AreOnce ps
 
 -- the packet may have each, with a value in its range
-abbrev pub AreAllowed : Place → List Property → Type 0
+abbrev pub AreAllowed : PropertyOwner → List Property → Type 0
 AreAllowed where_ [] = Unit {0}
 AreAllowed where_ (p ∷ ps) = (may_stand where_ (identifier p) ≡ true) × IsInRange p × AreAllowed where_ ps
 
-pub record AreProperties (where_ : Place) (ps : List Property) : Type 0 where
+pub record AreProperties (where_ : PropertyOwner) (ps : List Property) : Type 0 where
   pub allowed : AreAllowed where_ ps
   pub once : AreOnce ps
   pub short : length (flat_map property_bytes ps) < varint_end

@@ -10,8 +10,8 @@ use Rattle.rs_field.specs.declared.property.Identifier.{Identifier}
 use Rattle.rs_field.specs.declared.property.Identifier.TheVariants as id
 use Rattle.rs_field.specs.declared.property.Property.{Property}
 use Rattle.rs_field.specs.declared.property.Property.TheVariants as property
-use Rattle.rs_field.specs.declared.property.Place.{Place}
-use Rattle.rs_field.specs.declared.property.Place.TheVariants as place
+use Rattle.rs_field.specs.declared.property.PropertyOwner.{PropertyOwner}
+use Rattle.rs_field.specs.declared.property.PropertyOwner.TheVariants as owner
 use Rattle.rs_topic.specs.Texts.{reads_as_text}
 use Rattle.rs_topic.specs.Topics.{is_plain}
 use Rattle.rs_field.specs.Properties.{number, identifier, may_stand, may_repeat, none_yet, nothing, gathered}
@@ -100,13 +100,13 @@ identifier_of n = find (λ i. number i == n) identifiers
 
 -- a property in another packet than its own is malformed (2.2.2.2), but no client may send a Subscription Identifier in a PUBLISH
 -- (3.3.4); for a Server Reference in a client's DISCONNECT the standard names no code, and this one is ours
-abbrev pub misplaced : Place → Identifier → PacketFault
-misplaced place.Publish id.SubscriptionIdentifier = Protocol
-misplaced place.Disconnect id.ServerReference = Protocol
+abbrev pub misplaced : PropertyOwner → Identifier → PacketFault
+misplaced owner.Publish id.SubscriptionIdentifier = Protocol
+misplaced owner.Disconnect id.ServerReference = Protocol
 misplaced _ _ = Malformed
 
 -- what an identifier is, once it is read
-abbrev pub judged : Place → List Bool → Option Identifier → Result Identifier PacketFault
+abbrev pub judged : PropertyOwner → List Bool → Option Identifier → Result Identifier PacketFault
 judged where_ before None = Err Malformed
 judged where_ before (Some i) =
     if not (may_stand where_ i) then Err (misplaced where_ i)
@@ -133,14 +133,14 @@ value_at id.TopicAlias bytes = number_at w16 bytes >>= λ n. Ok (property.Alias 
 value_at id.UserProperty bytes = text_at bytes >>= λ k. text_at k.1 >>= λ v. Ok (property.User k.0 v.0, v.1)
 value_at id.MaximumPacketSize bytes = number_at w32 bytes >>= λ n. wanting (nat_lt 0 n.0) (property.PacketMaximum n.0, n.1)
 
-unfoldable pub property_at : Place → List Bool → List ℕ → Result (Property × List ℕ) PacketFault
+unfoldable pub property_at : PropertyOwner → List Bool → List ℕ → Result (Property × List ℕ) PacketFault
 property_at where_ before bytes = do
   n ← varint_at bytes
   i ← judged where_ before (identifier_of n.0)
   value_at i n.1
 
 -- all of the bytes, of which there are at most n
-unfoldable pub properties_in : ℕ → Place → List Bool → List ℕ → Result (List Property) PacketFault
+unfoldable pub properties_in : ℕ → PropertyOwner → List Bool → List ℕ → Result (List Property) PacketFault
 properties_in n where_ before [] = Ok []
 properties_in zero where_ before (b ∷ bytes) = Err Malformed
 properties_in (suc n) where_ before (b ∷ bytes) = do
@@ -148,7 +148,7 @@ properties_in (suc n) where_ before (b ∷ bytes) = do
   ps ← properties_in n where_ (slice_set before (number (identifier p.0)) true) p.1
   Ok (p.0 ∷ ps)
 
-unfoldable pub properties_at : Place → List ℕ → Result (List Property × List ℕ) PacketFault
+unfoldable pub properties_at : PropertyOwner → List ℕ → Result (List Property × List ℕ) PacketFault
 properties_at where_ bytes = do
   n ← varint_at bytes
   section ← part_at n.0 n.1
@@ -159,7 +159,7 @@ properties_at where_ bytes = do
 abbrev pub gather_on : FoundValue → Result (List Property) PacketFault → Result FoundValue PacketFault
 gather_on f read = read >>= λ ps. Ok (gathered f ps)
 
-unfoldable pub found_at : Place → List ℕ → Result (FoundValue × List ℕ) PacketFault
+unfoldable pub found_at : PropertyOwner → List ℕ → Result (FoundValue × List ℕ) PacketFault
 found_at where_ bytes = do
   ps ← properties_at where_ bytes
   Ok (gathered nothing ps.0, ps.1)

@@ -48,7 +48,7 @@ pub fn read_string(rest: &mut Bytes) -> Result<Text, PacketFault>
     }
 }
 
-/// Appends binary data, or the bytes of a string.
+/// Appends binary data, or the bytes of a string, at most 65,535 (1.5.4, 1.5.6).
 pub fn put_binary(out: &mut Vec<u8>, bytes: &[u8]) -> Result<(), AllocError>
     requires { length bytes.now < 2 ^ 16 }
     ensures { OnOk result (out.new.items ≡ out.old.items ++ counted bytes.now) }

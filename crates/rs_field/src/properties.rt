@@ -13,7 +13,7 @@ use crate::binary::{put_binary, put_string, read_binary, read_part, read_string}
 use crate::fault::PacketFault;
 use crate::kept::{Properties, PropertyFields};
 use crate::number::{put_u32, read_u8, read_u16, read_u32};
-use crate::property::{Found, IDENTIFIERS, Identifier, Place, Property};
+use crate::property::{Found, IDENTIFIERS, Identifier, Property, PropertyOwner};
 use crate::subscription::SubscriptionId;
 use crate::varint::{put_varint, read_varint, varint_len};
 use bytes::Bytes;
@@ -23,18 +23,20 @@ use std::alloc::{AllocError, Global};
 /// The identifier, if this packet may have it. Malformed or Protocol if not (2.2.2.2).
 fn judge(
     id: Option<Identifier>,
-    place: Place,
+    owner: PropertyOwner,
     seen: &[bool; IDENTIFIERS],
 ) -> Result<Identifier, PacketFault>
-    ensures { Gives (λ i. i) result (judged place seen.now id) }
+    ensures { Gives (λ i. i) result (judged owner seen.now id) }
 {
     let Some(id) = id else {
         return Err(PacketFault::Malformed);
     };
-    if !id.may_stand(place) {
-        return match (place, id) {
-            (Place::Publish, Identifier::SubscriptionIdentifier) => Err(PacketFault::Protocol),
-            (Place::Disconnect, Identifier::ServerReference) => Err(PacketFault::Protocol),
+    if !id.may_stand(owner) {
+        return match (owner, id) {
+            (PropertyOwner::Publish, Identifier::SubscriptionIdentifier) => Err(
+                PacketFault::Protocol,
+            ),
+            (PropertyOwner::Disconnect, Identifier::ServerReference) => Err(PacketFault::Protocol),
             _ => Err(PacketFault::Malformed),
         };
     }
@@ -122,25 +124,25 @@ fn read_value(rest: &mut Bytes, id: Identifier) -> Result<Property, PacketFault>
 #[tactic(auto, unfolding(crate::specs::Reading::property_at))]
 fn read_property(
     rest: &mut Bytes,
-    place: Place,
+    owner: PropertyOwner,
     seen: &[bool; IDENTIFIERS],
 ) -> Result<Property, PacketFault>
-    ensures read { Gives (λ p. (p, rest.new)) result (property_at place seen.now rest.old) }
+    ensures read { Gives (λ p. (p, rest.new)) result (property_at owner seen.now rest.old) }
     ensures shorter { OnOk result (length rest.new < length rest.old) }
 {
     let number = read_varint(rest)?;
-    let id = judge(Identifier::of(number), place, seen)?;
+    let id = judge(Identifier::of(number), owner, seen)?;
     read_value(rest, id)
 }
 
-fn found_in(alloc: Global, section: Bytes, place: Place) -> Result<Found, PacketFault>
-    ensures { Gives (λ f. f) result (gather_on nothing (properties_in (length section) place none_yet section)) }
+fn found_in(alloc: Global, section: Bytes, owner: PropertyOwner) -> Result<Found, PacketFault>
+    ensures { Gives (λ f. f) result (gather_on nothing (properties_in (length section) owner none_yet section)) }
 {
     let mut found = Found::new(alloc);
     let mut seen = [false; IDENTIFIERS];
     let mut rest = section;
     'next: while !rest.is_empty() {
-        let property = read_property(&mut rest, place, &seen)?;
+        let property = read_property(&mut rest, owner, &seen)?;
         seen[usize::from(property.identifier().number())] = true;
         found.put(property)?;
     }
@@ -153,26 +155,34 @@ fn note_octets(bytes: &[u8])
 {}
 
 #[tactic(auto, unfolding(crate::specs::Reading::found_at, crate::specs::Reading::properties_at))]
-fn read_section(alloc: Global, rest: &mut Bytes, place: Place) -> Result<Found, PacketFault>
-    ensures { Gives (λ f. (f, rest.new)) result (found_at place rest.old) }
+fn read_section(alloc: Global, rest: &mut Bytes, owner: PropertyOwner) -> Result<Found, PacketFault>
+    ensures { Gives (λ f. (f, rest.new)) result (found_at owner rest.old) }
 {
     let len = read_varint(rest)?;
     if len == 0 {
         return Ok(Found::new(alloc));
     }
     let section = read_part(rest, len as usize)?;
-    found_in(alloc, section, place)
+    found_in(alloc, section, owner)
 }
 
 /// Reads the properties of a packet of this kind (2.2.2): their length, and each of them.
-pub fn read_properties(alloc: Global, rest: &mut Bytes, place: Place) -> Result<Found, PacketFault>
-    ensures read { Gives (λ f. (f, rest.new)) result (found_at place rest.old) }
+///
+/// # Errors
+///
+/// The first fault met, `Malformed` or `Protocol`. `NoMemory` if memory is refused.
+pub fn read_properties(
+    alloc: Global,
+    rest: &mut Bytes,
+    owner: PropertyOwner,
+) -> Result<Found, PacketFault>
+    ensures read { Gives (λ f. (f, rest.new)) result (found_at owner rest.old) }
     ensures fits { IfOk result (λ f. IsFound f) }
     // What a message keeps of them takes no more bytes than they do.
     ensures size { IfOk result (λ f. length (properties (replayed f.expiry None (kept f))) + length rest.new ≤ length rest.old) }
 {
     note_octets(rest.as_slice());
-    read_section(alloc, rest, place)
+    read_section(alloc, rest, owner)
 }
 
 fn put_format(out: &mut Vec<u8>, format: Option<u8>) -> Result<(), AllocError>

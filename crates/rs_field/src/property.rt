@@ -59,7 +59,7 @@ pub enum Property {
 
 /// The packet that properties belong to.
 #[derive(Clone, Copy)]
-pub enum Place {
+pub enum PropertyOwner {
     Connect,
     Publish,
     Acknowledgement,
@@ -175,11 +175,11 @@ impl Identifier {
     }
 
     /// Whether a client may send it in this packet.
-    pub fn may_stand(self, place: Place) -> bool
-        ensures { result ≡ may_stand place self }
+    pub fn may_stand(self, owner: PropertyOwner) -> bool
+        ensures { result ≡ may_stand owner self }
     {
-        match place {
-            Place::Connect => matches!(
+        match owner {
+            PropertyOwner::Connect => matches!(
                 self,
                 Identifier::SessionExpiry
                     | Identifier::AuthenticationMethod
@@ -191,7 +191,7 @@ impl Identifier {
                     | Identifier::MaximumPacketSize
                     | Identifier::UserProperty
             ),
-            Place::Publish => matches!(
+            PropertyOwner::Publish => matches!(
                 self,
                 Identifier::PayloadFormat
                     | Identifier::MessageExpiry
@@ -201,16 +201,16 @@ impl Identifier {
                     | Identifier::TopicAlias
                     | Identifier::UserProperty
             ),
-            Place::Acknowledgement => matches!(
+            PropertyOwner::Acknowledgement => matches!(
                 self,
                 Identifier::ReasonString | Identifier::UserProperty
             ),
-            Place::Subscribe => matches!(
+            PropertyOwner::Subscribe => matches!(
                 self,
                 Identifier::SubscriptionIdentifier | Identifier::UserProperty
             ),
-            Place::Unsubscribe => matches!(self, Identifier::UserProperty),
-            Place::Disconnect => matches!(
+            PropertyOwner::Unsubscribe => matches!(self, Identifier::UserProperty),
+            PropertyOwner::Disconnect => matches!(
                 self,
                 Identifier::SessionExpiry | Identifier::ReasonString | Identifier::UserProperty
             ),

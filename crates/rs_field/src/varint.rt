@@ -105,7 +105,7 @@ pub fn read_varint(rest: &mut Bytes) -> Result<u32, PacketFault>
     Ok(n)
 }
 
-/// The number of bytes of a variable byte integer, from 1 to 4.
+/// The number of bytes of a variable byte integer (1.5.5), from 1 to 4. `n` is at most [`MAX_REMAINING_LENGTH`](crate::MAX_REMAINING_LENGTH).
 #[tactic(auto, unfolding(crate::specs::Forms::low_first))]
 pub fn varint_len(n: usize) -> usize
     requires { n < varint_end }
@@ -123,7 +123,7 @@ pub fn varint_len(n: usize) -> usize
     }
 }
 
-/// Appends a variable byte integer.
+/// Appends a variable byte integer (1.5.5). `n` is at most [`MAX_REMAINING_LENGTH`](crate::MAX_REMAINING_LENGTH).
 #[tactic(auto, using(crate::proofs::Written::varint_1, crate::proofs::Written::varint_2, crate::proofs::Written::varint_3, crate::proofs::Written::varint_4))]
 pub fn put_varint(out: &mut Vec<u8>, n: usize) -> Result<(), AllocError>
     requires { n < varint_end }

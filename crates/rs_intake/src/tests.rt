@@ -1,6 +1,7 @@
 //! Lines, a writer and seats over threads, and each refusal.
 
 ghost use Rattle.std.specs.Prelude.{◌≡◌, ◌≢◌, ◌<◌, ◌≤◌, [], None, false, length, IfSome};
+ghost use Rattle.rs_message.specs.declared.entry.TheConstants.{MAX_PLACES};
 ghost use Rattle.rs_message.specs.Messages.{is_sweep};
 
 mod answers;
@@ -59,7 +60,7 @@ fn clear(alloc: Global, topic: &[u8]) -> Option<Operation>
 }
 
 fn blank_store(alloc: Global, limit: u32, places: u8) -> Result<Blank, Fail>
-    requires { (0 < places) × (places ≤ 64) }
+    requires { (0 < places) × (places ≤ MAX_PLACES) }
 {
     let limit = TopicLimit::new(limit).ok_or("no limit")?;
     Ok(Blank::new(alloc, limit, places)?)

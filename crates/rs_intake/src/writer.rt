@@ -162,9 +162,14 @@ fn put_job<N: LineName, R: Wait + Drop, W: Wait>(
     is_appended
 }
 
-/// Puts each job that it takes, and tells the job's line what the writer answers, until each place has ended, or all lines and
-/// their ends are gone, or it has taken `u64::MAX` jobs. Then it tries once more to publish a held entry. Of what the writer keeps, all but the Sweeps are jobs. Each Sweep is
-/// the one that a job needed there.
+/// Puts each job that it takes, and tells the job's line what the writer answers. It ends when
+///
+/// - each place has ended,
+/// - all lines and their ends are gone, or
+/// - it has taken `u64::MAX` jobs.
+///
+/// Then it tries once more to publish a held entry. Of what the writer keeps, all but the Sweeps are jobs. Each Sweep is the one that
+/// a job needed there.
 pub fn run_writer<N: LineName, R: Wait + Drop, W: Wait>(
     rt: &W,
     queue: Queue<N>,

@@ -7,7 +7,7 @@ use thiserror::Error;
 /// Why a [`Server`](crate::Server) serves no client.
 #[derive(Debug, Drop, Error)]
 pub enum ListenFault {
-    /// The address is none, is in use, or may not be bound.
+    /// The address is not an address, is in use, or may not be bound.
     #[error("the address cannot be listened on: {0}")]
     Address(io::Error),
     /// Memory was refused.

@@ -1,6 +1,7 @@
 //! The connections of one place.
 
 use rs_places::Turn;
+use rs_server::{ServeFault, Served};
 use rs_sockets::{FromClient, Listener, SystemClock, ToClient, close};
 use std::alloc::Global;
 use std::sync::Arc;
@@ -41,8 +42,8 @@ impl<H: Clock> Turn for ListenTurn<H> {
         self.clock.now(&self.rt)
     }
 
-    /// Closes the connection, as [`close`] does.
-    fn end(&mut self, input: FromClient, output: ToClient) {
+    /// Closes the connection, as [`close`] does, however it ended.
+    fn end(&mut self, input: FromClient, output: ToClient, _served: Result<Served, ServeFault>) {
         // The client may have gone.
         let _ = close(&self.rt, input, output);
     }

@@ -1,12 +1,13 @@
 //! Clients on the loopback.
 
 ghost use Rattle.std.specs.Prelude.{◌<◌, ◌≤◌};
+ghost use Rattle.rs_message.specs.declared.entry.TheConstants.{MAX_PLACES};
 
-use rs_listener::{Server, Summary};
+use rs_listener::{ListenFault, Server, Summary};
 use rs_store::TopicLimit;
 use std::alloc::Global;
 use std::io;
-use std::io::{Read, Write};
+use std::io::{ErrorKind, Read, Write};
 use std::net::{Net, TcpListener, TcpStream};
 use std::sync::Wait;
 use std::test::Fail;
@@ -89,7 +90,7 @@ fn publish_and_read<
         + Sync
         + 'static,
 >(rt: H, alloc: Global, places: u8) -> Result<(bool, Option<Summary>), Fail>
-    requires { (0 < places) × (places ≤ 64) }
+    requires { (0 < places) × (places ≤ MAX_PLACES) }
 {
     let limit = TopicLimit::new(10).ok_or("10 topics")?;
     let server = Server::bind(&rt, alloc, "127.0.0.1:0", 3, limit, places)?;
@@ -110,6 +111,24 @@ fn publish_and_read<
     }
     went = is_served(&rt, address.as_str(), SUBSCRIBE, REPLAY) && went;
     Ok((went, serving.join(&rt)))
+}
+
+#[test]
+fn faults_have_a_text(rt: HostRuntime) -> Result<(), Fail> {
+    let taken = io::Error::from(ErrorKind::AddrInUse);
+    let faults = [
+        (
+            ListenFault::Address(taken),
+            "the address cannot be listened on: address in use",
+        ),
+        (ListenFault::NoMemory, "out of memory"),
+        (ListenFault::NoThread, "no thread can be started"),
+    ];
+    for (fault, text) in faults {
+        let found = format!(in rt.alloc(); "{fault}")?;
+        assert!(rt; found.as_str() == text);
+    }
+    Ok(())
 }
 
 #[test]

@@ -10,7 +10,7 @@ use rs_packet::{MessageContent, Properties, Qos};
 use std::alloc::{AllocError, Global};
 use std::marker::Model;
 
-/// A retained message. Its payload is not empty, and payload and properties together are no longer than a packet may be.
+/// A retained message. Its payload is not empty, and payload and properties together take at most `MAX_PACKET_SIZE` bytes.
 #[derive(Drop)]
 pub struct Message {
     content: MessageContent,

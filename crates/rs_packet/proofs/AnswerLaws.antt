@@ -8,7 +8,7 @@ use Rattle.rs_field.specs.declared.fault.PacketFault.{PacketFault}
 use Rattle.rs_field.specs.declared.fault.PacketFault.TheVariants.{Malformed, Protocol, TooLarge}
 use Rattle.rs_field.specs.declared.varint.VarintFault.{VarintFault}
 use Rattle.rs_field.specs.declared.varint.VarintFault.TheVariants.{Short, Bad}
-use Rattle.rs_field.specs.declared.property.Place.TheVariants as place
+use Rattle.rs_field.specs.declared.property.PropertyOwner.TheVariants as owner
 use Rattle.rs_packet.specs.declared.packet.Packet.TheVariants as packet
 use Rattle.rs_packet.specs.declared.packet.Decoded.{Decoded}
 use Rattle.rs_packet.specs.declared.packet.Decoded.TheVariants.{Whole, More}
@@ -165,7 +165,7 @@ packet_takes kind.Subscribe body p fits h e = made kind.Subscribe body (subscrib
 packet_takes kind.Unsubscribe body p fits h e = made kind.Unsubscribe body (unsubscribe_at body) packet.Unsubscribe p e (λ a r. EncodesBody.unsubscribe (unsubscribe_takes body a fits r))
 packet_takes kind.Pingreq [] p fits h e = subst (EncodesBody kind.Pingreq []) (ok_is packet.Pingreq p e) EncodesBody.pingreq
 packet_takes kind.Pingreq (b ∷ body) p fits h e = absurd cc
-packet_takes kind.Disconnect body p fits h e = made kind.Disconnect body (code_at place.Disconnect body) packet.Disconnect p e (λ a r. EncodesBody.disconnect (code_takes place.Disconnect body a fits r))
+packet_takes kind.Disconnect body p fits h e = made kind.Disconnect body (code_at owner.Disconnect body) packet.Disconnect p e (λ a r. EncodesBody.disconnect (code_takes owner.Disconnect body a fits r))
 
 pub packet_again : (k : Kind) (body : List ℕ) (p : Packet) → EncodesBody k body p → (packet_at k body ≡ Ok p) × IsKind k
 unfolding packet_at
@@ -178,7 +178,7 @@ packet_again _ body _ (EncodesBody.pubcomp {a = a} h) = (rw (acknowledgement_aga
 packet_again _ body _ (EncodesBody.subscribe {s = s} h) = (rw (subscribe_again body s h) refl, tt)
 packet_again _ body _ (EncodesBody.unsubscribe {u = u} h) = (rw (unsubscribe_again body u h) refl, tt)
 packet_again _ _ _ EncodesBody.pingreq = (refl, tt)
-packet_again _ body _ (EncodesBody.disconnect {code = c} h) = (rw (code_again place.Disconnect body c h) refl, tt)
+packet_again _ body _ (EncodesBody.disconnect {code = c} h) = (rw (code_again owner.Disconnect body c h) refl, tt)
 
 -- ---- the whole
 

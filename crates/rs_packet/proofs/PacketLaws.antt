@@ -13,8 +13,8 @@ use Rattle.std.proofs.lemmas.Bool.{ltb-true, lt-ltb, eqb-false, eqb-true, ne_eqb
 use Rattle.std.proofs.lemmas.List.{length-append, append-nil}
 use Rattle.rs_field.specs.declared.fault.PacketFault.{PacketFault}
 use Rattle.rs_field.specs.declared.fault.PacketFault.TheVariants.{Malformed, Protocol, Version}
-use Rattle.rs_field.specs.declared.property.Place.{Place}
-use Rattle.rs_field.specs.declared.property.Place.TheVariants as place
+use Rattle.rs_field.specs.declared.property.PropertyOwner.{PropertyOwner}
+use Rattle.rs_field.specs.declared.property.PropertyOwner.TheVariants as owner
 use Rattle.rs_packet.specs.declared.packet.Qos.{Qos}
 use Rattle.rs_packet.specs.declared.packet.Qos.TheVariants.{AtMostOnce, AtLeastOnce, ExactlyOnce}
 use Rattle.rs_packet.specs.declared.packet.RetainHandling.{RetainHandling}
@@ -75,12 +75,12 @@ id_for_again ExactlyOnce (Some n) rest h = rw (id_again n rest h) refl
 pub publish_takes : (duplicate : Bool) (qos : Qos) (retain : Bool) (body : List ℕ) (p : Publish) → IsBytes body → publish_at duplicate qos retain body ≡ Ok p → EncodesPublish duplicate qos retain body p
 unfolding publish_at
 publish_takes duplicate qos retain body p fits e =
-    let topic = bind_ok (text_at body) (λ topic. id_for qos topic.1 >>= λ id. found_at place.Publish id.1 >>= λ f. Ok (publication duplicate qos retain topic.0 id.0 f.0 f.1)) p e in
-    let id = bind_ok (id_for qos topic.0.1) (λ id. found_at place.Publish id.1 >>= λ f. Ok (publication duplicate qos retain topic.0.0 id.0 f.0 f.1)) p topic.2 in
-    let f = bind_ok (found_at place.Publish id.0.1) (λ f. Ok (publication duplicate qos retain topic.0.0 id.0.0 f.0 f.1)) p id.2 in
+    let topic = bind_ok (text_at body) (λ topic. id_for qos topic.1 >>= λ id. found_at owner.Publish id.1 >>= λ f. Ok (publication duplicate qos retain topic.0 id.0 f.0 f.1)) p e in
+    let id = bind_ok (id_for qos topic.0.1) (λ id. found_at owner.Publish id.1 >>= λ f. Ok (publication duplicate qos retain topic.0.0 id.0 f.0 f.1)) p topic.2 in
+    let f = bind_ok (found_at owner.Publish id.0.1) (λ f. Ok (publication duplicate qos retain topic.0.0 id.0.0 f.0 f.1)) p id.2 in
     let t = text_takes body topic.0 fits topic.1 in
     let i = id_for_takes qos topic.0.1 id.0 t.0.rest_fits id.1 in
-    let g = found_takes place.Publish id.0.1 f.0 i.0.rest_fits f.1 in
+    let g = found_takes owner.Publish id.0.1 f.0 i.0.rest_fits f.1 in
     let fields : body ≡ counted topic.0.0 ++ (id_bytes id.0.0 ++ (properties g.ps ++ f.0.1)) =
     t.0.parts ∙ ap (λ (r : List ℕ). counted topic.0.0 ++ r) (i.0.parts ∙ ap (λ (r : List ℕ). id_bytes id.0.0 ++ r) g.takes.parts) in
     let made : publication duplicate qos retain topic.0.0 id.0.0 f.0.0 f.0.1 ≡ publication duplicate qos retain topic.0.0 id.0.0 (gathered nothing g.ps) f.0.1 =
@@ -101,7 +101,7 @@ pub publish_again : (duplicate : Bool) (qos : Qos) (retain : Bool) (body : List 
 unfolding publish_at
 publish_again duplicate qos retain body p h =
     ap (publish_at duplicate qos retain) h.fields
-    ∙ (rw (text_again h.topic (id_bytes h.id ++ (properties h.ps ++ h.payload)) h.is_text, id_for_again qos h.id (properties h.ps ++ h.payload) h.has_id, found_again place.Publish h.ps h.payload h.are_properties)
+    ∙ (rw (text_again h.topic (id_bytes h.id ++ (properties h.ps ++ h.payload)) h.is_text, id_for_again qos h.id (properties h.ps ++ h.payload) h.has_id, found_again owner.Publish h.ps h.payload h.are_properties)
     (ap (λ (q : Publish). Ok q) (sym h.value)))
 
 -- ---- acknowledgements and DISCONNECT
@@ -110,7 +110,7 @@ ended_is : {A : Type 0} (x y : A) (rest : List ℕ) → ended x rest ≡ Ok y �
 ended_is x y [] e = (refl, ok_is x y e)
 ended_is x y (b ∷ rest) e = absurd cc
 
-pub code_takes : (where_ : Place) (bytes : List ℕ) (code : ℕ) → IsBytes bytes → code_at where_ bytes ≡ Ok code → EncodesCode where_ bytes code
+pub code_takes : (where_ : PropertyOwner) (bytes : List ℕ) (code : ℕ) → IsBytes bytes → code_at where_ bytes ≡ Ok code → EncodesCode where_ bytes code
 unfolding code_at
 code_takes where_ [] code fits e = subst (EncodesCode where_ []) (ok_is 0 code e) EncodesCode.no_code
 code_takes where_ (c ∷ []) code fits e = subst (EncodesCode where_ (c ∷ [])) (ok_is c code e) (EncodesCode.no_properties (fits 0))
@@ -130,7 +130,7 @@ varint_some k n = by (ltb n 128)
     by true = (n, [], refl)
     by false = (n % 128 + 128, low_first k (n / 128), refl)
 
-pub code_again : (where_ : Place) (bytes : List ℕ) (code : ℕ) → EncodesCode where_ bytes code → code_at where_ bytes ≡ Ok code
+pub code_again : (where_ : PropertyOwner) (bytes : List ℕ) (code : ℕ) → EncodesCode where_ bytes code → code_at where_ bytes ≡ Ok code
 unfolding code_at
 code_again where_ _ _ EncodesCode.no_code = refl
 code_again where_ _ _ (EncodesCode.no_properties h) = refl
@@ -143,16 +143,16 @@ code_again where_ _ _ (EncodesCode.with_properties {code = code} {ps = ps} h are
 pub acknowledgement_takes : (body : List ℕ) (a : Acknowledgement) → IsBytes body → acknowledgement_at body ≡ Ok a → EncodesAcknowledgement body a
 unfolding acknowledgement_at
 acknowledgement_takes body a fits e =
-    let id = bind_ok (id_at body) (λ id. code_at place.Acknowledgement id.1 >>= λ code. Ok (record { id = id.0; code = code })) a e in
-    let code = bind_ok (code_at place.Acknowledgement id.0.1) (λ code. Ok (record { id = id.0.0; code = code })) a id.2 in
+    let id = bind_ok (id_at body) (λ id. code_at owner.Acknowledgement id.1 >>= λ code. Ok (record { id = id.0; code = code })) a e in
+    let code = bind_ok (code_at owner.Acknowledgement id.0.1) (λ code. Ok (record { id = id.0.0; code = code })) a id.2 in
     let t = id_takes body id.0 fits id.1 in
-    let s = code_takes place.Acknowledgement id.0.1 code.0 t.0.rest_fits code.1 in
+    let s = code_takes owner.Acknowledgement id.0.1 code.0 t.0.rest_fits code.1 in
     let made : Acknowledgement = record { id = id.0.0; code = code.0 } in
     subst (EncodesAcknowledgement body) (ok_is made a code.2) (record { rest = id.0.1; is_id = t.1; fields = t.0.parts; code = s })
 
 pub acknowledgement_again : (body : List ℕ) (a : Acknowledgement) → EncodesAcknowledgement body a → acknowledgement_at body ≡ Ok a
 unfolding acknowledgement_at
-acknowledgement_again body a h = ap acknowledgement_at h.fields ∙ rw (id_again a.id h.rest h.is_id, code_again place.Acknowledgement h.rest a.code h.code) refl
+acknowledgement_again body a h = ap acknowledgement_at h.fields ∙ rw (id_again a.id h.rest h.is_id, code_again owner.Acknowledgement h.rest a.code h.code) refl
 
 -- ---- the options of a filter
 
@@ -295,11 +295,11 @@ all_asked_again (suc n) (f ∷ fs) le h =
 pub subscribe_takes : (body : List ℕ) (s : SubscribeValue) → IsBytes body → subscribe_at body ≡ Ok s → EncodesSubscribe body s
 unfolding subscribe_at
 subscribe_takes body s fits e =
-    let id = bind_ok (id_at body) (λ id. found_at place.Subscribe id.1 >>= λ f. some_of asked_at f.1 >>= λ filters. Ok (record { id = id.0; subscription = f.0.subscription; filters = filters })) s e in
-    let f = bind_ok (found_at place.Subscribe id.0.1) (λ f. some_of asked_at f.1 >>= λ filters. Ok (record { id = id.0.0; subscription = f.0.subscription; filters = filters })) s id.2 in
+    let id = bind_ok (id_at body) (λ id. found_at owner.Subscribe id.1 >>= λ f. some_of asked_at f.1 >>= λ filters. Ok (record { id = id.0; subscription = f.0.subscription; filters = filters })) s e in
+    let f = bind_ok (found_at owner.Subscribe id.0.1) (λ f. some_of asked_at f.1 >>= λ filters. Ok (record { id = id.0.0; subscription = f.0.subscription; filters = filters })) s id.2 in
     let l = bind_ok (some_of asked_at f.0.1) (λ filters. Ok (record { id = id.0.0; subscription = f.0.0.subscription; filters = filters })) s f.2 in
     let t = id_takes body id.0 fits id.1 in
-    let g = found_takes place.Subscribe id.0.1 f.0 t.0.rest_fits f.1 in
+    let g = found_takes owner.Subscribe id.0.1 f.0 t.0.rest_fits f.1 in
     let some = tested (eqb (length f.0.1) 0) Protocol (all_in asked_at (length f.0.1) f.0.1) l.0 l.1 in
     let fs = all_asked_take (length f.0.1) f.0.1 l.0 g.takes.rest_fits (omega arith) some.1 in
     let long : 0 < length f.0.1 = omega (arith, eqb-false _ _ some.0) in
@@ -327,7 +327,7 @@ subscribe_again body s h =
     let text = flat_map filter_bytes h.filters in
     let some : eqb (length text) 0 ≡ false = ne_eqb _ _ (λ z. none h.filters h.some z) in
     ap subscribe_at h.fields
-    ∙ (rw (id_again s.id (properties h.ps ++ text) h.is_id, found_again place.Subscribe h.ps text h.are_properties, some, all_asked_again (length text) h.filters (omega arith) h.are_texts)
+    ∙ (rw (id_again s.id (properties h.ps ++ text) h.is_id, found_again owner.Subscribe h.ps text h.are_properties, some, all_asked_again (length text) h.filters (omega arith) h.are_texts)
     (ap (λ (v : SubscribeValue). Ok v) (sym h.value)))
   where
     none : (fs : List (List ℕ × Options)) → 0 < length fs → length (flat_map filter_bytes fs) ≡ 0 → ⊥
@@ -376,11 +376,11 @@ filters_again (suc n) (t ∷ ts) le h =
 pub unsubscribe_takes : (body : List ℕ) (u : UnsubscribeValue) → IsBytes body → unsubscribe_at body ≡ Ok u → EncodesUnsubscribe body u
 unfolding unsubscribe_at
 unsubscribe_takes body u fits e =
-    let id = bind_ok (id_at body) (λ id. found_at place.Unsubscribe id.1 >>= λ f. some_of filter_at f.1 >>= λ filters. Ok (record { id = id.0; filters = filters })) u e in
-    let f = bind_ok (found_at place.Unsubscribe id.0.1) (λ f. some_of filter_at f.1 >>= λ filters. Ok (record { id = id.0.0; filters = filters })) u id.2 in
+    let id = bind_ok (id_at body) (λ id. found_at owner.Unsubscribe id.1 >>= λ f. some_of filter_at f.1 >>= λ filters. Ok (record { id = id.0; filters = filters })) u e in
+    let f = bind_ok (found_at owner.Unsubscribe id.0.1) (λ f. some_of filter_at f.1 >>= λ filters. Ok (record { id = id.0.0; filters = filters })) u id.2 in
     let l = bind_ok (some_of filter_at f.0.1) (λ filters. Ok (record { id = id.0.0; filters = filters })) u f.2 in
     let t = id_takes body id.0 fits id.1 in
-    let g = found_takes place.Unsubscribe id.0.1 f.0 t.0.rest_fits f.1 in
+    let g = found_takes owner.Unsubscribe id.0.1 f.0 t.0.rest_fits f.1 in
     let some = tested (eqb (length f.0.1) 0) Protocol (all_in filter_at (length f.0.1) f.0.1) l.0 l.1 in
     let ts = filters_take (length f.0.1) f.0.1 l.0 g.takes.rest_fits (omega arith) some.1 in
     let long : 0 < length f.0.1 = omega (arith, eqb-false _ _ some.0) in
@@ -404,7 +404,7 @@ unsubscribe_again body u h =
     let text = flat_map counted h.filters in
     let some : eqb (length text) 0 ≡ false = ne_eqb _ _ (λ z. none h.filters h.some z) in
     ap unsubscribe_at h.fields
-    ∙ (rw (id_again u.id (properties h.ps ++ text) h.is_id, found_again place.Unsubscribe h.ps text h.are_properties, some, filters_again (length text) h.filters (omega arith) h.are_texts)
+    ∙ (rw (id_again u.id (properties h.ps ++ text) h.is_id, found_again owner.Unsubscribe h.ps text h.are_properties, some, filters_again (length text) h.filters (omega arith) h.are_texts)
     (ap (λ (v : UnsubscribeValue). Ok v) (sym h.value)))
   where
     none : (ts : List (List ℕ)) → 0 < length ts → length (flat_map counted ts) ≡ 0 → ⊥
@@ -514,15 +514,15 @@ connect_takes body c fits e =
     let v = bind_ok (version_at body) (λ rest. byte_at rest >>= λ b. flags_of b.0 >>= λ flags. after flags b.1) c e in
     let b = bind_ok (byte_at v.0) (λ b. flags_of b.0 >>= λ flags. after flags b.1) c v.2 in
     let fl = bind_ok (flags_of b.0.0) (λ flags. after flags b.0.1) c b.2 in
-    let k = bind_ok (number_at w16 b.0.1) (λ keep. found_at place.Connect keep.1 >>= λ f. checked f.0 >>= λ found. client_at fl.0 f.1 >>= λ client. Ok (made fl.0 keep.0 found client)) c fl.2 in
-    let f = bind_ok (found_at place.Connect k.0.1) (λ f. checked f.0 >>= λ found. client_at fl.0 f.1 >>= λ client. Ok (made fl.0 k.0.0 found client)) c k.2 in
+    let k = bind_ok (number_at w16 b.0.1) (λ keep. found_at owner.Connect keep.1 >>= λ f. checked f.0 >>= λ found. client_at fl.0 f.1 >>= λ client. Ok (made fl.0 keep.0 found client)) c fl.2 in
+    let f = bind_ok (found_at owner.Connect k.0.1) (λ f. checked f.0 >>= λ found. client_at fl.0 f.1 >>= λ client. Ok (made fl.0 k.0.0 found client)) c k.2 in
     let ch = bind_ok (checked f.0.0) (λ found. client_at fl.0 f.0.1 >>= λ client. Ok (made fl.0 k.0.0 found client)) c f.2 in
     let cl = bind_ok (client_at fl.0 f.0.1) (λ client. Ok (made fl.0 k.0.0 ch.0 client)) c ch.2 in
     let tv = version_takes body v.0 fits v.1 in
     let tb = byte_takes v.0 b.0 tv.rest_fits b.1 in
     let tf = flags_takes b.0.0 fl.0 tb.1 fl.1 in
     let tk = number_takes w16 (2 ^ 16) wide16 b.0.1 k.0 tb.0.rest_fits k.1 in
-    let g = found_takes place.Connect k.0.1 f.0 tk.0.rest_fits f.1 in
+    let g = found_takes owner.Connect k.0.1 f.0 tk.0.rest_fits f.1 in
     let m = method_fits f.0.0 ch.0 ch.1 in
     let pay = client_takes fl.0 f.0.1 cl.0 g.takes.rest_fits cl.1 in
     let byte : b.0.0 ∷ [] ≡ flags_byte fl.0 ∷ [] = ap (λ (n : ℕ). n ∷ []) (sym tf.0) in
@@ -549,7 +549,7 @@ connect_takes body c fits e =
     checked f = cond (f.authentication && is_none f.method) (Err Protocol) (Ok f)
 
     after : Flags → List ℕ → Result Connect PacketFault
-    after flags bytes = number_at w16 bytes >>= λ keep. found_at place.Connect keep.1 >>= λ f. checked f.0 >>= λ found. client_at flags f.1 >>= λ client. Ok (made flags keep.0 found client)
+    after flags bytes = number_at w16 bytes >>= λ keep. found_at owner.Connect keep.1 >>= λ f. checked f.0 >>= λ found. client_at flags f.1 >>= λ client. Ok (made flags keep.0 found client)
 
     method_fits : (f g : FoundValue) → checked f ≡ Ok g → MethodFits f × (f ≡ g)
     method_fits f g e = by f.authentication f.method e
@@ -667,7 +667,7 @@ connect_again body c h =
       version_again (flags_byte h.flags ∷ tail),
       flags_again h.flags h.flags_fit,
       number_again w16 (2 ^ 16) wide16 c.keep_alive (properties h.ps ++ h.payload) h.keep_alive,
-      found_again place.Connect h.ps h.payload h.are_properties,
+      found_again owner.Connect h.ps h.payload h.are_properties,
       method_again (gathered nothing h.ps) h.method,
       client_again h.flags h.payload c.client h.has_payload,
     )

@@ -2,8 +2,8 @@
 use Rattle.std.specs.Prelude.{◌≡◌, ℕ, ◌+◌, ◌*◌, ◌<◌, ◌≤◌, ◌^◌, Bool, true, false, List, [], ◌∷◌, ◌++◌, length, map, take, Option, Some, None}
 use Rattle.std.specs.List.{flat_map}
 use Rattle.rs_field.specs.declared.property.Property.{Property}
-use Rattle.rs_field.specs.declared.property.Place.{Place}
-use Rattle.rs_field.specs.declared.property.Place.TheVariants as place
+use Rattle.rs_field.specs.declared.property.PropertyOwner.{PropertyOwner}
+use Rattle.rs_field.specs.declared.property.PropertyOwner.TheVariants as owner
 use Rattle.rs_packet.specs.declared.limits.TheConstants.{MAX_PACKET_SIZE}
 use Rattle.rs_packet.specs.declared.packet.Qos.{Qos}
 use Rattle.rs_packet.specs.declared.packet.Qos.TheVariants.{AtMostOnce, AtLeastOnce, ExactlyOnce}
@@ -94,14 +94,14 @@ pub record EncodesPublish (duplicate : Bool) (qos : Qos) (retain : Bool) (body :
   pub payload : List ℕ
   pub is_text : IsText topic
   pub has_id : IdFits qos id
-  pub are_properties : AreProperties place.Publish ps
+  pub are_properties : AreProperties owner.Publish ps
   pub fields : body ≡ counted topic ++ (id_bytes id ++ (properties ps ++ payload))
   pub value : p ≡ publication duplicate qos retain topic id (gathered nothing ps) payload
 
 -- ---- 3.4 to 3.7: PUBACK, PUBREC, PUBREL, PUBCOMP
 
 -- 3.4.2.1: an absent code is 0; absent properties are as an empty list of them
-pub data EncodesCode (where_ : Place) : List ℕ → ℕ → Type 0 where
+pub data EncodesCode (where_ : PropertyOwner) : List ℕ → ℕ → Type 0 where
   no_code : EncodesCode where_ [] 0
   no_properties : {code : ℕ} → code < 256 → EncodesCode where_ (code ∷ []) code
   with_properties : {code : ℕ} {ps : List Property} → code < 256 → AreProperties where_ ps → EncodesCode where_ (code ∷ properties ps) code
@@ -110,7 +110,7 @@ pub record EncodesAcknowledgement (body : List ℕ) (a : Acknowledgement) : Type
   pub rest : List ℕ
   pub is_id : IsId a.id
   pub fields : body ≡ two a.id ++ rest
-  pub code : EncodesCode place.Acknowledgement rest a.code
+  pub code : EncodesCode owner.Acknowledgement rest a.code
 
 -- ---- 3.8: SUBSCRIBE
 
@@ -141,7 +141,7 @@ pub record EncodesSubscribe (body : List ℕ) (s : SubscribeValue) : Type 0 wher
   pub ps : List Property
   pub filters : List (List ℕ × Options)
   pub is_id : IsId s.id
-  pub are_properties : AreProperties place.Subscribe ps
+  pub are_properties : AreProperties owner.Subscribe ps
   pub are_texts : AreTexts (map text_of filters)
   pub some : 0 < length filters
   pub fields : body ≡ two s.id ++ (properties ps ++ flat_map filter_bytes filters)
@@ -153,7 +153,7 @@ pub record EncodesUnsubscribe (body : List ℕ) (u : UnsubscribeValue) : Type 0 
   pub ps : List Property
   pub filters : List (List ℕ)
   pub is_id : IsId u.id
-  pub are_properties : AreProperties place.Unsubscribe ps
+  pub are_properties : AreProperties owner.Unsubscribe ps
   pub are_texts : AreTexts filters
   pub some : 0 < length filters
   pub fields : body ≡ two u.id ++ (properties ps ++ flat_map counted filters)
@@ -194,7 +194,7 @@ pub record EncodesConnect (body : List ℕ) (c : Connect) : Type 0 where
   pub payload : List ℕ
   pub flags_fit : FlagsFit flags
   pub keep_alive : c.keep_alive < 2 ^ 16
-  pub are_properties : AreProperties place.Connect ps
+  pub are_properties : AreProperties owner.Connect ps
   pub method : MethodFits (gathered nothing ps)
   pub has_payload : EncodesPayload flags payload c.client
   pub fields : body ≡ protocol ++ (flags_byte flags ∷ (two c.keep_alive ++ (properties ps ++ payload)))
@@ -223,7 +223,7 @@ pub data EncodesBody : Kind → List ℕ → Packet → Type 0 where
   subscribe : {body : List ℕ} {s : SubscribeValue} → EncodesSubscribe body s → EncodesBody kind.Subscribe body (packet.Subscribe s)
   unsubscribe : {body : List ℕ} {u : UnsubscribeValue} → EncodesUnsubscribe body u → EncodesBody kind.Unsubscribe body (packet.Unsubscribe u)
   pingreq : EncodesBody kind.Pingreq [] packet.Pingreq
-  disconnect : {body : List ℕ} {code : ℕ} → EncodesCode place.Disconnect body code → EncodesBody kind.Disconnect body (packet.Disconnect code)
+  disconnect : {body : List ℕ} {code : ℕ} → EncodesCode owner.Disconnect body code → EncodesBody kind.Disconnect body (packet.Disconnect code)
 
 pub record Encodes (bytes : List ℕ) (p : Packet) : Type 0 where
   pub first : Kind

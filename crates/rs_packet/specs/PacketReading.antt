@@ -7,8 +7,8 @@ use Rattle.rs_field.specs.declared.fault.PacketFault.{PacketFault}
 use Rattle.rs_field.specs.declared.fault.PacketFault.TheVariants.{Malformed, Protocol, TooLarge, Version}
 use Rattle.rs_field.specs.declared.varint.VarintFault.{VarintFault}
 use Rattle.rs_field.specs.declared.varint.VarintFault.TheVariants.{Short, Bad}
-use Rattle.rs_field.specs.declared.property.Place.{Place}
-use Rattle.rs_field.specs.declared.property.Place.TheVariants as place
+use Rattle.rs_field.specs.declared.property.PropertyOwner.{PropertyOwner}
+use Rattle.rs_field.specs.declared.property.PropertyOwner.TheVariants as owner
 use Rattle.rs_packet.specs.declared.packet.Qos.{Qos}
 use Rattle.rs_packet.specs.declared.packet.Qos.TheVariants.{AtMostOnce, AtLeastOnce, ExactlyOnce}
 use Rattle.rs_packet.specs.declared.packet.RetainHandling.{RetainHandling}
@@ -69,7 +69,7 @@ unfoldable pub publish_at : Bool → Qos → Bool → List ℕ → Result Publis
 publish_at duplicate qos retain body = do
   topic ← text_at body
   id ← id_for qos topic.1
-  f ← found_at place.Publish id.1
+  f ← found_at owner.Publish id.1
   Ok (publication duplicate qos retain topic.0 id.0 f.0 f.1)
 
 -- nothing may be left
@@ -77,7 +77,7 @@ abbrev pub ended : {A : Type 0} → A → List ℕ → Result A PacketFault
 ended x [] = Ok x
 ended x (b ∷ bytes) = Err Malformed
 
-unfoldable pub code_at : Place → List ℕ → Result ℕ PacketFault
+unfoldable pub code_at : PropertyOwner → List ℕ → Result ℕ PacketFault
 code_at where_ [] = Ok 0
 code_at where_ (code ∷ []) = Ok code
 code_at where_ (code ∷ b ∷ bytes) = do
@@ -87,7 +87,7 @@ code_at where_ (code ∷ b ∷ bytes) = do
 unfoldable pub acknowledgement_at : List ℕ → Result Acknowledgement PacketFault
 acknowledgement_at body = do
   id ← id_at body
-  code ← code_at place.Acknowledgement id.1
+  code ← code_at owner.Acknowledgement id.1
   Ok (record { id = id.0; code = code })
 
 abbrev pub qos_of : ℕ → Qos
@@ -126,7 +126,7 @@ some_of read bytes = if length bytes == 0 then Err Protocol else all_in read (le
 unfoldable pub subscribe_at : List ℕ → Result SubscribeValue PacketFault
 subscribe_at body = do
   id ← id_at body
-  f ← found_at place.Subscribe id.1
+  f ← found_at owner.Subscribe id.1
   filters ← some_of asked_at f.1
   Ok (record { id = id.0; subscription = f.0.subscription; filters = filters })
 
@@ -136,7 +136,7 @@ filter_at bytes = text_at bytes >>= λ t. Ok (filter_of t.0, t.1)
 unfoldable pub unsubscribe_at : List ℕ → Result UnsubscribeValue PacketFault
 unsubscribe_at body = do
   id ← id_at body
-  f ← found_at place.Unsubscribe id.1
+  f ← found_at owner.Unsubscribe id.1
   filters ← some_of filter_at f.1
   Ok (record { id = id.0; filters = filters })
 
@@ -186,7 +186,7 @@ connect_at body = do
   b ← byte_at rest
   flags ← flags_of b.0
   keep_alive ← number_at w16 b.1
-  f ← found_at place.Connect keep_alive.1
+  f ← found_at owner.Connect keep_alive.1
   found ← (if f.0.authentication && is_none f.0.method then Err Protocol else Ok f.0)
   client ← client_at flags f.1
   Ok (record {
@@ -210,7 +210,7 @@ packet_at kind.Pubcomp body = acknowledgement_at body >>= λ a. Ok (packet.Pubco
 packet_at kind.Subscribe body = subscribe_at body >>= λ s. Ok (packet.Subscribe s)
 packet_at kind.Unsubscribe body = unsubscribe_at body >>= λ u. Ok (packet.Unsubscribe u)
 packet_at kind.Pingreq body = ended packet.Pingreq body
-packet_at kind.Disconnect body = code_at place.Disconnect body >>= λ code. Ok (packet.Disconnect code)
+packet_at kind.Disconnect body = code_at owner.Disconnect body >>= λ code. Ok (packet.Disconnect code)
 
 -- ---- the whole
 

@@ -20,7 +20,7 @@ use crate::packet::{
 };
 use bytes::Bytes;
 use rs_field::{
-    Found, PacketFault, Place, Properties, PropertyFields, read_binary, read_properties,
+    Found, PacketFault, Properties, PropertyFields, PropertyOwner, read_binary, read_properties,
     read_string, read_u8, read_u16,
 };
 use rs_topic::{Text, TopicName};
@@ -64,7 +64,7 @@ fn publish_of(
     let mut rest = body;
     let topic = read_string(&mut rest)?;
     let id = id_if(&mut rest, qos)?;
-    let found = read_properties(alloc, &mut rest, Place::Publish)?;
+    let found = read_properties(alloc, &mut rest, PropertyOwner::Publish)?;
     let Found {
         format,
         expiry,
@@ -96,8 +96,8 @@ fn publish_of(
 }
 
 #[tactic(auto, unfolding(crate::specs::PacketReading::code_at))]
-fn code_of(alloc: Global, body: Bytes, place: Place) -> Result<u8, PacketFault>
-    ensures { Gives (λ n. n) result (code_at place body) }
+fn code_of(alloc: Global, body: Bytes, owner: PropertyOwner) -> Result<u8, PacketFault>
+    ensures { Gives (λ n. n) result (code_at owner body) }
 {
     let mut rest = body;
     if rest.is_empty() {
@@ -107,7 +107,7 @@ fn code_of(alloc: Global, body: Bytes, place: Place) -> Result<u8, PacketFault>
     if rest.is_empty() {
         return Ok(code);
     }
-    let _found = read_properties(alloc, &mut rest, place)?;
+    let _found = read_properties(alloc, &mut rest, owner)?;
     if !rest.is_empty() {
         return Err(PacketFault::Malformed);
     }
@@ -120,7 +120,7 @@ fn acknowledgement_of(alloc: Global, body: Bytes) -> Result<Acknowledgement, Pac
 {
     let mut rest = body;
     let id = id_of(&mut rest)?;
-    let code = code_of(alloc, rest, Place::Acknowledgement)?;
+    let code = code_of(alloc, rest, PropertyOwner::Acknowledgement)?;
     Ok(Acknowledgement { id, code })
 }
 
@@ -131,7 +131,7 @@ fn subscribe_of(alloc: Global, body: Bytes) -> Result<Subscribe, PacketFault>
 {
     let mut rest = body;
     let id = id_of(&mut rest)?;
-    let found = read_properties(alloc, &mut rest, Place::Subscribe)?;
+    let found = read_properties(alloc, &mut rest, PropertyOwner::Subscribe)?;
     if rest.is_empty() {
         return Err(PacketFault::Protocol);
     }
@@ -151,7 +151,7 @@ fn unsubscribe_of(alloc: Global, body: Bytes) -> Result<Unsubscribe, PacketFault
 {
     let mut rest = body;
     let id = id_of(&mut rest)?;
-    let _found = read_properties(alloc, &mut rest, Place::Unsubscribe)?;
+    let _found = read_properties(alloc, &mut rest, PropertyOwner::Unsubscribe)?;
     if rest.is_empty() {
         return Err(PacketFault::Protocol);
     }
@@ -268,7 +268,7 @@ fn connect_of(alloc: Global, body: Bytes) -> Result<Connect, PacketFault>
     let byte = read_u8(&mut rest)?;
     let flags = read_flags(byte)?;
     let keep_alive = read_u16(&mut rest)?;
-    let found = read_properties(alloc, &mut rest, Place::Connect)?;
+    let found = read_properties(alloc, &mut rest, PropertyOwner::Connect)?;
     let Found {
         session_expiry,
         method,
@@ -316,7 +316,11 @@ fn packet_of(alloc: Global, kind: Kind, body: Bytes) -> Result<Packet, PacketFau
                 Err(PacketFault::Malformed)
             }
         }
-        Kind::Disconnect => Ok(Packet::Disconnect(code_of(alloc, body, Place::Disconnect)?)),
+        Kind::Disconnect => Ok(Packet::Disconnect(code_of(
+            alloc,
+            body,
+            PropertyOwner::Disconnect,
+        )?)),
     }
 }
 

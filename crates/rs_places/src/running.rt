@@ -26,7 +26,7 @@ impl<T: Turn + Drop> Clock for PlaceClock<T> {
     }
 }
 
-/// Serves one connection, and gives its halves back to the turn.
+/// Serves one connection, and gives its halves back to the turn, with how it ended.
 fn serve_connection<T: Turn + Drop, N: LineName, H: Wait + Copy>(
     rt: &H,
     alloc: Global,
@@ -40,9 +40,11 @@ fn serve_connection<T: Turn + Drop, N: LineName, H: Wait + Copy>(
 {
     let mut reader = Counted::new(input);
     let mut writer = Counted::new(output);
-    // However it ended: that is a matter of this connection alone.
-    let (_served, gate) = serve_place(rt, alloc, &mut reader, &mut writer, gate, number, clock);
-    clock.turn.end(reader.into_inner(), writer.into_inner());
+    // However it ended, the place goes on.
+    let (served, gate) = serve_place(rt, alloc, &mut reader, &mut writer, gate, number, clock);
+    clock
+        .turn
+        .end(reader.into_inner(), writer.into_inner(), served);
     gate
 }
 

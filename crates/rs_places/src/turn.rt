@@ -1,5 +1,6 @@
 //! What gives a place its connections.
 
+use rs_server::{ServeFault, Served};
 use std::io::{Read, Write};
 
 /// Gives a place its connections, one after the other, and the time.
@@ -19,8 +20,8 @@ pub trait Turn {
     /// The time, in whole seconds. It is asked once for each packet of a connection.
     fn now(&mut self) -> u64;
 
-    /// Takes back the halves of a connection that was served, however it ended. It drops both, if the turn does nothing else.
-    fn end(&mut self, input: Self::In, output: Self::Out) {
+    /// Takes back the halves of a connection that was served, and how it ended. A turn without this method drops both halves.
+    fn end(&mut self, input: Self::In, output: Self::Out, _served: Result<Served, ServeFault>) {
         drop((input, output));
     }
 }

@@ -1,6 +1,7 @@
 //! Places of one store, with its writer in a thread.
 
 ghost use Rattle.std.specs.Prelude.{◌≡◌, ◌<◌, ◌≤◌};
+ghost use Rattle.rs_message.specs.declared.entry.TheConstants.{MAX_PLACES};
 
 mod ending;
 mod faults;
@@ -129,7 +130,7 @@ fn close_both<N: LineName, R: Threads + Wait + Abort + Copy>(
 }
 
 fn blank_store(alloc: Global, topics: u32, places: u8) -> Result<Blank, Fail>
-    requires { (0 < places) × (places ≤ 64) }
+    requires { (0 < places) × (places ≤ MAX_PLACES) }
 {
     let limit = TopicLimit::new(topics).ok_or("a limit")?;
     Ok(Blank::new(alloc, limit, places)?)

@@ -18,13 +18,13 @@ use thiserror::Error;
 /// Why a connection was not served to its end.
 #[derive(Clone, Copy, Debug, PartialEq, Eq, Error)]
 pub enum ServeFault {
-    /// The reader failed.
+    /// 60: the reader failed.
     #[error("reading from the client failed; check the connection")]
     Read,
-    /// The writer failed, or took nothing of what it was given.
+    /// 61: the writer failed, or took nothing of what it was given.
     #[error("writing to the client failed; check that it still reads")]
     Write,
-    /// Memory was refused.
+    /// 62: memory was refused.
     #[error("out of memory to serve the connection; try again with fewer clients")]
     NoMemory,
 }

@@ -4,13 +4,10 @@ ghost use Rattle.std.specs.Prelude.{◌≡◌, ◌≤◌, ◌<◌, ℕ, List, le
 ghost use Rattle.std.specs.Io.KnownBytes.{Consumes};
 ghost use Rattle.rs_sockets.specs.declared.limits.TheConstants.{MAX_DISCARDED};
 
-use crate::limits::MAX_DISCARDED;
+use crate::limits::{DISCARD_SECONDS, MAX_DISCARDED};
 use std::io::Read;
 use std::net::{OpenStream, Shutdown};
 use std::time::{Clock, Duration, Instant};
-
-/// How long bytes are read and discarded, in seconds.
-const DISCARD_SECONDS: u64 = 1;
 
 /// How many bytes one read discards.
 const DISCARD_ROOM: usize = 16_384;

@@ -7,7 +7,7 @@
 //! Replies are gathered: what is written and flushed is kept, up to [`MAX_GATHERED`] bytes, and goes out in
 //! one write if there is no more room, before the next read of the same connection, and at its end.
 //!
-//! They are [`ReadHalf`] and [`WriteHalf`], over any reader and any writer, whose contracts say which bytes
+//! The two halves are [`ReadHalf`] and [`WriteHalf`], over any reader and any writer, whose contracts say which bytes
 //! they give and take: [`split`] begins with those of the reader and of the writer, and a writer that
 //! [`finish`] gives back holds all that was written, in order. So a server whose contract is over any reader
 //! and any writer keeps it over the halves.
@@ -29,7 +29,7 @@ pub use clock::SystemClock;
 pub use connection::{FromClient, ToClient, close, open};
 pub use gathered::Gathered;
 pub use halves::{ReadHalf, WriteHalf};
-pub use limits::{MAX_DISCARDED, MAX_GATHERED};
+pub use limits::{DISCARD_SECONDS, FIRST_PAUSE, LONGEST_PAUSE, MAX_DISCARDED, MAX_GATHERED};
 pub use listener::Listener;
 pub use splitting::{finish, split};
 

@@ -1,20 +1,15 @@
 //! What listens for clients.
 
 ghost use Rattle.std.specs.Prelude.{◌≡◌, ◌*◌, min};
-ghost use Rattle.rs_sockets.specs.declared.listener.TheConstants.{LONGEST_PAUSE};
+ghost use Rattle.rs_sockets.specs.declared.limits.TheConstants.{LONGEST_PAUSE};
 
 use crate::connection::{FromClient, ToClient, open};
+use crate::limits::{FIRST_PAUSE, LONGEST_PAUSE};
 use std::alloc::Global;
 use std::net::{Net, TcpListener, TcpStream};
 use std::sync::atomic::{AtomicU64, Ordering};
 use std::time::{Clock, Duration};
 use std::{io, thread};
-
-/// The pause after the first of some failures in a row, in milliseconds.
-const FIRST_PAUSE: u64 = 10;
-
-/// The longest pause after a failure, in milliseconds.
-const LONGEST_PAUSE: u64 = 1_000;
 
 /// Accepts connections, up to a number in all. Threads share it by reference, as by an `Arc`.
 #[derive(Drop)]
@@ -25,11 +20,11 @@ pub struct Listener {
 
 impl Listener {
     /// Binds an address, which is a host's name, an IPv4 or an IPv6 address, and a port, as `localhost:1883`
-    /// or `[::1]:1883`. Port 0 takes one that is free. It will accept `connections` connections.
+    /// or `[::1]:1883`. Port 0 takes one that is free. It will accept `connections` connections, none if that is 0.
     ///
     /// # Errors
     ///
-    /// If `address` is none, is in use, or may not be bound.
+    /// If `address` is not an address, is in use, or may not be bound.
     pub fn bind<H: Net<Listener = TcpListener, Stream = TcpStream>>(
         rt: &H,
         address: &str,

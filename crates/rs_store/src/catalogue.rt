@@ -21,7 +21,7 @@ use std::alloc::{AllocError, Global};
 pub trait Catalogue {
     ghost content: { Self → Content };
 
-    /// An empty catalogue: version 0, no topic, and 0 as the last serial of each place and of the writer.
+    /// An empty catalogue: version 0, no topic, and 0 as the last serial of each place and of the writer. An error if memory is refused.
     fn new(alloc: Global, limit: TopicLimit) -> Result<Self, AllocError>
         ensures { IfOk result (λ c. content c ≡ empty limit) };
 
@@ -37,11 +37,12 @@ pub trait Catalogue {
         ensures refused { OnErr result (content self.new ≡ content self.old) };
 
     /// Copies of the messages that the filter matches and that are not expired, in the order of replay (section 3.8.4).
-    /// `now` is in seconds. Copies share the bytes of topics, texts and payloads.
+    /// `now` is in seconds. Copies share the bytes of topics, texts and payloads. An error if memory is refused.
     fn answer(&self, filter: &TopicFilter, now: u64) -> Result<Vec<Found>, AllocError>
         ensures { IfOk result (λ found. found.items ≡ answer_in filter.now now (content self.now)) };
 
-    /// The same answer if it has at most `room` messages, else `None`. Gives up at the first message beyond the room.
+    /// The same answer if it has at most `room` messages, else `None`. Gives up at the first message beyond the room. An error if
+    /// memory is refused.
     fn answer_within(
         &self,
         filter: &TopicFilter,
@@ -74,7 +75,8 @@ pub trait Catalogue {
         ensures told { MatchBool result (0 < expired_in now (content self.old)) (expired_in now (content self.old) ≡ 0) }
         ensures same { content self.new ≡ content self.old };
 
-    /// A catalogue of the same content. It shares the bytes of topics, texts and payloads, which are counted references.
+    /// A catalogue of the same content. It shares the bytes of topics, texts and payloads, which are counted references. An error if
+    /// memory is refused.
     fn copy(&self) -> Result<Self, AllocError>
         ensures { IfOk result (λ c. content c ≡ content self.now) };
 }

@@ -100,7 +100,7 @@ share_decides bytes = (
 
 pub tells : (bytes : List ℕ) (fault : TopicFault) → Decides (has_fault bytes fault) (Faulty bytes fault)
 tells bytes Empty = Decides-eqb (length bytes) 0
-tells bytes TooLong = Decides-like (nat_lt MAX_TEXT_SIZE (length bytes)) (λ h. omega (arith, h)) (λ h. omega (arith, h)) (Decides-ltb 65535 (length bytes))
+tells bytes TooLong = Decides-like (nat_lt MAX_TEXT_SIZE (length bytes)) (λ h. omega (arith, h)) (λ h. omega (arith, h)) (Decides-ltb MAX_TEXT_SIZE (length bytes))
 tells bytes NotUtf8 = Decides-not (is_utf8 bytes) (utf8_decides bytes)
 tells bytes HasNul = (λ h. h, λ h. h)
 tells bytes HasWildcard = Decides-or (has plus bytes) (has hash bytes) (λ h. h, λ h. h) (λ h. h, λ h. h)

@@ -2,7 +2,7 @@
 //!
 //! A [`Text`] is UTF-8 without U+0000. A [`TopicName`] names one topic, a [`TopicFilter`] selects topics by wildcards. Their
 //! sizes are limited by [`MAX_TEXT_SIZE`] and [`MAX_LEVELS`]. Each type has two constructors: `read` copies bytes, `of` copies
-//! none. Both answer the first [`TopicFault`] that the bytes have. Only `read` takes memory: `copy` shares the bytes, and is refused
+//! none. Those of names and filters answer the first [`TopicFault`] that the bytes have. Only `read` takes memory: `copy` shares the bytes, and is refused
 //! only if the count of their owners is full.
 //!
 //! Contracts promise that `read` and `of` accept exactly the texts, names and filters of the standard and give back the same

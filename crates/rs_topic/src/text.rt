@@ -106,7 +106,8 @@ impl Model for Text {
 }
 
 impl Text {
-    /// The text of these bytes, which are not copied. None if they are not UTF-8, or contain U+0000. It takes no memory.
+    /// The text of these bytes, which are not copied, and which the caller keeps to [`MAX_TEXT_SIZE`](crate::MAX_TEXT_SIZE). None if
+    /// they are not UTF-8, or contain U+0000. It takes no memory.
     #[tactic(auto, using(crate::proofs::TextLemmas::is_text_when_read))]
     pub fn of(bytes: Bytes) -> Option<Text>
         requires { length bytes < 2 ^ 16 }

@@ -12,7 +12,7 @@ use super::{
 };
 use rs_intake::{BlankQueue, LineName, blank_queue};
 use rs_places::{SharedGate, serve_place};
-use rs_server::{Counted, Moments};
+use rs_server::{Counted, Moments, ServeFault, Served};
 use rs_version::Blank;
 use std::alloc::{AllocError, Global};
 use std::marker::Brand;
@@ -50,6 +50,20 @@ const PEERS: [(&[u8], &[u8]); 15] = [
     ),
 ];
 
+/// How the connection ends, and what it is written.
+fn served<N: LineName, R: Wait + Copy>(
+    rt: &R,
+    alloc: Global,
+    gate: SharedGate<N, R>,
+    input: &[u8],
+) -> (Result<Served, ServeFault>, Vec<u8>, SharedGate<N, R>) {
+    let mut reader = Counted::new(input);
+    let mut writer = Counted::new(Vec::new(alloc));
+    let mut clock = Moments::new(0, Vec::new(alloc));
+    let (end, gate) = serve_place(rt, alloc, &mut reader, &mut writer, gate, 1, &mut clock);
+    (end, writer.into_inner(), gate)
+}
+
 /// What the connection is written.
 pub fn written<N: LineName, R: Wait + Copy>(
     rt: &R,
@@ -57,11 +71,16 @@ pub fn written<N: LineName, R: Wait + Copy>(
     gate: SharedGate<N, R>,
     input: &[u8],
 ) -> (Vec<u8>, SharedGate<N, R>) {
-    let mut reader = Counted::new(input);
-    let mut writer = Counted::new(Vec::new(alloc));
-    let mut clock = Moments::new(0, Vec::new(alloc));
-    let (_served, gate) = serve_place(rt, alloc, &mut reader, &mut writer, gate, 1, &mut clock);
-    (writer.into_inner(), gate)
+    let (_end, bytes, gate) = served(rt, alloc, gate, input);
+    (bytes, gate)
+}
+
+/// How a connection ends that is written this after its CONNACK: by the DISCONNECT, or if there is none, inside a packet.
+fn end_of(output: &[u8]) -> Result<Served, ServeFault> {
+    match output.last() {
+        Some(code) => Ok(Served::ServerClosed(*code)),
+        None => Ok(Served::CutInput),
+    }
 }
 
 /// Whether this stands after the CONNACK, and nothing else.
@@ -72,7 +91,7 @@ fn ends_with(bytes: &[u8], output: &[u8]) -> bool {
     }
 }
 
-/// Whether a client that sends this after its CONNECT is written this after the CONNACK.
+/// Whether a client that sends this after its CONNECT is written this after the CONNACK, and its connection ends so.
 fn is_answered<N: LineName, R: Wait + Copy>(
     rt: &R,
     alloc: Global,
@@ -81,8 +100,8 @@ fn is_answered<N: LineName, R: Wait + Copy>(
     output: &[u8],
 ) -> Result<(bool, SharedGate<N, R>), AllocError> {
     let input = joined(alloc, CONNECT, input)?;
-    let (bytes, gate) = written(rt, alloc, gate, &input);
-    Ok((ends_with(&bytes, output), gate))
+    let (end, bytes, gate) = served(rt, alloc, gate, &input);
+    Ok((end == end_of(output) && ends_with(&bytes, output), gate))
 }
 
 /// Each of these clients is written what it should be.

@@ -2,6 +2,7 @@
 
 use super::CLOSED;
 use rs_places::Turn;
+use rs_server::{ServeFault, Served};
 use std::alloc::Global;
 use std::collections::VecDeque;
 use std::io;
@@ -54,7 +55,7 @@ pub struct Exchange {
 pub struct Counts {
     /// Connections that ended.
     pub ended: AtomicU64,
-    /// Connections that were sent what they had to be.
+    /// Connections that ended without a fault, and were sent what they had to be.
     pub right: AtomicU64,
     /// Connections that were told that the store takes no more changes.
     pub closed: AtomicU64,
@@ -131,8 +132,8 @@ impl Turn for Script {
         0
     }
 
-    fn end(&mut self, _input: Input, output: Output) {
-        if output.bytes.as_slice() == self.wanted.as_slice() {
+    fn end(&mut self, _input: Input, output: Output, served: Result<Served, ServeFault>) {
+        if served.is_ok() && output.bytes.as_slice() == self.wanted.as_slice() {
             self.counts.right.fetch_add(1, Ordering::SeqCst);
         }
         if output.bytes.as_slice() == CLOSED {

@@ -7,7 +7,7 @@ use super::script::{Counts, Exchange, Input, Output, Script};
 use super::{CONNECT, CONNECTED, Store, blank_store, close_both, joined, opened};
 use rs_intake::{BlankQueue, LineName, blank_queue};
 use rs_places::{SharedGate, Turn, serve_place};
-use rs_server::{Counted, Moments};
+use rs_server::{Counted, Moments, ServeFault, Served};
 use rs_version::Blank;
 use std::alloc::{AllocError, Global};
 use std::marker::Brand;
@@ -129,8 +129,8 @@ impl Turn for Rounds {
         ROUNDS.get(last).copied().unwrap_or(0)
     }
 
-    fn end(&mut self, input: Input, output: Output) {
-        self.script.end(input, output)
+    fn end(&mut self, input: Input, output: Output, served: Result<Served, ServeFault>) {
+        self.script.end(input, output, served)
     }
 }
 

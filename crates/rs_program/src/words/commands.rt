@@ -5,6 +5,7 @@ ghost use Rattle.clap.specs.Words.{app_of, rule_of};
 ghost use Rattle.clap.specs.declared.builder.command.Command.TheViews.{out-Command as fields_of};
 ghost use Rattle.rs_program.specs.CommandLine.{address_option, connections_option, listen_words, number_option, pipe_words, places_option, rstored_words, topics_option};
 
+use crate::own_store::MAX_OWN_TOPICS;
 use clap::builder::ValueParser;
 use clap::{Arg, ArgAction, Command};
 use rs_message::MAX_PLACES;
@@ -59,12 +60,14 @@ const TOPICS_HELP: &str = "How many topics may hold a message";
 
 const CONNECTIONS_HELP: &str = "After how many connections the program ends";
 
-// The value names `1-64`, `1-65536` and `1-1000000` below.
+// The value names `1-64`, `1-65536` and `1-1000000` below, and the default of `--topics`, which is the limit of `pipe`.
 const _: () = prove!(MAX_PLACES == 64);
 
 const _: () = prove!(MAX_TOPICS == 65_536);
 
 const _: () = prove!(MAX_CONNECTIONS == 1_000_000);
+
+const _: () = prove!(MAX_OWN_TOPICS == 10_000);
 
 pub(super) fn command<'a>(alloc: Global) -> Result<Command<'a>, AllocError>
     ensures shape { IfOk result (λ c. app_of c ≡ rstored_words) }

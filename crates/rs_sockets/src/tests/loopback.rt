@@ -203,15 +203,17 @@ fn refuse<H: Clock + Net<Listener = TcpListener, Stream = TcpStream> + Threads>(
     Ok(sending.join(rt))
 }
 
-// A machine that stands still for a second loses a client. Half of them have to be in time.
+// A client that is held up for a second may be too late, as on a busy machine. One that is in time is enough: if what it sends
+// were not discarded, each would be reset.
 #[test]
 fn a_refused_client_reads_why(rt: HostRuntime) -> Result<(), Fail> {
-    let mut read_all = 0u64;
-    for _ in 0..10 {
-        if refuse(&rt, rt.alloc())? == 7 {
-            read_all = read_all.saturating_add(1);
+    let mut size = 0u64;
+    for _ in 0..100 {
+        size = refuse(&rt, rt.alloc())?;
+        if size == 7 {
+            break;
         }
     }
-    assert!(rt; read_all >= 5, "{read_all} of 10");
+    assert!(rt; size == 7);
     Ok(())
 }
