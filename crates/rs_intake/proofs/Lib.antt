@@ -6,3 +6,5 @@ pub mod Sameness
 pub mod Sums
 pub mod Sent
 pub mod Sweeps
+pub mod Done
+pub mod Endings

@@ -1,5 +1,5 @@
 -- Each step keeps the rule of the queue.
-use Rattle.std.proofs.Common.{◌≡◌, ◌≢◌, ℕ, zero, suc, ◌+◌, ◌<◌, ◌==◌, ◌⊎◌, Bool, true, false, cond, max, List, [], ◌∷◌, ◌++◌, length, map, set, fold, refl, inl, inr, sym, ap, subst, ◌∙◌, ⊎_elim, append_assoc, arith}
+use Rattle.std.proofs.Common.{◌≡◌, ◌≢◌, ℕ, zero, suc, ◌+◌, ◌<◌, ◌==◌, ◌⊎◌, Bool, true, false, cond, max, List, [], ◌∷◌, ◌++◌, length, map, set, fold, refl, inl, inr, sym, ap, subst, ◌∙◌, ⊎_elim, append_assoc, length-append, ◌≤◌, arith}
 use Rattle.std.proofs.lemmas.List.{append-nil}
 use Rattle.std.proofs.lemmas.List.Elements.{filter-append, filter_map-append}
 use Rattle.std.proofs.lemmas.Bool.Decides.{nat_tests}
@@ -16,7 +16,7 @@ use Rattle.rs_intake.specs.declared.rule.SentFrom.{SentFrom}
 use Rattle.rs_intake.specs.declared.rule.Job.{Job}
 use Rattle.rs_intake.specs.declared.rule.Job.TheVariants.{Put, End}
 use Rattle.rs_intake.proofs.Parts.{part_front, part_rises, rises_none}
-use Rattle.rs_intake.specs.QueueRule.{Delivers, taker, Sends, Takes, of_place, entry_of, entries_of, place_of, IsAbove, IsOutside, AreWhole, SumsUp, Balances, job_more, one_line_more, new_line, one_line_less, spent, FitsLine, FitsTaker}
+use Rattle.rs_intake.specs.QueueRule.{AreEnds, AreLast, AreWhole, Balances, Closes, ClosesLine, ClosesTaker, Delivers, FitsLine, FitsTaker, IsAbove, IsOutside, Keeps, Sends, SumsUp, Takes, at_place, end_of, ends_of, entries_of, entry_of, job_more, new_line, of_place, one_line_less, one_line_more, place_of, spent, taker}
 
 clash : {b : Bool} → b ≡ false → b ≡ true → ⊥
 clash p q = cc (p, q)
@@ -107,20 +107,24 @@ puts_with n pass v x sends takes own others rising items views room h at =
       refl,
     )
 
-pub puts : (n pass : ℕ) (v : PassView) (x : Job) → v.sends ≡ true → v.takes ≡ false → v.from ≡ place_of x → IsAbove v.entries x → Pushes Delivers n pass v x (Sends v x)
-puts n pass v (Put e) sends takes from above = puts_with n pass v (Put e) sends takes
+puts_delivers : (n pass : ℕ) (v : PassView) (x : Job) → v.sends ≡ true → v.takes ≡ false → v.from ≡ place_of x → IsAbove v.entries x → Pushes Delivers n pass v x (Sends v x)
+puts_delivers n pass v (Put e) sends takes from above = puts_with n pass v (Put e) sends takes
     (of_place-here v.from e (sym from))
     (λ place other. of_place-other place e (λ same. other (sym same ∙ sym from)))
     (λ entries mine rises. serials_rise_more entries e rises (
     let is : last_serial e.origin.place entries ≡ last_serial e.origin.place v.entries = sym (last_serial-of_place e.origin.place entries) ∙ ap (last_serial e.origin.place) (ap (λ p. of_place p entries) (sym from) ∙ mine) in
     omega (arith, is, above)))
-puts n pass v (End place) sends takes from above = puts_with n pass v (End place) sends takes
+puts_delivers n pass v (End place) sends takes from above = puts_with n pass v (End place) sends takes
     refl
     (λ place other. refl)
     (λ entries mine rises. let P : List Entry → Type 0 = λ l. SerialsRise l in subst P (sym (append-nil entries)) rises)
 
-pub takes : (pass : ℕ) (v : PassView) → v.takes ≡ true → v.sends ≡ false → Pops Delivers pass v (Takes v)
-takes pass v gets quiet x items views h at =
+-- the same without the Ends
+abbrev TakesRising : PassView → Job → PassView → Type 0
+TakesRising v job w = (w ≡ job_more v job) × SerialsRise w.entries
+
+takes_delivers : (pass : ℕ) (v : PassView) → v.takes ≡ true → v.sends ≡ false → Pops Delivers pass v (TakesRising v)
+takes_delivers pass v gets quiet x items views h at =
     let es = entries_of (x ∷ []) in
     let writer = h.0 in
     let line = h.1 in
@@ -180,8 +184,8 @@ within_more made place out = ⊎_elim (λ (t : place ≡ 0). inl t) (λ (t : mad
 not_next : (made place : ℕ) → IsOutside (made + 1) place → place ≢ made + 1
 not_next made place out same = ⊎_elim (λ (t : place ≡ 0). omega arith) (λ (t : made + 1 < place). omega arith) out
 
-pub cuts : (pass : ℕ) (v : PassView) → v.takes ≡ true → v.sends ≡ false → v.known ≡ [] → Forks Delivers pass v (one_line_more v) (new_line v)
-cuts pass v gets quiet none_known items views h at =
+cuts_delivers : (pass : ℕ) (v : PassView) → v.takes ≡ true → v.sends ≡ false → v.known ≡ [] → Forks Delivers pass v (one_line_more v) (new_line v)
+cuts_delivers pass v gets quiet none_known items views h at =
     let line = h.1 in
     let sent = h.2 in
     let taken = h.3 in
@@ -223,8 +227,8 @@ whole_gone : (line : ℕ → Option ℕ) (sent : ℕ → List Entry) (place : �
 whole_gone line sent place [] w = tt
 whole_gone line sent place (k ∷ ks) w = (line_gone line place k.place w.0, w.1, whole_gone line sent place ks w.2)
 
-pub merges : (pass : ℕ) (v : PassView) (other : ℕ) (w : PassView) → v.takes ≡ true → v.sends ≡ false → w.sends ≡ true → Merges Delivers pass v other w (one_line_less v w) spent
-merges pass v other w gets quiet sends items views h at apart at' =
+merges_delivers : (pass : ℕ) (v : PassView) (other : ℕ) (w : PassView) → v.takes ≡ true → v.sends ≡ false → w.sends ≡ true → Merges Delivers pass v other w (one_line_less v w) spent
+merges_delivers pass v other w gets quiet sends items views h at apart at' =
     let line = h.1 in
     let sent = h.2 in
     let taken = h.3 in
@@ -266,8 +270,8 @@ sums_up : (line : ℕ → Option ℕ) (sent all : ℕ → List Entry) → ((plac
 sums_up line sent all is [] w = tt
 sums_up line sent all is (k ∷ ks) w = (w.1 ∙ sym (is k.place), sums_up line sent all is ks w.2)
 
-pub learns : (pass : ℕ) (v : PassView) → v.takes ≡ true → Learns Delivers pass v (Balances v)
-learns pass v gets items views h at =
+learns_delivers : (pass : ℕ) (v : PassView) → v.takes ≡ true → Learns Delivers pass v (Balances v)
+learns_delivers pass v gets items views h at =
     let mine = (h.5 pass v at).1 gets in
     let all : (place : ℕ) → of_place place (v.entries ++ entries_of items) ≡ h.2 place = λ place. ap (λ l. of_place place (l ++ entries_of items)) mine.1 ∙ h.4 place in (
       (λ place out. all place ∙ (mine.2 place out).1),
@@ -279,8 +283,8 @@ alone zero u e = (refl, some-injective taker u e)
 alone (suc j) u e = absurd (some-ne-none u (sym e))
 
 -- the empty queue before its lines are made
-pub starts : Delivers [] (taker ∷ [])
-starts = (
+starts_delivers : Delivers [] (taker ∷ [])
+starts_delivers = (
   0,
   (λ place. none),
   (λ place. []),
@@ -300,3 +304,314 @@ in_order items views i j writer line h at_writer takes at_line sends =
     let taken = ((h.5 i writer at_writer).1 takes).1 in
     let sent = ((h.5 j line at_line).0 sends).1 in
     (rest, ap (λ l. of_place place l ++ rest) taken ∙ (sym (of_place-append place h.3 (entries_of items)) ∙ (h.4 place ∙ sym sent)))
+
+-- ---- the Ends
+
+at_place-append : (place : ℕ) (xs ys : List ℕ) → at_place place (xs ++ ys) ≡ at_place place xs ++ at_place place ys
+at_place-append place xs ys = filter-append (λ (p : ℕ). p == place) xs ys
+
+at_place-here : (place : ℕ) → at_place place (place ∷ []) ≡ place ∷ []
+at_place-here place = let is : (place == place) ≡ true = grind (arith, nat_tests) in then_is (place == place) (place ∷ []) [] is
+
+at_place-other : (place q : ℕ) → q ≢ place → at_place place (q ∷ []) ≡ []
+at_place-other place q other = let is : (q == place) ≡ false = grind (arith, nat_tests) in else_is (q == place) (q ∷ []) [] is
+
+pub at_place-head : (q : ℕ) (xs : List ℕ) → at_place q (q ∷ xs) ≡ [] → ⊥
+at_place-head q xs e = let is : (q == q) ≡ true = grind (arith, nat_tests) in go (q == q) is e
+  where
+    go : (b : Bool) → b ≡ true → cond b (q ∷ at_place q xs) (at_place q xs) ≡ [] → ⊥
+    go true is e = cc (e)
+    go false is e = cc (is)
+
+pub at_place-tail : (place q : ℕ) (xs : List ℕ) → at_place place (q ∷ xs) ≡ [] → at_place place xs ≡ []
+at_place-tail place q xs e = go (q == place) e
+  where
+    go : (b : Bool) → cond b (q ∷ at_place place xs) (at_place place xs) ≡ [] → at_place place xs ≡ []
+    go true e = absurd (cc (e))
+    go false e = e
+
+of_place-head : (x : Entry) (xs : List Entry) → of_place x.origin.place (x ∷ xs) ≡ [] → ⊥
+of_place-head x xs e = let is : (x.origin.place == x.origin.place) ≡ true = grind (arith, nat_tests) in go (x.origin.place == x.origin.place) is e
+  where
+    go : (b : Bool) → b ≡ true → cond b (x ∷ of_place x.origin.place xs) (of_place x.origin.place xs) ≡ [] → ⊥
+    go true is e = cc (e)
+    go false is e = cc (is)
+
+same_or_not : (a b : ℕ) → (a ≡ b) ⊎ (a ≢ b)
+same_or_not a b = go (a == b) refl
+  where
+    go : (t : Bool) → (a == b) ≡ t → (a ≡ b) ⊎ (a ≢ b)
+    go true is = inl (let e : a ≡ b = grind (arith, nat_tests, is) in e)
+    go false is = inr (λ same. grind (arith, nat_tests, is, same))
+
+none_left : {A : Type 0} (xs ys : List A) → xs ++ ys ≡ [] → xs ≡ []
+none_left [] ys e = refl
+none_left (x ∷ xs) ys e = absurd (cc (e))
+
+none_right : {A : Type 0} (xs ys : List A) → xs ++ ys ≡ [] → ys ≡ []
+none_right [] ys e = e
+none_right (x ∷ xs) ys e = absurd (cc (e))
+
+ends_here : (x : Job) → at_place (place_of x) (ends_of (x ∷ [])) ≡ ends_of (x ∷ [])
+ends_here (Put e) = refl
+ends_here (End q) = at_place-here q
+
+ends_other : (x : Job) (place : ℕ) → place ≢ place_of x → at_place place (ends_of (x ∷ [])) ≡ []
+ends_other (Put e) place other = refl
+ends_other (End q) place other = at_place-other place q (λ same. other (sym same))
+
+one_end : (x : Job) → length (ends_of (x ∷ [])) ≤ 1
+one_end (Put e) = omega arith
+one_end (End q) = omega arith
+
+entries_other : (x : Job) (place : ℕ) → place ≢ place_of x → of_place place (entries_of (x ∷ [])) ≡ []
+entries_other (Put e) place other = of_place-other place e (λ same. other (sym same))
+entries_other (End q) place other = refl
+
+-- another place's job behind the queue
+behind_other : (x : Job) (items : List Job) (place : ℕ) → place ≢ place_of x → of_place place (entries_of items) ≡ [] → of_place place (entries_of (items ++ x ∷ [])) ≡ []
+behind_other x items place other nothing =
+    ap (of_place place) (filter_map-append entry_of items (x ∷ [])) ∙ (of_place-append place (entries_of items) (entries_of (x ∷ [])) ∙ (ap (λ l. l ++ of_place place (entries_of (x ∷ []))) nothing ∙ entries_other x place other))
+
+last_one : (x : Job) → AreLast (x ∷ [])
+last_one (Put e) = tt
+last_one (End q) = (refl, tt)
+
+-- a job whose place has no End in the queue comes behind it
+last_more : (x : Job) (items : List Job) → at_place (place_of x) (ends_of items) ≡ [] → AreLast items → AreLast (items ++ x ∷ [])
+last_more x [] nothing last = last_one x
+last_more x (Put e ∷ items) nothing last = last_more x items nothing last
+last_more x (End q ∷ items) nothing last = (
+  behind_other x items q (λ same. at_place-head q (ends_of items) (ap (λ p. at_place p (q ∷ ends_of items)) same ∙ nothing)) last.0,
+  last_more x items (at_place-tail (place_of x) q (ends_of items) nothing) last.1,
+)
+
+last_less : (x : Job) (items : List Job) → AreLast (x ∷ items) → AreLast items
+last_less (Put e) items last = last
+last_less (End q) items last = last.1
+
+closes_more : (pass : ℕ) (v : PassView) (x : Job) (items : List Job) (views : List PassView)
+    → v.sends ≡ true → v.takes ≡ false → v.from ≡ place_of x → v.ends ≡ [] → get_elem? views pass ≡ some v
+    → ((j : ℕ) (u : PassView) → j ≢ pass → get_elem? views j ≡ some u → (u.sends ≡ true → u.from ≢ v.from) × (u.takes ≡ true → ¬ IsOutside u.made v.from))
+    → Closes items views → Closes (items ++ x ∷ []) (set views pass (job_more v x))
+closes_more pass v x items views sends takes from fresh at others c =
+    let es = ends_of (x ∷ []) in
+    let ended = c.0 in
+    let all = ended ++ ends_of items in
+    let all' = ended ++ ends_of (items ++ x ∷ []) in
+    let joined : all' ≡ all ++ es = ap (λ l. ended ++ l) (filter_map-append end_of items (x ∷ [])) ∙ sym (append_assoc ended (ends_of items) es) in
+    let more : (place : ℕ) → at_place place all' ≡ at_place place all ++ at_place place es = λ place. ap (at_place place) joined ∙ at_place-append place all es in
+    let none : at_place v.from all ≡ [] = sym ((c.2 pass v at).0 sends) ∙ fresh in
+    let both : at_place v.from ended ++ at_place v.from (ends_of items) ≡ [] = sym (at_place-append v.from ended (ends_of items)) ∙ none in
+    let none_ended : at_place v.from ended ≡ [] = none_left (at_place v.from ended) (at_place v.from (ends_of items)) both in
+    let none_there : at_place v.from (ends_of items) ≡ [] = none_right (at_place v.from ended) (at_place v.from (ends_of items)) both in
+    let own : at_place v.from es ≡ es = ap (λ p. at_place p es) from ∙ ends_here x in
+    let here : at_place v.from all' ≡ es = more v.from ∙ (ap (λ l. l ++ at_place v.from es) none ∙ own) in
+    let apart : (place : ℕ) → place ≢ v.from → at_place place all' ≡ at_place place all = λ place other. more place ∙ (ap (λ l. at_place place all ++ l) (ends_other x place (λ same. other (same ∙ sym from))) ∙ append-nil (at_place place all)) in (
+      ended,
+      (λ place. ⊎_elim
+          (λ (t : place ≡ v.from). let n : length (at_place place all') ≡ length es = ap length (ap (λ p. at_place p all') t ∙ here) in let one = one_end x in omega (arith, n, one))
+          (λ (t : place ≢ v.from). let n : length (at_place place all') ≡ length (at_place place all) = ap length (apart place t) in let few = c.1 place in omega (arith, n, few))
+          (same_or_not place v.from)),
+      (λ j u e. ⊎_elim
+          (λ (t : (j ≡ pass) × (job_more v x ≡ u)).
+          let P : PassView → Type 0 = λ u. ClosesLine all' u × ClosesTaker ended all' u in
+          subst P t.1 ((λ s. ap (λ l. l ++ es) fresh ∙ sym here), (λ s. absurd (clash takes s))))
+          (λ (t : (j ≢ pass) × (get_elem? views j ≡ some u)).
+          let f = c.2 j u t.1 in
+          let o = others j u t.0 t.1 in (
+            (λ s. f.0 s ∙ sym (apart u.from (o.0 s))),
+            (λ s. let g = f.1 s in (g.0, (λ place out. apart place (λ same. o.1 s (let O : ℕ → Type 0 = λ p. IsOutside u.made p in subst O same out)) ∙ g.1 place out))),
+          ))
+          (at_set views pass j (job_more v x) u e)),
+      last_more x items (ap (λ p. at_place p (ends_of items)) (sym from) ∙ none_there) c.3,
+      (λ place. ⊎_elim
+          (λ (t : at_place place ended ≡ []). inl t)
+          (λ (t : of_place place (entries_of items) ≡ []). ⊎_elim
+          (λ (same : place ≡ v.from). inl (ap (λ p. at_place p ended) same ∙ none_ended))
+          (λ (other : place ≢ v.from). inr (behind_other x items place (λ same. other (same ∙ sym from)) t))
+          (same_or_not place v.from))
+          (c.4 place)),
+    )
+
+pub puts : (n pass : ℕ) (v : PassView) (x : Job) → v.sends ≡ true → v.takes ≡ false → v.from ≡ place_of x → IsAbove v.entries x → v.ends ≡ [] → Pushes Keeps n pass v x (Sends v x)
+puts n pass v x sends takes from above fresh items views room h at =
+    let dl = h.0 in
+    let d = puts_delivers n pass v x sends takes from above items views room dl at in
+    let D : PassView → Type 0 = λ w. Delivers (items ++ x ∷ []) (set views pass w) in
+    let mine = (dl.5 pass v at).0 sends in (
+      job_more v x,
+      (
+        subst D d.2 d.1,
+        closes_more pass v x items views sends takes from fresh at
+            (λ j u apart there. let f = dl.5 j u there in (
+              (λ s same. apart (some-injective j pass (sym (f.0 s).0 ∙ (ap dl.1 same ∙ mine.0)))),
+              (λ s out. some-ne-none pass (sym mine.0 ∙ ((f.1 s).2 v.from out).0)),
+            ))
+            h.1,
+      ),
+      refl,
+    )
+
+ends_joined : (ended : List ℕ) (x : Job) (items : List Job) → (ended ++ ends_of (x ∷ [])) ++ ends_of items ≡ ended ++ ends_of (x ∷ items)
+ends_joined ended x items = append_assoc ended (ends_of (x ∷ [])) (ends_of items) ∙ ap (λ l. ended ++ l) (sym (filter_map-append end_of (x ∷ []) items))
+
+behind_here : (x : Job) (items : List Job) (ended : List ℕ) → AreLast (x ∷ items) → at_place (place_of x) ended ≡ [] → (at_place (place_of x) (ended ++ ends_of (x ∷ [])) ≡ []) ⊎ (of_place (place_of x) (entries_of items) ≡ [])
+behind_here (Put e) items ended last nothing = inl (ap (at_place e.origin.place) (append-nil ended) ∙ nothing)
+behind_here (End q) items ended last nothing = inr last.0
+
+behind_less : (x : Job) (items : List Job) (place : ℕ) → of_place place (entries_of (x ∷ items)) ≡ [] → of_place place (entries_of items) ≡ []
+behind_less x items place nothing = none_right (of_place place (entries_of (x ∷ []))) (of_place place (entries_of items))
+    (sym (of_place-append place (entries_of (x ∷ [])) (entries_of items)) ∙ (ap (of_place place) (sym (filter_map-append entry_of (x ∷ []) items)) ∙ nothing))
+
+closes_less : (pass : ℕ) (v : PassView) (x : Job) (items : List Job) (views : List PassView) → v.takes ≡ true → v.sends ≡ false → get_elem? views pass ≡ some v
+    → ((j : ℕ) (u : PassView) → j ≢ pass → get_elem? views j ≡ some u → u.takes ≡ true → ⊥)
+    → Closes (x ∷ items) views → Closes items (set views pass (job_more v x))
+closes_less pass v x items views gets quiet at only c =
+    let es = ends_of (x ∷ []) in
+    let ended = c.0 in
+    let all = (ended ++ es) ++ ends_of items in
+    let joined : all ≡ ended ++ ends_of (x ∷ items) = ends_joined ended x items in
+    let mine = (c.2 pass v at).1 gets in (
+      ended ++ es,
+      (λ place. let P : List ℕ → Type 0 = λ l. length (at_place place l) ≤ 1 in subst P (sym joined) (c.1 place)),
+      (λ j u e. ⊎_elim
+          (λ (t : (j ≡ pass) × (job_more v x ≡ u)).
+          let P : PassView → Type 0 = λ u. ClosesLine all u × ClosesTaker (ended ++ es) all u in
+          subst P t.1 ((λ s. absurd (clash quiet s)), (λ s. (ap (λ l. l ++ es) mine.0, (λ place out. ap (at_place place) joined ∙ mine.1 place out)))))
+          (λ (t : (j ≢ pass) × (get_elem? views j ≡ some u)).
+          let f = c.2 j u t.1 in ((λ s. f.0 s ∙ ap (at_place u.from) (sym joined)), (λ s. absurd (only j u t.0 t.1 s))))
+          (at_set views pass j (job_more v x) u e)),
+      last_less x items c.3,
+      (λ place. ⊎_elim
+          (λ (t : at_place place ended ≡ []). ⊎_elim
+          (λ (same : place ≡ place_of x).
+          let B : ℕ → Type 0 = λ p. (at_place p (ended ++ es) ≡ []) ⊎ (of_place p (entries_of items) ≡ []) in
+          subst B (sym same) (behind_here x items ended c.3 (ap (λ p. at_place p ended) (sym same) ∙ t)))
+          (λ (other : place ≢ place_of x). inl (at_place-append place ended es ∙ (ap (λ l. l ++ at_place place es) t ∙ ends_other x place other)))
+          (same_or_not place (place_of x)))
+          (λ (t : of_place place (entries_of (x ∷ items)) ≡ []). inr (behind_less x items place t))
+          (c.4 place)),
+    )
+
+ends_front : (made : ℕ) (front rest : List ℕ) → ((place : ℕ) → length (at_place place (front ++ rest)) ≤ 1) → ((place : ℕ) → IsOutside made place → at_place place (front ++ rest) ≡ []) → AreEnds made front
+ends_front made front rest few outside place =
+    let is = at_place-append place front rest in
+    let sum = length-append (at_place place front) (at_place place rest) in
+    let n : length (at_place place (front ++ rest)) ≡ length (at_place place front ++ at_place place rest) = ap length is in
+    let f = few place in (
+      omega (arith, sum, n, f),
+      (λ out. none_left (at_place place front) (at_place place rest) (sym is ∙ outside place out)),
+    )
+
+-- the oldest job is of a place that has a line
+placed : (pass : ℕ) (v : PassView) (x : Job) (items : List Job) (views : List PassView) → v.takes ≡ true → get_elem? views pass ≡ some v → Delivers (x ∷ items) views → Closes (x ∷ items) views → ¬ IsOutside v.made (place_of x)
+placed pass v (Put e) items views gets at d c out =
+    let place = e.origin.place in
+    let none : of_place place (d.3 ++ entries_of (Put e ∷ items)) ≡ [] = d.4 place ∙ (((d.5 pass v at).1 gets).2 place out).1 in
+    of_place-head e (entries_of items) (none_right (of_place place d.3) (of_place place (entries_of (Put e ∷ items))) (sym (of_place-append place d.3 (entries_of (Put e ∷ items))) ∙ none))
+placed pass v (End q) items views gets at d c out =
+    let none : at_place q (c.0 ++ ends_of (End q ∷ items)) ≡ [] = ((c.2 pass v at).1 gets).1 q out in
+    at_place-head q (ends_of items) (none_right (at_place q c.0) (at_place q (ends_of (End q ∷ items))) (sym (at_place-append q c.0 (ends_of (End q ∷ items))) ∙ none))
+
+pub takes : (pass : ℕ) (v : PassView) → v.takes ≡ true → v.sends ≡ false → Pops Keeps pass v (Takes v)
+takes pass v gets quiet x items views h at =
+    let es = ends_of (x ∷ []) in
+    let dl = h.0 in
+    let cl = h.1 in
+    let d = takes_delivers pass v gets quiet x items views dl at in
+    let D : PassView → Type 0 = λ w. Delivers items (set views pass w) in
+    let S : PassView → Type 0 = λ w. SerialsRise w.entries in
+    let E : List ℕ → Type 0 = λ l. AreEnds v.made (l ++ es) in
+    let writer = ((dl.5 pass v at).1 gets).0 in
+    let mine = (cl.2 pass v at).1 gets in
+    let joined = ends_joined cl.0 x items in (
+      job_more v x,
+      (
+        subst D d.2.0 d.1,
+        closes_less pass v x items views gets quiet at (λ j u apart there s. apart (((dl.5 j u there).1 s).0 ∙ sym writer)) cl,
+      ),
+      (
+        refl,
+        subst S d.2.0 d.2.1,
+        subst E (sym mine.0) (ends_front v.made (cl.0 ++ es) (ends_of items)
+            (λ place. let P : List ℕ → Type 0 = λ l. length (at_place place l) ≤ 1 in subst P (sym joined) (cl.1 place))
+            (λ place out. ap (at_place place) joined ∙ mine.1 place out)),
+        placed pass v x items views gets at dl cl,
+      ),
+    )
+
+pub cuts : (pass : ℕ) (v : PassView) → v.takes ≡ true → v.sends ≡ false → v.known ≡ [] → Forks Keeps pass v (one_line_more v) (new_line v)
+cuts pass v gets quiet none_known items views h at =
+    let c = h.1 in
+    let all = c.0 ++ ends_of items in
+    let mine = (c.2 pass v at).1 gets in (
+      cuts_delivers pass v gets quiet none_known items views h.0 at,
+      (
+        c.0,
+        c.1,
+        (λ j u e. let P : PassView → Type 0 = λ u. ClosesLine all u × ClosesTaker c.0 all u in ⊎_elim
+            (λ (t : get_elem? (set views pass (one_line_more v)) j ≡ some u). ⊎_elim
+            (λ (t : (j ≡ pass) × (one_line_more v ≡ u)). subst P t.1 ((λ s. absurd (clash quiet s)), (λ s. (mine.0, (λ place out. mine.1 place (within_more v.made place out))))))
+            (λ (t : (j ≢ pass) × (get_elem? views j ≡ some u)). c.2 j u t.1)
+            (at_set views pass j (one_line_more v) u t))
+            (λ (t : (j ≡ length (set views pass (one_line_more v))) × (new_line v ≡ u)). subst P t.1 ((λ s. sym (mine.1 (v.made + 1) (inr (omega arith)))), (λ s. absurd (clash refl s))))
+            (snoc_at (set views pass (one_line_more v)) (new_line v) u j e)),
+        c.3,
+        c.4,
+      ),
+    )
+
+pub merges : (pass : ℕ) (v : PassView) (other : ℕ) (w : PassView) → v.takes ≡ true → v.sends ≡ false → w.sends ≡ true → Merges Keeps pass v other w (one_line_less v w) spent
+merges pass v other w gets quiet sends items views h at apart at' =
+    let c = h.1 in
+    let all = c.0 ++ ends_of items in
+    let both = one_line_less v w in
+    let mine = (c.2 pass v at).1 gets in (
+      merges_delivers pass v other w gets quiet sends items views h.0 at apart at',
+      (
+        c.0,
+        c.1,
+        (λ j u e. let P : PassView → Type 0 = λ u. ClosesLine all u × ClosesTaker c.0 all u in ⊎_elim
+            (λ (t : (j ≡ other) × (spent ≡ u)). subst P t.1 ((λ s. absurd (clash refl s)), (λ s. absurd (clash refl s))))
+            (λ (o : (j ≢ other) × (get_elem? (set views pass both) j ≡ some u)). ⊎_elim
+            (λ (t : (j ≡ pass) × (both ≡ u)). subst P t.1 ((λ s. absurd (clash quiet s)), (λ s. mine)))
+            (λ (t : (j ≢ pass) × (get_elem? views j ≡ some u)). c.2 j u t.1)
+            (at_set views pass j both u o.1))
+            (at_set (set views pass both) other j spent u e)),
+        c.3,
+        c.4,
+      ),
+    )
+
+pub learns : (pass : ℕ) (v : PassView) → v.takes ≡ true → Learns Keeps pass v (Balances v)
+learns pass v gets items views h at = learns_delivers pass v gets items views h.0 at
+
+pub starts : Keeps [] (taker ∷ [])
+starts = (
+  starts_delivers,
+  (
+    [],
+    (λ place. omega arith),
+    (λ j u e. let t = alone j u e in let P : PassView → Type 0 = λ u. ClosesLine [] u × ClosesTaker [] [] u in subst P t.1 ((λ s. absurd (clash refl s)), (λ s. (refl, (λ place out. refl))))),
+    tt,
+    (λ place. inl refl),
+  ),
+)
+
+-- once the writer took the End of a place, it took all that was sent from there
+pub end_is_last : (items : List Job) (views : List PassView) (i j : ℕ) (writer line : PassView) → Keeps items views
+    → get_elem? views i ≡ some writer → writer.takes ≡ true → get_elem? views j ≡ some line → line.sends ≡ true
+    → length (at_place line.from writer.ends) ≡ 1 → of_place line.from writer.entries ≡ line.entries
+end_is_last items views i j writer line h at_writer takes at_line sends one =
+    let dl = h.0 in
+    let cl = h.1 in
+    let place = line.from in
+    let taken = ((dl.5 i writer at_writer).1 takes).1 in
+    let sent = ((dl.5 j line at_line).0 sends).1 in
+    let ended = ((cl.2 i writer at_writer).1 takes).0 in
+    ⊎_elim
+    (λ (t : at_place place cl.0 ≡ []). absurd (let n : length (at_place place writer.ends) ≡ 0 = ap length (ap (at_place place) ended ∙ t) in omega (arith, n, one)))
+    (λ (t : of_place place (entries_of items) ≡ []).
+    ap (of_place place) taken ∙ (sym (append-nil (of_place place dl.3)) ∙ (ap (λ l. of_place place dl.3 ++ l) (sym t) ∙ (sym (of_place-append place dl.3 (entries_of items)) ∙ (dl.4 place ∙ sym sent)))))
+    (cl.4 place)

@@ -24,15 +24,15 @@ all_cons P x xs here rest zero d lt = here
 all_cons P x xs here rest (suc k) d lt = rest k d (omega (arith, lt))
 
 -- the sum over the places from 1 to n
-abbrev sum_to : ℕ → (ℕ → ℕ) → ℕ
+abbrev pub sum_to : ℕ → (ℕ → ℕ) → ℕ
 sum_to zero f = 0
 sum_to (suc n) f = sum_to n f + f (suc n)
 
-sum_to-add : (n : ℕ) (f g : ℕ → ℕ) → sum_to n (λ p. f p + g p) ≡ sum_to n f + sum_to n g
+pub sum_to-add : (n : ℕ) (f g : ℕ → ℕ) → sum_to n (λ p. f p + g p) ≡ sum_to n f + sum_to n g
 sum_to-add zero f g = refl
 sum_to-add (suc n) f g = let h = sum_to-add n f g in omega (arith, h)
 
-sum_to-same : (n : ℕ) (f g : ℕ → ℕ) → ((p : ℕ) → 0 < p → p ≤ n → f p ≡ g p) → sum_to n f ≡ sum_to n g
+pub sum_to-same : (n : ℕ) (f g : ℕ → ℕ) → ((p : ℕ) → 0 < p → p ≤ n → f p ≡ g p) → sum_to n f ≡ sum_to n g
 sum_to-same zero f g same = refl
 sum_to-same (suc n) f g same = let h = sum_to-same n f g (λ p low high. same p low (omega (arith, high))) in let e = same (suc n) (omega arith) (omega arith) in omega (arith, h, e)
 
@@ -52,7 +52,7 @@ at_most (suc n) q w = go (q == suc n) refl (at_most n q w)
     go true is h = let e : q ≡ suc n = grind (arith, nat_tests, is) in let z = none_there n q w (omega (arith, e)) in let v = ap w e in omega (arith, z, v)
     go false is h = omega (arith, h)
 
-there_once : (n q : ℕ) → 0 < q → q ≤ n → sum_to n (λ p. cond (q == p) 1 0) ≡ 1
+pub there_once : (n q : ℕ) → 0 < q → q ≤ n → sum_to n (λ p. cond (q == p) 1 0) ≡ 1
 there_once zero q low high = absurd (omega (arith, low, high))
 there_once (suc n) q low high = go (q == suc n) refl (λ high. there_once n q low high)
   where
@@ -60,13 +60,13 @@ there_once (suc n) q low high = go (q == suc n) refl (λ high. there_once n q lo
     go true is h = let e : q ≡ suc n = grind (arith, nat_tests, is) in let z = none_there n q (λ p. 1) (omega (arith, e)) in omega (arith, z)
     go false is h = let ne : q ≢ suc n = λ e. grind (arith, nat_tests, is, e) in let z = h (omega (arith, high, ne)) in omega (arith, z)
 
-compare : (a b : ℕ) → (a < b) ⊎ (b ≤ a)
+pub compare : (a b : ℕ) → (a < b) ⊎ (b ≤ a)
 compare zero zero = inr (omega arith)
 compare zero (suc b) = inl (omega arith)
 compare (suc a) zero = inr (omega arith)
 compare (suc a) (suc b) = ⊎_elim (λ (t : a < b). inl (omega (arith, t))) (λ (t : b ≤ a). inr (omega (arith, t))) (compare a b)
 
-inside : (n q : ℕ) → (IsOutside n q → ⊥) → (0 < q) × (q ≤ n)
+pub inside : (n q : ℕ) → (IsOutside n q → ⊥) → (0 < q) × (q ≤ n)
 inside n zero h = absurd (h (inl refl))
 inside n (suc q) h = (omega arith, ⊎_elim (λ (t : n < suc q). absurd (h (inr t))) (λ (t : suc q ≤ n). t) (compare n (suc q)))
 
@@ -91,7 +91,7 @@ length-of_place place x xs = go (x.origin.place == place)
     go true = omega arith
     go false = omega arith
 
-zeros : (n : ℕ) → sum_to n (λ p. 0) ≡ 0
+pub zeros : (n : ℕ) → sum_to n (λ p. 0) ≡ 0
 zeros zero = refl
 zeros (suc n) = let h = zeros n in omega (arith, h)
 

@@ -1,5 +1,5 @@
 -- What the writer keeps against what it took, with the Sweeps among it.
-use Rattle.std.proofs.Common.{◌≡◌, ◌≢◌, ◌==◌, ℕ, ◌+◌, ◌<◌, Bool, true, false, not, cond, List, [], ◌∷◌, ◌++◌, max, fold, map, length, inl, inr, refl, sym, ap, subst, ◌∙◌, ⊎_elim, append_assoc, length-append, Result, Ok, Err, OnOk, OnErr, None, IfOk, IfErr, MatchBool, arith}
+use Rattle.std.proofs.Common.{◌≡◌, ◌≢◌, ◌==◌, ℕ, ◌+◌, ◌<◌, Bool, true, false, not, cond, List, [], ◌∷◌, ◌++◌, max, fold, map, length, inl, inr, refl, sym, ap, subst, ◌∙◌, ⊎_elim, length-append, Result, Ok, Err, OnOk, OnErr, None, arith}
 use Rattle.std.specs.List.{AllByRecursion, filter}
 use Rattle.std.specs.Prelude.{Contains}
 use Rattle.std.proofs.lemmas.List.{append-nil}
@@ -12,8 +12,7 @@ use Rattle.rs_store.specs.History.{IsLegal, NeedsSweepAfter, SerialsRise, cleane
 use Rattle.rs_store.proofs.Histories.{last_is_above, legal_front, serials_rise_more}
 use Rattle.rs_store.proofs.Needed.{all_needed, needed_cleaned, needed_more, needed_none, needed_weaker}
 use Rattle.rs_version.specs.Writer.{Refuses, Written, kept_of, settled, shows}
-use Rattle.rs_version.specs.declared.fault.PutFault.{PutFault}
-use Rattle.rs_version.specs.declared.fault.PutFault.TheVariants.{Full, Held, NoMemory, Stale}
+use Rattle.rs_version.specs.declared.fault.PutFault.TheVariants.{Held, NoMemory}
 use Rattle.rs_intake.specs.Parts.{IsPart}
 use Rattle.rs_intake.specs.Sweeps.{AreForJobs, IsSweptAtMost, without_sweeps}
 use Rattle.rs_intake.proofs.Parts.{part_both, part_rises, part_skip, rises_none}
@@ -158,7 +157,7 @@ serves_start limit jobs kept no_jobs none =
 
 -- ---- what a put leaves
 
-settled_kept : (w w' : Written) → w' ≡ settled w → kept_of w' ≡ kept_of w
+pub settled_kept : (w w' : Written) → w' ≡ settled w → kept_of w' ≡ kept_of w
 settled_kept w w' is = ap kept_of is ∙ append-nil (kept_of w)
 
 pub retried_kept : {A E : Type 0} (answer : Result A E) (w w' : Written) → OnOk answer (w' ≡ settled w) → OnErr answer ((w.held ≢ None) × (w' ≡ w)) → kept_of w' ≡ kept_of w
@@ -173,9 +172,6 @@ pub held_kept : (limit : ℕ) (w : Written) (e : Entry) (w' : Written) → Refus
 held_kept limit w e w' (inl r) = inl (r.0, ap kept_of r.1)
 held_kept limit w e w' (inr r) = inr (r.0, ap kept_of r.1)
 
-pub full_kept : (limit : ℕ) (w : Written) (e : Entry) (w' : Written) → Refuses limit w e Full w' → IsSweptAtMost limit (kept_of w) e (kept_of w')
-full_kept limit w e w' r = inl (settled_kept w w' r.1)
-
 pub no_memory_kept : (limit : ℕ) (w : Written) (e : Entry) (w' : Written) → Refuses limit w e NoMemory w' → IsSweptAtMost limit (kept_of w) e (kept_of w')
 no_memory_kept limit w e w' (inl r) = inl (settled_kept w w' r.1)
 no_memory_kept limit w e w' (inr (inl r)) = ⊎_elim
@@ -186,19 +182,3 @@ no_memory_kept limit w e w' (inr (inl r)) = ⊎_elim
     t)
     r.1
 no_memory_kept limit w e w' (inr (inr r)) = inl (ap kept_of r.1)
-
--- what is kept, if the answer and the flag belong together
-pub put_kept : {A : Type 0} (limit : ℕ) (w w' : Written) (e : Entry) (answer : Result A PutFault) (appended : Bool)
-    → OnOk answer (Adds limit (kept_of w) e (λ list. w' ≡ shows list)) → IfErr answer (λ f. Refuses limit w e f w')
-    → IfOk answer (λ _. appended ≡ true) → IfErr answer (λ f. (f ≢ Stale) × MatchBool appended (f ≡ Held) (f ≢ Held))
-    → MatchBool appended (Adds limit (kept_of w) e (λ list. kept_of w' ≡ list)) (IsSweptAtMost limit (kept_of w) e (kept_of w'))
-put_kept limit w w' e (Ok r) true adds refuses told refused = adds_kept limit (kept_of w) e w' adds
-put_kept limit w w' e (Ok r) false adds refuses told refused = absurd (cc (told))
-put_kept limit w w' e (Err Full) true adds refuses told refused = absurd (cc (refused.1))
-put_kept limit w w' e (Err Full) false adds refuses told refused = full_kept limit w e w' refuses
-put_kept limit w w' e (Err Stale) true adds refuses told refused = absurd (refused.0 refl)
-put_kept limit w w' e (Err Stale) false adds refuses told refused = absurd (refused.0 refl)
-put_kept limit w w' e (Err NoMemory) true adds refuses told refused = absurd (cc (refused.1))
-put_kept limit w w' e (Err NoMemory) false adds refuses told refused = no_memory_kept limit w e w' refuses
-put_kept limit w w' e (Err Held) true adds refuses told refused = held_kept limit w e w' refuses
-put_kept limit w w' e (Err Held) false adds refuses told refused = absurd (refused.1 refl)

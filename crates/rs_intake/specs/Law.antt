@@ -1,11 +1,16 @@
--- First in, first out for each place, as the rule of the queue says it.
-use Rattle.std.specs.Prelude.{ℕ, ◌≡◌, true, List}
+-- What follows from the rule of the queue, and from what the lines were told.
+use Rattle.std.specs.Prelude.{ℕ, ◌≡◌, ◌+◌, true, false, All, List, [], length}
 use mathlib.Core.Option.{some}
 use mathlib.Core.List.{IsPrefix}
 use lib.ListN.{get_elem?}
 use Rattle.rs_intake.specs.declared.rule.PassView.{PassView}
 use Rattle.rs_intake.specs.declared.rule.Job.{Job}
-use Rattle.rs_intake.specs.QueueRule.{Delivers, of_place}
+use Rattle.rs_message.specs.Messages.{is_sweep}
+use Rattle.rs_message.specs.declared.entry.Entry.{Entry}
+use Rattle.rs_intake.specs.Done.{Answer, AreDone, refused_in}
+use Rattle.rs_intake.specs.Parts.{IsPart}
+use Rattle.rs_intake.specs.Sweeps.{AreForJobs, without_sweeps}
+use Rattle.rs_intake.specs.QueueRule.{Delivers, Keeps, at_place, of_place}
 
 -- whatever the queue holds: what the writer took of a place is a prefix of what the line of that place sent
 abbrev pub InOrder : Type 0
@@ -13,3 +18,17 @@ InOrder = (items : List Job) (views : List PassView) (i j : ℕ) (writer line : 
     → get_elem? views i ≡ some writer → writer.takes ≡ true
     → get_elem? views j ≡ some line → line.sends ≡ true
     → IsPrefix (of_place line.from writer.entries) line.entries
+
+-- and once the writer took the End of the place, that is all that the line sent
+abbrev pub EndIsLast : Type 0
+EndIsLast = (items : List Job) (views : List PassView) (i j : ℕ) (writer line : PassView) → Keeps items views
+    → get_elem? views i ≡ some writer → writer.takes ≡ true
+    → get_elem? views j ≡ some line → line.sends ≡ true
+    → length (at_place line.from writer.ends) ≡ 1
+    → of_place line.from writer.entries ≡ line.entries
+
+-- whatever the lines were told of jobs that are no Sweeps: what is kept then, without its Sweeps, is a part of the jobs, which lacks as
+-- many of them as were refused; and each Sweep is the one that a job needed there
+abbrev pub KeptAsTold : Type 0
+KeptAsTold = (limit : ℕ) (jobs kept : List Entry) (told : List Answer) → All (λ e. is_sweep e.operation ≡ false) jobs → AreDone limit [] jobs told kept
+    → IsPart (without_sweeps kept) jobs × (length (without_sweeps kept) + refused_in told ≡ length jobs) × AreForJobs limit jobs kept

@@ -1,8 +1,11 @@
 pub mod Codes
+pub mod Done
+pub mod Ending
 pub mod Law
 pub mod Lines
 pub mod Names
 pub mod Parts
 pub mod QueueRule
+pub mod Refusals
 pub mod Settling
 pub mod Sweeps

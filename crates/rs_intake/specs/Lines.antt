@@ -1,5 +1,5 @@
 -- What a line has sent.
-use Rattle.std.specs.Prelude.{ℕ, ◌≡◌, ◌<◌, ◌≤◌, ◌+◌, ◌-◌, ◌^◌, min, ◌⊎◌, ◌∷◌, ◌++◌, suc, zero, true, false, List, [], length}
+use Rattle.std.specs.Prelude.{ℕ, ◌≡◌, ◌<◌, ◌≤◌, ◌+◌, ◌-◌, ◌^◌, min, ◌⊎◌, ◌∷◌, ◌++◌, suc, zero, true, false, List, [], length, Option, Some, None}
 use Rattle.atomic_table.specs.declared.badge.Badge.{Badge}
 use Rattle.crossbeam_channel.specs.declared.flavors.array.Key.{Key}
 use Rattle.crossbeam_channel.specs.declared.flavors.array.Doing.{Doing}
@@ -11,6 +11,8 @@ use Rattle.rs_message.specs.declared.entry.Operation.{Operation}
 use Rattle.rs_intake.specs.declared.rule.PassView.{PassView}
 use Rattle.rs_intake.specs.declared.rule.SentFrom.{SentFrom}
 use Rattle.rs_intake.specs.declared.rule.Job.{Job}
+use Rattle.rs_intake.specs.declared.waiting.Gone.{Gone}
+use Rattle.rs_intake.specs.Done.{ReplyValue}
 use Rattle.rs_intake.specs.Names.{QueueName, IsQueue, IsIn}
 
 -- the serial after this one. The greatest u64 has none after it
@@ -21,16 +23,29 @@ next_serial serial = min (serial + 1) (2 ^ 64 - 1)
 abbrev pub job : ℕ → ℕ → Operation → Entry
 job place serial operation = record { origin = record { place = place; serial = serial }; operation = operation }
 
--- a place, the last serial that it used, and what was sent from it
+-- a place, the last serial that it used, what was sent from it, and the replies that came
 pub record Line : Type 0 where
   pub place : ℕ
   pub serial : ℕ
   pub sent : List Entry
+  pub heard : List ReplyValue
 
 -- a place, and what was sent from it
+pub record Open : Type 0 where
+  pub place : ℕ
+  pub sent : List Entry
+
+-- a place, what was sent from it, the End behind that, and that the queue was gone, if it was
 pub record Closed : Type 0 where
   pub place : ℕ
   pub sent : List Entry
+  pub ends : List ℕ
+  pub gone : Option Gone
+
+-- one End was sent from the place, or none since the queue was gone
+abbrev pub IsClosed : ℕ → List ℕ → Option Gone → Type 0
+IsClosed place ends None = ends ≡ place ∷ []
+IsClosed place ends (Some gone) = ends ≡ []
 
 -- the pass is that of a line of this queue
 pub record IsLine {Q M L A : Type 0} (name : QueueName) (places : ℕ) (c : Rows (Badge (Key Job)) (Doing Job PassView) Q M (Key Job) L A) (pass : Pass Job PassView) (place sent : ℕ) : Type 0 where
@@ -47,15 +62,16 @@ pub record IsLine {Q M L A : Type 0} (name : QueueName) (places : ℕ) (c : Rows
 -- nothing was sent from these places
 abbrev pub new_lines : ℕ → List Line
 new_lines zero = []
-new_lines (suc n) = new_lines n ++ record { place = suc n; serial = 0; sent = [] } ∷ []
+new_lines (suc n) = new_lines n ++ record { place = suc n; serial = 0; sent = []; heard = [] } ∷ []
 
 -- the same, or with this entry behind the others
 abbrev pub AddsAtMost : List Entry → Entry → List Entry → Type 0
 AddsAtMost before e after = (after ≡ before) ⊎ (after ≡ before ++ e ∷ [])
 
--- what the writer took, and the places of which it knows all that was sent
+-- what the writer took, the places whose End it took, and the places of which it knows all that was sent
 pub record Received : Type 0 where
   pub entries : List Entry
+  pub ends : List ℕ
   pub whole : List SentFrom
 
 -- the pass takes from this queue, whose lines are made

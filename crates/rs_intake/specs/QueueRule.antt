@@ -1,5 +1,5 @@
 -- The rule of the queue to the writer.
-use Rattle.std.specs.Prelude.{ℕ, ◌≡◌, ◌==◌, ◌+◌, ◌<◌, ◌⊎◌, Bool, true, false, List, [], ◌∷◌, ◌++◌, filter, filter_map}
+use Rattle.std.specs.Prelude.{ℕ, ◌≡◌, ◌==◌, ◌+◌, ◌<◌, ◌≤◌, ◌⊎◌, Bool, true, false, List, [], ◌∷◌, ◌++◌, length, filter, filter_map}
 use Rattle.std.specs.Prelude as std
 use mathlib.Core.Option.{Option, some, none}
 use lib.ListN.{get_elem?}
@@ -22,6 +22,18 @@ entry_of (End place) = std.None
 abbrev pub entries_of : List Job → List Entry
 entries_of jobs = filter_map entry_of jobs
 
+abbrev pub end_of : Job → std.Option ℕ
+end_of (Put e) = std.None
+end_of (End place) = std.Some place
+
+-- the places of the Ends among the jobs
+abbrev pub ends_of : List Job → List ℕ
+ends_of jobs = filter_map end_of jobs
+
+-- those that are this place
+abbrev pub at_place : ℕ → List ℕ → List ℕ
+at_place place ends = filter (λ p. p == place) ends
+
 abbrev pub place_of : Job → ℕ
 place_of (Put e) = e.origin.place
 place_of (End place) = place
@@ -33,22 +45,26 @@ IsAbove entries (End place) = Unit {0}
 
 -- the writer has taken nothing
 abbrev pub taker : PassView
-taker = record { from = 0; sends = false; takes = true; made = 0; entries = []; known = [] }
+taker = record { from = 0; sends = false; takes = true; made = 0; entries = []; ends = []; known = [] }
 
 -- the pass with one more job. An End asks for no entry
 abbrev pub job_more : PassView → Job → PassView
-job_more v job = record { from = v.from; sends = v.sends; takes = v.takes; made = v.made; entries = v.entries ++ entries_of (job ∷ []); known = v.known }
+job_more v job = record { from = v.from; sends = v.sends; takes = v.takes; made = v.made; entries = v.entries ++ entries_of (job ∷ []); ends = v.ends ++ ends_of (job ∷ []); known = v.known }
 
 abbrev pub Sends : PassView → Job → PassView → Type 0
 Sends v job w = w ≡ job_more v job
 
--- and the serials of all that was taken rise
-abbrev pub Takes : PassView → Job → PassView → Type 0
-Takes v job w = (w ≡ job_more v job) × SerialsRise w.entries
-
 -- a place that has no line yet
 abbrev pub IsOutside : ℕ → ℕ → Type 0
 IsOutside made place = (place ≡ 0) ⊎ (made < place)
+
+-- each place has one End at most, and a place that has no line has none
+abbrev pub AreEnds : ℕ → List ℕ → Type 0
+AreEnds made ends = (place : ℕ) → (length (at_place place ends) ≤ 1) × (IsOutside made place → at_place place ends ≡ [])
+
+-- the job is of a place that has a line. The serials of all that was taken rise, and each place has one End at most
+abbrev pub Takes : PassView → Job → PassView → Type 0
+Takes v job w = (w ≡ job_more v job) × SerialsRise w.entries × AreEnds w.made w.ends × ¬ IsOutside v.made (place_of job)
 
 -- of each of these places the whole of what was sent is known, and its line is gone
 abbrev pub AreWhole : (ℕ → Option ℕ) → (ℕ → List Entry) → List SentFrom → Type 0
@@ -74,19 +90,46 @@ Delivers items views =
     × ((pass : ℕ) (v : PassView) → get_elem? views pass ≡ some v → FitsLine line sent pass v × FitsTaker line sent writer taken pass v)
     × SerialsRise (taken ++ entries_of items)
 
+-- behind an End is no entry of its place
+abbrev pub AreLast : List Job → Type 0
+AreLast [] = Unit {0}
+AreLast (Put e ∷ jobs) = AreLast jobs
+AreLast (End place ∷ jobs) = (of_place place (entries_of jobs) ≡ []) × AreLast jobs
+
+-- a line knows which End it sent
+abbrev pub ClosesLine : List ℕ → PassView → Type 0
+ClosesLine ends v = v.sends ≡ true → v.ends ≡ at_place v.from ends
+
+-- the writer knows which Ends it took. A place that has no line has none
+abbrev pub ClosesTaker : List ℕ → List ℕ → PassView → Type 0
+ClosesTaker ended ends v = v.takes ≡ true → (v.ends ≡ ended) × ((place : ℕ) → IsOutside v.made place → at_place place ends ≡ [])
+
+-- each line sends one End at most, and nothing behind it
+abbrev pub Closes : List Job → List PassView → Type 0
+Closes items views =
+    (ended : List ℕ)
+    × ((place : ℕ) → length (at_place place (ended ++ ends_of items)) ≤ 1)
+    × ((pass : ℕ) (v : PassView) → get_elem? views pass ≡ some v → ClosesLine (ended ++ ends_of items) v × ClosesTaker ended (ended ++ ends_of items) v)
+    × AreLast items
+    × ((place : ℕ) → (at_place place ended ≡ []) ⊎ (of_place place (entries_of items) ≡ []))
+
+-- the whole rule
+abbrev pub Keeps : List Job → List PassView → Type 0
+Keeps items views = Delivers items views × Closes items views
+
 -- the writer's pass with a line more, and that line's
 abbrev pub one_line_more : PassView → PassView
-one_line_more v = record { from = v.from; sends = v.sends; takes = v.takes; made = v.made + 1; entries = v.entries; known = v.known }
+one_line_more v = record { from = v.from; sends = v.sends; takes = v.takes; made = v.made + 1; entries = v.entries; ends = v.ends; known = v.known }
 
 abbrev pub new_line : PassView → PassView
-new_line v = record { from = v.made + 1; sends = true; takes = false; made = 0; entries = []; known = [] }
+new_line v = record { from = v.made + 1; sends = true; takes = false; made = 0; entries = []; ends = []; known = [] }
 
 -- the writer's pass once it has taken in a line's, and what is left of that one
 abbrev pub one_line_less : PassView → PassView → PassView
-one_line_less v w = record { from = v.from; sends = v.sends; takes = v.takes; made = v.made; entries = v.entries; known = record { place = w.from; entries = w.entries } ∷ v.known }
+one_line_less v w = record { from = v.from; sends = v.sends; takes = v.takes; made = v.made; entries = v.entries; ends = v.ends; known = record { place = w.from; entries = w.entries } ∷ v.known }
 
 abbrev pub spent : PassView
-spent = record { from = 0; sends = false; takes = false; made = 0; entries = []; known = [] }
+spent = record { from = 0; sends = false; takes = false; made = 0; entries = []; ends = []; known = [] }
 
 -- of each place that is known whole: what was taken of it and what the queue holds of it are what was sent from there
 abbrev pub SumsUp : (ℕ → List Entry) → List SentFrom → Type 0

@@ -8,12 +8,13 @@ ghost use Rattle.rs_intake.specs.Names.{IsQueue, IsIn};
 ghost use Rattle.rs_intake.specs.Lines.{new_lines};
 
 use crate::intake::Intake;
-use crate::line::{LineEnd, SeatLine};
+use crate::line::{OpenLine, SeatLine};
 use crate::name::LineName;
 use crate::reply::{ReplySender, way_back};
 use crate::rule::{Job, JobReceiver, JobSender, PassView, QueueRule};
 use crate::steps::cut;
 use crate::taken::Taken;
+use crate::telling::WaysBack;
 use crate::writer::Queue;
 use crossbeam_channel::{Pass, bounded_with};
 use std::alloc::{AllocError, Global};
@@ -76,14 +77,15 @@ fn line<N: LineName>(
     requires queue { IsQueue N.queue (sends_on sender.now) × IsIn N.queue pass.old }
     requires pass { ((known_by pass.old).takes ≡ true) × ((known_by pass.old).sends ≡ false) × ((known_by pass.old).known ≡ []) × ((known_by pass.old).made + 1 ≡ place) }
     requires place { (place ≤ N.places) × (N.places ≤ MAX_PLACES) }
-    ensures line { IfOk result (λ r. r.0 ≡ record { place = place; serial = 0; sent = [] }) }
+    ensures line { IfOk result (λ r. r.0 ≡ record { place = place; serial = 0; sent = []; heard = [] }) }
+    ensures told { IfOk result (λ r. r.1 ≡ []) }
     ensures seat { IfOk result (λ _. IsIn N.queue pass.new) }
-    ensures pass { IfOk result (λ _. ((known_by pass.new).takes ≡ true) × ((known_by pass.new).sends ≡ false) × ((known_by pass.new).known ≡ []) × ((known_by pass.new).entries ≡ (known_by pass.old).entries) × ((known_by pass.new).made ≡ place)) }
+    ensures pass { IfOk result (λ _. ((known_by pass.new).takes ≡ true) × ((known_by pass.new).sends ≡ false) × ((known_by pass.new).known ≡ []) × ((known_by pass.new).entries ≡ (known_by pass.old).entries) × ((known_by pass.new).ends ≡ (known_by pass.old).ends) × ((known_by pass.new).made ≡ place)) }
 {
     let (to, from) = way_back(alloc)?;
     let own = sender.try_clone()?;
-    let end = LineEnd::new(place, own, cut(sender, pass));
-    Ok((SeatLine::new(end, from), to))
+    let line = OpenLine::new(place, own, cut(sender, pass));
+    Ok((SeatLine::new(line, from), to))
 }
 
 impl BlankQueue {
@@ -111,7 +113,7 @@ impl BlankQueue {
             lines.push(line).map_err(|_| AllocError)?;
             replies.push(to).map_err(|_| AllocError)?;
         }
-        let queue = Queue::new(receiver, Taken::new(places, pass), replies);
+        let queue = Queue::new(receiver, Taken::new(places, pass), WaysBack::new(replies));
         Ok((Intake { of: PhantomData }, lines, queue))
     }
 }

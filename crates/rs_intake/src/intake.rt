@@ -6,6 +6,7 @@ ghost use Rattle.rs_message.specs.declared.fault.SubmitFault.TheVariants.{Closed
 ghost use Rattle.rs_store.specs.History.{IsLegal};
 ghost use Rattle.rs_version.specs.Receipts.{StandsAt};
 ghost use Rattle.rs_intake.specs.Lines.{AddsAtMost, job, next_serial};
+ghost use Rattle.rs_intake.specs.Refusals.{IsRefused, Says, fault_for};
 
 use crate::line::SeatLine;
 use crate::name::LineName;
@@ -22,9 +23,10 @@ pub struct Intake<N: LineName> {
     pub(crate) of: PhantomData<N>,
 }
 
-/// What the writer's refusal says to the line. The queue keeps the serials of a place in order, so a stale one is strange.
+/// What the writer's refusal says to the place.
 fn fault_of(fault: PutFault) -> SubmitFault
-    ensures { result ≢ Closed }
+    ensures fault { result ≡ fault_for fault }
+    ensures open { result ≢ Closed }
 {
     match fault {
         PutFault::Full => SubmitFault::Full,
@@ -40,6 +42,8 @@ pub(crate) fn read<N: LineName>(reply: Reply<N>, entry: &Entry) -> Result<Receip
     ensures stands { IfOk result (λ r. StandsAt r.entry r.number r.told) }
     ensures legal { IfOk result (λ r. IsLegal N.limit r.told) }
     ensures open { IfErr result (λ f. f ≢ Closed) }
+    ensures refused { IfErr result (λ f. Says entry.now.origin reply f) }
+    ensures told { reply.origin ≡ entry.now.origin → IfErr reply.answer (λ f. result ≡ Err (fault_for f)) }
 {
     let Reply { origin, answer } = reply;
     if origin != entry.origin {
@@ -78,6 +82,7 @@ impl<N: LineName> Intake<N> {
         ensures place { line.new.place ≡ line.old.place }
         ensures serial { line.new.serial ≡ next_serial line.old.serial }
         ensures sent { AddsAtMost line.old.sent (job line.old.place line.new.serial operation) line.new.sent }
+        ensures refused { IfErr result (λ f. IsRefused line.old line.new f) }
         ensures closed { IfErr result (λ f. f ≡ Closed → line.new.sent ≡ line.old.sent) }
         ensures entry { IfOk result (λ r. r.entry ≡ job line.old.place line.new.serial operation) }
         ensures above { IfOk result (λ r. line.new.serial ≡ line.old.serial + 1) }

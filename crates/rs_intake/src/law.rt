@@ -1,9 +1,15 @@
-//! First in, first out for each place, as a law over the rule of the queue.
+//! First in, first out for each place, and the End last, as laws over the rule of the queue; and what the answers say of the kept list.
 
-ghost use Rattle.rs_intake.specs.Law.{InOrder};
+ghost use Rattle.rs_intake.specs.Law.{EndIsLast, InOrder, KeptAsTold};
 
 /// Does nothing. Its contract says what the rule of the queue gives at every moment: what the writer took of a place is a prefix
-/// of what the line of that place sent.
+/// of what the line of that place sent, and once the writer took the place's End, all of it.
 pub fn line_order_law()
     ensures order { InOrder }
+    ensures last { EndIsLast }
+{}
+
+/// Does nothing. Its contract says what follows for the kept list from what the lines were told of their jobs.
+pub fn told_law()
+    ensures { KeptAsTold }
 {}

@@ -11,6 +11,7 @@
 #![tactic(auto)]
 
 mod blank;
+mod ending;
 mod fault;
 mod intake;
 mod law;
@@ -22,18 +23,21 @@ mod same;
 mod settling;
 mod steps;
 mod taken;
+mod telling;
 #[cfg(test)]
 mod tests;
 mod waiting;
 mod writer;
 
 pub use blank::{BlankQueue, blank_queue};
+pub use ending::Cause;
 pub use fault::SettleFault;
 pub use intake::Intake;
-pub use law::line_order_law;
+pub use law::{line_order_law, told_law};
 pub use line::{LineEnd, SeatLine};
 pub use name::LineName;
 pub use rule::{Change, Job};
 pub use settling::settle;
 pub use taken::Taken;
+pub use waiting::Gone;
 pub use writer::{Ended, Queue, run_writer};

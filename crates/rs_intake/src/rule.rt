@@ -61,7 +61,7 @@ pub struct SentFrom {
     pub entries: LinkedList<Entry>,
 }
 
-/// What a pass of the queue knows: the entries that a line sent, or those that the writer took. No value of it is made.
+/// What a pass of the queue knows: the entries and the End that a line sent, or those that the writer took. No value of it is made.
 pub struct PassView {
     /// The place, if it is a line's.
     pub from: u8,
@@ -70,17 +70,20 @@ pub struct PassView {
     /// How many lines were made, if it is the writer's.
     pub made: u64,
     pub entries: LinkedList<Entry>,
+    /// The places of the Ends that it sent or took.
+    pub ends: LinkedList<u8>,
     /// What was sent from each line that has ended, if it is the writer's.
     pub known: LinkedList<SentFrom>,
 }
 
 /// What was sent from each place is what was taken of it, followed by what the queue holds of it. The serials of each place rise.
+/// Each line sends one End at most, and nothing behind it.
 pub struct QueueRule;
 
 impl Protocol<Job, PassView> for QueueRule {
-    ghost use Rattle.rs_intake.specs.QueueRule.{Delivers, taker};
+    ghost use Rattle.rs_intake.specs.QueueRule.{Keeps, taker};
 
-    ghost holds = { Delivers };
+    ghost holds = { Keeps };
 
     ghost first = { taker };
 }
@@ -98,7 +101,7 @@ impl Lesson<Job, PassView> for Sending {
     ghost fact = { λ v items. Unit {0} };
 }
 
-/// A receive: the job joins those that the writer took, and the serials of these rise.
+/// A receive: the job joins those that the writer took, the serials of these rise, and each place has one End at most.
 pub struct Taking;
 
 impl Outcome<Job, PassView> for Taking {

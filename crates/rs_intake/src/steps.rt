@@ -1,48 +1,47 @@
 //! The steps on the queue, each of which keeps its rule.
 
-ghost use Rattle.std.specs.Prelude.{◌≡◌, List, [], true, false, MatchOption, MatchResult};
+ghost use Rattle.std.specs.Prelude.{◌≡◌, List, [], true, false, MatchResult};
 ghost use Rattle.crossbeam_channel.specs.Claims.{view, IsSeatAt};
 ghost use Rattle.crossbeam_channel.specs.Ends.{sends_on, receives_on};
 ghost use Rattle.rs_intake.specs.QueueRule.{job_more, place_of, IsAbove, Takes, one_line_more, new_line, one_line_less, Balances};
 ghost use Rattle.rs_intake.specs.declared.rule.Job.{Job};
 
 use crate::rule::{Job, JobReceiver, JobSender, LinePass, PassView, QueueRule, Sending, Taking};
-use crate::waiting::{Patience, receive};
+use crate::waiting;
+use crate::waiting::{Gone, Patience, receive};
 use crossbeam_channel::Pass;
 use std::sync::Wait;
 
-/// Sends a job of the pass's place. A refused job is dropped.
+/// Sends a job of the pass's place, which has sent no End. A refused job is dropped.
 pub fn send<R: Wait>(
     rt: &R,
     to: &JobSender,
     pass: &mut Pass<Job, PassView>,
     job: Job,
-) -> Result<(), ()>
+) -> Result<(), Gone>
     requires channel { IsSeatAt (sends_on to.now) pass.old }
     requires sends { ((view pass.old).sends ≡ true) × ((view pass.old).takes ≡ false) × ((view pass.old).from ≡ place_of job) }
     requires above { IsAbove (view pass.old).entries job }
+    requires open { (view pass.old).ends ≡ [] }
     ensures channel { IsSeatAt (sends_on to.now) pass.new }
     ensures sent { MatchResult result (λ _. view pass.new ≡ job_more (view pass.old) job) (λ _. view pass.new ≡ view pass.old) }
 {
-    match to.send_as::<Sending, R>(rt, pass, job) {
-        Ok(()) => Ok(()),
-        Err(_) => Err(()),
-    }
+    waiting::send::<Job, PassView, QueueRule, Sending, R>(rt, to, pass, job)
 }
 
-/// Takes the oldest job. `None` if all lines and their ends are gone.
+/// Takes the oldest job. `Gone` if all lines and their ends are.
 pub fn take<R: Wait>(
     rt: &R,
     from: &JobReceiver,
     pass: &mut Pass<Job, PassView>,
     patience: &mut Patience,
-) -> Option<Job>
+) -> Result<Job, Gone>
     requires channel { IsSeatAt (receives_on from.now) pass.old }
     requires takes { ((view pass.old).takes ≡ true) × ((view pass.old).sends ≡ false) }
     ensures channel { IsSeatAt (receives_on from.now) pass.new }
-    ensures taken { MatchOption result (view pass.new ≡ view pass.old) (λ job. Takes (view pass.old) job (view pass.new)) }
+    ensures taken { MatchResult result (λ job. Takes (view pass.old) job (view pass.new)) (λ _. view pass.new ≡ view pass.old) }
 {
-    receive::<Job, PassView, QueueRule, Taking, R>(rt, from, pass, patience).ok()
+    receive::<Job, PassView, QueueRule, Taking, R>(rt, from, pass, patience)
 }
 
 /// Cuts the pass of the next place off the writer's.

@@ -1,10 +1,10 @@
 //! What the writer took from the queue.
 
-ghost use Rattle.std.specs.Prelude.{◌≡◌, ◌<◌, ◌∷◌, ◌++◌, List, [], true, MatchOption};
+ghost use Rattle.std.specs.Prelude.{◌≡◌, ◌<◌, ◌∷◌, ◌++◌, List, [], true, IfOk, MatchResult};
 ghost use Rattle.crossbeam_channel.specs.Claims.{view as known_by};
 ghost use Rattle.crossbeam_channel.specs.Ends.{sends_on, receives_on};
 ghost use Rattle.rs_store.specs.History.{SerialsRise};
-ghost use Rattle.rs_intake.specs.QueueRule.{entries_of};
+ghost use Rattle.rs_intake.specs.QueueRule.{AreEnds, IsOutside, ends_of, entries_of, place_of};
 ghost use Rattle.rs_intake.specs.Names.{IsQueue, IsIn};
 ghost use Rattle.rs_intake.specs.Lines.{IsTaker};
 ghost use Rattle.rs_intake.specs.Settling.{IsBalanced};
@@ -13,12 +13,12 @@ ghost use Rattle.rs_intake.specs.declared.rule.Job.{Job};
 use crate::name::LineName;
 use crate::rule::{Job, JobReceiver, JobSender, PassView};
 use crate::steps::{compare, join, take};
-use crate::waiting::Patience;
+use crate::waiting::{Gone, Patience};
 use crossbeam_channel::Pass;
 use std::marker::{Model, PhantomData};
 use std::sync::Wait;
 
-/// What the writer took. Contracts see the entries that were asked for, in order, and what ended lines sent.
+/// What the writer took. Contracts see the entries that were asked for, in order, the places of the Ends, and what ended lines sent.
 #[derive(Drop)]
 pub struct Taken<N: LineName> {
     places: u8,
@@ -33,7 +33,7 @@ impl<N: LineName> Model for Taken<N> {
 
     ghost Value = { Received };
 
-    ghost view = { λ t. record { entries = (known_by t.pass).entries; whole = (known_by t.pass).known } };
+    ghost view = { λ t. record { entries = (known_by t.pass).entries; ends = (known_by t.pass).ends; whole = (known_by t.pass).known } };
 
     ghost invariant = { λ t. IsTaker N.queue N.places t.pass × (t.places ≡ N.places) };
 }
@@ -41,7 +41,7 @@ impl<N: LineName> Model for Taken<N> {
 impl<N: LineName> Taken<N> {
     pub(crate) fn new(places: u8, pass: Pass<Job, PassView>) -> Taken<N>
         requires { IsTaker N.queue N.places pass × (places ≡ N.places) }
-        ensures { (result.entries ≡ (known_by pass).entries) × (result.whole ≡ (known_by pass).known) }
+        ensures { (result.entries ≡ (known_by pass).entries) × (result.ends ≡ (known_by pass).ends) × (result.whole ≡ (known_by pass).known) }
     {
         Taken {
             places,
@@ -56,15 +56,17 @@ impl<N: LineName> Taken<N> {
         self.places
     }
 
-    /// Takes the oldest job. `None` if all lines and their ends are gone.
+    /// Takes the oldest job. `Gone` if all lines and their ends are.
     pub(crate) fn next<R: Wait>(
         &mut self,
         rt: &R,
         from: &JobReceiver,
         patience: &mut Patience,
-    ) -> Option<Job>
+    ) -> Result<Job, Gone>
         requires { IsQueue N.queue (receives_on from.now) }
-        ensures { MatchOption result (self.new ≡ self.old) (λ job. (self.new.entries ≡ self.old.entries ++ entries_of (job ∷ [])) × SerialsRise self.new.entries) }
+        ensures taken { MatchResult result (λ job. (self.new.entries ≡ self.old.entries ++ entries_of (job ∷ [])) × SerialsRise self.new.entries) (λ _. self.new ≡ self.old) }
+        ensures ended { IfOk result (λ job. (self.new.ends ≡ self.old.ends ++ ends_of (job ∷ [])) × AreEnds N.places self.new.ends) }
+        ensures placed { IfOk result (λ job. ¬ IsOutside N.places (place_of job)) }
     {
         take(rt, from, &mut self.pass, patience)
     }
@@ -73,7 +75,7 @@ impl<N: LineName> Taken<N> {
     pub(crate) fn join(&mut self, by: &JobSender, line: Pass<Job, PassView>)
         requires queue { IsQueue N.queue (sends_on by.now) × IsIn N.queue line }
         requires line { (known_by line).sends ≡ true }
-        ensures { (self.new.entries ≡ self.old.entries) × (self.new.whole ≡ record { place = (known_by line).from; entries = (known_by line).entries } ∷ self.old.whole) }
+        ensures { (self.new.entries ≡ self.old.entries) × (self.new.ends ≡ self.old.ends) × (self.new.whole ≡ record { place = (known_by line).from; entries = (known_by line).entries } ∷ self.old.whole) }
     {
         join(by, &mut self.pass, line);
     }

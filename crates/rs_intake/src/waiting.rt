@@ -1,14 +1,20 @@
-//! A receive that looks for a while before it sleeps.
+//! A send, and a receive that looks for a while before it sleeps.
 
 ghost use Rattle.std.specs.Prelude.{◌≡◌, MatchResult};
 ghost use Rattle.crossbeam_channel.specs.Claims.{view, IsSeatAt};
-ghost use Rattle.crossbeam_channel.specs.Ends.{receives_on};
-ghost use Rattle.crossbeam_channel.specs.Fifo.{Held, Learns, Pops};
+ghost use Rattle.crossbeam_channel.specs.Ends.{receives_on, ruled_capacity, sends_on};
+ghost use Rattle.crossbeam_channel.specs.Fifo.{Held, Learns, Pops, Pushes};
 
 use crossbeam_channel::protocol::{Lesson, Outcome, Protocol};
-use crossbeam_channel::{Pass, RecvError, RuledReceiver, TryRecvError};
+use crossbeam_channel::{Pass, RuledReceiver, RuledSender, TryRecvError};
 use std::hint::spin_loop;
 use std::sync::Wait;
+
+/// The other ends of a channel were gone. Only a send or a receive that failed makes it, so who has it has tried.
+#[derive(Drop)]
+pub struct Gone {
+    seen: (),
+}
 
 /// How often a receive looks. It takes some tens of microseconds, in which a writer can serve eight places; to wake a thread that
 /// sleeps costs more than a put.
@@ -42,6 +48,24 @@ impl Patience {
     }
 }
 
+/// As `send_as`. A refused message is dropped.
+pub fn send<T: Drop, V, P: Protocol<T, V>, M: Outcome<T, V> + Lesson<T, V>, R: Wait>(
+    rt: &R,
+    to: &RuledSender<T, V, P>,
+    pass: &mut Pass<T, V>,
+    message: T,
+) -> Result<(), Gone>
+    requires channel { IsSeatAt (sends_on to.now) pass.old }
+    requires rule { Pushes P.holds (ruled_capacity (sends_on to.now)) pass.old.id (view pass.old) message (M.then (view pass.old) message) × Learns P.holds pass.old.id (view pass.old) (M.fact (view pass.old)) }
+    ensures channel { IsSeatAt (sends_on to.now) pass.new × (pass.new.id ≡ pass.old.id) }
+    ensures rule { MatchResult result (λ _. M.then (view pass.old) message (view pass.new)) (λ _. view pass.new ≡ view pass.old) }
+{
+    match to.send_as::<M, R>(rt, pass, message) {
+        Ok(()) => Ok(()),
+        Err(_) => Err(Gone { seen: () }),
+    }
+}
+
 /// As `recv_as`, which sleeps if nothing comes while it looks. It never gives up the processor before that: beside threads of other
 /// programs a yield lasts much longer than a sleep.
 pub fn receive<T: Drop, V, P: Protocol<T, V>, M: Outcome<T, V> + Lesson<T, V>, R: Wait>(
@@ -49,7 +73,7 @@ pub fn receive<T: Drop, V, P: Protocol<T, V>, M: Outcome<T, V> + Lesson<T, V>, R
     from: &RuledReceiver<T, V, P>,
     pass: &mut Pass<T, V>,
     patience: &mut Patience,
-) -> Result<T, RecvError>
+) -> Result<T, Gone>
     requires channel { IsSeatAt (receives_on from.now) pass.old }
     requires rule { Pops P.holds pass.old.id (view pass.old) (M.then (view pass.old)) × Learns P.holds pass.old.id (view pass.old) (M.fact (view pass.old)) }
     ensures channel { IsSeatAt (receives_on from.now) pass.new × (pass.new.id ≡ pass.old.id) }
@@ -64,10 +88,13 @@ pub fn receive<T: Drop, V, P: Protocol<T, V>, M: Outcome<T, V> + Lesson<T, V>, R
                 }
                 return Ok(message);
             }
-            Err(TryRecvError::Disconnected) => return Err(RecvError),
+            Err(TryRecvError::Disconnected) => return Err(Gone { seen: () }),
             Err(TryRecvError::Empty) => spin_loop(),
         }
     }
     patience.in_vain = patience.in_vain.wrapping_add(1);
-    from.recv_as::<M, R>(rt, pass)
+    match from.recv_as::<M, R>(rt, pass) {
+        Ok(message) => Ok(message),
+        Err(_) => Err(Gone { seen: () }),
+    }
 }

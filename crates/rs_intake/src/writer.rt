@@ -1,24 +1,27 @@
 //! The writer's loop over the queue.
 
-ghost use Rattle.std.specs.Prelude.{◌≡◌, ◌≢◌, ◌+◌, ◌<◌, [], length, false, true, IfErr, IfOk, MatchBool};
+ghost use Rattle.std.specs.Prelude.{◌≡◌, ◌+◌, List, [], length};
 ghost use Rattle.std.specs.Option.{option_map};
 ghost use Rattle.crossbeam_channel.specs.Ends.{receives_on};
-ghost use Rattle.rs_message.specs.Messages.{is_sweep};
-ghost use Rattle.rs_store.specs.Adding.{Adds};
-ghost use Rattle.rs_store.specs.History.{SerialsRise, extended};
-ghost use Rattle.rs_version.specs.Writer.{Refuses, kept_of};
-ghost use Rattle.rs_version.specs.declared.fault.PutFault.TheVariants.{Held, Stale};
+ghost use Rattle.rs_version.specs.Writer.{kept_of};
+ghost use Rattle.rs_intake.specs.Done.{Answer, AreDone};
+ghost use Rattle.rs_intake.specs.Ending.{IsCause};
 ghost use Rattle.rs_intake.specs.Names.{IsQueue};
 ghost use Rattle.rs_intake.specs.Parts.{IsPart};
-ghost use Rattle.rs_intake.specs.Sweeps.{AreForJobs, IsSweptAtMost, without_sweeps};
+ghost use Rattle.rs_intake.specs.Sweeps.{AreForJobs, without_sweeps};
 
+use crate::ending::Cause;
 use crate::name::LineName;
-use crate::reply::{Reply, ReplySender};
+#[cfg(test)]
+use crate::reply::Reply;
 use crate::rule::{Job, JobReceiver};
 use crate::taken::Taken;
+use crate::telling::WaysBack;
 use crate::waiting::Patience;
-use rs_message::{Entry, Origin};
-use rs_version::{PutFault, VersionWriter};
+#[cfg(test)]
+use rs_message::Entry;
+use rs_message::Origin;
+use rs_version::VersionWriter;
 use std::sync::Wait;
 
 /// The writer's end of the queue, from which nothing was taken.
@@ -26,23 +29,22 @@ use std::sync::Wait;
 pub struct Queue<N: LineName> {
     receiver: JobReceiver,
     taken: Taken<N>,
-    replies: Vec<ReplySender<N>>,
+    ways: WaysBack<N>,
     ghost queue: { IsQueue N.queue (receives_on receiver) },
-    ghost new: { taken.entries ≡ [] },
+    ghost new: { (taken.entries ≡ []) × (taken.ends ≡ []) },
+    ghost lines: { length ways.senders.items ≡ N.places },
 }
 
 impl<N: LineName> Queue<N> {
-    pub(crate) fn new(
-        receiver: JobReceiver,
-        taken: Taken<N>,
-        replies: Vec<ReplySender<N>>,
-    ) -> Queue<N>
-        requires { IsQueue N.queue (receives_on receiver) × (taken.entries ≡ []) }
+    pub(crate) fn new(receiver: JobReceiver, taken: Taken<N>, ways: WaysBack<N>) -> Queue<N>
+        requires queue { IsQueue N.queue (receives_on receiver) }
+        requires new { (taken.entries ≡ []) × (taken.ends ≡ []) }
+        requires lines { length ways.senders.items ≡ N.places }
     {
         Queue {
             receiver,
             taken,
-            replies,
+            ways,
         }
     }
 
@@ -52,9 +54,9 @@ impl<N: LineName> Queue<N> {
         let Queue {
             receiver,
             mut taken,
-            replies: _replies,
+            ways: _ways,
         } = self;
-        taken.next(rt, &receiver, &mut Patience::new())
+        taken.next(rt, &receiver, &mut Patience::new()).ok()
     }
 
     /// Takes one job, puts another entry in its stead, which must be no Sweep, and answers the job with that receipt. Gives the queue
@@ -69,17 +71,15 @@ impl<N: LineName> Queue<N> {
         let Queue {
             receiver,
             mut taken,
-            mut replies,
+            mut ways,
         } = self;
         if other.operation.is_sweep() {
             return;
         }
-        if let Some(Job::Put(change)) = taken.next(rt, &receiver, &mut Patience::new()) {
+        if let Ok(Job::Put(change)) = taken.next(rt, &receiver, &mut Patience::new()) {
             let origin = change.into_entry().origin;
             let answer = writer.put(other);
-            if let Some(to) = replies.get_mut(origin.place() as usize - 1) {
-                to.send(rt, Reply { origin, answer });
-            }
+            ways.tell(rt, Reply { origin, answer });
         }
     }
 }
@@ -97,15 +97,23 @@ pub struct Ended<N: LineName, R: Wait + Drop> {
     pub held: Option<Origin>,
     /// The jobs that were taken.
     pub jobs: Taken<N>,
+    /// Why the loop ended.
+    pub cause: Cause,
     pub ghost counted: { taken ≡ length jobs.entries },
 }
 
 impl<N: LineName, R: Wait + Drop> Ended<N, R> {
-    fn new(writer: VersionWriter<N, R>, taken: u64, refused: u64, jobs: Taken<N>) -> Ended<N, R>
+    fn new(
+        writer: VersionWriter<N, R>,
+        taken: u64,
+        refused: u64,
+        jobs: Taken<N>,
+        cause: Cause,
+    ) -> Ended<N, R>
         requires { taken ≡ length jobs.entries }
         ensures values { (result.writer ≡ writer) × (result.taken ≡ taken) × (result.refused ≡ refused) }
         ensures held { result.held ≡ option_map (λ e. e.origin) writer.held }
-        ensures jobs { result.jobs ≡ jobs }
+        ensures jobs { (result.jobs ≡ jobs) × (result.cause ≡ cause) }
     {
         let held = writer.held();
         Ended {
@@ -114,61 +122,19 @@ impl<N: LineName, R: Wait + Drop> Ended<N, R> {
             refused,
             held,
             jobs,
+            cause,
         }
     }
 }
 
-/// Puts a job: what its line is told, and whether its entry was appended. A Sweep may have been appended before it, or without it.
-/// It stands beside the sending, so that contracts tie what is told to what was done.
-fn reply_to<N: LineName, R: Wait + Drop>(
-    writer: &mut VersionWriter<N, R>,
-    job: Entry,
-) -> (Reply<N>, bool)
-    requires no_sweep { is_sweep job.operation ≡ false }
-    requires rises { SerialsRise (extended (kept_of writer.old) job) }
-    ensures kept { MatchBool result.1 (Adds N.limit (kept_of writer.old) job (λ list. kept_of writer.new ≡ list)) (IsSweptAtMost N.limit (kept_of writer.old) job (kept_of writer.new)) }
-    ensures origin { result.0.origin ≡ job.origin }
-    ensures receipt { IfOk result.0.answer (λ r. (r.entry ≡ job) × (r.number ≡ length (kept_of writer.new)) × (r.told ≡ writer.new.published) × (result.1 ≡ true)) }
-    ensures refusal { IfErr result.0.answer (λ f. (f ≢ Stale) × Refuses N.limit writer.old job f writer.new × MatchBool result.1 (f ≡ Held) (f ≢ Held)) }
-{
-    let origin = job.origin;
-    let answer = writer.put(job);
-    let is_appended = match &answer {
-        Ok(_) | Err(PutFault::Held) => true,
-        Err(PutFault::Full) | Err(PutFault::NoMemory) => false,
-        // The queue keeps the order of each place's serials.
-        Err(PutFault::Stale) => unreachable!(),
-    };
-    (Reply { origin, answer }, is_appended)
-}
-
-/// Puts a job, and tells its line. Whether its entry was appended.
-fn put_job<N: LineName, R: Wait + Drop, W: Wait>(
-    rt: &W,
-    writer: &mut VersionWriter<N, R>,
-    replies: &mut Vec<ReplySender<N>>,
-    job: Entry,
-) -> bool
-    requires no_sweep { is_sweep job.operation ≡ false }
-    requires place { 0 < job.origin.place }
-    requires rises { SerialsRise (extended (kept_of writer.old) job) }
-    ensures { MatchBool result (Adds N.limit (kept_of writer.old) job (λ list. kept_of writer.new ≡ list)) (IsSweptAtMost N.limit (kept_of writer.old) job (kept_of writer.new)) }
-{
-    let (reply, is_appended) = reply_to(writer, job);
-    let index = reply.origin.place() as usize - 1;
-    if let Some(to) = replies.get_mut(index) {
-        to.send(rt, reply);
-    }
-    is_appended
-}
-
-/// Puts each job that it takes, and tells the job's line what the writer answers. It ends when
+/// Puts each job that it takes, and tells the job's line what the writer answers. It ends when ([`Cause`])
 ///
 /// - each place has ended,
 /// - all lines and their ends are gone, or
 /// - it has taken `u64::MAX` jobs.
 ///
-/// Then it tries once more to publish a held entry. Of what the writer keeps, all but the Sweeps are jobs. Each Sweep is the one that
+/// Then it tries once more to publish a held entry. There is a list of answers, one for each job in turn, by which the kept list came
+/// to be (`AreDone`). Of what the writer keeps, all but the Sweeps are jobs. Each Sweep is the one that
 /// a job needed there.
 pub fn run_writer<N: LineName, R: Wait + Drop, W: Wait>(
     rt: &W,
@@ -181,6 +147,8 @@ pub fn run_writer<N: LineName, R: Wait + Drop, W: Wait>(
     ensures refused { length (without_sweeps (kept_of result.writer)) + result.refused ≡ result.taken }
     ensures sweeps { AreForJobs N.limit result.jobs.entries (kept_of result.writer) }
     ensures held { result.held ≡ option_map (λ e. e.origin) result.writer.held }
+    ensures done { (told : List Answer) × AreDone N.limit [] result.jobs.entries told (kept_of result.writer) }
+    ensures cause { IsCause N.places u64.MAX result.jobs result.cause }
 {
     run_writer_for(rt, queue, writer, u64::MAX)
 }
@@ -198,40 +166,48 @@ pub(crate) fn run_writer_for<N: LineName, R: Wait + Drop, W: Wait>(
     ensures refused { length (without_sweeps (kept_of result.writer)) + result.refused ≡ result.taken }
     ensures sweeps { AreForJobs N.limit result.jobs.entries (kept_of result.writer) }
     ensures held { result.held ≡ option_map (λ e. e.origin) result.writer.held }
+    ensures done { (told : List Answer) × AreDone N.limit [] result.jobs.entries told (kept_of result.writer) }
+    ensures cause { IsCause N.places most result.jobs result.cause }
 {
     let Queue {
         receiver,
         taken: mut jobs,
-        mut replies,
+        mut ways,
     } = queue;
     let mut writer = writer;
     let mut taken = 0u64;
     let mut refused = 0u64;
     let mut open = jobs.places();
+    let mut cause = Cause::MostTaken;
     let mut patience = Patience::new();
     for _ in rt.forever() {
         if taken >= most {
             break;
         }
         match jobs.next(rt, &receiver, &mut patience) {
-            Some(Job::Put(change)) => {
+            Ok(Job::Put(change)) => {
                 let job = change.into_entry();
                 // For the proof: this call says that the serial is not 0.
                 let _serial = job.origin.serial();
                 taken += 1;
-                if !put_job(rt, &mut writer, &mut replies, job) {
+                let (is_refused, _sent) = ways.put_job(rt, &mut writer, job);
+                if is_refused {
                     refused += 1;
                 }
             }
-            Some(Job::End(_)) => {
+            Ok(Job::End(_)) => {
                 open -= 1;
                 if open == 0 {
+                    cause = Cause::AllEnded;
                     break;
                 }
             }
-            None => break,
+            Err(gone) => {
+                cause = Cause::QueueGone(gone);
+                break;
+            }
         }
     }
     drop(writer.retry());
-    Ended::new(writer, taken, refused, jobs)
+    Ended::new(writer, taken, refused, jobs, cause)
 }

@@ -1,5 +1,6 @@
 //! Why no client is served.
 
+use rs_places::StoreFault;
 use std::alloc::AllocError;
 use std::io;
 use thiserror::Error;
@@ -21,5 +22,14 @@ pub enum ListenFault {
 impl From<AllocError> for ListenFault {
     fn from(_: AllocError) -> ListenFault {
         ListenFault::NoMemory
+    }
+}
+
+impl From<StoreFault> for ListenFault {
+    fn from(fault: StoreFault) -> ListenFault {
+        match fault {
+            StoreFault::NoMemory => ListenFault::NoMemory,
+            StoreFault::NoThread => ListenFault::NoThread,
+        }
     }
 }

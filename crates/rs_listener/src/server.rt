@@ -1,20 +1,21 @@
 //! The server.
 
-ghost use Rattle.std.specs.Prelude.{◌≡◌, ◌<◌, ◌≤◌, IfOk};
+ghost use Rattle.std.specs.Prelude.{◌≡◌, ◌<◌, ◌≤◌, ℕ, List, length, IfOk, IfSome};
 ghost use Rattle.rs_message.specs.declared.entry.TheConstants.{MAX_PLACES};
+ghost use Rattle.rs_places.specs.Store.{IsStoreRun};
+ghost use Rattle.rs_places.specs.Turns.{Plan};
 
 use crate::fault::ListenFault;
-use crate::opening::{gates, turns};
-use rs_intake::{BlankQueue, LineName, blank_queue, run_writer, settle};
-use rs_places::run_places;
+use crate::opening::turns;
+use rs_intake::{BlankQueue, blank_queue};
+use rs_places::run_store;
 use rs_sockets::Listener;
 use rs_store::TopicLimit;
 use rs_version::Blank;
 use std::alloc::Global;
-use std::marker::Brand;
 use std::net::{Net, TcpListener, TcpStream};
 use std::sync::Wait;
-use std::thread::{Threads, spawn};
+use std::thread::Threads;
 use std::time::Clock;
 
 /// A bound address and an empty store, before the first client is served.
@@ -24,7 +25,8 @@ pub struct Server {
     listener: Listener,
     blank: Blank,
     queue: BlankQueue,
-    ghost places: { queue.places ≡ blank.places },
+    places: u8,
+    ghost both: { queue.places ≡ blank.places },
 }
 
 /// What a server did.
@@ -63,6 +65,7 @@ impl Server {
                 listener,
                 blank,
                 queue,
+                places,
             }),
             Err(error) => Err(ListenFault::Address(error)),
         }
@@ -83,7 +86,8 @@ impl Server {
     /// Serves clients, until all connections were accepted and have ended.
     ///
     /// A place whose thread cannot be started is left out; the others serve all connections. A fault of a connection ends that
-    /// connection alone.
+    /// connection alone. If the changes are known, they are those of a run of the store, as [`run_store`] says it; of its clients nothing
+    /// is known.
     ///
     /// # Errors
     ///
@@ -93,55 +97,26 @@ impl Server {
     pub fn run<H: Clock + Threads + Wait + Copy + Send + Sync + 'static>(
         self,
         rt: H,
-    ) -> Result<Summary, ListenFault> {
+    ) -> Result<Summary, ListenFault>
+        ensures { IfOk result (λ summary. IfSome summary.changes (λ changes. (before : List Plan) × (after : List Plan) × (version : ℕ)
+            × IsStoreRun self.blank.limit self.blank.places before after version changes × (length after ≡ summary.places))) }
+    {
         let Server {
             alloc,
             listener,
             blank,
             queue,
-        } = self;
-        run_named::<Brand, H>(rt, alloc, listener, blank, queue)
-    }
-}
-
-fn run_named<
-    N: LineName + Send + Sync + 'static,
-    H: Clock + Threads + Wait + Copy + Send + Sync + 'static,
->(
-    rt: H,
-    alloc: Global,
-    listener: Listener,
-    blank: Blank,
-    queue: BlankQueue,
-) -> Result<Summary, ListenFault>
-    requires store { (blank.history ≡ N.history) × (blank.limit ≡ N.limit) }
-    requires queue { (queue.name ≡ N.queue) × (queue.places ≡ N.places) }
-{
-    let (writer, seats) = blank.open::<N, H>(rt)?;
-    let (intake, lines, queue) = queue.open::<N>()?;
-    let gates = gates(rt, alloc, intake, seats, lines)?;
-    let turns = turns(rt, alloc, listener, gates.len())?;
-    let count = gates.len();
-    let Ok(writing) = spawn(&rt, move || run_writer(&rt, queue, writer)) else {
-        return Err(ListenFault::NoThread);
-    };
-    let ends = run_places(rt, alloc, turns, gates);
-    let places = ends.len();
-    if places == count {
-        let mut ended = writing.join(&rt);
-        return Ok(Summary {
             places,
-            changes: settle(ends, &mut ended).ok(),
-        });
+        } = self;
+        let turns = turns(rt, alloc, listener, places)?;
+        let end = run_store(rt, alloc, blank, queue, turns)?;
+        let places = end.turns.len();
+        if places == 0 {
+            return Err(ListenFault::NoThread);
+        }
+        Ok(Summary {
+            places,
+            changes: end.changes,
+        })
     }
-    // The writer ends when all lines and their ends are gone. Those of the places that were left out are.
-    drop(ends);
-    drop(writing.join(&rt));
-    if places == 0 {
-        return Err(ListenFault::NoThread);
-    }
-    Ok(Summary {
-        places,
-        changes: None,
-    })
 }

@@ -16,5 +16,5 @@ pub gate_send : (N R : RattleType) (g : LineName.Ghosts N.Denot) (h : StoreName.
 gate_send N R g h s = view_send (InGate.the_row N R g h) _ _ _ _
     (recorded_send (InGate.the_field N R g h).row _ _ (InGate.the_type N R g h).to_one (struct_send (shape (InGate.the_type N R g h)) (
       s,
-      (Arc-send (Intake.the_row N) (intake.the_send N) (intake.the_sync N), (seat_send N h, (line.the_send N h g, tt))),
+      (Arc-send (Intake.the_row N) (intake.the_send N) (intake.the_sync N), (seat_send N h, (line.the_send N g h, tt))),
     )))

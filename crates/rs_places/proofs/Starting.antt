@@ -2,11 +2,11 @@
 use Rattle.std.proofs.Common.{◌≡◌, ◌⊎◌, ⊎_elim, inl, inr, ℕ, suc, ◌+◌, List, [], ◌∷◌, ◌++◌, length, map, refl, sym, ap, subst, ◌∙◌, append_assoc, length-append, arith}
 use Rattle.std.specs.Prelude.{◌≤◌}
 use Rattle.std.proofs.lemmas.List.{append-nil, map-append}
-use Rattle.rs_intake.specs.Lines.{Closed}
 use Rattle.rs_intake.specs.Parts.{IsPart}
 use Rattle.rs_intake.proofs.Parts.{part_both, part_skip}
-use Rattle.rs_places.specs.Places.{AreEachServed, ArePlacesServed, IsPlaceServed}
+use Rattle.rs_places.specs.Places.{AreEachServed, ArePlacesServed, IsPlaceServed, Left, Place, places_of}
 use Rattle.rs_places.specs.Shared.{SharedValue}
+use Rattle.rs_places.specs.Turns.{Plan}
 
 pub length_more : {A : Type 0} (xs more : List A) (x : A) → more ≡ xs ++ x ∷ [] → length more ≡ length xs + 1
 length_more xs more x is = ap length is ∙ length-append xs (x ∷ [])
@@ -52,29 +52,46 @@ first_of_rest h ys y rest left whole is first =
 pub first_of_all : {A : Type 0} (ys : List A) (y : A) (rest left whole : List A) → ys ++ rest ≡ whole → rest ≡ y ∷ left → (ys ++ y ∷ []) ++ left ≡ whole
 first_of_all ys y rest left whole is first = append_assoc ys (y ∷ []) left ∙ (ap (λ l. ys ++ l) (sym first) ∙ is)
 
-each_more : (limit : ℕ) (gates : List SharedValue) (ends : List Closed) (gate : SharedValue) (end : Closed)
-    → AreEachServed limit gates ends → IsPlaceServed limit gate end → AreEachServed limit (gates ++ gate ∷ []) (ends ++ end ∷ [])
-each_more limit [] [] gate end all one = (one, tt)
-each_more limit [] (e ∷ es) gate end all one = absurd all
-each_more limit (g ∷ gs) [] gate end all one = absurd all
-each_more limit (g ∷ gs) (e ∷ es) gate end all one = (all.0, each_more limit gs es gate end all.1 one)
+-- the first turn that is left goes with the first gate that is left
+pub next_place : {T : Type 0} (plan : T → Plan) (turns turns_left : List T) (gates gates_left : List SharedValue) (turn : T) (gate : SharedValue)
+    → turns ≡ turn ∷ turns_left → gates ≡ gate ∷ gates_left → places_of (map plan turns) gates ≡ record { plan = plan turn; gate = gate } ∷ places_of (map plan turns_left) gates_left
+next_place {T} plan turns turns_left gates gates_left turn gate t g =
+    ap (λ (l : List T). places_of (map plan l) gates) t ∙ ap (λ l. places_of (plan turn ∷ map plan turns_left) l) g
+
+pub same_place : {T : Type 0} (plan : T → Plan) (t u : T) (g h : SharedValue) → t ≡ u → g ≡ h → (let p : Place = record { plan = plan t; gate = g } in p) ≡ record { plan = plan u; gate = h }
+same_place {T} plan t u g h e f =
+    let P : T → SharedValue → Place = λ t g. record { plan = plan t; gate = g } in
+    ap (λ (t : T). P t g) e ∙ ap (P u) f
+
+each_more : (limit : ℕ) (places : List Place) (left : List Left) (place : Place) (end : Left)
+    → AreEachServed limit places left → IsPlaceServed limit place end → AreEachServed limit (places ++ place ∷ []) (left ++ end ∷ [])
+each_more limit [] [] place end all one = (one, tt)
+each_more limit [] (e ∷ es) place end all one = absurd all
+each_more limit (p ∷ ps) [] place end all one = absurd all
+each_more limit (p ∷ ps) (e ∷ es) place end all one = (all.0, each_more limit ps es place end all.1 one)
 
 -- one place more was served
-pub each_of_both : {A : Type 0} (limit : ℕ) (f : A → SharedValue) (xs : List A) (x : A) (ends more : List Closed) (end : Closed)
-    → more ≡ ends ++ end ∷ [] → AreEachServed limit (map f xs) ends → IsPlaceServed limit (f x) end → AreEachServed limit (map f (xs ++ x ∷ [])) more
-each_of_both limit f xs x ends more end is all one =
-    let P : List SharedValue → Type 0 = λ l. AreEachServed limit l more in
-    let Q : List Closed → Type 0 = λ l. AreEachServed limit (map f xs ++ f x ∷ []) l in
-    subst P (sym (map-append f xs (x ∷ []))) (subst Q (sym is) (each_more limit (map f xs) ends (f x) end all one))
+pub each_of_both : {A B : Type 0} (limit : ℕ) (f : A → Place) (h : B → Left) (xs : List A) (x : A) (ends more : List B) (end : B)
+    → more ≡ ends ++ end ∷ [] → AreEachServed limit (map f xs) (map h ends) → IsPlaceServed limit (f x) (h end) → AreEachServed limit (map f (xs ++ x ∷ [])) (map h more)
+each_of_both {A} {B} limit f h xs x ends more end is all one =
+    let P : List Place → Type 0 = λ l. AreEachServed limit l (map h more) in
+    let Q : List Left → Type 0 = λ l. AreEachServed limit (map f xs ++ f x ∷ []) l in
+    let grown : map h more ≡ map h ends ++ h end ∷ [] = ap (map h) is ∙ map-append h ends (end ∷ []) in
+    subst P (sym (map-append f xs (x ∷ []))) (subst Q (sym grown) (each_more limit (map f xs) (map h ends) (f x) (h end) all one))
 
 -- nothing is left
-pub each_of_whole : {A : Type 0} (limit : ℕ) (f : A → SharedValue) (xs rest whole : List A) (ends : List Closed)
+pub each_of_whole : {A : Type 0} (limit : ℕ) (f : A → Place) (xs rest whole : List A) (ends : List Left)
     → AreEachServed limit (map f xs) ends → xs ++ rest ≡ whole → rest ≡ [] → AreEachServed limit (map f whole) ends
 each_of_whole {A} limit f xs rest whole ends all is none =
     let P : List A → Type 0 = λ l. AreEachServed limit (map f l) ends in
     subst P (sym (append-nil xs) ∙ (ap (λ l. xs ++ l) (sym none) ∙ is)) all
 
-pub none_served : (limit : ℕ) (gates : List SharedValue) (ends : List Closed) → ends ≡ [] → ArePlacesServed limit gates ends
-none_served limit gates ends none =
-    let P : List Closed → Type 0 = λ l. AreEachServed limit [] l in
+pub none_served : {B : Type 0} (limit : ℕ) (places : List Place) (h : B → Left) (ends : List B) → ends ≡ [] → ArePlacesServed limit places (map h ends)
+none_served {B} limit places h ends none =
+    let P : List B → Type 0 = λ l. AreEachServed limit [] (map h l) in
     record { served = []; part = tt; each = subst P (sym none) tt }
+
+pub places_length : (plans : List Plan) (gates : List SharedValue) → length (places_of plans gates) ≤ length gates
+places_length [] gates = omega (arith)
+places_length (plan ∷ plans) [] = omega (arith)
+places_length (plan ∷ plans) (gate ∷ gates) = let h = places_length plans gates in omega (arith, h)

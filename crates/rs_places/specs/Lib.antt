@@ -1,3 +1,5 @@
 pub mod Places
 pub mod Serving
 pub mod Shared
+pub mod Store
+pub mod Turns

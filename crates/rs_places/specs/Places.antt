@@ -1,55 +1,94 @@
 -- The connections of a place, one after the other, and the places of a store.
-use Rattle.std.specs.Prelude.{◌≡◌, ℕ, ◌+◌, ◌-◌, ◌^◌, min, Option, List, [], ◌∷◌, Result}
+use Rattle.std.specs.Prelude.{◌≡◌, ℕ, ◌+◌, ◌-◌, ◌^◌, min, List, [], ◌∷◌, map}
 use Rattle.std.specs.Io.KnownBytes.{Consumes, IsAtEnd}
 use Rattle.rs_intake.specs.Lines.{Closed}
 use Rattle.rs_intake.specs.Parts.{IsPart}
+use Rattle.rs_message.specs.declared.entry.Entry.{Entry}
+use Rattle.rs_session.specs.Run.{Turn}
 use Rattle.rs_server.specs.Clock.{Told}
 use Rattle.rs_server.specs.Conversation.{WritesTurns, assigned_of, start}
-use Rattle.rs_server.specs.declared.connection.Served.{Served}
-use Rattle.rs_server.specs.declared.writing.ServeFault.{ServeFault}
 use Rattle.rs_places.specs.Serving.{IsServedAt}
 use Rattle.rs_places.specs.Shared.{SharedValue}
+use Rattle.rs_places.specs.Turns.{AreAll, Ending, Plan, Streams, TakesBack, TookBack}
 
 -- the number of the connection after the one of this number. The greatest u64 is repeated
 abbrev pub next_number : ℕ → ℕ
 next_number number = min (number + 1) (2 ^ 64 - 1)
 
--- A connection of this number was served at the place, from what the gate knew before to what it knows after, over some streams
--- and some clock. Which they were is not said.
-pub record IsConnectionServed (limit number : ℕ) (before after : SharedValue) : Type 0 where
-  pub unread : Option (List ℕ)
-  pub rest : Option (List ℕ)
-  pub clock : Option (ℕ → ℕ)
-  pub later : Option (ℕ → ℕ)
-  pub written : Option (List ℕ)
-  pub more : Option (List ℕ)
-  pub result : Result Served ServeFault
+-- a connection that was served: what was known of it before and after, the turns of its session, and what the gate knew after it
+pub record Visit : Type 0 where
+  pub given : Streams
+  pub ending : Ending
+  pub turns : List Turn
+  pub gate : SharedValue
+
+-- It was served under this number, from what the gate knew before, over these streams.
+pub record IsConnectionServed (limit number : ℕ) (before : SharedValue) (visit : Visit) : Type 0 where
   pub connection : IsServedAt limit (start (assigned_of before.mark.place number) before.known before.mark)
-      (Consumes unread rest) (IsAtEnd rest) (Told clock later) (WritesTurns result written more) result after
+      (Consumes visit.given.unread visit.ending.streams.unread) (IsAtEnd visit.ending.streams.unread)
+      (Told visit.given.moments visit.ending.streams.moments)
+      (WritesTurns visit.ending.result visit.given.written visit.ending.streams.written) visit.ending.result visit.gate
+  pub turns : visit.turns ≡ connection.turns
 
 -- Connections were served one after the other, each from what the one before left. They are numbered from this number on.
-abbrev pub AreConnectionsServed : ℕ → ℕ → SharedValue → List SharedValue → SharedValue → Type 0
+abbrev pub AreConnectionsServed : ℕ → ℕ → SharedValue → List Visit → SharedValue → Type 0
 AreConnectionsServed limit number first [] last = last ≡ first
-AreConnectionsServed limit number first (next ∷ more) last =
-    IsConnectionServed limit number first next × AreConnectionsServed limit (next_number number) next more last
+AreConnectionsServed limit number first (visit ∷ visits) last =
+    IsConnectionServed limit number first visit × AreConnectionsServed limit (next_number number) visit.gate visits last
 
--- Connections of a place were served, from number 1 on: `served` is what the gate knew after each. Then its line was closed.
-pub record IsPlaceServed (limit : ℕ) (gate : SharedValue) (end : Closed) : Type 0 where
-  pub served : List SharedValue
+-- a place: what is known of its turn, and what its gate knows
+pub record Place : Type 0 where
+  pub plan : Plan
+  pub gate : SharedValue
+
+abbrev pub place_at : Plan → SharedValue → Place
+place_at plan gate = record { plan = plan; gate = gate }
+
+-- what is left of a place: what is known of its turn, the list that its gate knew last, and its line
+pub record Left : Type 0 where
+  pub plan : Plan
+  pub told : List Entry
+  pub line : Closed
+
+abbrev pub left_at : Plan → List Entry → Closed → Left
+left_at plan told line = record { plan = plan; told = told; line = line }
+
+-- one connection was served over these streams and given back, from the place before to the one after
+pub record ServesOne (limit number : ℕ) (before : Place) (given : Streams) (after : Place) : Type 0 where
+  pub visit : Visit
+  pub served : IsConnectionServed limit number before.gate visit
+  pub over : visit.given ≡ given
+  pub leaves : visit.gate ≡ after.gate
+  pub taken_back : TakesBack before.plan visit.ending after.plan
+
+-- The connections of a place were served, from number 1 on. Then its line was closed.
+pub record IsPlaceServed (limit : ℕ) (place : Place) (left : Left) : Type 0 where
+  pub visits : List Visit
   pub last : SharedValue
-  pub connections : AreConnectionsServed limit 1 gate served last
-  pub place : end.place ≡ gate.mark.place
-  pub sent : end.sent ≡ last.sent
+  pub connections : AreConnectionsServed limit 1 place.gate visits last
+  -- they are all that waited, in their order, and each was taken back as it ended
+  pub all : AreAll place.plan.waiting (map (λ visit. visit.given) visits)
+  pub ended : TookBack place.plan.ended (map (λ visit. visit.ending) visits) left.plan.ended
+  -- what is left is what the gate had then
+  pub told : left.told ≡ last.known
+  pub number : left.line.place ≡ place.gate.mark.place
+  pub sent : left.line.sent ≡ last.sent
 
--- each gate is that of the end beside it
-abbrev pub AreEachServed : ℕ → List SharedValue → List Closed → Type 0
+-- the first turn with the first gate, and so on. What is left of the longer list is left out
+abbrev pub places_of : List Plan → List SharedValue → List Place
+places_of [] gates = []
+places_of (plan ∷ plans) [] = []
+places_of (plan ∷ plans) (gate ∷ gates) = place_at plan gate ∷ places_of plans gates
+
+-- of each place this is left
+abbrev pub AreEachServed : ℕ → List Place → List Left → Type 0
 AreEachServed limit [] [] = Unit {0}
-AreEachServed limit [] (end ∷ ends) = ⊥
-AreEachServed limit (gate ∷ gates) [] = ⊥
-AreEachServed limit (gate ∷ gates) (end ∷ ends) = IsPlaceServed limit gate end × AreEachServed limit gates ends
+AreEachServed limit [] (left ∷ more) = ⊥
+AreEachServed limit (place ∷ places) [] = ⊥
+AreEachServed limit (place ∷ places) (left ∷ more) = IsPlaceServed limit place left × AreEachServed limit places more
 
--- What is left of the lines of the places that were served, which are some of those of the gates, in their order.
-pub record ArePlacesServed (limit : ℕ) (gates : List SharedValue) (ends : List Closed) : Type 0 where
-  pub served : List SharedValue
-  pub part : IsPart served gates
-  pub each : AreEachServed limit served ends
+-- What is left of the places that were served, which are some of these, in their order.
+pub record ArePlacesServed (limit : ℕ) (places : List Place) (left : List Left) : Type 0 where
+  pub served : List Place
+  pub part : IsPart served places
+  pub each : AreEachServed limit served left

@@ -5,10 +5,14 @@
 
 mod running;
 mod serving;
+mod settled;
 mod shared_gate;
+mod store;
 mod turn;
 
-pub use running::{run_places, serve_turns};
+pub use running::{PlaceEnd, run_places, serve_turns};
 pub use serving::serve_place;
+pub use settled::all_known;
 pub use shared_gate::SharedGate;
-pub use turn::Turn;
+pub use store::{StoreEnd, StoreFault, open_gates, run_store};
+pub use turn::{Connection, Turn};

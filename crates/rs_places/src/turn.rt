@@ -1,27 +1,49 @@
 //! What gives a place its connections.
 
-use rs_server::{ServeFault, Served};
+ghost use Rattle.std.specs.Option.{option_map};
+ghost use Rattle.rs_places.specs.Turns.{GivesNext, TakesBack};
+
+use rs_server::{Clock, ServeFault, Served};
 use std::io::{Read, Write};
 
-/// Gives a place its connections, one after the other, and the time.
+/// A connection: what its client sends, what it is sent, and its clock.
+#[derive(Drop)]
+pub struct Connection<R, W, C> {
+    /// Reads what the client sends.
+    pub input: R,
+    /// Writes what the client is sent.
+    pub output: W,
+    /// Tells the time. It is asked once for each packet.
+    pub clock: C,
+}
+
+/// Gives a place its connections, one after the other, and takes them back once they have ended.
 ///
-/// The two halves of a connection own what they need, since the place's thread takes them. No method promises anything: whatever
-/// they do, each connection is served as [`serve_place`](crate::serve_place) says.
+/// The parts of a connection own what they need, since the place's thread takes them. A turn whose connections are known, as those of
+/// a test are, says so by its `plan`; one over sockets knows nothing, and promises nothing.
 pub trait Turn {
+    ghost use Rattle.rs_places.specs.Turns.{Plan, unknown};
+
     /// Reads what the client sends.
     type In: Read + Drop + Send;
 
     /// Writes what the client is sent.
     type Out: Write + Drop + Send;
 
+    /// Tells the time, in whole seconds.
+    type Time: Clock + Drop + Send;
+
+    ghost plan: { Self → Plan } = { λ _. unknown };
+
     /// The next connection of the place. `None` if there are no more; then it is not asked again.
-    fn next(&mut self) -> Option<(Self::In, Self::Out)>;
+    fn next(&mut self) -> Option<Connection<Self::In, Self::Out, Self::Time>>
+        ensures { GivesNext (plan self.old) (option_map (λ c. record { unread = Self.In.remaining c.input; written = Self.Out.contents c.output; moments = Self.Time.moments c.clock }) result) (plan self.new) };
 
-    /// The time, in whole seconds. It is asked once for each packet of a connection.
-    fn now(&mut self) -> u64;
-
-    /// Takes back the halves of a connection that was served, and how it ended. A turn without this method drops both halves.
-    fn end(&mut self, input: Self::In, output: Self::Out, _served: Result<Served, ServeFault>) {
-        drop((input, output));
-    }
+    /// Takes back a connection that was served, and how it ended.
+    fn end(
+        &mut self,
+        connection: Connection<Self::In, Self::Out, Self::Time>,
+        served: Result<Served, ServeFault>,
+    )
+        ensures { TakesBack (plan self.old) (record { streams = record { unread = Self.In.remaining connection.input; written = Self.Out.contents connection.output; moments = Self.Time.moments connection.clock }; result = served }) (plan self.new) };
 }

@@ -1,11 +1,12 @@
 //! Places of one store, with its writer in a thread.
 
-ghost use Rattle.std.specs.Prelude.{◌≡◌, ◌<◌, ◌≤◌};
+ghost use Rattle.std.specs.Prelude.{◌≡◌, ◌<◌, ◌≤◌, IfOk};
 ghost use Rattle.rs_message.specs.declared.entry.TheConstants.{MAX_PLACES};
 
 mod ending;
 mod faults;
 mod in_turn;
+mod known;
 mod peers;
 mod runs;
 mod script;
@@ -131,6 +132,7 @@ fn close_both<N: LineName, R: Threads + Wait + Abort + Copy>(
 
 fn blank_store(alloc: Global, topics: u32, places: u8) -> Result<Blank, Fail>
     requires { (0 < places) × (places ≤ MAX_PLACES) }
+    ensures { IfOk result (λ blank. blank.places ≡ places) }
 {
     let limit = TopicLimit::new(topics).ok_or("a limit")?;
     Ok(Blank::new(alloc, limit, places)?)

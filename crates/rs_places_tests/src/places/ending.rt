@@ -4,10 +4,10 @@ ghost use Rattle.std.specs.Prelude.{◌≡◌};
 
 use super::peers::written;
 use super::runs::{exchange, script};
-use super::script::{Counts, comes};
+use super::script::{Counts, Script, comes};
 use super::{CLOSED, PUBLISHES, SUBSCRIBED, SUBSCRIBES, blank_store, gates_of};
-use rs_intake::{BlankQueue, LineEnd, LineName, Queue, blank_queue};
-use rs_places::run_places;
+use rs_intake::{BlankQueue, LineName, Queue, blank_queue};
+use rs_places::{PlaceEnd, run_places};
 use rs_version::Blank;
 use std::alloc::Global;
 use std::marker::Brand;
@@ -59,10 +59,10 @@ fn end_queue<N: LineName>(counts: Arc<Counts>, queue: Queue<N>) -> bool {
 }
 
 /// How many jobs the queue took.
-fn sent_by<N: LineName>(ends: Vec<LineEnd<N>>) -> u64 {
+fn sent_by<N: LineName>(ends: Vec<PlaceEnd<N, Script>>) -> u64 {
     let mut sent = 0u64;
     for end in ends {
-        sent = sent.saturating_add(end.sent());
+        sent = sent.saturating_add(end.line.sent());
     }
     sent
 }

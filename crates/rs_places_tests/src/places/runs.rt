@@ -1,18 +1,13 @@
 //! Places on threads of their own.
 
-ghost use Rattle.std.specs.Prelude.{◌≡◌};
+ghost use Rattle.std.specs.Prelude.{◌<◌, ◌≤◌};
+ghost use Rattle.rs_message.specs.declared.entry.TheConstants.{MAX_PLACES};
 
 use super::script::{Counts, Exchange, Script};
-use super::{
-    CONNECT, CONNECTED, PUBLISHES, REPLAYED, SUBSCRIBED, SUBSCRIBES, Store, blank_store, joined,
-    opened, settled,
-};
-use rs_intake::{BlankQueue, LineName, blank_queue};
-use rs_places::{Turn, run_places};
-use rs_version::Blank;
+use super::{CONNECT, CONNECTED, PUBLISHES, REPLAYED, SUBSCRIBED, SUBSCRIBES, blank_store, joined};
+use rs_intake::blank_queue;
+use rs_places::{Turn, run_store};
 use std::alloc::{AllocError, Global};
-use std::marker::Brand;
-use std::process::Abort;
 use std::sync::atomic::Ordering;
 use std::sync::{Arc, Wait};
 use std::test::Fail;
@@ -41,33 +36,27 @@ pub fn script(
         counts: Arc::try_clone(counts)?,
         after,
         together,
+        moment: 0,
         wanted: Vec::new(alloc),
-        packets: 0,
     })
 }
 
-/// Runs the places: how many were served, how many connections were right, how many jobs were settled, and the version.
-pub fn ran<
-    T: Turn + Send + Drop + 'static,
-    N: LineName + Send + Sync + 'static,
-    R: Threads + Wait + Abort + Copy + Send + Sync + 'static,
->(
+/// Runs a store of so many topics and places: how many places were served, how many connections were right, how many jobs were
+/// settled, and the version.
+pub fn ran<T: Turn + Send + Drop + 'static, R: Threads + Wait + Copy + Send + Sync + 'static>(
     rt: R,
     alloc: Global,
     turns: Vec<T>,
     counts: &Counts,
-    store: Store<N, R>,
-) -> (usize, u64, Option<u64>, u64) {
-    let Store { writer, gates } = store;
-    let places = gates.len();
-    let mut ends = run_places(rt, alloc, turns, gates);
-    let served = ends.len();
-    if served < places {
-        // The writer waits as long as an end is kept.
-        ends.clear();
-    }
-    let (taken, version) = settled(&rt, writer, ends);
-    (served, counts.right.load(Ordering::SeqCst), taken, version)
+    topics: u32,
+    places: u8,
+) -> Result<(usize, u64, Option<u64>, u64), Fail>
+    requires { (0 < places) × (places ≤ MAX_PLACES) }
+{
+    let blank = blank_store(alloc, topics, places)?;
+    let end = run_store(rt, alloc, blank, blank_queue(alloc, places)?, turns)?;
+    let right = counts.right.load(Ordering::SeqCst);
+    Ok((end.turns.len(), right, end.changes, end.version))
 }
 
 /// A place with one connection.
@@ -90,32 +79,16 @@ fn meeting_turns(alloc: Global, counts: &Arc<Counts>) -> Result<Vec<Script>, All
     Ok(vec![in alloc; first, second]?)
 }
 
-fn meeting_named<
-    N: LineName + Send + Sync + 'static,
-    R: Threads + Wait + Abort + Copy + Send + Sync + 'static,
->(rt: R, alloc: Global, blank: Blank, queue: BlankQueue) -> Result<(), Fail>
-    requires store { (blank.history ≡ N.history) × (blank.limit ≡ N.limit) }
-    requires queue { (queue.name ≡ N.queue) × (queue.places ≡ N.places) }
-{
-    let counts = Arc::new(alloc, Counts::new())?;
-    let turns = meeting_turns(alloc, &counts)?;
-    let store = opened::<N, R>(rt, alloc, blank, queue)?;
-    let ran = ran(rt, alloc, turns, &counts, store);
-    assert!(rt; ran == (2, 2, Some(0), 0));
-    assert!(rt; counts.met.load(Ordering::SeqCst) == 2);
-    Ok(())
-}
-
 /// Each of two connections is held in its SUBSCRIBE until the other has come to its own. One thread for both would not do.
 #[test]
 fn meeting(rt: HostRuntime) -> Result<(), Fail> {
     let alloc = rt.alloc();
-    meeting_named::<Brand, _>(
-        rt,
-        alloc,
-        blank_store(alloc, 10, 2)?,
-        blank_queue(alloc, 2)?,
-    )
+    let counts = Arc::new(alloc, Counts::new())?;
+    let turns = meeting_turns(alloc, &counts)?;
+    let ran = ran(rt, alloc, turns, &counts, 10, 2)?;
+    assert!(rt; ran == (2, 2, Some(0), 0));
+    assert!(rt; counts.met.load(Ordering::SeqCst) == 2);
+    Ok(())
 }
 
 /// A place that subscribes after it has published.
@@ -133,31 +106,15 @@ fn later_turns(alloc: Global, counts: &Arc<Counts>) -> Result<Vec<Script>, Alloc
     Ok(vec![in alloc; first, later, silent]?)
 }
 
-fn later_named<
-    N: LineName + Send + Sync + 'static,
-    R: Threads + Wait + Abort + Copy + Send + Sync + 'static,
->(rt: R, alloc: Global, blank: Blank, queue: BlankQueue) -> Result<(), Fail>
-    requires store { (blank.history ≡ N.history) × (blank.limit ≡ N.limit) }
-    requires queue { (queue.name ≡ N.queue) × (queue.places ≡ N.places) }
-{
-    let counts = Arc::new(alloc, Counts::new())?;
-    let turns = later_turns(alloc, &counts)?;
-    let store = opened::<N, R>(rt, alloc, blank, queue)?;
-    assert!(rt; ran(rt, alloc, turns, &counts, store) == (3, 3, Some(1), 1));
-    Ok(())
-}
-
 /// The next connection of a place is sent what the one before published, and so is that of a place that was told nothing. A third
 /// place has no connection, and is served too.
 #[test]
 fn later(rt: HostRuntime) -> Result<(), Fail> {
     let alloc = rt.alloc();
-    later_named::<Brand, _>(
-        rt,
-        alloc,
-        blank_store(alloc, 10, 3)?,
-        blank_queue(alloc, 3)?,
-    )
+    let counts = Arc::new(alloc, Counts::new())?;
+    let turns = later_turns(alloc, &counts)?;
+    assert!(rt; ran(rt, alloc, turns, &counts, 10, 3)? == (3, 3, Some(1), 1));
+    Ok(())
 }
 
 /// Appends a PUBLISH of QoS 1.
@@ -205,14 +162,11 @@ fn own_exchange(alloc: Global, place: u8, number: u8) -> Result<Exchange, AllocE
     Ok(Exchange { input, output })
 }
 
-fn all_places_named<
-    N: LineName + Send + Sync + 'static,
-    R: Threads + Wait + Abort + Copy + Send + Sync + 'static,
->(rt: R, alloc: Global, blank: Blank, queue: BlankQueue) -> Result<(), Fail>
-    requires store { (blank.history ≡ N.history) × (blank.limit ≡ N.limit) }
-    requires queue { (queue.name ≡ N.queue) × (queue.places ≡ N.places) }
-{
-    let store = opened::<N, R>(rt, alloc, blank, queue)?;
+/// 64 places with two connections each, whose assigned client identifiers name the place and the number of the connection. Each
+/// connection publishes the next numbers and reads the last one back, so the changes of a place are made in its order.
+#[test]
+fn all_places(rt: HostRuntime) -> Result<(), Fail> {
+    let alloc = rt.alloc();
     let counts = Arc::new(alloc, Counts::new())?;
     let mut turns = Vec::new(alloc);
     for before in 0..64u8 {
@@ -221,21 +175,8 @@ fn all_places_named<
         let exchanges = vec![in alloc; second, own_exchange(alloc, place, 1)?]?;
         turns.push(script(alloc, &counts, exchanges, 0, 0)?)?;
     }
-    assert!(rt; ran(rt, alloc, turns, &counts, store) == (64, 128, Some(6400), 6400));
+    assert!(rt; ran(rt, alloc, turns, &counts, 100, 64)? == (64, 128, Some(6400), 6400));
     Ok(())
-}
-
-/// 64 places with two connections each, whose assigned client identifiers name the place and the number of the connection. Each
-/// connection publishes the next numbers and reads the last one back, so the changes of a place are made in its order.
-#[test]
-fn all_places(rt: HostRuntime) -> Result<(), Fail> {
-    let alloc = rt.alloc();
-    all_places_named::<Brand, _>(
-        rt,
-        alloc,
-        blank_store(alloc, 100, 64)?,
-        blank_queue(alloc, 64)?,
-    )
 }
 
 /// A retained PUBLISH of a, as large as a packet may be.
@@ -244,14 +185,10 @@ fn large_publish(alloc: Global) -> Result<Vec<u8>, AllocError> {
     joined(alloc, b"\x31\xFC\xFF\x0F\x00\x01a\x00", &payload)
 }
 
-fn large_named<
-    N: LineName + Send + Sync + 'static,
-    R: Threads + Wait + Abort + Copy + Send + Sync + 'static,
->(rt: R, alloc: Global, blank: Blank, queue: BlankQueue) -> Result<(), Fail>
-    requires store { (blank.history ≡ N.history) × (blank.limit ≡ N.limit) }
-    requires queue { (queue.name ≡ N.queue) × (queue.places ≡ N.places) }
-{
-    let store = opened::<N, R>(rt, alloc, blank, queue)?;
+/// A packet that is as large as it may be goes from one place to another.
+#[test]
+fn large(rt: HostRuntime) -> Result<(), Fail> {
+    let alloc = rt.alloc();
     let counts = Arc::new(alloc, Counts::new())?;
     let publish = large_publish(alloc)?;
     let input = joined(alloc, CONNECT, &publish)?;
@@ -259,20 +196,8 @@ fn large_named<
     let first = single(alloc, &counts, &input, CONNECTED, 0, 0)?;
     let later = single(alloc, &counts, SUBSCRIBES, &output, 1, 0)?;
     let turns = vec![in alloc; first, later]?;
-    assert!(rt; ran(rt, alloc, turns, &counts, store) == (2, 2, Some(1), 1));
+    assert!(rt; ran(rt, alloc, turns, &counts, 10, 2)? == (2, 2, Some(1), 1));
     Ok(())
-}
-
-/// A packet that is as large as it may be goes from one place to another.
-#[test]
-fn large(rt: HostRuntime) -> Result<(), Fail> {
-    let alloc = rt.alloc();
-    large_named::<Brand, _>(
-        rt,
-        alloc,
-        blank_store(alloc, 10, 2)?,
-        blank_queue(alloc, 2)?,
-    )
 }
 
 /// CONNECT; of QoS 1 a, b, c, a again, and a clearing of d; DISCONNECT.
@@ -283,23 +208,12 @@ const FILLS: &[u8] =
 const FILLED: &[u8] =
     b"\x20\x0D\x00\x00\x0A\x21\x00\x10\x27\x00\x04\x00\x00\x2A\x00\x40\x02\x00\x01\x40\x02\x00\x02\x40\x03\x00\x03\x97\x40\x02\x00\x04\x40\x02\x00\x05";
 
-fn full_named<
-    N: LineName + Send + Sync + 'static,
-    R: Threads + Wait + Abort + Copy + Send + Sync + 'static,
->(rt: R, alloc: Global, blank: Blank, queue: BlankQueue) -> Result<(), Fail>
-    requires store { (blank.history ≡ N.history) × (blank.limit ≡ N.limit) }
-    requires queue { (queue.name ≡ N.queue) × (queue.places ≡ N.places) }
-{
-    let counts = Arc::new(alloc, Counts::new())?;
-    let turns = vec![in alloc; single(alloc, &counts, FILLS, FILLED, 0, 0)?]?;
-    let store = opened::<N, R>(rt, alloc, blank, queue)?;
-    assert!(rt; ran(rt, alloc, turns, &counts, store) == (1, 1, Some(5), 4));
-    Ok(())
-}
-
 /// A store of two topics takes a replacement and a clearing, and no third topic.
 #[test]
 fn full(rt: HostRuntime) -> Result<(), Fail> {
     let alloc = rt.alloc();
-    full_named::<Brand, _>(rt, alloc, blank_store(alloc, 2, 1)?, blank_queue(alloc, 1)?)
+    let counts = Arc::new(alloc, Counts::new())?;
+    let turns = vec![in alloc; single(alloc, &counts, FILLS, FILLED, 0, 0)?]?;
+    assert!(rt; ran(rt, alloc, turns, &counts, 2, 1)? == (1, 1, Some(5), 4));
+    Ok(())
 }

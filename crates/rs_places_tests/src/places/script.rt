@@ -1,8 +1,8 @@
 //! Turns that play connections from memory.
 
 use super::CLOSED;
-use rs_places::Turn;
-use rs_server::{ServeFault, Served};
+use rs_places::{Connection, Turn};
+use rs_server::{Clock, ServeFault, Served};
 use std::alloc::Global;
 use std::collections::VecDeque;
 use std::io;
@@ -88,6 +88,29 @@ pub fn comes(count: &AtomicU64, least: u64) -> bool {
     false
 }
 
+/// The clock of a connection, which always tells its moment.
+#[derive(Drop)]
+pub struct ScriptClock {
+    counts: Arc<Counts>,
+    together: u64,
+    moment: u64,
+    /// How many packets have come.
+    packets: u64,
+}
+
+impl Clock for ScriptClock {
+    fn now(&mut self) -> u64 {
+        self.packets = self.packets.saturating_add(1);
+        if self.packets == 2 {
+            self.counts.reached.fetch_add(1, Ordering::SeqCst);
+            if comes(&self.counts.reached, self.together) {
+                self.counts.met.fetch_add(1, Ordering::SeqCst);
+            }
+        }
+        self.moment
+    }
+}
+
 /// Plays these connections, the last of the list first.
 #[derive(Drop)]
 pub struct Script {
@@ -98,10 +121,10 @@ pub struct Script {
     pub after: u64,
     /// The second packet of a connection is handled once so many came to theirs.
     pub together: u64,
+    /// The time of the next connection.
+    pub moment: u64,
     /// What the connection has to be sent.
     pub wanted: Vec<u8>,
-    /// How many packets of it have come.
-    pub packets: u64,
 }
 
 impl Turn for Script {
@@ -109,30 +132,35 @@ impl Turn for Script {
 
     type Out = Output;
 
-    fn next(&mut self) -> Option<(Input, Output)> {
+    type Time = ScriptClock;
+
+    fn next(&mut self) -> Option<Connection<Input, Output, ScriptClock>> {
         if !comes(&self.counts.ended, self.after) {
             return None;
         }
+        let counts = Arc::try_clone(&self.counts).ok()?;
         let Exchange { input, output } = self.exchanges.pop()?;
         self.wanted = output;
-        self.packets = 0;
         let bytes = VecDeque::from_vec(input);
         let empty = Vec::new(self.alloc);
-        Some((Input { bytes }, Output { bytes: empty }))
+        Some(Connection {
+            input: Input { bytes },
+            output: Output { bytes: empty },
+            clock: ScriptClock {
+                counts,
+                together: self.together,
+                moment: self.moment,
+                packets: 0,
+            },
+        })
     }
 
-    fn now(&mut self) -> u64 {
-        self.packets = self.packets.saturating_add(1);
-        if self.packets == 2 {
-            self.counts.reached.fetch_add(1, Ordering::SeqCst);
-            if comes(&self.counts.reached, self.together) {
-                self.counts.met.fetch_add(1, Ordering::SeqCst);
-            }
-        }
-        0
-    }
-
-    fn end(&mut self, _input: Input, output: Output, served: Result<Served, ServeFault>) {
+    fn end(
+        &mut self,
+        connection: Connection<Input, Output, ScriptClock>,
+        served: Result<Served, ServeFault>,
+    ) {
+        let output = connection.output;
         if served.is_ok() && output.bytes.as_slice() == self.wanted.as_slice() {
             self.counts.right.fetch_add(1, Ordering::SeqCst);
         }

@@ -3,10 +3,10 @@
 ghost use Rattle.std.specs.Prelude.{◌≡◌};
 
 use super::runs::{exchange, ran, script};
-use super::script::{Counts, Exchange, Input, Output, Script};
+use super::script::{Counts, Exchange, Input, Output, Script, ScriptClock};
 use super::{CONNECT, CONNECTED, Store, blank_store, close_both, joined, opened};
 use rs_intake::{BlankQueue, LineName, blank_queue};
-use rs_places::{SharedGate, Turn, serve_place};
+use rs_places::{Connection, SharedGate, Turn, serve_place};
 use rs_server::{Counted, Moments, ServeFault, Served};
 use rs_version::Blank;
 use std::alloc::{AllocError, Global};
@@ -117,20 +117,21 @@ impl Turn for Rounds {
 
     type Out = Output;
 
-    fn next(&mut self) -> Option<(Input, Output)> {
+    type Time = ScriptClock;
+
+    fn next(&mut self) -> Option<Connection<Input, Output, ScriptClock>> {
         self.script.after = u64::from(PLACES) * u64::from(self.begun);
+        self.script.moment = ROUNDS.get(usize::from(self.begun)).copied().unwrap_or(0);
         self.begun = self.begun.saturating_add(1);
         self.script.next()
     }
 
-    fn now(&mut self) -> u64 {
-        let _moment = self.script.now();
-        let last = usize::from(self.begun.saturating_sub(1));
-        ROUNDS.get(last).copied().unwrap_or(0)
-    }
-
-    fn end(&mut self, input: Input, output: Output, served: Result<Served, ServeFault>) {
-        self.script.end(input, output, served)
+    fn end(
+        &mut self,
+        connection: Connection<Input, Output, ScriptClock>,
+        served: Result<Served, ServeFault>,
+    ) {
+        self.script.end(connection, served)
     }
 }
 
@@ -168,14 +169,11 @@ fn later_messages(alloc: Global) -> Result<Vec<u8>, AllocError> {
     Ok(messages)
 }
 
-fn filled_again_named<
-    N: LineName + Send + Sync + 'static,
-    R: Threads + Wait + Abort + Copy + Send + Sync + 'static,
->(rt: R, alloc: Global, blank: Blank, queue: BlankQueue) -> Result<(), Fail>
-    requires store { (blank.history ≡ N.history) × (blank.limit ≡ N.limit) }
-    requires queue { (queue.name ≡ N.queue) × (queue.places ≡ N.places) }
-{
-    let store = opened::<N, R>(rt, alloc, blank, queue)?;
+/// 64 places fill the store, find no room for as many other topics while their messages last, and fill it again when they have
+/// expired. Each then reads the new ones alone.
+#[test]
+fn filled_again(rt: HostRuntime) -> Result<(), Fail> {
+    let alloc = rt.alloc();
     let counts = Arc::new(alloc, Counts::new())?;
     let messages = later_messages(alloc)?;
     let mut turns = Vec::new(alloc);
@@ -185,15 +183,6 @@ fn filled_again_named<
         turns.push(Rounds { script, begun: 0 })?;
     }
     // Three changes of each place, of which one is refused, and one Sweep for all.
-    assert!(rt; ran(rt, alloc, turns, &counts, store) == (64, 256, Some(192), 129));
+    assert!(rt; ran(rt, alloc, turns, &counts, 64, PLACES)? == (64, 256, Some(192), 129));
     Ok(())
-}
-
-/// 64 places fill the store, find no room for as many other topics while their messages last, and fill it again when they have
-/// expired. Each then reads the new ones alone.
-#[test]
-fn filled_again(rt: HostRuntime) -> Result<(), Fail> {
-    let alloc = rt.alloc();
-    let blank = blank_store(alloc, 64, PLACES)?;
-    filled_again_named::<Brand, _>(rt, alloc, blank, blank_queue(alloc, PLACES)?)
 }

@@ -13,7 +13,7 @@ loop-end-preserved g c =
     let yielded = c.loop-end.yielded in
     let sent = c.into_parts-sender.ensures.sent in
     let same = c.compare.ensures.same in
-    let whole = ap (λ r. r.whole) same ∙ c.join.ensures.1 in
+    let whole = ap (λ r. r.whole) same ∙ c.join.ensures.2 in
     let W : List SentFrom → Type 0 = λ w. Covers w (yielded ++ end ∷ []) in (
       ap (λ r. r.entries) same ∙ (c.join.ensures.0 ∙ i.0),
       subst W (sym whole) (covers_more c.loop-end.taken.whole yielded _ end sent.1 sent.2 i.1),

@@ -8,7 +8,7 @@ loop-thread-preserved g c =
     let invariant = c.loop-thread.invariant in
     let first = c.in-Some.ensures.steps.0 in
     let pushed = c.in-Ok.ensures.items in (
-      each_of_both _ _ _ _ _ _ _ pushed invariant.0 c.join.ensures,
+      each_of_both _ _ _ _ _ _ _ _ pushed invariant.0 c.join.ensures,
       first_of_all _ _ _ _ _ invariant.1 first,
       omega (arith, invariant.2, length_more _ _ _ pushed, c.push.ensures.capacity, ap length first),
     )

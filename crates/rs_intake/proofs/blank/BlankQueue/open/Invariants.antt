@@ -1,4 +1,4 @@
-use Rattle.std.proofs.Common.{◌≡◌, [], true, false}
+use Rattle.std.proofs.Common.{◌≡◌, [], length, true, false}
 use Rattle.crossbeam_channel.specs.Claims.{view}
 use Rattle.crossbeam_channel.specs.Ends.{sends_on}
 use Rattle.rs_intake.specs.Names.{IsQueue, IsIn}
@@ -7,5 +7,5 @@ use Rattle.rs_intake.proofs.blank.BlankQueue.open.Given as goal
 
 abbrev pub invariant-loop-before : goal.invariant-loop-before
 invariant-loop-before g l = IsQueue g.N.LineName.queue (sends_on l.sender) × IsIn g.N.LineName.queue l.pass
-    × ((view l.pass).takes ≡ true) × ((view l.pass).sends ≡ false) × ((view l.pass).known ≡ []) × ((view l.pass).entries ≡ []) × ((view l.pass).made ≡ l.before)
-    × (l.lines.items ≡ new_lines l.before)
+    × ((view l.pass).takes ≡ true) × ((view l.pass).sends ≡ false) × ((view l.pass).known ≡ []) × ((view l.pass).entries ≡ []) × ((view l.pass).ends ≡ []) × ((view l.pass).made ≡ l.before)
+    × (l.lines.items ≡ new_lines l.before) × (length l.replies.items ≡ l.before)

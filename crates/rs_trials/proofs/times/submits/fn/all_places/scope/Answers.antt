@@ -9,5 +9,5 @@ use Rattle.rs_trials.proofs.times.submits.fn.all_places.scope.Goals as goal
 
 pub spawn-started-requires-send-F : goal.spawn-started-requires-send-F
 spawn-started-requires-send-F g c κs within =
-    parts_send-8 _ (shr_send _ _ _ (param_sync 0 g.row.H c.requires.1.1.1)) heap.the_send (line.the_send (param 1 g.row.N) g.N.StoreName g.N.LineName) (seat_send (param 1 g.row.N) g.N.StoreName)
+    parts_send-8 _ (shr_send _ _ _ (param_sync 0 g.row.H c.requires.1.1.1)) heap.the_send (line.the_send (param 1 g.row.N) g.N.LineName g.N.StoreName) (seat_send (param 1 g.row.N) g.N.StoreName)
     (shr_send _ _ _ (intake.the_sync (param 1 g.row.N))) u32_send u32_send (shr_send _ _ _ flag.the_sync)

@@ -1,0 +1,51 @@
+-- Why the writer's loop ended. As many Ends as places are those of all places.
+use Rattle.std.proofs.Common.{◌≡◌, ◌==◌, ℕ, zero, suc, ◌+◌, ◌<◌, ◌≤◌, ⊎_elim, Bool, true, false, cond, List, [], ◌∷◌, length, sym, ap, subst, ◌∙◌, arith}
+use Rattle.rs_intake.specs.Ending.{HaveEnded, IsCause}
+use Rattle.rs_intake.specs.Lines.{Received}
+use Rattle.rs_intake.specs.QueueRule.{AreEnds, IsOutside, at_place}
+use Rattle.rs_intake.specs.declared.ending.Cause.{Cause}
+use Rattle.rs_intake.proofs.Queues.{at_place-head, at_place-tail}
+use Rattle.rs_intake.proofs.Sums.{compare, inside, sum_to, sum_to-add, sum_to-same, there_once, zeros}
+
+length-at_place : (place x : ℕ) (xs : List ℕ) → length (at_place place (x ∷ xs)) ≡ cond (x == place) 1 0 + length (at_place place xs)
+length-at_place place x xs = go (x == place)
+  where
+    go : (b : Bool) → length (cond b (x ∷ at_place place xs) (at_place place xs)) ≡ cond b 1 0 + length (at_place place xs)
+    go true = omega arith
+    go false = omega arith
+
+ends_by_places : (n : ℕ) (xs : List ℕ) → ((place : ℕ) → IsOutside n place → at_place place xs ≡ []) → length xs ≡ sum_to n (λ p. length (at_place p xs))
+ends_by_places n [] outside = sym (zeros n)
+ends_by_places n (x ∷ xs) outside =
+    let rest = ends_by_places n xs (λ place out. at_place-tail place x xs (outside place out)) in
+    let within = inside n x (λ out. at_place-head x xs (outside x out)) in
+    let here = there_once n x within.0 within.1 in
+    let split = sum_to-same n (λ p. length (at_place p (x ∷ xs))) (λ p. cond (x == p) 1 0 + length (at_place p xs)) (λ p low high. length-at_place p x xs) in
+    let sums = sum_to-add n (λ p. cond (x == p) 1 0) (λ p. length (at_place p xs)) in
+    omega (arith, rest, here, split, sums)
+
+sum_small : (n : ℕ) (f : ℕ → ℕ) → ((p : ℕ) → f p ≤ 1) → sum_to n f ≤ n
+sum_small zero f small = omega arith
+sum_small (suc n) f small = let h = sum_small n f small in let one = small (suc n) in omega (arith, h, one)
+
+each_one : (n : ℕ) (f : ℕ → ℕ) → ((p : ℕ) → f p ≤ 1) → sum_to n f ≡ n → (p : ℕ) → 0 < p → p ≤ n → f p ≡ 1
+each_one zero f small whole p low high = absurd (omega (arith, low, high))
+each_one (suc n) f small whole p low high =
+    let most = sum_small n f small in
+    let one = small (suc n) in
+    ⊎_elim
+    (λ (t : n < p). let is : p ≡ suc n = omega (arith, t, high) in let last : f (suc n) ≡ 1 = omega (arith, most, one, whole) in ap f is ∙ last)
+    (λ (t : p ≤ n). each_one n f small (omega (arith, most, one, whole)) p low t)
+    (compare n p)
+
+pub all_ended : (places : ℕ) (ends : List ℕ) → AreEnds places ends → length ends ≡ places → HaveEnded places ends
+all_ended places ends are count =
+    let f : ℕ → ℕ = λ p. length (at_place p ends) in
+    let all : length ends ≡ sum_to places f = ends_by_places places ends (λ place out. (are place).1 out) in
+    each_one places f (λ p. (are p).0) (sym all ∙ count)
+
+pub cause_same : (places most : ℕ) (jobs jobs' : Received) (cause cause' : Cause) → jobs' ≡ jobs → cause' ≡ cause → IsCause places most jobs cause → IsCause places most jobs' cause'
+cause_same places most jobs jobs' cause cause' same alike is =
+    let P : Received → Type 0 = λ j. IsCause places most j cause' in
+    let Q : Cause → Type 0 = λ k. IsCause places most jobs k in
+    subst P (sym same) (subst Q (sym alike) is)

@@ -1,0 +1,57 @@
+-- What was done with the jobs that the writer took, and what their lines were told.
+use Rattle.std.specs.Prelude.{ℕ, ◌≡◌, ◌-◌, Bool, true, false, List, [], ◌∷◌, ◌++◌, length, slice_set, slice_index_or, Result, Ok, Err}
+use Rattle.std.specs.List.{filter}
+use Rattle.rs_message.specs.declared.entry.Entry.{Entry}
+use Rattle.rs_message.specs.declared.entry.Origin.{Origin}
+use Rattle.rs_store.specs.Adding.{Adds}
+use Rattle.rs_store.specs.History.{MayNotCome}
+use Rattle.rs_store.specs.declared.fault.Refusal.TheVariants as refusal
+use Rattle.rs_version.specs.Receipts.{ReceiptValue}
+use Rattle.rs_version.specs.declared.fault.PutFault.{PutFault}
+use Rattle.rs_version.specs.declared.fault.PutFault.TheVariants.{Full, Held, NoMemory, Stale}
+use Rattle.rs_intake.specs.Sweeps.{IsSweptAtMost}
+
+-- what a line is told of its job: a receipt, or why there is none
+abbrev pub Answer : Type 0
+Answer = Result ReceiptValue PutFault
+
+-- what contracts see of a reply
+pub record ReplyValue : Type 0 where
+  pub origin : Origin
+  pub answer : Answer
+
+-- the receipt is for the job, which is the last entry of this list, and tells the list
+abbrev pub IsReceiptFor : Entry → ReceiptValue → List Entry → Type 0
+IsReceiptFor job r kept = (r.entry ≡ job) × (r.number ≡ length kept) × (r.told ≡ kept)
+
+-- What the answer to a job says of the list that was kept before it and of the one that is kept then. A receipt, 33: the job follows,
+-- behind the Sweep that it needs. 30: it may not come, and the list is the same. 32: at most the Sweep that it needs follows
+abbrev pub IsDone : ℕ → List Entry → Entry → Answer → List Entry → Type 0
+IsDone limit kept job (Ok r) kept' = Adds limit kept job (λ list. kept' ≡ list) × IsReceiptFor job r kept'
+IsDone limit kept job (Err Held) kept' = Adds limit kept job (λ list. kept' ≡ list)
+IsDone limit kept job (Err Full) kept' = MayNotCome limit kept job refusal.Full × (kept' ≡ kept)
+IsDone limit kept job (Err NoMemory) kept' = IsSweptAtMost limit kept job kept'
+IsDone limit kept job (Err Stale) kept' = ⊥
+
+-- each job in turn got the answer of its place in the list, and was done as that says
+abbrev pub AreDone : ℕ → List Entry → List Entry → List Answer → List Entry → Type 0
+AreDone limit kept [] [] kept' = kept' ≡ kept
+AreDone limit kept (job ∷ jobs) (answer ∷ told) kept' = (next : List Entry) × IsDone limit kept job answer next × AreDone limit next jobs told kept'
+AreDone limit kept [] (answer ∷ told) kept' = ⊥
+AreDone limit kept (job ∷ jobs) [] kept' = ⊥
+
+-- whether the answer says that the job is not kept
+abbrev pub is_refused : Answer → Bool
+is_refused (Ok r) = false
+is_refused (Err Held) = false
+is_refused (Err Full) = true
+is_refused (Err NoMemory) = true
+is_refused (Err Stale) = true
+
+-- how many of the answers say so
+abbrev pub refused_in : List Answer → ℕ
+refused_in told = length (filter is_refused told)
+
+-- what each line was told, after the line of this origin's place was told this
+abbrev pub told_more : List (List ReplyValue) → Origin → Answer → List (List ReplyValue)
+told_more told origin answer = slice_set told (origin.place - 1) (slice_index_or told (origin.place - 1) [] ++ record { origin = origin; answer = answer } ∷ [])

@@ -1,0 +1,16 @@
+-- Why the writer's loop ended.
+use Rattle.std.specs.Prelude.{ℕ, ◌≡◌, ◌<◌, ◌≤◌, List, length}
+use Rattle.rs_intake.specs.Lines.{Received}
+use Rattle.rs_intake.specs.QueueRule.{at_place}
+use Rattle.rs_intake.specs.declared.ending.Cause.{Cause}
+use Rattle.rs_intake.specs.declared.ending.Cause.TheVariants.{AllEnded, MostTaken, QueueGone}
+
+-- of each place there is one End
+abbrev pub HaveEnded : ℕ → List ℕ → Type 0
+HaveEnded places ends = (place : ℕ) → 0 < place → place ≤ places → length (at_place place ends) ≡ 1
+
+-- the End of each place was taken, or so many jobs, or the queue was gone
+abbrev pub IsCause : ℕ → ℕ → Received → Cause → Type 0
+IsCause places most jobs AllEnded = HaveEnded places jobs.ends
+IsCause places most jobs MostTaken = most ≤ length jobs.entries
+IsCause places most jobs (QueueGone gone) = Unit {0}

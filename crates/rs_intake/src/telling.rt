@@ -1,0 +1,75 @@
+//! Putting a job, and telling its line what the writer answers.
+
+ghost use Rattle.std.specs.Prelude.{◌≡◌, ◌≢◌, ◌<◌, ◌≤◌, false, length, IfErr, IfOk, MatchResult};
+ghost use Rattle.rs_message.specs.Messages.{is_sweep};
+ghost use Rattle.rs_store.specs.History.{SerialsRise, extended};
+ghost use Rattle.rs_version.specs.Writer.{Refuses, kept_of};
+ghost use Rattle.rs_version.specs.declared.fault.PutFault.TheVariants.{Stale};
+ghost use Rattle.rs_intake.specs.Done.{Answer, IsDone, is_refused, told_more};
+
+use crate::name::LineName;
+use crate::reply::{Reply, ReplySender};
+use crate::waiting::Gone;
+use rs_message::Entry;
+use rs_version::VersionWriter;
+use std::sync::Wait;
+
+/// Puts a job: what its line is told. A Sweep may have been appended before it, or without it. It stands beside the sending, so that
+/// contracts tie what is told to what was done.
+fn reply_to<N: LineName, R: Wait + Drop>(writer: &mut VersionWriter<N, R>, job: Entry) -> Reply<N>
+    requires no_sweep { is_sweep job.operation ≡ false }
+    requires rises { SerialsRise (extended (kept_of writer.old) job) }
+    ensures done { IsDone N.limit (kept_of writer.old) job result.answer (kept_of writer.new) }
+    ensures origin { result.origin ≡ job.origin }
+    ensures receipt { IfOk result.answer (λ r. (r.entry ≡ job) × (r.number ≡ length (kept_of writer.new)) × (r.told ≡ writer.new.published)) }
+    ensures refusal { IfErr result.answer (λ f. (f ≢ Stale) × Refuses N.limit writer.old job f writer.new) }
+{
+    let origin = job.origin;
+    let answer = writer.put(job);
+    Reply { origin, answer }
+}
+
+/// The ways back to the lines, that of place 1 first. Only by [`WaysBack::put_job`] anything is sent.
+#[derive(Drop)]
+pub struct WaysBack<N: LineName> {
+    senders: Vec<ReplySender<N>>,
+}
+
+impl<N: LineName> WaysBack<N> {
+    pub(crate) fn new(senders: Vec<ReplySender<N>>) -> WaysBack<N>
+        ensures { result.senders ≡ senders }
+    {
+        WaysBack { senders }
+    }
+
+    /// Puts a job, and tells its line the answer, and nothing else to any line. Whether the job is refused; and that its line is
+    /// gone, if it is.
+    pub(crate) fn put_job<R: Wait + Drop, W: Wait>(
+        &mut self,
+        rt: &W,
+        writer: &mut VersionWriter<N, R>,
+        job: Entry,
+    ) -> (bool, Result<(), Gone>)
+        requires no_sweep { is_sweep job.operation ≡ false }
+        requires place { (0 < job.origin.place) × (job.origin.place ≤ length self.old.senders.items) }
+        requires rises { SerialsRise (extended (kept_of writer.old) job) }
+        ensures done { (answer : Answer) × IsDone N.limit (kept_of writer.old) job answer (kept_of writer.new) × (result.0 ≡ is_refused answer)
+            × MatchResult result.1 (λ _. self.new.senders.items ≡ told_more self.old.senders.items job.origin answer) (λ _. self.new.senders.items ≡ self.old.senders.items) }
+        ensures ways { length self.new.senders.items ≡ length self.old.senders.items }
+    {
+        let reply = reply_to(writer, job);
+        let is_refused = reply.is_refused();
+        let index = reply.origin.place() as usize - 1;
+        let sent = self.senders[index].send(rt, reply);
+        (is_refused, sent)
+    }
+
+    /// Tells a line what it should not be told.
+    #[cfg(test)]
+    pub(crate) fn tell<W: Wait>(&mut self, rt: &W, reply: Reply<N>) {
+        let at = reply.origin.place() as usize - 1;
+        if let Some(to) = self.senders.get_mut(at) {
+            drop(to.send(rt, reply));
+        }
+    }
+}

@@ -1,0 +1,123 @@
+-- The connections of a turn that were served so far.
+use Rattle.std.proofs.Common.{◌≡◌, ℕ, Option, Some, None, List, [], ◌∷◌, ◌++◌, map, refl, sym, ap, subst, ◌∙◌, append_assoc}
+use Rattle.std.proofs.lemmas.List.{append-nil, map-append}
+use Rattle.std.specs.Prelude.{Result}
+use Rattle.std.specs.Io.KnownBytes.{Consumes, IsAtEnd}
+use Rattle.rs_intake.specs.Lines.{Closed}
+use Rattle.rs_message.specs.declared.entry.Entry.{Entry}
+use Rattle.rs_server.specs.Clock.{Told}
+use Rattle.rs_server.specs.Conversation.{WritesTurns, assigned_of, start}
+use Rattle.rs_server.specs.declared.connection.Served.{Served}
+use Rattle.rs_server.specs.declared.writing.ServeFault.{ServeFault}
+use Rattle.rs_places.specs.Places.{AreConnectionsServed, IsPlaceServed, Left, Place, ServesOne, Visit, next_number, place_at}
+use Rattle.rs_places.specs.Serving.{IsServedAt}
+use Rattle.rs_places.specs.Shared.{SharedValue}
+use Rattle.rs_places.specs.Turns.{AreAll, Ending, Gave, GivesNext, Plan, Streams, TakesBack, TookBack}
+use Rattle.rs_places.proofs.Marks.{marks_through}
+
+gave_none : (waiting : Option (List Streams)) → Gave waiting [] waiting
+gave_none None = tt
+gave_none (Some waiting) = refl
+
+gave_more : (first then last : Option (List Streams)) (xs ys : List Streams) → Gave first xs then → Gave then ys last → Gave first (xs ++ ys) last
+gave_more None then last xs ys p q = tt
+gave_more (Some ws) None last xs ys p q = absurd p
+gave_more (Some ws) (Some vs) None xs ys p q = absurd q
+gave_more (Some ws) (Some vs) (Some us) xs ys p q = p ∙ (ap (λ l. xs ++ l) q ∙ sym (append_assoc xs ys us))
+
+all_given : (first then : Option (List Streams)) (xs : List Streams) → Gave first xs then → AreAll then [] → AreAll first xs
+all_given None then xs p q = tt
+all_given (Some ws) None xs p q = absurd p
+all_given (Some ws) (Some vs) xs p q = p ∙ (ap (λ l. xs ++ l) q ∙ append-nil xs)
+
+took_none : (ended : Option (List Ending)) → TookBack ended [] ended
+took_none None = tt
+took_none (Some ended) = sym (append-nil ended)
+
+took_more : (first then last : Option (List Ending)) (xs ys : List Ending) → TookBack first xs then → TookBack then ys last → TookBack first (xs ++ ys) last
+took_more first then None xs ys p q = tt
+took_more first None (Some us) xs ys p q = absurd q
+took_more None (Some vs) (Some us) xs ys p q = absurd p
+took_more (Some ws) (Some vs) (Some us) xs ys p q = q ∙ (ap (λ l. l ++ ys) p ∙ append_assoc ws xs ys)
+
+-- Whatever is served from here on was served after what was served so far. The place stays.
+pub record ServedSoFar (limit : ℕ) (first : Place) (number : ℕ) (now : Place) : Type 0 where
+  pub visits : List Visit
+  pub extends : (more : List Visit) (last : SharedValue) → AreConnectionsServed limit number now.gate more last → AreConnectionsServed limit 1 first.gate (visits ++ more) last
+  pub given : Gave first.plan.waiting (map (λ visit. visit.given) visits) now.plan.waiting
+  pub ended : TookBack first.plan.ended (map (λ visit. visit.ending) visits) now.plan.ended
+  pub place : now.gate.mark.place ≡ first.gate.mark.place
+
+pub served_none : (limit : ℕ) (place : Place) → ServedSoFar limit place 1 place
+served_none limit place = record {
+  visits = [];
+  extends = λ more last h. h;
+  given = gave_none place.plan.waiting;
+  ended = took_none place.plan.ended;
+  place = refl;
+}
+
+pub served_more : (limit number : ℕ) (first now after : Place) (plan : Plan) (given : Streams) → ServedSoFar limit first number now → GivesNext now.plan (Some given) plan
+    → ServesOne limit number (record { plan = plan; gate = now.gate }) given after → ServedSoFar limit first (next_number number) after
+served_more limit number first now after plan given so_far next one =
+    let visit = one.visit in
+    let G : Streams → Type 0 = λ s. Gave now.plan.waiting (s ∷ []) plan.waiting in
+    let gave : Gave now.plan.waiting (visit.given ∷ []) after.plan.waiting =
+        gave_more now.plan.waiting plan.waiting after.plan.waiting (visit.given ∷ []) [] (subst G (sym one.over) next.waiting) one.taken_back.waiting in
+    let took : TookBack now.plan.ended (visit.ending ∷ []) after.plan.ended =
+        took_more now.plan.ended plan.ended after.plan.ended [] (visit.ending ∷ []) next.ended one.taken_back.ended in
+    let P : List Streams → Type 0 = λ l. Gave first.plan.waiting l after.plan.waiting in
+    let Q : List Ending → Type 0 = λ l. TookBack first.plan.ended l after.plan.ended in
+    record {
+      visits = so_far.visits ++ visit ∷ [];
+      extends = λ more last h.
+          let R : SharedValue → Type 0 = λ gate. AreConnectionsServed limit (next_number number) gate more last in
+          let S : List Visit → Type 0 = λ l. AreConnectionsServed limit 1 first.gate l last in
+          subst S (sym (append_assoc so_far.visits (visit ∷ []) more)) (so_far.extends (visit ∷ more) last (one.served, subst R (sym one.leaves) h));
+      given = subst P (sym (map-append (λ (v : Visit). v.given) so_far.visits (visit ∷ [])))
+          (gave_more first.plan.waiting now.plan.waiting after.plan.waiting (map (λ (v : Visit). v.given) so_far.visits) (visit.given ∷ []) so_far.given gave);
+      ended = subst Q (sym (map-append (λ (v : Visit). v.ending) so_far.visits (visit ∷ [])))
+          (took_more first.plan.ended now.plan.ended after.plan.ended (map (λ (v : Visit). v.ending) so_far.visits) (visit.ending ∷ []) so_far.ended took);
+      place =
+        let moved = (marks_through _ _ _ one.served.connection.marks one.served.connection.run).place in
+        ap (λ (g : SharedValue). g.mark.place) (sym one.leaves) ∙ (moved ∙ so_far.place);
+    }
+
+-- the place, once its turn has no more connections and its line is closed
+pub place_served : (limit number : ℕ) (first now : Place) (plan : Plan) (told : List Entry) (line : Closed) → ServedSoFar limit first number now → GivesNext now.plan None plan
+    → told ≡ now.gate.known → line.place ≡ now.gate.mark.place → line.sent ≡ now.gate.sent → IsPlaceServed limit first (record { plan = plan; told = told; line = line })
+place_served limit number first now plan told line so_far next told_is place sent =
+    let P : List Visit → Type 0 = λ l. AreConnectionsServed limit 1 first.gate l now.gate in
+    let Q : List Ending → Type 0 = λ l. TookBack first.plan.ended l plan.ended in
+    record {
+      visits = so_far.visits;
+      last = now.gate;
+      connections = subst P (append-nil so_far.visits) (so_far.extends [] now.gate refl);
+      all = all_given first.plan.waiting now.plan.waiting (map (λ (v : Visit). v.given) so_far.visits) so_far.given next.waiting;
+      ended = subst Q (append-nil (map (λ (v : Visit). v.ending) so_far.visits))
+          (took_more first.plan.ended now.plan.ended plan.ended (map (λ (v : Visit). v.ending) so_far.visits) [] so_far.ended next.ended);
+      told = told_is;
+      number = place ∙ so_far.place;
+      sent = sent;
+    }
+
+-- one connection, once it was given back
+pub one_served : {R W C : Type 0} (remaining : R → Option (List ℕ)) (contents : W → Option (List ℕ)) (moments : C → Option (ℕ → ℕ)) (limit number : ℕ) (old new : Plan) (gate after : SharedValue)
+    (input read_from read_to input_back : R) (output write_from write_to output_back : W) (clock clock_back : C) (result : Result Served ServeFault)
+    → read_from ≡ input → write_from ≡ output → input_back ≡ read_to → output_back ≡ write_to
+    → IsServedAt limit (start (assigned_of gate.mark.place number) gate.known gate.mark) (Consumes (remaining read_from) (remaining read_to)) (IsAtEnd (remaining read_to))
+        (Told (moments clock) (moments clock_back)) (WritesTurns result (contents write_from) (contents write_to)) result after
+    → TakesBack old (record { streams = record { unread = remaining input_back; written = contents output_back; moments = moments clock_back }; result = result }) new
+    → ServesOne limit number (place_at old gate) (record { unread = remaining input; written = contents output; moments = moments clock }) (place_at new after)
+one_served {R} {W} {C} remaining contents moments limit number old new gate after input read_from read_to input_back output write_from write_to output_back clock clock_back result same_in same_out back_in back_out served taken =
+    let S : R → W → C → Streams = λ r w c. record { unread = remaining r; written = contents w; moments = moments c } in
+    let E : R → W → Ending = λ r w. record { streams = S r w clock_back; result = result } in
+    let P : R → Type 0 = λ r. TakesBack old (E r output_back) new in
+    let Q : W → Type 0 = λ w. TakesBack old (E read_to w) new in
+    record {
+      visit = record { given = S read_from write_from clock; ending = E read_to write_to; turns = served.turns; gate = after };
+      served = record { connection = served; turns = refl };
+      over = ap (λ (r : R). S r write_from clock) same_in ∙ ap (λ (w : W). S input w clock) same_out;
+      leaves = refl;
+      taken_back = subst Q back_out (subst P back_in taken);
+    }

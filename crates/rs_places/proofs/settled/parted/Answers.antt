@@ -1,0 +1,24 @@
+use Rattle.std.proofs.Common.{◌≡◌, ◌+◌, ◌<◌, length, map, sym, ap, ◌∙◌, arith}
+use Rattle.rs_places.proofs.Starting.{first_of_all, length_more}
+use Rattle.rs_places.proofs.Whole.{all_done, push_map}
+use Rattle.rs_places.proofs.settled.parted.Goals as goal
+
+pub put-requires : goal.put-requires
+put-requires g c = omega (arith, c.loop-end.invariant.3, ap length c.in-Some.ensures.steps.0)
+
+pub loop-end-preserved : goal.loop-end-preserved
+loop-end-preserved g c =
+    let i = c.loop-end.invariant in
+    let first = c.in-Some.ensures.steps.0 in (
+      push_map _ _ _ _ _ c.put.ensures.items i.0,
+      push_map _ _ _ _ _ c.put-in-loop-end.ensures.items i.1,
+      first_of_all _ _ _ _ _ i.2 first,
+      omega (arith, i.3, length_more _ _ _ c.put.ensures.items, c.put.ensures.capacity, ap length first),
+      omega (arith, i.4, length_more _ _ _ c.put-in-loop-end.ensures.items, c.put-in-loop-end.ensures.capacity, ap length first),
+    )
+
+pub returns : goal.returns
+returns g c =
+    let i = c.loop-end.invariant in
+    let all = all_done _ _ _ i.2 (sym c.loop-end.end-iterator.rest.ok.0 ∙ c.in-None.ensures.steps.0) in
+    record { lines = i.0 ∙ ap (map (λ end. end.line)) all; turns = i.1 ∙ ap (map (λ end. end.turn)) all }

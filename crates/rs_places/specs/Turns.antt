@@ -1,0 +1,57 @@
+-- What contracts see of a turn: the connections that it will still give, and those that it took back.
+use Rattle.std.specs.Prelude.{◌≡◌, ℕ, Option, Some, None, List, [], ◌∷◌, ◌++◌, ⊤, Result}
+use Rattle.rs_server.specs.declared.connection.Served.{Served}
+use Rattle.rs_server.specs.declared.writing.ServeFault.{ServeFault}
+
+-- what is known of a connection: the bytes that its reader has left, those that its writer holds, and the times that its clock will
+-- tell
+pub record Streams : Type 0 where
+  pub unread : Option (List ℕ)
+  pub written : Option (List ℕ)
+  pub moments : Option (ℕ → ℕ)
+
+-- a connection that was taken back: what is known of it then, and how it ended
+pub record Ending : Type 0 where
+  pub streams : Streams
+  pub result : Result Served ServeFault
+
+-- the connections that a turn will still give, and those that it took back, each in their order, if they are known
+pub record Plan : Type 0 where
+  pub waiting : Option (List Streams)
+  pub ended : Option (List Ending)
+
+-- nothing is known
+abbrev pub unknown : Plan
+unknown = record { waiting = None; ended = None }
+
+-- these are the first of the known ones that waited, and the others still wait
+abbrev pub Gave : Option (List Streams) → List Streams → Option (List Streams) → Type 0
+Gave None given rest = ⊤
+Gave (Some waiting) given None = ⊥
+Gave (Some waiting) given (Some rest) = waiting ≡ given ++ rest
+
+-- these are all that waited, if they are known
+abbrev pub AreAll : Option (List Streams) → List Streams → Type 0
+AreAll None given = ⊤
+AreAll (Some waiting) given = waiting ≡ given
+
+-- these were taken back after those before, if all of them are still known
+abbrev pub TookBack : Option (List Ending) → List Ending → Option (List Ending) → Type 0
+TookBack before endings None = ⊤
+TookBack None endings (Some all) = ⊥
+TookBack (Some before) endings (Some all) = all ≡ before ++ endings
+
+-- the first connection that waits is given, or none does
+abbrev pub GivesFirst : Option (List Streams) → Option Streams → Option (List Streams) → Type 0
+GivesFirst old (Some given) new = Gave old (given ∷ []) new
+GivesFirst old None new = AreAll old []
+
+-- the next connection is given, and none is taken back
+pub record GivesNext (old : Plan) (given : Option Streams) (new : Plan) : Type 0 where
+  pub waiting : GivesFirst old.waiting given new.waiting
+  pub ended : TookBack old.ended [] new.ended
+
+-- a connection is taken back, and none is given
+pub record TakesBack (old : Plan) (ending : Ending) (new : Plan) : Type 0 where
+  pub waiting : Gave old.waiting [] new.waiting
+  pub ended : TookBack old.ended (ending ∷ []) new.ended
