@@ -58,7 +58,7 @@ pub fn put_binary(out: &mut Vec<u8>, bytes: &[u8]) -> Result<(), AllocError>
     Ok(())
 }
 
-/// Appends a string.
+/// Appends a string: its length in two bytes, and its bytes (1.5.4).
 pub fn put_string(out: &mut Vec<u8>, text: &Text) -> Result<(), AllocError>
     ensures { OnOk result (out.new.items ≡ out.old.items ++ counted text.now) }
 {

@@ -9,19 +9,19 @@ use thiserror::Error;
 /// The first fault of the bytes of a packet, from left to right.
 #[derive(Clone, Copy, Debug, PartialEq, Eq, Error)]
 pub enum PacketFault {
-    /// The bytes break the form of a packet: reason code 0x81 (1.2, 4.13).
+    /// 10: the bytes break the form of a packet: reason code 0x81 (1.2, 4.13).
     #[error("the packet is malformed: see that its length, flags and fields have the form of MQTT 5.0")]
     Malformed,
-    /// They have the form, and say something that a client may not say: reason code 0x82 (4.13).
+    /// 11: they have the form, and say something that a client may not say: reason code 0x82 (4.13).
     #[error("the packet breaks the protocol: see that a client may send its type, properties and values")]
     Protocol,
-    /// The packet is longer than the server reads: reason code 0x95 (3.2.2.3.6).
+    /// 12: the packet is longer than the server reads: reason code 0x95 (3.2.2.3.6).
     #[error("the packet is longer than the Maximum Packet Size of CONNACK: send less in one packet")]
     TooLarge,
-    /// A CONNECT of another protocol, or of another version: reason code 0x84 (3.1.2.2).
+    /// 13: a CONNECT of another protocol, or of another version: reason code 0x84 (3.1.2.2).
     #[error("the protocol is not MQTT 5.0: connect with protocol version 5")]
     Version,
-    /// Memory was refused.
+    /// 14: memory was refused.
     #[error("memory ran out while the packet was read: try again later")]
     NoMemory,
 }

@@ -407,7 +407,8 @@ fn bare_len(expiry: Option<u32>, subscription: Option<SubscriptionId>) -> usize
     expiry_len(expiry) + subscription_len(subscription)
 }
 
-/// The number of bytes of the properties of a PUBLISH, without their length.
+/// The number of bytes of the properties of a PUBLISH, without their length. They are at most
+/// [`MAX_REMAINING_LENGTH`](crate::MAX_REMAINING_LENGTH).
 pub fn properties_len(
     expiry: Option<u32>,
     subscription: Option<SubscriptionId>,

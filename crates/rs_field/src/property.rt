@@ -60,29 +60,49 @@ pub enum Property {
 /// The packet that properties belong to.
 #[derive(Clone, Copy)]
 pub enum PropertyOwner {
+    /// A CONNECT (3.1.2.11).
     Connect,
+    /// A PUBLISH (3.3.2.3).
     Publish,
+    /// A PUBACK, PUBREC, PUBREL or PUBCOMP (3.4.2.2, 3.5.2.2, 3.6.2.2, 3.7.2.2).
     Acknowledgement,
+    /// A SUBSCRIBE (3.8.2.1).
     Subscribe,
+    /// An UNSUBSCRIBE (3.10.2.1).
     Unsubscribe,
+    /// A DISCONNECT (3.14.2.2).
     Disconnect,
 }
 
-/// The property values of one packet; None if absent.
+/// The property values of one packet; None if absent. What [`read_properties`](crate::read_properties) gives is in the
+/// ranges below.
 #[derive(Drop)]
 pub struct Found {
+    /// The Payload Format Indicator, 0 or 1 (3.3.2.3.2).
     pub format: Option<u8>,
+    /// The Message Expiry Interval, in seconds (3.3.2.3.3).
     pub expiry: Option<u32>,
+    /// The Content Type (3.3.2.3.9).
     pub content_type: Option<Text>,
+    /// The Response Topic, without `+` and `#` (3.3.2.3.5).
     pub response_topic: Option<Text>,
+    /// The Correlation Data, at most 65,535 bytes (3.3.2.3.6).
     pub correlation: Option<Bytes>,
+    /// The Subscription Identifier of a SUBSCRIBE (3.8.2.1.2).
     pub subscription: Option<SubscriptionId>,
+    /// The Session Expiry Interval, in seconds (3.1.2.11.2, 3.14.2.2.2).
     pub session_expiry: Option<u32>,
+    /// The Authentication Method (3.1.2.11.9).
     pub method: Option<Text>,
+    /// Whether there is Authentication Data (3.1.2.11.10). The data is not kept.
     pub authentication: bool,
+    /// The client's Receive Maximum, at least 1 (3.1.2.11.3).
     pub receive_maximum: Option<u16>,
+    /// The Topic Alias (3.3.2.3.4). It may be 0.
     pub alias: Option<u16>,
+    /// The User Properties, each a name and a value, in the order of the packet (3.1.2.11.8, 3.3.2.3.7).
     pub user: Vec<(Text, Text)>,
+    /// The client's Maximum Packet Size, in bytes, at least 1 (3.1.2.11.4).
     pub packet_maximum: Option<u32>,
 }
 
@@ -272,6 +292,10 @@ impl Found {
     }
 
     /// Adds the value of a property.
+    ///
+    /// # Errors
+    ///
+    /// There is no memory for one more User Property. No other property needs memory.
     pub fn put(&mut self, property: Property) -> Result<(), AllocError>
         ensures { OnOk result (self.new ≡ put self.old property) }
     {

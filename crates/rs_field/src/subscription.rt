@@ -36,7 +36,7 @@ impl SubscriptionId {
         None
     }
 
-    /// The number.
+    /// The number, from 1 to `MAX_REMAINING_LENGTH`.
     pub fn get(self) -> u32
         ensures value { result ≡ self }
         ensures some { 0 < result }
