@@ -36,7 +36,7 @@ impl PacketId {
         Some(PacketId { number })
     }
 
-    /// The number.
+    /// The number, from 1 to 65,535.
     pub fn get(self) -> u16
         ensures value { result ≡ self }
         ensures some { 0 < result }
