@@ -15,6 +15,8 @@ use std::marker::Model;
 /// The greatest number of a place (this server's choice). The first place is 1.
 pub const MAX_PLACES: u8 = 64;
 
+const _: () = prove!(MAX_PLACES == 64);
+
 /// Where an entry came from: a place, 1 to [`MAX_PLACES`], or the writer, whose place is 0; and a serial number from 1 on, which rises
 /// at each place.
 #[derive(Clone, Copy, PartialEq, Eq)]

@@ -8,20 +8,20 @@ use thiserror::Error;
 /// Why a gate to the store gave no receipt for a change. Messages that are expired may have been removed all the same.
 #[derive(Clone, Copy, Debug, PartialEq, Eq, Error)]
 pub enum SubmitFault {
-    /// The change was not made: the store is full of messages that are not expired, or has no number left, or the place has used its
+    /// 40: the change was not made: the store is full of messages that are not expired, or has no number left, or the place has used its
     /// last serial.
     #[error("the store holds as many topics as it may, or has no number left; clear a topic or raise the limit")]
     Full = 40,
-    /// Out of memory; the change was not made.
+    /// 41: out of memory; the change was not made.
     #[error("memory was refused, and nothing was stored; free memory and try again")]
     NoMemory = 41,
-    /// No receipt came; the change may still become an entry, at most once.
+    /// 42: no receipt came; the change may still become an entry, at most once.
     #[error("the store gave no receipt; the change may still be made, once")]
     Open = 42,
-    /// The receipt was for another change; whether this one is an entry is not known.
+    /// 43: the receipt was for another change; whether this one is an entry is not known.
     #[error("the store answered for another change; whether this one was made is not known")]
     Strange = 43,
-    /// The gate is closed; the change was not made.
+    /// 44: the gate is closed; the change was not made.
     #[error("the store takes no more changes; start it again")]
     Closed = 44,
 }
