@@ -21,16 +21,16 @@ pub enum Ack {
 /// Why a window, or the table of inbound identifiers, refuses a call. A refused call changes nothing.
 #[derive(Clone, Copy, Debug, PartialEq, Eq, Error)]
 pub enum WindowFault {
-    /// More than [`MAX_WAITING`](crate::MAX_WAITING) messages would wait.
+    /// 50: more than [`MAX_WAITING`](crate::MAX_WAITING) messages would wait.
     #[error("more than {} messages would wait for this client; subscribe to fewer topics at a time", MAX_WAITING)]
     TooManyWaiting = 50,
-    /// Out of memory for the messages that would wait.
+    /// 51: out of memory for the messages that would wait.
     #[error("there is no memory for the messages that would wait; subscribe again later")]
     NoMemory = 51,
-    /// The identifier waits for another acknowledgement (4.3.2, 4.3.3).
+    /// 52: the identifier waits for another acknowledgement (4.3.2, 4.3.3).
     #[error("the packet identifier waits for another acknowledgement; answer QoS 1 by PUBACK, QoS 2 by PUBREC and then PUBCOMP")]
     WrongKind = 52,
-    /// [`RECEIVE_MAXIMUM`](rs_packet::RECEIVE_MAXIMUM) other identifiers are held (3.3.4).
+    /// 53: [`RECEIVE_MAXIMUM`](rs_packet::RECEIVE_MAXIMUM) other identifiers are held (3.3.4).
     #[error("{} messages of QoS 2 are not yet released; send PUBREL for one of them first", RECEIVE_MAXIMUM)]
     TooManyHeld = 53,
 }

@@ -16,6 +16,8 @@ use std::collections::VecDeque;
 /// The greatest number of messages that may wait for one client (this server's choice).
 pub const MAX_WAITING: usize = 100_000;
 
+const _: () = prove!(MAX_WAITING == 100_000);
+
 /// A retained message that waits to be sent, and what its subscription was granted.
 #[derive(Drop)]
 pub struct Waiting {

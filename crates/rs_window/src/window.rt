@@ -21,6 +21,8 @@ use std::marker::Model;
 /// Receive Maximum is greater (4.9; this server's choice).
 pub const MAX_QUOTA: u16 = 1024;
 
+const _: () = prove!(MAX_QUOTA == 1024);
+
 /// A retained message as it is sent at a given time.
 #[derive(Drop)]
 pub struct Publish {
