@@ -13,6 +13,8 @@ use std::marker::Model;
 /// How many subscriptions a session may have. One more is answered with Reason Code 0x97, quota exceeded (3.9.3).
 pub const MAX_SUBSCRIPTIONS: usize = 256;
 
+const _: () = prove!(MAX_SUBSCRIPTIONS == 256);
+
 /// What a session keeps of a filter (3.8.4).
 #[derive(Clone, Copy)]
 pub struct Subscription {
