@@ -10,7 +10,7 @@ use std::collections::VecDeque;
 pub trait Clock {
     ghost moments: { Self → Option (ℕ → ℕ) } = { λ _. None };
 
-    /// The time, in whole seconds.
+    /// The time, in whole seconds since the moment that the caller takes as 0. The system's clock takes the start of 1970.
     fn now(&mut self) -> u64
         ensures { Tells (moments self.old) (moments self.new) result };
 }
