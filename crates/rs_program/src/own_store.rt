@@ -12,6 +12,8 @@ use rs_store::TreeCatalogue;
 /// How many topics of an [`OwnStore`] may hold a message.
 pub const MAX_OWN_TOPICS: u32 = 10_000;
 
+const _: () = prove!(MAX_OWN_TOPICS == 10_000);
+
 /// A gate to a store of at most [`MAX_OWN_TOPICS`] topics. It stands for legal lists whose entries are of place 1, or are
 /// Sweeps of the writer.
 #[derive(Drop)]
