@@ -2,14 +2,14 @@
 
 mod connect;
 
-ghost use Rattle.std.specs.Prelude.{◌≡◌, ◌<◌, ℕ, List, Some, None, IfSome};
+ghost use Rattle.std.specs.Prelude.{◌≡◌, ◌<◌, ℕ, List, Some, None, IfSome, length};
 ghost use Rattle.rs_message.specs.declared.entry.Entry.{Entry};
 ghost use Rattle.rs_packet.specs.declared.packet.Packet.{Packet};
 ghost use Rattle.rs_packet.specs.declared.reply.Reply.{Reply};
 ghost use Rattle.rs_session.specs.Gate.{GrowsAnswering};
 ghost use Rattle.rs_session.specs.Points.{given_at};
 ghost use Rattle.rs_session.specs.Run.{replies_left};
-ghost use Rattle.rs_session.specs.State.{session_at, state_of, due_of, gate_of, closing_of, step_of, fresh, ended, within, IsGiven};
+ghost use Rattle.rs_session.specs.State.{session_at, state_of, due_of, gate_of, closing_of, step_of, fresh, ended, waiting_of, within, IsGiven, IsReplayed};
 ghost use Rattle.rs_session.specs.declared.open.Open.{Open};
 ghost use Rattle.rs_session.specs.Table.{Answers, due_for, fault_reason, state_after};
 
@@ -112,15 +112,9 @@ impl<G: Gate> Session<G> {
         ensures gate { gate_of self.new ≡ gate_of self.old }
         ensures fewer { IfSome result (λ _. replies_left (due_of self.new) (state_of self.new) < replies_left (due_of self.old) (state_of self.old)) }
     {
-        if let Some(reply) = self.due.take() {
-            return Some(reply);
-        }
-        match &mut self.phase {
-            Phase::Open(open) => match open.window.next(now) {
-                Some(publish) => Some(publish.reply()),
-                None => None,
-            },
-            _ => None,
+        match self.due.take() {
+            Some(reply) => Some(reply),
+            None => next_waiting(&mut self.phase, now),
         }
     }
 
@@ -182,6 +176,20 @@ impl<G: Gate> Session<G> {
         ensures gate { self.new.gate ≡ self.old.gate }
     {
         self.phase = Phase::Ended(closing);
+    }
+}
+
+/// The next message that waits, as a reply. Only an open session has any.
+fn next_waiting(phase: &mut Phase, now: u64) -> Option<Reply>
+    ensures given { IsReplayed now phase.old result phase.new }
+    ensures fewer { IfSome result (λ _. length (waiting_of phase.new) < length (waiting_of phase.old)) }
+{
+    match phase {
+        Phase::Open(open) => match open.window.next(now) {
+            Some(publish) => Some(publish.reply()),
+            None => None,
+        },
+        _ => None,
     }
 }
 
