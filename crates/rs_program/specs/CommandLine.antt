@@ -1,5 +1,5 @@
 -- The command line, as the crate clap reads it.
-use Rattle.std.specs.Prelude.{◌≡◌, ◌≤◌, ◌-◌, ◌^◌, ℕ, true, false, List, [], ◌∷◌, Some, codes}
+use Rattle.std.specs.Prelude.{◌≡◌, ◌≤◌, ◌-◌, ◌^◌, ℕ, true, false, Bool, List, [], ◌∷◌, Some, None, codes}
 use Rattle.std.specs.String.{string_bytes}
 use Rattle.std.specs.Str.Parse.{IsNumeral, digits_value, without_leading_plus}
 use Rattle.clap.specs.Words.{App, Rule, Row, Text, new_app, new_rule, with_rule, with_subcommand, first_of, one_of, subcommand_of}
@@ -59,10 +59,15 @@ pub record IsNumberOf (rows : List Row) (option : Text) (least most number : ℕ
   pub above : least ≤ number
   pub below : number ≤ most
 
+-- The flag is set if the option's value says so, and not set if it says otherwise or there is none.
+pub record IsFlagOf (rows : List Row) (option : Text) (flag : Bool) : Type 0 where
+  pub set : one_of option rows ≡ Some (codes "true") → flag ≡ true
+  pub unset : one_of option rows ≡ Some (codes "false") → flag ≡ false
+  pub none : one_of option rows ≡ None → flag ≡ false
+
 -- what the values of a command's options ask for
 abbrev pub IsRunOf : Text → List Row → Run → Type 0
-IsRunOf name rows (Pipe hex at) = (name ≡ codes "pipe") × IsNumberOf rows (codes "at") 0 (2 ^ 64 - 1) at
-    × (one_of (codes "hex") rows ≡ Some (codes "true") → hex ≡ true) × (one_of (codes "hex") rows ≡ Some (codes "false") → hex ≡ false)
+IsRunOf name rows (Pipe hex at) = (name ≡ codes "pipe") × IsNumberOf rows (codes "at") 0 (2 ^ 64 - 1) at × IsFlagOf rows (codes "hex") hex
 IsRunOf name rows (Listen address places topics connections) = (name ≡ codes "listen") × (first_of (codes "address") rows ≡ Some (string_bytes address))
     × IsNumberOf rows (codes "places") 1 MAX_PLACES places × IsNumberOf rows (codes "topics") 1 MAX_TOPICS topics
     × IsNumberOf rows (codes "connections") 1 MAX_CONNECTIONS connections

@@ -1,7 +1,10 @@
+mod answers;
 mod faults;
 mod gate;
 mod lines;
+mod piping;
 mod refusals;
+mod streams;
 mod words;
 
 use crate::piping::PipeFault;

@@ -1,19 +1,18 @@
 //! One failing read, write or flush, and what a second connection by the same gate gets then, over the
 //! program's store and over a bare gate.
 
+use super::streams::{ByteWriter, Call, Failing, StepReader};
 use crate::own_store::OwnStore;
 use rs_server::{ConnectionId, Counted, Moments, ServeFault, Served, serve};
 use rs_session::{Gate, LocalGate};
 use rs_store::{MapCatalogue, TopicLimit};
 use std::alloc::Global;
-use std::io;
-use std::io::{ErrorKind, Read, Write};
 use std::process::Abort;
 use std::sync::Wait;
 use std::test::Fail;
 
 // CONNECT (16 bytes), a retained PUBLISH of QoS 1 (11 bytes), DISCONNECT.
-const FIRST: &[u8] =
+pub const FIRST: &[u8] =
     b"\x10\x0E\x00\x04MQTT\x05\x02\x00\x3C\x00\x00\x01a\x33\x09\x00\x03a/b\x00\x01\x00x\xE0\x00";
 
 // CONNACK (15 bytes), PUBACK.
@@ -60,71 +59,6 @@ const WRITES: [Row; 6] = [
     (Call::Flush, 3, 3, CLOSED, 19, true),
 ];
 
-#[derive(Clone, Copy, Debug, PartialEq, Eq)]
-enum Call {
-    Read,
-    Write,
-    Flush,
-}
-
-// The call that fails, counted from 1 among those of its kind. None does at 0.
-#[derive(Clone, Copy)]
-struct Failing {
-    call: Call,
-    at: usize,
-}
-
-impl Failing {
-    fn meets(self, call: Call, at: usize) -> io::Result<()> {
-        if self.call == call && self.at == at {
-            return Err(io::Error::from(ErrorKind::Interrupted));
-        }
-        Ok(())
-    }
-}
-
-// Gives at most `step` bytes a call.
-#[derive(Drop)]
-struct StepReader {
-    input: &'static [u8],
-    step: usize,
-    calls: usize,
-    failing: Failing,
-}
-
-impl Read for StepReader {
-    fn read(&mut self, buf: &mut [u8]) -> io::Result<usize> {
-        self.calls = self.calls.saturating_add(1);
-        self.failing.meets(Call::Read, self.calls)?;
-        let n = buf.len().min(self.step);
-        self.input.read(&mut buf[..n])
-    }
-}
-
-// Takes one byte a call.
-#[derive(Drop)]
-struct ByteWriter {
-    bytes: Vec<u8>,
-    calls: usize,
-    flushes: usize,
-    failing: Failing,
-}
-
-impl Write for ByteWriter {
-    fn write(&mut self, buf: &[u8]) -> io::Result<usize> {
-        self.calls = self.calls.saturating_add(1);
-        self.failing.meets(Call::Write, self.calls)?;
-        let n = buf.len().min(1);
-        self.bytes.extend_from_slice(&buf[..n])?;
-        Ok(n)
-    }
-
-    fn flush(&mut self) -> io::Result<()> {
-        self.flushes = self.flushes.saturating_add(1);
-        self.failing.meets(Call::Flush, self.flushes)
-    }
-}
-
 fn outcome<H: Wait, G: Gate>(
     rt: &H,
     alloc: Global,
@@ -133,27 +67,11 @@ fn outcome<H: Wait, G: Gate>(
     step: usize,
     failing: Failing,
 ) -> (Result<Served, ServeFault>, Vec<u8>, G) {
-    let mut reader = Counted::new(StepReader {
-        input,
-        step,
-        calls: 0,
-        failing,
-    });
-    let mut writer = Counted::new(ByteWriter {
-        bytes: Vec::new(alloc),
-        calls: 0,
-        flushes: 0,
-        failing,
-    });
+    let mut reader = Counted::new(StepReader::new(input, step, failing));
+    let mut writer = Counted::new(ByteWriter::new(alloc, failing));
     let mut clock = Moments::new(0, Vec::new(alloc));
     let (served, gate) = serve(rt, alloc, &mut reader, &mut writer, gate, ID, &mut clock);
-    let ByteWriter {
-        bytes,
-        calls: _,
-        flushes: _,
-        failing: _,
-    } = writer.into_inner();
-    (served, bytes, gate)
+    (served, writer.into_inner().into_bytes(), gate)
 }
 
 // How the first connection ends and what is written to it, and what the second one gets.

@@ -133,6 +133,54 @@ fn a_failed_read_goes_on(rt: HostRuntime) -> Result<(), Fail> {
     Ok(())
 }
 
+// Gives this byte so many times, one a call.
+#[derive(Drop)]
+struct SameBytes {
+    byte: u8,
+    left: usize,
+}
+
+impl Read for SameBytes {
+    fn read(&mut self, buf: &mut [u8]) -> io::Result<usize> {
+        if self.left == 0 || buf.is_empty() {
+            return Ok(0);
+        }
+        self.left -= 1;
+        buf[0] = self.byte;
+        Ok(1)
+    }
+}
+
+// The input is read as often as a line needs it.
+#[test]
+fn digits_that_come_one_at_a_time(rt: HostRuntime) -> Result<(), Fail> {
+    let input = SameBytes {
+        byte: b'4',
+        left: 3_000,
+    };
+    let mut lines = HexReader::new(rt.alloc(), input);
+    let mut buf = [0u8; 2_000];
+    assert!(rt; lines.read(&mut buf)? == 1_500);
+    assert!(rt; buf[..1_500].iter().all(|b| *b == 0x44));
+    assert!(rt; lines.read(&mut buf)? == 0);
+    assert!(rt; lines.not_hex().is_none());
+    Ok(())
+}
+
+// However many empty lines stand before a byte, one read gives it.
+#[test]
+fn many_empty_lines_are_skipped(rt: HostRuntime) -> Result<(), Fail> {
+    let mut text = vec![in rt.alloc(); b'\n'; 3_000]?;
+    text.extend_from_slice(b"0A")?;
+    let mut lines = HexReader::new(rt.alloc(), text.as_slice());
+    let mut buf = [0u8; 2];
+    assert!(rt; lines.read(&mut buf)? == 1);
+    assert!(rt; buf == [0x0A, 0]);
+    assert!(rt; lines.read(&mut buf)? == 0);
+    assert!(rt; lines.not_hex().is_none());
+    Ok(())
+}
+
 // One line of 600,002 digits, which takes many reads of the input.
 #[test]
 fn a_long_line_is_read(rt: HostRuntime) -> Result<(), Fail> {
