@@ -3,6 +3,7 @@
 ghost use Rattle.std.specs.Prelude.{◌≡◌, ◌<◌, ◌≤◌, IfOk};
 ghost use Rattle.rs_message.specs.declared.entry.TheConstants.{MAX_PLACES};
 
+mod answers;
 mod ending;
 mod faults;
 mod in_turn;
