@@ -1,4 +1,4 @@
-"""Where the built programs lie, what is loaded before one, and how much memory one takes."""
+"""Where the built programs lie, what is loaded before one, and how much memory one takes. And the words that a script is given."""
 
 import os
 import subprocess
@@ -28,6 +28,17 @@ def preloaded(name, folder):
     source = os.path.join(ROOT, "checks", f"{name}.c")
     subprocess.run([compiler, "-O1", "-shared", "-fPIC", "-o", path, source], check=True)
     return path
+
+
+def given_words(*known):
+    """The words after the script's name. One that is not known ends the script with status 2: a slip must not look like a success."""
+    words = sys.argv[1:]
+    for word in words:
+        if word not in known:
+            wanted = " ".join(["nothing or some of", *known]) if known else "nothing"
+            print(f"{os.path.basename(sys.argv[0])}: {word!r} is not known: give {wanted}", file=sys.stderr)
+            sys.exit(2)
+    return words
 
 
 def most_memory(pid):
