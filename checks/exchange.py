@@ -28,6 +28,15 @@ def packet(first, body):
     return bytes([first, len(body)]) + body
 
 
+def packets(data):
+    """The packets of some bytes, by their Remaining Length (2.1.4)."""
+    while data:
+        digits = next(at for at in range(1, 5) if data[at] < 128)
+        size = 1 + digits + sum((data[at] % 128) << (7 * (at - 1)) for at in range(1, digits + 1))
+        yield data[:size]
+        data = data[size:]
+
+
 class Connect:
     kind = "a CONNECT"
     sent = bytes.fromhex("100E00044D5154540502003C00000161")
@@ -120,8 +129,20 @@ def possible(steps):
     return answers
 
 
+def before_each_packet(steps):
+    """All that is answered before each packet is read."""
+    return [replies(steps[:count]) for count in range(len(steps))]
+
+
+def before_each_reply(steps):
+    """All that is answered before each reply is written."""
+    answers = list(packets(replies(steps)))
+    return [b"".join(answers[:count]) for count in range(len(answers))]
+
+
 # Topics, so many that the store and its answers grow more than once.
 LETTERS = [bytes([letter]) for letter in b"abcdefghijklmnopqrst"]
+
 
 def short_exchange(qos):
     """A publication of this QoS, the first of its store, and a subscription that replays it."""
