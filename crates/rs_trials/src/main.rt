@@ -1,9 +1,9 @@
 //! Works single calls of the crates, for the checks and the benchmark.
 //!
-//! `refuse map`, `refuse tree`, `refuse window`, `refuse versions` and `refuse queue` look at what is shown after memory was refused.
+//! `refuse tree`, `refuse window`, `refuse versions` and `refuse queue` look at what is shown after memory was refused.
 //! The other jobs are timed:
 //!
-//! - `map TOPICS` and `tree TOPICS`: the calls of a catalogue in which so many topics, 1 to 65,536, hold a message;
+//! - `tree TOPICS`: the calls of a tree in which so many topics, 1 to 65,536, hold a message;
 //! - `full TOPICS`: the adds to a full tree of so many topics, and one that sweeps half of it;
 //! - `window COUNT ROUNDS`: rounds of a window in which so many messages wait, 1 to 100,000;
 //! - `decode ROUNDS` and `encode ROUNDS`: the one packet on standard input, a PUBLISH or a SUBSCRIBE, and what answers it;

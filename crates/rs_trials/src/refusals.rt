@@ -1,15 +1,14 @@
-//! What a catalogue, a window, a store of versions and the queue to its writer show after they were refused memory.
+//! What a tree, a window, a store of versions and the queue to its writer show after they were refused memory.
 //!
 //! Each job prints `refused`, and of each kind of call how often it was refused memory, kept what it owes, and did its work when it
 //! was called again: 0 with ample memory.
 
-mod catalogue;
 mod queue;
+mod tree;
 mod versions;
 mod window;
 
 use crate::failure::Failure;
-use rs_store::{MapCatalogue, TreeCatalogue};
 use std::alloc::Global;
 use std::sync::Wait;
 use std::thread::Threads;
@@ -21,8 +20,7 @@ pub fn work<H: Print + Wait + Threads + Copy + Send + Sync + 'static>(
     word: &str,
 ) -> Result<(), Failure> {
     match word {
-        "map" => catalogue::work::<MapCatalogue>(rt, alloc),
-        "tree" => catalogue::work::<TreeCatalogue>(rt, alloc),
+        "tree" => tree::work(rt, alloc),
         "queue" => queue::work(rt, alloc),
         "window" => window::work(rt, alloc),
         "versions" => versions::work(rt, alloc),

@@ -1,15 +1,15 @@
-//! The timed work of the benchmark, each kind with a number of rounds. Times are printed in microseconds, those of a catalogue in nanoseconds.
+//! The timed work of the benchmark, each kind with a number of rounds. Times are printed in microseconds, those of a tree in nanoseconds.
 
-mod catalogue;
 mod codec;
 mod full;
 mod sessions;
 mod submits;
+mod tree;
 mod versions;
 mod window;
 
 use crate::failure::Failure;
-use rs_store::{MapCatalogue, TopicLimit, TreeCatalogue};
+use rs_store::TopicLimit;
 use std::alloc::Global;
 use std::io::Read;
 use std::rt::Clock;
@@ -35,11 +35,10 @@ fn work_one<H: AllocGlobal + Print + Clock + Wait, R: Read>(
     word: &String,
 ) -> Result<(), Failure> {
     match name {
-        "map" => catalogue::measure::<H, MapCatalogue>(rt, alloc, topics(word)?),
-        "tree" => catalogue::measure::<H, TreeCatalogue>(rt, alloc, topics(word)?),
+        "tree" => tree::measure(rt, alloc, topics(word)?),
         "full" => full::measure(rt, alloc, topics(word)?),
-        "keep" => catalogue::keep(alloc, topics(word)?),
-        "keep_deep" => catalogue::keep_deep(alloc, topics(word)?),
+        "keep" => tree::keep(alloc, topics(word)?),
+        "keep_deep" => tree::keep_deep(alloc, topics(word)?),
         "keep_versions" => versions::keep(rt, alloc, topics(word)?),
         "decode" => codec::measure_decode(rt, alloc, input, number(word)?),
         "encode" => codec::measure_encode(rt, alloc, input, number(word)?),

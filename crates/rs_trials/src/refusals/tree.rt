@@ -1,4 +1,4 @@
-//! What a catalogue shows after memory was refused to `add` or to `copy`.
+//! What a tree shows after memory was refused to `add` or to `copy`.
 
 ghost use Rattle.std.specs.Prelude.{◌≡◌, ◌<◌, false, IfOk};
 ghost use Rattle.rs_message.specs.Messages.{is_sweep};
@@ -6,27 +6,27 @@ ghost use Rattle.rs_message.specs.Messages.{is_sweep};
 use crate::failure::{Failure, expect};
 use crate::samples::{HOUSE, clear, set_at, topic};
 use rs_message::{Entry, Found, Remaining};
-use rs_store::{Catalogue, Refusal, TopicLimit, add};
+use rs_store::{Catalogue, Refusal, TopicLimit, TreeCatalogue, add};
 use rs_topic::{TopicFilter, TopicName};
 use std::alloc::{AllocError, Global};
 
-/// How many topics the catalogue takes: so many that it has to grow more than once.
+/// How many topics the tree takes: so many that it has to grow more than once.
 const TOPICS: u32 = 64;
 
-/// Each time that so many topics were added, the last one is cleared and added again. The catalogue is copied before, between and
+/// Each time that so many topics were added, the last one is cleared and added again. The tree is copied before, between and
 /// after.
 const ROUND: u32 = HOUSE as u32;
 
-/// How many topics are added. So many of them find the catalogue full, or the room of those that are swept.
+/// How many topics are added. So many of them find the tree full, or the room of those that are swept.
 const ADDED: u32 = TOPICS + ROUND;
 
 /// Of so many topics in a row the messages come at one moment, the next of those of the row before.
 const ROW: u32 = 3;
 
-/// The interval of all messages: when the catalogue is full, those of one row are expired.
+/// The interval of all messages: when the tree is full, those of one row are expired.
 const INTERVAL: u32 = TOPICS / ROW;
 
-/// What a catalogue shows: the last is its answers to some filters.
+/// What a tree shows: the last is its answers to some filters.
 #[derive(Drop)]
 struct Shown {
     version: u64,
@@ -45,10 +45,10 @@ struct Refused {
     copies: u32,
 }
 
-/// A catalogue, and the filters that it is asked for.
+/// A tree, and the filters that it is asked for.
 #[derive(Drop)]
-struct Run<C: Catalogue + Drop> {
-    catalogue: C,
+struct Run {
+    tree: TreeCatalogue,
     filters: Vec<TopicFilter>,
     refused: Refused,
 }
@@ -85,20 +85,20 @@ fn is_same(a: &Shown, b: &Shown) -> bool {
         && are_same_answers(a.answers.as_slice(), b.answers.as_slice())
 }
 
-fn shown_by<C: Catalogue>(
+fn shown_by(
     alloc: Global,
-    catalogue: &C,
+    tree: &TreeCatalogue,
     filters: &[TopicFilter],
 ) -> Result<Shown, AllocError> {
     let mut answers = Vec::new(alloc);
     for filter in filters {
-        answers.push(catalogue.answer(filter, 0)?)?;
+        answers.push(tree.answer(filter, 0)?)?;
     }
     Ok(Shown {
-        version: catalogue.version(),
-        count: catalogue.count() as usize,
-        serial: catalogue.last_serial(1),
-        sweeps: catalogue.last_serial(0),
+        version: tree.version(),
+        count: tree.count() as usize,
+        serial: tree.last_serial(1),
+        sweeps: tree.last_serial(0),
         answers,
     })
 }
@@ -141,9 +141,9 @@ fn without(shown: Shown, topic: &TopicName) -> Shown {
     shown
 }
 
-impl<C: Catalogue + Drop> Run<C> {
+impl Run {
     fn shown(&self, alloc: Global) -> Result<Shown, AllocError> {
-        shown_by(alloc, &self.catalogue, self.filters.as_slice())
+        shown_by(alloc, &self.tree, self.filters.as_slice())
     }
 
     /// Whether it shows this.
@@ -158,7 +158,7 @@ impl<C: Catalogue + Drop> Run<C> {
     }
 
     fn next_serial(&self) -> u64 {
-        self.catalogue.last_serial(1).saturating_add(1)
+        self.tree.last_serial(1).saturating_add(1)
     }
 
     /// A Set of the topic of this number.
@@ -179,14 +179,14 @@ impl<C: Catalogue + Drop> Run<C> {
     fn adds(&mut self, entry: Entry) -> Result<bool, Failure>
         requires { is_sweep entry.operation ≡ false }
     {
-        match add(&mut self.catalogue, entry) {
+        match add(&mut self.tree, entry) {
             Ok(()) => Ok(true),
             Err(Refusal::NoMemory) => Ok(false),
             Err(_) => Err(Failure::Wrong),
         }
     }
 
-    /// Adds a Set of a new topic. If memory is refused for it, the catalogue must show the same as before, and take the same Set.
+    /// Adds a Set of a new topic. If memory is refused for it, the tree must show the same as before, and take the same Set.
     fn add_new(&mut self, alloc: Global, number: u32) -> Result<(), Failure> {
         let entry = self.set(alloc, number)?;
         let again = entry.copy()?;
@@ -201,7 +201,7 @@ impl<C: Catalogue + Drop> Run<C> {
         Ok(())
     }
 
-    /// Adds a Set of a new topic to the full catalogue, of which a Sweep makes room. If memory is refused for it, the catalogue must
+    /// Adds a Set of a new topic to the full tree, of which a Sweep makes room. If memory is refused for it, the tree must
     /// show the same as before, but for the Sweep, and take the same Set.
     fn add_swept(&mut self, alloc: Global, number: u32) -> Result<(), Failure> {
         let entry = self.set(alloc, number)?;
@@ -238,18 +238,18 @@ impl<C: Catalogue + Drop> Run<C> {
     }
 
     /// A copy. If memory is refused for it, another one.
-    fn copied(&mut self) -> Result<C, Failure> {
-        let first = self.catalogue.copy();
+    fn copied(&mut self) -> Result<TreeCatalogue, Failure> {
+        let first = self.tree.copy();
         self.refused.copies = self
             .refused
             .copies
             .saturating_add(u32::from(first.is_err()));
         first
-            .or_else(|_| self.catalogue.copy())
+            .or_else(|_| self.tree.copy())
             .map_err(|_| Failure::Wrong)
     }
 
-    /// Copies the catalogue. The copy and the catalogue must show the same as before.
+    /// Copies the tree. The copy and the tree must show the same as before.
     fn copy(&mut self, alloc: Global) -> Result<(), Failure> {
         let before = self.shown(alloc)?;
         let copy = self.copied()?;
@@ -282,10 +282,10 @@ fn filters(alloc: Global) -> Result<Vec<TopicFilter>, Failure> {
 
 /// Adds new topics one after the other, clears and copies now and then, and prints how often memory was refused for a topic of each
 /// kind of place, for one behind a Sweep, and for a copy.
-pub fn work<C: Catalogue + Drop>(rt: &impl Print, alloc: Global) -> Result<(), Failure> {
+pub fn work(rt: &impl Print, alloc: Global) -> Result<(), Failure> {
     let limit = TopicLimit::new(TOPICS).ok_or(Failure::Wrong)?;
     let mut run = Run {
-        catalogue: C::new(alloc, limit)?,
+        tree: TreeCatalogue::new(alloc, limit)?,
         filters: filters(alloc)?,
         refused: Refused {
             adds: [0; 4],
@@ -294,7 +294,7 @@ pub fn work<C: Catalogue + Drop>(rt: &impl Print, alloc: Global) -> Result<(), F
         },
     };
     for number in 0..ADDED {
-        if run.catalogue.count() == TOPICS {
+        if run.tree.count() == TOPICS {
             run.add_swept(alloc, number)?;
         } else {
             run.add_new(alloc, number)?;
@@ -303,7 +303,7 @@ pub fn work<C: Catalogue + Drop>(rt: &impl Print, alloc: Global) -> Result<(), F
             run.clear_last(alloc, number)?;
         }
     }
-    expect(run.catalogue.last_serial(0) == u64::from(ROUND.div_ceil(ROW)))?;
+    expect(run.tree.last_serial(0) == u64::from(ROUND.div_ceil(ROW)))?;
     let Refused {
         adds: [root, middle, leaf, above],
         swept,

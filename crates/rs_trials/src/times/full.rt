@@ -2,7 +2,7 @@
 
 ghost use Rattle.std.specs.Prelude.{◌≤◌, ◌<◌};
 
-use super::catalogue::mixed;
+use super::tree::mixed;
 use crate::failure::{Failure, expect};
 use crate::samples::set_even_at;
 use rs_message::Entry;

@@ -3,13 +3,13 @@
 use crate::failure::Failure;
 use rs_server::{ConnectionId, Counted, Moments, ServeFault, Served, serve};
 use rs_session::LocalGate;
-use rs_store::{MapCatalogue, TopicLimit};
+use rs_store::{TopicLimit, TreeCatalogue};
 use std::alloc::Global;
 use std::rt::Clock;
 use std::sync::Wait;
 use std::time::Instant;
 
-type Store = LocalGate<MapCatalogue>;
+type Store = LocalGate<TreeCatalogue>;
 
 /// CONNECT, a retained PUBLISH of QoS 1 to `a/b`, SUBSCRIBE to `a/b` at QoS 1, PUBACK of what is replayed, DISCONNECT.
 const INPUT: &[u8] =

@@ -187,11 +187,12 @@ fn filled<H: Wait, N: LineName>(
 ) -> Result<(Vec<SeatLine<N>>, (Vec<Seat<N>>, Vec<Seat<N>>)), Failure> {
     let (mut places, mut readers) = (Vec::new(alloc), Vec::new(alloc));
     let mut working = Vec::new(alloc);
-    for (index, (line, seat)) in lines.into_iter().zip(seats).enumerate() {
-        // The first place fills the store.
-        let fill = if index == 0 { topics } else { 0 };
+    // The first place fills the store.
+    let mut fill = topics;
+    for (line, seat) in lines.into_iter().zip(seats) {
         let (line, seat) = submit_all(rt, alloc, intake, line, seat, topics, fill)?;
-        if index < submitters as usize {
+        fill = 0;
+        if working.len() < submitters as usize {
             working.push(line)?;
             places.push(seat)?;
         } else {

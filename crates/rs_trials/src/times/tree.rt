@@ -1,4 +1,4 @@
-//! How long the calls of a catalogue take, whose topics have four levels and 64 bytes.
+//! How long the calls of a tree take, whose topics have four levels and 64 bytes.
 
 ghost use Rattle.std.specs.Prelude.{◌<◌, ◌^◌};
 
@@ -45,42 +45,42 @@ fn clears(alloc: Global, topics: u32, used: u32) -> Result<Vec<Entry>, Failure> 
     Ok(entries)
 }
 
-fn add_all<C: Catalogue>(catalogue: &mut C, entries: Vec<Entry>) -> Result<(), Failure> {
+fn add_all(tree: &mut TreeCatalogue, entries: Vec<Entry>) -> Result<(), Failure> {
     for entry in entries {
         if entry.operation.is_sweep() {
             return Err(Failure::Wrong);
         }
-        expect(add(catalogue, entry).is_ok())?;
+        expect(add(tree, entry).is_ok())?;
     }
     Ok(())
 }
 
 /// Adds the entries, and prints the nanoseconds that all took. Then so many topics must hold a message.
-fn timed<H: Print + Clock, C: Catalogue>(
+fn timed<H: Print + Clock>(
     rt: &H,
-    catalogue: &mut C,
+    tree: &mut TreeCatalogue,
     name: &str,
     entries: Vec<Entry>,
     wanted: u32,
 ) -> Result<(), Failure> {
     let start = Instant::now(rt)?;
-    add_all(catalogue, entries)?;
+    add_all(tree, entries)?;
     let took = start.elapsed(rt)?.as_nanos();
-    expect(catalogue.count() == wanted)?;
+    expect(tree.count() == wanted)?;
     println!(rt; "{name} {took}")?;
     Ok(())
 }
 
 /// Answers a filter, and prints the nanoseconds that it took. So many messages must be found.
-fn answered<H: Print + Clock, C: Catalogue>(
+fn answered<H: Print + Clock>(
     rt: &H,
-    catalogue: &C,
+    tree: &TreeCatalogue,
     name: &str,
     filter: &TopicFilter,
     wanted: u32,
 ) -> Result<(), Failure> {
     let start = Instant::now(rt)?;
-    let found = catalogue.answer(filter, 0)?;
+    let found = tree.answer(filter, 0)?;
     let took = start.elapsed(rt)?.as_nanos();
     expect(found.len() == wanted as usize)?;
     println!(rt; "{name} {took}")?;
@@ -88,16 +88,16 @@ fn answered<H: Print + Clock, C: Catalogue>(
 }
 
 /// Answers a filter many times. How long one answer takes, in each of which so many messages must be found.
-fn one_of_many<K: Clock, C: Catalogue>(
+fn one_of_many<K: Clock>(
     rt: &K,
-    catalogue: &C,
+    tree: &TreeCatalogue,
     filter: &TopicFilter,
     wanted: u32,
 ) -> Result<Duration, Failure> {
     let enough = Duration::from_millis(MILLIS);
     let start = Instant::now(rt)?;
     for call in 0..CALLS {
-        expect(catalogue.answer(filter, 0)?.len() == wanted as usize)?;
+        expect(tree.answer(filter, 0)?.len() == wanted as usize)?;
         let calls = call + 1;
         // The clock is read seldom, since that takes time, too.
         if calls.is_power_of_two() {
@@ -111,77 +111,73 @@ fn one_of_many<K: Clock, C: Catalogue>(
 }
 
 /// Prints the nanoseconds that one answer to a filter takes, in which so many messages must be found.
-fn answered_often<H: Print + Clock, C: Catalogue>(
+fn answered_often<H: Print + Clock>(
     rt: &H,
-    catalogue: &C,
+    tree: &TreeCatalogue,
     name: &str,
     filter: &TopicFilter,
     wanted: u32,
 ) -> Result<(), Failure> {
-    let took = one_of_many(rt, catalogue, filter, wanted)?.as_nanos();
+    let took = one_of_many(rt, tree, filter, wanted)?.as_nanos();
     println!(rt; "{name} {took}")?;
     Ok(())
 }
 
 /// Prints, a line each, how long one answer takes to a filter that matches one topic, to one that matches the topics that share two
 /// levels with it, and to one that finds it among all topics.
-fn answered_all<H: Print + Clock, C: Catalogue>(
+fn answered_all<H: Print + Clock>(
     rt: &H,
     alloc: Global,
-    catalogue: &C,
+    tree: &TreeCatalogue,
     topics: u32,
 ) -> Result<(), Failure> {
     let one = TopicFilter::read(
         alloc,
         b"00000000000000000000/00000000000000000000/00000000000000000000/x",
     )?;
-    answered_often(rt, catalogue, "answer_one", &one, 1)?;
+    answered_often(rt, tree, "answer_one", &one, 1)?;
     let below = TopicFilter::read(alloc, b"00000000000000000000/00000000000000000000/#")?;
-    answered_often(rt, catalogue, "answer_below", &below, BELOW.min(topics))?;
+    answered_often(rt, tree, "answer_below", &below, BELOW.min(topics))?;
     let last = TopicFilter::read(alloc, b"+/+/+/x")?;
-    answered_often(rt, catalogue, "answer_last", &last, 1)
+    answered_often(rt, tree, "answer_last", &last, 1)
 }
 
 /// Prints, a line each, how many nanoseconds it takes to set so many topics, to replace each, to answer a filter that matches all of
 /// them, to give one answer to others, and to clear each.
-pub fn measure<H: Print + Clock, C: Catalogue + Drop>(
-    rt: &H,
-    alloc: Global,
-    limit: TopicLimit,
-) -> Result<(), Failure> {
+pub fn measure<H: Print + Clock>(rt: &H, alloc: Global, limit: TopicLimit) -> Result<(), Failure> {
     let topics = limit.get();
-    let mut catalogue = C::new(alloc, limit)?;
-    timed(rt, &mut catalogue, "set", sets(alloc, topics, 0)?, topics)?;
+    let mut tree = TreeCatalogue::new(alloc, limit)?;
+    timed(rt, &mut tree, "set", sets(alloc, topics, 0)?, topics)?;
     timed(
         rt,
-        &mut catalogue,
+        &mut tree,
         "replace",
         sets(alloc, topics, topics)?,
         topics,
     )?;
     let all = TopicFilter::read(alloc, b"#")?;
-    answered(rt, &catalogue, "answer_all", &all, topics)?;
-    answered_all(rt, alloc, &catalogue, topics)?;
+    answered(rt, &tree, "answer_all", &all, topics)?;
+    answered_all(rt, alloc, &tree, topics)?;
     let used = topics.saturating_mul(2);
-    timed(rt, &mut catalogue, "clear", clears(alloc, topics, used)?, 0)
+    timed(rt, &mut tree, "clear", clears(alloc, topics, used)?, 0)
 }
 
 /// Keeps so many messages in a tree, at topics of 64 bytes.
 pub fn keep(alloc: Global, limit: TopicLimit) -> Result<(), Failure> {
-    let mut catalogue = TreeCatalogue::new(alloc, limit)?;
+    let mut tree = TreeCatalogue::new(alloc, limit)?;
     for number in 0..limit.get() {
         let number = u64::from(number);
-        expect(add(&mut catalogue, set_even(alloc, number + 1, number)?).is_ok())?;
+        expect(add(&mut tree, set_even(alloc, number + 1, number)?).is_ok())?;
     }
     Ok(())
 }
 
 /// Keeps so many messages in a tree, at topics of the most levels, of which each two share all levels but the last.
 pub fn keep_deep(alloc: Global, limit: TopicLimit) -> Result<(), Failure> {
-    let mut catalogue = TreeCatalogue::new(alloc, limit)?;
+    let mut tree = TreeCatalogue::new(alloc, limit)?;
     for number in 0..limit.get() {
         let number = u64::from(number);
-        expect(add(&mut catalogue, set_deep(alloc, number + 1, number)?).is_ok())?;
+        expect(add(&mut tree, set_deep(alloc, number + 1, number)?).is_ok())?;
     }
     Ok(())
 }
