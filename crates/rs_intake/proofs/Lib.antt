@@ -1,4 +1,5 @@
 pub mod Queues
+pub mod Ways
 pub mod Seats
 pub mod Parts
 pub mod Opening

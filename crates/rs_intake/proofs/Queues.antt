@@ -18,7 +18,7 @@ use Rattle.rs_intake.specs.declared.rule.Job.TheVariants.{Put, End}
 use Rattle.rs_intake.proofs.Parts.{part_front, part_rises, rises_none}
 use Rattle.rs_intake.specs.QueueRule.{AreEnds, AreLast, AreWhole, Balances, Closes, ClosesLine, ClosesTaker, Delivers, FitsLine, FitsTaker, IsAbove, IsOutside, Keeps, Sends, SumsUp, Takes, at_place, end_of, ends_of, entries_of, entry_of, job_more, new_line, of_place, one_line_less, one_line_more, place_of, spent, taker}
 
-clash : {b : Bool} → b ≡ false → b ≡ true → ⊥
+pub clash : {b : Bool} → b ≡ false → b ≡ true → ⊥
 clash p q = cc (p, q)
 
 then_is : {A : Type 0} (b : Bool) (x y : A) → b ≡ true → cond b x y ≡ x
@@ -155,7 +155,7 @@ takes_delivers pass v gets quiet x items views h at =
       ),
     )
 
-snoc_at : {A : Type 0} (l : List A) (a b : A) (j : ℕ) → get_elem? (l ++ a ∷ []) j ≡ some b → (get_elem? l j ≡ some b) ⊎ ((j ≡ length l) × (a ≡ b))
+pub snoc_at : {A : Type 0} (l : List A) (a b : A) (j : ℕ) → get_elem? (l ++ a ∷ []) j ≡ some b → (get_elem? l j ≡ some b) ⊎ ((j ≡ length l) × (a ≡ b))
 snoc_at [] a b zero e = inr (refl, some-injective a b e)
 snoc_at [] a b (suc j) e = absurd (some-ne-none b (sym e))
 snoc_at (x ∷ xs) a b zero e = inl e

@@ -1,5 +1,5 @@
 -- Entries that `==` calls equal are one entry.
-use Rattle.std.proofs.Common.{◌≡◌, ◌==◌, ℕ, Bool, true, false, ◌&&◌, List, [], ◌∷◌, Some, None, refl, ap}
+use Rattle.std.proofs.Common.{◌≡◌, ◌==◌, ℕ, Bool, true, false, ◌&&◌, List, [], ◌∷◌, Some, None, refl, ap, subst, sym, ◌∙◌, Decides}
 use Rattle.std.specs.Prelude.{nat_eq}
 use Rattle.std.specs.Option.{option_eq}
 use Rattle.std.specs.Cmp.Lexicographic.{pointwise}
@@ -8,7 +8,8 @@ use Rattle.rs_packet.specs.Grammar.{level}
 use Rattle.rs_packet.specs.declared.packet.Qos.{Qos}
 use Rattle.rs_packet.specs.declared.packet.Qos.TheVariants.{AtMostOnce, AtLeastOnce, ExactlyOnce}
 use Rattle.rs_packet.specs.Fields.{properties_eq}
-use Rattle.rs_message.specs.Equality.{message_eq}
+use Rattle.rs_message.specs.Equality.{message_eq, message_eq_equiv}
+use Rattle.rs_message.specs.Values.{MessageValue}
 use Rattle.rs_message.specs.declared.entry.Entry.{Entry}
 
 -- the test passes only for a value and itself
@@ -73,7 +74,7 @@ properties p q h =
     ≡ record { format = q.format; content_type = q.content_type; response_topic = q.response_topic; correlation = q.correlation; user = q.user } = cc (a, b, c, d, e) in
     same
 
-pub messages : IsExact message_eq
+messages : IsExact message_eq
 messages m n h =
     let payload = both (pointwise nat_eq m.payload n.payload) _ h in
     let qos = both (nat_eq (level m.qos) (level n.qos)) _ payload.1 in
@@ -87,6 +88,12 @@ messages m n h =
     let same : record { payload = m.payload; qos = m.qos; received = m.received; expiry = m.expiry; properties = m.properties }
     ≡ record { payload = n.payload; qos = n.qos; received = n.received; expiry = n.expiry; properties = n.properties } = cc (a, b, c, d, e) in
     same
+
+-- `==` of messages decides whether they are one
+pub messages_decide : (m n : MessageValue) (b : Bool) → b ≡ message_eq m n → Decides b (m ≡ n)
+messages_decide m n b is =
+    let P : MessageValue → Type 0 = λ x. message_eq m x ≡ true in
+    ((λ h. messages m n (sym is ∙ h)), (λ same. is ∙ subst P same (message_eq_equiv.refl m)))
 
 -- two entries of one origin and one operation
 pub entries : (a b : Entry) → a.origin.place ≡ b.origin.place → a.origin.serial ≡ b.origin.serial → a.operation ≡ b.operation → a ≡ b

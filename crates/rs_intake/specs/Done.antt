@@ -1,4 +1,4 @@
--- What was done with the jobs that the writer took, and what their lines were told.
+-- What was done with the jobs that the writer took, and what their lines were told. A line is told what is sent by its way back.
 use Rattle.std.specs.Prelude.{ℕ, ◌≡◌, ◌-◌, Bool, true, false, List, [], ◌∷◌, ◌++◌, length, slice_set, slice_index_or, Result, Ok, Err}
 use Rattle.std.specs.List.{filter}
 use Rattle.rs_message.specs.declared.entry.Entry.{Entry}
@@ -7,6 +7,7 @@ use Rattle.rs_store.specs.Adding.{Adds}
 use Rattle.rs_store.specs.History.{MayNotCome}
 use Rattle.rs_store.specs.declared.fault.Refusal.TheVariants as refusal
 use Rattle.rs_version.specs.Receipts.{ReceiptValue}
+use Rattle.rs_version.specs.Writer.{Refuses, Written, kept_of, shows}
 use Rattle.rs_version.specs.declared.fault.PutFault.{PutFault}
 use Rattle.rs_version.specs.declared.fault.PutFault.TheVariants.{Full, Held, NoMemory, Stale}
 use Rattle.rs_intake.specs.Sweeps.{IsSweptAtMost}
@@ -20,12 +21,19 @@ pub record ReplyValue : Type 0 where
   pub origin : Origin
   pub answer : Answer
 
--- the receipt is for the job, which is the last entry of this list, and tells the list
+-- the receipt is for the job, as the last entry of this list, and its token is of the list
 abbrev pub IsReceiptFor : Entry → ReceiptValue → List Entry → Type 0
 IsReceiptFor job r kept = (r.entry ≡ job) × (r.number ≡ length kept) × (r.told ≡ kept)
 
--- What the answer to a job says of the list that was kept before it and of the one that is kept then. A receipt, 33: the job follows,
--- behind the Sweep that it needs. 30: it may not come, and the list is the same. 32: at most the Sweep that it needs follows
+-- What a put of the job leaves, by its answer. A receipt: the job is published, behind the Sweep that it needs, and nothing is held. A
+-- refusal: what it says of the published list and of the held entry
+abbrev pub IsPut : ℕ → Written → Entry → Answer → Written → Type 0
+IsPut limit w job (Ok r) w' = Adds limit (kept_of w) job (λ list. w' ≡ shows list) × IsReceiptFor job r w'.published
+IsPut limit w job (Err f) w' = Refuses limit w job f w'
+
+-- What the answer to a job says of the kept list before the job and after it. A receipt, 33: the job follows, behind the Sweep that it
+-- needs, if it needs one. 30: the job may not come, and the list is the same. 32: the list is the same, or has the Sweep that the job
+-- needs. 31 never comes
 abbrev pub IsDone : ℕ → List Entry → Entry → Answer → List Entry → Type 0
 IsDone limit kept job (Ok r) kept' = Adds limit kept job (λ list. kept' ≡ list) × IsReceiptFor job r kept'
 IsDone limit kept job (Err Held) kept' = Adds limit kept job (λ list. kept' ≡ list)
@@ -33,7 +41,8 @@ IsDone limit kept job (Err Full) kept' = MayNotCome limit kept job refusal.Full 
 IsDone limit kept job (Err NoMemory) kept' = IsSweptAtMost limit kept job kept'
 IsDone limit kept job (Err Stale) kept' = ⊥
 
--- each job in turn got the answer of its place in the list, and was done as that says
+-- one answer for each job, in their order: from the first list on, each answer says what the job made of the kept list, and the last
+-- list comes of it
 abbrev pub AreDone : ℕ → List Entry → List Entry → List Answer → List Entry → Type 0
 AreDone limit kept [] [] kept' = kept' ≡ kept
 AreDone limit kept (job ∷ jobs) (answer ∷ told) kept' = (next : List Entry) × IsDone limit kept job answer next × AreDone limit next jobs told kept'
@@ -52,6 +61,6 @@ is_refused (Err Stale) = true
 abbrev pub refused_in : List Answer → ℕ
 refused_in told = length (filter is_refused told)
 
--- what each line was told, after the line of this origin's place was told this
+-- what each line was told, once the line of this origin's place was told this answer behind all else
 abbrev pub told_more : List (List ReplyValue) → Origin → Answer → List (List ReplyValue)
 told_more told origin answer = slice_set told (origin.place - 1) (slice_index_or told (origin.place - 1) [] ++ record { origin = origin; answer = answer } ∷ [])

@@ -9,7 +9,7 @@ use Rattle.rs_intake.specs.declared.ending.Cause.TheVariants.{AllEnded, MostTake
 abbrev pub HaveEnded : ℕ → List ℕ → Type 0
 HaveEnded places ends = (place : ℕ) → 0 < place → place ≤ places → length (at_place place ends) ≡ 1
 
--- the End of each place was taken, or so many jobs, or the queue was gone
+-- why the loop ended: one End of each place was taken; or as many jobs as may be; or a receive failed, of which no more is known
 abbrev pub IsCause : ℕ → ℕ → Received → Cause → Type 0
 IsCause places most jobs AllEnded = HaveEnded places jobs.ends
 IsCause places most jobs MostTaken = most ≤ length jobs.entries

@@ -7,9 +7,10 @@ use Rattle.rs_intake.specs.declared.rule.PassView.{PassView}
 use Rattle.rs_intake.specs.declared.rule.Job.{Job}
 use Rattle.rs_message.specs.Messages.{is_sweep}
 use Rattle.rs_message.specs.declared.entry.Entry.{Entry}
-use Rattle.rs_intake.specs.Done.{Answer, AreDone, refused_in}
+use Rattle.rs_intake.specs.Done.{Answer, AreDone, ReplyValue, refused_in}
 use Rattle.rs_intake.specs.Parts.{IsPart}
 use Rattle.rs_intake.specs.Sweeps.{AreForJobs, without_sweeps}
+use Rattle.rs_intake.specs.ReplyRule.{Replies, WayView}
 use Rattle.rs_intake.specs.QueueRule.{Delivers, Keeps, at_place, of_place}
 
 -- whatever the queue holds: what the writer took of a place is a prefix of what the line of that place sent
@@ -26,6 +27,13 @@ EndIsLast = (items : List Job) (views : List PassView) (i j : ℕ) (writer line 
     → get_elem? views j ≡ some line → line.sends ≡ true
     → length (at_place line.from writer.ends) ≡ 1
     → of_place line.from writer.entries ≡ line.entries
+
+-- whatever a way back holds: what the line received is a prefix of what the writer's end sent
+abbrev pub HeardInOrder : Type 0
+HeardInOrder = (items : List ReplyValue) (views : List WayView) (i j : ℕ) (writer line : WayView) → Replies items views
+    → get_elem? views i ≡ some writer → writer.sends ≡ true
+    → get_elem? views j ≡ some line → line.receives ≡ true
+    → IsPrefix line.replies writer.replies
 
 -- whatever the lines were told of jobs that are no Sweeps: what is kept then, without its Sweeps, is a part of the jobs, which lacks as
 -- many of them as were refused; and each Sweep is the one that a job needed there

@@ -7,5 +7,6 @@ pub mod Names
 pub mod Parts
 pub mod QueueRule
 pub mod Refusals
+pub mod ReplyRule
 pub mod Settling
 pub mod Sweeps

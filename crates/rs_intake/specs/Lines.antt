@@ -23,7 +23,7 @@ next_serial serial = min (serial + 1) (2 ^ 64 - 1)
 abbrev pub job : ℕ → ℕ → Operation → Entry
 job place serial operation = record { origin = record { place = place; serial = serial }; operation = operation }
 
--- a place, the last serial that it used, what was sent from it, and the replies that came
+-- a place, the last serial that it used, what was sent from it, and the replies that it received
 pub record Line : Type 0 where
   pub place : ℕ
   pub serial : ℕ
@@ -35,14 +35,14 @@ pub record Open : Type 0 where
   pub place : ℕ
   pub sent : List Entry
 
--- a place, what was sent from it, the End behind that, and that the queue was gone, if it was
+-- a place, what was sent from it, the places of the Ends that were sent behind that, and whether the send of the End failed
 pub record Closed : Type 0 where
   pub place : ℕ
   pub sent : List Entry
   pub ends : List ℕ
   pub gone : Option Gone
 
--- one End was sent from the place, or none since the queue was gone
+-- one End was sent, which is the place's own; or none, since its send failed
 abbrev pub IsClosed : ℕ → List ℕ → Option Gone → Type 0
 IsClosed place ends None = ends ≡ place ∷ []
 IsClosed place ends (Some gone) = ends ≡ []

@@ -104,7 +104,7 @@ ClosesLine ends v = v.sends ≡ true → v.ends ≡ at_place v.from ends
 abbrev pub ClosesTaker : List ℕ → List ℕ → PassView → Type 0
 ClosesTaker ended ends v = v.takes ≡ true → (v.ends ≡ ended) × ((place : ℕ) → IsOutside v.made place → at_place place ends ≡ [])
 
--- each line sends one End at most, and nothing behind it
+-- each line sends one End at most, and nothing behind it: neither in the queue, nor behind an End that was taken
 abbrev pub Closes : List Job → List PassView → Type 0
 Closes items views =
     (ended : List ℕ)

@@ -9,6 +9,6 @@ pub enum Cause {
     AllEnded,
     /// As many jobs were taken as may be.
     MostTaken,
-    /// All lines and their ends were gone.
+    /// A receive failed: all lines and their ends were gone.
     QueueGone(Gone),
 }

@@ -6,7 +6,7 @@ ghost use Rattle.rs_message.specs.declared.fault.SubmitFault.TheVariants.{Closed
 ghost use Rattle.rs_store.specs.History.{IsLegal};
 ghost use Rattle.rs_version.specs.Receipts.{StandsAt};
 ghost use Rattle.rs_intake.specs.Lines.{AddsAtMost, job, next_serial};
-ghost use Rattle.rs_intake.specs.Refusals.{IsRefused, Says, fault_for};
+ghost use Rattle.rs_intake.specs.Refusals.{IsFaultOfReply, IsRefused, fault_for};
 
 use crate::line::SeatLine;
 use crate::name::LineName;
@@ -23,7 +23,7 @@ pub struct Intake<N: LineName> {
     pub(crate) of: PhantomData<N>,
 }
 
-/// What the writer's refusal says to the place.
+/// The fault that a line answers for the writer's refusal.
 fn fault_of(fault: PutFault) -> SubmitFault
     ensures fault { result ≡ fault_for fault }
     ensures open { result ≢ Closed }
@@ -36,14 +36,14 @@ fn fault_of(fault: PutFault) -> SubmitFault
     }
 }
 
-/// The receipt or the refusal, if the reply is for this entry.
+/// The receipt for this entry, or why the reply has none.
 pub(crate) fn read<N: LineName>(reply: Reply<N>, entry: &Entry) -> Result<Receipt<N>, SubmitFault>
     ensures entry { IfOk result (λ r. r.entry ≡ entry.now) }
     ensures stands { IfOk result (λ r. StandsAt r.entry r.number r.told) }
     ensures legal { IfOk result (λ r. IsLegal N.limit r.told) }
     ensures open { IfErr result (λ f. f ≢ Closed) }
-    ensures refused { IfErr result (λ f. Says entry.now.origin reply f) }
-    ensures told { reply.origin ≡ entry.now.origin → IfErr reply.answer (λ f. result ≡ Err (fault_for f)) }
+    ensures came { IfOk result (λ r. reply ≡ record { origin = entry.now.origin; answer = Ok r }) }
+    ensures refused { IfErr result (λ f. IsFaultOfReply entry.now reply f) }
 {
     let Reply { origin, answer } = reply;
     if origin != entry.origin {
@@ -64,7 +64,8 @@ pub(crate) fn read<N: LineName>(reply: Reply<N>, entry: &Entry) -> Result<Receip
 
 impl<N: LineName> Intake<N> {
     /// Hands the operation, which is no Sweep, to the writer under the line's next serial, and waits for the receipt. The serial is
-    /// used whatever is answered, unless there is no further one. The writer may make a Sweep first, so that there is room.
+    /// used whatever is answered, unless there is no further one. The writer may make a Sweep first, so that there is room. The
+    /// contract also says which reply came (`heard`), if one came.
     ///
     /// # Errors
     ///
@@ -82,11 +83,12 @@ impl<N: LineName> Intake<N> {
         ensures place { line.new.place ≡ line.old.place }
         ensures serial { line.new.serial ≡ next_serial line.old.serial }
         ensures sent { AddsAtMost line.old.sent (job line.old.place line.new.serial operation) line.new.sent }
-        ensures refused { IfErr result (λ f. IsRefused line.old line.new f) }
+        ensures refused { IfErr result (λ f. IsRefused line.old line.new (job line.old.place line.new.serial operation) f) }
         ensures closed { IfErr result (λ f. f ≡ Closed → line.new.sent ≡ line.old.sent) }
         ensures entry { IfOk result (λ r. r.entry ≡ job line.old.place line.new.serial operation) }
         ensures above { IfOk result (λ r. line.new.serial ≡ line.old.serial + 1) }
         ensures last { IfOk result (λ r. line.new.sent ≡ line.old.sent ++ r.entry ∷ []) }
+        ensures heard { IfOk result (λ r. line.new.heard ≡ line.old.heard ++ record { origin = r.entry.origin; answer = Ok r } ∷ []) }
         ensures stands { IfOk result (λ r. StandsAt r.entry r.number r.told) }
         ensures legal { IfOk result (λ r. IsLegal N.limit r.told) }
     {

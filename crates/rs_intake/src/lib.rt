@@ -2,7 +2,8 @@
 //!
 //! Each place has a line ([`SeatLine`]). [`Intake::submit`] sends an operation by the line, under the line's next serial, and
 //! waits for the receipt of just that entry. [`run_writer`] takes jobs from the [`Queue`], puts each into the store, and answers
-//! its line. What it takes of a place is at every moment a prefix of what the line sent ([`line_order_law`]).
+//! its line. What it takes of a place is at every moment a prefix of what the line sent ([`line_order_law`]), and what a line has
+//! received of the replies is a prefix of those that were sent to it ([`reply_order_law`]).
 //!
 //! [`SeatLine::close`] ends a line. When all lines and the writer have ended, [`settle`] says whether all that was sent was taken.
 //! A type that implements [`LineName`] ties all of these to one store and one queue, and [`BlankQueue::open`] makes them.
@@ -33,7 +34,7 @@ pub use blank::{BlankQueue, blank_queue};
 pub use ending::Cause;
 pub use fault::SettleFault;
 pub use intake::Intake;
-pub use law::{line_order_law, told_law};
+pub use law::{line_order_law, reply_order_law, told_law};
 pub use line::{LineEnd, SeatLine};
 pub use name::LineName;
 pub use rule::{Change, Job};

@@ -89,7 +89,7 @@ impl<N: LineName> OpenLine<N> {
         }
     }
 
-    /// Tells the writer that the line sends nothing more.
+    /// Sends the End, which tells the writer that the line sends nothing more.
     fn finish<R: Wait>(self, rt: &R) -> LineEnd<N>
         ensures { (result.place ≡ self.place) × (result.sent ≡ self.sent) }
     {
@@ -116,7 +116,7 @@ impl<N: LineName> OpenLine<N> {
 }
 
 /// What is left of a line: its place, and what the queue took from it. Contracts see the entries of these jobs, and the End that the
-/// queue took behind them. It took none only if it was gone.
+/// queue took behind them. If it took none, the send of the End has failed, and the line's end keeps its [`Gone`].
 #[derive(Drop)]
 pub struct LineEnd<N: LineName> {
     place: u8,
@@ -267,8 +267,8 @@ impl<N: LineName> SeatLine<N> {
         self.replies.wait(rt)
     }
 
-    /// Gives the line up, and tells the writer so: it sends one End, if the queue is not gone, and nothing behind it. The line's end
-    /// keeps what the queue took from the line.
+    /// Gives the line up: it sends one End, and nothing after it. If the queue is gone, it sends none. The line's end keeps what the
+    /// queue took from the line.
     pub fn close<R: Wait>(self, rt: &R) -> LineEnd<N>
         ensures place { result.place ≡ self.place }
         ensures sent { result.sent ≡ self.sent }

@@ -14,7 +14,7 @@ use std::collections::LinkedList;
 use std::marker::Model;
 use std::sync::Wait;
 
-/// What the writer answers for the job of an origin.
+/// What the writer answers to the job of this origin: a receipt, or why there is none.
 #[derive(Drop)]
 pub struct Reply<N: StoreName> {
     pub origin: Origin,
@@ -30,7 +30,7 @@ impl<N: StoreName> Model for Reply<N> {
 }
 
 impl<N: StoreName> Reply<N> {
-    /// Whether it says that the job is not kept.
+    /// Whether the job is not kept. One that is held is kept.
     pub fn is_refused(&self) -> bool
         ensures { result ≡ is_refused self.now.answer }
     {
@@ -41,90 +41,106 @@ impl<N: StoreName> Reply<N> {
     }
 }
 
-/// The rule of a way back. It asks nothing, so that a pass of it may count replies: all that were sent, or all that came.
+/// What a pass of a way back knows: the replies that it sent or received. No value of it is made.
+pub struct WayPass<N: StoreName> {
+    pub sends: bool,
+    pub receives: bool,
+    pub replies: LinkedList<Reply<N>>,
+}
+
+impl<N: StoreName> Model for WayPass<N> {
+    ghost use Rattle.rs_intake.specs.ReplyRule.{WayView};
+
+    ghost Value = { WayView };
+
+    ghost view = { λ p. record { sends = p.sends; receives = p.receives; replies = p.replies } };
+}
+
+/// The rule of a way back: what the line received, followed by what the way back holds, is what the writer's end sent.
 pub struct ReplyRule;
 
-impl<N: StoreName> Protocol<Reply<N>, LinkedList<Reply<N>>> for ReplyRule {
-    ghost use Rattle.std.specs.Prelude.{[]};
+impl<N: StoreName> Protocol<Reply<N>, WayPass<N>> for ReplyRule {
+    ghost use Rattle.rs_intake.specs.ReplyRule.{Replies, both_ends};
 
-    ghost holds = { λ items views. Unit {0} };
+    ghost holds = { Replies };
 
-    ghost first = { [] };
+    ghost first = { both_ends };
 }
 
 /// A send or a receive: the reply joins those before it.
 struct Counting;
 
-impl<N: StoreName> Outcome<Reply<N>, LinkedList<Reply<N>>> for Counting {
-    ghost use Rattle.std.specs.Prelude.{◌≡◌, ◌∷◌, ◌++◌, []};
+impl<N: StoreName> Outcome<Reply<N>, WayPass<N>> for Counting {
+    ghost use Rattle.rs_intake.specs.ReplyRule.{Counts};
 
-    ghost then = { λ replies reply more. more ≡ replies ++ reply ∷ [] };
+    ghost then = { Counts };
 }
 
-impl<N: StoreName> Lesson<Reply<N>, LinkedList<Reply<N>>> for Counting {
-    ghost fact = { λ replies items. Unit {0} };
+impl<N: StoreName> Lesson<Reply<N>, WayPass<N>> for Counting {
+    ghost fact = { λ v items. Unit {0} };
 }
 
-struct Same;
+/// The line's pass, which is cut off the writer's.
+struct Ends;
 
-impl<N: StoreName> Split<LinkedList<Reply<N>>> for Same {
-    ghost left = { λ v. v };
+impl<N: StoreName> Split<WayPass<N>> for Ends {
+    ghost use Rattle.rs_intake.specs.ReplyRule.{receiving_end, sending_end};
 
-    ghost right = { λ v. v };
+    ghost left = { sending_end };
+
+    ghost right = { receiving_end };
 }
 
 /// The writer's end. Contracts see the replies that were sent.
 #[derive(Drop)]
 pub struct ReplySender<N: StoreName> {
-    to: RuledSender<Reply<N>, LinkedList<Reply<N>>, ReplyRule>,
-    pass: Pass<Reply<N>, LinkedList<Reply<N>>>,
+    to: RuledSender<Reply<N>, WayPass<N>, ReplyRule>,
+    pass: Pass<Reply<N>, WayPass<N>>,
 }
 
 impl<N: StoreName> Model for ReplySender<N> {
-    ghost use Rattle.std.specs.Prelude.{List};
+    ghost use Rattle.std.specs.Prelude.{◌≡◌, List, true, false};
     ghost use Rattle.crossbeam_channel.specs.Claims.{view as known_by, IsSeatAt};
     ghost use Rattle.crossbeam_channel.specs.Ends.{sends_on};
     ghost use Rattle.rs_intake.specs.Done.{ReplyValue};
 
     ghost Value = { List ReplyValue };
 
-    ghost view = { λ s. known_by s.pass };
+    ghost view = { λ s. (known_by s.pass).replies };
 
-    ghost invariant = { λ s. IsSeatAt (sends_on s.to) s.pass };
+    ghost invariant = { λ s. IsSeatAt (sends_on s.to) s.pass × ((known_by s.pass).sends ≡ true) × ((known_by s.pass).receives ≡ false) };
 }
 
 /// The line's end. Contracts see the replies that came.
 #[derive(Drop)]
 pub struct ReplyReceiver<N: StoreName> {
-    from: RuledReceiver<Reply<N>, LinkedList<Reply<N>>, ReplyRule>,
-    pass: Pass<Reply<N>, LinkedList<Reply<N>>>,
+    from: RuledReceiver<Reply<N>, WayPass<N>, ReplyRule>,
+    pass: Pass<Reply<N>, WayPass<N>>,
     patience: Patience,
 }
 
 impl<N: StoreName> Model for ReplyReceiver<N> {
-    ghost use Rattle.std.specs.Prelude.{List};
+    ghost use Rattle.std.specs.Prelude.{◌≡◌, List, true, false};
     ghost use Rattle.crossbeam_channel.specs.Claims.{view as known_by, IsSeatAt};
     ghost use Rattle.crossbeam_channel.specs.Ends.{receives_on};
     ghost use Rattle.rs_intake.specs.Done.{ReplyValue};
 
     ghost Value = { List ReplyValue };
 
-    ghost view = { λ r. known_by r.pass };
+    ghost view = { λ r. (known_by r.pass).replies };
 
-    ghost invariant = { λ r. IsSeatAt (receives_on r.from) r.pass };
+    ghost invariant = { λ r. IsSeatAt (receives_on r.from) r.pass × ((known_by r.pass).receives ≡ true) × ((known_by r.pass).sends ≡ false) };
 }
 
-/// The two ends of the way back to one line, of which nothing was sent. It has room for one reply, since a line waits for one at
+/// The two ends of the way back to one line, by which nothing was sent. It has room for one reply, since a line waits for one at
 /// most.
 pub fn way_back<N: StoreName>(
     alloc: Global,
 ) -> Result<(ReplySender<N>, ReplyReceiver<N>), AllocError>
     ensures { IfOk result (λ r. (r.0 ≡ []) × (r.1 ≡ [])) }
 {
-    let (to, from, mut pass) = bounded_with::<Reply<N>, LinkedList<Reply<N>>, ReplyRule, Global>(
-        alloc, 1,
-    )?;
-    let other = to.another::<Same>(&mut pass);
+    let (to, from, mut pass) = bounded_with::<Reply<N>, WayPass<N>, ReplyRule, Global>(alloc, 1)?;
+    let other = to.another::<Ends>(&mut pass);
     Ok((
         ReplySender { to, pass },
         ReplyReceiver {
@@ -136,11 +152,11 @@ pub fn way_back<N: StoreName>(
 }
 
 impl<N: StoreName> ReplySender<N> {
-    /// Takes no memory. A reply for which no line waits any more is dropped.
+    /// Sends a reply. It takes no memory. If the line is gone, the reply is dropped.
     pub fn send<R: Wait>(&mut self, rt: &R, reply: Reply<N>) -> Result<(), Gone>
         ensures { MatchResult result (λ _. self.new ≡ self.old ++ reply ∷ []) (λ _. self.new ≡ self.old) }
     {
-        waiting::send::<Reply<N>, LinkedList<Reply<N>>, ReplyRule, Counting, R>(
+        waiting::send::<Reply<N>, WayPass<N>, ReplyRule, Counting, R>(
             rt,
             &self.to,
             &mut self.pass,
@@ -150,11 +166,11 @@ impl<N: StoreName> ReplySender<N> {
 }
 
 impl<N: StoreName> ReplyReceiver<N> {
-    /// `None` if the writer is gone.
+    /// Waits for the next reply. `None` if the writer is gone.
     pub fn wait<R: Wait>(&mut self, rt: &R) -> Option<Reply<N>>
         ensures { MatchOption result (self.new ≡ self.old) (λ reply. self.new ≡ self.old ++ reply ∷ []) }
     {
-        receive::<Reply<N>, LinkedList<Reply<N>>, ReplyRule, Counting, R>(
+        receive::<Reply<N>, WayPass<N>, ReplyRule, Counting, R>(
             rt,
             &self.from,
             &mut self.pass,

@@ -1,23 +1,23 @@
 //! Whether two entries are equal, so that contracts see them as one.
 
-ghost use Rattle.std.specs.Prelude.{◌≡◌, true};
+ghost use Rattle.std.specs.Prelude.{◌≡◌, Decides};
 
 use rs_message::{Entry, Message, Operation};
 
 fn is_same_bytes(one: &[u8], other: &[u8]) -> bool
-    ensures { result ≡ true → one.now ≡ other.now }
+    ensures { Decides result (one.now ≡ other.now) }
 {
     one == other
 }
 
 fn is_same_message(one: &Message, other: &Message) -> bool
-    ensures { result ≡ true → one.now ≡ other.now }
+    ensures { Decides result (one.now ≡ other.now) }
 {
     one == other
 }
 
 fn is_same_operation(one: &Operation, other: &Operation) -> bool
-    ensures { result ≡ true → one.now ≡ other.now }
+    ensures { Decides result (one.now ≡ other.now) }
 {
     match one {
         Operation::Set(topic, message) => match other {
@@ -46,7 +46,7 @@ fn is_same_operation(one: &Operation, other: &Operation) -> bool
 /// Whether the entries are equal.
 #[tactic(auto, using(crate::proofs::Sameness::entries))]
 pub fn is_same(one: &Entry, other: &Entry) -> bool
-    ensures { result ≡ true → one.now ≡ other.now }
+    ensures { Decides result (one.now ≡ other.now) }
 {
     one.origin.place() == other.origin.place()
         && one.origin.serial() == other.origin.serial()

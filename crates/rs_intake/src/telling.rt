@@ -1,11 +1,10 @@
-//! Putting a job, and telling its line what the writer answers.
+//! Putting a job, and sending the writer's answer to its line.
 
-ghost use Rattle.std.specs.Prelude.{◌≡◌, ◌≢◌, ◌<◌, ◌≤◌, false, length, IfErr, IfOk, MatchResult};
+ghost use Rattle.std.specs.Prelude.{◌≡◌, ◌<◌, ◌≤◌, false, length, MatchResult};
 ghost use Rattle.rs_message.specs.Messages.{is_sweep};
 ghost use Rattle.rs_store.specs.History.{SerialsRise, extended};
-ghost use Rattle.rs_version.specs.Writer.{Refuses, kept_of};
-ghost use Rattle.rs_version.specs.declared.fault.PutFault.TheVariants.{Stale};
-ghost use Rattle.rs_intake.specs.Done.{Answer, IsDone, is_refused, told_more};
+ghost use Rattle.rs_version.specs.Writer.{kept_of};
+ghost use Rattle.rs_intake.specs.Done.{Answer, IsDone, IsPut, is_refused, told_more};
 
 use crate::name::LineName;
 use crate::reply::{Reply, ReplySender};
@@ -14,22 +13,21 @@ use rs_message::Entry;
 use rs_version::VersionWriter;
 use std::sync::Wait;
 
-/// Puts a job: what its line is told. A Sweep may have been appended before it, or without it. It stands beside the sending, so that
-/// contracts tie what is told to what was done.
+/// Puts a job, and makes the reply to its line. A Sweep may have been appended before the job, or without it.
 fn reply_to<N: LineName, R: Wait + Drop>(writer: &mut VersionWriter<N, R>, job: Entry) -> Reply<N>
     requires no_sweep { is_sweep job.operation ≡ false }
     requires rises { SerialsRise (extended (kept_of writer.old) job) }
     ensures done { IsDone N.limit (kept_of writer.old) job result.answer (kept_of writer.new) }
     ensures origin { result.origin ≡ job.origin }
-    ensures receipt { IfOk result.answer (λ r. (r.entry ≡ job) × (r.number ≡ length (kept_of writer.new)) × (r.told ≡ writer.new.published)) }
-    ensures refusal { IfErr result.answer (λ f. (f ≢ Stale) × Refuses N.limit writer.old job f writer.new) }
+    ensures put { IsPut N.limit writer.old job result.answer writer.new }
 {
     let origin = job.origin;
     let answer = writer.put(job);
     Reply { origin, answer }
 }
 
-/// The ways back to the lines, that of place 1 first. Only by [`WaysBack::put_job`] anything is sent.
+/// The writer's ends of the ways back to the lines, that of place 1 first. What a line is told is what is sent by its way back, and
+/// only [`WaysBack::put_job`] sends.
 #[derive(Drop)]
 pub struct WaysBack<N: LineName> {
     senders: Vec<ReplySender<N>>,
@@ -42,8 +40,8 @@ impl<N: LineName> WaysBack<N> {
         WaysBack { senders }
     }
 
-    /// Puts a job, and tells its line the answer, and nothing else to any line. Whether the job is refused; and that its line is
-    /// gone, if it is.
+    /// Puts a job, tells its line the answer, and tells no line anything else. The result is whether the job is refused, and whether
+    /// the reply could be sent, which fails if the line is gone.
     pub(crate) fn put_job<R: Wait + Drop, W: Wait>(
         &mut self,
         rt: &W,
@@ -54,6 +52,7 @@ impl<N: LineName> WaysBack<N> {
         requires place { (0 < job.origin.place) × (job.origin.place ≤ length self.old.senders.items) }
         requires rises { SerialsRise (extended (kept_of writer.old) job) }
         ensures done { (answer : Answer) × IsDone N.limit (kept_of writer.old) job answer (kept_of writer.new) × (result.0 ≡ is_refused answer)
+            × IsPut N.limit writer.old job answer writer.new
             × MatchResult result.1 (λ _. self.new.senders.items ≡ told_more self.old.senders.items job.origin answer) (λ _. self.new.senders.items ≡ self.old.senders.items) }
         ensures ways { length self.new.senders.items ≡ length self.old.senders.items }
     {
@@ -64,7 +63,7 @@ impl<N: LineName> WaysBack<N> {
         (is_refused, sent)
     }
 
-    /// Tells a line what it should not be told.
+    /// Tells the line of the reply's origin what no put has answered.
     #[cfg(test)]
     pub(crate) fn tell<W: Wait>(&mut self, rt: &W, reply: Reply<N>) {
         let at = reply.origin.place() as usize - 1;

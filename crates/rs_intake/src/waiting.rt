@@ -10,7 +10,8 @@ use crossbeam_channel::{Pass, RuledReceiver, RuledSender, TryRecvError};
 use std::hint::spin_loop;
 use std::sync::Wait;
 
-/// The other ends of a channel were gone. Only a send or a receive that failed makes it, so who has it has tried.
+/// A send or a receive failed: the other ends of its channel were gone. Only the two functions below make such a value, and only
+/// after a call that failed, so it stands for that call in contracts.
 #[derive(Drop)]
 pub struct Gone {
     seen: (),

@@ -84,7 +84,7 @@ impl<N: LineName> Queue<N> {
     }
 }
 
-/// What the writer's loop leaves.
+/// What [`run_writer`] leaves.
 #[derive(Drop)]
 pub struct Ended<N: LineName, R: Wait + Drop> {
     /// The writer.
@@ -133,9 +133,13 @@ impl<N: LineName, R: Wait + Drop> Ended<N, R> {
 /// - all lines and their ends are gone, or
 /// - it has taken `u64::MAX` jobs.
 ///
-/// Then it tries once more to publish a held entry. There is a list of answers, one for each job in turn, by which the kept list came
-/// to be (`AreDone`). Of what the writer keeps, all but the Sweeps are jobs. Each Sweep is the one that
-/// a job needed there.
+/// Then it tries once more to publish a held entry.
+///
+/// The contract says what became of each job (`done`). There is one answer for each job that was taken, in their order. After a
+/// receipt, or an answer that the job is held, the kept list is the one before, then the Sweep that the job needs, if it needs one, then
+/// the job. After a full store the list is the same, and the job may not come. After want of memory the list is the same, or has the
+/// Sweep that the job needs. So what the writer keeps, without its Sweeps, is a part of the jobs (`part`), and each Sweep is the one
+/// that a job needed there (`sweeps`).
 pub fn run_writer<N: LineName, R: Wait + Drop, W: Wait>(
     rt: &W,
     queue: Queue<N>,

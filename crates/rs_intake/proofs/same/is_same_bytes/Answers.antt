@@ -3,4 +3,4 @@ use Rattle.std.proofs.lemmas.Slice.Eq.{slice_eq-Decides}
 use Rattle.rs_intake.proofs.same.is_same_bytes.Goals as goal
 
 pub returns : goal.returns
-returns c = (slice_eq-Decides Decides-eqb _ _ _ c.eq.ensures).0
+returns c = slice_eq-Decides Decides-eqb _ _ _ c.eq.ensures

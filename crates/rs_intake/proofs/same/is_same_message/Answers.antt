@@ -1,6 +1,5 @@
-use Rattle.std.proofs.Common.{sym, ◌∙◌}
-use Rattle.rs_intake.proofs.Sameness.{messages}
+use Rattle.rs_intake.proofs.Sameness.{messages_decide}
 use Rattle.rs_intake.proofs.same.is_same_message.Goals as goal
 
 pub returns : goal.returns
-returns c = λ h. messages _ _ (sym c.eq.ensures ∙ h)
+returns c = messages_decide _ _ _ c.eq.ensures
