@@ -66,7 +66,9 @@ impl<N: LineName> WaysBack<N> {
     /// Tells the line of the reply's origin what no put has answered.
     #[cfg(test)]
     pub(crate) fn tell<W: Wait>(&mut self, rt: &W, reply: Reply<N>) {
-        let at = reply.origin.place() as usize - 1;
+        let Some(at) = (reply.origin.place() as usize).checked_sub(1) else {
+            return;
+        };
         if let Some(to) = self.senders.get_mut(at) {
             drop(to.send(rt, reply));
         }
