@@ -1,4 +1,4 @@
-use denote.Param.{param, copied}
+use denote.Param.{param}
 use Rattle.std.proofs.alloc.Global.TheSendSync as heap
 use Rattle.rs_intake.proofs.line.SeatLine.TheSendSync as line
 use Rattle.rs_version.proofs.Sent.{parts_send-5, seat_send, u64_send}
