@@ -37,8 +37,8 @@ fn run<
     R: Read,
 >(rt: &H, input: &mut R) -> Result<(), Failure> {
     let alloc = rt.alloc();
-    let words = env::args(rt)?.skip(1).collect::<Vec<String>>(rt.alloc())?;
-    let [name, rest @ ..] = words.as_slice() else {
+    let words = env::args(rt)?.collect::<Vec<String>>(rt.alloc())?;
+    let [_program, name, rest @ ..] = words.as_slice() else {
         return Err(Failure::Words);
     };
     match (name.as_str(), rest) {

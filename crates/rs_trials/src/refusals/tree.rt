@@ -45,6 +45,14 @@ struct Refused {
     copies: u32,
 }
 
+/// One more for the kind of place that the topic of this number has.
+fn counted(adds: [u32; 4], number: u32) -> [u32; 4] {
+    let mut adds = adds;
+    let place = (number % 4) as usize;
+    adds[place] = adds[place].saturating_add(1);
+    adds
+}
+
 /// A tree, and the filters that it is asked for.
 #[derive(Drop)]
 struct Run {
@@ -196,8 +204,7 @@ impl Run {
         }
         expect(self.shows(alloc, &before)?)?;
         expect(self.adds(again)?)?;
-        let place = (number % 4) as usize;
-        self.refused.adds[place] = self.refused.adds[place].saturating_add(1);
+        self.refused.adds = counted(self.refused.adds, number);
         Ok(())
     }
 
@@ -239,14 +246,14 @@ impl Run {
 
     /// A copy. If memory is refused for it, another one.
     fn copied(&mut self) -> Result<TreeCatalogue, Failure> {
-        let first = self.tree.copy();
-        self.refused.copies = self
-            .refused
-            .copies
-            .saturating_add(u32::from(first.is_err()));
-        first
-            .or_else(|_| self.tree.copy())
-            .map_err(|_| Failure::Wrong)
+        if let Ok(copy) = self.tree.copy() {
+            return Ok(copy);
+        }
+        self.refused.copies = self.refused.copies.saturating_add(1);
+        match self.tree.copy() {
+            Ok(copy) => Ok(copy),
+            Err(_) => Err(Failure::Wrong),
+        }
     }
 
     /// Copies the tree. The copy and the tree must show the same as before.
