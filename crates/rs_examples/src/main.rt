@@ -26,9 +26,9 @@ use std::{env, fs};
 
 /// The text of the file that the command line names.
 fn text_of<H: Files + Env + AllocGlobal>(rt: &H) -> Result<String, Problem> {
-    let words = env::args(rt)?.skip(1).collect::<Vec<String>>(rt.alloc())?;
+    let words = env::args(rt)?.collect::<Vec<String>>(rt.alloc())?;
     match words.as_slice() {
-        [path] => Ok(fs::read_to_string(rt, path.as_str())?),
+        [_program, path] => Ok(fs::read_to_string(rt, path.as_str())?),
         _ => Err(Problem::Words),
     }
 }

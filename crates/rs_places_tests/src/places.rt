@@ -83,7 +83,9 @@ fn gates_of<N: LineName, R: Wait + Copy>(
 ) -> Result<Vec<SharedGate<N, R>>, Fail> {
     let intake = Arc::new(alloc, intake)?;
     let mut gates = Vec::new(alloc);
-    for (seat, line) in seats.into_iter().zip(lines) {
+    let mut seats = seats.into_iter();
+    for line in lines {
+        let seat = seats.next().ok_or("a seat for each line")?;
         gates.push(gate_of(rt, &intake, seat, line)?)?;
     }
     Ok(gates)
