@@ -275,12 +275,17 @@ acknowledges_no_publish : (p : Packet) (a : window.Acknowledgement × ℕ) → a
 acknowledges_no_publish (packet.Publish p) a is = absurd (none-some a is)
 acknowledges_no_publish p a is = refl
 
+-- the row of a publication that is kept
+abbrev pub IsKept : OpenCase → Type 0
+IsKept Kept = Unit {0}
+IsKept case = ⊥
+
 abbrev IsEntered : Publish → ℕ → Mark → Mark → List Entry → Type 0
 IsEntered p now mark used list = (topic : List ℕ) × (operation : Operation) × (p.topic ≡ Ok topic) × (change p topic now ≡ Some operation) × IsSubmitted operation mark used list
 
 row_kept : (case : OpenCase) (given : Given) (from : Point Open) (answered : List (List Entry)) (outcome : Outcome) (to : Point Open) (p : Publish) (answer : Reply)
     → OpenRow case given from answered outcome to → given.input ≡ Whole (packet.Publish p) → p.retain ≡ true → is_held (held_id p.qos p.id) from.state.inbound ≡ false
-    → acknowledged_by p.qos p.id Success ≡ Some answer → outcome ≡ Replies (Some answer) → IsEntered p given.now from.mark to.mark to.seen
+    → acknowledged_by p.qos p.id Success ≡ Some answer → outcome ≡ Replies (Some answer) → IsKept case × IsEntered p given.now from.mark to.mark to.seen
 row_kept Connected_twice given from answered outcome to p answer (c, i, out, unchanged) is r f a o = no_publish given.input _ p i refl is
 row_kept Faulty given from answered outcome to p answer (k, i, out, unchanged) is r f a o = no_publish given.input _ p i refl is
 row_kept With_alias given from answered outcome to p answer (q, i, al, out, unchanged) is r f a o = no_answer outcome _ answer out refl o
@@ -293,7 +298,7 @@ row_kept Not_retained given from answered outcome to p answer (q, topic, i, take
     true_false p.retain r (sym (ap (λ (x : Publish). x.retain) (same_publish given.input p q i is)) ∙ not_retained)
 row_kept Kept given from answered outcome to p answer (q, topic, operation, i, s, submitted, out, same) is r f a o =
     let same_p : q ≡ p = same_publish given.input p q i is in
-    subst (λ (x : Publish). IsEntered x given.now from.mark to.mark to.seen) same_p (topic, operation, s.is_topic, s.changes, submitted)
+    (tt, subst (λ (x : Publish). IsEntered x given.now from.mark to.mark to.seen) same_p (topic, operation, s.is_topic, s.changes, submitted))
 row_kept Topic_unread given from answered outcome to p answer (q, i, taken, t, out, unchanged) is r f a o =
     one_code p answer a (sym (ap (λ (x : Publish). acknowledged_by x.qos x.id QuotaExceeded) (same_publish given.input p q i is)) ∙ same_answer outcome _ answer out o)
 row_kept Not_kept given from answered outcome to p answer (q, topic, operation, i, s, out, same) is r f a o =
@@ -316,6 +321,18 @@ open_or other phase.Before = other
 open_or other (phase.Open o) = o
 open_or other (phase.Ended closing) = other
 
+-- the row of a publication that the client was told is kept
+pub told_row : (from : Point State) (turn : Turn) (o : Open) (p : Publish) (answer : Reply) (at left : Open) (outcome : Outcome) (due : Option Reply) (mid : State) (case : OpenCase)
+    → from.state.phase ≡ phase.Open o → IsToldKept o turn p answer → from.state.phase ≡ phase.Open at
+    → OpenRow case turn.given (with_state from at) turn.answered outcome (with_state turn.to left) → due ≡ due_for at.window.packet_maximum outcome → mid ≡ state_after outcome from.state left
+    → GivesAll turn.given.now due mid turn.replies turn.to.state → IsKept case × IsEntered p turn.given.now from.mark turn.to.mark turn.to.seen
+told_row from turn o p answer at left outcome due mid case is told here row d same g =
+    let same_open : o ≡ at = ap (open_or o) (sym is ∙ here) in
+    let new : is_held (held_id p.qos p.id) at.inbound ≡ false = subst (λ (x : Open). is_held (held_id p.qos p.id) x.inbound ≡ false) same_open told.new in
+    let out : outcome ≡ Replies (Some answer) =
+    replied_by turn at.window.packet_maximum outcome left from.state mid due answer d same g (ack_by p.qos p.id Success answer told.code) (among answer turn.replies told.replied) in
+    row_kept case turn.given (with_state from at) turn.answered outcome (with_state turn.to left) p answer row told.input told.retained new told.code out
+
 turn_kept : (from : Point State) (turn : Turn) (o : Open) (p : Publish) (answer : Reply) (case : Case) (due : Option Reply) (mid : State) → from.state.phase ≡ phase.Open o → IsToldKept o turn p answer
     → SessionRow case turn.given from turn.answered due (with_state turn.to mid) → GivesAll turn.given.now due mid turn.replies turn.to.state
     → IsEntered p turn.given.now from.mark turn.to.mark turn.to.seen
@@ -327,11 +344,7 @@ turn_kept from turn o p answer Connack_too_long due mid is told (c, i, before, m
 turn_kept from turn o p answer Other_version due mid is told (i, before, u, d, same) g = shut (phase.Open o) phase.Before (sym is ∙ before) tt (λ n. n)
 turn_kept from turn o p answer Unexpected due mid is told (i, before, u, d, same) g = shut (phase.Open o) phase.Before (sym is ∙ before) tt (λ n. n)
 turn_kept from turn o p answer In_session due mid is told (at, left, outcome, here, (case, none, row), d, same) g =
-    let same_open : o ≡ at = ap (open_or o) (sym is ∙ here) in
-    let new : is_held (held_id p.qos p.id) at.inbound ≡ false = subst (λ (x : Open). is_held (held_id p.qos p.id) x.inbound ≡ false) same_open told.new in
-    let out : outcome ≡ Replies (Some answer) =
-    replied_by turn at.window.packet_maximum outcome left from.state mid due answer d same g (ack_by p.qos p.id Success answer told.code) (among answer turn.replies told.replied) in
-    row_kept case turn.given (with_state from at) turn.answered outcome (with_state turn.to left) p answer row told.input told.retained new told.code out
+    (told_row from turn o p answer at left outcome due mid case is told here row d same g).1
 turn_kept from turn o p answer Over due mid is told (closing, ended, u, d, same) g = shut (phase.Open o) (phase.Ended closing) (sym is ∙ ended) tt (λ n. n)
 
 -- ---- the lists of a gate

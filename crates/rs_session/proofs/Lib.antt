@@ -5,3 +5,4 @@ pub mod SubscriptionLemmas
 pub mod Limits
 pub mod Replaying
 pub mod Keeping
+pub mod Sending

@@ -37,7 +37,7 @@ use Rattle.rs_session.specs.declared.phase.Closing.{Closing}
 use Rattle.rs_session.specs.declared.phase.Closing.TheVariants.{ByClient, ByServer, Dropped}
 use Rattle.rs_session.specs.declared.phase.Phase.TheVariants as phase
 use Rattle.rs_session.specs.declared.phase.Input.TheVariants.{Whole, Broken}
-use Rattle.rs_session.specs.Gate.{Mark, Extends, Grows, GrowsAnswering, StandsAt, Uses, IsHandedOver}
+use Rattle.rs_session.specs.Gate.{Mark, Extends, Grows, GrowsAnswering, StandsAt, Uses, IsHandedOver, SendsAtMost, entry_by}
 use Rattle.rs_session.specs.Points.{Given, Point, given_at, point_at, with_state}
 use Rattle.rs_session.specs.Reasons.{code_of}
 use Rattle.rs_session.specs.declared.reason.ReasonCode.{ReasonCode}
@@ -50,7 +50,7 @@ use Rattle.rs_window.specs.Values.{PublishValue}
 use Rattle.rs_session.specs.Subscriptions.{Subscriptions, is_subscribed}
 use Rattle.rs_session.specs.declared.subscriptions.Subscription.{Subscription}
 use Rattle.rs_session.proofs.SubscriptionLemmas.{remove_inserted, get_absent}
-use Rattle.rs_session.proofs.Submitting.{nothing_new}
+use Rattle.rs_session.proofs.Submitting.{nothing_new, nothing_sent}
 use Rattle.rs_session.specs.Steps.{IsAccepted, connect_refusal, outcome_before, outcome_of_alias, outcome_of_topic, outcome_of_id, topic_refusal, IsSettled}
 use Rattle.rs_session.specs.Table.{Answers, AnswersWithoutGate, LeadsTo, IsNeitherConnectNorVersion, fault_reason, packet_limit, connack, open_for, change, topic_reason, acknowledged_by, held_id, is_held, is_one_too_many, holding, IsTaken, IsTopicOrUnread, IsHanded, acknowledgement_of, released_by, released_reason, is_shared_local, Grants, IsGranted, removal_reason, removal_codes, without, without_all, due_for, state_after, With_method, With_will, Connect_refused, Accepted, Connack_too_long, Other_version, Unexpected, In_session, Over, Faulty, With_alias, Bad_topic, Sent_again, Too_many_held, Not_retained, Kept, Topic_unread, Not_kept, Uncertain, Gate_closed, Released, Wrong_acknowledgement, Acknowledged, Shared_no_local, Not_subscribed, Subscribed, Not_unsubscribed, Unsubscribed, Connected_twice, Pinged, Disconnected}
 
@@ -273,6 +273,7 @@ not_kept p topic outcome now at e t r d =
           changes = ap (λ (retain : Bool). operation_of retain topic m) r;
           one_used = record { place = refl; no_lower = omega arith; no_higher = omega arith };
           no_other = nothing_new operation at.mark at.seen;
+          sent = inl (nothing_sent at.mark.sent);
         },
         d,
         refl,
@@ -304,12 +305,13 @@ settled p topic operation now from outcome to may h =
 
 pub submitted : {G : Type 0} (stands : G → List Entry → Type 0) (mark : G → Mark) (before after : G) (p : Publish) (topic : List ℕ) (operation : Operation) (now : ℕ) (outcome : Outcome) (old new : Open)
     → outcome_before p old ≡ None → p.topic ≡ Ok topic → change p topic now ≡ Some operation → Uses (mark before) (mark after)
+    → SendsAtMost (mark before).sent (entry_by operation (mark after)) (mark after).sent
     → Grows (stands before) (stands after) (λ seen list. IsHandedOver operation (mark after) seen list × IsSettled operation p.qos p.id (point_at old seen (mark before)) outcome (point_at new list (mark after)))
     → GrowsAnswering stands mark before after (λ seen answered list. LeadsTo (given_at (Whole (packet.Publish p)) now) (point_at old seen (mark before)) answered outcome (point_at new list (mark after)))
-submitted stands mark before after p topic operation now outcome old new e t c u h =
+submitted stands mark before after p topic operation now outcome old new e t c u sent h =
     none_answered stands mark before after (λ seen answered list. LeadsTo (given_at (Whole (packet.Publish p)) now) (point_at old seen (mark before)) answered outcome (point_at new list (mark after)))
     (Grows-weaker (stands before) (stands after) (λ seen list. IsHandedOver operation (mark after) seen list × IsSettled operation p.qos p.id (point_at old seen (mark before)) outcome (point_at new list (mark after))) _
-    (λ seen list k. settled p topic operation now (point_at old seen (mark before)) outcome (point_at new list (mark after)) (record { taken = (taken p old e).0; is_topic = t; changes = c; one_used = u; no_other = k.0 }) k.1) h)
+    (λ seen list k. settled p topic operation now (point_at old seen (mark before)) outcome (point_at new list (mark after)) (record { taken = (taken p old e).0; is_topic = t; changes = c; one_used = u; no_other = k.0; sent = sent }) k.1) h)
 
 -- ---- the filters of a SUBSCRIBE and of an UNSUBSCRIBE
 

@@ -1,5 +1,5 @@
 -- Lemmas on the gate with a catalogue of its own.
-use Rattle.std.proofs.Common.{◌≡◌, ◌≢◌, ◌⊎◌, inl, inr, ℕ, ◌+◌, ◌<◌, ◌≤◌, Bool, true, false, if◌then◌else◌, List, [], ◌∷◌, ◌++◌, length, refl, sym, ap, subst, ◌∙◌, Some, None, Ok, Err, arith, set, slice_index, append-nil}
+use Rattle.std.proofs.Common.{◌≡◌, ◌≢◌, ◌⊎◌, inl, inr, ℕ, ◌+◌, ◌<◌, ◌≤◌, Bool, true, false, if◌then◌else◌, List, [], ◌∷◌, ◌++◌, length, refl, sym, ap, subst, ◌∙◌, Option, Some, None, Ok, Err, arith, set, slice_index, append-nil}
 use Rattle.std.proofs.lemmas.List.{append_assoc, append_cancel_left, get_or-set_other, get_or-set_same, length-set}
 use Rattle.std.proofs.lemmas.List.Elements.{All-nil, All-cons, Contains-append_right}
 use Rattle.std.specs.Prelude.{Contains}
@@ -16,12 +16,17 @@ use Rattle.rs_store.specs.Adding.{Adds, NotAdds}
 use Rattle.rs_store.specs.Contents.{IsAdded, NeedsSweep, NotAddedBy, next_sweep, serial_count, swept}
 use Rattle.rs_store.specs.History.{Stands, cleaned, extended, sweep_after}
 use Rattle.rs_store.specs.declared.fault.Refusal.TheVariants as refusal
-use Rattle.rs_session.specs.Gate.{Mark, Extends, Grows, IsHandedOver, Submits, last_origin}
+use Rattle.rs_session.specs.Gate.{Mark, Extends, Grows, IsHandedOver, Sends, Submits, last_origin}
 use Rattle.rs_session.specs.Local.{local_mark, next_entry}
 
 pub origin_is : (b : Bool) (o v : OriginValue) → Some o ≡ (if b then Some v else None) → o ≡ v
 origin_is true o v e = cc
 origin_is false o v e = absurd (cc)
+
+-- nothing was sent
+pub nothing_sent : (sent : Option (List Entry)) → Sends sent [] sent
+nothing_sent None = tt
+nothing_sent (Some entries) = sym (append-nil entries)
 
 -- an entry of the gate's last serial has this operation
 abbrev IsOf : Operation → Mark → Entry → Type 0
@@ -80,7 +85,7 @@ submitted stands limit old new operation seen serial (inl a) =
       (e ∷ [], refl),
       record {
         handed_over = one_new operation (local_mark new) seen e (λ h. refl);
-        kept = record { entry = subst (Contains (seen ++ e ∷ [])) (named old new operation serial) (Contains-append_right seen (e ∷ []) e (0, omega arith, refl)); serial = omega (arith, serial) };
+        kept = record { entry = subst (Contains (seen ++ e ∷ [])) (named old new operation serial) (Contains-append_right seen (e ∷ []) e (0, omega arith, refl)); serial = omega (arith, serial); sent = tt };
       },
     )
 submitted stands limit old new operation seen serial (inr a) =
@@ -92,7 +97,7 @@ submitted stands limit old new operation seen serial (inr a) =
       (sweep ∷ e ∷ [], append_assoc seen (sweep ∷ []) (e ∷ [])),
       record {
         handed_over = two_new operation (local_mark new) seen sweep e (of_another operation (local_mark new) sweep (λ h. omega (arith, h))) (λ h. refl);
-        kept = record { entry = subst (Contains (clean ++ e ∷ [])) (named old new operation serial) (Contains-append_right clean (e ∷ []) e (0, omega arith, refl)); serial = omega (arith, serial) };
+        kept = record { entry = subst (Contains (clean ++ e ∷ [])) (named old new operation serial) (Contains-append_right clean (e ∷ []) e (0, omega arith, refl)); serial = omega (arith, serial); sent = tt };
       },
     )
 

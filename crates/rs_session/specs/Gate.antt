@@ -1,19 +1,35 @@
 -- What a session knows of the store by its gate.
-use Rattle.std.specs.Prelude.{◌≡◌, ℕ, ◌+◌, ◌<◌, ◌≤◌, List, ◌++◌, Contains, Result, OnOk}
+use Rattle.std.specs.Prelude.{◌≡◌, ℕ, ◌+◌, ◌<◌, ◌≤◌, ◌⊎◌, List, [], ◌∷◌, ◌++◌, Contains, Option, Some, None, Result, OnOk}
 use Rattle.std.specs.List.{All}
 use Rattle.rs_message.specs.Values.{OriginValue}
 use Rattle.rs_message.specs.declared.entry.Entry.{Entry}
 use Rattle.rs_message.specs.declared.entry.Operation.{Operation}
 use Rattle.rs_message.specs.declared.fault.SubmitFault.{SubmitFault}
 
--- a place, and the last serial that it used
+-- a place, the last serial that it used, and the entries that it sent to the store, in their order, if they are known
 pub record Mark : Type 0 where
   pub place : ℕ
   pub serial : ℕ
+  pub sent : Option (List Entry)
 
 -- the origin of the last entry that the gate made
 abbrev pub last_origin : Mark → OriginValue
 last_origin mark = record { place = mark.place; serial = mark.serial }
+
+-- the entry of this operation under the mark's place and serial
+abbrev pub entry_by : Operation → Mark → Entry
+entry_by operation mark = record { origin = last_origin mark; operation = operation }
+
+-- These entries were sent behind those before. Nothing is said if it is not known which were sent.
+abbrev pub Sends : Option (List Entry) → List Entry → Option (List Entry) → Type 0
+Sends None entries None = Unit {0}
+Sends None entries (Some after) = ⊥
+Sends (Some before) entries None = ⊥
+Sends (Some before) entries (Some after) = after ≡ before ++ entries
+
+-- nothing was sent, or this entry
+abbrev pub SendsAtMost : Option (List Entry) → Entry → Option (List Entry) → Type 0
+SendsAtMost before e after = Sends before [] after ⊎ Sends before (e ∷ []) after
 
 -- the list extends the one before, which is a prefix of it
 abbrev pub Extends : List Entry → List Entry → Type 0
@@ -29,10 +45,11 @@ pub record Uses (old new : Mark) : Type 0 where
   pub no_lower : old.serial ≤ new.serial
   pub no_higher : new.serial ≤ old.serial + 1
 
--- the list has an entry with this operation, under the new mark's serial, which was not used before
+-- the list has an entry with this operation, under the new mark's serial, which was not used before, and just this entry was sent
 pub record IsSubmitted (operation : Operation) (old new : Mark) (list : List Entry) : Type 0 where
-  pub entry : Contains list (record { origin = last_origin new; operation = operation })
+  pub entry : Contains list (entry_by operation new)
   pub serial : old.serial < new.serial
+  pub sent : Sends old.sent (entry_by operation new ∷ []) new.sent
 
 -- What is handed over is this operation: of the entries that came after the list before, each of the gate's place with
 -- the serial of its new mark has it.

@@ -8,4 +8,5 @@ pub mod Steps
 pub mod Run
 pub mod Replay
 pub mod Kept
+pub mod Sent
 pub mod Local

@@ -31,7 +31,7 @@ use Rattle.rs_store.specs.History.{IsAnswer}
 use Rattle.rs_window.specs.Calls as window
 use Rattle.rs_window.specs.declared.fault.Ack.{Ack}
 use Rattle.rs_window.specs.declared.fault.WindowFault.TheVariants.{WrongKind}
-use Rattle.rs_session.specs.Gate.{Mark, Extends, Uses, IsSubmitted, IsHandedOver}
+use Rattle.rs_session.specs.Gate.{Mark, Extends, Uses, IsSubmitted, IsHandedOver, SendsAtMost, entry_by}
 use Rattle.rs_session.specs.Points.{Given, Point, given_at, point_at, with_state}
 use Rattle.rs_session.specs.Reasons.{code_of}
 use Rattle.rs_session.specs.declared.reason.ReasonCode.{ReasonCode}
@@ -256,13 +256,14 @@ pub data OpenCase : Type 0 where
   Disconnected : OpenCase
 
 -- A PUBLISH that the rows before those of a submit let pass. It is handed to the store at most once, and no other change
--- than its own is; so at QoS 0 too, and if it is refused.
+-- than its own is; so at QoS 0 too, and if it is refused. Nothing else is sent.
 pub record IsHanded (p : Publish) (topic : List ℕ) (operation : Operation) (now : ℕ) (from to : Point Open) : Type 0 where
   pub taken : IsTaken p from.state
   pub is_topic : p.topic ≡ Ok topic
   pub changes : change p topic now ≡ Some operation
   pub one_used : Uses from.mark to.mark
   pub no_other : IsHandedOver operation to.mark from.seen to.seen
+  pub sent : SendsAtMost from.mark.sent (entry_by operation to.mark) to.mark.sent
 
 -- the session stays as it was, and no serial is used
 pub record IsUnchanged (from to : Point Open) : Type 0 where

@@ -9,6 +9,7 @@ ghost use Rattle.rs_session.specs.Kept.{MarkGrows, lists_of, AreGrowing, Serials
 ghost use Rattle.rs_session.specs.Replay.{IsOpen, Opens, IsReplaying, IsSentInOrder};
 ghost use Rattle.rs_session.specs.Points.{Point};
 ghost use Rattle.rs_session.specs.Run.{Turn, Run, IsWithinLimits};
+ghost use Rattle.rs_session.specs.Sent.{SendsPublications};
 ghost use Rattle.rs_session.specs.State.{State, fresh};
 ghost use Rattle.rs_session.specs.declared.open.Open.{Open};
 ghost use Rattle.rs_session.specs.declared.phase.Phase.TheVariants as phase;
@@ -55,4 +56,11 @@ pub fn kept_of_run()
         → IsKeptIn (point_after from before).mark turn p (turn.to.seen ∷ (lists_of after ++ to.seen ∷ [])) }
     // Along a run the mark's serial never falls. So two publications that were told kept are two entries.
     ensures marks { (from to : Point State) (turns : List Turn) → Run from turns to → MarkGrows from.mark to.mark }
+{}
+
+/// Does nothing. Its contract says of every run what its gate sent to the store meanwhile, if that is known: in their order, the
+/// retained publications among the inputs, each at most once, and each that the client was told is kept.
+#[tactic(auto, using(crate::proofs::Sending::run_sends))]
+pub fn sent_of_run()
+    ensures { (from to : Point State) (turns : List Turn) → Run from turns to → SendsPublications from turns to }
 {}

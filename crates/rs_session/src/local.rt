@@ -5,7 +5,7 @@ ghost use Rattle.std.specs.Option.{option_map};
 ghost use Rattle.rs_message.specs.Messages.{is_sweep};
 ghost use Rattle.rs_store.specs.Contents.{IsAdded, empty};
 ghost use Rattle.rs_store.specs.History.{IsAnswer, IsAnswerWithin, Stands};
-ghost use Rattle.rs_session.specs.Gate.{Grows, Uses, Submits};
+ghost use Rattle.rs_session.specs.Gate.{Grows, SendsAtMost, Submits, Uses, entry_by};
 ghost use Rattle.rs_session.specs.Local.{catalogue_of, local_mark, next_entry, IsFull, IsLeft};
 
 use crate::gate::Gate;
@@ -58,6 +58,7 @@ impl<C: Catalogue> Gate for LocalGate<C> {
         ensures list { Grows (Stands (C.content (catalogue_of self.old))) (Stands (C.content (catalogue_of self.new)))
             (Submits operation (local_mark (C.content (catalogue_of self.old))) (local_mark (C.content (catalogue_of self.new))) result) }
         ensures mark { Uses (local_mark (C.content (catalogue_of self.old))) (local_mark (C.content (catalogue_of self.new))) }
+        ensures sent { SendsAtMost (local_mark (C.content (catalogue_of self.old))).sent (entry_by operation (local_mark (C.content (catalogue_of self.new)))) (local_mark (C.content (catalogue_of self.new))).sent }
         ensures full { (result ≡ Err SubmitFault.Full) ↔ IsFull (C.content (catalogue_of self.old)) operation }
         ensures done { OnOk result (IsAdded (C.content (catalogue_of self.old)) (next_entry (C.content (catalogue_of self.old)) operation) (C.content (catalogue_of self.new))) }
         ensures refused { IfErr result (λ fault. IsLeft (C.content (catalogue_of self.old)) operation fault (C.content (catalogue_of self.new))) }

@@ -24,7 +24,7 @@ struct Recording {
 impl Gate for Recording {
     ghost stands = { λ _ _. ⊥ };
 
-    ghost mark = { λ _. record { place = 1; serial = 0 } };
+    ghost mark = { λ _. record { place = 1; serial = 0; sent = None } };
 
     fn submit(&mut self, operation: Operation) -> Result<(), SubmitFault> {
         let Ok(()) = self.handed.push(operation) else {

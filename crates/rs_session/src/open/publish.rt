@@ -3,7 +3,7 @@
 ghost use Rattle.std.specs.Prelude.{◌≡◌, ℕ, List, None, Some, Ok, Err, true, false, option_map};
 ghost use Rattle.rs_message.specs.Messages.{is_sweep};
 ghost use Rattle.rs_message.specs.declared.entry.Operation.{Operation};
-ghost use Rattle.rs_session.specs.Gate.{Grows, GrowsAnswering, IsHandedOver, Uses};
+ghost use Rattle.rs_session.specs.Gate.{Grows, GrowsAnswering, IsHandedOver, SendsAtMost, Uses, entry_by};
 ghost use Rattle.rs_session.specs.Points.{given_at, point_at};
 ghost use Rattle.rs_session.specs.Steps.{IsSettled, outcome_before, outcome_of_answer, outcome_of_id, topic_refusal};
 ghost use Rattle.rs_session.specs.Table.{LeadsTo, acknowledged_by, held_id, held_with, is_held, is_one_too_many};
@@ -109,6 +109,7 @@ impl Open {
             IsHandedOver operation (G.mark gate.new) seen list
             × IsSettled operation qos id (point_at self.old seen (G.mark gate.old)) result (point_at self.new list (G.mark gate.new))) }
         ensures mark { Uses (G.mark gate.old) (G.mark gate.new) }
+        ensures sent { SendsAtMost (G.mark gate.old).sent (entry_by operation (G.mark gate.new)) (G.mark gate.new).sent }
     {
         let answer = gate.submit(operation);
         if answer.is_ok() {

@@ -28,7 +28,7 @@ returns-in-Ok-Some g c =
     subst
     (λ (p : PublishValue). outcome_before p o ≡ None → GrowsAnswering g.G.Gate.stands g.G.Gate.mark old new (λ seen answered list. LeadsTo (given_at (Whole (packet.Publish p)) c.args.now) (point_at o seen (g.G.Gate.mark old)) answered c.submit.result (point_at c.submit.new.self list (g.G.Gate.mark new))))
     c.p.view_is
-    (λ e. submitted g.G.Gate.stands g.G.Gate.mark old new _ c.in-Ok.topic c.in-Ok-Some.operation c.args.now _ o _ e c.in-Ok.is (sym c.in-Ok-Some.ensures.ok ∙ c.in-Ok-Some.field-0-is) c.submit.ensures.mark c.submit.ensures.list) c.requires
+    (λ e. submitted g.G.Gate.stands g.G.Gate.mark old new _ c.in-Ok.topic c.in-Ok-Some.operation c.args.now _ o _ e c.in-Ok.is (sym c.in-Ok-Some.ensures.ok ∙ c.in-Ok-Some.field-0-is) c.submit.ensures.mark c.submit.ensures.sent c.submit.ensures.list) c.requires
 
 pub returns-in-Ok-None : goal.returns-in-Ok-None
 returns-in-Ok-None g c =
