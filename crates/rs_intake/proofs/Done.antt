@@ -5,13 +5,13 @@ use Rattle.std.proofs.lemmas.List.{append-nil}
 use Rattle.rs_message.specs.Messages.{is_sweep}
 use Rattle.rs_message.specs.declared.entry.Entry.{Entry}
 use Rattle.rs_store.specs.Adding.{Adds}
-use Rattle.rs_store.specs.History.{SerialsRise, extended}
+use Rattle.rs_store.specs.History.{SerialsRise, cleaned, extended}
 use Rattle.rs_version.specs.Writer.{Refuses, Written, kept_of, shows}
 use Rattle.rs_version.specs.declared.fault.PutFault.TheVariants.{Full, Held, NoMemory, Stale}
-use Rattle.rs_intake.specs.Done.{Answer, AreDone, IsDone, is_refused, refused_in}
+use Rattle.rs_intake.specs.Done.{Answer, AreDone, IsDone, IsWritten, accepted, is_refused, refused_in}
 use Rattle.rs_intake.specs.Parts.{IsPart}
 use Rattle.rs_intake.specs.Sweeps.{AreForJobs, IsSweptAtMost, without_sweeps}
-use Rattle.rs_intake.proofs.Sweeps.{Serves, adds_kept, held_kept, no_memory_kept, serves_job, serves_refused, serves_start, settled_kept}
+use Rattle.rs_intake.proofs.Sweeps.{Serves, adds_kept, held_kept, no_memory_kept, serves_job, serves_refused, serves_start, settled_kept, without_cleaned, without_more}
 
 -- ---- a put
 
@@ -36,8 +36,11 @@ put_done limit w w' e (Err Held) rises adds entry number told refuses = held_kep
 
 -- ---- one job after the other
 
-pub done_none : (limit : ℕ) (jobs kept : List Entry) → jobs ≡ [] → kept ≡ [] → (told : List Answer) × AreDone limit [] jobs told kept
-done_none limit jobs kept no_jobs none = let P : List Entry → Type 0 = λ l. AreDone limit [] l [] kept in ([], subst P (sym no_jobs) none)
+pub written_none : (limit : ℕ) (jobs kept : List Entry) → jobs ≡ [] → kept ≡ [] → IsWritten limit jobs kept
+written_none limit jobs kept no_jobs none =
+    let P : List Entry → Type 0 = λ l. IsWritten limit l kept in
+    let Q : List Entry → Type 0 = λ l. IsWritten limit [] l in
+    subst P (sym no_jobs) (subst Q (sym none) (record { told = []; done = refl; changes = refl }))
 
 done_more : (limit : ℕ) (first jobs : List Entry) (told : List Answer) (kept : List Entry) (job : Entry) (answer : Answer) (kept' : List Entry)
     → AreDone limit first jobs told kept → IsDone limit kept job answer kept' → AreDone limit first (jobs ++ job ∷ []) (told ++ answer ∷ []) kept'
@@ -45,19 +48,6 @@ done_more limit first [] [] kept job answer kept' are is = let P : List Entry �
 done_more limit first [] (a ∷ told) kept job answer kept' are is = absurd are
 done_more limit first (j ∷ jobs) [] kept job answer kept' are is = absurd are
 done_more limit first (j ∷ jobs) (a ∷ told) kept job answer kept' are is = (are.0, are.1, done_more limit are.0 jobs told kept job answer kept' are.2 is)
-
--- some answers, and one more
-pub done_with : (limit : ℕ) (jobs jobs' kept : List Entry) (job : Entry) (answer : Answer) (kept' : List Entry) → jobs' ≡ jobs ++ job ∷ []
-    → (told : List Answer) × AreDone limit [] jobs told kept → IsDone limit kept job answer kept' → (told : List Answer) × AreDone limit [] jobs' told kept'
-done_with limit jobs jobs' kept job answer kept' more t is =
-    let P : List Entry → Type 0 = λ l. AreDone limit [] l (t.0 ++ answer ∷ []) kept' in
-    (t.0 ++ answer ∷ [], subst P (sym more) (done_more limit [] jobs t.0 kept job answer kept' t.1 is))
-
-pub done_same : (limit : ℕ) (jobs jobs' kept kept' : List Entry) → jobs' ≡ jobs → kept' ≡ kept → (told : List Answer) × AreDone limit [] jobs told kept → (told : List Answer) × AreDone limit [] jobs' told kept'
-done_same limit jobs jobs' kept kept' same alike t =
-    let P : List Entry → Type 0 = λ l. AreDone limit [] l t.0 kept' in
-    let Q : List Entry → Type 0 = λ l. AreDone limit [] jobs t.0 l in
-    (t.0, subst P (sym same) (subst Q (sym alike) t.1))
 
 -- ---- what the answer says
 
@@ -74,6 +64,59 @@ swept_if_done limit kept job (Err Full) kept' is goes = inl is.1
 swept_if_done limit kept job (Err Stale) kept' is goes = absurd is
 swept_if_done limit kept job (Err NoMemory) kept' is goes = is
 swept_if_done limit kept job (Err Held) kept' is goes = absurd (cc (goes))
+
+-- ---- the jobs that were not refused
+
+without_added : (limit : ℕ) (kept : List Entry) (job : Entry) (kept' : List Entry) → is_sweep job.operation ≡ false → Adds limit kept job (λ list. kept' ≡ list) → without_sweeps kept' ≡ without_sweeps kept ++ job ∷ []
+without_added limit kept job kept' plain (inl a) = ap without_sweeps a.1 ∙ without_more kept job plain
+without_added limit kept job kept' plain (inr a) =
+    let moment = a.0.message.received in
+    ap without_sweeps a.1 ∙ (without_more (cleaned moment kept) job plain ∙ ap (λ l. l ++ job ∷ []) (without_cleaned moment kept))
+
+without_swept : (limit : ℕ) (kept : List Entry) (job : Entry) (kept' : List Entry) → IsSweptAtMost limit kept job kept' → without_sweeps kept' ≡ without_sweeps kept
+without_swept limit kept job kept' (inl same) = ap without_sweeps same
+without_swept limit kept job kept' (inr s) = ap without_sweeps s.1 ∙ without_cleaned s.0.message.received kept
+
+without_done : (limit : ℕ) (kept : List Entry) (job : Entry) (answer : Answer) (kept' : List Entry) → is_sweep job.operation ≡ false → IsDone limit kept job answer kept'
+    → without_sweeps kept' ≡ without_sweeps kept ++ accepted (job ∷ []) (answer ∷ [])
+without_done limit kept job answer kept' plain is = go (is_refused answer) refl
+  where
+    go : (b : Bool) → is_refused answer ≡ b → without_sweeps kept' ≡ without_sweeps kept ++ cond b [] (job ∷ [])
+    go false stays = without_added limit kept job kept' plain (adds_if_done limit kept job answer kept' is stays)
+    go true goes = without_swept limit kept job kept' (swept_if_done limit kept job answer kept' is goes) ∙ sym (append-nil (without_sweeps kept))
+
+accepted_more : (limit : ℕ) (first jobs : List Entry) (told : List Answer) (kept : List Entry) (job : Entry) (answer : Answer) → AreDone limit first jobs told kept
+    → accepted (jobs ++ job ∷ []) (told ++ answer ∷ []) ≡ accepted jobs told ++ accepted (job ∷ []) (answer ∷ [])
+accepted_more limit first [] [] kept job answer are = refl
+accepted_more limit first [] (a ∷ told) kept job answer are = absurd are
+accepted_more limit first (j ∷ jobs) [] kept job answer are = absurd are
+accepted_more limit first (j ∷ jobs) (a ∷ told) kept job answer are = go (is_refused a) (accepted_more limit are.0 jobs told kept job answer are.2)
+  where
+    go : (b : Bool) → accepted (jobs ++ job ∷ []) (told ++ answer ∷ []) ≡ accepted jobs told ++ accepted (job ∷ []) (answer ∷ [])
+        → cond b (accepted (jobs ++ job ∷ []) (told ++ answer ∷ [])) (j ∷ accepted (jobs ++ job ∷ []) (told ++ answer ∷ []))
+        ≡ cond b (accepted jobs told) (j ∷ accepted jobs told) ++ accepted (job ∷ []) (answer ∷ [])
+    go true same = same
+    go false same = ap (λ l. j ∷ l) same
+
+-- one job more
+pub written_with : (limit : ℕ) (jobs jobs' kept : List Entry) (job : Entry) (answer : Answer) (kept' : List Entry) → jobs' ≡ jobs ++ job ∷ [] → is_sweep job.operation ≡ false
+    → IsWritten limit jobs kept → IsDone limit kept job answer kept' → IsWritten limit jobs' kept'
+written_with limit jobs jobs' kept job answer kept' more plain w is =
+    let P : List Entry → Type 0 = λ l. IsWritten limit l kept' in
+    subst P (sym more) (
+    record {
+      told = w.told ++ answer ∷ [];
+      done = done_more limit [] jobs w.told kept job answer kept' w.done is;
+      changes = without_done limit kept job answer kept' plain is
+          ∙ (ap (λ l. l ++ accepted (job ∷ []) (answer ∷ [])) w.changes ∙ sym (accepted_more limit [] jobs w.told kept job answer w.done));
+    }
+    )
+
+pub written_same : (limit : ℕ) (jobs jobs' kept kept' : List Entry) → jobs' ≡ jobs → kept' ≡ kept → IsWritten limit jobs kept → IsWritten limit jobs' kept'
+written_same limit jobs jobs' kept kept' same alike w =
+    let P : List Entry → Type 0 = λ l. IsWritten limit l kept' in
+    let Q : List Entry → Type 0 = λ l. IsWritten limit jobs l in
+    subst P (sym same) (subst Q (sym alike) w)
 
 -- ---- what follows for the kept list
 

@@ -7,8 +7,9 @@ use Rattle.rs_intake.specs.declared.rule.Job.{Job}
 use Rattle.rs_intake.specs.QueueRule.{of_place, entries_of, IsOutside}
 use Rattle.rs_intake.specs.Lines.{Closed}
 use Rattle.rs_intake.specs.declared.rule.SentFrom.{SentFrom}
-use Rattle.std.proofs.lemmas.List.Elements.{All-append}
-use Rattle.rs_intake.specs.Settling.{Covers, ends_at, EachOnce, sent_in_all, AreTaken, BalancesWith}
+use Rattle.std.proofs.lemmas.List.Elements.{All-append, All-weaker, filter-append}
+use mathlib.Core.List.{IsPrefix}
+use Rattle.rs_intake.specs.Settling.{Covers, ends_at, EachOnce, sent_in_all, AreTaken, AreTakenInOrder, BalancesWith}
 
 all_head : {A : Type 0} (P : A → Type 0) (x : A) (xs : List A) → All P (x ∷ xs) → P x
 all_head P x xs all = all 0 x (omega arith)
@@ -171,6 +172,16 @@ settled places taken items ends b once count =
     let both : length xs ≡ length taken + length rest = length-append taken rest in
     let none : length rest ≡ 0 = omega (arith, all, each, less, sent, both, count) in
     all_taken taken rest (no_more rest none) ends b.1
+
+-- what was taken of each place is a prefix of what its line sent
+pub in_order : (places : ℕ) (taken : List Entry) (ends : List Closed) → (0 < length ends → (items : List Job) × BalancesWith places taken items ends) → AreTakenInOrder taken ends
+in_order places taken [] learned = all_none (λ (e : Closed). IsPrefix (of_place e.place taken) e.sent)
+in_order places taken (end ∷ ends) learned =
+    let (items, balanced) = learned (omega arith) in
+    let rest = entries_of items in
+    let P : Closed → Type 0 = λ e. e.sent ≡ of_place e.place (taken ++ rest) in
+    let Q : Closed → Type 0 = λ e. IsPrefix (of_place e.place taken) e.sent in
+    All-weaker P Q (λ e sent. (of_place e.place rest, sym (sent ∙ filter-append (λ (z : Entry). z.origin.place == e.place) taken rest))) (end ∷ ends) balanced.1
 
 -- some end is there
 pub some_ends : (places : ℕ) (ends : List Closed) → 0 < places → EachOnce places ends → 0 < length ends

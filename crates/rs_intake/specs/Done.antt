@@ -1,5 +1,5 @@
 -- What was done with the jobs that the writer took, and what their lines were told. A line is told what is sent by its way back.
-use Rattle.std.specs.Prelude.{ℕ, ◌≡◌, ◌-◌, Bool, true, false, List, [], ◌∷◌, ◌++◌, length, slice_set, slice_index_or, Result, Ok, Err}
+use Rattle.std.specs.Prelude.{ℕ, ◌≡◌, ◌-◌, Bool, true, false, cond, List, [], ◌∷◌, ◌++◌, length, slice_set, slice_index_or, Result, Ok, Err}
 use Rattle.std.specs.List.{filter}
 use Rattle.rs_message.specs.declared.entry.Entry.{Entry}
 use Rattle.rs_message.specs.declared.entry.Origin.{Origin}
@@ -10,7 +10,7 @@ use Rattle.rs_version.specs.Receipts.{ReceiptValue}
 use Rattle.rs_version.specs.Writer.{Refuses, Written, kept_of, shows}
 use Rattle.rs_version.specs.declared.fault.PutFault.{PutFault}
 use Rattle.rs_version.specs.declared.fault.PutFault.TheVariants.{Full, Held, NoMemory, Stale}
-use Rattle.rs_intake.specs.Sweeps.{IsSweptAtMost}
+use Rattle.rs_intake.specs.Sweeps.{IsSweptAtMost, without_sweeps}
 
 -- what a line is told of its job: a receipt, or why there is none
 abbrev pub Answer : Type 0
@@ -60,6 +60,19 @@ is_refused (Err Stale) = true
 -- how many of the answers say so
 abbrev pub refused_in : List Answer → ℕ
 refused_in told = length (filter is_refused told)
+
+-- the jobs that were not refused, in their order
+abbrev pub accepted : List Entry → List Answer → List Entry
+accepted [] told = []
+accepted (job ∷ jobs) [] = []
+accepted (job ∷ jobs) (answer ∷ told) = cond (is_refused answer) (accepted jobs told) (job ∷ accepted jobs told)
+
+-- There are answers, one to each job, in their order, by which this list came to be. They are the writer's; that each was sent is no part
+-- of this. Without its Sweeps the list is the jobs that were not refused.
+pub record IsWritten (limit : ℕ) (jobs kept : List Entry) : Type 0 where
+  pub told : List Answer
+  pub done : AreDone limit [] jobs told kept
+  pub changes : without_sweeps kept ≡ accepted jobs told
 
 -- what each line was told, once the line of this origin's place was told this answer behind all else
 abbrev pub told_more : List (List ReplyValue) → Origin → Answer → List (List ReplyValue)

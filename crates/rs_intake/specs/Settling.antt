@@ -1,5 +1,6 @@
 -- When the lines and the writer agree on all jobs.
 use Rattle.std.specs.Prelude.{ℕ, ◌≡◌, ◌==◌, ◌<◌, ◌≤◌, ◌+◌, List, [], ◌∷◌, ◌++◌, All, filter, length}
+use mathlib.Core.List.{IsPrefix}
 use Rattle.rs_message.specs.declared.entry.Entry.{Entry}
 use Rattle.rs_intake.specs.declared.rule.SentFrom.{SentFrom}
 use Rattle.rs_intake.specs.declared.rule.Job.{Job}
@@ -22,6 +23,10 @@ sent_in_all (e ∷ es) = length e.sent + sent_in_all es
 -- what was taken of each place is what was sent from there
 abbrev pub AreTaken : List Entry → List Closed → Type 0
 AreTaken taken ends = All (λ e. of_place e.place taken ≡ e.sent) ends
+
+-- what was taken of each place is a prefix of what was sent from there
+abbrev pub AreTakenInOrder : List Entry → List Closed → Type 0
+AreTakenInOrder taken ends = All (λ e. IsPrefix (of_place e.place taken) e.sent) ends
 
 -- beside what the queue holds, what was taken is what was sent
 abbrev pub IsBalanced : ℕ → Received → List Job → Type 0

@@ -71,7 +71,7 @@ impl<N: LineName> Intake<N> {
     ///
     /// - [`Full`](SubmitFault::Full), [`NoMemory`](SubmitFault::NoMemory): no entry of the operation was made. A Sweep may have been.
     /// - [`Open`](SubmitFault::Open): no receipt came. The operation may become an entry, at most once.
-    /// - [`Strange`](SubmitFault::Strange): what came back is not for this operation.
+    /// - [`Strange`](SubmitFault::Strange): what came back is not for this operation, or says that its serial is stale.
     /// - [`Closed`](SubmitFault::Closed): the writer takes no more; the queue did not take the operation. No entry of it was made.
     pub fn submit<R: Wait>(
         &self,

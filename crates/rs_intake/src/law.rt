@@ -10,7 +10,7 @@ pub fn line_order_law()
 {}
 
 /// Does nothing. Its contract says what the rule of a way back gives at every moment: what the line received is a prefix of what the
-/// writer's end sent. So a reply that came is the one that was sent.
+/// writer's end sent.
 pub fn reply_order_law()
     ensures { HeardInOrder }
 {}

@@ -1,10 +1,10 @@
 //! The way back from the writer to a line.
 
-ghost use Rattle.std.specs.Prelude.{◌≡◌, ◌∷◌, ◌++◌, [], IfOk, MatchOption, MatchResult};
+ghost use Rattle.std.specs.Prelude.{◌≡◌, ◌∷◌, ◌++◌, [], IfOk, MatchBool, MatchOption};
 ghost use Rattle.rs_intake.specs.Done.{is_refused};
 
 use crate::waiting;
-use crate::waiting::{Gone, Patience, receive};
+use crate::waiting::{Patience, receive};
 use crossbeam_channel::protocol::{Lesson, Outcome, Protocol, Split};
 use crossbeam_channel::{Pass, RuledReceiver, RuledSender, bounded_with};
 use rs_message::Origin;
@@ -152,16 +152,19 @@ pub fn way_back<N: StoreName>(
 }
 
 impl<N: StoreName> ReplySender<N> {
-    /// Sends a reply. It takes no memory. If the line is gone, the reply is dropped.
-    pub fn send<R: Wait>(&mut self, rt: &R, reply: Reply<N>) -> Result<(), Gone>
-        ensures { MatchResult result (λ _. self.new ≡ self.old ++ reply ∷ []) (λ _. self.new ≡ self.old) }
+    /// Whether the reply was sent. If the line is gone, it is dropped. Takes no memory.
+    pub fn send<R: Wait>(&mut self, rt: &R, reply: Reply<N>) -> bool
+        ensures { MatchBool result (self.new ≡ self.old ++ reply ∷ []) (self.new ≡ self.old) }
     {
-        waiting::send::<Reply<N>, WayPass<N>, ReplyRule, Counting, R>(
+        match waiting::send::<Reply<N>, WayPass<N>, ReplyRule, Counting, R>(
             rt,
             &self.to,
             &mut self.pass,
             reply,
-        )
+        ) {
+            Ok(()) => true,
+            Err(_) => false,
+        }
     }
 }
 

@@ -2,7 +2,7 @@
 
 ghost use Rattle.std.specs.Prelude.{◌≡◌, ◌^◌, ◌<◌, ◌≤◌, List, MatchBool, MatchOption, IfOk, IfErr, length};
 ghost use Rattle.rs_intake.specs.declared.rule.Job.{Job};
-ghost use Rattle.rs_intake.specs.Settling.{ends_at, EachOnce, sent_in_all, AreTaken, BalancesWith};
+ghost use Rattle.rs_intake.specs.Settling.{ends_at, EachOnce, sent_in_all, AreTaken, AreTakenInOrder, BalancesWith};
 
 use crate::fault::SettleFault;
 use crate::line::LineEnd;
@@ -39,9 +39,24 @@ fn total<N: LineName>(ends: &Vec<LineEnd<N>>) -> Option<u64>
     Some(sum)
 }
 
+/// How many jobs were sent, if each place has one end and these sent as many jobs as were taken.
+fn all_sent<N: LineName>(ends: &Vec<LineEnd<N>>, places: u8, taken: u64) -> Option<u64>
+    ensures { MatchOption result (¬ (EachOnce places ends.now.items × (sent_in_all ends.now.items ≡ taken)))
+        (λ n. (n ≡ taken) × (n ≡ sent_in_all ends.now.items) × EachOnce places ends.now.items) }
+{
+    if !is_each_once(ends, places) {
+        return None;
+    }
+    let sum = total(ends)?;
+    if sum != taken {
+        return None;
+    }
+    Some(sum)
+}
+
 /// Joins all lines' passes, and compares them with what was taken.
 fn gather<N: LineName>(taken: &mut Taken<N>, ends: Vec<LineEnd<N>>)
-    ensures same { taken.new.entries ≡ taken.old.entries }
+    ensures same { (taken.new.entries ≡ taken.old.entries) × (taken.new.ends ≡ taken.old.ends) }
     ensures learned { 0 < length ends.items → (items : List Job) × BalancesWith N.places taken.new.entries items ends.items }
 {
     for end in ends {
@@ -52,7 +67,8 @@ fn gather<N: LineName>(taken: &mut Taken<N>, ends: Vec<LineEnd<N>>)
 }
 
 /// Whether all that was sent was taken. If so, what was taken of each place is what was sent from there, in its order and each
-/// job once, and the answer is how many jobs these are.
+/// job once, and the answer is how many jobs these are. If not, what was taken of each place that has an end is a prefix of what was
+/// sent from there.
 ///
 /// It takes no memory. `ended` is lent mutably since its pass of the queue learns what the lines know; nothing else of it changes.
 ///
@@ -67,19 +83,14 @@ pub fn settle<N: LineName, R: Wait + Drop>(
     ensures sum { IfOk result (λ n. n ≡ sent_in_all ends.items) }
     ensures once { IfOk result (λ _. EachOnce N.places ends.items) }
     ensures settled { IfOk result (λ _. AreTaken ended.old.jobs.entries ends.items) }
+    ensures order { AreTakenInOrder ended.old.jobs.entries ends.items }
     ensures unsettled { IfErr result (λ _. ¬ (EachOnce N.places ends.items × (sent_in_all ends.items ≡ ended.old.taken))) }
-    ensures same { (ended.new.writer ≡ ended.old.writer) × (ended.new.taken ≡ ended.old.taken) × (ended.new.refused ≡ ended.old.refused) × (ended.new.held ≡ ended.old.held) × (ended.new.jobs.entries ≡ ended.old.jobs.entries) }
+    ensures same { (ended.new.writer ≡ ended.old.writer) × (ended.new.taken ≡ ended.old.taken) × (ended.new.refused ≡ ended.old.refused) × (ended.new.held ≡ ended.old.held) × (ended.new.cause ≡ ended.old.cause) × (ended.new.jobs.entries ≡ ended.old.jobs.entries) × (ended.new.jobs.ends ≡ ended.old.jobs.ends) }
 {
-    let taken = ended.taken;
-    if !is_each_once(&ends, ended.jobs.places()) {
-        return Err(SettleFault::Unsettled);
-    }
-    let Some(sum) = total(&ends) else {
-        return Err(SettleFault::Unsettled);
-    };
-    if sum != taken {
-        return Err(SettleFault::Unsettled);
-    }
+    let all = all_sent(&ends, ended.jobs.places(), ended.taken);
     gather(&mut ended.jobs, ends);
-    Ok(sum)
+    match all {
+        Some(sum) => Ok(sum),
+        None => Err(SettleFault::Unsettled),
+    }
 }

@@ -1,6 +1,6 @@
 //! Putting a job, and sending the writer's answer to its line.
 
-ghost use Rattle.std.specs.Prelude.{◌≡◌, ◌<◌, ◌≤◌, false, length, MatchResult};
+ghost use Rattle.std.specs.Prelude.{◌≡◌, ◌<◌, ◌≤◌, false, length, MatchBool};
 ghost use Rattle.rs_message.specs.Messages.{is_sweep};
 ghost use Rattle.rs_store.specs.History.{SerialsRise, extended};
 ghost use Rattle.rs_version.specs.Writer.{kept_of};
@@ -8,7 +8,6 @@ ghost use Rattle.rs_intake.specs.Done.{Answer, IsDone, IsPut, is_refused, told_m
 
 use crate::name::LineName;
 use crate::reply::{Reply, ReplySender};
-use crate::waiting::Gone;
 use rs_message::Entry;
 use rs_version::VersionWriter;
 use std::sync::Wait;
@@ -41,19 +40,19 @@ impl<N: LineName> WaysBack<N> {
     }
 
     /// Puts a job, tells its line the answer, and tells no line anything else. The result is whether the job is refused, and whether
-    /// the reply could be sent, which fails if the line is gone.
+    /// the reply was sent. It is not, if the line is gone.
     pub(crate) fn put_job<R: Wait + Drop, W: Wait>(
         &mut self,
         rt: &W,
         writer: &mut VersionWriter<N, R>,
         job: Entry,
-    ) -> (bool, Result<(), Gone>)
+    ) -> (bool, bool)
         requires no_sweep { is_sweep job.operation ≡ false }
         requires place { (0 < job.origin.place) × (job.origin.place ≤ length self.old.senders.items) }
         requires rises { SerialsRise (extended (kept_of writer.old) job) }
         ensures done { (answer : Answer) × IsDone N.limit (kept_of writer.old) job answer (kept_of writer.new) × (result.0 ≡ is_refused answer)
             × IsPut N.limit writer.old job answer writer.new
-            × MatchResult result.1 (λ _. self.new.senders.items ≡ told_more self.old.senders.items job.origin answer) (λ _. self.new.senders.items ≡ self.old.senders.items) }
+            × MatchBool result.1 (self.new.senders.items ≡ told_more self.old.senders.items job.origin answer) (self.new.senders.items ≡ self.old.senders.items) }
         ensures ways { length self.new.senders.items ≡ length self.old.senders.items }
     {
         let reply = reply_to(writer, job);
@@ -70,7 +69,7 @@ impl<N: LineName> WaysBack<N> {
             return;
         };
         if let Some(to) = self.senders.get_mut(at) {
-            drop(to.send(rt, reply));
+            let _ = to.send(rt, reply);
         }
     }
 }

@@ -1,10 +1,10 @@
 //! The writer's loop over the queue.
 
-ghost use Rattle.std.specs.Prelude.{◌≡◌, ◌+◌, List, [], length};
+ghost use Rattle.std.specs.Prelude.{◌≡◌, ◌+◌, [], length};
 ghost use Rattle.std.specs.Option.{option_map};
 ghost use Rattle.crossbeam_channel.specs.Ends.{receives_on};
 ghost use Rattle.rs_version.specs.Writer.{kept_of};
-ghost use Rattle.rs_intake.specs.Done.{Answer, AreDone};
+ghost use Rattle.rs_intake.specs.Done.{IsWritten};
 ghost use Rattle.rs_intake.specs.Ending.{IsCause};
 ghost use Rattle.rs_intake.specs.Names.{IsQueue};
 ghost use Rattle.rs_intake.specs.Parts.{IsPart};
@@ -137,9 +137,9 @@ impl<N: LineName, R: Wait + Drop> Ended<N, R> {
 ///
 /// The contract says what became of each job (`done`). There is one answer for each job that was taken, in their order. After a
 /// receipt, or an answer that the job is held, the kept list is the one before, then the Sweep that the job needs, if it needs one, then
-/// the job. After a full store the list is the same, and the job may not come. After want of memory the list is the same, or has the
-/// Sweep that the job needs. So what the writer keeps, without its Sweeps, is a part of the jobs (`part`), and each Sweep is the one
-/// that a job needed there (`sweeps`).
+/// the job. After a full store the list is the same, and the job may not come. If memory was refused, the list is the same, or has the
+/// Sweep that the job needs. So what the writer keeps, without its Sweeps, is the jobs that were not refused, in their order
+/// (`IsWritten`), and each Sweep is the one that a job needed there (`sweeps`).
 pub fn run_writer<N: LineName, R: Wait + Drop, W: Wait>(
     rt: &W,
     queue: Queue<N>,
@@ -151,7 +151,7 @@ pub fn run_writer<N: LineName, R: Wait + Drop, W: Wait>(
     ensures refused { length (without_sweeps (kept_of result.writer)) + result.refused ≡ result.taken }
     ensures sweeps { AreForJobs N.limit result.jobs.entries (kept_of result.writer) }
     ensures held { result.held ≡ option_map (λ e. e.origin) result.writer.held }
-    ensures done { (told : List Answer) × AreDone N.limit [] result.jobs.entries told (kept_of result.writer) }
+    ensures done { IsWritten N.limit result.jobs.entries (kept_of result.writer) }
     ensures cause { IsCause N.places u64.MAX result.jobs result.cause }
 {
     run_writer_for(rt, queue, writer, u64::MAX)
@@ -170,7 +170,7 @@ pub(crate) fn run_writer_for<N: LineName, R: Wait + Drop, W: Wait>(
     ensures refused { length (without_sweeps (kept_of result.writer)) + result.refused ≡ result.taken }
     ensures sweeps { AreForJobs N.limit result.jobs.entries (kept_of result.writer) }
     ensures held { result.held ≡ option_map (λ e. e.origin) result.writer.held }
-    ensures done { (told : List Answer) × AreDone N.limit [] result.jobs.entries told (kept_of result.writer) }
+    ensures done { IsWritten N.limit result.jobs.entries (kept_of result.writer) }
     ensures cause { IsCause N.places most result.jobs result.cause }
 {
     let Queue {

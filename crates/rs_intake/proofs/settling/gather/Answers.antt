@@ -19,6 +19,7 @@ loop-end-preserved g c =
       subst W (sym whole) (covers_more c.loop-end.taken.whole yielded _ end sent.1 sent.2 i.1),
       (λ some. c.compare.ensures.learned),
       append_assoc yielded (end ∷ []) _ ∙ (ap (λ l. yielded ++ l) (sym c.in-Some.ensures.steps.0) ∙ i.3),
+      ap (λ r. r.ends) same ∙ (c.join.ensures.1 ∙ i.4),
     )
 
 pub returns-clause-learned : goal.returns-clause-learned

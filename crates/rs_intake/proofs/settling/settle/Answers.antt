@@ -1,18 +1,26 @@
 use Rattle.std.proofs.Common.{ℕ, List, sym, subst, ◌∙◌}
 use Rattle.rs_message.specs.declared.entry.Entry.{Entry}
-use Rattle.rs_intake.specs.Settling.{BalancesWith, EachOnce}
-use Rattle.rs_intake.proofs.Sums.{settled, some_ends}
+use Rattle.rs_intake.specs.Settling.{AreTakenInOrder, BalancesWith, EachOnce}
+use Rattle.rs_intake.proofs.Sums.{in_order, settled, some_ends}
 use Rattle.rs_intake.proofs.settling.settle.Goals as goal
 
-pub returns-clause-settled : goal.returns-clause-settled
-returns-clause-settled g c =
-    let once = c.if-not-is_each_once.ensures in
-    let sum = c.in-Some.ensures in
+pub returns-in-Some-clause-settled : goal.returns-in-Some-clause-settled
+returns-in-Some-clause-settled g c =
+    let all = c.in-Some.ensures in
     let ends = c.args.ends.items in
     let taken = c.args.ended.now.jobs.entries in
-    let learned = c.gather.ensures.learned (some_ends _ ends c.places.ensures.1 once) in
+    let learned = c.gather.ensures.learned (some_ends _ ends c.places.ensures.1 all.2) in
     let E : ℕ → Type 0 = λ n. EachOnce n ends in
-    let each = subst E c.places.ensures.0 once in
+    let each = subst E c.places.ensures.0 all.2 in
     let B : List Entry → Type 0 = λ l. BalancesWith g.N.LineName.places l learned.0 ends in
-    let all = settled _ taken learned.0 ends (subst B c.gather.ensures.same learned.1) each (sym sum ∙ (c.if-sum-taken.false ∙ c.args.ended.now.counted)) in
-    all
+    settled _ taken learned.0 ends (subst B c.gather.ensures.same.0 learned.1) each (sym all.1 ∙ (all.0 ∙ c.args.ended.now.counted))
+
+pub returns-in-Some-clause-order : goal.returns-in-Some-clause-order
+returns-in-Some-clause-order g c =
+    let O : List Entry → Type 0 = λ l. AreTakenInOrder l c.args.ends.items in
+    subst O c.gather.ensures.same.0 (in_order _ _ c.args.ends.items c.gather.ensures.learned)
+
+pub returns-in-None-clause-order : goal.returns-in-None-clause-order
+returns-in-None-clause-order g c =
+    let O : List Entry → Type 0 = λ l. AreTakenInOrder l c.args.ends.items in
+    subst O c.gather.ensures.same.0 (in_order _ _ c.args.ends.items c.gather.ensures.learned)

@@ -5,7 +5,7 @@ use Rattle.rs_version.specs.Writer.{kept_of}
 use Rattle.rs_intake.specs.declared.rule.Job.{Job}
 use Rattle.rs_intake.specs.QueueRule.{ends_of, entries_of}
 use Rattle.rs_intake.specs.declared.ending.Cause.TheVariants.{AllEnded, MostTaken, QueueGone}
-use Rattle.rs_intake.proofs.Done.{adds_if_done, done_same, done_with, swept_if_done}
+use Rattle.rs_intake.proofs.Done.{adds_if_done, swept_if_done, written_same, written_with}
 use Rattle.rs_intake.proofs.Endings.{all_ended, cause_same}
 use Rattle.rs_intake.proofs.Sweeps.{Serves, are_for_same, job_rises, retried_kept, serves_job, serves_refused}
 use Rattle.rs_intake.proofs.writer.run_writer_for.Given as given
@@ -52,7 +52,7 @@ loop-preserved-then-is_refused g c =
       omega (arith, i.2, ap length more, length-append entries (job ∷ [])),
       omega (arith, i.3, s.1),
       i.4,
-      done_with limit entries c.next-in-loop.new.self.entries kept job d.0 kept' more i.5 d.1,
+      written_with limit entries c.next-in-loop.new.self.entries kept job d.0 kept' more c.into_entry-job.ensures.no_sweep i.5 d.1,
       c.put_job-is_refused.ensures.ways ∙ i.6,
       ap (λ (l : List ℕ). c.loop.open + length l) ends ∙ i.7,
       i.8,
@@ -76,7 +76,7 @@ loop-preserved-else-is_refused g c =
       omega (arith, i.2, ap length more, length-append entries (job ∷ [])),
       omega (arith, i.3, s.1),
       i.4,
-      done_with limit entries c.next-in-loop.new.self.entries kept job d.0 kept' more i.5 d.1,
+      written_with limit entries c.next-in-loop.new.self.entries kept job d.0 kept' more c.into_entry-job.ensures.no_sweep i.5 d.1,
       c.put_job-is_refused.ensures.ways ∙ i.6,
       ap (λ (l : List ℕ). c.loop.open + length l) ends ∙ i.7,
       i.8,
@@ -86,7 +86,7 @@ pub returns-clause-sweeps : goal.returns-clause-sweeps
 returns-clause-sweeps g c = are_for_same g.N.StoreName.limit c.loop.jobs.entries _ (kept_of c.loop.writer) _ (same_entries g c) (same_kept g c) c.loop.invariant.1.sweeps
 
 pub returns-clause-done : goal.returns-clause-done
-returns-clause-done g c = done_same g.N.StoreName.limit c.loop.jobs.entries _ (kept_of c.loop.writer) _ (same_entries g c) (same_kept g c) c.loop.invariant.5
+returns-clause-done g c = written_same g.N.StoreName.limit c.loop.jobs.entries _ (kept_of c.loop.writer) _ (same_entries g c) (same_kept g c) c.loop.invariant.5
 
 pub returns-clause-cause : goal.returns-clause-cause
 returns-clause-cause g c =
