@@ -14,7 +14,7 @@ pub enum ListenFault {
     /// Memory was refused.
     #[error("out of memory")]
     NoMemory,
-    /// No thread can be started, or memory was refused for their list.
+    /// The thread of the store's writer, or that of the first place, cannot be started.
     #[error("no thread can be started")]
     NoThread,
 }

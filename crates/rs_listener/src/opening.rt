@@ -1,5 +1,7 @@
 //! What each place gets.
 
+ghost use Rattle.std.specs.Prelude.{◌≡◌, IfOk, length};
+
 use crate::turn::ListenTurn;
 use rs_sockets::Listener;
 use std::alloc::{AllocError, Global};
@@ -12,10 +14,12 @@ pub(crate) fn turns<H: Clock + Copy>(
     alloc: Global,
     listener: Listener,
     count: u8,
-) -> Result<Vec<ListenTurn<H>>, AllocError> {
+) -> Result<Vec<ListenTurn<H>>, AllocError>
+    ensures { IfOk result (λ turns. length turns.items ≡ count) }
+{
     let listener = Arc::new(alloc, listener).map_err(|_| AllocError)?;
     let mut turns = Vec::new(alloc);
-    for _ in 0..count {
+    for before in 0..count {
         let listener = Arc::try_clone(&listener)?;
         turns
             .push(ListenTurn::new(rt, alloc, listener))

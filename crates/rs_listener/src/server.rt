@@ -1,6 +1,6 @@
 //! The server.
 
-ghost use Rattle.std.specs.Prelude.{◌≡◌, ◌<◌, ◌≤◌, ℕ, List, length, IfOk, IfSome};
+ghost use Rattle.std.specs.Prelude.{◌≡◌, ◌<◌, ◌≤◌, ℕ, List, IfOk, IfSome};
 ghost use Rattle.rs_message.specs.declared.entry.TheConstants.{MAX_PLACES};
 ghost use Rattle.rs_places.specs.Store.{IsStoreRun};
 ghost use Rattle.rs_places.specs.Turns.{Plan};
@@ -27,13 +27,14 @@ pub struct Server {
     queue: BlankQueue,
     places: u8,
     ghost both: { queue.places ≡ blank.places },
+    ghost each: { places ≡ blank.places },
 }
 
 /// What a server did.
 #[derive(Clone, Copy, Debug, PartialEq, Eq)]
 pub struct Summary {
-    /// How many places served clients.
-    pub places: usize,
+    /// How many places had a thread of their own.
+    pub threads: usize,
     /// How many changes all places sent to the writer, refused ones too. None if not all are known to be taken.
     pub changes: Option<u64>,
 }
@@ -85,21 +86,22 @@ impl Server {
 
     /// Serves clients, until all connections were accepted and have ended.
     ///
-    /// A place whose thread cannot be started is left out; the others serve all connections. A fault of a connection ends that
-    /// connection alone. If the changes are known, they are those of a run of the store, as [`run_store`] says it; of its clients nothing
-    /// is known.
+    /// If a place's thread cannot be started, and it is not the first, the caller's thread serves it and those behind it, one after
+    /// the other. A fault of a connection ends that connection alone. If the changes are known, they are those of a run of the store,
+    /// as [`run_store`] says it; of its clients nothing is known, so any number meets this clause. That it is the one of this run is seen
+    /// in the code: it is what `run_store` answers.
     ///
     /// # Errors
     ///
-    /// [`NoMemory`](ListenFault::NoMemory) if memory is refused for the store, the queue or the gates of the places,
-    /// [`NoThread`](ListenFault::NoThread) if the thread of the store's writer, or that of every place, cannot be started, or memory is
-    /// refused for the list of the threads. No client was served.
+    /// [`NoMemory`](ListenFault::NoMemory) if memory is refused for the store, the queue, the gates or the threads of the places,
+    /// [`NoThread`](ListenFault::NoThread) if the thread of the store's writer, or that of the first place, cannot be started. No
+    /// client was served.
     pub fn run<H: Clock + Threads + Wait + Copy + Send + Sync + 'static>(
         self,
         rt: H,
     ) -> Result<Summary, ListenFault>
         ensures { IfOk result (λ summary. IfSome summary.changes (λ changes. (before : List Plan) × (after : List Plan) × (version : ℕ)
-            × IsStoreRun self.blank.limit self.blank.places before after version changes × (length after ≡ summary.places))) }
+            × IsStoreRun self.blank.limit self.blank.places before after version summary.changes)) }
     {
         let Server {
             alloc,
@@ -110,12 +112,8 @@ impl Server {
         } = self;
         let turns = turns(rt, alloc, listener, places)?;
         let end = run_store(rt, alloc, blank, queue, turns)?;
-        let places = end.turns.len();
-        if places == 0 {
-            return Err(ListenFault::NoThread);
-        }
         Ok(Summary {
-            places,
+            threads: end.threads,
             changes: end.changes,
         })
     }

@@ -136,7 +136,7 @@ fn clients_share_a_store(rt: HostRuntime) -> Result<(), Fail> {
     // One place serves the clients one after the other. Of four, one is never used.
     for places in [1u8, 2, 4] {
         let summary = Summary {
-            places: usize::from(places),
+            threads: usize::from(places),
             changes: Some(2),
         };
         let (went, told) = publish_and_read(rt, rt.alloc(), places)?;

@@ -1,5 +1,5 @@
 -- What a receipt says of the list that its token names.
-use Rattle.std.proofs.Common.{◌≡◌, ◌⊎◌, ⊎_elim, ℕ, zero, suc, ◌+◌, List, [], ◌∷◌, ◌++◌, length, refl, inl, inr, sym, ap, subst, ◌∙◌, arith, length-append}
+use Rattle.std.proofs.Common.{◌≡◌, ◌⊎◌, ⊎_elim, ℕ, zero, suc, ◌+◌, List, [], ◌∷◌, ◌++◌, length, refl, inl, inr, sym, ap, subst, ◌∙◌, Some, append-nil, arith, length-append}
 use Rattle.std.specs.Prelude.{Contains, ◌<◌, Result, Ok, Err}
 use Rattle.std.specs.List.{All}
 use Rattle.std.proofs.lemmas.List.Elements.{All-weaker, All-contains_itself, Contains-append_left, Contains-append_right}
@@ -11,7 +11,9 @@ use Rattle.rs_store.specs.History.{IsLegal}
 use Rattle.rs_store.proofs.Entries.{Among, among, contains}
 use Rattle.rs_version.specs.Receipts.{StandsAt}
 use Rattle.rs_version.proofs.Origins.{origins_differ}
-use Rattle.rs_session.specs.Gate.{Mark, IsHandedOver, Submits, last_origin}
+use Rattle.rs_session.specs.Gate.{Mark, IsHandedOver, Sends, SendsAtMost, Submits, entry_by, last_origin}
+use Rattle.rs_intake.specs.Lines.{AddsAtMost, Line, job}
+use Rattle.rs_places.specs.Shared.{SharedValue, mark_of}
 
 among_middle : (e : Entry) (before after : List Entry) → Among e (before ++ e ∷ after)
 among_middle e [] after = inl refl
@@ -72,13 +74,29 @@ handed_over limit operation mark seen list told e number legal at is (inr same) 
 -- what a submit with a receipt leaves, once the seat has learned the receipt's token
 pub submits_ok : (limit : ℕ) (operation : Operation) (old new : Mark) (seen list told : List Entry) (e : Entry) (number : ℕ)
     → IsLegal limit told → StandsAt e number told → e ≡ record { origin = last_origin new; operation = operation }
-    → (list ≡ seen) ⊎ (list ≡ told) → IsPrefix told list → old.serial < new.serial → Submits operation old new (Ok tt) seen list
-submits_ok limit operation old new seen list told e number legal at is one prefix above =
+    → (list ≡ seen) ⊎ (list ≡ told) → IsPrefix told list → old.serial < new.serial → Sends old.sent (entry_by operation new ∷ []) new.sent → Submits operation old new (Ok tt) seen list
+submits_ok limit operation old new seen list told e number legal at is one prefix above sent =
     let P : List Entry → Type 0 = λ l. Contains l e in
     let there : Contains list e = subst P prefix.1 (Contains-append_left told prefix.0 e (stands_contained e number told at)) in
     let Q : Entry → Type 0 = λ d. Contains list d in
-    record { handed_over = handed_over limit operation new seen list told e number legal at is one; kept = record { entry = subst Q is there; serial = above } }
+    record { handed_over = handed_over limit operation new seen list told e number legal at is one; kept = record { entry = subst Q is there; serial = above; sent = sent } }
 
 -- what a refused submit leaves
 pub submits_err : (operation : Operation) (old new : Mark) (fault : SubmitFault) (seen list : List Entry) → list ≡ seen → Submits operation old new (Err fault) seen list
 submits_err operation old new fault seen list same = record { handed_over = none_handed_over operation new seen list same; kept = tt }
+
+-- what the line sent, as the mark has it
+pub sends_at_most : (operation : Operation) (before : Mark) (old new : Line) → mark_of old ≡ before → new.place ≡ old.place → AddsAtMost old.sent (job old.place new.serial operation) new.sent
+    → SendsAtMost before.sent (entry_by operation (mark_of new)) (mark_of new).sent
+sends_at_most operation before old new is place adds =
+    let e = entry_by operation (mark_of new) in
+    let P : Mark → Type 0 = λ m. SendsAtMost m.sent e (Some new.sent) in
+    let Q : ℕ → Type 0 = λ p. AddsAtMost old.sent (job p new.serial operation) new.sent in
+    subst P is (⊎_elim (λ (t : new.sent ≡ old.sent). inl (t ∙ sym (append-nil old.sent))) (λ (t : new.sent ≡ old.sent ++ e ∷ []). inr t) (subst Q (sym place) adds))
+
+pub sends_it : (operation : Operation) (before : Mark) (old new : Line) → mark_of old ≡ before → new.place ≡ old.place → new.sent ≡ old.sent ++ job old.place new.serial operation ∷ []
+    → Sends before.sent (entry_by operation (mark_of new) ∷ []) (mark_of new).sent
+sends_it operation before old new is place adds =
+    let P : Mark → Type 0 = λ m. Sends m.sent (entry_by operation (mark_of new) ∷ []) (Some new.sent) in
+    let Q : ℕ → Type 0 = λ p. new.sent ≡ old.sent ++ job p new.serial operation ∷ [] in
+    subst P is (subst Q (sym place) adds)

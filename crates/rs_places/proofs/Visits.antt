@@ -3,7 +3,7 @@ use Rattle.std.proofs.Common.{◌≡◌, ℕ, Option, Some, None, List, [], ◌�
 use Rattle.std.proofs.lemmas.List.{append-nil, map-append}
 use Rattle.std.specs.Prelude.{Result}
 use Rattle.std.specs.Io.KnownBytes.{Consumes, IsAtEnd}
-use Rattle.rs_intake.specs.Lines.{Closed}
+use Rattle.rs_intake.specs.Lines.{Closed, IsClosed}
 use Rattle.rs_message.specs.declared.entry.Entry.{Entry}
 use Rattle.rs_server.specs.Clock.{Told}
 use Rattle.rs_server.specs.Conversation.{WritesTurns, assigned_of, start}
@@ -63,9 +63,9 @@ served_more limit number first now after plan given so_far next one =
     let visit = one.visit in
     let G : Streams → Type 0 = λ s. Gave now.plan.waiting (s ∷ []) plan.waiting in
     let gave : Gave now.plan.waiting (visit.given ∷ []) after.plan.waiting =
-        gave_more now.plan.waiting plan.waiting after.plan.waiting (visit.given ∷ []) [] (subst G (sym one.over) next.waiting) one.taken_back.waiting in
+    gave_more now.plan.waiting plan.waiting after.plan.waiting (visit.given ∷ []) [] (subst G (sym one.over) next.waiting) one.taken_back.waiting in
     let took : TookBack now.plan.ended (visit.ending ∷ []) after.plan.ended =
-        took_more now.plan.ended plan.ended after.plan.ended [] (visit.ending ∷ []) next.ended one.taken_back.ended in
+    took_more now.plan.ended plan.ended after.plan.ended [] (visit.ending ∷ []) next.ended one.taken_back.ended in
     let P : List Streams → Type 0 = λ l. Gave first.plan.waiting l after.plan.waiting in
     let Q : List Ending → Type 0 = λ l. TookBack first.plan.ended l after.plan.ended in
     record {
@@ -79,14 +79,14 @@ served_more limit number first now after plan given so_far next one =
       ended = subst Q (sym (map-append (λ (v : Visit). v.ending) so_far.visits (visit ∷ [])))
           (took_more first.plan.ended now.plan.ended after.plan.ended (map (λ (v : Visit). v.ending) so_far.visits) (visit.ending ∷ []) so_far.ended took);
       place =
-        let moved = (marks_through _ _ _ one.served.connection.marks one.served.connection.run).place in
-        ap (λ (g : SharedValue). g.mark.place) (sym one.leaves) ∙ (moved ∙ so_far.place);
+          let moved = (marks_through _ _ _ one.served.connection.marks one.served.connection.run).place in
+          ap (λ (g : SharedValue). g.mark.place) (sym one.leaves) ∙ (moved ∙ so_far.place);
     }
 
 -- the place, once its turn has no more connections and its line is closed
 pub place_served : (limit number : ℕ) (first now : Place) (plan : Plan) (told : List Entry) (line : Closed) → ServedSoFar limit first number now → GivesNext now.plan None plan
-    → told ≡ now.gate.known → line.place ≡ now.gate.mark.place → line.sent ≡ now.gate.sent → IsPlaceServed limit first (record { plan = plan; told = told; line = line })
-place_served limit number first now plan told line so_far next told_is place sent =
+    → told ≡ now.gate.known → line.place ≡ now.gate.mark.place → now.gate.mark.sent ≡ Some line.sent → IsClosed line.place line.ends line.gone → IsPlaceServed limit first (record { plan = plan; told = told; line = line })
+place_served limit number first now plan told line so_far next told_is place sent closed =
     let P : List Visit → Type 0 = λ l. AreConnectionsServed limit 1 first.gate l now.gate in
     let Q : List Ending → Type 0 = λ l. TookBack first.plan.ended l plan.ended in
     record {
@@ -99,6 +99,7 @@ place_served limit number first now plan told line so_far next told_is place sen
       told = told_is;
       number = place ∙ so_far.place;
       sent = sent;
+      closed = closed;
     }
 
 -- one connection, once it was given back
@@ -106,7 +107,7 @@ pub one_served : {R W C : Type 0} (remaining : R → Option (List ℕ)) (content
     (input read_from read_to input_back : R) (output write_from write_to output_back : W) (clock clock_back : C) (result : Result Served ServeFault)
     → read_from ≡ input → write_from ≡ output → input_back ≡ read_to → output_back ≡ write_to
     → IsServedAt limit (start (assigned_of gate.mark.place number) gate.known gate.mark) (Consumes (remaining read_from) (remaining read_to)) (IsAtEnd (remaining read_to))
-        (Told (moments clock) (moments clock_back)) (WritesTurns result (contents write_from) (contents write_to)) result after
+    (Told (moments clock) (moments clock_back)) (WritesTurns result (contents write_from) (contents write_to)) result after
     → TakesBack old (record { streams = record { unread = remaining input_back; written = contents output_back; moments = moments clock_back }; result = result }) new
     → ServesOne limit number (place_at old gate) (record { unread = remaining input; written = contents output; moments = moments clock }) (place_at new after)
 one_served {R} {W} {C} remaining contents moments limit number old new gate after input read_from read_to input_back output write_from write_to output_back clock clock_back result same_in same_out back_in back_out served taken =

@@ -1,6 +1,6 @@
 -- From what is settled to one statement about a whole run.
 use Rattle.std.proofs.Common.{◌≡◌, ◌≢◌, ◌⊎◌, ⊎_elim, inl, inr, ℕ, zero, suc, ◌+◌, ◌==◌, ◌<◌, ◌≤◌, Bool, true, false, cond, List, [], ◌∷◌, ◌++◌, length, map, get_or, take, refl, sym, ap, subst, ◌∙◌, append_assoc, length-append, arith}
-use Rattle.std.specs.Prelude.{Option, Some, None, IfSome}
+use Rattle.std.specs.Prelude.{Option, Some, None, IfSome, IsTrue, MatchBool}
 use Rattle.std.specs.List.{All, AllByRecursion, HoldsAt, filter}
 use mathlib.Core.List.{IsPrefix}
 use Rattle.std.proofs.lemmas.List.{append-nil, length-map, map-append}
@@ -15,18 +15,21 @@ use Rattle.rs_version.proofs.Origins.{origins_differ}
 use Rattle.rs_intake.specs.Lines.{Closed, Line, new_lines}
 use Rattle.rs_intake.specs.Parts.{IsPart}
 use Rattle.rs_intake.specs.QueueRule.{of_place}
-use Rattle.rs_intake.specs.Settling.{AreTaken, sent_in_all}
+use Rattle.rs_intake.specs.Done.{Answer, IsWritten, accepted, is_refused}
+use Rattle.rs_intake.specs.Settling.{AreTaken, AreTakenInOrder, sent_in_all}
 use Rattle.rs_intake.specs.Sweeps.{without_sweeps}
 use Rattle.rs_packet.specs.declared.packet.Publish.{Publish}
-use Rattle.rs_session.specs.Gate.{Extends, Mark}
+use Rattle.rs_session.specs.Gate.{Extends, Mark, Sends}
 use Rattle.rs_session.specs.Kept.{AreGrowing, IsKeptIn, StandsOnce, lists_of}
 use Rattle.rs_session.specs.Run.{Turn}
+use Rattle.rs_session.specs.Sent.{AreSentBy}
+use Rattle.rs_session.proofs.Sending.{both_sent, none_sent}
 use Rattle.rs_server.specs.Conversation.{assigned_of, start}
-use Rattle.rs_places.specs.Places.{AreConnectionsServed, AreEachServed, ArePlacesServed, IsConnectionServed, IsPlaceServed, Left, Place, Visit, left_at, next_number, places_of}
-use Rattle.rs_places.specs.Shared.{SharedValue}
-use Rattle.rs_places.specs.Store.{ArePlacesOf, AreWithin, IsPlaceOf, IsSettled, IsStoreRun, IsWithin, gates_of, new_gates}
+use Rattle.rs_places.specs.Places.{AreConnectionsServed, AreEachServed, IsConnectionServed, IsPlaceServed, Left, Place, Visit, left_at, next_number, places_of}
+use Rattle.rs_places.specs.Shared.{SharedValue, mark_of}
+use Rattle.rs_places.specs.Store.{ArePlacesOf, ArePublications, AreWithin, IsPlaceOf, IsSettled, IsStoreRun, IsWithin, gates_of, new_gates}
 use Rattle.rs_places.specs.Turns.{Plan}
-use Rattle.rs_places.proofs.Starting.{places_length}
+use Rattle.rs_places.proofs.Starting.{each_length, places_length}
 
 -- ---- the lists of connections
 
@@ -36,6 +39,11 @@ extends_more first then last (xs, p) (ys, q) = (xs ++ ys, q ∙ (ap (λ l. l ++ 
 all_last : {A : Type 0} (P : A → Type 0) (xs : List A) (z : A) → AllByRecursion P (xs ++ z ∷ []) → P z
 all_last P [] z all = all.0
 all_last P (x ∷ xs) z all = all_last P xs z all.1
+
+-- one more behind
+all_behind : {A : Type 0} (P : A → Type 0) (xs : List A) (x : A) → AllByRecursion P xs → P x → AllByRecursion P (xs ++ x ∷ [])
+all_behind P [] x all here = (here, tt)
+all_behind P (y ∷ ys) x all here = (all.0, all_behind P ys x all.1 here)
 
 -- all that grow are prefixes of the last
 growing_last : (lists : List (List Entry)) (last : List Entry) → AreGrowing (lists ++ last ∷ []) → AllByRecursion (λ seen. Extends last seen) lists
@@ -81,6 +89,7 @@ connection_within limit number list gate visit legal one extends =
     let seen = growing_last (gate.known ∷ lists_of served.turns) visit.gate.known served.lists in
     let L : List Turn → Type 0 = λ ts. AllByRecursion (λ seen. Extends list seen) (lists_of ts) in
     record {
+      first = extends_more gate.known visit.gate.known list seen.0 extends;
       lists = subst L (sym one.turns) (all_weaker (λ l. Extends visit.gate.known l) (λ l. Extends list l) (λ l h. extends_more l visit.gate.known list h extends) (lists_of served.turns) seen.1);
       kept = λ before turn after o p answer whole is_open told.
           kept_more limit _ turn p (turn.to.seen ∷ lists_of after) visit.gate.known list legal extends (served.kept before turn after o p answer (sym one.turns ∙ whole) is_open told);
@@ -121,50 +130,71 @@ part_filter {A} f (x ∷ xs) (y ∷ ys) p = ⊎_elim
     more true h = part_behind (filter f (x ∷ xs)) (filter f ys) y h
     more false h = h
 
-part_len : {A : Type 0} (xs ys : List A) → IsPart xs ys → length xs ≤ length ys
-part_len [] ys p = omega (arith)
-part_len (x ∷ xs) [] p = absurd p
-part_len (x ∷ xs) (y ∷ ys) p = ⊎_elim (λ t. let h = part_len xs ys t.1 in omega (arith, h)) (λ t. let h = part_len (x ∷ xs) ys t in omega (arith, h)) p
-
-part_all : {A : Type 0} (xs ys : List A) → IsPart xs ys → length ys ≤ length xs → xs ≡ ys
-part_all [] [] p few = refl
-part_all [] (y ∷ ys) p few = absurd (omega (arith, few))
-part_all (x ∷ xs) [] p few = absurd p
-part_all (x ∷ xs) (y ∷ ys) p few = ⊎_elim
-    (λ (t : (x ≡ y) × IsPart xs ys). ap (λ z. z ∷ xs) t.0 ∙ ap (λ l. y ∷ l) (part_all xs ys t.1 (omega (arith, few))))
-    (λ (t : IsPart (x ∷ xs) ys). let h = part_len (x ∷ xs) ys t in absurd (omega (arith, h, few)))
-    p
-
 published_part : (w : Written) (jobs : List Entry) (place : ℕ) → IsPart (without_sweeps (kept_of w)) jobs → IsPart (of_place place (without_sweeps w.published)) (of_place place jobs)
 published_part w jobs place part =
     let P : List Entry → Type 0 = λ l. IsPart l jobs in
     let split = subst P (filter-append _ w.published (listed w.held)) part in
     part_filter (λ e. e.origin.place == place) (without_sweeps w.published) jobs (part_front_of (without_sweeps w.published) (without_sweeps (listed w.held)) jobs split)
 
+accepted_part : (jobs : List Entry) (told : List Answer) → IsPart (accepted jobs told) jobs
+accepted_part [] told = tt
+accepted_part (job ∷ jobs) [] = tt
+accepted_part (job ∷ jobs) (answer ∷ told) = go (is_refused answer) (accepted_part jobs told)
+  where
+    go : (b : Bool) → IsPart (accepted jobs told) jobs → IsPart (cond b (accepted jobs told) (job ∷ accepted jobs told)) (job ∷ jobs)
+    go true h = part_behind (accepted jobs told) jobs job h
+    go false h = inl (refl, h)
+
+written_part : (limit : ℕ) (jobs kept : List Entry) → IsWritten limit jobs kept → IsPart (without_sweeps kept) jobs
+written_part limit jobs kept w = let P : List Entry → Type 0 = λ l. IsPart l jobs in subst P (sym w.changes) (accepted_part jobs w.told)
+
+part_of_front : {A : Type 0} (xs ys zs : List A) → IsPart xs ys → IsPart xs (ys ++ zs)
+part_of_front [] ys zs part = tt
+part_of_front (x ∷ xs) [] zs part = absurd part
+part_of_front (x ∷ xs) (y ∷ ys) zs part = ⊎_elim (λ t. inl (t.0, part_of_front xs ys zs t.1)) (λ t. inr (part_of_front (x ∷ xs) ys zs t)) part
+
+-- ---- what the connections sent
+
+visits_send : (limit number : ℕ) (gate : SharedValue) (visits : List Visit) (last : SharedValue) → AreConnectionsServed limit number gate visits last
+    → (entries : List Entry) × Sends gate.mark.sent entries last.mark.sent × ArePublications number gate visits entries
+visits_send limit number gate [] last served = ([], none_sent gate.mark last.mark (ap (λ (g : SharedValue). g.mark) served), refl)
+visits_send limit number gate (visit ∷ visits) last (one, rest) =
+    let own = one.connection.publications in
+    let (more, sends, later) = visits_send limit (next_number number) visit.gate visits last rest in
+    let P : List Turn → Type 0 = λ turns. AreSentBy (start (assigned_of gate.mark.place number) gate.known gate.mark) turns own.entries in
+    (own.entries ++ more, both_sent gate.mark.sent visit.gate.mark.sent last.mark.sent own.entries more own.sent sends, (own.entries, more, refl, subst P (sym one.turns) own.publications, later))
+
+place_sends : (limit : ℕ) (place : Place) (left : Left) → place.gate.mark.sent ≡ Some [] → (served : IsPlaceServed limit place left) → ArePublications 1 place.gate served.visits left.line.sent
+place_sends limit place left fresh served =
+    let (entries, sends, are) = visits_send limit 1 place.gate served.visits served.last served.connections in
+    let P : Option (List Entry) → Type 0 = λ o. Sends o entries served.last.mark.sent in
+    let Q : Option (List Entry) → Type 0 = λ o. Sends (Some []) entries o in
+    let is : left.line.sent ≡ entries = subst Q served.sent (subst P fresh sends) in
+    let R : List Entry → Type 0 = λ l. ArePublications 1 place.gate served.visits l in
+    subst R (sym is) are
+
 -- ---- the places
 
-each_length : (limit : ℕ) (places : List Place) (left : List Left) → AreEachServed limit places left → length places ≡ length left
-each_length limit [] [] each = refl
-each_length limit [] (end ∷ left) each = absurd each
-each_length limit (place ∷ places) [] each = absurd each
-each_length limit (place ∷ places) (end ∷ left) each = let h = each_length limit places left each.1 in omega (arith, h)
-
-each_of_store : (limit : ℕ) (list jobs : List Entry) (places : List Place) (left : List Left) → IsLegal limit list → ((place : ℕ) → IsPart (of_place place (without_sweeps list)) (of_place place jobs))
-    → AreEachServed limit places left → AllByRecursion (λ end. Extends list end.told) left → AllByRecursion (λ end. of_place end.line.place jobs ≡ end.line.sent) left → ArePlacesOf limit list places left
-each_of_store limit list jobs [] [] legal part each told taken = tt
-each_of_store limit list jobs [] (end ∷ left) legal part each told taken = absurd each
-each_of_store limit list jobs (place ∷ places) [] legal part each told taken = absurd each
-each_of_store limit list jobs (place ∷ places) (end ∷ left) legal part each told taken =
+each_of_store : (limit : ℕ) (history jobs : List Entry) (places : List Place) (left : List Left) → IsLegal limit history → ((place : ℕ) → IsPart (of_place place (without_sweeps history)) (of_place place jobs))
+    → AllByRecursion (λ place. place.gate.mark.sent ≡ Some []) places → AreEachServed limit places left
+    → AllByRecursion (λ end. Extends history end.told) left → AllByRecursion (λ end. Extends end.line.sent (of_place end.line.place jobs)) left → ArePlacesOf limit history jobs places left
+each_of_store limit history jobs [] [] legal part fresh each told taken = tt
+each_of_store limit history jobs [] (end ∷ left) legal part fresh each told taken = absurd each
+each_of_store limit history jobs (place ∷ places) [] legal part fresh each told taken = absurd each
+each_of_store limit history jobs (place ∷ places) (end ∷ left) legal part fresh each told taken =
     let served : IsPlaceServed limit place end = each.0 in
-    let P : List Entry → Type 0 = λ l. Extends list l in
-    let Q : List Entry → Type 0 = λ l. IsPart (of_place end.line.place (without_sweeps list)) l in (
+    let P : List Entry → Type 0 = λ l. Extends history l in
+    let own = of_place end.line.place (without_sweeps history) in
+    let Q : List Entry → Type 0 = λ l. IsPart own l in (
       record {
         served = served;
-        within = (visits_within limit 1 list place.gate served.visits served.last legal served.connections (subst P served.told told.0)).1;
-        told = told.0;
-        part = subst Q taken.0 (part end.line.place);
+        within = (visits_within limit 1 history place.gate served.visits served.last legal served.connections (subst P served.told told.0)).1;
+        known = told.0;
+        publications = place_sends limit place end fresh.0 served;
+        taken = taken.0;
+        part = subst Q (sym taken.0.1) (part_of_front own (of_place end.line.place jobs) taken.0.0 (part end.line.place));
       },
-      each_of_store limit list jobs places left legal part each.1 told.1 taken.1,
+      each_of_store limit history jobs places left legal part fresh.1 each.1 told.1 taken.1,
     )
 
 new_lines_length : (places : ℕ) → length (new_lines places) ≡ places
@@ -172,28 +202,30 @@ new_lines_length zero = refl
 new_lines_length (suc n) = let h = new_lines_length n in omega (arith, h, length-append (new_lines n) (record { place = suc n; serial = 0; sent = []; heard = [] } ∷ []))
 
 abbrev new_gate : Line → SharedValue
-new_gate line = record { known = []; mark = record { place = line.place; serial = line.serial }; sent = line.sent }
+new_gate line = record { known = []; mark = mark_of line }
 
 gates_length : (lines : List Line) → length (map new_gate lines) ≡ length lines
 gates_length [] = refl
 gates_length (line ∷ lines) = let h = gates_length lines in omega (arith, h)
+
+pub new_gates_length : (places : ℕ) → length (new_gates places) ≡ places
+new_gates_length places = gates_length (new_lines places) ∙ new_lines_length places
 
 gates_new : (seats : List (List Entry)) (lines : List Line) → length seats ≡ length lines → AllByRecursion (λ seat. seat ≡ []) seats → gates_of seats lines ≡ map new_gate lines
 gates_new [] [] same none = refl
 gates_new [] (line ∷ lines) same none = absurd (omega (arith, same))
 gates_new (seat ∷ seats) [] same none = absurd (omega (arith, same))
 gates_new (seat ∷ seats) (line ∷ lines) same none =
-    let G : List Entry → SharedValue = λ known. record { known = known; mark = record { place = line.place; serial = line.serial }; sent = line.sent } in
+    let G : List Entry → SharedValue = λ known. record { known = known; mark = mark_of line } in
     ap (λ l. G l ∷ gates_of seats lines) none.0 ∙ ap (λ l. new_gate line ∷ l) (gates_new seats lines (omega (arith, same)) none.1)
 
 -- the first seat that is left goes with the first line that is left
 pub next_gate : (done more whole : List SharedValue) (gate : SharedValue) (seats seats_left : List (List Entry)) (lines lines_left : List Line) (seat : List Entry) (line : Line)
     → more ≡ done ++ gate ∷ [] → done ++ gates_of seats lines ≡ whole → seats ≡ seat ∷ seats_left → lines ≡ line ∷ lines_left
-    → gate.known ≡ seat → gate.mark ≡ record { place = line.place; serial = line.serial } → gate.sent ≡ line.sent → more ++ gates_of seats_left lines_left ≡ whole
-next_gate done more whole gate seats seats_left lines lines_left seat line pushed so_far s l known mark sent =
-    let G : List Entry → Mark → List Entry → SharedValue = λ k m t. record { known = k; mark = m; sent = t } in
-    let is : gate ≡ G seat (record { place = line.place; serial = line.serial }) line.sent =
-        ap (λ k. G k gate.mark gate.sent) known ∙ (ap (λ m. G seat m gate.sent) mark ∙ ap (λ t. G seat (record { place = line.place; serial = line.serial }) t) sent) in
+    → gate.known ≡ seat → gate.mark ≡ mark_of line → more ++ gates_of seats_left lines_left ≡ whole
+next_gate done more whole gate seats seats_left lines lines_left seat line pushed so_far s l known mark =
+    let G : List Entry → Mark → SharedValue = λ k m. record { known = k; mark = m } in
+    let is : gate ≡ G seat (mark_of line) = ap (λ k. G k gate.mark) known ∙ ap (λ m. G seat m) mark in
     let rest = gates_of seats_left lines_left in
     let first : gates_of seats lines ≡ gate ∷ rest = ap (λ k. gates_of k lines) s ∙ (ap (λ k. gates_of (seat ∷ seats_left) k) l ∙ ap (λ g. g ∷ rest) (sym is)) in
     ap (λ k. k ++ rest) pushed ∙ (append_assoc done (gate ∷ []) rest ∙ (ap (λ k. done ++ k) (sym first) ∙ so_far))
@@ -208,27 +240,41 @@ no_gate done whole (seat ∷ seats) (line ∷ lines) so_far none = ⊎_elim (λ 
 pub gates_of_new : (seats : List (List Entry)) (places : ℕ) → length seats ≡ places → AllByRecursion (λ seat. seat ≡ []) seats → gates_of seats (new_lines places) ≡ new_gates places
 gates_of_new seats places same none = gates_new seats (new_lines places) (same ∙ sym (new_lines_length places)) none
 
+-- a new gate sent nothing
+lines_fresh : (places : ℕ) → AllByRecursion (λ line. line.sent ≡ []) (new_lines places)
+lines_fresh zero = tt
+lines_fresh (suc n) = all_behind (λ (line : Line). line.sent ≡ []) (new_lines n) (record { place = suc n; serial = 0; sent = []; heard = [] }) (lines_fresh n) refl
+
+places_fresh : (plans : List Plan) (lines : List Line) → AllByRecursion (λ line. line.sent ≡ []) lines → AllByRecursion (λ place. place.gate.mark.sent ≡ Some []) (places_of plans (map new_gate lines))
+places_fresh [] lines fresh = tt
+places_fresh (plan ∷ plans) [] fresh = tt
+places_fresh (plan ∷ plans) (line ∷ lines) fresh = (ap (λ (l : List Entry). Some l) fresh.0, places_fresh plans lines fresh.1)
+
 -- the whole run
-pub store_run : (limit places : ℕ) (before after : List Plan) (gates : List SharedValue) (left : List Left) (w : Written) (jobs : List Entry) (version changes : ℕ)
-    → gates ≡ new_gates places → ArePlacesServed limit (places_of before gates) left → length gates ≤ length left → IsPart (without_sweeps (kept_of w)) jobs
-    → IsLegal limit w.published → IsSettled w.published jobs left changes → version ≡ length w.published → after ≡ map (λ end. end.plan) left
-    → IsStoreRun limit places before after version changes
-store_run limit places before after gates left w jobs version changes new served all part legal settled version_is after_is =
-    let each = each_length limit served.served left served.each in
-    let few = places_length before gates in
-    let fewer = part_len served.served (places_of before gates) served.part in
-    let whole : served.served ≡ places_of before gates = part_all served.served (places_of before gates) served.part (omega (arith, each, few, all)) in
-    let gates_count : length gates ≡ places = ap length new ∙ (gates_length (new_lines places) ∙ new_lines_length places) in
-    let P : List Place → Type 0 = λ l. ArePlacesOf limit w.published l left in
+store_run : (limit places : ℕ) (before after : List Plan) (gates : List SharedValue) (left : List Left) (w : Written) (jobs : List Entry) (version : ℕ) (changes : Option ℕ)
+    → gates ≡ new_gates places → length before ≡ places → AreEachServed limit (places_of before gates) left → IsWritten limit jobs (kept_of w) → IsLegal limit w.published
+    → AllByRecursion (λ end. Extends w.published end.told) left → AllByRecursion (λ end. Extends end.line.sent (of_place end.line.place jobs)) left
+    → IfSome changes (IsSettled jobs left) → version ≡ length w.published → after ≡ map (λ end. end.plan) left → IsStoreRun limit places before after version changes
+store_run limit places before after gates left w jobs version changes new turns served written legal known taken settled version_is after_is =
+    let gates_count : length gates ≡ places = ap length new ∙ new_gates_length places in
+    let all = places_length before gates (turns ∙ sym gates_count) in
+    let each = each_length limit (places_of before gates) left served in
+    let P : List SharedValue → Type 0 = λ l. AreEachServed limit (places_of before l) left in
+    let part = written_part limit jobs (kept_of w) written in
     record {
-      list = w.published;
-      left = left;
+      history = w.published;
       legal = legal;
-      each = subst P (whole ∙ ap (λ l. places_of before l) new) (each_of_store limit w.published jobs served.served left legal (λ place. published_part w jobs place part) served.each settled.told settled.taken);
-      count = omega (arith, each, few, fewer, all, gates_count);
-      turns = after_is;
       entries = version_is;
-      sent = settled.sent;
+      jobs = jobs;
+      held = w.held;
+      written = written;
+      accepted_of = λ place. ap (of_place place) written.changes;
+      left = left;
+      each = each_of_store limit w.published jobs (places_of before (new_gates places)) left legal (λ place. published_part w jobs place part)
+          (places_fresh before (new_lines places) (lines_fresh places)) (subst P new served) known taken;
+      count = omega (arith, each, all, gates_count);
+      turns = after_is;
+      settled = settled;
     }
 
 -- ---- maps
@@ -253,13 +299,6 @@ pub all_seen : {E B : Type 0} (g : E → B) (P : E → Type 0) (Q : B → Type 0
 all_seen g P Q to [] all = tt
 all_seen g P Q to (e ∷ es) all = (to e all.0, all_seen g P Q to es all.1)
 
--- there are no more ends than gates
-pub few_ends : {E : Type 0} (ends : List E) (h : E → Left) (limit : ℕ) (plans : List Plan) (gates : List SharedValue) → ArePlacesServed limit (places_of plans gates) (map h ends) → length ends ≤ length gates
-few_ends ends h limit plans gates served =
-    let each = each_length limit served.served (map h ends) served.each in
-    let few = part_len served.served (places_of plans gates) served.part in
-    omega (arith, each, few, places_length plans gates, length-map ends h)
-
 -- ---- one end after the other
 
 pub known_more : {A : Type 0} (xs ys : List A) (P : A → Type 0) (i : ℕ) (x : A) → xs ≡ ys → i < length ys → x ≡ get_or xs i x → P x → All P (take i ys) → All P (take (i + 1) ys)
@@ -279,39 +318,55 @@ known_all {A} ys P i few all = let Q : List A → Type 0 = λ l. All P l in subs
 
 -- ---- the run
 
--- the settlement, by what it is of
-pub settles : {E : Type 0} (ends : List E) (plan : E → Plan) (told : E → List Entry) (line : E → Closed) (published jobs : List Entry) (lines : List Closed) (changes : ℕ)
-    → lines ≡ map line ends → All (λ e. IsPrefix (told e) published) ends → AreTaken jobs lines → changes ≡ sent_in_all lines
-    → IsSettled published jobs (map (λ e. left_at (plan e) (told e) (line e)) ends) changes
-settles {E} ends plan told line published jobs lines changes is known taken sent =
-    let h : E → Left = λ e. left_at (plan e) (told e) (line e) in
-    let T : List Closed → Type 0 = λ l. AreTaken jobs l in
-    let P : Closed → Type 0 = λ e. of_place e.place jobs ≡ e.sent in
-    let K : E → Type 0 = λ e. IsPrefix (told e) published in
-    record {
-      told = all_seen h K (λ end. Extends published end.told) (λ e k. (k.0, sym k.1)) ends (recursion_from_All K ends known);
-      taken = all_at line h P (λ end. of_place end.line.place jobs ≡ end.line.sent) (λ e t. t) ends (recursion_from_All P (map line ends) (subst T is taken));
-      sent = sent ∙ ap sent_in_all (is ∙ sym (map_map (λ (end : Left). end.line) h ends));
-    }
+matched : (b : Bool) (P Q : Type 0) → MatchBool b P Q → IsTrue b → P
+matched true P Q m is = m
+matched false P Q m is = absurd (cc (is))
 
-pub if_some_more : {A : Type 0} (o : Option A) (P Q : A → Type 0) → ((x : A) → P x → Q x) → IfSome o P → IfSome o Q
+-- if there are changes, the lists are in order
+pub if_ordered : (b : Bool) (P : Type 0) (changes : Option ℕ) → MatchBool b P (changes ≡ None) → IfSome changes (λ n. IsTrue b)
+if_ordered b P None m = tt
+if_ordered true P (Some n) m = refl
+if_ordered false P (Some n) m = absurd (cc (m))
+
+settled_so : {E : Type 0} (h : E → Left) (line : E → Closed) (jobs : List Entry) (ends : List E) (n : ℕ) → ((e : E) → (h e).line ≡ line e)
+    → AreTaken jobs (map line ends) × (n ≡ length jobs) × (n ≡ sent_in_all (map line ends)) → IsSettled jobs (map h ends) n
+settled_so {E} h line jobs ends n is (taken, counted, sent) =
+    let P : Closed → Type 0 = λ e. of_place e.place jobs ≡ e.sent in
+    record {
+      taken = all_at line h P (λ end. of_place end.line.place jobs ≡ end.line.sent) (λ e t. subst P (sym (is e)) t) ends (recursion_from_All P (map line ends) taken);
+      jobs_are = counted;
+      sent = sent ∙ ap sent_in_all (lines_same h line is ends);
+    }
+  where
+    lines_same : (h : E → Left) (line : E → Closed) → ((e : E) → (h e).line ≡ line e) → (ends : List E) → map line ends ≡ map (λ (end : Left). end.line) (map h ends)
+    lines_same h line is [] = refl
+    lines_same h line is (e ∷ es) = ap (λ c. c ∷ map line es) (sym (is e)) ∙ ap (λ l. (h e).line ∷ l) (lines_same h line is es)
+
+if_some_more : {A : Type 0} (o : Option A) (P Q : A → Type 0) → ((x : A) → P x → Q x) → IfSome o P → IfSome o Q
 if_some_more None P Q to h = tt
 if_some_more (Some x) P Q to h = to x h
 
 pub whole_run : {T E : Type 0} (turns : List T) (ends : List E) (plan : T → Plan) (turn : E → T) (told : E → List Entry) (line : E → Closed) (own limit places : ℕ) (turns_left : List T)
-    (seats : List (List Entry)) (lines : List Line) (gates : List SharedValue) (w : Written) (jobs : List Entry) (version : ℕ) (changes : Option ℕ)
-    → own ≡ limit → length seats ≡ places → All (λ seat. seat ≡ []) seats → lines ≡ new_lines places → gates ≡ gates_of seats lines
-    → ArePlacesServed limit (places_of (map plan turns) gates) (map (λ e. left_at (plan (turn e)) (told e) (line e)) ends) → length gates ≤ length ends
-    → IsPart (without_sweeps (kept_of w)) jobs → IsLegal limit w.published → IfSome changes (IsSettled w.published jobs (map (λ e. left_at (plan (turn e)) (told e) (line e)) ends))
-    → version ≡ length w.published → turns_left ≡ map turn ends
-    → IfSome changes (IsStoreRun own places (map plan turns) (map plan turns_left) version)
-whole_run {T} {E} turns ends plan turn told line own limit places turns_left seats lines gates w jobs version changes same count none lines_is gates_is served all part legal settled version_is left_is =
+    (seats : List (List Entry)) (lines : List Line) (gates : List SharedValue) (w : Written) (jobs : List Entry) (version : ℕ) (changes : Option ℕ) (ordered : Bool)
+    → own ≡ limit → length seats ≡ places → All (λ seat. seat ≡ []) seats → lines ≡ new_lines places → gates ≡ gates_of seats lines → length turns ≡ places
+    → AreEachServed limit (places_of (map plan turns) gates) (map (λ e. left_at (plan (turn e)) (told e) (line e)) ends)
+    → IsWritten limit jobs (kept_of w) → IsLegal limit w.published → MatchBool ordered (All (λ e. IsPrefix (told e) w.published) ends) (changes ≡ None)
+    → AreTakenInOrder jobs (map line ends) → IfSome changes (λ n. AreTaken jobs (map line ends) × (n ≡ length jobs) × (n ≡ sent_in_all (map line ends)))
+    → version ≡ length w.published → turns_left ≡ map turn ends → IsTrue ordered
+    → IsStoreRun own places (map plan turns) (map plan turns_left) version changes
+whole_run {T} {E} turns ends plan turn told line own limit places turns_left seats lines gates w jobs version changes ordered same count none lines_is gates_is turns_count served written legal known taken settled version_is left_is is_ordered =
     let h : E → Left = λ e. left_at (plan (turn e)) (told e) (line e) in
     let left = map h ends in
     let new : gates ≡ new_gates places =
-        gates_is ∙ (ap (λ l. gates_of seats l) lines_is ∙ gates_of_new seats places count (recursion_from_All (λ seat. seat ≡ []) seats none)) in
+    gates_is ∙ (ap (λ l. gates_of seats l) lines_is ∙ gates_of_new seats places count (recursion_from_All (λ seat. seat ≡ []) seats none)) in
     let after : map plan turns_left ≡ map (λ end. end.plan) left =
-        ap (map plan) left_is ∙ (map_map plan turn ends ∙ sym (map_map (λ (end : Left). end.plan) h ends)) in
-    let R : ℕ → Type 0 = λ l. IfSome changes (IsStoreRun l places (map plan turns) (map plan turns_left) version) in
-    subst R (sym same) (if_some_more changes (IsSettled w.published jobs left) (IsStoreRun limit places (map plan turns) (map plan turns_left) version)
-    (λ n s. store_run limit places (map plan turns) (map plan turns_left) gates left w jobs version n new served (omega (arith, all, length-map ends h)) part legal s version_is after) settled)
+    ap (map plan) left_is ∙ (map_map plan turn ends ∙ sym (map_map (λ (end : Left). end.plan) h ends)) in
+    let K : E → Type 0 = λ e. IsPrefix (told e) w.published in
+    let all_known : AllByRecursion (λ end. Extends w.published end.told) left =
+    all_seen h K (λ end. Extends w.published end.told) (λ e k. (k.0, sym k.1)) ends (recursion_from_All K ends (matched ordered (All K ends) (changes ≡ None) known is_ordered)) in
+    let C : Closed → Type 0 = λ e. IsPrefix (of_place e.place jobs) e.sent in
+    let all_taken : AllByRecursion (λ end. Extends end.line.sent (of_place end.line.place jobs)) left =
+    all_at line h C (λ end. Extends end.line.sent (of_place end.line.place jobs)) (λ e k. (k.0, sym k.1)) ends (recursion_from_All C (map line ends) taken) in
+    let so = if_some_more changes _ (IsSettled jobs left) (λ n s. settled_so h line jobs ends n (λ e. refl) s) settled in
+    let R : ℕ → Type 0 = λ l. IsStoreRun l places (map plan turns) (map plan turns_left) version changes in
+    subst R (sym same) (store_run limit places (map plan turns) (map plan turns_left) gates left w jobs version changes new (length-map turns plan ∙ turns_count) served written legal all_known all_taken so version_is after)

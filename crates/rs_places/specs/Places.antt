@@ -1,8 +1,7 @@
 -- The connections of a place, one after the other, and the places of a store.
-use Rattle.std.specs.Prelude.{◌≡◌, ℕ, ◌+◌, ◌-◌, ◌^◌, min, List, [], ◌∷◌, map}
+use Rattle.std.specs.Prelude.{◌≡◌, ℕ, ◌+◌, ◌-◌, ◌^◌, min, List, [], ◌∷◌, map, Some}
 use Rattle.std.specs.Io.KnownBytes.{Consumes, IsAtEnd}
-use Rattle.rs_intake.specs.Lines.{Closed}
-use Rattle.rs_intake.specs.Parts.{IsPart}
+use Rattle.rs_intake.specs.Lines.{Closed, IsClosed}
 use Rattle.rs_message.specs.declared.entry.Entry.{Entry}
 use Rattle.rs_session.specs.Run.{Turn}
 use Rattle.rs_server.specs.Clock.{Told}
@@ -72,7 +71,8 @@ pub record IsPlaceServed (limit : ℕ) (place : Place) (left : Left) : Type 0 wh
   -- what is left is what the gate had then
   pub told : left.told ≡ last.known
   pub number : left.line.place ≡ place.gate.mark.place
-  pub sent : left.line.sent ≡ last.sent
+  pub sent : last.mark.sent ≡ Some left.line.sent
+  pub closed : IsClosed left.line.place left.line.ends left.line.gone
 
 -- the first turn with the first gate, and so on. What is left of the longer list is left out
 abbrev pub places_of : List Plan → List SharedValue → List Place
@@ -86,9 +86,3 @@ AreEachServed limit [] [] = Unit {0}
 AreEachServed limit [] (left ∷ more) = ⊥
 AreEachServed limit (place ∷ places) [] = ⊥
 AreEachServed limit (place ∷ places) (left ∷ more) = IsPlaceServed limit place left × AreEachServed limit places more
-
--- What is left of the places that were served, which are some of these, in their order.
-pub record ArePlacesServed (limit : ℕ) (places : List Place) (left : List Left) : Type 0 where
-  pub served : List Place
-  pub part : IsPart served places
-  pub each : AreEachServed limit served left

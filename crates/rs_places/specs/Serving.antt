@@ -8,6 +8,7 @@ use Rattle.rs_session.specs.Kept.{AreGrowing, IsKeptIn, IsToldKept, MarkGrows, l
 use Rattle.rs_session.specs.Replay.{IsReplaying, IsSentInOrder, Opens}
 use Rattle.rs_session.specs.Points.{Point, point_at}
 use Rattle.rs_session.specs.Run.{AreOfGate, Run, Turn}
+use Rattle.rs_session.specs.Sent.{SendsPublications}
 use Rattle.rs_session.specs.State.{State}
 use Rattle.rs_session.specs.declared.open.Open.{Open}
 use Rattle.rs_session.specs.declared.phase.Phase.TheVariants as phase
@@ -41,5 +42,8 @@ pub record IsServedAt (limit : ℕ) (from : Point State) (consumed : List ℕ �
   -- Between any two points of the run the place stays, and the serial does not fall. A publication that was told kept used a new
   -- one, so two of them are two entries.
   pub marks : (before between after : List Turn) → turns ≡ before ++ (between ++ after) → MarkGrows (point_after from before).mark (point_after from (before ++ between)).mark
+  -- what the gate's line sent meanwhile are the client's retained publications, in their order, each at most once, and each that the
+  -- client was told is kept
+  pub publications : SendsPublications from turns (point_at state gate.known gate.mark)
   -- what the filters were answered is sent in order, each message once
   pub sent : (c : Connect) → Opens c turns → (made : IsReplaying c turns) × IsSentInOrder c turns made.made

@@ -1,10 +1,12 @@
--- A whole run of a store: its places, and the one list that they all saw.
-use Rattle.std.specs.Prelude.{◌≡◌, ℕ, List, [], ◌∷◌, ◌++◌, length, map}
+-- A whole run of a store: its places, and the one history that they all saw.
+use Rattle.std.specs.Prelude.{◌≡◌, ℕ, List, [], ◌∷◌, ◌++◌, length, map, Option, IfSome}
 use Rattle.std.specs.List.{AllByRecursion}
 use Rattle.rs_packet.specs.declared.packet.Publish.{Publish}
 use Rattle.rs_packet.specs.declared.reply.Reply.{Reply}
 use Rattle.rs_message.specs.declared.entry.Entry.{Entry}
 use Rattle.rs_store.specs.History.{IsLegal}
+use Rattle.rs_version.specs.Copies.{listed}
+use Rattle.rs_intake.specs.Done.{IsWritten, accepted}
 use Rattle.rs_intake.specs.Lines.{Line, new_lines}
 use Rattle.rs_intake.specs.Parts.{IsPart}
 use Rattle.rs_intake.specs.QueueRule.{of_place}
@@ -14,28 +16,29 @@ use Rattle.rs_session.specs.Gate.{Extends}
 use Rattle.rs_session.specs.Kept.{IsKeptIn, IsToldKept, lists_of, point_after}
 use Rattle.rs_session.specs.Points.{Point}
 use Rattle.rs_session.specs.Run.{Turn}
+use Rattle.rs_session.specs.Sent.{AreSentBy}
 use Rattle.rs_session.specs.State.{State}
 use Rattle.rs_session.specs.declared.open.Open.{Open}
 use Rattle.rs_session.specs.declared.phase.Phase.TheVariants as phase
 use Rattle.rs_server.specs.Conversation.{assigned_of, start}
 use Rattle.rs_places.specs.Places.{IsPlaceServed, Left, Place, Visit, next_number, places_of}
-use Rattle.rs_places.specs.Shared.{SharedValue}
+use Rattle.rs_places.specs.Shared.{SharedValue, mark_of}
 use Rattle.rs_places.specs.Turns.{Plan}
 
 -- the gates of these seats and lines. What is left of the longer list is left out
 abbrev pub gates_of : List (List Entry) → List Line → List SharedValue
 gates_of [] lines = []
 gates_of (seat ∷ seats) [] = []
-gates_of (seat ∷ seats) (line ∷ lines) =
-    record { known = seat; mark = record { place = line.place; serial = line.serial }; sent = line.sent } ∷ gates_of seats lines
+gates_of (seat ∷ seats) (line ∷ lines) = record { known = seat; mark = mark_of line } ∷ gates_of seats lines
 
 -- the gates of so many new places, from 1 on. They know nothing, and sent nothing
 abbrev pub new_gates : ℕ → List SharedValue
-new_gates places = map (λ line. record { known = []; mark = record { place = line.place; serial = line.serial }; sent = line.sent }) (new_lines places)
+new_gates places = map (λ line. record { known = []; mark = mark_of line }) (new_lines places)
 
--- From this point a connection was served. Each list that it was answered from is a prefix of this one, in which each retained
--- publication that the client was told is kept stands once.
+-- From this point a connection was served. The list that it began with, and each that it was answered from, is a prefix of this one, in
+-- which each retained publication that the client was told is kept stands once.
 pub record IsWithin (list : List Entry) (from : Point State) (visit : Visit) : Type 0 where
+  pub first : Extends list from.seen
   pub lists : AllByRecursion (λ seen. Extends list seen) (lists_of visit.turns)
   pub kept : (before : List Turn) (turn : Turn) (after : List Turn) (o : Open) (p : Publish) (answer : Reply) → visit.turns ≡ before ++ turn ∷ after
       → (point_after from before).state.phase ≡ phase.Open o → IsToldKept o turn p answer
@@ -47,35 +50,61 @@ AreWithin list number first [] = Unit {0}
 AreWithin list number first (visit ∷ visits) =
     IsWithin list (start (assigned_of first.mark.place number) first.known first.mark) visit × AreWithin list (next_number number) visit.gate visits
 
--- A place was served. What its connections saw is of this list; what the list has from the place is a part of what its line sent, in
--- order, each once.
-pub record IsPlaceOf (limit : ℕ) (list : List Entry) (place : Place) (left : Left) : Type 0 where
+-- what the turns of these connections send, one after the other
+abbrev pub ArePublications : ℕ → SharedValue → List Visit → List Entry → Type 0
+ArePublications number first [] entries = entries ≡ []
+ArePublications number first (visit ∷ visits) entries =
+    (own : List Entry) × (rest : List Entry) × (entries ≡ own ++ rest)
+    × AreSentBy (start (assigned_of first.mark.place number) first.known first.mark) visit.turns own × ArePublications (next_number number) visit.gate visits rest
+
+-- A place was served its turn, over a store with this history, whose writer took these jobs.
+pub record IsPlaceOf (limit : ℕ) (history jobs : List Entry) (place : Place) (left : Left) : Type 0 where
+  -- all its connections were served, in their order, and each was taken back as it ended
   pub served : IsPlaceServed limit place left
-  pub within : AreWithin list 1 place.gate served.visits
-  pub told : Extends list left.told
-  pub part : IsPart (of_place left.line.place (without_sweeps list)) left.line.sent
+  -- Each list that a filter of a connection was answered from is a prefix of the history. Each retained publication that its client
+  -- was told is kept stands there once
+  pub within : AreWithin history 1 place.gate served.visits
+  -- so is the list that the place knew last
+  pub known : Extends history left.told
+  -- what the place sent are the retained publications of its connections, in order, each at most once, and each that its client was
+  -- told is kept
+  pub publications : ArePublications 1 place.gate served.visits left.line.sent
+  -- what the writer took of the place is a prefix of that
+  pub taken : Extends left.line.sent (of_place left.line.place jobs)
+  -- what the history has of the place, but for the Sweeps, is a part of what it sent, in order, each at most once
+  pub part : IsPart (of_place left.line.place (without_sweeps history)) left.line.sent
 
 -- of each place this is left
-abbrev pub ArePlacesOf : ℕ → List Entry → List Place → List Left → Type 0
-ArePlacesOf limit list [] [] = Unit {0}
-ArePlacesOf limit list [] (left ∷ more) = ⊥
-ArePlacesOf limit list (place ∷ places) [] = ⊥
-ArePlacesOf limit list (place ∷ places) (left ∷ more) = IsPlaceOf limit list place left × ArePlacesOf limit list places more
+abbrev pub ArePlacesOf : ℕ → List Entry → List Entry → List Place → List Left → Type 0
+ArePlacesOf limit history jobs [] [] = Unit {0}
+ArePlacesOf limit history jobs [] (left ∷ more) = ⊥
+ArePlacesOf limit history jobs (place ∷ places) [] = ⊥
+ArePlacesOf limit history jobs (place ∷ places) (left ∷ more) = IsPlaceOf limit history jobs place left × ArePlacesOf limit history jobs places more
 
--- so many changes are settled: what was taken of each place is what its line sent, and what its gate knew last was published
-pub record IsSettled (published jobs : List Entry) (left : List Left) (changes : ℕ) : Type 0 where
-  pub told : AllByRecursion (λ end. Extends published end.told) left
+-- so many changes are settled: all that each place sent was taken, and these are all that were taken
+pub record IsSettled (jobs : List Entry) (left : List Left) (changes : ℕ) : Type 0 where
   pub taken : AllByRecursion (λ end. of_place end.line.place jobs ≡ end.line.sent) left
+  pub jobs_are : changes ≡ length jobs
   pub sent : changes ≡ sent_in_all (map (λ end. end.line) left)
 
--- A store of so many new places was run: each place served its turn, from that before to that after. There is one legal list, of
--- which all that their connections saw is a prefix. It has so many entries, and the lines sent so many changes.
-pub record IsStoreRun (limit places : ℕ) (before after : List Plan) (version changes : ℕ) : Type 0 where
-  pub list : List Entry
+-- A store of so many new places was run. Each place served its turn, from that before to that after; the writer published so many
+-- entries; and so many changes are settled, if that is known.
+pub record IsStoreRun (limit places : ℕ) (before after : List Plan) (version : ℕ) (changes : Option ℕ) : Type 0 where
+  -- there is one legal history, which the writer published
+  pub history : List Entry
+  pub legal : IsLegal limit history
+  pub entries : version ≡ length history
+  -- The writer took these jobs, and answered each. By its answers the history came to be, and an entry behind it that is not
+  -- published, if one is held. All of it but the Sweeps are the jobs that were not refused.
+  pub jobs : List Entry
+  pub held : Option Entry
+  pub written : IsWritten limit jobs (history ++ listed held)
+  -- so of each place it has what was taken of the place less what was refused
+  pub accepted_of : (place : ℕ) → of_place place (without_sweeps (history ++ listed held)) ≡ of_place place (accepted jobs written.told)
+  -- of each place: its connections, what they saw, what they sent, and what became of that
   pub left : List Left
-  pub legal : IsLegal limit list
-  pub each : ArePlacesOf limit list (places_of before (new_gates places)) left
+  pub each : ArePlacesOf limit history jobs (places_of before (new_gates places)) left
   pub count : length left ≡ places
   pub turns : after ≡ map (λ end. end.plan) left
-  pub entries : version ≡ length list
-  pub sent : changes ≡ sent_in_all (map (λ end. end.line) left)
+  -- all that the places sent was taken, once
+  pub settled : IfSome changes (IsSettled jobs left)

@@ -1,19 +1,20 @@
 //! The connections of each place, on a thread of its own.
 
-ghost use Rattle.std.specs.Prelude.{◌≡◌, ◌≤◌, [], length, map, vec_capacity, IfOk, IfSome};
-ghost use Rattle.rs_intake.specs.Parts.{IsPart};
-ghost use Rattle.rs_places.specs.Places.{AreEachServed, ArePlacesServed, IsPlaceServed, ServesOne, left_at, place_at, places_of};
+ghost use Rattle.std.specs.Prelude.{◌≡◌, ◌≤◌, ◌+◌, ◌++◌, List, [], length, map, vec_capacity, IfOk, IfSome, MatchResult};
+ghost use Rattle.rs_places.specs.Places.{AreEachServed, IsPlaceServed, Place, ServesOne, left_at, place_at, places_of};
 
+use crate::fault::StoreFault;
 use crate::serving::serve_place;
+use crate::settled::put;
 use crate::shared_gate::SharedGate;
 use crate::turn::{Connection, Turn};
 use rs_intake::{LineEnd, LineName};
 use rs_server::Counted;
 use rs_version::Told;
-use std::alloc::{AllocError, Global};
+use std::alloc::Global;
 use std::snapshot::Snapshot;
 use std::sync::Wait;
-use std::thread::{Promise, PromisedHandle, Threads, spawn_with};
+use std::thread::{Promise, PromisedHandle, SpawnError, Threads, spawn_with};
 
 /// What is left of a place whose connections were served.
 #[derive(Drop)]
@@ -24,6 +25,15 @@ pub struct PlaceEnd<N: LineName, T> {
     pub told: Told<N>,
     /// The turn, which took its connections back.
     pub turn: T,
+}
+
+/// What is left of all places.
+#[derive(Drop)]
+pub struct PlacesEnd<N: LineName, T> {
+    /// What is left of each place, in their order.
+    pub ends: Vec<PlaceEnd<N, T>>,
+    /// How many places had a thread of their own.
+    pub threads: usize,
 }
 
 /// Serves one connection, and gives it back to the turn, with how it ended.
@@ -109,22 +119,42 @@ impl<T: Turn + Drop, N: LineName, H: Wait + Copy> Promise<PlaceEnd<N, T>> for Se
 /// A place's thread, which gives what is left of the place.
 type PlaceThread<T, N, H> = PromisedHandle<PlaceEnd<N, T>, ServesOver<T, N, H>>;
 
-/// Starts a place's thread. If it cannot be started, the turn and the gate are dropped.
+/// Starts a place's thread. If it cannot be started, and the place may be served `here`, this thread serves it, and `Err` has what is
+/// left of it. If it may not, it is dropped with its turn and its gate.
 fn start_place<
     T: Turn + Send + Drop + 'static,
     N: LineName + Send + Sync + 'static,
     H: Threads + Wait + Copy + Send + Sync + 'static,
->(rt: H, alloc: Global, turn: T, gate: SharedGate<N, H>) -> Option<PlaceThread<T, N, H>>
-    ensures { IfSome result (λ thread. (thread.promise.turn.value ≡ turn) × (thread.promise.gate.value ≡ gate)) }
+>(
+    rt: H,
+    alloc: Global,
+    turn: T,
+    gate: SharedGate<N, H>,
+    here: bool,
+) -> Result<PlaceThread<T, N, H>, Option<PlaceEnd<N, T>>>
+    ensures { MatchResult result (λ thread. (thread.promise.turn.value ≡ turn) × (thread.promise.gate.value ≡ gate))
+        (λ left. IfSome left (λ end. IsPlaceServed N.limit (place_at (T.plan turn) gate) (left_at (T.plan end.turn) end.told end.line))) }
 {
     let promise = ServesOver {
         turn: Snapshot::of(&turn),
         gate: Snapshot::of(&gate),
     };
-    spawn_with(&rt, promise, move || serve_turns(&rt, alloc, turn, gate)).ok()
+    let served = move || {
+        // Moved before the handle is lent.
+        let (turn, gate) = (turn, gate);
+        serve_turns(&rt, alloc, turn, gate)
+    };
+    match spawn_with(&rt, promise, served) {
+        Ok(thread) => Ok(thread),
+        Err(SpawnError { value: serve }) => { if here { Err(Some(serve())) } else { Err(None) } }
+    }
 }
 
-/// Starts a thread for each place, and leaves out those that cannot be started.
+/// The places that have a thread, and what is left of those that were served on this one.
+type StartedPlaces<T, N, H> = (Vec<PlaceThread<T, N, H>>, Vec<PlaceEnd<N, T>>);
+
+/// Starts a thread for each place, up to the first that cannot be started. This thread serves that place and those behind it, one
+/// after the other.
 fn start_places<
     T: Turn + Send + Drop + 'static,
     N: LineName + Send + Sync + 'static,
@@ -134,18 +164,26 @@ fn start_places<
     alloc: Global,
     turns: Vec<T>,
     gates: Vec<SharedGate<N, H>>,
-) -> Result<Vec<PlaceThread<T, N, H>>, AllocError>
-    ensures served { IfOk result (λ threads. IsPart (map (λ thread. place_at (T.plan thread.promise.turn.value) thread.promise.gate.value) threads.items) (places_of (map T.plan turns.items) gates.items)) }
+) -> Result<StartedPlaces<T, N, H>, StoreFault>
+    ensures served { IfOk result (λ started. (places : List Place)
+        × (map (λ thread. place_at (T.plan thread.promise.turn.value) thread.promise.gate.value) started.0.items ++ places ≡ places_of (map T.plan turns.items) gates.items)
+        × AreEachServed N.limit places (map (λ end. left_at (T.plan end.turn) end.told end.line) started.1.items)) }
+    ensures few { IfOk result (λ started. length started.0.items + length started.1.items ≤ length gates.items) }
 {
     let mut threads = Vec::with_capacity(alloc, gates.len())?;
+    let mut served = Vec::with_capacity(alloc, gates.len())?;
     for (turn, gate) in turns.into_iter().zip(gates) {
-        if let Some(thread) = start_place(rt, alloc, turn, gate) {
-            let Ok(()) = threads.push(thread) else {
-                unreachable!()
-            };
+        if !served.is_empty() {
+            put(&mut served, serve_turns(&rt, alloc, turn, gate));
+        } else {
+            match start_place(rt, alloc, turn, gate, !threads.is_empty()) {
+                Ok(thread) => put(&mut threads, thread),
+                Err(Some(end)) => put(&mut served, end),
+                Err(None) => return Err(StoreFault::NoThread),
+            }
         }
     }
-    Ok(threads)
+    Ok((threads, served))
 }
 
 /// Waits for each thread's end.
@@ -156,13 +194,12 @@ fn join_places<T: Turn + Drop, N: LineName, H: Threads + Wait + Copy>(
 ) -> Vec<PlaceEnd<N, T>>
     requires empty { ends.items ≡ [] }
     requires room { length threads.items ≤ vec_capacity ends }
-    ensures { AreEachServed N.limit (map (λ thread. place_at (T.plan thread.promise.turn.value) thread.promise.gate.value) threads.items) (map (λ end. left_at (T.plan end.turn) end.told end.line) result.items) }
+    ensures served { AreEachServed N.limit (map (λ thread. place_at (T.plan thread.promise.turn.value) thread.promise.gate.value) threads.items) (map (λ end. left_at (T.plan end.turn) end.told end.line) result.items) }
+    ensures room { vec_capacity ends ≤ vec_capacity result }
 {
     let mut ends = ends;
     for thread in threads {
-        let Ok(()) = ends.push(thread.join(rt)) else {
-            unreachable!()
-        };
+        put(&mut ends, thread.join(rt));
     }
     ends
 }
@@ -170,23 +207,35 @@ fn join_places<T: Turn + Drop, N: LineName, H: Threads + Wait + Copy>(
 /// Serves the places, each on a thread of its own as [`serve_turns`] does, and waits for all. The first turn goes with the first
 /// gate, and so on. What is left of the longer list is dropped: a gate without a turn is not served.
 ///
-/// It gives what is left of the places that were served, in their order. A place whose thread cannot be started is dropped with its
-/// turn and its gate, and the others go on. If memory is refused, no place is served. The caller runs the writer meanwhile
-/// ([`run_writer`](rs_intake::run_writer)), and settles. If there are fewer ends than gates, nothing can be settled, and the caller
-/// drops the ends before it waits for the writer, which goes on as long as one is kept.
+/// If a place's thread cannot be started, and it is not the first, the caller's thread serves it and all places behind it, one after
+/// the other. The caller runs the writer meanwhile ([`run_writer`](rs_intake::run_writer)), and settles.
+///
+/// # Errors
+///
+/// [`StoreFault`]. No place was served, and all gates are dropped.
 pub fn run_places<
     T: Turn + Send + Drop + 'static,
     N: LineName + Send + Sync + 'static,
     H: Threads + Wait + Copy + Send + Sync + 'static,
->(rt: H, alloc: Global, turns: Vec<T>, gates: Vec<SharedGate<N, H>>) -> Vec<PlaceEnd<N, T>>
-    ensures { ArePlacesServed N.limit (places_of (map T.plan turns.items) gates.items) (map (λ end. left_at (T.plan end.turn) end.told end.line) result.items) }
+>(
+    rt: H,
+    alloc: Global,
+    turns: Vec<T>,
+    gates: Vec<SharedGate<N, H>>,
+) -> Result<PlacesEnd<N, T>, StoreFault>
+    ensures { IfOk result (λ end. AreEachServed N.limit (places_of (map T.plan turns.items) gates.items) (map (λ end. left_at (T.plan end.turn) end.told end.line) end.ends.items)) }
 {
     // Before any thread starts, so that no end is lost.
-    let Ok(ends) = Vec::with_capacity(alloc, gates.len()) else {
-        return Vec::new(alloc);
+    let ends = Vec::with_capacity(alloc, gates.len())?;
+    let (threads, served) = start_places(rt, alloc, turns, gates)?;
+    let count = threads.len();
+    let mut served = served;
+    let mut ends = join_places(&rt, threads, ends);
+    let Ok(()) = ends.append(&mut served) else {
+        unreachable!()
     };
-    let Ok(threads) = start_places(rt, alloc, turns, gates) else {
-        return Vec::new(alloc);
-    };
-    join_places(&rt, threads, ends)
+    Ok(PlacesEnd {
+        ends,
+        threads: count,
+    })
 }

@@ -21,6 +21,8 @@ use std::sync::Wait;
 /// - Each filter was answered from a legal list (`legal`), of which every list before is a prefix, the one that the seat knew
 ///   first too. All of them are prefixes of the list that the seat knows after the call (`lists`).
 /// - A retained publication that the client was told is kept stands once in every later list (`kept`).
+/// - What the gate's line sent meanwhile are the client's retained publications, in their order, each at most once, and each that the
+///   client was told is kept (`publications`).
 /// - The replay sends what the filters were answered, in order, each message once (`sent`).
 ///
 /// # Errors

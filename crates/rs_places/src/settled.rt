@@ -1,19 +1,18 @@
 //! What the places and the writer know together, once all have ended.
 
-ghost use Rattle.std.specs.Prelude.{◌≡◌, ◌<◌, ◌≤◌, ◌++◌, ◌∷◌, ℕ, All, IfSome, MatchBool, [], length, map, vec_capacity};
+ghost use Rattle.std.specs.Prelude.{◌≡◌, ◌<◌, ◌≤◌, ◌++◌, ◌∷◌, ℕ, All, IfSome, MatchBool, None, [], length, map, vec_capacity};
 ghost use Rattle.std.specs.List.{HoldsAt};
 ghost use mathlib.Core.List.{IsPrefix};
 ghost use Rattle.rs_store.specs.History.{IsLegal};
-ghost use Rattle.rs_places.specs.Places.{left_at};
-ghost use Rattle.rs_places.specs.Store.{IsSettled};
+ghost use Rattle.rs_intake.specs.Settling.{AreTaken, AreTakenInOrder, sent_in_all};
 
-use crate::running::PlaceEnd;
+use crate::running::{PlaceEnd, PlacesEnd};
 use crate::store::StoreEnd;
 use crate::turn::Turn;
 use rs_intake::{Ended, LineEnd, LineName, settle};
 use std::sync::Wait;
 
-/// Whether what the place knew last is a prefix of what the writer published. If not, it is longer.
+/// Whether what the place knew last is a prefix of what the writer published. If not, what the writer published is a prefix of it.
 fn is_known<N: LineName, T: Turn + Drop, R: Wait + Drop>(
     end: &PlaceEnd<N, T>,
     ended: &Ended<N, R>,
@@ -23,7 +22,8 @@ fn is_known<N: LineName, T: Turn + Drop, R: Wait + Drop>(
     ended.writer.tell().reaches(&end.told)
 }
 
-/// Whether what each place knew last is a prefix of what the writer published. If not, what some place knew last is longer.
+/// Whether what each place knew last is a prefix of what the writer published. If not, what the writer published is a prefix of what
+/// some place knew last.
 pub fn all_known<N: LineName, T: Turn + Drop, R: Wait + Drop>(
     ends: &Vec<PlaceEnd<N, T>>,
     ended: &Ended<N, R>,
@@ -40,7 +40,7 @@ pub fn all_known<N: LineName, T: Turn + Drop, R: Wait + Drop>(
 }
 
 /// Appends to what has room.
-fn put<X: Drop>(items: &mut Vec<X>, item: X)
+pub(crate) fn put<X: Drop>(items: &mut Vec<X>, item: X)
     requires { length items.old.items < vec_capacity items.old }
     ensures items { items.new.items ≡ items.old.items ++ item ∷ [] }
     ensures capacity { vec_capacity items.old ≤ vec_capacity items.new }
@@ -51,7 +51,7 @@ fn put<X: Drop>(items: &mut Vec<X>, item: X)
 }
 
 /// The lines and the turns, in their order. What is passed has room for them, so that no memory is needed.
-pub(crate) fn parted<N: LineName, T: Turn + Drop>(
+fn parted<N: LineName, T: Turn + Drop>(
     ends: Vec<PlaceEnd<N, T>>,
     lines: Vec<LineEnd<N>>,
     turns: Vec<T>,
@@ -77,40 +77,35 @@ pub(crate) fn parted<N: LineName, T: Turn + Drop>(
 
 /// Settles, once all places and the writer have ended. What is passed has room for the lines and the turns.
 pub(crate) fn settled<N: LineName, T: Turn + Drop, R: Wait + Drop>(
-    ends: Vec<PlaceEnd<N, T>>,
+    end: PlacesEnd<N, T>,
     ended: Ended<N, R>,
     lines: Vec<LineEnd<N>>,
     turns: Vec<T>,
 ) -> StoreEnd<T>
     requires empty { (lines.items ≡ []) × (turns.items ≡ []) }
-    requires room { (length ends.items ≤ vec_capacity lines) × (length ends.items ≤ vec_capacity turns) }
-    ensures turns { result.turns.items ≡ map (λ end. end.turn) ends.items }
+    requires room { (length end.ends.items ≤ vec_capacity lines) × (length end.ends.items ≤ vec_capacity turns) }
+    ensures turns { result.turns.items ≡ map (λ end. end.turn) end.ends.items }
     ensures version { result.version ≡ length ended.writer.published }
     ensures legal { IsLegal N.limit ended.writer.published }
-    ensures settled { IfSome result.changes (λ changes. IsSettled ended.writer.published ended.jobs.entries
-        (map (λ end. left_at (T.plan end.turn) end.told end.line) ends.items) changes) }
+    ensures ordered { MatchBool result.ordered (All (λ end. IsPrefix end.told ended.writer.published) end.ends.items) (result.changes ≡ None) }
+    ensures order { AreTakenInOrder ended.jobs.entries (map (λ end. end.line) end.ends.items) }
+    ensures settled { IfSome result.changes (λ changes. AreTaken ended.jobs.entries (map (λ end. end.line) end.ends.items)
+        × (changes ≡ length ended.jobs.entries) × (changes ≡ sent_in_all (map (λ end. end.line) end.ends.items))) }
 {
     let version = ended.writer.tell().version();
-    let are_known = all_known(&ends, &ended);
+    let PlacesEnd { ends, threads } = end;
+    let ordered = all_known(&ends, &ended);
     let (lines, turns) = parted(ends, lines, turns);
-    if !are_known {
-        return StoreEnd {
-            turns,
-            version,
-            changes: None,
-        };
-    }
     let mut ended = ended;
-    match settle(lines, &mut ended) {
-        Ok(changes) => StoreEnd {
-            turns,
-            version,
-            changes: Some(changes),
-        },
-        Err(_) => StoreEnd {
-            turns,
-            version,
-            changes: None,
-        },
+    let changes = match settle(lines, &mut ended) {
+        Ok(changes) if ordered => Some(changes),
+        _ => None,
+    };
+    StoreEnd {
+        turns,
+        threads,
+        version,
+        ordered,
+        changes,
     }
 }

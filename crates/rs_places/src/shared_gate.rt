@@ -1,11 +1,11 @@
 //! A gate over a seat and its line.
 
-ghost use Rattle.std.specs.Prelude.{◌≡◌, ◌<◌, ◌≤◌, ◌∷◌, ◌++◌, [], false, length, OnOk};
-ghost use Rattle.rs_intake.specs.Lines.{AddsAtMost, job, next_serial};
+ghost use Rattle.std.specs.Prelude.{◌≡◌, ◌<◌, ◌≤◌, ◌∷◌, [], false, length, OnOk, Some};
+ghost use Rattle.rs_intake.specs.Lines.{IsClosed, next_serial};
 ghost use Rattle.rs_message.specs.declared.entry.TheConstants.{MAX_PLACES};
 ghost use Rattle.rs_message.specs.Messages.{is_sweep};
-ghost use Rattle.rs_places.specs.Shared.{Knows};
-ghost use Rattle.rs_session.specs.Gate.{Grows, Submits, Uses};
+ghost use Rattle.rs_places.specs.Shared.{Knows, mark_of};
+ghost use Rattle.rs_session.specs.Gate.{Grows, Sends, SendsAtMost, Submits, Uses, entry_by};
 ghost use Rattle.rs_store.specs.History.{IsLegal};
 
 use rs_intake::{Intake, LineEnd, LineName, SeatLine};
@@ -30,11 +30,11 @@ pub struct SharedGate<N: LineName, R: Wait + Copy> {
 
 impl<N: LineName, R: Wait + Copy> Model for SharedGate<N, R> {
     ghost use Rattle.rs_store.specs.History.{IsLegal};
-    ghost use Rattle.rs_places.specs.Shared.{SharedValue};
+    ghost use Rattle.rs_places.specs.Shared.{SharedValue, mark_of};
 
     ghost Value = { SharedValue };
 
-    ghost view = { λ g. record { known = g.seat; mark = record { place = g.line.place; serial = g.line.serial }; sent = g.line.sent } };
+    ghost view = { λ g. record { known = g.seat; mark = mark_of g.line } };
 
     ghost invariant = { λ g. IsLegal N.limit g.seat };
 }
@@ -44,8 +44,7 @@ impl<N: LineName, R: Wait + Copy> SharedGate<N, R> {
     /// has no place.
     pub fn new(rt: R, intake: Arc<Intake<N>>, seat: Seat<N>, line: SeatLine<N>) -> SharedGate<N, R>
         ensures known { result.known ≡ seat }
-        ensures mark { result.mark ≡ record { place = line.place; serial = line.serial } }
-        ensures sent { result.sent ≡ line.sent }
+        ensures mark { result.mark ≡ mark_of line }
         ensures legal { IsLegal N.limit result.known }
     {
         // For the proof: this call says that the seat's list is legal.
@@ -88,7 +87,8 @@ impl<N: LineName, R: Wait + Copy> SharedGate<N, R> {
     /// Gives the gate up. The line's end keeps what the queue took from the line.
     pub fn close(self) -> LineEnd<N>
         ensures place { result.place ≡ self.mark.place }
-        ensures sent { result.sent ≡ self.sent }
+        ensures sent { self.mark.sent ≡ Some result.sent }
+        ensures end { IsClosed result.place result.ends result.gone }
     {
         let SharedGate {
             rt,
@@ -114,8 +114,8 @@ impl<N: LineName, R: Wait + Copy> Gate for SharedGate<N, R> {
         ensures list { Grows (Knows N.limit self.old) (Knows N.limit self.new) (Submits operation self.old.mark self.new.mark result) }
         ensures mark { Uses self.old.mark self.new.mark }
         ensures serial { self.new.mark.serial ≡ next_serial self.old.mark.serial }
-        ensures sent { AddsAtMost self.old.sent (job self.old.mark.place self.new.mark.serial operation) self.new.sent }
-        ensures last { OnOk result (self.new.sent ≡ self.old.sent ++ job self.old.mark.place self.new.mark.serial operation ∷ []) }
+        ensures sent { SendsAtMost self.old.mark.sent (entry_by operation self.new.mark) self.new.mark.sent }
+        ensures last { OnOk result (Sends self.old.mark.sent (entry_by operation self.new.mark ∷ []) self.new.mark.sent) }
     {
         // For the proof: this call says that the serial is a u64.
         let _serial = self.line.serial();

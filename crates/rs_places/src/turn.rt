@@ -33,6 +33,7 @@ pub trait Turn {
     /// Tells the time, in whole seconds.
     type Time: Clock + Drop + Send;
 
+    /// What is known of its connections. Nothing, if the type does not say.
     ghost plan: { Self → Plan } = { λ _. unknown };
 
     /// The next connection of the place. `None` if there are no more; then it is not asked again.

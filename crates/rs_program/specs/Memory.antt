@@ -1,5 +1,5 @@
 -- One connection over bytes in memory.
-use Rattle.std.specs.Prelude.{◌≡◌, ℕ, List, [], ◌++◌}
+use Rattle.std.specs.Prelude.{◌≡◌, ℕ, List, [], ◌++◌, None}
 use Rattle.std.specs.List.{All}
 use Rattle.rs_message.specs.declared.entry.Entry.{Entry}
 use Rattle.rs_store.specs.History.{IsLegal, last_serial}
@@ -30,7 +30,7 @@ pub record IsServed (input : List ℕ) (now : ℕ) (served : Served) (output : L
   pub taken : List ℕ
   pub held : List ℕ
   pub rest : List ℕ
-  pub run : Run (start (assigned_of 1 1) [] (record { place = 1; serial = 0 })) turns to
+  pub run : Run (start (assigned_of 1 1) [] (record { place = 1; serial = 0; sent = None })) turns to
   pub split : input ≡ taken ++ rest
   pub inputs : InputsOf (inputs_of turns) taken held
   pub moments : All (λ moment. moment ≡ now) (moments_of turns)

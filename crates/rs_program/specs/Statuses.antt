@@ -31,7 +31,8 @@ abbrev pub fault_status : RunFault → ℕ
 fault_status (run.Words fault) = words_status fault
 fault_status (run.Pipe fault) = pipe_status fault
 fault_status run.Listen = 1
-fault_status (run.Unsettled served places) = 1
+fault_status (run.FewThreads threads places) = 1
+fault_status run.Unsettled = 1
 
 -- 0 if the connection ended, however
 abbrev pub run_status : {T : Type 0} → Result T RunFault → ℕ

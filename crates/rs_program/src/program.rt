@@ -33,14 +33,17 @@ pub enum RunFault {
     /// No client can be served.
     #[error("cannot listen")]
     Listen,
-    /// All connections ended, but it is not known that the store took all changes. Some places may have had no thread.
-    #[error("{served} of {places} places served clients, and not all changes are known to be taken")]
-    Unsettled {
-        /// How many places served clients.
-        served: usize,
+    /// All connections were served, by fewer threads than were asked for.
+    #[error("{threads} of {places} places had a thread")]
+    FewThreads {
+        /// How many places had a thread of their own.
+        threads: usize,
         /// How many were to.
         places: u8,
     },
+    /// All connections were served, but it is not known that the store took all changes.
+    #[error("not all changes are known to be taken")]
+    Unsettled,
 }
 
 impl RunFault {
@@ -51,13 +54,13 @@ impl RunFault {
         match self {
             RunFault::Words(fault) => fault.status(),
             RunFault::Pipe(fault) => fault.status(),
-            RunFault::Listen | RunFault::Unsettled { .. } => 1,
+            RunFault::Listen | RunFault::FewThreads { .. } | RunFault::Unsettled => 1,
         }
     }
 }
 
 /// Runs the program by its command line, and gives its exit status: 0 if the connection or all connections ended, or help was asked
-/// for, 1 if no client can be served, the changes of all places could not be settled, or reading, writing or memory failed, 2 if the
+/// for, 1 if no client can be served, a place had no thread, not all changes are known to be taken, or reading, writing or memory failed, 2 if the
 /// command line or a line of the input is refused.
 ///
 /// `pipe` is over this input and output. All else that is printed, help, faults and the lines of `listen`, goes to the standard
@@ -125,17 +128,23 @@ where
             topics,
             connections,
         ) {
-            Ok(
-                Summary {
-                    changes: Some(_),
-                    ..
-                },
-            ) => Ok(()),
-            Ok(Summary { places: served, .. }) => Err(RunFault::Unsettled { served, places }),
+            Ok(summary) => served_by(summary, places),
             Err(_) => Err(RunFault::Listen),
         },
         Err(fault) => Err(RunFault::Words(fault)),
     }
+}
+
+/// Whether a server ended as it should: each place had a thread, and all changes are settled.
+fn served_by(summary: Summary, places: u8) -> Result<(), RunFault> {
+    let Summary { threads, changes } = summary;
+    if changes.is_none() {
+        return Err(RunFault::Unsettled);
+    }
+    if threads < usize::from(places) {
+        return Err(RunFault::FewThreads { threads, places });
+    }
+    Ok(())
 }
 
 /// What the command line asks for.
@@ -159,9 +168,8 @@ fn report<H: Print + Eprint>(rt: &H, fault: &RunFault) {
         RunFault::Words(WordsFault::Help(text)) => print!(rt; "{text}"),
         RunFault::Words(WordsFault::Refused(text)) => eprint!(rt; "{text}"),
         RunFault::Words(WordsFault::NoMemory) => eprintln!(rt; "rstored: out of memory"),
-        RunFault::Pipe(_) | RunFault::Listen | RunFault::Unsettled { .. } => {
-            eprintln!(rt; "rstored: {fault}")
-        }
+        RunFault::Pipe(_) | RunFault::Listen | RunFault::FewThreads { .. } | RunFault::Unsettled =>
+            eprintln!(rt; "rstored: {fault}"),
     };
 }
 

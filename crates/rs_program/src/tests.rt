@@ -48,12 +48,13 @@ fn faults_have_a_status_and_a_text(rt: HostRuntime) -> Result<(), Fail> {
 
 #[test]
 fn a_server_ends_with_a_status_and_a_text(rt: HostRuntime) -> Result<(), Fail> {
-    let unsettled = RunFault::Unsettled {
-        served: 3,
+    let few = RunFault::FewThreads {
+        threads: 3,
         places: 4,
     };
-    let text = "3 of 4 places served clients, and not all changes are known to be taken";
-    assert!(rt; ends_with(rt.alloc(), &unsettled, 1, text)?);
+    assert!(rt; ends_with(rt.alloc(), &few, 1, "3 of 4 places had a thread")?);
+    let text = "not all changes are known to be taken";
+    assert!(rt; ends_with(rt.alloc(), &RunFault::Unsettled, 1, text)?);
     assert!(rt; ends_with(rt.alloc(), &RunFault::Listen, 1, "cannot listen")?);
     Ok(())
 }

@@ -1,11 +1,11 @@
 //! The program's store as a gate.
 
-ghost use Rattle.std.specs.Prelude.{◌≡◌, ◌↔◌, [], false, IfOk, IfErr, OnOk, Err};
+ghost use Rattle.std.specs.Prelude.{◌≡◌, ◌↔◌, [], false, None, IfOk, IfErr, OnOk, Err};
 ghost use Rattle.std.specs.Option.{option_map};
 ghost use Rattle.rs_message.specs.Messages.{is_sweep};
 ghost use Rattle.rs_store.specs.Contents.{IsAdded, empty};
 ghost use Rattle.rs_store.specs.History.{IsAnswer, IsAnswerWithin};
-ghost use Rattle.rs_session.specs.Gate.{Grows, Uses, Submits};
+ghost use Rattle.rs_session.specs.Gate.{Grows, SendsAtMost, Submits, Uses, entry_by};
 ghost use Rattle.rs_session.specs.Local.{local_mark, next_entry, IsFull, IsLeft};
 ghost use Rattle.rs_program.specs.OwnStores.{IsOwn, content_of};
 ghost use Rattle.rs_program.specs.declared.own_store.TheConstants.{MAX_OWN_TOPICS};
@@ -22,7 +22,7 @@ impl OwnStore {
     pub fn new(alloc: Global) -> Result<OwnStore, AllocError>
         ensures content { IfOk result (λ store. content_of store ≡ empty MAX_OWN_TOPICS) }
         ensures list { IfOk result (λ store. IsOwn (content_of store) []) }
-        ensures mark { IfOk result (λ store. local_mark (content_of store) ≡ record { place = 1; serial = 0 }) }
+        ensures mark { IfOk result (λ store. local_mark (content_of store) ≡ record { place = 1; serial = 0; sent = None }) }
     {
         match TopicLimit::new(MAX_OWN_TOPICS) {
             Some(limit) => Ok(OwnStore {
@@ -48,6 +48,7 @@ impl Gate for OwnStore {
         ensures list { Grows (IsOwn (content_of self.old)) (IsOwn (content_of self.new))
             (Submits operation (local_mark (content_of self.old)) (local_mark (content_of self.new)) result) }
         ensures mark { Uses (local_mark (content_of self.old)) (local_mark (content_of self.new)) }
+        ensures sent { SendsAtMost (local_mark (content_of self.old)).sent (entry_by operation (local_mark (content_of self.new))) (local_mark (content_of self.new)).sent }
         ensures full { (result ≡ Err SubmitFault.Full) ↔ IsFull (content_of self.old) operation }
         ensures done { OnOk result (IsAdded (content_of self.old) (next_entry (content_of self.old) operation) (content_of self.new)) }
         ensures refused { IfErr result (λ fault. IsLeft (content_of self.old) operation fault (content_of self.new)) }

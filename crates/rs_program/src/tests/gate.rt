@@ -1,6 +1,6 @@
 //! A gate to a store that takes no change and never has the memory to answer.
 
-ghost use Rattle.std.specs.Prelude.{◌≡◌, []};
+ghost use Rattle.std.specs.Prelude.{◌≡◌, [], None};
 
 use rs_message::{Found, Operation, SubmitFault};
 use rs_session::Gate;
@@ -21,7 +21,7 @@ pub const FULL: Refusing = Refusing {
 impl Gate for Refusing {
     ghost stands = { λ _ seen. seen ≡ [] };
 
-    ghost mark = { λ _. record { place = 1; serial = 0 } };
+    ghost mark = { λ _. record { place = 1; serial = 0; sent = None } };
 
     fn submit(&mut self, _operation: Operation) -> Result<(), SubmitFault> {
         Err(self.fault)

@@ -12,4 +12,4 @@ loop-preserved g c =
     subst P (sym c.saturating_add-number.ensures) (served_more _ _ _ _ _ _ _ c.loop.invariant c.in-Some-next.ensures c.serve_connection-gate.ensures)
 
 pub returns-in_default : goal.returns-in_default
-returns-in_default g c = place_served _ _ _ _ _ _ _ c.loop.invariant c.in_default.ensures c.told-told.ensures.told c.close-line.ensures.place c.close-line.ensures.sent
+returns-in_default g c = place_served _ _ _ _ _ _ _ c.loop.invariant c.in_default.ensures c.told-told.ensures.told c.close-line.ensures.place c.close-line.ensures.sent c.close-line.ensures.end

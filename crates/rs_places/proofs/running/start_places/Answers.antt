@@ -1,26 +1,64 @@
-use Rattle.std.proofs.Common.{◌+◌, length, ap, arith}
-use Rattle.rs_places.proofs.Starting.{first_of_rest, length_more, next_place, part_of_both, part_of_more, part_of_whole, same_place}
+use Rattle.std.proofs.Common.{rules, ◌≡◌, ◌⊎◌, ⊎_elim, inl, inr, ◌+◌, List, length, map, sym, ap, ◌∙◌, arith}
+use Rattle.std.proofs.lemmas.Bool.Decides.{nat_tests}
+use Rattle.rs_places.specs.Places.{left_at, place_at, places_of}
+use Rattle.rs_places.specs.Shared.{SharedValue}
+use Rattle.rs_places.proofs.Starting.{all_started, length_more, next_place, no_places, same_place, served_here, started_none, thread_more}
 use Rattle.rs_places.proofs.running.start_places.Goals as goal
 
-pub loop-turn-preserved-in-Ok-1 : goal.loop-turn-preserved-in-Ok-1
-loop-turn-preserved-in-Ok-1 g c =
-    let invariant = c.loop-turn.invariant in
+pub loop-turn-init : goal.loop-turn-init
+loop-turn-init g c =
+    let iterator = c.into_iter-turn-iterator.result in
+    let same : places_of (map g.T.Turn.plan iterator.a.rest.items) iterator.b.rest.items ≡ places_of (map g.T.Turn.plan c.args.turns.items) c.args.gates.items = search rules in
+    let gates : iterator.b.rest.items ≡ c.args.gates.items = search rules in
+    record {
+      started = started_none _ _ _ _ _ _ _ c.in_ok-threads.ensures.items c.in_ok-served.ensures.items same;
+      few = omega (arith, ap length c.in_ok-threads.ensures.items, ap length c.in_ok-served.ensures.items, ap length gates);
+      threads_room = omega (arith, c.in_ok-threads.ensures.capacity, c.len.ensures);
+      served_room = omega (arith, c.in_ok-served.ensures.capacity, c.len-2.ensures);
+    }
+
+pub loop-turn-preserved-then-not-is_empty : goal.loop-turn-preserved-then-not-is_empty
+loop-turn-preserved-then-not-is_empty g c =
+    let i = c.loop-turn.invariant in
     let steps = c.in-Some.ensures.steps in
-    let pushed = c.in-Ok.ensures.items in
-    let promised = c.in-Some-start_place.ensures in (
-      part_of_both _ _ _ _ _ _ _ pushed invariant.0 (same_place g.T.Turn.plan _ _ _ _ promised.0 promised.1),
-      first_of_rest _ _ _ _ _ _ invariant.1 (next_place g.T.Turn.plan _ _ _ _ _ _ steps.0.0 steps.1.0),
-      omega (arith, invariant.2, length_more _ _ _ pushed, c.push.ensures.capacity, ap length steps.1.0),
-    )
+    let first = next_place g.T.Turn.plan _ _ _ _ _ _ steps.0.0 steps.1.0 in
+    record {
+      started = served_here _ _ _ _ _ _ _ _ _ _ c.put.ensures.items c.serve_turns.ensures first i.started;
+      few = omega (arith, i.few, length_more _ _ _ c.put.ensures.items, ap length steps.1.0);
+      threads_room = i.threads_room;
+      served_room = omega (arith, i.served_room, c.put.ensures.capacity);
+    }
+
+pub loop-turn-preserved-in-Ok : goal.loop-turn-preserved-in-Ok
+loop-turn-preserved-in-Ok g c =
+    let i = c.loop-turn.invariant in
+    let steps = c.in-Some.ensures.steps in
+    let first = next_place g.T.Turn.plan _ _ _ _ _ _ steps.0.0 steps.1.0 in
+    let promised = c.in-Ok.ensures in
+    let none : length c.loop-turn.served.items ≡ 0 = grind (arith, nat_tests, c.is_empty.ensures, c.if-not-is_empty.false) in
+    record {
+      started = thread_more _ _ _ _ _ _ _ _ _ _ _ c.put-in-Ok.ensures.items none (same_place g.T.Turn.plan _ _ _ _ promised.0 promised.1) first i.started;
+      few = omega (arith, i.few, length_more _ _ _ c.put-in-Ok.ensures.items, ap length steps.1.0);
+      threads_room = omega (arith, i.threads_room, c.put-in-Ok.ensures.capacity);
+      served_room = i.served_room;
+    }
 
 pub loop-turn-preserved : goal.loop-turn-preserved
 loop-turn-preserved g c =
-    let invariant = c.loop-turn.invariant in
-    let steps = c.in-Some.ensures.steps in (
-      part_of_more _ _ _ _ invariant.0,
-      first_of_rest _ _ _ _ _ _ invariant.1 (next_place g.T.Turn.plan _ _ _ _ _ _ steps.0.0 steps.1.0),
-      omega (arith, invariant.2, ap length steps.1.0),
-    )
+    let i = c.loop-turn.invariant in
+    let steps = c.in-Some.ensures.steps in
+    let first = next_place g.T.Turn.plan _ _ _ _ _ _ steps.0.0 steps.1.0 in
+    let one = rw c.in-Err-Some.field-0-is at c.in-Err-Some.ensures in
+    record {
+      started = served_here _ _ _ _ _ _ _ _ _ _ c.put-in-Err-Some.ensures.items one first i.started;
+      few = omega (arith, i.few, length_more _ _ _ c.put-in-Err-Some.ensures.items, ap length steps.1.0);
+      threads_room = i.threads_room;
+      served_room = omega (arith, i.served_room, c.put-in-Err-Some.ensures.capacity);
+    }
 
-pub returns : goal.returns
-returns g c = record { served = part_of_whole _ _ _ _ c.loop-turn.invariant.0 c.loop-turn.invariant.1 }
+pub returns-clause-served : goal.returns-clause-served
+returns-clause-served g c =
+    let iterator = c.loop-turn.turn-iterator in
+    let none : (length iterator.a.rest.items ≡ 0) ⊎ (length iterator.b.rest.items ≡ 0) =
+    ⊎_elim (λ t. inl (sym iterator.a.rest.ok.0 ∙ t.1.0)) (λ t. inr (sym iterator.b.rest.ok.0 ∙ t.1.0)) c.in-None.ensures.steps in
+    all_started _ _ _ _ _ (no_places g.T.Turn.plan _ _ none) c.loop-turn.invariant.started

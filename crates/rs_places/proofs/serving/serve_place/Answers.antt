@@ -5,6 +5,7 @@ use Rattle.rs_session.specs.Run.{AreOfGate, Run, Turn}
 use Rattle.rs_session.proofs.Keeping.{run_lists, run_keeps}
 use Rattle.rs_session.proofs.Replaying.{run_replays, replay_sends}
 use Rattle.rs_session.proofs.Runs.{of_gate_weaker}
+use Rattle.rs_session.proofs.Sending.{run_sends}
 use Rattle.rs_session.specs.Points.{point_at}
 use Rattle.rs_server.specs.Conversation.{assigned_of, start}
 use Rattle.rs_places.proofs.Marks.{marks_between}
@@ -44,5 +45,6 @@ returns-clause-connection g c =
       lists = run_lists from to turns run;
       kept = λ before turn later o p answer whole is_open told. run_keeps from to before turn later o p answer (subst R whole run) (subst S whole rises) is_open told;
       marks = λ before between later whole. marks_between from to turns before between later run whole;
+      publications = run_sends from to turns run;
       sent = λ connect opens. let made = run_replays (assigned_of gate.mark.place number) from to turns connect refl run opens in (made, replay_sends connect turns made);
     }

@@ -1,7 +1,9 @@
-use Rattle.rs_places.proofs.Whole.{settles}
+use Rattle.std.proofs.Common.{List, subst}
+use Rattle.rs_intake.specs.Lines.{Closed}
+use Rattle.rs_intake.specs.Settling.{AreTakenInOrder}
 use Rattle.rs_places.proofs.settled.settled.Goals as goal
 
-pub returns-in-Ok-clause-settled : goal.returns-in-Ok-clause-settled
-returns-in-Ok-clause-settled g c =
-    settles c.args.ends.items (λ end. g.T.Turn.plan end.turn) (λ end. end.told) (λ end. end.line) c.args.ended.writer.published c.args.ended.jobs.entries _ c.in-Ok.changes
-        c.parted-lines.ensures.lines c.if-not-are_known.ensures c.in-Ok.ensures.settled c.in-Ok.ensures.sum
+pub returns-clause-order : goal.returns-clause-order
+returns-clause-order g c =
+    let P : List Closed → Type 0 = λ l. AreTakenInOrder c.args.ended.jobs.entries l in
+    subst P c.parted-lines.ensures.lines c.settle.ensures.order

@@ -1,0 +1,21 @@
+//! Why a store is not run.
+
+use std::alloc::AllocError;
+use thiserror::Error;
+
+/// Why a store was not run. No connection was served.
+#[derive(Clone, Copy, Debug, PartialEq, Eq, Error)]
+pub enum StoreFault {
+    /// Memory was refused.
+    #[error("out of memory")]
+    NoMemory,
+    /// The writer's thread, or that of the first place, cannot be started.
+    #[error("no thread can be started")]
+    NoThread,
+}
+
+impl From<AllocError> for StoreFault {
+    fn from(_: AllocError) -> StoreFault {
+        StoreFault::NoMemory
+    }
+}
