@@ -13,13 +13,13 @@ mod runs;
 mod script;
 mod sweeping;
 
-use rs_intake::{BlankQueue, Ended, Intake, LineEnd, LineName, SeatLine, run_writer, settle};
-use rs_places::SharedGate;
+use rs_intake::{BlankQueue, Ended, LineEnd, LineName, run_writer, settle};
+use rs_places::{SharedGate, open_gates};
 use rs_store::TopicLimit;
-use rs_version::{Blank, Seat};
+use rs_version::Blank;
 use std::alloc::{AllocError, Global};
 use std::process::Abort;
-use std::sync::{Arc, Wait};
+use std::sync::Wait;
 use std::test::Fail;
 use std::thread::{JoinHandle, Threads, spawn};
 
@@ -62,35 +62,6 @@ struct Store<N: LineName, R: Wait + Copy> {
     gates: Vec<SharedGate<N, R>>,
 }
 
-/// The gate of a place.
-fn gate_of<N: LineName, R: Wait + Copy>(
-    rt: R,
-    intake: &Arc<Intake<N>>,
-    seat: Seat<N>,
-    line: SeatLine<N>,
-) -> Result<SharedGate<N, R>, AllocError> {
-    let intake = Arc::try_clone(intake)?;
-    Ok(SharedGate::new(rt, intake, seat, line))
-}
-
-/// The gates of the places from 1 on.
-fn gates_of<N: LineName, R: Wait + Copy>(
-    rt: R,
-    alloc: Global,
-    intake: Intake<N>,
-    seats: Vec<Seat<N>>,
-    lines: Vec<SeatLine<N>>,
-) -> Result<Vec<SharedGate<N, R>>, Fail> {
-    let intake = Arc::new(alloc, intake)?;
-    let mut gates = Vec::new(alloc);
-    let mut seats = seats.into_iter();
-    for line in lines {
-        let seat = seats.next().ok_or("a seat for each line")?;
-        gates.push(gate_of(rt, &intake, seat, line)?)?;
-    }
-    Ok(gates)
-}
-
 fn opened<N: LineName + Send + Sync + 'static, R: Threads + Wait + Copy + Send + Sync + 'static>(
     rt: R,
     alloc: Global,
@@ -103,7 +74,7 @@ fn opened<N: LineName + Send + Sync + 'static, R: Threads + Wait + Copy + Send +
     let (writer, seats) = blank.open::<N, R>(rt)?;
     let (intake, lines, queue) = queue.open::<N>()?;
     let writer = spawn(&rt, move || run_writer(&rt, queue, writer))?;
-    let gates = gates_of(rt, alloc, intake, seats, lines)?;
+    let gates = open_gates(rt, alloc, intake, seats, lines)?;
     Ok(Store { writer, gates })
 }
 

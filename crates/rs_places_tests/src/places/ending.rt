@@ -5,9 +5,9 @@ ghost use Rattle.std.specs.Prelude.{◌≡◌};
 use super::peers::written;
 use super::runs::{exchange, script};
 use super::script::{Counts, Script, comes};
-use super::{CLOSED, PUBLISHES, SUBSCRIBED, SUBSCRIBES, blank_store, gates_of};
+use super::{CLOSED, PUBLISHES, SUBSCRIBED, SUBSCRIBES, blank_store};
 use rs_intake::{BlankQueue, LineName, Queue, blank_queue};
-use rs_places::{PlaceEnd, run_places};
+use rs_places::{PlaceEnd, open_gates, run_places};
 use rs_version::Blank;
 use std::alloc::Global;
 use std::marker::Brand;
@@ -33,7 +33,7 @@ fn before_named<N: LineName, R: Wait + Abort + Copy>(
     let (_writer, seats) = blank.open::<N, R>(rt)?;
     let (intake, lines, queue) = queue.open::<N>()?;
     drop(queue);
-    let mut gates = gates_of(rt, alloc, intake, seats, lines)?;
+    let mut gates = open_gates(rt, alloc, intake, seats, lines)?;
     let gate = gates.pop().ok_or("there is a place")?;
     let (refused, gate) = written(&rt, alloc, gate, PUBLISHES);
     let (read, gate) = written(&rt, alloc, gate, SUBSCRIBES);
@@ -76,7 +76,7 @@ fn meanwhile_named<
 {
     let (writer, seats) = blank.open::<N, R>(rt)?;
     let (intake, lines, queue) = queue.open::<N>()?;
-    let gates = gates_of(rt, alloc, intake, seats, lines)?;
+    let gates = open_gates(rt, alloc, intake, seats, lines)?;
     let counts = Arc::new(alloc, Counts::new())?;
     let mut turns = Vec::new(alloc);
     for _ in 0..64u8 {
@@ -86,7 +86,8 @@ fn meanwhile_named<
     }
     let seen = Arc::try_clone(&counts)?;
     let thread = spawn(&rt, move || end_queue(seen, queue))?;
-    let ends = run_places(rt, alloc, turns, gates);
+    let served = run_places(rt, alloc, turns, gates)?;
+    let ends = served.ends;
     assert!(rt; thread.join(&rt));
     assert!(rt; (ends.len(), writer.tell().version()) == (64, 0));
     let right = counts.right.load(Ordering::SeqCst);

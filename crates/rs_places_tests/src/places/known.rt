@@ -1,14 +1,20 @@
-//! A turn whose connections are known.
+//! A run over turns whose connections are known.
 
+ghost use Rattle.std.specs.Prelude.{◌≡◌, All, IfOk, IsTrue, is_some, length, map, true};
+ghost use Rattle.rs_places.specs.Turns.{TakesBack};
+ghost use Rattle.rs_places_tests.specs.Answered.{AreAnswered};
 
-
-use super::{CONNECTED, PUBLISHES, REPLAYED, SUBSCRIBES, blank_store};
-use rs_intake::blank_queue;
-use rs_places::{Connection, Turn, run_store};
-use rs_server::{Moments, ServeFault, Served};
+use super::{CONNECTED, PUBLISHES, REPLAYED, SUBSCRIBED, SUBSCRIBES, blank_store, joined};
+use rs_intake::{BlankQueue, blank_queue};
+use rs_places::{Connection, StoreEnd, StoreFault, Turn, run_store};
+use rs_server::{Clock, Moments, ServeFault, Served};
+use rs_version::Blank;
 use std::alloc::{AllocError, Global};
 use std::collections::VecDeque;
+use std::io::{Read, Write};
+use std::sync::Wait;
 use std::test::Fail;
+use std::thread::Threads;
 
 /// A connection in memory.
 type Played = Connection<VecDeque<u8>, Vec<u8>, Moments>;
@@ -40,15 +46,17 @@ impl Turn for Listed {
     type Time = Moments;
 
     ghost plan = { λ turn. record {
-        waiting = Some (map (λ c. record { unread = Some c.input.items; written = Some c.output.items; moments = Some (told_by c.clock) }) turn.waiting.items);
-        ended = option_map (λ all. map (λ o. record { streams = record { unread = Some o.connection.input.items; written = Some o.connection.output.items; moments = Some (told_by o.connection.clock) }; result = o.served }) all.items) turn.ended
+      waiting = Some (map (λ c. record { unread = Some c.input.items; written = Some c.output.items; moments = Some (told_by c.clock) }) turn.waiting.items);
+      ended = option_map (λ all. map (λ o. record { streams = record { unread = Some o.connection.input.items; written = Some o.connection.output.items; moments = Some (told_by o.connection.clock) }; result = o.served }) all.items) turn.ended;
     } };
 
     fn next(&mut self) -> Option<Played> {
         self.waiting.pop_front()
     }
 
-    fn end(&mut self, connection: Played, served: Result<Served, ServeFault>) {
+    fn end(&mut self, connection: Played, served: Result<Served, ServeFault>)
+        ensures { TakesBack (⟦<Listed as Turn>⟧.plan self.old) (record { streams = record { unread = ⟦<VecDeque<u8> as Read>⟧.remaining connection.input; written = ⟦<Vec<u8> as Write>⟧.contents connection.output; moments = ⟦<Moments as Clock>⟧.moments connection.clock }; result = served }) (⟦<Listed as Turn>⟧.plan self.new) }
+    {
         let Some(mut ended) = self.ended.take() else {
             return;
         };
@@ -56,6 +64,24 @@ impl Turn for Listed {
             self.ended = Some(ended);
         }
     }
+}
+
+/// Runs a store over turns whose connections are known. The contract of the run says what each client read: each connection that
+/// waited was answered, in its order, by the replies of a session to its own bytes, at its own times, and each list that its filters
+/// were answered from is a prefix of one legal history.
+fn answered<T: Turn + Send + Drop + 'static, H: Threads + Wait + Copy + Send + Sync + 'static>(
+    rt: H,
+    alloc: Global,
+    blank: Blank,
+    queue: BlankQueue,
+    turns: Vec<T>,
+) -> Result<StoreEnd<T>, StoreFault>
+    requires places { queue.places ≡ blank.places }
+    requires turns { length turns.items ≡ blank.places }
+    requires known { All (λ turn. is_some (T.plan turn).waiting ≡ true) turns.items }
+    ensures { IfOk result (λ end. IsTrue end.ordered → AreAnswered blank.limit (map T.plan turns.items) (map T.plan end.turns.items) end.version) }
+{
+    run_store(rt, alloc, blank, queue, turns)
 }
 
 /// A connection of a client that sends this, at 0.
@@ -69,29 +95,58 @@ fn played(alloc: Global, input: &[u8]) -> Result<Played, AllocError> {
     })
 }
 
-/// What was written to the connections that ended.
+/// A place with these connections.
+fn place_of(alloc: Global, waiting: Vec<Played>) -> Listed {
+    Listed {
+        waiting: VecDeque::from_vec(waiting),
+        ended: Some(Vec::new(alloc)),
+    }
+}
+
+/// What was written to the connections that ended, one after the other, if the client ended each.
 fn written(alloc: Global, turn: Listed) -> Result<Vec<u8>, Fail> {
     let mut all = Vec::new(alloc);
     for outcome in turn.ended.ok_or("each is kept")? {
+        if outcome.served != Ok(Served::ClientClosed) {
+            return Err(Fail::from("the client ended it"));
+        }
         all.extend_from_slice(outcome.connection.output.as_slice())?;
     }
     Ok(all)
 }
 
-/// A place that publishes, and then reads it back.
+/// A place that publishes and then reads it back, and one whose client reads what it can.
+fn known_turns(alloc: Global) -> Result<Vec<Listed>, AllocError>
+    ensures { IfOk result (λ turns. length turns.items ≡ 2) }
+{
+    let publishes = played(alloc, PUBLISHES)?;
+    let reads = played(alloc, SUBSCRIBES)?;
+    let first = place_of(alloc, vec![in alloc; publishes, reads]?);
+    let reads_too = played(alloc, SUBSCRIBES)?;
+    let second = place_of(alloc, vec![in alloc; reads_too]?);
+    let mut turns = Vec::new(alloc);
+    turns.push(first).map_err(|_| AllocError)?;
+    turns.push(second).map_err(|_| AllocError)?;
+    Ok(turns)
+}
+
+/// Two places, three connections.
 #[test]
-fn listed(rt: HostRuntime) -> Result<(), Fail> {
+fn known_connections_are_answered(rt: HostRuntime) -> Result<(), Fail> {
     let alloc = rt.alloc();
-    let first = played(alloc, PUBLISHES)?;
-    let second = played(alloc, SUBSCRIBES)?;
-    let waiting = VecDeque::from_vec(vec![in alloc; first, second]?);
-    let ended = Some(Vec::new(alloc));
-    let turns = vec![in alloc; Listed { waiting, ended }]?;
-    let blank = blank_store(alloc, 10, 1)?;
-    let mut end = run_store(rt, alloc, blank, blank_queue(alloc, 1)?, turns)?;
+    let turns = known_turns(alloc)?;
+    let blank = blank_store(alloc, 10, 2)?;
+    let queue = blank_queue(alloc, 2)?;
+    let end = answered(rt, alloc, blank, queue, turns)?;
+    assert!(rt; end.ordered && end.threads == 2);
     assert!(rt; (end.changes, end.version) == (Some(1), 1));
-    let turn = end.turns.pop().ok_or("there is a place")?;
-    let bytes = written(alloc, turn)?;
-    assert!(rt; bytes.as_slice() == super::joined(alloc, CONNECTED, REPLAYED)?.as_slice());
+    let mut turns = end.turns;
+    let (Some(second), Some(first)) = (turns.pop(), turns.pop()) else {
+        return Err(Fail::from("there are two places"));
+    };
+    let both = written(alloc, first)?;
+    assert!(rt; both.as_slice() == joined(alloc, CONNECTED, REPLAYED)?.as_slice());
+    let read = written(alloc, second)?;
+    assert!(rt; read.as_slice() == SUBSCRIBED || read.as_slice() == REPLAYED);
     Ok(())
 }

@@ -1,11 +1,9 @@
 //! Places on threads of their own.
 
-ghost use Rattle.std.specs.Prelude.{◌<◌, ◌≤◌};
-ghost use Rattle.rs_message.specs.declared.entry.TheConstants.{MAX_PLACES};
-
 use super::script::{Counts, Exchange, Script};
 use super::{CONNECT, CONNECTED, PUBLISHES, REPLAYED, SUBSCRIBED, SUBSCRIBES, blank_store, joined};
 use rs_intake::blank_queue;
+use rs_message::MAX_PLACES;
 use rs_places::{Turn, run_store};
 use std::alloc::{AllocError, Global};
 use std::sync::atomic::Ordering;
@@ -41,22 +39,24 @@ pub fn script(
     })
 }
 
-/// Runs a store of so many topics and places: how many places were served, how many connections were right, how many jobs were
-/// settled, and the version.
+/// Runs a store of so many topics, with a place for each turn: how many places had a thread, how many connections were right, how many
+/// jobs were settled, and the version.
 pub fn ran<T: Turn + Send + Drop + 'static, R: Threads + Wait + Copy + Send + Sync + 'static>(
     rt: R,
     alloc: Global,
     turns: Vec<T>,
     counts: &Counts,
     topics: u32,
-    places: u8,
-) -> Result<(usize, u64, Option<u64>, u64), Fail>
-    requires { (0 < places) × (places ≤ MAX_PLACES) }
-{
+) -> Result<(usize, u64, Option<u64>, u64), Fail> {
+    let count = turns.len();
+    if count == 0 || count > usize::from(MAX_PLACES) {
+        return Err(Fail::from("1 to 64 places"));
+    }
+    let places = count as u8;
     let blank = blank_store(alloc, topics, places)?;
     let end = run_store(rt, alloc, blank, blank_queue(alloc, places)?, turns)?;
     let right = counts.right.load(Ordering::SeqCst);
-    Ok((end.turns.len(), right, end.changes, end.version))
+    Ok((end.threads, right, end.changes, end.version))
 }
 
 /// A place with one connection.
@@ -81,11 +81,11 @@ fn meeting_turns(alloc: Global, counts: &Arc<Counts>) -> Result<Vec<Script>, All
 
 /// Each of two connections is held in its SUBSCRIBE until the other has come to its own. One thread for both would not do.
 #[test]
-fn meeting(rt: HostRuntime) -> Result<(), Fail> {
+fn two_connections_meet(rt: HostRuntime) -> Result<(), Fail> {
     let alloc = rt.alloc();
     let counts = Arc::new(alloc, Counts::new())?;
     let turns = meeting_turns(alloc, &counts)?;
-    let ran = ran(rt, alloc, turns, &counts, 10, 2)?;
+    let ran = ran(rt, alloc, turns, &counts, 10)?;
     assert!(rt; ran == (2, 2, Some(0), 0));
     assert!(rt; counts.met.load(Ordering::SeqCst) == 2);
     Ok(())
@@ -109,11 +109,11 @@ fn later_turns(alloc: Global, counts: &Arc<Counts>) -> Result<Vec<Script>, Alloc
 /// The next connection of a place is sent what the one before published, and so is that of a place that was told nothing. A third
 /// place has no connection, and is served too.
 #[test]
-fn later(rt: HostRuntime) -> Result<(), Fail> {
+fn later_connection_sees(rt: HostRuntime) -> Result<(), Fail> {
     let alloc = rt.alloc();
     let counts = Arc::new(alloc, Counts::new())?;
     let turns = later_turns(alloc, &counts)?;
-    assert!(rt; ran(rt, alloc, turns, &counts, 10, 3)? == (3, 3, Some(1), 1));
+    assert!(rt; ran(rt, alloc, turns, &counts, 10)? == (3, 3, Some(1), 1));
     Ok(())
 }
 
@@ -175,7 +175,7 @@ fn all_places(rt: HostRuntime) -> Result<(), Fail> {
         let exchanges = vec![in alloc; second, own_exchange(alloc, place, 1)?]?;
         turns.push(script(alloc, &counts, exchanges, 0, 0)?)?;
     }
-    assert!(rt; ran(rt, alloc, turns, &counts, 100, 64)? == (64, 128, Some(6400), 6400));
+    assert!(rt; ran(rt, alloc, turns, &counts, 100)? == (64, 128, Some(6400), 6400));
     Ok(())
 }
 
@@ -196,7 +196,7 @@ fn large(rt: HostRuntime) -> Result<(), Fail> {
     let first = single(alloc, &counts, &input, CONNECTED, 0, 0)?;
     let later = single(alloc, &counts, SUBSCRIBES, &output, 1, 0)?;
     let turns = vec![in alloc; first, later]?;
-    assert!(rt; ran(rt, alloc, turns, &counts, 10, 2)? == (2, 2, Some(1), 1));
+    assert!(rt; ran(rt, alloc, turns, &counts, 10)? == (2, 2, Some(1), 1));
     Ok(())
 }
 
@@ -214,6 +214,6 @@ fn full(rt: HostRuntime) -> Result<(), Fail> {
     let alloc = rt.alloc();
     let counts = Arc::new(alloc, Counts::new())?;
     let turns = vec![in alloc; single(alloc, &counts, FILLS, FILLED, 0, 0)?]?;
-    assert!(rt; ran(rt, alloc, turns, &counts, 2, 1)? == (1, 1, Some(5), 4));
+    assert!(rt; ran(rt, alloc, turns, &counts, 2)? == (1, 1, Some(5), 4));
     Ok(())
 }

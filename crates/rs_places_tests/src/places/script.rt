@@ -1,5 +1,7 @@
 //! Turns that play connections from memory.
 
+ghost use Rattle.rs_places.specs.Turns.{TakesBack, unknown};
+
 use super::CLOSED;
 use rs_places::{Connection, Turn};
 use rs_server::{Clock, ServeFault, Served};
@@ -159,7 +161,9 @@ impl Turn for Script {
         &mut self,
         connection: Connection<Input, Output, ScriptClock>,
         served: Result<Served, ServeFault>,
-    ) {
+    )
+        ensures { TakesBack unknown (record { streams = record { unread = ⟦<Input as Read>⟧.remaining connection.input; written = ⟦<Output as Write>⟧.contents connection.output; moments = ⟦<ScriptClock as Clock>⟧.moments connection.clock }; result = served }) unknown }
+    {
         let output = connection.output;
         if served.is_ok() && output.bytes.as_slice() == self.wanted.as_slice() {
             self.counts.right.fetch_add(1, Ordering::SeqCst);

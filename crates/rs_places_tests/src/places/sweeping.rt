@@ -1,15 +1,17 @@
 //! Expired messages make room for new topics.
 
 ghost use Rattle.std.specs.Prelude.{◌≡◌};
+ghost use Rattle.rs_places.specs.Turns.{TakesBack, unknown};
 
 use super::runs::{exchange, ran, script};
 use super::script::{Counts, Exchange, Input, Output, Script, ScriptClock};
 use super::{CONNECT, CONNECTED, Store, blank_store, close_both, joined, opened};
 use rs_intake::{BlankQueue, LineName, blank_queue};
 use rs_places::{Connection, SharedGate, Turn, serve_place};
-use rs_server::{Counted, Moments, ServeFault, Served};
+use rs_server::{Clock, Counted, Moments, ServeFault, Served};
 use rs_version::Blank;
 use std::alloc::{AllocError, Global};
+use std::io::{Read, Write};
 use std::marker::Brand;
 use std::process::Abort;
 use std::sync::{Arc, Wait};
@@ -130,7 +132,9 @@ impl Turn for Rounds {
         &mut self,
         connection: Connection<Input, Output, ScriptClock>,
         served: Result<Served, ServeFault>,
-    ) {
+    )
+        ensures { TakesBack unknown (record { streams = record { unread = ⟦<Input as Read>⟧.remaining connection.input; written = ⟦<Output as Write>⟧.contents connection.output; moments = ⟦<ScriptClock as Clock>⟧.moments connection.clock }; result = served }) unknown }
+    {
         self.script.end(connection, served)
     }
 }
@@ -183,6 +187,6 @@ fn filled_again(rt: HostRuntime) -> Result<(), Fail> {
         turns.push(Rounds { script, begun: 0 })?;
     }
     // Three changes of each place, of which one is refused, and one Sweep for all.
-    assert!(rt; ran(rt, alloc, turns, &counts, 64, PLACES)? == (64, 256, Some(192), 129));
+    assert!(rt; ran(rt, alloc, turns, &counts, 64)? == (64, 256, Some(192), 129));
     Ok(())
 }
