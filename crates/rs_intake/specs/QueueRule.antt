@@ -1,5 +1,5 @@
 -- The rule of the queue to the writer.
-use Rattle.std.specs.Prelude.{ℕ, ◌≡◌, ◌==◌, ◌+◌, ◌<◌, ◌≤◌, ◌⊎◌, Bool, true, false, List, [], ◌∷◌, ◌++◌, length, filter, filter_map}
+use Rattle.std.specs.Prelude.{ℕ, ◌≡◌, ◌==◌, ◌+◌, ◌<◌, ◌≤◌, ◌⊎◌, true, false, List, [], ◌∷◌, ◌++◌, length, filter, filter_map}
 use Rattle.std.specs.Prelude as std
 use mathlib.Core.Option.{Option, some, none}
 use lib.ListN.{get_elem?}

@@ -434,10 +434,3 @@ took {G} stands mark given old mid new o left gate outcome limit e g p l d s h =
     subst (λ (x : Session G). GrowsAnswering stands mark (gate_of old) (gate_of x) (λ seen answered list. Answers given (session_at mark old seen) answered (due_of x) (session_at mark x list))) (sym e)
     (subst (λ (x : G). GrowsAnswering stands mark (gate_of old) x (λ seen answered list. Answers given (session_at mark old seen) answered (due_of mid) (point_at (state_of mid) list (mark x)))) (sym g)
     (Grows-weaker _ _ _ _ (λ seen list k. (k.0, k.1, concluded given (session_at mark old seen) o k.0 outcome limit left (due_of mid) (point_at (state_of mid) list (mark gate)) p l k.2 d s)) h))
-
--- what waits is given next
-pub given_next : (now : ℕ) (before due : Option Reply) (old : State) (o left : Open) (p : Option PublishValue) (given : Option Reply) → before ≡ None → due ≡ None → old.phase ≡ phase.Open o
-    → window.IsNext now o.window p left.window → given ≡ option_map reply_of p → left ≡ record o { window = left.window } → IsGiven now before old given due (opened old left)
-given_next now before due old o left p given b d is h r s =
-    subst (λ (x : Option Reply). IsGiven now x old given due (opened old left)) (sym b)
-    (d, refl, subst (λ (x : Phase). IsReplayed now x given (phase.Open left)) (sym is) (left, refl, record { publish = p; next = h; reply = r; rest = s }))
