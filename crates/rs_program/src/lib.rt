@@ -26,6 +26,3 @@ pub use own_store::{MAX_OWN_TOPICS, OwnStore};
 pub use piping::{PipeFault, Piped, pipe};
 pub use program::{RunFault, run};
 pub use words::{MAX_CONNECTIONS, Run, WordsFault, read_words};
-
-#[cfg(test)]
-mod tests;

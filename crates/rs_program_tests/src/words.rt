@@ -1,7 +1,7 @@
 // Command lines.
 
-use crate::words::{MAX_CONNECTIONS, Run, WordsFault, read_words};
 use rs_message::MAX_PLACES;
+use rs_program::{MAX_CONNECTIONS, Run, WordsFault, read_words};
 use rs_store::MAX_TOPICS;
 use std::alloc::{AllocError, Global};
 use std::test::Fail;

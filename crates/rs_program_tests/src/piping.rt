@@ -1,9 +1,8 @@
 //! One failing read, write or flush of `pipe`, over bytes and over lines of hex digits: the fault names what failed.
 
-use super::faults::FIRST;
-use super::streams::{ByteWriter, Call, Failing, StepReader};
-use crate::own_store::OwnStore;
-use crate::piping::{PipeFault, pipe};
+use crate::faults::FIRST;
+use crate::streams::{ByteWriter, Call, Failing, StepReader};
+use rs_program::{OwnStore, PipeFault, pipe};
 use rs_server::Served;
 use std::alloc::Global;
 use std::process::Abort;

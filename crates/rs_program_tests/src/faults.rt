@@ -1,8 +1,8 @@
 //! One failing read, write or flush, and what a second connection by the same gate gets then, over the
 //! program's store and over a bare gate.
 
-use super::streams::{ByteWriter, Call, Failing, StepReader};
-use crate::own_store::OwnStore;
+use crate::streams::{ByteWriter, Call, Failing, StepReader};
+use rs_program::OwnStore;
 use rs_server::{ConnectionId, Counted, Moments, ServeFault, Served, serve};
 use rs_session::{Gate, LocalGate};
 use rs_store::{MapCatalogue, TopicLimit};

@@ -1,15 +1,6 @@
-mod answers;
-mod faults;
-mod gate;
-mod lines;
-mod piping;
-mod refusals;
-mod streams;
-mod words;
+//! Statuses and texts of what ends the program.
 
-use crate::piping::PipeFault;
-use crate::program::RunFault;
-use crate::words::WordsFault;
+use rs_program::{PipeFault, RunFault, WordsFault};
 use std::alloc::{AllocError, Global};
 use std::test::Fail;
 

@@ -3,10 +3,10 @@
 ghost use Rattle.std.specs.Prelude.{◌≡◌, false, IfOk};
 ghost use Rattle.rs_message.specs.Messages.{is_sweep};
 
-use crate::own_store::OwnStore;
 use bytes::Bytes;
 use rs_message::{Found, Message, Operation};
 use rs_packet::{Properties, Qos};
+use rs_program::OwnStore;
 use rs_session::{Gate, LocalGate};
 use rs_store::{Catalogue, MapCatalogue, TopicLimit, TreeCatalogue};
 use rs_topic::{TopicFilter, TopicName};

@@ -1,8 +1,8 @@
 //! What a client is answered if the gate gives no receipt for its publication.
 
-use super::gate::Refusing;
-use crate::piping::pipe;
+use crate::gate::Refusing;
 use rs_message::SubmitFault;
+use rs_program::pipe;
 use rs_server::Served;
 use std::alloc::Global;
 use std::process::Abort;

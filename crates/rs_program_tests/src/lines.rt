@@ -1,6 +1,5 @@
-use super::gate::FULL;
-use crate::memory::serve_bytes;
-use crate::piping::{PipeFault, pipe};
+use crate::gate::FULL;
+use rs_program::{PipeFault, pipe, serve_bytes};
 use rs_server::Served;
 use std::alloc::Global;
 use std::sync::Wait;
