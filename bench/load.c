@@ -1,14 +1,17 @@
-// The clients of bench/brokers, in C so that they cost less than any broker. They speak MQTT 5.0 to a port of 127.0.0.1, check what
-// they are answered, and print:
+// The clients of bench/brokers, in C so that they cost less than any broker. They speak MQTT 5.0 to
+// a port of 127.0.0.1, check what they are answered, and print:
 //
-//     load PORT publish QOS CONNECTIONS COUNT TOPICS SIZE    two numbers: how many were published, at most COUNT by each connection, and
-//                                                            the microseconds
-//     load PORT fill COUNT SIZE PATTERN                      nothing
+//     load PORT publish QOS CONNECTIONS COUNT TOPICS SIZE
+//         two numbers: how many were published, at most COUNT by each connection, and microseconds
+//     load PORT fill COUNT SIZE PATTERN
+//         nothing
 //     load PORT replay QOS FILTER MESSAGES ROUNDS DELAYED PATTERN ORDERED
-//                                                            the microseconds of each SUBSCRIBE, up to its last message
-//     load PORT connect ROUNDS                               the microseconds of each connection, up to its CONNACK
+//         the microseconds of each SUBSCRIBE, up to its last message
+//     load PORT connect ROUNDS
+//         the microseconds of each connection, up to its CONNACK
 //
-// PATTERN writes a topic, with the hundreds and the rest of its number. The messages of a replay are those that were filled by it.
+// PATTERN writes a topic, with the hundreds and the rest of its number. The messages of a replay
+// are those that were filled by it.
 
 #define _GNU_SOURCE
 #include <arpa/inet.h>
@@ -24,7 +27,8 @@
 
 enum { CONNACK = 0x20, PUBLISH = 0x30, PUBACK = 0x40, SUBACK = 0x90, PINGRESP = 0xD0 };
 
-// How many publications of QoS 1 wait for their PUBACK: what rstored's CONNACK allows, and less than mosquitto's.
+// How many publications of QoS 1 wait for their PUBACK: what rstored's CONNACK allows, and less
+// than mosquitto's.
 enum { WINDOW = 16 };
 
 // The microseconds after which a publisher at QoS 1 ends.
@@ -50,7 +54,8 @@ static double now(void) {
     return time.tv_sec * 1e6 + time.tv_nsec / 1e3;
 }
 
-// A connection, with what was read of it and not yet looked at, and with acknowledgements that are not yet sent.
+// A connection, with what was read of it and not yet looked at, and with acknowledgements that are
+// not yet sent.
 typedef struct {
     int fd;
     size_t start, end, waiting;
@@ -120,11 +125,13 @@ static size_t put_text(uint8_t *at, const char *text) {
 }
 
 static void open_client(Client *client, const char *identifier) {
-    struct sockaddr_in address = {.sin_family = AF_INET, .sin_port = htons(port), .sin_addr.s_addr = htonl(INADDR_LOOPBACK)};
+    struct sockaddr_in address = {.sin_family = AF_INET, .sin_port = htons(port)};
+    address.sin_addr.s_addr = htonl(INADDR_LOOPBACK);
     int yes = 1;
     client->fd = socket(AF_INET, SOCK_STREAM, 0);
     client->start = client->end = client->waiting = 0;
-    if (client->fd < 0 || connect(client->fd, (struct sockaddr *)&address, sizeof address) != 0) fail("connect");
+    const struct sockaddr *to = (struct sockaddr *)&address;
+    if (client->fd < 0 || connect(client->fd, to, sizeof address) != 0) fail("connect");
     setsockopt(client->fd, IPPROTO_TCP, TCP_NODELAY, &yes, sizeof yes);
     uint8_t packet[100] = {0x10, 0, 0, 4, 'M', 'Q', 'T', 'T', 5, 2, 0, 60, 0};
     size_t size = 13 + put_text(packet + 13, identifier);
@@ -164,7 +171,8 @@ typedef struct {
     size_t *starts, count;
 } Publications;
 
-static Publications publications(size_t count, int qos, size_t size, const char *pattern, size_t topics) {
+static Publications publications(
+    size_t count, int qos, size_t size, const char *pattern, size_t topics) {
     Publications made = {malloc(count * (size + 128)), malloc((count + 1) * sizeof(size_t)), count};
     if (!made.bytes || !made.starts) fail("malloc");
     size_t at = 0;
@@ -187,7 +195,8 @@ static Publications publications(size_t count, int qos, size_t size, const char 
     return made;
 }
 
-// Sends them, those of QoS 1 until the time is over. How many were sent; all of them were handled when this returns.
+// Sends them, those of QoS 1 until the time is over. How many were sent; all of them were handled
+// when this returns.
 static size_t publish_all(Client *client, const Publications *made, int qos, double time) {
     size_t sent = 0, acknowledged = 0, count = made->count;
     if (qos == 0) {
@@ -200,11 +209,13 @@ static size_t publish_all(Client *client, const Publications *made, int qos, dou
         if (now() - start > time) count = sent;
         if (acknowledged == count) break;
         size_t until = acknowledged + WINDOW < count ? acknowledged + WINDOW : count;
-        send_all(client, made->bytes + made->starts[sent], made->starts[until] - made->starts[sent]);
+        size_t first = made->starts[sent];
+        send_all(client, made->bytes + first, made->starts[until] - first);
         sent = until;
         Packet packet = take(client);
         do {
-            if (packet.kind != PUBACK || (packet.size > 2 && packet.body[2] >= 0x80)) fail("no PUBACK");
+            int is_refused = packet.size > 2 && packet.body[2] >= 0x80;
+            if (packet.kind != PUBACK || is_refused) fail("no PUBACK");
             acknowledged++;
         } while (acknowledged < count && has_packet(client, &packet));
     }
@@ -265,7 +276,8 @@ static void fill(size_t count, size_t size, const char *pattern) {
     close_client(&single);
 }
 
-// Whether TCP acknowledges what comes at once, or late (delayed acknowledgements). The system forgets it, so it is said before each read.
+// Whether TCP acknowledges what comes at once, or late (delayed acknowledgements). The system
+// forgets it, so it is said before each read.
 static void set_quick(const Client *client, int is_quick) {
     setsockopt(client->fd, IPPROTO_TCP, TCP_QUICKACK, &is_quick, sizeof is_quick);
 }
@@ -275,21 +287,26 @@ static void send_acknowledgements(Client *client) {
     client->waiting = 0;
 }
 
+static size_t topic_size(const Packet *publication) {
+    return (size_t)(publication->body[0] << 8 | publication->body[1]);
+}
+
 static void acknowledge(Client *client, const Packet *publication) {
-    const uint8_t *identifier = publication->body + 2 + (publication->body[0] << 8 | publication->body[1]);
-    memcpy(client->acknowledgements + client->waiting, (uint8_t[]){PUBACK, 2, identifier[0], identifier[1]}, 4);
-    client->waiting += 4;
+    const uint8_t *identifier = publication->body + 2 + topic_size(publication);
+    const uint8_t puback[] = {PUBACK, 2, identifier[0], identifier[1]};
+    memcpy(client->acknowledgements + client->waiting, puback, sizeof puback);
+    client->waiting += sizeof puback;
 }
 
 static void take_topic(Topic topic, const Packet *publication) {
-    size_t size = (size_t)(publication->body[0] << 8 | publication->body[1]);
+    size_t size = topic_size(publication);
     if (size >= TOPIC) fail("a long topic");
     memcpy(topic, publication->body + 2, size);
     topic[size] = 0;
 }
 
-// Reads the SUBACK and so many messages, and their topics if there is room for them. Those of QoS 1 are acknowledged, as many at once as
-// were read at once.
+// Reads the SUBACK and so many messages, and their topics if there is room for them. Those of QoS 1
+// are acknowledged, as many at once as were read at once.
 static void take_messages(Client *client, size_t messages, int is_delayed, Topic *topics) {
     for (size_t answered = 0; answered < messages + 1; answered++) {
         Packet packet;
@@ -298,7 +315,8 @@ static void take_messages(Client *client, size_t messages, int is_delayed, Topic
             set_quick(client, !is_delayed);
             read_more(client);
         }
-        if (packet.kind == SUBACK ? packet.body[packet.size - 1] >= 0x80 : packet.kind != PUBLISH) fail("no PUBLISH");
+        int is_granted = packet.kind == SUBACK && packet.body[packet.size - 1] < 0x80;
+        if (!is_granted && packet.kind != PUBLISH) fail("no PUBLISH");
         if (packet.kind == PUBLISH && packet.qos == 1) acknowledge(client, &packet);
         if (packet.kind == PUBLISH && topics) take_topic(*topics++, &packet);
     }
@@ -319,8 +337,10 @@ static void check_topics(Topic *topics, size_t count, const char *pattern, int i
     }
 }
 
-// So many rounds, or without an end if there are to be 0. In a round before them, which is not measured, the topics are looked at.
-static void replay(int qos, const char *filter, size_t messages, size_t rounds, int is_delayed, const char *pattern, int is_ordered) {
+// So many rounds, or without an end if there are to be 0. In a round before them, which is not
+// measured, the topics are looked at.
+static void replay(int qos, const char *filter, size_t messages, size_t rounds, int is_delayed,
+    const char *pattern, int is_ordered) {
     uint8_t packet[200] = {0x82, 0, 0, 1, 0};
     size_t size = 5 + put_text(packet + 5, filter) + 1;
     packet[size - 1] = (uint8_t)qos;
@@ -361,10 +381,15 @@ int main(int count, char **words) {
     const char *job = words[2];
     long n[8] = {0};
     for (int i = 3; i < count && i < 10; i++) n[i - 3] = atol(words[i]);
-    if (strcmp(job, "publish") == 0 && count == 8) publish((int)n[0], (int)n[1], (size_t)n[2], (size_t)n[3], (size_t)n[4]);
-    else if (strcmp(job, "fill") == 0 && count == 6) fill((size_t)n[0], (size_t)n[1], words[5]);
-    else if (strcmp(job, "replay") == 0 && count == 10) replay((int)n[0], words[4], (size_t)n[2], (size_t)n[3], (int)n[4], words[8], (int)n[6]);
-    else if (strcmp(job, "connect") == 0 && count == 4) connect_often((size_t)n[0]);
-    else return 2;
+    if (strcmp(job, "publish") == 0 && count == 8)
+        publish((int)n[0], (int)n[1], (size_t)n[2], (size_t)n[3], (size_t)n[4]);
+    else if (strcmp(job, "fill") == 0 && count == 6)
+        fill((size_t)n[0], (size_t)n[1], words[5]);
+    else if (strcmp(job, "replay") == 0 && count == 10)
+        replay((int)n[0], words[4], (size_t)n[2], (size_t)n[3], (int)n[4], words[8], (int)n[6]);
+    else if (strcmp(job, "connect") == 0 && count == 4)
+        connect_often((size_t)n[0]);
+    else
+        return 2;
     return 0;
 }

@@ -1,7 +1,9 @@
-//! What the jobs `decode` and `encode` of rs_trials do, for a PUBLISH and a SUBSCRIBE (OASIS MQTT Version 5.0, sections 3.3 and
-//! 3.8), in plain Rust over std alone: bench/run takes its times as the measure of theirs.
+//! What the jobs `decode` and `encode` of rs_trials do, for a PUBLISH and a SUBSCRIBE (OASIS MQTT
+//! Version 5.0, sections 3.3 and 3.8), in plain Rust over std alone: bench/run takes its times as
+//! the measure of theirs.
 //!
-//! It makes the same checks, cuts payload and texts out of one shared buffer, and writes into a vector that is reserved once.
+//! It makes the same checks, cuts payload and texts out of one shared buffer, and writes into a
+//! vector that is reserved once.
 
 // Some fields are only filled.
 #![allow(dead_code)]
@@ -98,7 +100,8 @@ impl Part {
     }
 }
 
-/// A variable byte integer of at most four bytes, no more than it needs, and how many it takes (1.5.5); None where it is cut off.
+/// A variable byte integer of at most four bytes, no more than it needs, and how many it takes
+/// (1.5.5); None where it is cut off.
 fn digits(bytes: &[u8]) -> Result<Option<(usize, usize)>, Fault> {
     let mut number = 0;
     for (i, byte) in bytes.iter().take(4).enumerate() {
@@ -158,7 +161,8 @@ impl Properties {
         Ok(())
     }
 
-    /// Those at the front, each of which may stand there, and once unless it is a user property (2.2.2).
+    /// Those at the front, each of which may stand there, and once unless it is a user property
+    /// (2.2.2).
     fn read(rest: &mut Part, may_stand: &[usize]) -> Result<Properties, Fault> {
         let len = rest.varint()?;
         let mut section = rest.split_to(len)?;
@@ -201,7 +205,8 @@ fn topic_name(text: Part) -> Result<Part, TopicFault> {
 }
 
 fn level_fits(level: &[u8], is_last: bool) -> bool {
-    (!level.contains(&b'+') || level == b"+") && (!level.contains(&b'#') || (level == b"#" && is_last))
+    let hash_fits = !level.contains(&b'#') || (level == b"#" && is_last);
+    (!level.contains(&b'+') || level == b"+") && hash_fits
 }
 
 fn wildcards_fit(text: &[u8]) -> bool {
@@ -389,7 +394,8 @@ fn put_section(out: &mut Vec<u8>, p: &Properties) {
         out.push(0x02);
         out.extend_from_slice(&expiry.to_be_bytes());
     }
-    for (number, text) in [(0x03, &p.content_type), (0x08, &p.response_topic), (0x09, &p.correlation)] {
+    let texts = [(0x03, &p.content_type), (0x08, &p.response_topic), (0x09, &p.correlation)];
+    for (number, text) in texts {
         if let Some(text) = text {
             out.push(number);
             put_counted(out, text.bytes());

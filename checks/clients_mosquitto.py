@@ -1,7 +1,9 @@
-"""The programs mosquitto_pub and mosquitto_sub against a server that listens on a port of 127.0.0.1 and has one place.
+"""The programs mosquitto_pub and mosquitto_sub against a server that listens on a port of
+127.0.0.1 and has one place.
 
-With one place a client is served when the one before it has ended, so that a publication of QoS 0, which nothing acknowledges, is kept
-before the next client subscribes. These programs have no option for Retain Handling. Prints a line for each item that was shown.
+With one place a client is served when the one before it has ended, so that a publication of QoS 0,
+which nothing acknowledges, is kept before the next client subscribes. These programs have no
+option for Retain Handling. Prints a line for each item that was shown.
 """
 
 import re
@@ -10,33 +12,33 @@ import subprocess
 import sys
 import threading
 
-from client_items import show_all, shown
-from exchange import CONNACK, Connect
-from packets import publish
+from checks.clients_items import MANY_SHOWN, MANY_TOPICS, UNICODE_TOPICS, in_order, show_all, shown
+from harness.packets import CONNACK, CONNECT, DISCONNECT, publish
+from harness.patience import PATIENCE
 
 PORT = sys.argv[1]
-MANY = 10_000
-
-# Seconds after which a client that is not answered is given up.
-PATIENCE = 300
 
 
-def run(name, *words, version="mqttv5"):
+def called(name, *words, version="mqttv5"):
+    return [name, "-h", "127.0.0.1", "-p", PORT, "-V", version, *words]
+
+
+def run(*words, **options):
     """A program that ended: its status, and what it printed."""
-    words = [name, "-h", "127.0.0.1", "-p", PORT, "-V", version, *words]
-    done = subprocess.run(words, capture_output=True, timeout=PATIENCE)
+    done = subprocess.run(called(*words, **options), capture_output=True, timeout=PATIENCE)
     return done.returncode, done.stdout.decode(), done.stderr.decode()
 
 
 def put(topic, payload, qos=1, *words):
-    status, _, errors = run("mosquitto_pub", "-r", "-t", topic, "-m", payload, "-q", str(qos), *words)
+    given = ["-r", "-t", topic, "-m", payload, "-q", str(qos), *words]
+    status, _, errors = run("mosquitto_pub", *given)
     if status != 0:
         sys.exit(f"mosquitto_pub: status {status}, {errors}")
 
 
 def lines_before(is_last, *words):
     """What mosquitto_sub prints before such a line, at which it is stopped."""
-    command = ["stdbuf", "-oL", "mosquitto_sub", "-h", "127.0.0.1", "-p", PORT, "-V", "mqttv5", *words]
+    command = ["stdbuf", "-oL", *called("mosquitto_sub", *words)]
     reader = subprocess.Popen(command, stdout=subprocess.PIPE)
     guard = threading.Timer(PATIENCE, reader.kill)
     guard.start()
@@ -55,10 +57,12 @@ def lines_before(is_last, *words):
 
 
 def replayed(form, topics, qos=1, *words):
-    """The lines for the messages that a SUBSCRIBE brings, in this form. The last filter brings one more message."""
+    """The lines for the messages that a SUBSCRIBE brings, in this form. The last filter brings one
+    more message."""
     put("last", "last", 2)
     filters = [word for text in [*topics, "last"] for word in ("-t", text)]
-    return lines_before(lambda line: line.startswith("last "), "-q", str(qos), "-F", f"%t {form}", *filters, *words)
+    given = ["-q", str(qos), "-F", f"%t {form}", *filters, *words]
+    return lines_before(lambda line: line.startswith("last "), *given)
 
 
 def kept_and_read_back():
@@ -66,11 +70,13 @@ def kept_and_read_back():
         put(f"kept/{qos}", f"message {qos}", qos)
     for granted in range(3):
         wanted = [f"kept/{qos} {min(qos, granted)} 1 message {qos}" for qos in range(3)]
-        shown(f"retained at QoS 0, 1 and 2, read back at {granted}", replayed("%q %r %p", ["kept/+"], granted) == wanted)
+        found = replayed("%q %r %p", ["kept/+"], granted)
+        shown(f"retained at QoS 0, 1 and 2, read back at {granted}", found == wanted)
 
 
 def subscriptions():
-    found = replayed("%S", ["kept/0"], 1, "-D", "subscribe", "subscription-identifier", "300")
+    identifier = ("-D", "subscribe", "subscription-identifier", "300")
+    found = replayed("%S", ["kept/0"], 1, *identifier)
     shown("Subscription Identifier", found == ["kept/0 300"])
     lines_before(lambda line: line.endswith("received UNSUBACK"), "-d", "-t", "none", "-U", "none")
     shown("UNSUBSCRIBE", True)
@@ -86,11 +92,13 @@ def properties_and_expiry():
         ("user-property", "name", "two"),
     )
     words = [word for each in own for word in ("-D", "publish", *each)]
-    put("expiry/long", "x", 1, *words, "-D", "publish", "message-expiry-interval", "2000000000")
+    expiry = ("-D", "publish", "message-expiry-interval")
+    put("expiry/long", "x", 1, *words, *expiry, "2000000000")
     put("expiry/none", "x")
-    put("expiry/over", "x", 1, "-D", "publish", "message-expiry-interval", "0")
+    put("expiry/over", "x", 1, *expiry, "0")
     found = replayed("%F|%C|%R|%D|%P|%E|", ["expiry/#"])
-    long = re.fullmatch(r"expiry/long 1\|text/plain\|answers\|01\|name:one name:two\|(\d+)\|", found[0])
+    wanted = r"expiry/long 1\|text/plain\|answers\|01\|name:one name:two\|(\d+)\|"
+    long = re.fullmatch(wanted, found[0])
     shown("properties", long and found[1:] == ["expiry/none ||||||"])
     shown("Message Expiry Interval", 1_999_000_000 < int(long[1]) <= 2_000_000_000)
 
@@ -100,7 +108,8 @@ def limits():
     shown("Receive Maximum", found == ["kept/0 0", "kept/1 1", "kept/2 2"])
     put("large/1", "x" * 100)
     put("large/2", "x" * 101)
-    # The PUBLISH of `large/1` at QoS 1 has 2 bytes of fixed header, 9 of the topic, 2 of the identifier, 1 of properties, 100 of payload.
+    # The PUBLISH of `large/1` at QoS 1 has 2 bytes of fixed header, 9 of the topic, 2 of the
+    # identifier, 1 of properties, 100 of payload.
     found = replayed("%l", ["large/#"], 1, "-D", "connect", "maximum-packet-size", "114")
     shown("Maximum Packet Size", found == ["large/1 100"])
 
@@ -108,42 +117,45 @@ def limits():
 def identifiers():
     """Without a name of its own the client sends none, and shows the one that it is given."""
     _, printed, _ = run("mosquitto_sub", "-d", "-t", "none", "-E")
-    shown("assigned identifier", re.search(r"^Client [^(]\S* received CONNACK \(0\)$", printed, re.MULTILINE))
+    line = re.search(r"^Client [^(]\S* received CONNACK \(0\)$", printed, re.MULTILINE)
+    shown("assigned identifier", line)
 
 
 def clear():
     put("clear", "x")
     before = replayed("%p", ["clear"])
     status, _, _ = run("mosquitto_pub", "-r", "-t", "clear", "-n")
-    shown("clear", status == 0 and (before, replayed("%p", ["clear"])) == (["clear x"], []))
+    after = replayed("%p", ["clear"])
+    shown("clear", status == 0 and (before, after) == (["clear x"], []))
 
 
 def refusals():
-    status, _, errors = run("mosquitto_pub", "-t", "a", "-m", "x", "--will-topic", "will", "--will-payload", "gone")
-    shown("a will is refused", status == 0x83 and "Implementation specific error" in errors)
-    status, _, errors = run("mosquitto_pub", "-t", "a", "-m", "x", version="mqttv311")
+    message = ("mosquitto_pub", "-t", "a", "-m", "x")
+    status, _, errors = run(*message, "--will-topic", "will", "--will-payload", "gone")
+    is_refused = status == 0x83 and "Implementation specific error" in errors
+    shown("a will is refused", is_refused)
+    status, _, errors = run(*message, version="mqttv311")
     shown("MQTT 3.1.1 is refused", status == 0x84 and "Connection Refused" in errors)
 
 
 def unicode_topics():
-    topics = ["Zürich/Temperatur", "東京/温度", "🌡/°C"]
-    for topic in topics:
+    for topic in UNICODE_TOPICS:
         put(topic, topic)
     found = replayed("%p", ["+/Temperatur", "東京/#", "🌡/+"])
-    shown("unicode topics", found == [f"{topic} {topic}" for topic in topics])
+    shown("unicode topics", found == [f"{topic} {topic}" for topic in UNICODE_TOPICS])
 
 
 def many():
-    """They are published over one plain connection; each of these programs publishes to one topic."""
-    topics = [f"many/{number % 100}/{number}" for number in range(MANY)]
+    """They are published over one plain connection; each of these programs publishes to one
+    topic."""
+    packets = [publish(topic.encode(), topic.encode()) for topic in MANY_TOPICS]
     with socket.create_connection(("127.0.0.1", int(PORT)), timeout=PATIENCE) as plain:
-        plain.sendall(Connect.sent + b"".join(publish(topic.encode(), topic.encode()) for topic in topics) + bytes.fromhex("E000"))
+        plain.sendall(CONNECT + b"".join(packets) + DISCONNECT)
         if plain.makefile("rb").read() != CONNACK:
             sys.exit("a plain client was refused")
-    in_order = sorted(topics, key=lambda topic: topic.split("/"))
+    wanted = [f"{topic} {topic}" for topic in in_order(MANY_TOPICS)]
     for qos in range(3):
-        found = replayed("%p", ["many/#"], qos)
-        shown(f"{MANY:,} retained messages in order, granted QoS {qos}", found == [f"{topic} {topic}" for topic in in_order])
+        shown(f"{MANY_SHOWN} {qos}", replayed("%p", ["many/#"], qos) == wanted)
 
 
 if __name__ == "__main__":

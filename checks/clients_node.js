@@ -5,11 +5,10 @@
 
 const mqtt = require('mqtt')
 
-const PORT = Number(process.argv[2])
-const MANY = 10000
-
 // Milliseconds after which a client that is not answered is given up.
-const PATIENCE = 300000
+const PATIENCE = 1000 * Number(process.argv[2])
+const PORT = Number(process.argv[3])
+const MANY = 10000
 
 function shown (item, isRight) {
   if (!isRight) throw new Error(`${item}: not as it should be`)
@@ -21,8 +20,8 @@ function same (found, wanted) {
 }
 
 function options (own) {
-  const given = { protocolVersion: 5, reconnectPeriod: 0, connectTimeout: PATIENCE, clientId: 'node' }
-  return { ...given, port: PORT, host: '127.0.0.1', ...own }
+  const server = { protocolVersion: 5, port: PORT, host: '127.0.0.1' }
+  return { ...server, reconnectPeriod: 0, connectTimeout: PATIENCE, clientId: 'node', ...own }
 }
 
 // The code of the CONNACK that refuses a client.
@@ -32,6 +31,17 @@ function refused (own) {
     client.on('connect', () => reject(new Error('accepted')))
     client.on('error', error => client.end(true, () => resolve(error.code)))
   })
+}
+
+// What a call of MQTT.js with a callback gives.
+function done (call) {
+  return new Promise((resolve, reject) => {
+    call((error, given) => error ? reject(error) : resolve(given))
+  })
+}
+
+function textsOf (packets) {
+  return packets.map(packet => [packet.topic, packet.payload.toString()])
 }
 
 // A client with what came to it. Each call ends when the server has answered it.
@@ -55,15 +65,12 @@ class Session {
 
   // A retained publication. MQTT.js calls one of QoS 0 done when it was sent.
   publish (topic, payload, qos = 1, properties = {}) {
-    return new Promise((resolve, reject) => {
-      this.client.publish(topic, payload, { qos, retain: true, properties }, error => error ? reject(error) : resolve())
-    })
+    const options = { qos, retain: true, properties }
+    return done(call => this.client.publish(topic, payload, options, call))
   }
 
   subscribe (filter, qos = 1, rh = 0, properties = {}) {
-    return new Promise((resolve, reject) => {
-      this.client.subscribe(filter, { qos, rh, properties }, (error, granted) => error ? reject(error) : resolve(granted))
-    })
+    return done(call => this.client.subscribe(filter, { qos, rh, properties }, call))
   }
 
   // The codes of the UNSUBACK, which MQTT.js shows only among the packets that it receives.
@@ -79,8 +86,8 @@ class Session {
     })
   }
 
-  // The messages that a SUBSCRIBE brings: a second one brings a last message after them. At QoS 2 that one has QoS 2, too, since
-  // MQTT.js gives such a message only when it is released.
+  // The messages that a SUBSCRIBE brings: a second one brings a last message after them. At QoS 2
+  // that one has QoS 2, too, since MQTT.js gives such a message only when it is released.
   async replayed (filter, qos = 1, rh = 0, properties = {}) {
     this.messages = []
     const last = new Promise(resolve => {
@@ -109,9 +116,11 @@ async function keptAndReadBack () {
   const reader = await Session.open()
   for (const granted of [0, 1, 2]) {
     const found = await reader.replayed('kept/+', granted)
-    const wanted = [0, 1, 2].map(qos => [`kept/${qos}`, `message ${qos}`, Math.min(qos, granted), true])
-    const got = found.map(packet => [packet.topic, packet.payload.toString(), packet.qos, packet.retain])
-    shown(`retained at QoS 0, 1 and 2, read back at ${granted}`, same(got, wanted))
+    const texts = [0, 1, 2].map(qos => [`kept/${qos}`, `message ${qos}`])
+    const flags = [0, 1, 2].map(qos => [Math.min(qos, granted), true])
+    const isSame = same(textsOf(found), texts) &&
+      same(found.map(packet => [packet.qos, packet.retain]), flags)
+    shown(`retained at QoS 0, 1 and 2, read back at ${granted}`, isSame)
   }
   await reader.end()
 }
@@ -122,7 +131,8 @@ async function subscriptions () {
   for (const rh of [1, 1, 0, 2]) counts.push((await session.replayed('kept/#', 1, rh)).length)
   shown('Retain Handling', same(counts, [3, 0, 3, 0]))
   const found = await session.replayed('kept/0', 1, 0, { subscriptionIdentifier: 300 })
-  shown('Subscription Identifier', same(found.map(packet => packet.properties.subscriptionIdentifier), [300]))
+  const identifiers = found.map(packet => packet.properties.subscriptionIdentifier)
+  shown('Subscription Identifier', same(identifiers, [300]))
   const codes = [...await session.unsubscribe('kept/#'), ...await session.unsubscribe('kept/#')]
   const again = await session.replayed('kept/#', 1, 1)
   shown('UNSUBSCRIBE', same(codes, [0x00, 0x11]) && again.length === 3)
@@ -146,8 +156,9 @@ async function propertiesAndExpiry () {
   const isSame = Object.entries(own).every(([name, value]) => same(long[name], value))
   shown('properties', isSame && none.userProperties === undefined)
   const left = long.messageExpiryInterval
-  const isLess = left > 1999000000 && left <= 2000000000 && none.messageExpiryInterval === undefined
-  shown('Message Expiry Interval', isLess && found.length === 2)
+  const isLess = left > 1999000000 && left <= 2000000000
+  const isOwn = isLess && none.messageExpiryInterval === undefined
+  shown('Message Expiry Interval', isOwn && found.length === 2)
   await session.publish('expiry/soon', 'x', 1, { messageExpiryInterval: 1 })
   while ((await session.replayed('expiry/soon')).length > 0);
   shown('a message expires', true)
@@ -156,11 +167,13 @@ async function propertiesAndExpiry () {
 
 async function limits () {
   const one = await Session.open({ properties: { receiveMaximum: 1 } })
-  shown('Receive Maximum', same((await one.replayed('kept/+', 2)).map(packet => packet.qos), [0, 1, 2]))
+  const found = await one.replayed('kept/+', 2)
+  shown('Receive Maximum', same(found.map(packet => packet.qos), [0, 1, 2]))
   await one.publish('large/1', 'x'.repeat(100))
   await one.publish('large/2', 'x'.repeat(101))
   await one.end()
-  // The PUBLISH of `large/1` at QoS 1 has 2 bytes of fixed header, 9 of the topic, 2 of the identifier, 1 of properties, 100 of payload.
+  // The PUBLISH of `large/1` at QoS 1 has 2 bytes of fixed header, 9 of the topic, 2 of the
+  // identifier, 1 of properties, 100 of payload.
   const small = await Session.open({ properties: { maximumPacketSize: 114 } })
   shown('Maximum Packet Size', same(await small.topics('large/#'), ['large/1']))
   await small.end()
@@ -191,21 +204,23 @@ async function unicodeTopics () {
   const session = await Session.open()
   for (const topic of topics) await session.publish(topic, topic)
   const found = []
-  for (const filter of ['+/Temperatur', '東京/#', '🌡/+']) found.push(...await session.replayed(filter))
-  shown('unicode topics', same(found.map(packet => [packet.topic, packet.payload.toString()]), topics.map(topic => [topic, topic])))
+  const filters = ['+/Temperatur', '東京/#', '🌡/+']
+  for (const filter of filters) found.push(...await session.replayed(filter))
+  shown('unicode topics', same(textsOf(found), topics.map(topic => [topic, topic])))
   await session.end()
 }
 
 async function many () {
   const session = await Session.open()
-  const names = [...Array(MANY).keys()].map(number => `many/${10 + number % 90}/${10000 + number}`)
+  const numbers = [...Array(MANY).keys()]
+  const names = numbers.map(number => `many/${10 + number % 90}/${10000 + number}`)
   for (let at = 0; at < MANY; at += 16) {
     await Promise.all(names.slice(at, at + 16).map(topic => session.publish(topic, topic)))
   }
   names.sort()
   for (const qos of [0, 1, 2]) {
     const found = await session.replayed('many/#', qos)
-    const isSame = same(found.map(packet => [packet.topic, packet.payload.toString()]), names.map(topic => [topic, topic]))
+    const isSame = same(textsOf(found), names.map(topic => [topic, topic]))
     shown(`${MANY} retained messages in order, granted QoS ${qos}`, isSame)
   }
   await session.end()

@@ -1,22 +1,21 @@
-"""The client library paho of Python against a server that listens on a port of 127.0.0.1. Run by Debian's Python, which has it.
+"""The client library paho of Python against a server that listens on a port of 127.0.0.1. Run by
+Debian's Python, which has it.
 
-As a client of MQTT 3.1.1 paho does not show the code of a CONNACK that has properties, so that this refusal is left to the other
-clients. Prints a line for each item that was shown.
+As a client of MQTT 3.1.1 paho does not show the code of a CONNACK that has properties, so that this
+refusal is left to the other clients. Prints a line for each item that was shown.
 """
 
 import sys
 import time
 
-from client_items import show_all, shown
 from paho.mqtt.client import Client, MQTTv5, SubscribeOptions
 from paho.mqtt.packettypes import PacketTypes
 from paho.mqtt.properties import Properties
 
-PORT = int(sys.argv[1])
-MANY = 10_000
+from checks.clients_items import MANY_SHOWN, MANY_TOPICS, UNICODE_TOPICS, in_order, show_all, shown
+from harness.patience import PATIENCE
 
-# Seconds after which a client that is not answered is given up.
-PATIENCE = 300
+PORT = int(sys.argv[1])
 
 
 def properties(packet, **values):
@@ -35,15 +34,22 @@ class Session:
         self.client.on_connect = self.on_connect
         self.client.on_message = lambda _client, _data, message: self.messages.append(message)
         self.client.on_publish = lambda _client, _data, number: self.acknowledged.add(number)
-        self.client.on_subscribe = lambda _client, _data, number, codes, _properties: self.codes.update({number: codes})
-        self.client.on_unsubscribe = lambda _client, _data, number, _properties, codes: self.codes.update({number: codes})
+        self.client.on_subscribe = self.on_subscribe
+        self.client.on_unsubscribe = self.on_unsubscribe
         if will:
             self.client.will_set("will", b"gone")
-        self.client.connect("127.0.0.1", PORT, clean_start=True, properties=properties(PacketTypes.CONNECT, **options))
+        own = properties(PacketTypes.CONNECT, **options)
+        self.client.connect("127.0.0.1", PORT, clean_start=True, properties=own)
         self.until(lambda: self.connack)
 
     def on_connect(self, _client, _data, _flags, code, own):
         self.connack = code.value, own
+
+    def on_subscribe(self, _client, _data, number, codes, _properties):
+        self.codes[number] = codes
+
+    def on_unsubscribe(self, _client, _data, number, _properties, codes):
+        self.codes[number] = codes
 
     def until(self, is_done):
         """Reads and writes until something is true."""
@@ -55,13 +61,15 @@ class Session:
 
     def publish(self, topic, payload, qos=1, **options):
         """A retained publication. paho calls one of QoS 0 acknowledged when it was sent."""
-        number = self.client.publish(topic, payload, qos, True, properties(PacketTypes.PUBLISH, **options)).mid
+        own = properties(PacketTypes.PUBLISH, **options)
+        number = self.client.publish(topic, payload, qos, True, own).mid
         self.until(lambda: number in self.acknowledged)
 
     def subscribe(self, text, qos=1, handling=0, **options):
         """The codes of the SUBACK."""
         asked = [(text, SubscribeOptions(qos, retainHandling=handling))]
-        _, number = self.client.subscribe(asked, properties=properties(PacketTypes.SUBSCRIBE, **options))
+        own = properties(PacketTypes.SUBSCRIBE, **options)
+        _, number = self.client.subscribe(asked, properties=own)
         self.until(lambda: number in self.codes)
         return [code.value for code in self.codes[number]]
 
@@ -73,8 +81,8 @@ class Session:
         return code.value if hasattr(code, "value") else code[0].value
 
     def replayed(self, text, qos=1, handling=0, **options):
-        """The messages that a SUBSCRIBE brings: a second one brings a last message after them. At QoS 2 that one has QoS 2, too, since
-        paho gives such a message only when it is released."""
+        """The messages that a SUBSCRIBE brings: a second one brings a last message after them. At
+        QoS 2 that one has QoS 2, too, since paho gives such a message only when it is released."""
         self.messages.clear()
         self.subscribe(text, qos, handling, **options)
         self.subscribe("last", qos)
@@ -95,7 +103,8 @@ def kept_and_read_back():
     writer.end()
     reader = Session()
     for granted in range(3):
-        found = [(each.topic, each.payload, each.qos, each.retain) for each in reader.replayed("kept/+", granted)]
+        messages = reader.replayed("kept/+", granted)
+        found = [(each.topic, each.payload, each.qos, each.retain) for each in messages]
         wanted = [(f"kept/{qos}", b"message %d" % qos, min(qos, granted), True) for qos in range(3)]
         shown(f"retained at QoS 0, 1 and 2, read back at {granted}", found == wanted)
     reader.end()
@@ -106,7 +115,8 @@ def subscriptions():
     counts = [len(session.replayed("kept/#", handling=handling)) for handling in (1, 1, 0, 2)]
     shown("Retain Handling", counts == [3, 0, 3, 0])
     found = session.replayed("kept/0", SubscriptionIdentifier=300)
-    shown("Subscription Identifier", [each.properties.SubscriptionIdentifier for each in found] == [[300]])
+    identifiers = [each.properties.SubscriptionIdentifier for each in found]
+    shown("Subscription Identifier", identifiers == [[300]])
     codes = [session.unsubscribe("kept/#") for _ in range(2)]
     shown("UNSUBSCRIBE", codes == [0x00, 0x11] and len(session.replayed("kept/#", handling=1)) == 3)
     session.end()
@@ -129,8 +139,9 @@ def properties_and_expiry():
     is_same = all(getattr(long, name) == value for name, value in own.items())
     shown("properties", is_same and not hasattr(none, "UserProperty"))
     left = long.MessageExpiryInterval
-    is_less = 1_999_000_000 < left <= 2_000_000_000 and not hasattr(none, "MessageExpiryInterval")
-    shown("Message Expiry Interval", is_less and len(found) == 2)
+    is_less = 1_999_000_000 < left <= 2_000_000_000
+    is_own = is_less and not hasattr(none, "MessageExpiryInterval")
+    shown("Message Expiry Interval", is_own and len(found) == 2)
     session.publish("expiry/soon", b"x", MessageExpiryInterval=1)
     session.until(lambda: [each.topic for each in session.replayed("expiry/soon")] == [])
     shown("a message expires", True)
@@ -143,7 +154,8 @@ def limits():
     one.publish("large/1", b"x" * 100)
     one.publish("large/2", b"x" * 101)
     one.end()
-    # The PUBLISH of `large/1` at QoS 1 has 2 bytes of fixed header, 9 of the topic, 2 of the identifier, 1 of properties, 100 of payload.
+    # The PUBLISH of `large/1` at QoS 1 has 2 bytes of fixed header, 9 of the topic, 2 of the
+    # identifier, 1 of properties, 100 of payload.
     small = Session(MaximumPacketSize=114)
     shown("Maximum Packet Size", [each.topic for each in small.replayed("large/#")] == ["large/1"])
     small.end()
@@ -169,27 +181,29 @@ def refusals():
     shown("a will is refused", Session(will=True).connack[0] == 0x83)
 
 
+def texts(messages):
+    return [(each.topic, each.payload.decode()) for each in messages]
+
+
 def unicode_topics():
-    topics = ["Zürich/Temperatur", "東京/温度", "🌡/°C"]
     session = Session()
-    for topic in topics:
+    for topic in UNICODE_TOPICS:
         session.publish(topic, topic.encode())
-    found = [(each.topic, each.payload.decode()) for each in session.replayed("+/Temperatur") + session.replayed("東京/#") + session.replayed("🌡/+")]
-    shown("unicode topics", found == [(topic, topic) for topic in topics])
+    filters = ("+/Temperatur", "東京/#", "🌡/+")
+    found = [text for each in filters for text in texts(session.replayed(each))]
+    shown("unicode topics", found == [(topic, topic) for topic in UNICODE_TOPICS])
     session.end()
 
 
 def many():
-    topics = [f"many/{number % 100}/{number}" for number in range(MANY)]
     session = Session()
     session.client.max_inflight_messages_set(16)
-    for topic in topics:
+    for topic in MANY_TOPICS:
         session.client.publish(topic, topic, 1, True)
-    session.until(lambda: len(session.acknowledged) == MANY)
+    session.until(lambda: len(session.acknowledged) == len(MANY_TOPICS))
+    wanted = [(topic, topic) for topic in in_order(MANY_TOPICS)]
     for qos in range(3):
-        found = [(each.topic, each.payload.decode()) for each in session.replayed("many/#", qos)]
-        in_order = sorted(topics, key=lambda topic: topic.split("/"))
-        shown(f"{MANY:,} retained messages in order, granted QoS {qos}", found == [(topic, topic) for topic in in_order])
+        shown(f"{MANY_SHOWN} {qos}", texts(session.replayed("many/#", qos)) == wanted)
     session.end()
 
 

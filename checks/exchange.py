@@ -1,14 +1,12 @@
 """What a client sends in a session, and what it may be answered if memory is refused once.
 
-The packets are those of OASIS MQTT Version 5.0, section 3. A topic is one letter below `a/`, and each message is `x`.
+A topic is one letter below `a/`, and each message is `x`.
 """
 
-CONNACK = bytes.fromhex("200D00000A21001027000400002A00")
+from harness import packets
+from harness.packets import CONNACK, CONNECT, DISCONNECT, acknowledgement, pubrel, suback
+
 OUT_OF_MEMORY = b"\x97"
-
-
-def reason(refused):
-    return OUT_OF_MEMORY if refused else b""
 
 
 class Store:
@@ -21,25 +19,12 @@ class Store:
         self.has_ended = False
 
     def replay(self):
-        return b"".join(b"\x31\x07\x00\x03a/" + letter + b"\x00x" for letter in sorted(self.letters))
-
-
-def packet(first, body):
-    return bytes([first, len(body)]) + body
-
-
-def packets(data):
-    """The packets of some bytes, by their Remaining Length (2.1.4)."""
-    while data:
-        digits = next(at for at in range(1, 5) if data[at] < 128)
-        size = 1 + digits + sum((data[at] % 128) << (7 * (at - 1)) for at in range(1, digits + 1))
-        yield data[:size]
-        data = data[size:]
+        return b"".join(packets.publish(b"a/" + letter, b"x") for letter in sorted(self.letters))
 
 
 class Connect:
     kind = "a CONNECT"
-    sent = bytes.fromhex("100E00044D5154540502003C00000161")
+    sent = CONNECT
 
     def replies(self, store, refused):
         store.has_ended = refused
@@ -52,8 +37,7 @@ class Publish:
     def __init__(self, letter, qos, number):
         self.letter, self.qos, self.number = letter, qos, number
         self.kind = f"a PUBLISH of QoS {qos}"
-        identifier = bytes([0, number]) if qos else b""
-        self.sent = packet(0x31 + 2 * qos, b"\x00\x03a/" + letter + identifier + b"\x00x")
+        self.sent = packets.publish(b"a/" + letter, b"x", qos, number)
 
     def replies(self, store, refused):
         if not refused:
@@ -62,45 +46,48 @@ class Publish:
                 store.held.add(self.number)
         if self.qos == 0:
             return b""
-        return packet(0x30 + 0x10 * self.qos, bytes([0, self.number]) + reason(refused))
+        reason = OUT_OF_MEMORY if refused else b""
+        return acknowledgement(0x30 + 0x10 * self.qos, self.number, reason)
 
 
 class Pubrel:
-    """Completes a publication of QoS 2. Its answer is the code 0x92 if the PUBLISH was refused (3.7.2.1)."""
+    """Completes a publication of QoS 2. Its answer is the code 0x92 if the PUBLISH was refused
+    (3.7.2.1)."""
 
     kind = "a PUBREL"
 
     def __init__(self, number):
         self.number = number
-        self.sent = packet(0x62, bytes([0, number]))
+        self.sent = pubrel(number)
 
     def replies(self, store, refused):
         unknown = b"" if self.number in store.held else b"\x92"
         store.held.discard(self.number)
-        return packet(0x70, bytes([0, self.number]) + unknown)
+        return acknowledgement(0x70, self.number, unknown)
 
 
 class Subscribe:
-    """A SUBSCRIBE at QoS 0 to one filter that matches every topic. With Retain Handling 1 it replays only if it is new (3.8.3.1)."""
+    """A SUBSCRIBE at QoS 0 to one filter that matches every topic. With Retain Handling 1 it
+    replays only if it is new (3.8.3.1)."""
 
     kind = "a SUBSCRIBE"
 
     def __init__(self, text, handling, number):
         self.text, self.handling, self.number = text, handling, number
-        self.sent = packet(0x82, bytes([0, number, 0, 0, len(text)]) + text + bytes([0x10 * handling]))
+        self.sent = packets.subscribe([text], 0x10 * handling, number)
 
     def replies(self, store, refused):
         if refused:
-            return packet(0x90, bytes([0, self.number, 0]) + OUT_OF_MEMORY)
+            return suback(OUT_OF_MEMORY, self.number)
         is_new = self.text not in store.filters
         store.filters.add(self.text)
-        granted = packet(0x90, bytes([0, self.number, 0, 0]))
+        granted = suback(b"\x00", self.number)
         return granted + (store.replay() if self.handling == 0 or is_new else b"")
 
 
 class Disconnect:
     kind = "a DISCONNECT"
-    sent = bytes.fromhex("E000")
+    sent = DISCONNECT
 
     def replies(self, store, refused):
         store.has_ended = True
@@ -108,7 +95,8 @@ class Disconnect:
 
 
 def replies(steps, refused_at=None, is_read=True):
-    """All that is answered if memory is refused to the step of this number: to its work, or already when it is read."""
+    """All that is answered if memory is refused to the step of this number: to its work, or
+    already when it is read."""
     store, answered = Store(), b""
     for number, step in enumerate(steps):
         if store.has_ended:
@@ -121,7 +109,8 @@ def replies(steps, refused_at=None, is_read=True):
 
 
 def possible(steps):
-    """Each answer that one refusal may give, with the kind of packet that was refused in its work, if one was."""
+    """Each answer that one refusal may give, with the kind of packet that was refused in its work,
+    if one was."""
     answers = {replies(steps): None}
     for number, step in enumerate(steps):
         answers.setdefault(replies(steps, number), step.kind)
@@ -136,7 +125,7 @@ def before_each_packet(steps):
 
 def before_each_reply(steps):
     """All that is answered before each reply is written."""
-    answers = list(packets(replies(steps)))
+    answers = list(packets.packets(replies(steps)))
     return [b"".join(answers[:count]) for count in range(len(answers))]
 
 
@@ -151,7 +140,8 @@ def short_exchange(qos):
 
 
 def long_exchange():
-    """Each topic is published and looked at, and published again; then there is a subscription, twice."""
+    """Each topic is published and looked at, and published again; then there is a subscription,
+    twice."""
     steps = [Connect()]
     for number, letter in enumerate(LETTERS, 1):
         steps += [Publish(letter, 1, number), Subscribe(b"#", 0, 100 + number)]

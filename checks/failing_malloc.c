@@ -1,7 +1,8 @@
 /* Loaded before a program, makes some allocations in a row fail, and tells it.
  *
- * FAIL_AT is the number of the first that fails, counted from 1, and FAIL_COUNT how many do. At each, a byte is written to the file
- * descriptor FAIL_TELL. The programs allocate by malloc and realloc alone. */
+ * FAIL_AT is the number of the first that fails, counted from 1, and FAIL_COUNT how many do. At
+ * each, a byte is written to the file descriptor FAIL_TELL. The programs allocate by malloc and
+ * realloc alone. */
 
 extern void *__libc_malloc(unsigned long size);
 extern void *__libc_realloc(void *old, unsigned long size);

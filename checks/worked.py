@@ -1,11 +1,10 @@
 """The worked examples, read from their file. The head of the file says how they are written."""
 
-import os
 from dataclasses import dataclass, field
 
-from program import crate
+from harness.program import crate
 
-FILE = os.path.join(crate("rs_examples"), "data", "examples.txt")
+FILE = crate("rs_examples") / "data" / "examples.txt"
 
 
 @dataclass
@@ -47,8 +46,9 @@ def words_bytes(words, names, number):
 def line_bytes(words, names):
     """The bytes of a line, repeated if it says so."""
     if words and words[0].endswith(":"):
-        first, last = words[0][:-1].split("..")
-        return b"".join(words_bytes(words[1:], names, number) for number in range(int(first), int(last) + 1))
+        first, last = map(int, words[0][:-1].split(".."))
+        numbers = range(first, last + 1)
+        return b"".join(words_bytes(words[1:], names, number) for number in numbers)
     return words_bytes(words, names, 0)
 
 

@@ -1,43 +1,10 @@
-"""Clients over plain sockets, which send and expect bytes."""
+"""A client over a plain socket, which sends bytes and expects bytes."""
 
-import os
 import socket
 import struct
-import sys
 
-from exchange import CONNACK, Connect, Disconnect
-from program import ROOT
-from server import PATIENCE
-
-sys.path.insert(0, os.path.join(ROOT, "bench"))
-
-import packets  # noqa: E402
-
-# The answer to a PUBLISH of QoS 1, the one if there is no room for it, and the answer to a SUBSCRIBE to one filter at QoS 0.
-PUBACK = bytes.fromhex("40020001")
-NO_ROOM = bytes.fromhex("4003000197")
-SUBACK = bytes.fromhex("900400010000")
-
-
-def publish(topic, payload):
-    """A retained PUBLISH of QoS 1."""
-    return packets.publish(topic, payload, qos=1)
-
-
-def expiring(topic, payload, seconds):
-    """The same with a Message Expiry Interval (3.3.2.3.3)."""
-    interval = b"\x05\x02" + seconds.to_bytes(4, "big")
-    return packets.packet(0x33, packets.counted(topic) + b"\x00\x01" + interval + payload)
-
-
-def replayed(topic, payload):
-    """A retained PUBLISH as it is sent at QoS 0."""
-    return packets.publish(topic, payload)
-
-
-def subscribe(*filters):
-    """A SUBSCRIBE to filters at QoS 0."""
-    return packets.subscribe(filters, 0)
+from harness.packets import CONNACK, CONNECT, DISCONNECT
+from harness.patience import PATIENCE
 
 
 class Client:
@@ -67,8 +34,10 @@ class Client:
         """Reads what has to come next."""
         data = self.reader.read(len(wanted))
         if data != wanted:
-            at = next((i for i, pair in enumerate(zip(data, wanted)) if pair[0] != pair[1]), len(data))
-            raise AssertionError(f"after {at} bytes {data[at : at + 20].hex()} came, and not {wanted[at : at + 20].hex()}")
+            pairs = enumerate(zip(data, wanted))
+            at = next((at for at, (one, other) in pairs if one != other), len(data))
+            came, missed = data[at : at + 20].hex(), wanted[at : at + 20].hex()
+            raise AssertionError(f"after {at} bytes {came} came, and not {missed}")
 
     def take_packet(self):
         """Reads a packet of less than 130 bytes, whatever it is."""
@@ -82,7 +51,7 @@ class Client:
         self.take(replies)
 
     def connect(self):
-        self.ask(Connect.sent, CONNACK)
+        self.ask(CONNECT, CONNACK)
         return self
 
     def take_end(self):
@@ -93,7 +62,7 @@ class Client:
 
     def disconnect(self):
         """Ends the session, and waits for the server's end."""
-        self.send(Disconnect.sent)
+        self.send(DISCONNECT)
         self.take_end()
         self.close()
 

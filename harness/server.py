@@ -4,27 +4,29 @@ import os
 import re
 import subprocess
 
-from program import program
-
-# Seconds after which something that does not go on is given up. Nothing that works takes nearly as long.
-PATIENCE = 300
+from harness.patience import PATIENCE
+from harness.program import program
 
 
 def start(address, *words, environment=None):
     """Starts the program as a server, with this added to the environment."""
     words = [program(), "listen", "--address", address, *words]
     environment = {**os.environ, **(environment or {})}
-    return subprocess.Popen(words, stdout=subprocess.PIPE, stderr=subprocess.PIPE, text=True, env=environment)
+    pipes = {"stdout": subprocess.PIPE, "stderr": subprocess.PIPE, "text": True}
+    return subprocess.Popen(words, env=environment, **pipes)
 
 
 class Server:
     """A running `rstored listen`, which is killed at the end of a `with`."""
 
-    def __init__(self, places=4, topics=10_000, connections=1_000_000, address="127.0.0.1:0", environment=None):
-        words = ["--places", str(places), "--topics", str(topics), "--connections", str(connections)]
+    def __init__(self, address="127.0.0.1:0", environment=None, **options):
+        """The options are those of the command line. Those that are left out are here."""
+        options = {"places": 4, "topics": 10_000, "connections": 1_000_000, **options}
+        words = [word for name, value in options.items() for word in (f"--{name}", str(value))]
         self.run = start(address, *words, environment=environment)
         line = self.run.stdout.readline()
-        bound = re.fullmatch(r"rstored: listening on ([0-9.]+|\[[0-9a-f:]+\]):([0-9]+)\n", line)
+        numbers = r"rstored: listening on ([0-9.]+|\[[0-9a-f:]+\]):([0-9]+)\n"
+        bound = re.fullmatch(numbers, line)
         if bound is None:
             self.stop()
             raise RuntimeError(f"listen at {address!r} printed {line!r}")
@@ -41,6 +43,7 @@ class Server:
         self.run.communicate()
 
     def ended(self):
-        """Waits until the program ends: its status, what it printed after its first line, and its errors."""
+        """Waits until the program ends: its status, what it printed after its first line, and its
+        errors."""
         printed, errors = self.run.communicate(timeout=PATIENCE)
         return self.run.returncode, printed, errors

@@ -1,15 +1,18 @@
-"""Debian packages that some checks need."""
+"""Debian packages that some scripts need."""
 
 import os
 import shutil
 import subprocess
 import sys
 
+from harness.words import NAME
+
 
 def has(packages):
     """Whether all these packages are there, after an attempt to install the missing ones.
 
-    With CI set in the environment a missing package is a failure. Without it the check is skipped, with a line that says so.
+    With CI set in the environment a missing package is a failure. Without it the check is skipped,
+    with a line that says so.
     """
     missing = [name for name in packages if not is_installed(name)]
     if missing and os.geteuid() == 0 and shutil.which("apt-get"):
@@ -18,7 +21,7 @@ def has(packages):
     if missing and os.environ.get("CI"):
         sys.exit(f"missing packages: {' '.join(missing)}")
     if missing:
-        print(f"{os.path.basename(sys.argv[0])}: skipped what needs {' '.join(missing)}")
+        print(f"{NAME}: skipped what needs {' '.join(missing)}")
     return not missing
 
 
@@ -39,4 +42,5 @@ def version(name):
 def install(packages):
     quiet = {**os.environ, "DEBIAN_FRONTEND": "noninteractive"}
     for words in (["update"], ["install", "--yes", "--no-install-recommends", *packages]):
-        subprocess.run(["apt-get", "--quiet", "--quiet", *words], env=quiet, stdout=subprocess.DEVNULL, stderr=subprocess.DEVNULL)
+        apt = ["apt-get", "--quiet", "--quiet", *words]
+        subprocess.run(apt, env=quiet, stdout=subprocess.DEVNULL, stderr=subprocess.DEVNULL)

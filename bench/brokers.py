@@ -1,0 +1,310 @@
+"""Measures the program as a server beside the broker mosquitto, and prints a table in Markdown.
+
+Both listen on the loopback of one machine, and are measured in turns; each number is the median of
+five runs. The clients are bench/load.c. The table is for a person, on a quiet machine. With
+`--once` each measure is made once and small, and nothing is judged.
+"""
+
+import os
+import socket
+import statistics
+import subprocess
+import sys
+import tempfile
+import time
+from collections.abc import Callable
+from dataclasses import dataclass
+
+from harness import debian
+from harness.patience import PATIENCE
+from harness.program import ROOT, most_memory
+from harness.server import Server
+from harness.words import given_words
+
+RUNS = 5
+
+# One place for each of eight publishers. A store that is nearly full.
+PLACES = 8
+TOPICS = 65_536
+
+CONFIGURATION = """
+listener {port} 127.0.0.1
+allow_anonymous true
+max_queued_messages 0
+persistence false
+log_type none
+"""
+
+
+class Mosquitto:
+    """A running mosquitto, which is killed at the end of a `with`."""
+
+    def __enter__(self):
+        with socket.socket() as free:
+            free.bind(("127.0.0.1", 0))
+            self.port = free.getsockname()[1]
+        self.folder = tempfile.TemporaryDirectory()
+        path = f"{self.folder.name}/mosquitto.conf"
+        with open(path, "w") as file:
+            file.write(CONFIGURATION.format(port=self.port))
+        silent = {"stdout": subprocess.DEVNULL, "stderr": subprocess.DEVNULL}
+        self.run = subprocess.Popen(["/usr/sbin/mosquitto", "-c", path], **silent)
+        start = time.monotonic()
+        while not self.is_open():
+            if self.run.poll() is not None or time.monotonic() - start > PATIENCE:
+                sys.exit("bench: mosquitto does not listen")
+            time.sleep(0.01)
+        return self
+
+    def is_open(self):
+        with socket.socket() as client:
+            return client.connect_ex(("127.0.0.1", self.port)) == 0
+
+    def __exit__(self, *_):
+        self.run.kill()
+        self.run.wait()
+        self.folder.cleanup()
+
+
+class Load:
+    """Clients of one broker."""
+
+    def __init__(self, path, broker):
+        self.words, self.broker = [path, str(broker.port)], broker
+
+    def start(self, *words):
+        return subprocess.Popen([*self.words, *map(str, words)], stdout=subprocess.PIPE, text=True)
+
+    def times(self, *words):
+        """The numbers that a job prints, microseconds or how many."""
+        run = self.start(*words)
+        printed, _ = run.communicate(timeout=PATIENCE)
+        if run.returncode != 0:
+            sys.exit(f"bench: {' '.join(map(str, words))} ended with status {run.returncode}")
+        return [float(line) for line in printed.split()]
+
+    def fill(self, count, size, pattern):
+        self.times("fill", count, size, pattern)
+
+    def rate(self, qos, connections, count, topics=10_000, size=64):
+        """Publications a second of some connections together."""
+        each, own = count // connections, max(1, topics // connections)
+        published, micros = self.times("publish", qos, connections, each, own, size)
+        return published * 1_000_000 / micros
+
+    def replay(self, text, pattern, messages, qos, rounds, is_delayed=False):
+        """The words of a job that subscribes to so many messages, which were filled by this
+        pattern."""
+        # mosquitto promises no order.
+        is_ordered = isinstance(self.broker, Server)
+        return "replay", qos, text, messages, rounds, int(is_delayed), pattern, int(is_ordered)
+
+    def answer_time(self, *words, **options):
+        """The microseconds from a SUBSCRIBE to its last message: the median of some."""
+        return statistics.median(self.times(*self.replay(*words, **options)))
+
+
+# Each measure fills a broker's store, and gives what is measured there. `scale` divides the number
+# of messages and rounds.
+
+
+def publishes(qos, connections):
+    def prepare(load, scale):
+        count = (200_000 if qos == 0 else 100_000) // scale
+        return lambda: load.rate(qos, connections, count)
+
+    return prepare
+
+
+def replays(qos, count=10_000):
+    def prepare(load, scale):
+        messages, pattern = count // scale, "fleet/%04d%02d/state"
+        load.fill(messages, 64, pattern)
+        words = ("#", pattern, messages, qos, max(1, 20 // scale))
+        return lambda: messages * 1_000_000 / load.answer_time(*words)
+
+    return prepare
+
+
+def answers(text, pattern, messages, is_delayed=False):
+    """Over 60,000 topics, of which ten are called `x` and ten are below `a/b`."""
+
+    def prepare(load, scale):
+        load.fill(59_980 // scale, 64, "site%d/device%02d/state")
+        load.fill(10, 64, "site%d/device%02d/x")
+        load.fill(10, 64, "a/b/%d%d")
+        words = (text, pattern, messages, 0, max(1, 200 // scale), is_delayed)
+        return lambda: load.answer_time(*words)
+
+    return prepare
+
+
+def beside_replays(readers=3):
+    """The share of its rate that a publisher keeps beside clients that replay 10,000 messages all
+    the time."""
+
+    def prepare(load, scale):
+        messages, pattern = 10_000 // scale, "kept/%04d%02d"
+        load.fill(messages, 64, pattern)
+
+        def share():
+            alone = load.rate(1, 1, 100_000 // scale)
+            words = load.replay("kept/#", pattern, messages, 0, 0)
+            running = [load.start(*words) for _ in range(readers)]
+            # Each has taken all messages once before the publisher begins.
+            are_ready = all(reader.stdout.readline() == "ready\n" for reader in running)
+            beside = load.rate(1, 1, 100_000 // scale)
+            for reader in running:
+                reader.kill()
+                reader.communicate()
+            if not are_ready:
+                sys.exit("bench: a replaying client ended")
+            return beside / alone
+
+        return share
+
+    return prepare
+
+
+def connects(load, scale):
+    return lambda: statistics.median(load.times("connect", 500 // scale))
+
+
+def memory(count, size):
+    """Peak memory in kilobytes."""
+
+    def prepare(load, scale):
+        load.fill(count // scale, size, "fleet/%04d%02d/state")
+        return lambda: most_memory(load.broker.run.pid)
+
+    return prepare
+
+
+@dataclass
+class Measure:
+    """What is measured, in which unit, what is wanted of it, and whether the program's median and
+    mosquitto's reach that."""
+
+    name: str
+    unit: str
+    prepare: Callable
+    wanted: str
+    is_reached: Callable
+
+    def ratio(self, own, other):
+        """How many times as fast the program is, or of memory, how many times as much it takes."""
+        return other / own if self.unit == "us" else own / other
+
+
+def fast(name, unit, prepare, times):
+    """A rate, or a time, that has to be so many times as good as mosquitto's."""
+
+    def is_reached(own, other):
+        return measure.ratio(own, other) >= times
+
+    measure = Measure(name, unit, prepare, f"at least {times}", is_reached)
+    return measure
+
+
+def small(name, prepare, times=1.5):
+    return Measure(name, "kB", prepare, f"at most {times}", lambda own, other: own / other <= times)
+
+
+RATE, TIME = "a second", "us"
+
+# Filters, the pattern of the topics that one matches, and how many they are.
+ONE_LEVEL = ("+/+/x", "site%d/device%02d/x", 10)
+BELOW = ("a/b/#", "a/b/%d%d", 10)
+ONE_TOPIC = ("site3/device50/state", "site3/device50/state", 1)
+
+MEASURES = (
+    fast("retained publications at QoS 0, one connection", RATE, publishes(0, 1), 1.5),
+    fast("retained publications at QoS 1, one connection", RATE, publishes(1, 1), 1.5),
+    fast("retained publications at QoS 0, eight connections", RATE, publishes(0, 8), 2),
+    fast("retained publications at QoS 1, eight connections", RATE, publishes(1, 8), 2),
+    fast("replay of 10,000 messages at QoS 0", RATE, replays(0), 5),
+    fast("replay of 10,000 messages at QoS 1, acknowledged", RATE, replays(1), 3),
+    fast("answer to `+/+/x`, 10 of 60,000 topics", TIME, answers(*ONE_LEVEL), 1),
+    fast("answer to `a/b/#`, 10 of 60,000 topics", TIME, answers(*BELOW), 2),
+    fast("answer to a filter of one of 60,000 topics", TIME, answers(*ONE_TOPIC), 1.5),
+    fast("from connecting to CONNACK", TIME, connects, 1.2),
+    Measure(
+        "10 messages for a client with delayed acknowledgements",
+        TIME,
+        answers(*BELOW, is_delayed=True),
+        "less than 1,000 us",
+        lambda own, other: own < 1_000,
+    ),
+    small("peak memory, 60,000 messages of 64 bytes", memory(60_000, 64)),
+    small("peak memory, 1,000 messages of 100 kB", memory(1_000, 100_000)),
+    Measure(
+        "share of its rate that a publisher keeps beside three replaying clients",
+        "",
+        beside_replays(),
+        "at least 0.7 of its own",
+        lambda own, other: own >= 0.7,
+    ),
+)
+
+
+def medians(measure, path, runs, scale):
+    """The medians of the program and of mosquitto, which are measured in turns."""
+    with Server(places=PLACES, topics=TOPICS) as server, Mosquitto() as mosquitto:
+        tools = [measure.prepare(Load(path, broker), scale) for broker in (server, mosquitto)]
+        found = [[tool() for tool in tools] for _ in range(runs)]
+    return [statistics.median(values) for values in zip(*found)]
+
+
+def shown(value):
+    if value >= 100:
+        return f"{value:,.0f}"
+    return f"{value:.1f}" if value >= 1 else f"{value:.2g}"
+
+
+def processors():
+    """The kind of the machine's processors and their number."""
+    with open("/proc/cpuinfo") as lines:
+        kinds = [line.split(":")[1].strip() for line in lines if line.startswith("model name")]
+    return f"{os.cpu_count()} processors, {(kinds or ['unknown'])[0]}"
+
+
+def table(path):
+    """Prints the table; whether all that is wanted is reached."""
+    print(f"mosquitto {debian.version('mosquitto')}; {processors()}\n")
+    print("| Measure | rstored | mosquitto | ratio | wanted |\n|---|---|---|---|---|")
+    missed = []
+    for measure in MEASURES:
+        own, other = medians(measure, path, RUNS, scale=1)
+        values = [f"{shown(value)} {measure.unit}".strip() for value in (own, other)]
+        # A share is of a broker's own rate.
+        ratio = shown(measure.ratio(own, other)) if measure.unit else ""
+        print(f"| {measure.name} | {' | '.join(values)} | {ratio} | {measure.wanted} |", flush=True)
+        if not measure.is_reached(own, other):
+            missed.append(measure.name)
+    if missed:
+        print(f"\nnot reached: {'; '.join(missed)}")
+    return not missed
+
+
+def once(path):
+    for measure in MEASURES:
+        medians(measure, path, runs=1, scale=100)
+    print("brokers: each measure was made once")
+
+
+def main():
+    is_once = bool(given_words("--once"))
+    if not debian.has(["mosquitto", "gcc", "libc6-dev"]):
+        return
+    with tempfile.TemporaryDirectory() as folder:
+        path = f"{folder}/load"
+        words = ["gcc", "-O2", "-pthread", "-o", path, ROOT / "bench" / "load.c"]
+        subprocess.run(words, check=True)
+        if is_once:
+            once(path)
+        elif not table(path):
+            sys.exit(1)
+
+
+if __name__ == "__main__":
+    main()

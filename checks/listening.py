@@ -1,0 +1,80 @@
+"""Runs the program as a server for many clients at once, some of which behave badly.
+
+What has to come is waited for, and the guard of PATIENCE only ends a check that hangs. Nothing is
+judged by time: it only excuses a refused client that was held up.
+"""
+
+import sys
+
+from checks.listening_addresses import addresses, restart
+from checks.listening_ends import (
+    a_client_that_never_reads,
+    abrupt_ends,
+    byte_by_byte,
+    half_closed,
+    refused_early,
+)
+from checks.listening_messages import wanted
+from checks.listening_places import (
+    all_connections_served,
+    few_threads,
+    short_connections,
+    sixty_four_places,
+)
+from checks.listening_store import expired_topics, one_history
+from checks.worked import examples
+from harness.client import Client
+from harness.server import Server
+from harness.words import given_words
+
+
+def worked_examples():
+    """Those that no clock changes are the same through a connection. One place serves the
+    connections of an example in turn."""
+    every = examples()
+    chosen = [each for each in every if not any(own.moments for own in each.connections)]
+    for example in chosen:
+        topics, count = example.topics or 10_000, len(example.connections)
+        with Server(places=1, topics=topics, connections=count) as server:
+            for connection in example.connections:
+                with Client(server) as client:
+                    for sent, answer in connection.turns:
+                        client.ask(sent, answer)
+                    client.half_close()
+                    client.take_end()
+            wanted(server.ended()[0] == 0, f"{example.name}: another end")
+    print(f"listening: {len(chosen)} of {len(every)} worked examples are the same")
+
+
+CHECKS = (
+    sixty_four_places,
+    short_connections,
+    one_history,
+    few_threads,
+    abrupt_ends,
+    a_client_that_never_reads,
+    half_closed,
+    byte_by_byte,
+    refused_early,
+    expired_topics,
+    restart,
+    addresses,
+    all_connections_served,
+    worked_examples,
+)
+
+
+def main():
+    """Runs all checks, or those that are named."""
+    names = given_words(*(check.__name__ for check in CHECKS))
+    chosen = [check for check in CHECKS if check.__name__ in names or not names]
+    for check in chosen:
+        try:
+            check()
+        except (AssertionError, OSError, RuntimeError) as error:
+            sys.exit(f"listening: {check.__name__}: {error}")
+    print(f"listening: {', '.join(check.__name__.replace('_', ' ') for check in chosen)}")
+
+
+if __name__ == "__main__":
+    main()

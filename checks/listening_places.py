@@ -1,0 +1,89 @@
+"""Places of a server: how many clients are served at once, one after the other, and by which
+threads. Part of `checks/listening`."""
+
+import tempfile
+from concurrent.futures import ThreadPoolExecutor
+
+from checks.listening_messages import all_replayed, publish, replayed, subscribe, topic, wanted
+from harness.client import Client
+from harness.packets import CONNACK, CONNECT, PUBACK, SUBACK
+from harness.program import preloaded
+from harness.server import Server
+
+MANY = 64
+
+
+def sixty_four_places():
+    """All places are served at once. One client more is served when a place is free."""
+    with Server(places=MANY) as server:
+        clients = [Client(server).connect() for _ in range(MANY)]
+        one_more = Client(server)
+        one_more.send(CONNECT)
+        for number, client in enumerate(clients):
+            client.ask(publish(topic(number), b"x"), PUBACK)
+        everything = all_replayed(MANY, b"x")
+        for client in clients:
+            client.ask(subscribe(b"t/#"), SUBACK + everything)
+        clients.pop().disconnect()
+        one_more.take(CONNACK)
+        one_more.ask(subscribe(b"#"), SUBACK + everything)
+        for client in [*clients, one_more]:
+            client.disconnect()
+
+
+def short_connections(count=1_000):
+    """Many clients connect, publish and end, again and again. Nothing that was acknowledged is
+    lost; after the last connection the program ends."""
+
+    def publish_once(number):
+        with Client(server).connect() as client:
+            client.ask(publish(topic(number), b"%d" % number), PUBACK)
+            client.disconnect()
+
+    with Server(places=MANY, connections=count + 1) as server:
+        with ThreadPoolExecutor(MANY) as threads:
+            list(threads.map(publish_once, range(count)))
+        with Client(server).connect() as reader:
+            kept = [replayed(topic(number), b"%d" % number) for number in range(count)]
+            reader.ask(subscribe(b"#"), SUBACK + b"".join(kept))
+            reader.disconnect()
+        wanted(server.ended() == (0, f"rstored: served {count + 1}\n", ""), "another end")
+
+
+def few_threads(connections=2 * MANY):
+    """Of 64 places those that get a thread serve all connections, with one more at the same time
+    on the first thread, and at the end the program says how many they were. If the writer or every
+    place gets none, it cannot listen."""
+    served = f"rstored: served {connections}\n"
+    with tempfile.TemporaryDirectory() as folder:
+        library = preloaded("few_threads", folder)
+        for places in (-1, 0, 1, 2, 40, MANY - 1, MANY):
+            # The writer takes the first thread.
+            threads = places + 1
+            environment = {"LD_PRELOAD": library, "THREADS": str(threads)}
+            with Server(places=MANY, connections=connections, environment=environment) as server:
+                if places < 1:
+                    end = (1, "", "rstored: cannot listen\n")
+                    wanted(server.ended() == end, f"another end with {threads} threads")
+                    continue
+                clients = [Client(server).connect() for _ in range(min(threads, MANY))]
+                for client in clients:
+                    client.disconnect()
+                for _ in range(len(clients), connections):
+                    Client(server).connect().disconnect()
+                few = f"rstored: {places} of {MANY} places had a thread\n"
+                end = (0, served, "") if places == MANY else (1, served, few)
+                wanted(server.ended() == end, f"another end with {threads} threads")
+
+
+def all_connections_served():
+    """Connections of all kinds count, and after the last one the program ends, whichever places
+    served them."""
+    with Server(places=4, connections=6) as server:
+        clients = [Client(server).connect() for _ in range(4)]
+        clients.pop().reset()
+        clients.append(Client(server).connect())
+        for client in clients:
+            client.disconnect()
+        Client(server).close()
+        wanted(server.ended() == (0, "rstored: served 6\n", ""), "another end")

@@ -1,0 +1,113 @@
+"""The store that all clients of a server share. Part of `checks/listening`."""
+
+from concurrent.futures import ThreadPoolExecutor
+from time import monotonic, sleep, time
+
+from checks.listening_messages import publish, replayed, subscribe, topic, wanted
+from harness.client import Client
+from harness.packets import NO_ROOM, PUBACK, SUBACK
+from harness.patience import PATIENCE
+from harness.server import Server
+
+
+def one_history(count=12, topics=4, rounds=50):
+    """Clients publish numbers that rise, each on topics of its own, and read all topics after each
+    publication.
+
+    Of any two reads, whoever made them, one shows of no topic less than the other, since both are
+    of one history. A read shows all that its client was told is kept, and no less than the reads
+    before it.
+    """
+    names = [[b"h/%02d/%d" % (own, number) for number in range(topics)] for own in range(count)]
+
+    def numbers(client):
+        """What a read shows of each topic, in their order."""
+        client.ask(subscribe(b"h/#"), SUBACK)
+        shown = []
+        for name in sum(names, []):
+            packet = client.take_packet()
+            number = packet[len(replayed(name, b"")) :]
+            is_next = packet == replayed(name, number)
+            wanted(is_next, f"{packet.hex()} came in the place of {name.decode()}")
+            shown.append(int(number))
+        return shown
+
+    def publish_and_read(own):
+        with Client(server).connect() as client:
+            kept, reads = [0] * topics, []
+            for number in range(1, rounds + 1):
+                at = number % topics
+                client.ask(publish(names[own][at], b"%d" % number), PUBACK)
+                kept[at] = number
+                reads.append(numbers(client))
+                own_read = reads[-1][own * topics : (own + 1) * topics]
+                wanted(own_read == kept, "a read does not show what was kept before")
+            client.disconnect()
+            return reads
+
+    def is_no_later(one, other):
+        return all(number <= later for number, later in zip(one, other))
+
+    with Server(places=count) as server:
+        with Client(server).connect() as first:
+            for name in sum(names, []):
+                first.ask(publish(name, b"0"), PUBACK)
+            first.disconnect()
+        with ThreadPoolExecutor(count) as threads:
+            reads = list(threads.map(publish_and_read, range(count)))
+    for own in [*reads, sorted(sum(reads, []), key=sum)]:
+        wanted(all(map(is_no_later, own, own[1:])), "two reads are not of one history")
+
+
+def expired_topics(count=1_000):
+    """Messages that have expired make room for as many new topics, and those that have not make
+    none.
+
+    The clock counts whole seconds, so that of messages that last a second the first may expire a
+    moment after it came. Whether a topic more is refused is judged only if less time than the
+    messages last was over when it was answered. If more was, as on a busy machine, it is all done
+    again with messages that last twice as long.
+    """
+    for seconds in (1, 2, 4, 8, 16, 32, 64):
+        if refuses_until_expired(count, seconds):
+            return
+    raise AssertionError("the messages always expire before the store is full")
+
+
+def refuses_until_expired(count, seconds):
+    """Whether the store was full before any of its messages could expire."""
+    numbers = range(count)
+    with Server(topics=count) as server, Client(server) as client, Client(server) as other:
+        client.connect()
+        other.connect()
+        begin_second()
+        began = time()
+        sent = b"".join(publish(topic(number), b"x", seconds) for number in numbers)
+        client.ask(sent, count * PUBACK)
+        other.send(publish(b"more", b"x", seconds))
+        answer = other.take_packet()
+        ended = time()
+        # The server may see the turn of a second a little later or earlier than this clock does.
+        is_told = int(ended + 0.02) - int(began - 0.02) < seconds
+        is_right = answer == NO_ROOM or not is_told and answer == PUBACK
+        wanted(is_right, f"a topic more was answered {answer.hex()}")
+        wait_until(ended + seconds + 1)
+        new = [b"new/%06d" % number for number in numbers]
+        client.ask(b"".join(publish(name, b"y") for name in new), count * PUBACK)
+        other.ask(publish(b"more", b"y"), NO_ROOM)
+        other.ask(subscribe(b"#"), SUBACK + b"".join(replayed(name, b"y") for name in new))
+        return is_told
+
+
+def begin_second():
+    """Waits until a second of the clock has just begun."""
+    wait_until(int(time()) + 1)
+    sleep(0.05)
+
+
+def wait_until(moment):
+    """Waits until the clock is there."""
+    began = monotonic()
+    while time() < moment:
+        wanted(monotonic() - began < PATIENCE, "the clock stands still")
+        sleep(0.02)

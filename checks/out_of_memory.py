@@ -1,0 +1,173 @@
+"""Refuses memory to each allocation in turn, until a run has none that is left to refuse.
+
+Whole sessions go through the program. Each time it must end with status 0, and write the replies
+of a session that was refused memory at one packet, which keeps nothing of that packet and takes it
+when it comes again; or with status 1, write all replies before one, and say on standard error what
+failed: never another answer. The program rs_trials does the same with the calls of a catalogue, of
+a window, of a store of versions and of the queue to its writer.
+"""
+
+import os
+import re
+import subprocess
+import sys
+import tempfile
+from collections import Counter
+
+from checks.exchange import (
+    before_each_packet,
+    before_each_reply,
+    long_exchange,
+    possible,
+    short_exchange,
+)
+from harness.patience import PATIENCE
+from harness.program import preloaded, program
+from harness.words import given_words
+
+# What a run was refused memory for if each call that tells it was given what it asked for.
+UNTOLD = "a call that does not tell it"
+
+
+def run_refused(words, given, at, count, library):
+    """One run in which so many allocations fail, of which this is the number of the first, and
+    whether there was one."""
+    with tempfile.TemporaryFile() as told:
+        tell = told.fileno()
+        numbers = {"FAIL_AT": at, "FAIL_COUNT": count, "FAIL_TELL": tell}
+        environment = {"LD_PRELOAD": library, **{key: str(own) for key, own in numbers.items()}}
+        options = {"capture_output": True, "timeout": PATIENCE, "pass_fds": [tell]}
+        run = subprocess.run(words, input=given, env=environment, **options)
+        return run, told.seek(0, os.SEEK_END) > 0
+
+
+def in_turn(words, given, library, count=1):
+    """The runs in which so many allocations fail, from the first, second, third .. on, and last
+    the one that has no such allocation."""
+    at, was_refused = 0, True
+    while was_refused:
+        at += 1
+        run, was_refused = run_refused(words, given, at, count, library)
+        yield at, run, was_refused
+
+
+def enough(name, counts, least, runs):
+    """Prints how often each kind of call was refused memory, each of which must have been as often
+    as `least` says."""
+    shown = ", ".join(f"{kind} {counts[kind]}" for kind in least)
+    told = f"{runs} allocations, each refused in turn; refused were: {shown}"
+    print(f"out of memory: {name}: {told}")
+    for kind, wanted in least.items():
+        if counts[kind] < wanted:
+            missed = f"{kind} was refused memory {counts[kind]} times, and {wanted} are wanted"
+            sys.exit(f"{name}: {missed}")
+
+
+def breaks(steps, is_hex):
+    """What is said when a session is broken off, with what was written before.
+
+    A reply takes memory when it is made, and none when it is written, so that `write failed` is
+    never said. A read takes memory if it is of lines of hex digits, and none if it is of bytes.
+    """
+    ends = {("rstored: out of memory\n", written) for written in before_each_reply(steps)}
+    if is_hex:
+        ends |= {("rstored: read failed\n", written) for written in before_each_packet(steps)}
+    return ends
+
+
+def sessions(name, steps, least, is_hex, library):
+    """Runs a session through the program. It must be broken off in each of the ways that it may
+    be, and in no other."""
+    answers, broken = possible(steps), breaks(steps, is_hex)
+    sent = [step.sent for step in steps]
+    words = [program(), "pipe", "--at", "0"] + ["--hex"] * is_hex
+    given = b"".join(data.hex().encode() + b"\n" if is_hex else data for data in sent)
+    counts, unseen = Counter(), set(broken)
+    for at, run, was_refused in in_turn(words, given, library):
+        written = bytes.fromhex(run.stdout.decode()) if is_hex else run.stdout
+        errors = run.stderr.decode()
+        if run.returncode == 0:
+            allowed = answers if was_refused else [next(iter(answers))]
+            good = errors == "" and written in allowed
+        else:
+            good = was_refused and run.returncode == 1 and (errors, written) in broken
+        if not good:
+            shown = f"status {run.returncode}, {written.hex()}, {errors!r}"
+            sys.exit(f"{name}, allocation {at}: {shown}")
+        if run.returncode == 0:
+            counts[answers[written]] += 1
+        else:
+            unseen.discard((errors, written))
+    for errors, written in unseen:
+        sys.exit(f"{name}: no run wrote {written.hex()} and said {errors!r}")
+    enough(name, counts, least, at - 1)
+
+
+def calls(job, least, library, count=1, untold=0):
+    """Runs a job of rs_trials, in which so many allocations in a row fail. It prints how often
+    each kind of call was refused.
+
+    At least so many runs as `untold` says must have been refused memory in a call that does not
+    tell it. If the job cannot go on, it says so, and in the first runs that the words were not
+    read.
+    """
+    refused, unread = Counter(), 0
+    not_read = b"rs_trials: the clock, the words, the input or the output failed\n"
+    for at, run, was_refused in in_turn([program("rs_trials"), "refuse", job], b"", library, count):
+        printed = re.fullmatch(r"refused((?: \d+)+)\n", run.stdout.decode())
+        counts = dict(zip(least, map(int, printed[1].split()))) if printed else {}
+        is_whole = run.returncode == 0 and len(counts) == len(least)
+        if is_whole and (was_refused or not any(counts.values())):
+            refused.update(counts)
+            refused[UNTOLD] += was_refused and not any(counts.values())
+            continue
+        is_unread = at == unread + 1 and run.stderr == not_read
+        unread += is_unread
+        is_told = is_unread or run.stderr == b"rs_trials: out of memory\n"
+        if not (was_refused and run.returncode == 1 and run.stdout == b"" and is_told):
+            shown = f"status {run.returncode}, {run.stdout!r}, {run.stderr!r}"
+            sys.exit(f"{job}, allocation {at}: {shown}")
+    enough(f"{job}, {count} in a row", refused, least | {UNTOLD: untold}, at - 1)
+
+
+def main():
+    given_words()
+    with tempfile.TemporaryDirectory() as folder:
+        library = preloaded("failing_malloc", folder)
+        for qos in range(3):
+            least = {"a CONNECT": 1, f"a PUBLISH of QoS {qos}": 1, "a SUBSCRIBE": 1}
+            name = f"a short session at QoS {qos}"
+            sessions(name, short_exchange(qos), least, False, library)
+            sessions(f"{name} as hex digits", short_exchange(qos), least, True, library)
+        least = {"a CONNECT": 1, "a PUBLISH of QoS 1": 2, "a SUBSCRIBE": 2}
+        sessions("a long session", long_exchange(), least, False, library)
+        places = ("at the root", "in the middle", "at a leaf", "above others")
+        kinds = [f"a topic that is new {place}" for place in places]
+        kinds += ["a topic behind a Sweep", "a copy"]
+        calls("tree", dict.fromkeys(kinds, 2), library, untold=2)
+        calls("window", {"a queue": 2}, library)
+        for count in (1, 2):
+            # A held entry is refused only by a second failure in a row. Without one, `put` copies
+            # an entry, which takes no memory.
+            least = {
+                "a put that keeps nothing": count - 1,
+                "a put that keeps its Sweep alone": 2,
+                "a put that holds": 2,
+                "a put that holds behind its Sweep": 2,
+                "a retry": count - 1,
+                "an answer": 2,
+            }
+            calls("versions", least, library, count)
+        for count in (1, 2):
+            # A submit copies its operation, which takes no memory. So one is refused only behind
+            # an entry that is held.
+            least = {
+                "a submit that makes no entry": count - 1,
+                "a submit whose entry is held": 2,
+                "the last submit": 3 - count,
+            }
+            calls("queue", least, library, count)
+
+
+if __name__ == "__main__":
+    main()
