@@ -116,11 +116,11 @@ async function keptAndReadBack () {
   const reader = await Session.open()
   for (const granted of [0, 1, 2]) {
     const found = await reader.replayed('kept/+', granted)
-    const texts = [0, 1, 2].map(qos => [`kept/${qos}`, `message ${qos}`])
-    const flags = [0, 1, 2].map(qos => [Math.min(qos, granted), true])
-    const isSame = same(textsOf(found), texts) &&
-      same(found.map(packet => [packet.qos, packet.retain]), flags)
-    shown(`retained at QoS 0, 1 and 2, read back at ${granted}`, isSame)
+    const wanted = [0, 1, 2].map(qos =>
+      [`kept/${qos}`, `message ${qos}`, Math.min(qos, granted), true])
+    const got = found.map(packet =>
+      [packet.topic, packet.payload.toString(), packet.qos, packet.retain])
+    shown(`retained at QoS 0, 1 and 2, read back at ${granted}`, same(got, wanted))
   }
   await reader.end()
 }
