@@ -86,9 +86,11 @@ ADDRESS = "--address <ADDRESS>"
 PLACES = "places <1-64>"
 TOPICS = "topics <1-65536>"
 CONNECTIONS = "connections <1-1000000>"
+IDLE = "idle <1-86400>"
 LISTEN = f"listen [OPTIONS] {ADDRESS} --{CONNECTIONS}"
 LISTENS = "Serves MQTT 5 clients that connect by TCP."
 LIMITS = (f"--{PLACES}", "[default: 4]", f"--{TOPICS}", "[default: 10000]", f"--{CONNECTIONS}")
+MORE = (f"--{IDLE}", "--log")
 MISSING = "the following required arguments were not provided:"
 LOOPBACK = "listen --address 127.0.0.1:0"
 ONE = f"{LOOPBACK} --connections 1"
@@ -102,9 +104,9 @@ WORDS = {
     "--version": End(0, "rstored 0.1.0\n"),
     "pipe --help": helped(PIPES, PIPE, "--hex", AT),
     "pipe -h": helped("Serve one MQTT 5 connection ", PIPE, "--hex ", f"{AT} "),
-    "listen --help": helped(LISTENS, LISTEN, ADDRESS, *LIMITS),
+    "listen --help": helped(LISTENS, LISTEN, ADDRESS, *LIMITS, *MORE),
     "listen -h": helped(
-        "Serve MQTT 5 clients that connect by TCP", LISTEN, f"{ADDRESS} ", *LIMITS[::2]
+        "Serve MQTT 5 clients that connect by TCP", LISTEN, f"{ADDRESS} ", *LIMITS[::2], *MORE
     ),
     "pipe": refused(MISSING, AT, "Usage: rstored pipe"),
     "pipe --at": refused(f"a value is required for '{AT}' but none was supplied"),
@@ -116,6 +118,10 @@ WORDS = {
     f"{LOOPBACK} --connections 0": invalid(0, CONNECTIONS, "0 is not in 1..=1000000"),
     f"{ONE} --places 65": invalid(65, PLACES, "65 is not in 1..=64"),
     f"{ONE} --topics 0": invalid(0, TOPICS, "0 is not in 1..=65536"),
+    f"{ONE} --idle 0": invalid(0, IDLE, "0 is not in 1..=86400"),
+    f"{ONE} --idle 86401": invalid(86401, IDLE, "86401 is not in 1..=86400"),
+    f"{ONE} --idle x": invalid("x", IDLE, "invalid digit found in string"),
+    f"{ONE} --idle 1 --idle 1": refused(f"the argument '--{IDLE}' cannot be used multiple times"),
     "listen --address nowhere --connections 1": NO_LISTENER,
     "pipe --at 0": End(0, ""),
     f"pipe --hex --at {2**64 - 1}": End(0, ""),

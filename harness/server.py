@@ -8,22 +8,40 @@ from harness.patience import PATIENCE
 from harness.program import program
 
 
-def start(address, *words, environment=None):
-    """Starts the program as a server, with this added to the environment."""
-    words = [program(), "listen", "--address", address, *words]
+def start(address, *words, environment=None, errors=None, inside=()):
+    """Starts the program as a server, with this added to the environment, by the command `inside`.
+
+    If its errors are not to be read, they go to a "closed pipe" or to a "full disk", or standard
+    error is "closed".
+    """
+    words = [*inside, program(), "listen", "--address", address, *words]
     environment = {**os.environ, **(environment or {})}
-    pipes = {"stdout": subprocess.PIPE, "stderr": subprocess.PIPE, "text": True}
-    return subprocess.Popen(words, env=environment, **pipes)
+    stderr, before = subprocess.PIPE, None
+    if errors == "closed pipe":
+        reading, stderr = os.pipe()
+        os.close(reading)
+    elif errors == "full disk":
+        stderr = os.open("/dev/full", os.O_WRONLY)
+    elif errors == "closed":
+        stderr, before = None, lambda: os.close(2)
+    pipes = {"stdout": subprocess.PIPE, "stderr": stderr, "text": True}
+    run = subprocess.Popen(words, env=environment, preexec_fn=before, **pipes)
+    if errors in ("closed pipe", "full disk"):
+        os.close(stderr)
+    return run
 
 
 class Server:
     """A running `rstored listen`, which is killed at the end of a `with`."""
 
-    def __init__(self, address="127.0.0.1:0", environment=None, **options):
-        """The options are those of the command line. Those that are left out are here."""
+    def __init__(self, address="127.0.0.1:0", environment=None, errors=None, inside=(), **options):
+        """The options are those of the command line, a flag as True. Those that are left out are
+        here."""
         options = {"places": 4, "topics": 10_000, "connections": 1_000_000, **options}
-        words = [word for name, value in options.items() for word in (f"--{name}", str(value))]
-        self.run = start(address, *words, environment=environment)
+        words = []
+        for name, value in options.items():
+            words += [f"--{name}"] if value is True else [f"--{name}", str(value)]
+        self.run = start(address, *words, environment=environment, errors=errors, inside=inside)
         line = self.run.stdout.readline()
         numbers = r"rstored: listening on ([0-9.]+|\[[0-9a-f:]+\]):([0-9]+)\n"
         bound = re.fullmatch(numbers, line)
@@ -46,4 +64,4 @@ class Server:
         """Waits until the program ends: its status, what it printed after its first line, and its
         errors."""
         printed, errors = self.run.communicate(timeout=PATIENCE)
-        return self.run.returncode, printed, errors
+        return self.run.returncode, printed, errors or ""

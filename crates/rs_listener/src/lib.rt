@@ -2,12 +2,13 @@
 //!
 //! [`Server::bind`] binds an address and makes an empty store, [`Server::address`] tells the address, and [`Server::run`] serves
 //! clients until so many have connected. Each place has a thread, which serves one client after the other, and the store's writer
-//! has one.
+//! has one. A connection may have a limit for how long it is idle, and the log of the handle is told when each begins and ends.
 //!
 //! What a place does with a connection is `serve_place` of `rs_places`. The contracts of this crate do not say what a socket gives or
 //! takes, that a thread runs, or that a call returns.
 #![tactic(auto)]
 
+mod ending;
 mod fault;
 mod opening;
 mod server;

@@ -3,13 +3,14 @@
 ghost use Rattle.std.specs.Prelude.{◌≡◌, IfOk, length};
 
 use crate::turn::ListenTurn;
+use log::Log;
 use rs_sockets::Listener;
 use std::alloc::{AllocError, Global};
 use std::sync::Arc;
 use std::time::Clock;
 
-/// So many turns, which share the listener.
-pub(crate) fn turns<H: Clock + Copy>(
+/// So many turns, those of the places 1, 2 and so on, which share the listener.
+pub(crate) fn turns<H: Clock + Log + Copy>(
     rt: H,
     alloc: Global,
     listener: Listener,
@@ -22,7 +23,7 @@ pub(crate) fn turns<H: Clock + Copy>(
     for before in 0..count {
         let listener = Arc::try_clone(&listener)?;
         turns
-            .push(ListenTurn::new(rt, alloc, listener))
+            .push(ListenTurn::new(rt, alloc, listener, before + 1))
             .map_err(|_| AllocError)?;
     }
     Ok(turns)

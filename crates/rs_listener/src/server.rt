@@ -7,6 +7,7 @@ ghost use Rattle.rs_places.specs.Turns.{Plan};
 
 use crate::fault::ListenFault;
 use crate::opening::turns;
+use log::Log;
 use rs_intake::{BlankQueue, blank_queue};
 use rs_places::run_store;
 use rs_sockets::Listener;
@@ -16,7 +17,7 @@ use std::alloc::Global;
 use std::net::{Net, TcpListener, TcpStream};
 use std::sync::Wait;
 use std::thread::Threads;
-use std::time::Clock;
+use std::time::{Clock, Duration};
 
 /// A bound address and an empty store, before the first client is served.
 #[derive(Drop)]
@@ -42,7 +43,8 @@ pub struct Summary {
 impl Server {
     /// Binds an address: a host's name, an IPv4 or an IPv6 address, and a port, as `localhost:1883` or `[::1]:1883`. Port 0 takes one
     /// that is free. It will accept `connections` connections, none if that is 0, and serve as many clients at the same time as there are `places`, 1 to
-    /// [`MAX_PLACES`](rs_message::MAX_PLACES). Their store is empty, and holds messages of at most `limit` topics.
+    /// [`MAX_PLACES`](rs_message::MAX_PLACES). Their store is empty, and holds messages of at most `limit` topics. If `idle` is given, a
+    /// connection ends if no byte came for so long, or if no byte of what waits for its client was taken for so long.
     ///
     /// # Errors
     ///
@@ -55,12 +57,13 @@ impl Server {
         connections: u64,
         limit: TopicLimit,
         places: u8,
+        idle: Option<Duration>,
     ) -> Result<Server, ListenFault>
         requires { (0 < places) × (places ≤ MAX_PLACES) }
     {
         let blank = Blank::new(alloc, limit, places)?;
         let queue = blank_queue(alloc, places)?;
-        match Listener::bind(rt, address, connections) {
+        match Listener::bind(rt, address, connections, idle) {
             Ok(listener) => Ok(Server {
                 alloc,
                 listener,
@@ -87,7 +90,7 @@ impl Server {
     /// Serves clients, until all connections were accepted and have ended.
     ///
     /// If a place's thread cannot be started, and it is not the first, the caller's thread serves it and those behind it, one after
-    /// the other. A fault of a connection ends that connection alone. If the changes are known, they are those of a run of the store,
+    /// the other. A fault of a connection ends that connection alone. The log of `rt` is told when each begins and how it ended. If the changes are known, they are those of a run of the store,
     /// as [`run_store`] says it; of its clients nothing is known, so any number meets this clause. That it is the one of this run is seen
     /// in the code: it is what `run_store` answers.
     ///
@@ -96,7 +99,7 @@ impl Server {
     /// [`NoMemory`](ListenFault::NoMemory) if memory is refused for the store, the queue, the gates or the threads of the places,
     /// [`NoThread`](ListenFault::NoThread) if the thread of the store's writer, or that of the first place, cannot be started. No
     /// client was served.
-    pub fn run<H: Clock + Threads + Wait + Copy + Send + Sync + 'static>(
+    pub fn run<H: Clock + Log + Threads + Wait + Copy + Send + Sync + 'static>(
         self,
         rt: H,
     ) -> Result<Summary, ListenFault>

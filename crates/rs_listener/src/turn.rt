@@ -2,12 +2,17 @@
 
 ghost use Rattle.rs_places.specs.Turns.{TakesBack, unknown};
 
+use crate::ending::Ending;
+use log::{Log, info};
 use rs_places::{Connection, Turn};
 use rs_server::{ServeFault, Served};
-use rs_sockets::{FromClient, Listener, SystemClock, ToClient, close};
+use rs_sockets::{Accepted, FromClient, Listener, SystemClock, ToClient, abandon, close};
 use std::alloc::Global;
+use std::fmt;
+use std::fmt::{Display, Formatter};
 use std::io::{Read, Write};
 use std::mem::replace;
+use std::net::SocketAddr;
 use std::sync::Arc;
 use std::time::Clock;
 
@@ -16,11 +21,34 @@ use std::time::Clock;
 pub(crate) struct ListenClock<H: Clock> {
     rt: H,
     clock: SystemClock,
+    // How often the time was told: once for each packet.
+    packets: u64,
+    visit: Visit,
+}
+
+/// Which connection it is.
+#[derive(Clone, Copy)]
+pub(crate) struct Visit {
+    place: u8,
+    number: u64,
+    peer: SocketAddr,
+}
+
+impl Display for Visit {
+    fn fmt<W: fmt::Write>(&self, f: &mut Formatter<W>) -> fmt::Result {
+        let Visit {
+            place,
+            number,
+            peer,
+        } = self;
+        write!(f, "place {place}, connection {number}, {peer}")
+    }
 }
 
 impl<H: Clock> rs_server::Clock for ListenClock<H> {
     /// The time, in whole seconds since 1970.
     fn now(&mut self) -> u64 {
+        self.packets = self.packets.saturating_add(1);
         self.clock.now(&self.rt)
     }
 }
@@ -33,20 +61,25 @@ pub(crate) struct ListenTurn<H: Clock> {
     listener: Arc<Listener>,
     // That of the last connection, so that its last moment stands if the clock cannot be read.
     clock: SystemClock,
+    place: u8,
+    // How many connections it gave, as the place numbers them.
+    number: u64,
 }
 
 impl<H: Clock> ListenTurn<H> {
-    pub(crate) fn new(rt: H, alloc: Global, listener: Arc<Listener>) -> ListenTurn<H> {
+    pub(crate) fn new(rt: H, alloc: Global, listener: Arc<Listener>, place: u8) -> ListenTurn<H> {
         ListenTurn {
             rt,
             alloc,
             listener,
             clock: SystemClock::new(),
+            place,
+            number: 0,
         }
     }
 }
 
-impl<H: Clock + Copy + Send> Turn for ListenTurn<H> {
+impl<H: Clock + Log + Copy + Send> Turn for ListenTurn<H> {
     type In = FromClient;
 
     type Out = ToClient;
@@ -55,16 +88,33 @@ impl<H: Clock + Copy + Send> Turn for ListenTurn<H> {
 
     /// Waits for the next client. None if all were accepted.
     fn next(&mut self) -> Option<Connection<FromClient, ToClient, ListenClock<H>>> {
-        let (input, output) = self.listener.accept(&self.rt, self.alloc)?;
-        let clock = replace(&mut self.clock, SystemClock::new());
+        let Accepted {
+            input,
+            output,
+            peer,
+        } = self.listener.accept(&self.rt, self.alloc)?;
+        self.number = self.number.saturating_add(1);
+        let visit = Visit {
+            place: self.place,
+            number: self.number,
+            peer,
+        };
+        let mut clock = replace(&mut self.clock, SystemClock::new());
+        let time = clock.now(&self.rt);
+        info!(self.rt; target: "rstored", "{time} {visit}: connected");
         Some(Connection {
             input,
             output,
-            clock: ListenClock { rt: self.rt, clock },
+            clock: ListenClock {
+                rt: self.rt,
+                clock,
+                packets: 0,
+                visit,
+            },
         })
     }
 
-    /// Closes the connection, as [`close`] does, however it ended.
+    /// Closes the connection, as [`abandon`] does if it failed, else as [`close`].
     fn end(
         &mut self,
         connection: Connection<FromClient, ToClient, ListenClock<H>>,
@@ -77,11 +127,22 @@ impl<H: Clock + Copy + Send> Turn for ListenTurn<H> {
             output,
             clock,
         } = connection;
-        let ListenClock { rt: _, clock } = clock;
+        let ListenClock {
+            rt: _,
+            clock,
+            packets,
+            visit,
+        } = clock;
         self.clock = clock;
-        // However it ended, it is closed in the same way.
-        let _ = served;
-        // The client may have gone.
-        let _ = close(&self.rt, input, output);
+        let (read, written) = (input.count(), output.count());
+        let ending = Ending::new(served, input.is_unwritten());
+        if ending.is_failed() {
+            abandon(input, output);
+        } else {
+            // The client may have gone.
+            let _ = close(&self.rt, input, output);
+        }
+        let time = self.clock.now(&self.rt);
+        info!(self.rt; target: "rstored", "{time} {visit}: {ending}, {packets} packets, {read} bytes in, {written} bytes out");
     }
 }

@@ -1,5 +1,5 @@
 -- The command line, as the crate clap reads it.
-use Rattle.std.specs.Prelude.{◌≡◌, ◌≤◌, ◌-◌, ◌^◌, ℕ, true, false, Bool, List, [], ◌∷◌, Some, None, codes}
+use Rattle.std.specs.Prelude.{◌≡◌, ◌≤◌, ◌-◌, ◌^◌, ℕ, true, false, Bool, List, [], ◌∷◌, Option, Some, None, IfSome, codes}
 use Rattle.std.specs.String.{string_bytes}
 use Rattle.std.specs.Str.Parse.{IsNumeral, digits_value, without_leading_plus}
 use Rattle.clap.specs.Words.{App, Rule, Row, Text, new_app, new_rule, with_rule, with_subcommand, first_of, one_of, subcommand_of}
@@ -8,7 +8,7 @@ use Rattle.clap.specs.declared.builder.action.ArgAction.TheVariants.{SetTrue}
 use Rattle.clap.specs.declared.builder.value_parser.ValueParser.TheVariants.{Unsigned}
 use Rattle.rs_message.specs.declared.entry.TheConstants.{MAX_PLACES}
 use Rattle.rs_store.specs.declared.limit.TheConstants.{MAX_TOPICS}
-use Rattle.rs_program.specs.declared.words.commands.TheConstants.{MAX_CONNECTIONS}
+use Rattle.rs_program.specs.declared.words.commands.TheConstants.{MAX_CONNECTIONS, MAX_IDLE}
 use Rattle.rs_program.specs.declared.words.Run.{Run}
 use Rattle.rs_program.specs.declared.words.Run.TheVariants.{Pipe, Listen}
 
@@ -40,11 +40,19 @@ topics_option = record (number_option (codes "topics") 1 MAX_TOPICS) { defaults 
 abbrev pub connections_option : Rule
 connections_option = record (number_option (codes "connections") 1 MAX_CONNECTIONS) { required = true }
 
+-- `--idle NUMBER`
+abbrev pub idle_option : Rule
+idle_option = number_option (codes "idle") 1 MAX_IDLE
+
+-- `--log`
+abbrev pub log_option : Rule
+log_option = record (new_rule (codes "log")) { long = Some (codes "log"); action = Some SetTrue }
+
 abbrev pub pipe_words : App
 pipe_words = with_rule (with_rule (new_app (codes "pipe")) hex_option) at_option
 
 abbrev pub listen_words : App
-listen_words = with_rule (with_rule (with_rule (with_rule (new_app (codes "listen")) address_option) places_option) topics_option) connections_option
+listen_words = with_rule (with_rule (with_rule (with_rule (with_rule (with_rule (new_app (codes "listen")) address_option) places_option) topics_option) connections_option) idle_option) log_option
 
 -- the words after the program's name: one of its commands, with its options
 abbrev pub rstored_words : App
@@ -59,6 +67,11 @@ pub record IsNumberOf (rows : List Row) (option : Text) (least most number : ℕ
   pub above : least ≤ number
   pub below : number ≤ most
 
+-- The option's value is this number, or it has no value and there is no number.
+abbrev pub IsNumberGiven : List Row → Text → ℕ → ℕ → Option ℕ → Type 0
+IsNumberGiven rows option least most (Some number) = IsNumberOf rows option least most number
+IsNumberGiven rows option least most None = first_of option rows ≡ None
+
 -- The flag is set if the option's value says so, and not set if it says otherwise or there is none.
 pub record IsFlagOf (rows : List Row) (option : Text) (flag : Bool) : Type 0 where
   pub set : one_of option rows ≡ Some (codes "true") → flag ≡ true
@@ -68,15 +81,16 @@ pub record IsFlagOf (rows : List Row) (option : Text) (flag : Bool) : Type 0 whe
 -- what the values of a command's options ask for
 abbrev pub IsRunOf : Text → List Row → Run → Type 0
 IsRunOf name rows (Pipe hex at) = (name ≡ codes "pipe") × IsNumberOf rows (codes "at") 0 (2 ^ 64 - 1) at × IsFlagOf rows (codes "hex") hex
-IsRunOf name rows (Listen address places topics connections) = (name ≡ codes "listen") × (first_of (codes "address") rows ≡ Some (string_bytes address))
+IsRunOf name rows (Listen address places topics connections idle log) = (name ≡ codes "listen") × (first_of (codes "address") rows ≡ Some (string_bytes address))
     × IsNumberOf rows (codes "places") 1 MAX_PLACES places × IsNumberOf rows (codes "topics") 1 MAX_TOPICS topics
     × IsNumberOf rows (codes "connections") 1 MAX_CONNECTIONS connections
+    × IsNumberGiven rows (codes "idle") 1 MAX_IDLE idle × IsFlagOf rows (codes "log") log
 
 -- each number is in its range
 abbrev pub IsInRange : Run → Type 0
 IsInRange (Pipe hex at) = at ≤ 2 ^ 64 - 1
-IsInRange (Listen address places topics connections) = (1 ≤ places) × (places ≤ MAX_PLACES) × (1 ≤ topics) × (topics ≤ MAX_TOPICS)
-    × (1 ≤ connections) × (connections ≤ MAX_CONNECTIONS)
+IsInRange (Listen address places topics connections idle log) = (1 ≤ places) × (places ≤ MAX_PLACES) × (1 ≤ topics) × (topics ≤ MAX_TOPICS)
+    × (1 ≤ connections) × (connections ≤ MAX_CONNECTIONS) × IfSome idle (λ seconds. (1 ≤ seconds) × (seconds ≤ MAX_IDLE))
 
 -- the words name a command, and its options ask for this
 abbrev pub AskFor : List Text → Run → Type 0

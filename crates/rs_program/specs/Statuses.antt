@@ -1,5 +1,5 @@
 -- The faults of the program, and its exit statuses.
-use Rattle.std.specs.Prelude.{ℕ, Option, Some, None, Result, Ok, Err}
+use Rattle.std.specs.Prelude.{ℕ, cond, ltb, Option, Some, None, Result, Ok, Err}
 use Rattle.rs_server.specs.declared.writing.ServeFault.{ServeFault}
 use Rattle.rs_server.specs.declared.writing.ServeFault.TheVariants as serve
 use Rattle.rs_program.specs.declared.piping.PipeFault.{PipeFault}
@@ -30,9 +30,14 @@ words_status words.NoMemory = 1
 abbrev pub fault_status : RunFault → ℕ
 fault_status (run.Words fault) = words_status fault
 fault_status (run.Pipe fault) = pipe_status fault
-fault_status run.Listen = 1
+fault_status (run.Listen reason) = 1
 fault_status (run.FewThreads threads places) = 1
 fault_status run.Unsettled = 1
+
+-- how a server ended: its changes are settled, and each place had a thread of its own, or not
+abbrev pub server_outcome : ℕ → Option ℕ → ℕ → Result (Unit {0}) RunFault
+server_outcome threads None places = Err run.Unsettled
+server_outcome threads (Some changes) places = cond (ltb threads places) (Err (run.FewThreads threads places)) (Ok tt)
 
 -- 0 if the connection ended, however
 abbrev pub run_status : {T : Type 0} → Result T RunFault → ℕ

@@ -4,15 +4,17 @@ ghost use Rattle.std.specs.Prelude.{◌<◌, ◌≤◌};
 ghost use Rattle.rs_message.specs.declared.entry.TheConstants.{MAX_PLACES};
 ghost use Rattle.rs_store.specs.declared.limit.TheConstants.{MAX_TOPICS};
 
+use log::Log;
 use rs_listener::{ListenFault, Server, Summary};
 use rs_store::TopicLimit;
 use std::alloc::Global;
 use std::net::{Net, TcpListener, TcpStream};
 use std::sync::Wait;
 use std::thread::Threads;
-use std::time::Clock;
+use std::time::{Clock, Duration};
 
-/// Serves clients by TCP until so many have connected. The address is told before the first is accepted.
+/// Serves clients by TCP until so many have connected. The address is told before the first is accepted. A connection that is idle for
+/// as many seconds as `idle` says, if it is given, ends.
 ///
 /// # Errors
 ///
@@ -24,9 +26,11 @@ pub(crate) fn listen<H>(
     places: u8,
     topics: u32,
     connections: u64,
+    idle: Option<u32>,
 ) -> Result<Summary, ListenFault>
 where
     H: Clock
+        + Log
         + Net<Listener = TcpListener, Stream = TcpStream>
         + Threads
         + Wait
@@ -41,7 +45,8 @@ where
     let Some(limit) = TopicLimit::new(topics) else {
         unreachable!()
     };
-    let server = Server::bind(rt, alloc, address, connections, limit, places)?;
+    let idle = idle.map(|seconds| Duration::from_secs(u64::from(seconds)));
+    let server = Server::bind(rt, alloc, address, connections, limit, places, idle)?;
     let bound = server.address()?;
     // If nobody reads the output, clients are served all the same.
     let _ = println!(rt; "rstored: listening on {bound}");

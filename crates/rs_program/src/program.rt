@@ -2,14 +2,16 @@
 
 ghost use Rattle.std.specs.Prelude.{◌≡◌, IfOk, Result};
 ghost use Rattle.rs_program.specs.CommandLine.{IsInRange};
-ghost use Rattle.rs_program.specs.Statuses.{fault_status, run_status};
+ghost use Rattle.rs_program.specs.Statuses.{fault_status, run_status, server_outcome};
 ghost use Rattle.rs_program.specs.declared.program.RunFault.{RunFault};
 
 use crate::listening::listen;
 use crate::own_store::OwnStore;
 use crate::piping::{PipeFault, pipe};
 use crate::words::{Run, WordsFault, read_words, refused};
-use rs_listener::Summary;
+use log::sink::Console;
+use log::{LevelFilter, Logged};
+use rs_listener::{ListenFault, Summary};
 use rs_server::Served;
 use std::alloc::Global;
 use std::env;
@@ -30,9 +32,9 @@ pub enum RunFault {
     /// The connection was broken off.
     #[error("{0}")]
     Pipe(PipeFault),
-    /// No client can be served.
+    /// No client can be served, and why, if it is to be told.
     #[error("cannot listen")]
-    Listen,
+    Listen(Option<ListenFault>),
     /// All connections were served, by fewer threads than were asked for.
     #[error("{threads} of {places} places had a thread")]
     FewThreads {
@@ -54,7 +56,7 @@ impl RunFault {
         match self {
             RunFault::Words(fault) => fault.status(),
             RunFault::Pipe(fault) => fault.status(),
-            RunFault::Listen | RunFault::FewThreads { .. } | RunFault::Unsettled => 1,
+            RunFault::Listen(_) | RunFault::FewThreads { .. } | RunFault::Unsettled => 1,
         }
     }
 }
@@ -103,6 +105,7 @@ where
         + Env
         + AllocGlobal
         + Print
+        + Eprint
         + Copy
         + Send
         + Sync
@@ -119,24 +122,39 @@ where
                 places,
                 topics,
                 connections,
+                idle,
+                log,
             },
         ) => match listen(
-            rt,
+            &logged(rt, log),
             rt.alloc(),
             address.as_str(),
             places,
             topics,
             connections,
+            idle,
         ) {
             Ok(summary) => served_by(summary, places),
-            Err(_) => Err(RunFault::Listen),
+            Err(fault) => Err(RunFault::Listen(log.then_some(fault))),
         },
         Err(fault) => Err(RunFault::Words(fault)),
     }
 }
 
+/// The handle, which logs to standard error if it is to.
+fn logged<H: Copy>(rt: &H, log: bool) -> Logged<H, Console<H>> {
+    let level = if log {
+        LevelFilter::Info
+    } else {
+        LevelFilter::Off
+    };
+    Logged::new(*rt, level, Console(*rt))
+}
+
 /// Whether a server ended as it should: each place had a thread, and all changes are settled.
-fn served_by(summary: Summary, places: u8) -> Result<(), RunFault> {
+fn served_by(summary: Summary, places: u8) -> Result<(), RunFault>
+    ensures { result ≡ server_outcome summary.threads summary.changes places }
+{
     let Summary { threads, changes } = summary;
     if changes.is_none() {
         return Err(RunFault::Unsettled);
@@ -168,8 +186,11 @@ fn report<H: Print + Eprint>(rt: &H, fault: &RunFault) {
         RunFault::Words(WordsFault::Help(text)) => print!(rt; "{text}"),
         RunFault::Words(WordsFault::Refused(text)) => eprint!(rt; "{text}"),
         RunFault::Words(WordsFault::NoMemory) => eprintln!(rt; "rstored: out of memory"),
-        RunFault::Pipe(_) | RunFault::Listen | RunFault::FewThreads { .. } | RunFault::Unsettled =>
-            eprintln!(rt; "rstored: {fault}"),
+        RunFault::Listen(Some(reason)) => eprintln!(rt; "rstored: {fault}\nrstored: {reason}"),
+        RunFault::Pipe(_)
+        | RunFault::Listen(None)
+        | RunFault::FewThreads { .. }
+        | RunFault::Unsettled => eprintln!(rt; "rstored: {fault}"),
     };
 }
 

@@ -9,8 +9,8 @@ ghost use Rattle.rs_program.specs.Statuses.{words_status};
 mod commands;
 mod values;
 
-pub use crate::words::commands::MAX_CONNECTIONS;
 use crate::words::commands::command;
+pub use crate::words::commands::{MAX_CONNECTIONS, MAX_IDLE};
 use crate::words::values::{listen_of, pipe_of};
 use clap::ArgMatches;
 use clap::error::ErrorKind;
@@ -37,6 +37,10 @@ pub enum Run {
         topics: u32,
         /// After how many connections the program ends: 1 to [`MAX_CONNECTIONS`].
         connections: u64,
+        /// After how many seconds an idle connection ends: 1 to [`MAX_IDLE`]. Never, if it is not given.
+        idle: Option<u32>,
+        /// Whether standard error is told of each connection.
+        log: bool,
     },
 }
 

@@ -3,6 +3,7 @@
 ghost use Rattle.std.specs.Prelude.{◌<◌, ◌≤◌};
 ghost use Rattle.rs_message.specs.declared.entry.TheConstants.{MAX_PLACES};
 
+use log::Log;
 use rs_listener::{ListenFault, Server, Summary};
 use rs_store::TopicLimit;
 use std::alloc::Global;
@@ -82,6 +83,7 @@ fn is_served<H: Net<Listener = TcpListener, Stream = TcpStream>>(
 /// A client that publishes, and another at the same time. Then one that subscribes, whatever the order of the two was.
 fn publish_and_read<
     H: Clock
+        + Log
         + Net<Listener = TcpListener, Stream = TcpStream>
         + Threads
         + Wait
@@ -93,7 +95,7 @@ fn publish_and_read<
     requires { (0 < places) × (places ≤ MAX_PLACES) }
 {
     let limit = TopicLimit::new(10).ok_or("10 topics")?;
-    let server = Server::bind(&rt, alloc, "127.0.0.1:0", 3, limit, places)?;
+    let server = Server::bind(&rt, alloc, "127.0.0.1:0", 3, limit, places, None)?;
     let address = server.address()?;
     let serving = spawn(&rt, move || server.run(rt).ok())?;
     let mut publishing = Vec::new(alloc);

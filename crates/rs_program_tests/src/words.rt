@@ -1,7 +1,7 @@
 // Command lines.
 
 use rs_message::MAX_PLACES;
-use rs_program::{MAX_CONNECTIONS, Run, WordsFault, read_words};
+use rs_program::{MAX_CONNECTIONS, MAX_IDLE, Run, WordsFault, read_words};
 use rs_store::MAX_TOPICS;
 use std::alloc::{AllocError, Global};
 use std::test::Fail;
@@ -33,15 +33,35 @@ fn words_ask_for_a_pipe(rt: HostRuntime) -> Result<(), Fail> {
 #[test]
 fn words_ask_to_listen(rt: HostRuntime) -> Result<(), Fail> {
     let alloc = rt.alloc();
-    let all = "listen --address [::1]:0 --places 64 --topics 65536 --connections 1000000";
+    let all =
+        "listen --address [::1]:0 --places 64 --topics 65536 --connections 1000000 --idle 86400 --log";
     let lines = [
-        ("listen --address a:1 --connections 1", "a:1", 4, 10_000, 1),
+        (
+            "listen --address a:1 --connections 1",
+            "a:1",
+            4,
+            10_000,
+            1,
+            None,
+            false,
+        ),
         (
             "listen --connections 7 --topics 1 --places 1 --address x",
             "x",
             1,
             1,
             7,
+            None,
+            false,
+        ),
+        (
+            "listen --log --idle 1 --connections 2 --address x",
+            "x",
+            4,
+            10_000,
+            2,
+            Some(1),
+            true,
         ),
         (
             "listen --address=:: --connections=+09 --places=02",
@@ -49,15 +69,27 @@ fn words_ask_to_listen(rt: HostRuntime) -> Result<(), Fail> {
             2,
             10_000,
             9,
+            None,
+            false,
         ),
-        (all, "[::1]:0", MAX_PLACES, MAX_TOPICS, MAX_CONNECTIONS),
+        (
+            all,
+            "[::1]:0",
+            MAX_PLACES,
+            MAX_TOPICS,
+            MAX_CONNECTIONS,
+            Some(MAX_IDLE),
+            true,
+        ),
     ];
-    for (line, address, places, topics, connections) in lines {
+    for (line, address, places, topics, connections, idle, log) in lines {
         let wanted = Run::Listen {
             address: String::from_str(alloc, address)?,
             places,
             topics,
             connections,
+            idle,
+            log,
         };
         let found = read(alloc, line)?.ok();
         assert!(rt; found == Some(wanted), "{line}");
@@ -66,7 +98,7 @@ fn words_ask_to_listen(rt: HostRuntime) -> Result<(), Fail> {
 }
 
 // Each refused line, and what the text says.
-const REFUSED: [(&str, &str); 21] = [
+const REFUSED: [(&str, &str); 26] = [
     ("", "requires a subcommand"),
     ("more", "unrecognized subcommand 'more'"),
     ("pipe", "--at <SECONDS>"),
@@ -113,6 +145,26 @@ const REFUSED: [(&str, &str); 21] = [
     (
         "listen --address a:1 --connections 1 --topics 65537",
         "65537 is not in 1..=65536",
+    ),
+    (
+        "listen --address a:1 --connections 1 --idle 0",
+        "for '--idle <1-86400>': 0 is not in 1..=86400",
+    ),
+    (
+        "listen --address a:1 --connections 1 --idle 86401",
+        "86401 is not in 1..=86400",
+    ),
+    (
+        "listen --address a:1 --connections 1 --idle x",
+        "invalid value 'x' for '--idle <1-86400>'",
+    ),
+    (
+        "listen --address a:1 --connections 1 --idle 1 --idle 1",
+        "the argument '--idle <1-86400>' cannot be used multiple times",
+    ),
+    (
+        "listen --address a:1 --connections 1 --log --log",
+        "the argument '--log' cannot be used multiple times",
     ),
     (
         "listen --address a:1 --connections 1 --hex",

@@ -1,5 +1,5 @@
 -- What the halves of a connection show.
-use Rattle.std.specs.Prelude.{◌≡◌, ℕ, true, List, Option}
+use Rattle.std.specs.Prelude.{◌≡◌, ◌+◌, ◌-◌, ◌^◌, min, ℕ, true, List, Option, Result, MatchResult}
 use Rattle.crossbeam_queue.specs.Passes.{view}
 use Rattle.rs_sockets.specs.declared.halves.ReadHalf.{ReadHalf}
 use Rattle.rs_sockets.specs.declared.halves.WriteHalf.{WriteHalf}
@@ -15,3 +15,7 @@ written_of half = (view half.pass).known
 -- When the half last gave the shared writer back, nothing waited there.
 abbrev pub LeftNoneWaiting : {R W : Type 0} → ReadHalf R W → Type 0
 LeftNoneWaiting half = (view half.pass).written_out ≡ true
+
+-- what was read or written is counted, up to the greatest number
+abbrev pub Counts : {E : Type 0} → ℕ → Result ℕ E → ℕ → Type 0
+Counts before result after = MatchResult result (λ size. after ≡ min (before + size) (2 ^ 64 - 1)) (λ _. after ≡ before)

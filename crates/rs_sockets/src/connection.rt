@@ -5,8 +5,8 @@ use crate::halves::{ReadHalf, WriteHalf};
 use crate::splitting::{finish, split};
 use std::alloc::Global;
 use std::io;
-use std::net::TcpStream;
-use std::time::Clock;
+use std::net::{Shutdown, TcpStream};
+use std::time::{Clock, Duration};
 
 /// What a client sends. Before each read, what was gathered for the client is written out.
 pub type FromClient = ReadHalf<TcpStream, TcpStream>;
@@ -14,14 +14,23 @@ pub type FromClient = ReadHalf<TcpStream, TcpStream>;
 /// What is sent to a client, gathered.
 pub type ToClient = WriteHalf<TcpStream>;
 
-/// The two halves of a connection. What is written out is sent at once (TCP_NODELAY).
+/// The two halves of a connection. What is written out is sent at once (TCP_NODELAY). If `idle` is given, a read fails for which no
+/// byte comes for so long, and so does a write of which no byte is taken for so long.
 ///
 /// # Errors
 ///
-/// If a descriptor or memory is refused. The connection is closed.
-pub fn open(alloc: Global, stream: TcpStream) -> io::Result<(FromClient, ToClient)> {
+/// If `idle` is zero, or a descriptor or memory is refused. The connection is closed.
+pub fn open(
+    alloc: Global,
+    stream: TcpStream,
+    idle: Option<Duration>,
+) -> io::Result<(FromClient, ToClient)> {
     // Of a client that has gone already this may fail. The next read tells.
     let _ = stream.set_nodelay(true);
+    if idle.is_some() {
+        stream.set_read_timeout(idle)?;
+        stream.set_write_timeout(idle)?;
+    }
     let reader = stream.try_clone()?;
     split(alloc, reader, stream)
 }
@@ -37,4 +46,11 @@ pub fn close<H: Clock>(rt: &H, input: FromClient, output: ToClient) -> io::Resul
     let (_reader, mut stream) = finish(input, output)?;
     end(rt, &mut stream);
     Ok(())
+}
+
+/// Ends a connection that failed: nothing more is written or read, and nothing is waited for.
+pub fn abandon(input: FromClient, output: ToClient) {
+    // The writer, which is dropped here with the output, tries once more to write what waits. After this it fails at once.
+    let _ = input.inner.shutdown(Shutdown::Both);
+    drop(output);
 }

@@ -17,6 +17,7 @@ use std::sync::Arc;
 pub struct WriteHalf<W: Write + Drop> {
     pub(crate) shared: Arc<Shared<W>>,
     pub(crate) pass: HalfPass<W>,
+    pub(crate) count: u64,
     ghost of_cell: { IsPassOf (arc_value shared) pass },
     ghost writes: { (view pass).writes ≡ true },
 }
@@ -29,6 +30,8 @@ pub struct ReadHalf<R, W: Write + Drop> {
     pub(crate) inner: R,
     pub(crate) shared: Arc<Shared<W>>,
     pub(crate) pass: HalfPass<W>,
+    pub(crate) count: u64,
+    pub(crate) unwritten: bool,
     ghost of_cell: { IsPassOf (arc_value shared) pass },
     ghost reads: { (view pass).writes ≡ false },
 }
@@ -39,19 +42,31 @@ pub(crate) fn is_taken() -> io::Error {
 }
 
 impl<W: Write + Drop> Write for WriteHalf<W> {
-    ghost use Rattle.rs_sockets.specs.Halves.{written_of};
+    ghost use Rattle.std.specs.Io.{WritesAtMost};
+    ghost use Rattle.std.specs.Io.KnownBytes.{WriteAppends};
+    ghost use Rattle.rs_sockets.specs.Halves.{Counts, written_of};
 
     ghost contents = { written_of };
 
-    fn write(&mut self, buf: &[u8]) -> io::Result<usize> {
+    fn write(&mut self, buf: &[u8]) -> io::Result<usize>
+        ensures bound { WritesAtMost result buf.now }
+        ensures bytes { WriteAppends (written_of self.old) (written_of self.new) result buf.now }
+        ensures counted { Counts self.old.count result self.new.count }
+    {
         let Some(mut gathered) = self.shared.try_pop_as::<Take>(&mut self.pass) else {
             return Err(is_taken());
         };
         let written = gathered.write(buf);
-        match self.shared.try_push_as::<Put>(&mut self.pass, gathered) {
-            Ok(()) => written,
-            Err(_) => Err(is_taken()),
+        if self
+            .shared
+            .try_push_as::<Put>(&mut self.pass, gathered)
+            .is_err()
+        {
+            return Err(is_taken());
         }
+        let size = written?;
+        self.count = self.count.saturating_add(size as u64);
+        Ok(size)
     }
 
     fn flush(&mut self) -> io::Result<()> {
@@ -59,13 +74,37 @@ impl<W: Write + Drop> Write for WriteHalf<W> {
     }
 }
 
+impl<W: Write + Drop> WriteHalf<W> {
+    /// How many bytes were written, those that still wait too.
+    pub fn count(&self) -> u64
+        ensures { result ≡ self.now.count }
+    {
+        self.count
+    }
+}
+
 impl<R, W: Write + Drop> ReadHalf<R, W> {
     ghost use Rattle.std.specs.Prelude.{OnOk};
     ghost use Rattle.rs_sockets.specs.Halves.{LeftNoneWaiting};
 
+    /// How many bytes were read.
+    pub fn count(&self) -> u64
+        ensures { result ≡ self.now.count }
+    {
+        self.count
+    }
+
+    /// Whether the last read failed because what waited could not be written out.
+    pub fn is_unwritten(&self) -> bool
+        ensures { result ≡ self.now.unwritten }
+    {
+        self.unwritten
+    }
+
     /// Writes out what waits.
     fn write_out(&mut self) -> io::Result<()>
         ensures inner { self.new.inner ≡ self.old.inner }
+        ensures count { self.new.count ≡ self.old.count }
         ensures none_waits { OnOk result (LeftNoneWaiting self.new) }
     {
         let Some(mut gathered) = self.shared.try_pop_as::<Take>(&mut self.pass) else {
@@ -91,7 +130,7 @@ impl<R: Read, W: Write + Drop> Read for ReadHalf<R, W> {
     ghost use Rattle.std.specs.Io.{ReadsAtMost};
     ghost use Rattle.std.specs.Io.KnownBytes.{ReadConsumes};
     ghost use Rattle.std.specs.Prelude.{OnOk};
-    ghost use Rattle.rs_sockets.specs.Halves.{unread_of, LeftNoneWaiting};
+    ghost use Rattle.rs_sockets.specs.Halves.{Counts, unread_of, LeftNoneWaiting};
 
     ghost remaining = { unread_of R.remaining };
 
@@ -99,8 +138,13 @@ impl<R: Read, W: Write + Drop> Read for ReadHalf<R, W> {
         ensures bound { ReadsAtMost result buf.new }
         ensures bytes { ReadConsumes (unread_of R.remaining self.old) (unread_of R.remaining self.new) result buf.new }
         ensures none_waits { OnOk result (LeftNoneWaiting self.new) }
+        ensures counted { Counts self.old.count result self.new.count }
     {
-        self.write_out()?;
-        self.inner.read(buf)
+        let written = self.write_out();
+        self.unwritten = written.is_err();
+        written?;
+        let size = self.inner.read(buf)?;
+        self.count = self.count.saturating_add(size as u64);
+        Ok(size)
     }
 }

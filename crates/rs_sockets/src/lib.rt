@@ -6,6 +6,7 @@
 //!
 //! Replies are gathered: what is written and flushed is kept, up to [`MAX_GATHERED`] bytes, and goes out in
 //! one write if there is no more room, before the next read of the same connection, and at its end.
+//! A connection may have a limit for how long it is idle; at one that failed, [`abandon`] waits for nothing.
 //!
 //! The two halves are [`ReadHalf`] and [`WriteHalf`], over any reader and any writer, whose contracts say which bytes
 //! they give and take: [`split`] begins with those of the reader and of the writer, and a writer that
@@ -26,11 +27,11 @@ mod sharing;
 mod splitting;
 
 pub use clock::SystemClock;
-pub use connection::{FromClient, ToClient, close, open};
+pub use connection::{FromClient, ToClient, abandon, close, open};
 pub use gathered::Gathered;
 pub use halves::{ReadHalf, WriteHalf};
 pub use limits::{DISCARD_SECONDS, FIRST_PAUSE, LONGEST_PAUSE, MAX_DISCARDED, MAX_GATHERED};
-pub use listener::Listener;
+pub use listener::{Accepted, Listener};
 pub use splitting::{finish, split};
 
 #[cfg(test)]

@@ -6,7 +6,7 @@ ghost use Rattle.rs_sockets.specs.declared.limits.TheConstants.{LONGEST_PAUSE};
 use crate::connection::{FromClient, ToClient, open};
 use crate::limits::{FIRST_PAUSE, LONGEST_PAUSE};
 use std::alloc::Global;
-use std::net::{Net, TcpListener, TcpStream};
+use std::net::{Net, SocketAddr, TcpListener, TcpStream};
 use std::sync::atomic::{AtomicU64, Ordering};
 use std::time::{Clock, Duration};
 use std::{io, thread};
@@ -16,11 +16,24 @@ use std::{io, thread};
 pub struct Listener {
     pub(crate) socket: TcpListener,
     left: AtomicU64,
+    idle: Option<Duration>,
+}
+
+/// A connection that was accepted.
+#[derive(Drop)]
+pub struct Accepted {
+    /// What the client sends.
+    pub input: FromClient,
+    /// What is sent to the client.
+    pub output: ToClient,
+    /// The client's address.
+    pub peer: SocketAddr,
 }
 
 impl Listener {
     /// Binds an address, which is a host's name, an IPv4 or an IPv6 address, and a port, as `localhost:1883`
     /// or `[::1]:1883`. Port 0 takes one that is free. It will accept `connections` connections, none if that is 0.
+    /// A connection fails at a read or a write that is idle for as long as `idle` says, if it is given ([`open`]).
     ///
     /// # Errors
     ///
@@ -29,11 +42,13 @@ impl Listener {
         rt: &H,
         address: &str,
         connections: u64,
+        idle: Option<Duration>,
     ) -> io::Result<Listener> {
         let socket = TcpListener::bind(rt, address)?;
         Ok(Listener {
             socket,
             left: AtomicU64::new(connections),
+            idle,
         })
     }
 
@@ -47,12 +62,12 @@ impl Listener {
     ///
     /// An accept that fails, or for which memory or a descriptor is refused, counts as one of the connections. If it was not the
     /// last one, there is a pause after it, which doubles with each further failure, from 10 milliseconds up to a second.
-    pub fn accept<H: Clock>(&self, rt: &H, alloc: Global) -> Option<(FromClient, ToClient)> {
+    pub fn accept<H: Clock>(&self, rt: &H, alloc: Global) -> Option<Accepted> {
         let mut pause = FIRST_PAUSE;
         for _ in 0..u64::MAX {
             let left = self.count_one()?;
-            if let Ok(connection) = self.accept_once(alloc) {
-                return Some(connection);
+            if let Ok(accepted) = self.accept_once(alloc) {
+                return Some(accepted);
             }
             if left > 0 {
                 thread::sleep(rt, Duration::from_millis(pause));
@@ -72,9 +87,14 @@ impl Listener {
         before.ok()?.checked_sub(1)
     }
 
-    fn accept_once(&self, alloc: Global) -> io::Result<(FromClient, ToClient)> {
-        let (stream, _) = self.socket.accept()?;
-        open(alloc, stream)
+    fn accept_once(&self, alloc: Global) -> io::Result<Accepted> {
+        let (stream, peer) = self.socket.accept()?;
+        let (input, output) = open(alloc, stream, self.idle)?;
+        Ok(Accepted {
+            input,
+            output,
+            peer,
+        })
     }
 }
 

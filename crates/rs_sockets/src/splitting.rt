@@ -35,8 +35,14 @@ pub fn split<R: Read + Drop, W: Write + Drop>(
                 inner: reader,
                 shared: shared_too,
                 pass: reading,
+                count: 0,
+                unwritten: false,
             },
-            WriteHalf { shared, pass },
+            WriteHalf {
+                shared,
+                pass,
+                count: 0,
+            },
         )),
         Err(_) => Err(is_taken()),
     }
@@ -58,8 +64,14 @@ pub fn finish<R: Read + Drop, W: Write + Drop>(
         inner,
         shared: _,
         pass: _,
+        count: _,
+        unwritten: _,
     } = read;
-    let WriteHalf { shared, mut pass } = write;
+    let WriteHalf {
+        shared,
+        mut pass,
+        count: _,
+    } = write;
     match shared.try_pop_as::<Take>(&mut pass) {
         Some(gathered) => Ok((inner, gathered.into_inner()?)),
         None => Err(is_taken()),

@@ -3,7 +3,7 @@
 ghost use Rattle.std.specs.Prelude.{◌≡◌, IfOk, false};
 ghost use Rattle.clap.specs.Words.{app_of, rule_of};
 ghost use Rattle.clap.specs.declared.builder.command.Command.TheViews.{out-Command as fields_of};
-ghost use Rattle.rs_program.specs.CommandLine.{address_option, connections_option, listen_words, number_option, pipe_words, places_option, rstored_words, topics_option};
+ghost use Rattle.rs_program.specs.CommandLine.{address_option, connections_option, idle_option, listen_words, log_option, number_option, pipe_words, places_option, rstored_words, topics_option};
 
 use crate::own_store::MAX_OWN_TOPICS;
 use clap::builder::ValueParser;
@@ -14,6 +14,9 @@ use std::alloc::{AllocError, Global};
 
 /// The most connections after which `listen` ends. A choice of this project.
 pub const MAX_CONNECTIONS: u64 = 1_000_000;
+
+/// The most seconds for which a connection may be idle, a day. A choice of this project.
+pub const MAX_IDLE: u32 = 86_400;
 
 const VERSION: &str = "0.1.0";
 
@@ -43,7 +46,13 @@ address that it listens on. After --connections connections it prints how many t
 however each of them ended.
 
 A place serves one client at a time. If each place has a client, the next one waits until a place is
-free. Keep Alive is not enforced: a client that is silent keeps its place until it disconnects.
+free. Keep Alive is not enforced: without --idle a client that is silent keeps its place until it
+disconnects. With --idle its connection ends once it sent nothing, or took nothing of what waits for
+it, for so many seconds. A client that keeps its Keep Alive is not cut off if --idle is at least one
+and a half times that interval.
+
+With --log, standard error is told when each connection begins, and how it ended, with its place, its
+number there and the client's address, and why the server cannot listen.
 
 The store is in memory. It is empty at the start, and lost at the end.
 
@@ -60,12 +69,18 @@ const TOPICS_HELP: &str = "How many topics may hold a message";
 
 const CONNECTIONS_HELP: &str = "After how many connections the program ends";
 
-// The value names `1-64`, `1-65536` and `1-1000000` below, and the default of `--topics`, which is the limit of `pipe`.
+const IDLE_HELP: &str = "After how many seconds an idle connection ends; never, if it is not given";
+
+const LOG_HELP: &str = "Write a line to standard error when a connection begins and when it ends";
+
+// The value names `1-64`, `1-65536`, `1-1000000` and `1-86400` below, and the default of `--topics`, which is the limit of `pipe`.
 const _: () = prove!(MAX_PLACES == 64);
 
 const _: () = prove!(MAX_TOPICS == 65_536);
 
 const _: () = prove!(MAX_CONNECTIONS == 1_000_000);
+
+const _: () = prove!(MAX_IDLE == 86_400);
 
 const _: () = prove!(MAX_OWN_TOPICS == 10_000);
 
@@ -157,6 +172,23 @@ fn connections_option<'a>(alloc: Global) -> Arg<'a>
         .help(CONNECTIONS_HELP)
 }
 
+fn idle_option<'a>(alloc: Global) -> Arg<'a>
+    ensures rule { rule_of result ≡ idle_option }
+    ensures local { result.global ≡ false }
+{
+    number_option(alloc, "idle", "1-86400", 1, u64::from(MAX_IDLE)).help(IDLE_HELP)
+}
+
+fn log_option<'a>(alloc: Global) -> Arg<'a>
+    ensures rule { rule_of result ≡ log_option }
+    ensures local { result.global ≡ false }
+{
+    Arg::new(alloc, "log")
+        .long("log")
+        .action(ArgAction::SetTrue)
+        .help(LOG_HELP)
+}
+
 fn listen_command<'a>(alloc: Global) -> Result<Command<'a>, AllocError>
     ensures shape { IfOk result (λ c. app_of c ≡ listen_words) }
     ensures local { IfOk result (λ c. (fields_of c).has_globals ≡ false) }
@@ -167,5 +199,7 @@ fn listen_command<'a>(alloc: Global) -> Result<Command<'a>, AllocError>
         .arg(address_option(alloc))?
         .arg(places_option(alloc))?
         .arg(topics_option(alloc))?
-        .arg(connections_option(alloc))
+        .arg(connections_option(alloc))?
+        .arg(idle_option(alloc))?
+        .arg(log_option(alloc))
 }

@@ -2,9 +2,9 @@
 
 ghost use Rattle.std.specs.Prelude.{◌≡◌, IfOk, IfSome, codes};
 ghost use Rattle.clap.specs.Words.{found_of, rows_of};
-ghost use Rattle.rs_program.specs.CommandLine.{IsInRange, IsNumberOf, IsRunOf};
+ghost use Rattle.rs_program.specs.CommandLine.{IsInRange, IsNumberGiven, IsNumberOf, IsRunOf};
 
-use crate::words::commands::MAX_CONNECTIONS;
+use crate::words::commands::{MAX_CONNECTIONS, MAX_IDLE};
 use crate::words::{Run, WordsFault, refused};
 use clap::ArgMatches;
 use rs_message::MAX_PLACES;
@@ -36,6 +36,9 @@ pub(super) fn listen_of(alloc: Global, found: &ArgMatches<'_>) -> Result<Run, Wo
     ) else {
         return Err(missing(alloc));
     };
+    let Some(idle) = number_given(found, "idle", 1, MAX_IDLE) else {
+        return Err(missing(alloc));
+    };
     let Ok(address) = String::from_str(alloc, address) else {
         return Err(WordsFault::NoMemory);
     };
@@ -44,6 +47,8 @@ pub(super) fn listen_of(alloc: Global, found: &ArgMatches<'_>) -> Result<Run, Wo
         places: places as u8,
         topics: topics as u32,
         connections,
+        idle,
+        log: found.get_flag("log"),
     })
 }
 
@@ -58,7 +63,20 @@ fn number(found: &ArgMatches<'_>, option: &str, least: u64, most: u64) -> Option
     Some(number)
 }
 
-/// Never answered: each option is required or has a default, and its values are in their range. What clap promises of a
+/// The number of an option that may be left out. `None` if it was given another text than a number from `least` to `most`.
+fn number_given(found: &ArgMatches<'_>, option: &str, least: u32, most: u32) -> Option<Option<u32>>
+    ensures { IfSome result (IsNumberGiven (rows_of (found_of found.now)) option.now least most) }
+{
+    match found.get_str(option) {
+        None => Some(None),
+        Some(_) => {
+            let number = number(found, option, u64::from(least), u64::from(most))?;
+            Some(Some(number as u32))
+        }
+    }
+}
+
+/// Never answered: each option is required, has a default or may be left out, and its values are in their range. What clap promises of a
 /// subcommand's values does not say so.
 fn missing(alloc: Global) -> WordsFault {
     refused(alloc, "error: an option is missing\n")

@@ -43,10 +43,10 @@ fn knock<H: Net<Listener = TcpListener, Stream = TcpStream>>(
 fn accepted<H: Clock>(rt: &H, alloc: Global, listener: &Listener) -> u64 {
     let mut count = 0u64;
     for _ in 0..100 {
-        let Some((mut input, _output)) = listener.accept(rt, alloc) else {
+        let Some(mut accepted) = listener.accept(rt, alloc) else {
             break;
         };
-        if let Ok(0) = input.read(&mut [0u8; 8]) {
+        if let Ok(0) = accepted.input.read(&mut [0u8; 8]) {
             count = count.saturating_add(1);
         }
     }
@@ -54,7 +54,7 @@ fn accepted<H: Clock>(rt: &H, alloc: Global, listener: &Listener) -> u64 {
 }
 
 fn can_be_bound<H: Net<Listener = TcpListener, Stream = TcpStream>>(rt: &H, address: &str) -> bool {
-    Listener::bind(rt, address, 1).is_ok()
+    Listener::bind(rt, address, 1, None).is_ok()
 }
 
 // Whether the address is bound at this host and a port, is in use then, and afterwards at once free again.
@@ -64,7 +64,7 @@ fn is_bound<H: Net<Listener = TcpListener, Stream = TcpStream>>(
     address: &str,
     host: &str,
 ) -> io::Result<bool> {
-    let listener = Listener::bind(rt, address, 1)?;
+    let listener = Listener::bind(rt, address, 1, None)?;
     let bound = listener.address(alloc)?;
     let text = bound.as_str();
     let told = text.starts_with(host) && !text.ends_with(":0") && !can_be_bound(rt, text);
@@ -79,12 +79,12 @@ fn an_address_is_bound(rt: HostRuntime) -> Result<(), Fail> {
         assert!(rt; is_bound(&rt, alloc, address, host)?, "{address}");
     }
     // A system may have no IPv6.
-    if let Ok(listener) = Listener::bind(&rt, "[::1]:0", 1) {
+    if let Ok(listener) = Listener::bind(&rt, "[::1]:0", 1, None) {
         let bound = listener.address(alloc)?;
         assert!(rt; bound.as_str().starts_with("[::1]:"));
     }
     for address in ["", "127.0.0.1", "127.0.0.1:65536", "192.0.2.1:0"] {
-        assert!(rt; Listener::bind(&rt, address, 1).is_err(), "{address}");
+        assert!(rt; Listener::bind(&rt, address, 1, None).is_err(), "{address}");
     }
     Ok(())
 }
@@ -92,7 +92,7 @@ fn an_address_is_bound(rt: HostRuntime) -> Result<(), Fail> {
 #[test]
 fn so_many_are_accepted(rt: HostRuntime) -> Result<(), Fail> {
     let alloc = rt.alloc();
-    let listener = Listener::bind(&rt, "127.0.0.1:0", 8)?;
+    let listener = Listener::bind(&rt, "127.0.0.1:0", 8, None)?;
     for _ in 0..10 {
         knock(&rt, alloc, &listener)?;
     }
@@ -116,7 +116,7 @@ fn a_failed_accept_waits(rt: HostRuntime) -> Result<(), Fail> {
         (3, 30),
         (10, 10 + 20 + 40 + 80 + 160 + 320 + 640 + 2_000),
     ] {
-        let listener = Listener::bind(&rt, "127.0.0.1:0", connections)?;
+        let listener = Listener::bind(&rt, "127.0.0.1:0", connections, None)?;
         listener.socket.set_nonblocking(true)?;
         let clock = Sleeping(AtomicU64::new(0));
         assert!(rt; listener.accept(&clock, alloc).is_none());

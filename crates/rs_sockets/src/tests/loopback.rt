@@ -1,14 +1,14 @@
 // Connections over the loopback.
 
-use crate::connection::{FromClient, ToClient, close};
-use crate::listener::Listener;
+use crate::connection::{FromClient, ToClient, abandon, close};
+use crate::listener::{Accepted, Listener};
 use crate::splitting::finish;
 use std::alloc::Global;
-use std::io::{Read, Write};
+use std::io::{ErrorKind, Read, Write};
 use std::net::{Net, Shutdown, TcpListener, TcpStream};
 use std::test::Fail;
 use std::thread::Threads;
-use std::time::Clock;
+use std::time::{Clock, Duration};
 use std::{io, thread};
 
 fn connect<H: Net<Listener = TcpListener, Stream = TcpStream>>(
@@ -25,9 +25,23 @@ fn meet<H: Net<Listener = TcpListener, Stream = TcpStream>>(
     rt: &H,
     alloc: Global,
 ) -> io::Result<(Listener, TcpStream)> {
-    let listener = Listener::bind(rt, "127.0.0.1:0", 1)?;
+    let listener = Listener::bind(rt, "127.0.0.1:0", 1, None)?;
     let client = connect(rt, alloc, &listener)?;
     Ok((listener, client))
+}
+
+// The halves of the next connection.
+fn accept<H: Clock>(
+    rt: &H,
+    alloc: Global,
+    listener: &Listener,
+) -> Result<(FromClient, ToClient), Fail> {
+    let Accepted {
+        input,
+        output,
+        peer: _,
+    } = listener.accept(rt, alloc).ok_or("no connection")?;
+    Ok((input, output))
 }
 
 // Reads a byte at a time, and writes and flushes four for each, up to the end.
@@ -47,7 +61,7 @@ fn serve(input: &mut FromClient, output: &mut ToClient) -> io::Result<()> {
 fn nothing_waits_for_more(rt: HostRuntime) -> Result<(), Fail> {
     let alloc = rt.alloc();
     let (listener, _client) = meet(&rt, alloc)?;
-    let (input, output) = listener.accept(&rt, alloc).ok_or("no connection")?;
+    let (input, output) = accept(&rt, alloc, &listener)?;
     let (_reader, stream) = finish(input, output)?;
     assert!(rt; stream.nodelay()?);
     Ok(())
@@ -62,7 +76,7 @@ fn a_client_that_closes_its_half_reads_all(rt: HostRuntime) -> Result<(), Fail> 
         client.write_all(&[*byte])?;
     }
     client.shutdown(Shutdown::Write)?;
-    let (mut input, mut output) = listener.accept(&rt, alloc).ok_or("no connection")?;
+    let (mut input, mut output) = accept(&rt, alloc, &listener)?;
     // The halves go to a thread and back.
     let serving = thread::spawn(&rt, move || {
         let served = serve(&mut input, &mut output).is_ok();
@@ -99,7 +113,7 @@ fn resets<H: Clock>(
 ) -> Result<bool, Fail> {
     let mut client = client;
     client.write_all(b"ab")?;
-    let (mut input, mut output) = listener.accept(rt, alloc).ok_or("no connection")?;
+    let (mut input, mut output) = accept(rt, alloc, listener)?;
     read_two(&mut input, &mut output)?;
     // A socket that is closed while bytes are unread is reset.
     drop(client);
@@ -118,7 +132,7 @@ fn is_served<H: Clock>(
     let mut client = client;
     client.write_all(b"c")?;
     client.shutdown(Shutdown::Write)?;
-    let (mut input, mut output) = listener.accept(rt, alloc).ok_or("no connection")?;
+    let (mut input, mut output) = accept(rt, alloc, listener)?;
     serve(&mut input, &mut output)?;
     close(rt, input, output)?;
     let replies = io::read_to_string(alloc, client)?;
@@ -128,7 +142,7 @@ fn is_served<H: Clock>(
 #[test]
 fn a_client_that_resets_harms_no_other(rt: HostRuntime) -> Result<(), Fail> {
     let alloc = rt.alloc();
-    let listener = Listener::bind(&rt, "127.0.0.1:0", 2)?;
+    let listener = Listener::bind(&rt, "127.0.0.1:0", 2, None)?;
     let first = connect(&rt, alloc, &listener)?;
     let second = connect(&rt, alloc, &listener)?;
     assert!(rt; resets(&rt, alloc, &listener, first)?);
@@ -153,7 +167,7 @@ fn count_replies(client: &mut TcpStream) -> u32 {
 fn more_replies_than_are_gathered(rt: HostRuntime) -> Result<(), Fail> {
     let alloc = rt.alloc();
     let (listener, mut client) = meet(&rt, alloc)?;
-    let (input, mut output) = listener.accept(&rt, alloc).ok_or("no connection")?;
+    let (input, mut output) = accept(&rt, alloc, &listener)?;
     client.shutdown(Shutdown::Write)?;
     let reading = thread::spawn(&rt, move || count_replies(&mut client))?;
     for number in 0..100_000u32 {
@@ -194,7 +208,7 @@ fn refuse<H: Clock + Net<Listener = TcpListener, Stream = TcpStream> + Threads>(
     alloc: Global,
 ) -> Result<u64, Fail> {
     let (listener, mut client) = meet(rt, alloc)?;
-    let (mut input, mut output) = listener.accept(rt, alloc).ok_or("no connection")?;
+    let (mut input, mut output) = accept(rt, alloc, &listener)?;
     let sending = thread::spawn(rt, move || send_first(&mut client))?;
     let mut byte = [0u8; 1];
     input.read_exact(&mut byte)?;
@@ -215,5 +229,69 @@ fn a_refused_client_reads_why(rt: HostRuntime) -> Result<(), Fail> {
         }
     }
     assert!(rt; size == 7);
+    Ok(())
+}
+
+// A listener for one client, whose connection may be idle for a tenth of a second, and its client.
+fn meet_for_a_while<H: Net<Listener = TcpListener, Stream = TcpStream>>(
+    rt: &H,
+    alloc: Global,
+) -> io::Result<(Listener, TcpStream)> {
+    let idle = Duration::from_millis(100);
+    let listener = Listener::bind(rt, "127.0.0.1:0", 1, Some(idle))?;
+    let client = connect(rt, alloc, &listener)?;
+    Ok((listener, client))
+}
+
+#[test]
+fn a_silent_client_is_given_up(rt: HostRuntime) -> Result<(), Fail> {
+    let alloc = rt.alloc();
+    let (listener, mut client) = meet_for_a_while(&rt, alloc)?;
+    let address = client.local_addr()?;
+    client.write_all(b"ab")?;
+    let Accepted {
+        mut input,
+        mut output,
+        peer,
+    } = listener.accept(&rt, alloc).ok_or("no connection")?;
+    assert!(rt; peer == address);
+    let mut room = [0u8; 2];
+    input.read_exact(&mut room)?;
+    output.write_all(b"reply")?;
+    let kind = input.read(&mut room).map_err(|error| error.kind());
+    assert!(rt; matches!(&kind, Err(ErrorKind::WouldBlock)));
+    assert!(rt; (input.count(), output.count(), input.is_unwritten()) == (2, 5, false));
+    abandon(input, output);
+    let replies = io::read_to_string(alloc, client)?;
+    assert!(rt; replies.as_str() == "reply");
+    Ok(())
+}
+
+// Writes as long as it is taken, and then reads: whether the read fails because what waits cannot be written.
+fn is_stuck(input: &mut FromClient, output: &mut ToClient) -> bool {
+    for _ in 0..1_000_000 {
+        if output.write_all(&[0u8; 1_000]).is_err() {
+            break;
+        }
+    }
+    input.read(&mut [0u8; 1]).is_err() && input.is_unwritten()
+}
+
+#[test]
+fn a_client_that_never_reads_is_given_up(rt: HostRuntime) -> Result<(), Fail> {
+    let alloc = rt.alloc();
+    let (listener, _client) = meet_for_a_while(&rt, alloc)?;
+    let (mut input, mut output) = accept(&rt, alloc, &listener)?;
+    // The system may take some more after it took nothing for a while.
+    let mut stuck = false;
+    for _ in 0..50 {
+        stuck = is_stuck(&mut input, &mut output);
+        if stuck {
+            break;
+        }
+    }
+    assert!(rt; stuck);
+    assert!(rt; input.count() == 0);
+    abandon(input, output);
     Ok(())
 }

@@ -5,7 +5,7 @@ use Rattle.clap.specs.Simple.{app_of_fields}
 use Rattle.clap.specs.declared.builder.command.Command.{Command}
 use Rattle.clap.specs.declared.builder.command.Command.TheOpen.{Command-F}
 use Rattle.clap.specs.declared.builder.command.Command.TheViews.{out-Command}
-use Rattle.rs_program.specs.CommandLine.{address_option, places_option, topics_option}
+use Rattle.rs_program.specs.CommandLine.{address_option, places_option, topics_option, connections_option, idle_option}
 use Rattle.rs_program.proofs.words.commands.listen_command.Goals as goal
 
 pub returns-clause-shape : goal.returns-clause-shape
@@ -15,8 +15,13 @@ returns-clause-shape c =
     let with_second : App = with_rule with_first places_option in
     let first : app_of c.in_ok-arg.field-0 ≡ with_first = c.in_ok-arg.ensures.shape c.address_option.ensures.local ∙ ap₂ with_rule none c.address_option.ensures.rule in
     let second : app_of c.in_ok-arg-2.field-0 ≡ with_second = c.in_ok-arg-2.ensures.shape c.places_option.ensures.local ∙ ap₂ with_rule first c.places_option.ensures.rule in
-    let third : app_of c.in_ok-arg-3.field-0 ≡ with_rule with_second topics_option = c.in_ok-arg-3.ensures.shape c.topics_option.ensures.local ∙ ap₂ with_rule second c.topics_option.ensures.rule in
-    IfOk-weaker c.arg-4.result _ _ (λ r h. h.shape c.connections_option.ensures.local ∙ ap₂ with_rule third c.connections_option.ensures.rule) c.arg-4.ensures
+    let with_third : App = with_rule with_second topics_option in
+    let with_fourth : App = with_rule with_third connections_option in
+    let with_fifth : App = with_rule with_fourth idle_option in
+    let third : app_of c.in_ok-arg-3.field-0 ≡ with_third = c.in_ok-arg-3.ensures.shape c.topics_option.ensures.local ∙ ap₂ with_rule second c.topics_option.ensures.rule in
+    let fourth : app_of c.in_ok-arg-4.field-0 ≡ with_fourth = c.in_ok-arg-4.ensures.shape c.connections_option.ensures.local ∙ ap₂ with_rule third c.connections_option.ensures.rule in
+    let fifth : app_of c.in_ok-arg-5.field-0 ≡ with_fifth = c.in_ok-arg-5.ensures.shape c.idle_option.ensures.local ∙ ap₂ with_rule fourth c.idle_option.ensures.rule in
+    IfOk-weaker c.arg-6.result _ _ (λ r h. h.shape c.log_option.ensures.local ∙ ap₂ with_rule fifth c.log_option.ensures.rule) c.arg-6.ensures
 
 pub returns-clause-local : goal.returns-clause-local
 returns-clause-local c =
@@ -24,4 +29,6 @@ returns-clause-local c =
     let first : (out-Command c.in_ok-arg.field-0).has_globals ≡ false = c.in_ok-arg.ensures.globals ∙ (rw (none, c.address_option.ensures.local) refl) in
     let second : (out-Command c.in_ok-arg-2.field-0).has_globals ≡ false = c.in_ok-arg-2.ensures.globals ∙ (rw (first, c.places_option.ensures.local) refl) in
     let third : (out-Command c.in_ok-arg-3.field-0).has_globals ≡ false = c.in_ok-arg-3.ensures.globals ∙ (rw (second, c.topics_option.ensures.local) refl) in
-    IfOk-weaker c.arg-4.result _ _ (λ r h. h.globals ∙ (rw (third, c.connections_option.ensures.local) refl)) c.arg-4.ensures
+    let fourth : (out-Command c.in_ok-arg-4.field-0).has_globals ≡ false = c.in_ok-arg-4.ensures.globals ∙ (rw (third, c.connections_option.ensures.local) refl) in
+    let fifth : (out-Command c.in_ok-arg-5.field-0).has_globals ≡ false = c.in_ok-arg-5.ensures.globals ∙ (rw (fourth, c.idle_option.ensures.local) refl) in
+    IfOk-weaker c.arg-6.result _ _ (λ r h. h.globals ∙ (rw (fifth, c.log_option.ensures.local) refl)) c.arg-6.ensures

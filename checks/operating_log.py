@@ -1,0 +1,209 @@
+"""What `--log` tells of each connection, and why a server cannot listen. Part of
+`checks/operating`."""
+
+import re
+import tempfile
+from concurrent.futures import ThreadPoolExecutor
+from time import time
+
+from checks.listening_messages import publish, wanted
+from checks.operating_idle import LARGE, PINGREQ, is_cut_off
+from harness.client import Client
+from harness.packets import CONNACK, CONNECT, DISCONNECT, PUBACK, counted, packet, subscribe, varint
+from harness.patience import PATIENCE
+from harness.program import preloaded
+from harness.server import Server, start
+
+VISIT = r"([0-9]+) place ([0-9]+), connection ([0-9]+), ([0-9.]+:[0-9]+)"
+LINE = re.compile(rf"\[INFO  rstored\] {VISIT}: (.*)")
+END = re.compile(r"(.*), ([0-9]+) packets, ([0-9]+) bytes in, ([0-9]+) bytes out")
+
+# A CONNECT of MQTT 3.1.1, and the answer.
+OLD_CONNECT = bytes.fromhex("100D00044D5154540402003C000161")
+OLD_REFUSED = bytes.fromhex("2003008400")
+
+
+def visits(errors, places):
+    """The connections that a log tells of: by peer, how each ended, and its packets and bytes.
+
+    Each begins once and ends once, in the order in which its place had them.
+    """
+    current, numbers, told = {}, dict.fromkeys(range(1, places + 1), 0), {}
+    for line in errors.splitlines():
+        found = LINE.fullmatch(line)
+        wanted(found, f"a line of the log is {line!r}")
+        moment, place, number = map(int, found.group(1, 2, 3))
+        peer, what = found.group(4, 5)
+        wanted(abs(moment - time()) < PATIENCE, f"{line!r} has another time")
+        if what == "connected":
+            is_next = place not in current and number == numbers[place] + 1
+            wanted(is_next, f"{line!r} comes too early")
+            current[place], numbers[place] = peer, number
+            continue
+        end = END.fullmatch(what)
+        is_current = end and current.pop(place, None) == peer and number == numbers[place]
+        wanted(is_current, f"{line!r} ends another connection")
+        wanted(peer not in told, f"{line!r} ends a connection again")
+        told[peer] = (end[1], *map(int, end.group(2, 3, 4)))
+    wanted(not current, "a connection did not end")
+    return told
+
+
+def name_of(client):
+    host, port = client.socket.getsockname()
+    return f"{host}:{port}"
+
+
+def half_close(client):
+    client.half_close()
+    client.take_end()
+
+
+# What a client sends, what it is answered, how it then ends, what the log says of that, and how
+# many packets came.
+ENDS = (
+    (
+        CONNECT + publish(b"t", b"x") + DISCONNECT,
+        CONNACK + PUBACK,
+        Client.take_end,
+        "client disconnected",
+        3,
+    ),
+    (CONNECT, CONNACK, half_close, "end of input", 1),
+    (CONNECT + PINGREQ[:1], CONNACK, half_close, "input cut inside a packet", 1),
+    (OLD_CONNECT, OLD_REFUSED, Client.take_end, "closed by the server with 0x84", 1),
+    (PINGREQ, b"", Client.take_end, "closed by the server without a reply", 1),
+    (CONNECT, CONNACK, Client.take_end, "the read failed or was idle", 1),
+    (CONNECT, CONNACK, Client.reset, "the read failed or was idle", 1),
+    (
+        CONNECT + b"".join(publish(b"l/%03d" % number, LARGE) for number in range(100)),
+        CONNACK + PUBACK * 100,
+        half_close,
+        "end of input",
+        101,
+    ),
+)
+
+
+def each_end():
+    """The log says of each connection how it ended, with its packets and bytes."""
+    count, expected, filters = len(ENDS) + 1, {}, subscribe([b"l/#"])
+    with Server(places=1, connections=count, idle=1, log=True) as server:
+        for sent, answer, end, ending, packets in ENDS:
+            with Client(server) as client:
+                client.ask(sent, answer)
+                expected[name_of(client)] = (ending, packets, len(sent), len(answer))
+                end(client)
+        # The last one never reads what waits for it.
+        with Client(server, room=4096).connect() as client:
+            stuck = name_of(client)
+            client.send(filters)
+            status, printed, errors = server.ended()
+    wanted((status, printed) == (0, f"rstored: served {count}\n"), "another end")
+    told = visits(errors, 1)
+    for peer, end in expected.items():
+        wanted(told.get(peer) == end, f"the log has {told.get(peer)} in the place of {end}")
+    ending, packets, read, written = told[stuck]
+    is_right = (packets, read) == (2, len(CONNECT + filters)) and written < 100 * len(LARGE)
+    is_right = is_right and ending == "the write failed or was idle"
+    wanted(is_right, f"a client that never reads ended as {told[stuck]}")
+
+
+def a_late_write():
+    """What waits for a client that never reads is written before the next read. If it cannot be,
+    the log says that a write failed, and no read."""
+    # No read of the server has a whole packet, so no reply is written out before a read.
+    padding = b"\x26" + counted(b"") + counted(b"x" * 8_192)
+    section = varint(len(padding)) + padding
+    filters = packet(0x82, b"\x00\x01" + section + counted(b"w") + b"\x00")
+    with Server(places=1, connections=2, idle=1, log=True) as server:
+        with Client(server).connect() as client:
+            client.ask(publish(b"w", b"x" * 60_000), PUBACK)
+            client.disconnect()
+        with Client(server, room=4096).connect() as client:
+            stuck = name_of(client)
+            client.send(filters * 100)
+            status, _, errors = server.ended()
+    wanted(status == 0, "another end")
+    began, ended = (int(line.split()[2]) for line in errors.splitlines()[-2:])
+    wanted(began < ended, f"it began at {began} and ended at {ended}")
+    ending, _, _, written = visits(errors, 1)[stuck]
+    is_right = ending == "the write failed or was idle" and written < 100 * 60_000
+    wanted(is_right, f"a client that never reads ended as {ending} after {written} bytes")
+
+
+def refused_memory():
+    """A connection that ends because memory was refused is told so."""
+    with tempfile.TemporaryDirectory() as folder:
+        library = preloaded("failing_malloc", folder)
+        is_told = any(ends_out_of_memory(library, at) for at in range(1, 2_000))
+        wanted(is_told, "no connection ended out of memory")
+
+
+def ends_out_of_memory(library, at):
+    """Whether a connection ends so if the allocation of this number fails."""
+    refusal = {"FAIL_AT": str(at), "FAIL_COUNT": "1", "FAIL_TELL": "1000"}
+    environment = {"LD_PRELOAD": library, **refusal}
+    try:
+        with Server(environment=environment, places=1, connections=1, log=True) as server:
+            with Client(server) as client:
+                client.send(CONNECT + publish(b"t", b"x") + DISCONNECT)
+                is_cut_off(client)
+            return ": out of memory, " in server.ended()[2]
+    except RuntimeError:
+        # Memory was refused before it listened.
+        return False
+
+
+def sixty_four_at_once(rounds=5, places=64):
+    """Of 64 places that begin and end connections all the time, every line is whole, and each
+    connection is told."""
+
+    def come_and_go(_):
+        peers = []
+        for _ in range(rounds):
+            with Client(server).connect() as client:
+                peers.append(name_of(client))
+                client.disconnect()
+        return peers
+
+    with Server(places=places, connections=places * rounds, log=True) as server:
+        with ThreadPoolExecutor(places + 1) as threads:
+            # The log is read meanwhile: a full pipe would hold up the places.
+            ended = threads.submit(server.ended)
+            peers = sum(threads.map(come_and_go, range(places)), [])
+        status, printed, errors = ended.result()
+    wanted((status, printed) == (0, f"rstored: served {places * rounds}\n"), "another end")
+    end = ("client disconnected", 2, len(CONNECT + DISCONNECT), len(CONNACK))
+    told = visits(errors, places)
+    wanted(told == dict.fromkeys(peers, end), "the log tells of other connections")
+
+
+def no_log():
+    """A log that cannot be written harms no connection. Without `--log`, standard error is
+    empty."""
+    for errors in ("closed pipe", "full disk", "closed", None):
+        options = {} if errors is None else {"log": True}
+        with Server(places=1, connections=3, errors=errors, **options) as server:
+            for _ in range(3):
+                Client(server).connect().disconnect()
+            wanted(server.ended() == (0, "rstored: served 3\n", ""), f"another end: {errors}")
+
+
+def cannot_listen():
+    """With `--log` a second line says why. Without it there is none."""
+    with Server() as server, tempfile.TemporaryDirectory() as folder:
+        no_thread = {"LD_PRELOAD": preloaded("few_threads", folder), "THREADS": "0"}
+        for address, environment, reason in (
+            (f"{server.host}:{server.port}", {}, "Address already in use"),
+            ("127.0.0.1", {}, "invalid socket address"),
+            ("192.0.2.1:0", {}, "Cannot assign requested address"),
+            ("127.0.0.1:0", no_thread, "no thread can be started"),
+        ):
+            for words in ((), ("--log",)):
+                run = start(address, "--connections", "1", *words, environment=environment)
+                _, errors = run.communicate(timeout=PATIENCE)
+                first, *more = errors.splitlines()
+                wanted((run.returncode, first) == (1, "rstored: cannot listen"), errors)
+                is_told = len(more) == 1 and more[0].startswith("rstored: ") and reason in more[0]
+                wanted(is_told if words else not more, errors)
