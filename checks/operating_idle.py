@@ -164,7 +164,7 @@ def is_made(namespace):
     return subprocess.run(words, stderr=subprocess.DEVNULL, check=False).returncode == 0
 
 
-def many_that_vanish(count=200, together=20):
+def many_that_vanish(count=80, together=20):
     """Of many clients none says that it goes. With four places the next one is served all the same,
     though each of them got a place before."""
     with Server(places=4, idle=1) as server, ThreadPoolExecutor(together) as threads:
