@@ -4,37 +4,38 @@ ghost use Rattle.std.specs.Prelude.{◌<◌, ◌≤◌};
 ghost use Rattle.rs_message.specs.declared.entry.TheConstants.{MAX_PLACES};
 ghost use Rattle.rs_store.specs.declared.limit.TheConstants.{MAX_TOPICS};
 
-use log::Log;
+use log::sink::Console;
+use log::{LevelFilter, Logged};
 use rs_listener::{ListenFault, Server, Summary};
 use rs_store::TopicLimit;
-use std::alloc::Global;
 use std::net::{Net, TcpListener, TcpStream};
 use std::sync::Wait;
 use std::thread::Threads;
 use std::time::{Clock, Duration};
 
 /// Serves clients by TCP until so many have connected. The address is told before the first is accepted. A connection that is idle for
-/// as many seconds as `idle` says, if it is given, ends.
+/// as many seconds as `idle` says, if it is given, ends. With `log`, standard error is told of each connection.
 ///
 /// # Errors
 ///
 /// If the address cannot be bound, or memory or threads are refused. No client was served.
 pub(crate) fn listen<H>(
     rt: &H,
-    alloc: Global,
     address: &str,
     places: u8,
     topics: u32,
     connections: u64,
     idle: Option<u32>,
+    log: bool,
 ) -> Result<Summary, ListenFault>
 where
     H: Clock
-        + Log
         + Net<Listener = TcpListener, Stream = TcpStream>
         + Threads
         + Wait
+        + AllocGlobal
         + Print
+        + Eprint
         + Copy
         + Send
         + Sync
@@ -46,11 +47,22 @@ where
         unreachable!()
     };
     let idle = idle.map(|seconds| Duration::from_secs(u64::from(seconds)));
-    let server = Server::bind(rt, alloc, address, connections, limit, places, idle)?;
+    // By the plain handle, since the one that logs looks up no name.
+    let server = Server::bind(rt, rt.alloc(), address, connections, limit, places, idle)?;
     let bound = server.address()?;
     // If nobody reads the output, clients are served all the same.
     let _ = println!(rt; "rstored: listening on {bound}");
-    let summary = server.run(*rt)?;
+    let summary = server.run(logged(rt, log))?;
     let _ = println!(rt; "rstored: served {connections}");
     Ok(summary)
+}
+
+/// The handle, which logs to standard error if it is to.
+fn logged<H: Copy>(rt: &H, log: bool) -> Logged<H, Console<H>> {
+    let level = if log {
+        LevelFilter::Info
+    } else {
+        LevelFilter::Off
+    };
+    Logged::new(*rt, level, Console(*rt))
 }

@@ -9,8 +9,6 @@ use crate::listening::listen;
 use crate::own_store::OwnStore;
 use crate::piping::{PipeFault, pipe};
 use crate::words::{Run, WordsFault, read_words, refused};
-use log::sink::Console;
-use log::{LevelFilter, Logged};
 use rs_listener::{ListenFault, Summary};
 use rs_server::Served;
 use std::alloc::Global;
@@ -125,30 +123,12 @@ where
                 idle,
                 log,
             },
-        ) => match listen(
-            &logged(rt, log),
-            rt.alloc(),
-            address.as_str(),
-            places,
-            topics,
-            connections,
-            idle,
-        ) {
+        ) => match listen(rt, address.as_str(), places, topics, connections, idle, log) {
             Ok(summary) => served_by(summary, places),
             Err(fault) => Err(RunFault::Listen(log.then_some(fault))),
         },
         Err(fault) => Err(RunFault::Words(fault)),
     }
-}
-
-/// The handle, which logs to standard error if it is to.
-fn logged<H: Copy>(rt: &H, log: bool) -> Logged<H, Console<H>> {
-    let level = if log {
-        LevelFilter::Info
-    } else {
-        LevelFilter::Off
-    };
-    Logged::new(*rt, level, Console(*rt))
 }
 
 /// Whether a server ended as it should: each place had a thread, and all changes are settled.
