@@ -4,8 +4,6 @@ What has to come is waited for, and the guard of PATIENCE only ends a check that
 judged by time: it only excuses a refused client that was held up.
 """
 
-import sys
-
 from checks.listening_addresses import addresses, restart
 from checks.listening_ends import (
     a_client_that_never_reads,
@@ -25,7 +23,7 @@ from checks.listening_store import expired_topics, one_history
 from checks.worked import examples
 from harness.client import Client
 from harness.server import Server
-from harness.words import given_words
+from harness.words import run_named
 
 
 def worked_examples():
@@ -64,17 +62,5 @@ CHECKS = (
 )
 
 
-def main():
-    """Runs all checks, or those that are named."""
-    names = given_words(*(check.__name__ for check in CHECKS))
-    chosen = [check for check in CHECKS if check.__name__ in names or not names]
-    for check in chosen:
-        try:
-            check()
-        except (AssertionError, OSError, RuntimeError) as error:
-            sys.exit(f"listening: {check.__name__}: {error}")
-    print(f"listening: {', '.join(check.__name__.replace('_', ' ') for check in chosen)}")
-
-
 if __name__ == "__main__":
-    main()
+    run_named(CHECKS)

@@ -5,8 +5,6 @@ What has to come is waited for. A connection that has to end may end late, as on
 one that has to stay is only looked at by what it is answered.
 """
 
-import sys
-
 from checks.operating_idle import (
     a_client_that_never_reads,
     a_client_that_pings,
@@ -25,7 +23,7 @@ from checks.operating_log import (
     refused_memory,
     sixty_four_at_once,
 )
-from harness.words import given_words
+from harness.words import run_named
 
 CHECKS = (
     silent_clients,
@@ -45,17 +43,5 @@ CHECKS = (
 )
 
 
-def main():
-    """Runs all checks, or those that are named."""
-    names = given_words(*(check.__name__ for check in CHECKS))
-    chosen = [check for check in CHECKS if check.__name__ in names or not names]
-    for check in chosen:
-        try:
-            check()
-        except (AssertionError, OSError, RuntimeError) as error:
-            sys.exit(f"operating: {check.__name__}: {error}")
-    print(f"operating: {', '.join(check.__name__.replace('_', ' ') for check in chosen)}")
-
-
 if __name__ == "__main__":
-    main()
+    run_named(CHECKS)

@@ -6,6 +6,6 @@
 - `server`: the program as a server under test;
 - `program`: where the built programs lie, what is loaded before one, and its memory;
 - `patience`: how long a script waits for what does not go on;
-- `words`: the words that a script is given;
+- `words`: the words that a script is given, and the checks that they name;
 - `debian`: the Debian packages that some scripts need.
 """

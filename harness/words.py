@@ -1,4 +1,4 @@
-"""The words that a script is given, and its own name."""
+"""The words that a script is given, its own name, and the checks that the words name."""
 
 import sys
 from pathlib import Path
@@ -18,3 +18,15 @@ def given_words(*known):
             print(f"{NAME}: {word!r} is not known: give {wanted}", file=sys.stderr)
             sys.exit(2)
     return words
+
+
+def run_named(checks):
+    """Runs all checks, or those whose names are given. The first that fails ends the script."""
+    names = given_words(*(check.__name__ for check in checks))
+    chosen = [check for check in checks if check.__name__ in names or not names]
+    for check in chosen:
+        try:
+            check()
+        except (AssertionError, OSError, RuntimeError) as error:
+            sys.exit(f"{NAME}: {check.__name__}: {error}")
+    print(f"{NAME}: {', '.join(check.__name__.replace('_', ' ') for check in chosen)}")
