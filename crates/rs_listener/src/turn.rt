@@ -23,20 +23,20 @@ pub(crate) struct ListenClock<H: Clock> {
     clock: SystemClock,
     // How often the time was told: once for each packet.
     packets: u64,
-    visit: Visit,
+    id: ConnectionId,
 }
 
 /// Which connection it is.
 #[derive(Clone, Copy)]
-pub(crate) struct Visit {
+pub(crate) struct ConnectionId {
     place: u8,
     number: u64,
     peer: SocketAddr,
 }
 
-impl Display for Visit {
+impl Display for ConnectionId {
     fn fmt<W: fmt::Write>(&self, f: &mut Formatter<W>) -> fmt::Result {
-        let Visit {
+        let ConnectionId {
             place,
             number,
             peer,
@@ -94,14 +94,14 @@ impl<H: Clock + Log + Copy + Send> Turn for ListenTurn<H> {
             peer,
         } = self.listener.accept(&self.rt, self.alloc)?;
         self.number = self.number.saturating_add(1);
-        let visit = Visit {
+        let id = ConnectionId {
             place: self.place,
             number: self.number,
             peer,
         };
         let mut clock = replace(&mut self.clock, SystemClock::new());
         let time = clock.now(&self.rt);
-        info!(self.rt; target: "rstored", "{time} {visit}: connected");
+        info!(self.rt; target: "rstored", "{time} {id}: connected");
         Some(Connection {
             input,
             output,
@@ -109,7 +109,7 @@ impl<H: Clock + Log + Copy + Send> Turn for ListenTurn<H> {
                 rt: self.rt,
                 clock,
                 packets: 0,
-                visit,
+                id,
             },
         })
     }
@@ -131,7 +131,7 @@ impl<H: Clock + Log + Copy + Send> Turn for ListenTurn<H> {
             rt: _,
             clock,
             packets,
-            visit,
+            id,
         } = clock;
         self.clock = clock;
         let (read, written) = (input.count(), output.count());
@@ -143,6 +143,6 @@ impl<H: Clock + Log + Copy + Send> Turn for ListenTurn<H> {
             let _ = close(&self.rt, input, output);
         }
         let time = self.clock.now(&self.rt);
-        info!(self.rt; target: "rstored", "{time} {visit}: {ending}, {packets} packets, {read} bytes in, {written} bytes out");
+        info!(self.rt; target: "rstored", "{time} {id}: {ending}, {packets} packets, {read} bytes in, {written} bytes out");
     }
 }

@@ -2,10 +2,10 @@
 
 use crate::closing::end;
 use crate::halves::{ReadHalf, WriteHalf};
-use crate::splitting::{finish, split};
+use crate::splitting::{finish, give_up, split};
 use std::alloc::Global;
 use std::io;
-use std::net::{Shutdown, TcpStream};
+use std::net::TcpStream;
 use std::time::{Clock, Duration};
 
 /// What a client sends. Before each read, what was gathered for the client is written out.
@@ -50,7 +50,5 @@ pub fn close<H: Clock>(rt: &H, input: FromClient, output: ToClient) -> io::Resul
 
 /// Ends a connection that failed: nothing more is written or read, and nothing is waited for.
 pub fn abandon(input: FromClient, output: ToClient) {
-    // The writer, which is dropped here with the output, tries once more to write what waits. After this it fails at once.
-    let _ = input.inner.shutdown(Shutdown::Both);
-    drop(output);
+    drop(give_up(input, output));
 }

@@ -36,14 +36,27 @@ impl<W: Write + Drop> Gathered<W> {
         self.buffered.flush()
     }
 
-    /// Writes out all that waits, and gives the inner writer back.
+    /// Writes out all that waits, and gives the inner writer back. After an error, nothing is written again.
     pub fn into_inner(self) -> io::Result<W>
         ensures { IfOk result (λ inner. Keeps (contents_of W.contents self) (W.contents inner)) }
     {
         match self.buffered.into_inner() {
             Ok(inner) => Ok(inner),
-            Err(failed) => Err(failed.into_error()),
+            Err(failed) => {
+                // A buffered writer that is dropped writes once more, and may wait for that.
+                let (error, buffered) = failed.into_parts();
+                drop(buffered.into_parts());
+                Err(error)
+            }
         }
+    }
+
+    /// Gives the inner writer back as it is. What waits is dropped.
+    pub fn give_up(self) -> W
+        ensures { result ≡ inner_of self }
+    {
+        let (inner, _unwritten) = self.buffered.into_parts();
+        inner
     }
 }
 

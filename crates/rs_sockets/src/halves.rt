@@ -129,7 +129,7 @@ impl<R, W: Write + Drop> ReadHalf<R, W> {
 impl<R: Read, W: Write + Drop> Read for ReadHalf<R, W> {
     ghost use Rattle.std.specs.Io.{ReadsAtMost};
     ghost use Rattle.std.specs.Io.KnownBytes.{ReadConsumes};
-    ghost use Rattle.std.specs.Prelude.{OnOk};
+    ghost use Rattle.std.specs.Prelude.{IsErr, MatchBool, OnOk};
     ghost use Rattle.rs_sockets.specs.Halves.{Counts, unread_of, LeftNoneWaiting};
 
     ghost remaining = { unread_of R.remaining };
@@ -139,6 +139,7 @@ impl<R: Read, W: Write + Drop> Read for ReadHalf<R, W> {
         ensures bytes { ReadConsumes (unread_of R.remaining self.old) (unread_of R.remaining self.new) result buf.new }
         ensures none_waits { OnOk result (LeftNoneWaiting self.new) }
         ensures counted { Counts self.old.count result self.new.count }
+        ensures unwritten { MatchBool self.new.unwritten (IsErr result × (self.new.inner ≡ self.old.inner)) (LeftNoneWaiting self.new) }
     {
         let written = self.write_out();
         self.unwritten = written.is_err();

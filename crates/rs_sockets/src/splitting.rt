@@ -1,6 +1,6 @@
 //! A connection in two halves, and one writer again at its end.
 
-ghost use Rattle.std.specs.Prelude.{◌≡◌, IfOk};
+ghost use Rattle.std.specs.Prelude.{◌≡◌, IfOk, IfSome};
 ghost use Rattle.std.specs.Io.KnownBytes.{Keeps};
 ghost use Rattle.rs_sockets.specs.Halves.{unread_of, written_of};
 
@@ -76,4 +76,27 @@ pub fn finish<R: Read + Drop, W: Write + Drop>(
         Some(gathered) => Ok((inner, gathered.into_inner()?)),
         None => Err(is_taken()),
     }
+}
+
+/// Gives reader and writer back as they are, and drops what waits. None only while another thread is inside a call of a half.
+pub(crate) fn give_up<R: Read + Drop, W: Write + Drop>(
+    read: ReadHalf<R, W>,
+    write: WriteHalf<W>,
+) -> Option<(R, W)>
+    ensures { IfSome result (λ both. R.remaining both.0 ≡ unread_of R.remaining read) }
+{
+    let ReadHalf {
+        inner,
+        shared: _,
+        pass: _,
+        count: _,
+        unwritten: _,
+    } = read;
+    let WriteHalf {
+        shared,
+        mut pass,
+        count: _,
+    } = write;
+    let gathered = shared.try_pop_as::<Take>(&mut pass)?;
+    Some((inner, gathered.give_up()))
 }

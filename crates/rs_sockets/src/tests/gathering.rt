@@ -5,7 +5,7 @@ ghost use Rattle.std.specs.Io.KnownBytes.{Consumes, Appends};
 
 use crate::gathered::Gathered;
 use crate::limits::MAX_GATHERED;
-use crate::splitting::{finish, split};
+use crate::splitting::{finish, give_up, split};
 use std::alloc::Global;
 use std::io;
 use std::io::{ErrorKind, Read, Write};
@@ -115,6 +115,33 @@ fn a_failed_write_loses_nothing(rt: HostRuntime) -> Result<(), Fail> {
         gathered.write_out()?;
         let noting = gathered.into_inner()?;
         assert!(rt; are_replies(noting.bytes.as_slice(), 12), "at {fails_at}");
+    }
+    Ok(())
+}
+
+// A reply waits at the end of a connection. Each write is counted, and the first one fails.
+#[test]
+fn an_end_does_not_write_again(rt: HostRuntime) -> Result<(), Fail> {
+    let alloc = rt.alloc();
+    for gives_up in [false, true] {
+        let calls = Arc::new(alloc, AtomicU64::new(0))?;
+        let noting = Noting {
+            bytes: Vec::new(alloc),
+            calls: Arc::try_clone(&calls)?,
+            fails_at: 0,
+            most: usize::MAX,
+        };
+        let observing = Observing {
+            calls: Arc::try_clone(&calls)?,
+        };
+        let (input, mut output) = split(alloc, observing, noting)?;
+        reply(&mut output, 0, 3)?;
+        if gives_up {
+            assert!(rt; give_up(input, output).is_some());
+        } else {
+            assert!(rt; finish(input, output).is_err());
+        }
+        assert!(rt; calls.load(Ordering::SeqCst) == u64::from(!gives_up));
     }
     Ok(())
 }
