@@ -1,4 +1,4 @@
-"""Times whole sessions through the program on growing inputs, and short ones in memory."""
+"""Times whole sessions through the program on growing inputs."""
 
 import os
 import subprocess
@@ -6,7 +6,7 @@ import sys
 import tempfile
 import time
 
-from bench.measure import grows_slowly, least, trial, with_rounds
+from bench.measure import grows_slowly, least, with_rounds
 from harness.packets import CONNACK, CONNECT, DISCONNECT, publish
 from harness.program import program
 from harness.sessions import flooded, published, replayed, subscribed, whole
@@ -26,7 +26,7 @@ SESSIONS = (
     ("filters in a packet each, of which 256 are granted", 1_000, subscribed, (0, 5, False)),
 )
 
-# How often as long ten times the session, or ten times as many sessions, may take.
+# How often as long ten times the session may take.
 SESSION_LIMIT = 13
 
 # The seconds that a SUBSCRIBE of 40 kB may take, whose 10,000 filters each match 10,000 messages.
@@ -65,18 +65,10 @@ def check_replies(count, wanted):
         sys.exit(f"bench: {count} bytes of replies, not {wanted}")
 
 
-def short_sessions(count, tries=15):
-    """The seconds that so many short sessions take in memory, one after the other over one store;
-    the least of some runs."""
-    return least(tries, trial, "sessions", count)["sessions"] / 1_000_000
-
-
 def sessions_grow_slowly():
-    """Whether ten times as much in one session, or ten times as many short ones, take about ten
-    times as long."""
+    """Whether ten times as much in one session takes about ten times as long."""
     print(f"start and end alone: {seconds(whole(b'', 0)):.4f} s")
-    name = "1,000 and 10,000 short sessions in memory"
-    good = grows_slowly(name, short_sessions, 1_000, 10_000, SESSION_LIMIT)
+    good = True
     for name, few, session, numbers in SESSIONS:
 
         def of_session(count):
@@ -128,6 +120,5 @@ def once():
     for _, few, session, numbers in SESSIONS:
         seconds(session(few, *numbers), tries=1)
     seconds(flooded(100, 10_000), tries=1)
-    short_sessions(10, tries=1)
     for size in PIECES:
         in_pieces(20_000, size)

@@ -18,7 +18,7 @@ use crate::telling::WaysBack;
 use crate::writer::Queue;
 use crossbeam_channel::{Pass, bounded_with};
 use std::alloc::{AllocError, Global};
-use std::marker::{Model, PhantomData};
+use std::marker::Model;
 
 /// A queue without lines, before it has a name. Contracts see which one it is, and the number of its places.
 #[derive(Drop)]
@@ -114,6 +114,6 @@ impl BlankQueue {
             replies.push(to).map_err(|_| AllocError)?;
         }
         let queue = Queue::new(receiver, Taken::new(places, pass), WaysBack::new(replies));
-        Ok((Intake { of: PhantomData }, lines, queue))
+        Ok((Intake::new(), lines, queue))
     }
 }

@@ -20,7 +20,7 @@ use std::sync::Wait;
 /// The way to the writer, for all lines. It holds nothing: a sender here would keep the queue open when all lines are gone.
 #[derive(Drop)]
 pub struct Intake<N: LineName> {
-    pub(crate) of: PhantomData<N>,
+    of: PhantomData<N>,
 }
 
 /// The fault that a line answers for the writer's refusal.
@@ -36,8 +36,8 @@ fn fault_of(fault: PutFault) -> SubmitFault
     }
 }
 
-/// The receipt for this entry, or why the reply has none.
-pub(crate) fn read<N: LineName>(reply: Reply<N>, entry: &Entry) -> Result<Receipt<N>, SubmitFault>
+/// The receipt for this entry, or why the reply has none ([`submit`](Intake::submit) has the faults).
+pub fn read_reply<N: LineName>(reply: Reply<N>, entry: &Entry) -> Result<Receipt<N>, SubmitFault>
     ensures entry { IfOk result (λ r. r.entry ≡ entry.now) }
     ensures stands { IfOk result (λ r. StandsAt r.entry r.number r.told) }
     ensures legal { IfOk result (λ r. IsLegal N.limit r.told) }
@@ -63,6 +63,11 @@ pub(crate) fn read<N: LineName>(reply: Reply<N>, entry: &Entry) -> Result<Receip
 }
 
 impl<N: LineName> Intake<N> {
+    /// The way to the writer of this name.
+    pub fn new() -> Intake<N> {
+        Intake { of: PhantomData }
+    }
+
     /// Hands the operation, which is no Sweep, to the writer under the line's next serial, and waits for the receipt. The serial is
     /// used whatever is answered, unless there is no further one. The writer may make a Sweep first, so that there is room. The
     /// contract also says which reply came (`heard`), if one came.
@@ -94,7 +99,7 @@ impl<N: LineName> Intake<N> {
     {
         let entry = line.send(rt, operation)?;
         match line.receive(rt) {
-            Some(reply) => read(reply, &entry),
+            Some(reply) => read_reply(reply, &entry),
             None => Err(SubmitFault::Open),
         }
     }

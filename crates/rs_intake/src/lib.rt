@@ -25,20 +25,19 @@ mod settling;
 mod steps;
 mod taken;
 mod telling;
-#[cfg(test)]
-mod tests;
 mod waiting;
 mod writer;
 
 pub use blank::{BlankQueue, blank_queue};
 pub use ending::Cause;
 pub use fault::SettleFault;
-pub use intake::Intake;
+pub use intake::{Intake, read_reply};
 pub use law::{line_order_law, reply_order_law, told_law};
 pub use line::{LineEnd, SeatLine};
 pub use name::LineName;
+pub use reply::Reply;
 pub use rule::{Change, Job};
 pub use settling::settle;
 pub use taken::Taken;
 pub use waiting::Gone;
-pub use writer::{Ended, Queue, run_writer};
+pub use writer::{Ended, Queue, run_writer, run_writer_for};

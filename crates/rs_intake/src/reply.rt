@@ -14,10 +14,12 @@ use std::collections::LinkedList;
 use std::marker::Model;
 use std::sync::Wait;
 
-/// What the writer answers to the job of this origin: a receipt, or why there is none.
+/// What the writer answers to a job.
 #[derive(Drop)]
 pub struct Reply<N: StoreName> {
+    /// The origin of the job.
     pub origin: Origin,
+    /// The receipt, or why there is none.
     pub answer: Result<Receipt<N>, PutFault>,
 }
 

@@ -12,14 +12,10 @@ ghost use Rattle.rs_intake.specs.Sweeps.{AreForJobs, without_sweeps};
 
 use crate::ending::Cause;
 use crate::name::LineName;
-#[cfg(test)]
-use crate::reply::Reply;
 use crate::rule::{Job, JobReceiver};
 use crate::taken::Taken;
 use crate::telling::WaysBack;
 use crate::waiting::Patience;
-#[cfg(test)]
-use rs_message::Entry;
 use rs_message::Origin;
 use rs_version::VersionWriter;
 use std::sync::Wait;
@@ -45,41 +41,6 @@ impl<N: LineName> Queue<N> {
             receiver,
             taken,
             ways,
-        }
-    }
-
-    /// Takes one job, and gives the queue up.
-    #[cfg(test)]
-    pub(crate) fn next<W: Wait>(self, rt: &W) -> Option<Job> {
-        let Queue {
-            receiver,
-            mut taken,
-            ways: _ways,
-        } = self;
-        taken.next(rt, &receiver, &mut Patience::new()).ok()
-    }
-
-    /// Takes one job, puts another entry in its stead, which must be no Sweep, and answers the job with that receipt. Gives the queue
-    /// up.
-    #[cfg(test)]
-    pub(crate) fn answer_with<R: Wait + Drop, W: Wait>(
-        self,
-        rt: &W,
-        writer: &mut VersionWriter<N, R>,
-        other: Entry,
-    ) {
-        let Queue {
-            receiver,
-            mut taken,
-            mut ways,
-        } = self;
-        if other.operation.is_sweep() {
-            return;
-        }
-        if let Ok(Job::Put(change)) = taken.next(rt, &receiver, &mut Patience::new()) {
-            let origin = change.into_entry().origin;
-            let answer = writer.put(other);
-            ways.tell(rt, Reply { origin, answer });
         }
     }
 }
@@ -157,8 +118,8 @@ pub fn run_writer<N: LineName, R: Wait + Drop, W: Wait>(
     run_writer_for(rt, queue, writer, u64::MAX)
 }
 
-/// The same, for so many jobs at most.
-pub(crate) fn run_writer_for<N: LineName, R: Wait + Drop, W: Wait>(
+/// The same, for at most so many jobs. Then the queue is dropped, and with it the jobs that wait there.
+pub fn run_writer_for<N: LineName, R: Wait + Drop, W: Wait>(
     rt: &W,
     queue: Queue<N>,
     writer: VersionWriter<N, R>,

@@ -7,9 +7,7 @@
 //! - `full TOPICS`: the adds to a full tree of so many topics, and one that sweeps half of it;
 //! - `window COUNT ROUNDS`: rounds of a window in which so many messages wait, 1 to 100,000;
 //! - `decode ROUNDS` and `encode ROUNDS`: the one packet on standard input, a PUBLISH or a SUBSCRIBE, and what answers it;
-//! - `sessions COUNT`: short sessions one after the other over one store in memory;
-//! - `versions TOPICS SEATS MILLIS`: the puts into a store of versions that so many seats read meanwhile;
-//! - `submits TOPICS PLACES SEATS COUNT`: the submits of so many places, each of which makes so many, while so many seats read all topics.
+//! - `versions TOPICS SEATS MILLIS`: the puts into a store of versions that so many seats read meanwhile.
 //!
 //! `keep TOPICS` and `keep_versions TOPICS` keep so many messages in one tree and in a store of versions, at topics of 64 bytes;
 //! `keep_deep TOPICS` keeps them in a tree, at topics of the most levels, of which each two share all levels but the last.

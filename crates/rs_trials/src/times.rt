@@ -2,8 +2,6 @@
 
 mod codec;
 mod full;
-mod sessions;
-mod submits;
 mod tree;
 mod versions;
 mod window;
@@ -42,7 +40,6 @@ fn work_one<H: AllocGlobal + Print + Clock + Wait, R: Read>(
         "keep_versions" => versions::keep(rt, alloc, topics(word)?),
         "decode" => codec::measure_decode(rt, alloc, input, number(word)?),
         "encode" => codec::measure_encode(rt, alloc, input, number(word)?),
-        "sessions" => sessions::measure(rt, alloc, number(word)?),
         _ => Err(Failure::Words),
     }
 }
@@ -57,10 +54,6 @@ pub fn work<
         ("window", [count, rounds]) => window::work(rt, alloc, number(count)?, number(rounds)?),
         ("versions", [limit, seats, rounds]) => {
             versions::measure(rt, alloc, topics(limit)?, number(seats)?, number(rounds)?)
-        }
-        ("submits", [limit, places, seats, count]) => {
-            let (places, seats, count) = (number(places)?, number(seats)?, number(count)?);
-            submits::measure(rt, alloc, topics(limit)?, places, seats, count)
         }
         _ => Err(Failure::Words),
     }
