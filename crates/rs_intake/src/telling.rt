@@ -61,15 +61,4 @@ impl<N: LineName> WaysBack<N> {
         let sent = self.senders[index].send(rt, reply);
         (is_refused, sent)
     }
-
-    /// Tells the line of the reply's origin what no put has answered.
-    #[cfg(test)]
-    pub(crate) fn tell<W: Wait>(&mut self, rt: &W, reply: Reply<N>) {
-        let Some(at) = (reply.origin.place() as usize).checked_sub(1) else {
-            return;
-        };
-        if let Some(to) = self.senders.get_mut(at) {
-            let _ = to.send(rt, reply);
-        }
-    }
 }
