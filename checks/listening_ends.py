@@ -1,7 +1,7 @@
 """Clients that end, or do not read, or send, as no good client does. Part of `checks/listening`."""
 
 from concurrent.futures import ThreadPoolExecutor
-from time import monotonic
+from time import monotonic, sleep
 
 from checks.exchange import long_exchange, replies
 from checks.listening_messages import all_replayed, publish, replayed, subscribe, topic, wanted
@@ -136,11 +136,13 @@ REFUSALS = {
     "a will": (WILL, bytes.fromhex("2003008300")),
     "a second CONNECT": (2 * CONNECT, CONNACK + bytes.fromhex("E00182")),
 }
-MORE = 1 << 20
+# What a client still sends once it was refused, 960 KiB in all: in pieces, with a pause before each,
+# so that a server that closes the connection and discards nothing breaks the sending.
+PIECES, PIECE, PAUSE = 15, bytes(1 << 16), 0.005
 
 
 def refused_early(tries=10, most=100):
-    """A client that was refused while it sends 1 MiB more reads why.
+    """A client that was refused while it goes on sending can send all, and then reads why.
 
     The server discards what comes for about a second, so that on a busy machine a client may be
     too late. One that failed after half a second or more tells nothing, and another is tried; of
@@ -160,11 +162,14 @@ def refused_early(tries=10, most=100):
 
 
 def reads_why(server, sent, answer):
-    """Whether a client read the answer and the end, and the seconds that it took."""
+    """Whether a client sent all and read the answer and the end, and the seconds that it took."""
     began = monotonic()
     with Client(server) as client:
         try:
-            client.send(sent + bytes(MORE))
+            client.send(sent)
+            for _ in range(PIECES):
+                sleep(PAUSE)
+                client.send(PIECE)
             client.take(answer)
             client.take_end()
         except OSError:
