@@ -18,12 +18,12 @@ SWEEP_LOAD = (65_536, 3)
 # them.
 SEATS_LIMIT = 3
 
-# How many times the memory of one catalogue the three of a store of versions may take. They share
-# their messages; three that shared nothing would take three times as much.
+# How many times the memory of one catalogue the two of a store of versions may take. They share
+# their messages; two that shared nothing would take twice as much.
 MEMORY_LIMIT = 2
 MESSAGES = 60_000
 
-# How many bytes a message of 64 bytes at a topic of 64 bytes may take in the three catalogues
+# How many bytes a message of 64 bytes at a topic of 64 bytes may take in the two catalogues
 # together, its packet aside.
 EACH_LIMIT = 1_000
 
@@ -75,20 +75,20 @@ def seats_are_fast():
 
 
 def copies_share():
-    """Whether three copies take less than twice the memory of one catalogue."""
-    one, three = (peak_memory(job, MESSAGES) for job in ("keep", "keep_versions"))
-    times = three / one
-    shown = f"one catalogue {one:,} kB, three copies {three:,} kB; {times:.2f} times"
+    """Whether two copies take less than twice the memory of one catalogue."""
+    one, two = (peak_memory(job, MESSAGES) for job in ("keep", "keep_versions"))
+    times = two / one
+    shown = f"one catalogue {one:,} kB, two copies {two:,} kB; {times:.2f} times"
     print(f"memory of {MESSAGES:,} messages: {shown} (less than {MEMORY_LIMIT} needed)")
     return times < MEMORY_LIMIT
 
 
 def copies_are_small():
-    """Whether one more topic takes little memory in three copies."""
+    """Whether one more topic takes little memory in two copies."""
     few, many = (peak_memory("keep_versions", topics) for topics in (MESSAGES // 2, MESSAGES))
     each = (many - few) * 1024 / (MESSAGES - MESSAGES // 2)
     shown = f"{each:.0f} bytes (at most {EACH_LIMIT} wanted)"
-    print(f"memory of a topic of 64 bytes in three copies: {shown}")
+    print(f"memory of a topic of 64 bytes in two copies: {shown}")
     return each <= EACH_LIMIT
 
 

@@ -10,7 +10,7 @@ ghost use Rattle.rs_session.specs.Local.{catalogue_of, local_mark, next_entry, I
 
 use crate::gate::Gate;
 use rs_message::{Entry, Found, Operation, Origin, SubmitFault};
-use rs_store::{Catalogue, Refusal, TopicLimit, add};
+use rs_store::{Catalogue, Refusal, Store, TopicLimit};
 use rs_topic::TopicFilter;
 use std::alloc::{AllocError, Global};
 
@@ -20,8 +20,8 @@ const PLACE: u8 = 1;
 /// The store of a single connection: a catalogue, served as place 1 with serials from 1. It stands for
 /// each list of entries that its catalogue stands for.
 #[derive(Drop)]
-pub struct LocalGate<C> {
-    catalogue: C,
+pub struct LocalGate<C: Catalogue> {
+    store: Store<C>,
 }
 
 impl<C: Catalogue> LocalGate<C> {
@@ -31,7 +31,7 @@ impl<C: Catalogue> LocalGate<C> {
         ensures list { IfOk result (λ gate. Stands (C.content (catalogue_of gate)) []) }
     {
         Ok(LocalGate {
-            catalogue: C::new(alloc, limit)?,
+            store: Store::new(alloc, limit)?,
         })
     }
 
@@ -39,7 +39,7 @@ impl<C: Catalogue> LocalGate<C> {
     pub fn catalogue(&self) -> &C
         ensures { result.now ≡ catalogue_of self.now }
     {
-        &self.catalogue
+        self.store.catalogue()
     }
 }
 
@@ -63,14 +63,14 @@ impl<C: Catalogue> Gate for LocalGate<C> {
         ensures done { OnOk result (IsAdded (C.content (catalogue_of self.old)) (next_entry (C.content (catalogue_of self.old)) operation) (C.content (catalogue_of self.new))) }
         ensures refused { IfErr result (λ fault. IsLeft (C.content (catalogue_of self.old)) operation fault (C.content (catalogue_of self.new))) }
     {
-        let last = self.catalogue.last_serial(PLACE);
+        let last = self.store.catalogue().last_serial(PLACE);
         if last == u64::MAX {
             return Err(SubmitFault::Full);
         }
         let Some(origin) = Origin::new(PLACE, last + 1) else {
             return Err(SubmitFault::Full);
         };
-        match add(&mut self.catalogue, Entry { origin, operation }) {
+        match self.store.add(Entry { origin, operation }) {
             Ok(()) => Ok(()),
             Err(Refusal::Full) => Err(SubmitFault::Full),
             Err(Refusal::Stale) => Err(SubmitFault::Full),
@@ -85,7 +85,7 @@ impl<C: Catalogue> Gate for LocalGate<C> {
         ensures mark { local_mark (C.content (catalogue_of self.new)) ≡ local_mark (C.content (catalogue_of self.old)) }
         ensures same { C.content (catalogue_of self.new) ≡ C.content (catalogue_of self.old) }
     {
-        self.catalogue.answer(filter, now)
+        self.store.catalogue().answer(filter, now)
     }
 
     /// Refused only if memory is. The store stays as it is.
@@ -100,6 +100,6 @@ impl<C: Catalogue> Gate for LocalGate<C> {
         ensures mark { local_mark (C.content (catalogue_of self.new)) ≡ local_mark (C.content (catalogue_of self.old)) }
         ensures same { C.content (catalogue_of self.new) ≡ C.content (catalogue_of self.old) }
     {
-        self.catalogue.answer_within(filter, now, room)
+        self.store.catalogue().answer_within(filter, now, room)
     }
 }

@@ -1,7 +1,9 @@
 -- When messages expire.
-use Rattle.std.specs.Prelude.{ℕ, ◌+◌, ◌-◌, ◌^◌, ◌≤◌, min, nat_eq, if◌then◌else◌, List, [], ◌∷◌, Option, Some, None}
+use Rattle.std.specs.Prelude.{◌≡◌, ℕ, ◌+◌, ◌-◌, ◌^◌, ◌<◌, min, nat_eq, if◌then◌else◌, List, [], ◌∷◌, Option, Some, None}
 use Rattle.rs_message.specs.Values.{MessageValue}
+use Rattle.rs_store.specs.Contents.{expired_in}
 use Rattle.rs_store.specs.Spots.{Spot}
+use Rattle.rs_store.specs.declared.content.Content.{Content}
 
 -- the first moment at which an interval is over; the greatest u64 if there is no such moment
 abbrev pub ends_of : Option ℕ → ℕ → ℕ
@@ -16,7 +18,11 @@ abbrev pub earliest : ℕ → List Spot → ℕ
 earliest bound [] = bound
 earliest bound (s ∷ ss) = earliest (min bound (ends_at s.1.message)) ss
 
--- no message is expired before the bound
-abbrev pub IsEarly : ℕ → List (List ℕ × MessageValue) → Type 0
-IsEarly bound [] = Unit {0}
-IsEarly bound (e ∷ es) = (bound ≤ ends_at e.1) × IsEarly bound es
+-- the same of the messages that are held
+abbrev pub first_end : ℕ → List (List ℕ × MessageValue) → ℕ
+first_end bound [] = bound
+first_end bound (e ∷ es) = first_end (min bound (ends_at e.1)) es
+
+-- at each moment before this one, no held message is expired
+abbrev pub NoneExpiredBefore : ℕ → Content → Type 0
+NoneExpiredBefore moment c = (now : ℕ) → now < moment → expired_in now c ≡ 0

@@ -1,15 +1,17 @@
 //! The interface of a catalogue.
 
-ghost use Rattle.std.specs.Prelude.{◌≡◌, ◌⊎◌, ◌<◌, ◌≤◌, false, List, length, slice_index, MatchBool, MatchOption, MatchResult, OnOk, OnErr, IfNone, IfOk, IfErr, IfSome};
+ghost use Rattle.std.specs.Prelude.{◌≡◌, ◌⊎◌, ◌-◌, ◌^◌, ◌<◌, ◌≤◌, false, List, length, slice_index, MatchOption, MatchResult, OnOk, OnErr, IfNone, IfOk, IfErr, IfSome};
 ghost use Rattle.std.specs.Option.{option_map};
 ghost use Rattle.rs_message.specs.declared.entry.Entry.{Entry};
 ghost use Rattle.rs_store.specs.declared.content.Content.{Content};
 ghost use Rattle.rs_store.specs.Contents.{Accepts, IsAdded, IsNotNext, NeedsSweep, NotAddedBy, RefusedBy, answer_in, answer_within, empty, expired_in, followed, next_sweep, serial_count, swept};
+ghost use Rattle.rs_store.specs.Expiring.{NoneExpiredBefore};
 ghost use Rattle.rs_message.specs.Messages.{is_sweep};
 ghost use Rattle.rs_store.specs.History.{IsLegal, MayNotCome, NeedsSweepAfter, Stands, extended, sweep_after};
 ghost use Rattle.rs_store.specs.Adding.{Adds, NotAdds};
 ghost use Rattle.rs_store.specs.declared.fault.Refusal.TheVariants.{Full};
 
+use crate::calm::Calm;
 use crate::fault::Refusal;
 use crate::limit::TopicLimit;
 use rs_message::{Entry, Found, Operation, Origin};
@@ -69,11 +71,10 @@ pub trait Catalogue {
     fn expired(&self, now: u64) -> u32
         ensures { result ≡ expired_in now (content self.now) };
 
-    /// Whether a message is expired at a moment, in seconds. A catalogue may keep what it finds, so that it need not look at all
-    /// messages each time that it is asked.
-    fn has_expired(&mut self, now: u64) -> bool
-        ensures told { MatchBool result (0 < expired_in now (content self.old)) (expired_in now (content self.old) ≡ 0) }
-        ensures same { content self.new ≡ content self.old };
+    /// The first moment at which a message is expired, in seconds, or the greatest number if there is none.
+    fn earliest(&self) -> u64
+        ensures calm { NoneExpiredBefore result (content self.now) }
+        ensures first { result < 2 ^ 64 - 1 → 0 < expired_in result (content self.now) };
 
     /// A catalogue of the same content. It shares the bytes of topics, texts and payloads, which are counted references. An error if
     /// memory is refused.
@@ -82,11 +83,12 @@ pub trait Catalogue {
 }
 
 /// The Sweep after which a Set that is one topic too many finds room, or `None`.
-fn sweep_for<C: Catalogue>(catalogue: &mut C, entry: &Entry) -> Option<Entry>
-    requires { RefusedBy (C.content catalogue.old) entry.now Full }
-    ensures same { C.content catalogue.new ≡ C.content catalogue.old }
-    ensures some { IfSome result (λ sweep. (s : NeedsSweep (C.content catalogue.old) entry.now) × (sweep ≡ next_sweep s.message.received (C.content catalogue.old))) }
-    ensures none { IfNone result (¬ NeedsSweep (C.content catalogue.old) entry.now) }
+fn sweep_for<C: Catalogue>(catalogue: &C, calm: &mut Calm, entry: &Entry) -> Option<Entry>
+    requires full { RefusedBy (C.content catalogue.now) entry.now Full }
+    requires calm { NoneExpiredBefore calm.old (C.content catalogue.now) }
+    ensures some { IfSome result (λ sweep. (s : NeedsSweep (C.content catalogue.now) entry.now) × (sweep ≡ next_sweep s.message.received (C.content catalogue.now))) }
+    ensures none { IfNone result (¬ NeedsSweep (C.content catalogue.now) entry.now) }
+    ensures calm { NoneExpiredBefore calm.new (C.content catalogue.now) }
 {
     let Operation::Set(_, message) = &entry.operation else {
         return None;
@@ -105,7 +107,7 @@ fn sweep_for<C: Catalogue>(catalogue: &mut C, entry: &Entry) -> Option<Entry>
     if entry.origin.place() == 0 && entry.origin.serial() <= serial {
         return None;
     }
-    if !catalogue.has_expired(moment) {
+    if !calm.has_expired(catalogue, moment) {
         return None;
     }
     let origin = Origin::of_writer(serial)?;
@@ -118,21 +120,28 @@ fn sweep_for<C: Catalogue>(catalogue: &mut C, entry: &Entry) -> Option<Entry>
 /// Whether an entry may come next: `Ok(None)` if it may, and `Ok` with a Sweep if it may come after this Sweep and not without it.
 /// That is so for a Set that is one topic too many, if a Sweep of the moment at which its message came leaves room for it. Else it is
 /// refused as by [`Catalogue::accepts`]. Allocates nothing.
-pub fn judge<C: Catalogue>(catalogue: &mut C, entry: &Entry) -> Result<Option<Entry>, Refusal>
-    ensures same { C.content catalogue.new ≡ C.content catalogue.old }
-    ensures next { IfOk result (λ before. MatchOption before (Accepts (C.content catalogue.old) entry.now)
-        (λ sweep. (s : NeedsSweep (C.content catalogue.old) entry.now) × (sweep ≡ next_sweep s.message.received (C.content catalogue.old)))) }
-    ensures refused { IfErr result (λ r. IsNotNext (C.content catalogue.old) entry.now r) }
-    ensures stands { (history : List Entry) → Stands (C.content catalogue.old) history → MatchResult result
-        (λ before. MatchOption before (IsLegal (C.content catalogue.old).limit (extended history entry.now))
-        (λ sweep. (s : NeedsSweepAfter (C.content catalogue.old).limit history entry.now) × (sweep ≡ sweep_after s.message.received history)))
-        (λ r. MayNotCome (C.content catalogue.old).limit history entry.now r) }
+///
+/// No message is looked at before the calm moment. It is found anew if a Set that is one topic too many finds nothing expired.
+pub fn judge<C: Catalogue>(
+    catalogue: &C,
+    calm: &mut Calm,
+    entry: &Entry,
+) -> Result<Option<Entry>, Refusal>
+    requires calm { NoneExpiredBefore calm.old (C.content catalogue.now) }
+    ensures next { IfOk result (λ before. MatchOption before (Accepts (C.content catalogue.now) entry.now)
+        (λ sweep. (s : NeedsSweep (C.content catalogue.now) entry.now) × (sweep ≡ next_sweep s.message.received (C.content catalogue.now)))) }
+    ensures refused { IfErr result (λ r. IsNotNext (C.content catalogue.now) entry.now r) }
+    ensures stands { (history : List Entry) → Stands (C.content catalogue.now) history → MatchResult result
+        (λ before. MatchOption before (IsLegal (C.content catalogue.now).limit (extended history entry.now))
+        (λ sweep. (s : NeedsSweepAfter (C.content catalogue.now).limit history entry.now) × (sweep ≡ sweep_after s.message.received history)))
+        (λ r. MayNotCome (C.content catalogue.now).limit history entry.now r) }
+    ensures calm { NoneExpiredBefore calm.new (C.content catalogue.now) }
 {
     // For the proof: these calls say which places and serials an origin may have.
     let (_place, _serial) = (entry.origin.place(), entry.origin.serial());
     match catalogue.accepts(entry) {
         Ok(()) => Ok(None),
-        Err(Refusal::Full) => match sweep_for(catalogue, entry) {
+        Err(Refusal::Full) => match sweep_for(catalogue, calm, entry) {
             Some(sweep) => Ok(Some(sweep)),
             None => Err(Refusal::Full),
         },
@@ -141,15 +150,31 @@ pub fn judge<C: Catalogue>(catalogue: &mut C, entry: &Entry) -> Result<Option<En
     }
 }
 
+/// Appends an entry, and lowers the calm moment if it has to be. If memory is refused, nothing changes.
+fn append<C: Catalogue>(catalogue: &mut C, calm: &mut Calm, entry: Entry) -> Result<(), AllocError>
+    requires accepts { Accepts (C.content catalogue.old) entry }
+    requires calm { NoneExpiredBefore calm.old (C.content catalogue.old) }
+    ensures done { OnOk result (C.content catalogue.new ≡ followed (C.content catalogue.old) entry) }
+    ensures refused { OnErr result (C.content catalogue.new ≡ C.content catalogue.old) }
+    ensures calm { NoneExpiredBefore calm.new (C.content catalogue.new) }
+{
+    let after = calm.after(&entry);
+    catalogue.apply(entry)?;
+    *calm = after;
+    Ok(())
+}
+
 /// Appends the Sweep that comes before an entry, if there is one.
-fn make_room<C: Catalogue>(catalogue: &mut C, entry: &Entry) -> Result<(), Refusal>
+fn make_room<C: Catalogue>(catalogue: &mut C, calm: &mut Calm, entry: &Entry) -> Result<(), Refusal>
+    requires { NoneExpiredBefore calm.old (C.content catalogue.old) }
     ensures done { OnOk result ((Accepts (C.content catalogue.old) entry.now × (C.content catalogue.new ≡ C.content catalogue.old))
         ⊎ ((s : NeedsSweep (C.content catalogue.old) entry.now) × (C.content catalogue.new ≡ swept s.message.received (C.content catalogue.old)))) }
     ensures refused { IfErr result (λ r. NotAddedBy (C.content catalogue.old) entry.now r (C.content catalogue.new)) }
+    ensures calm { NoneExpiredBefore calm.new (C.content catalogue.new) }
 {
-    match judge(catalogue, entry) {
+    match judge(catalogue, calm, entry) {
         Ok(None) => Ok(()),
-        Ok(Some(sweep)) => match catalogue.apply(sweep) {
+        Ok(Some(sweep)) => match append(catalogue, calm, sweep) {
             Ok(()) => Ok(()),
             Err(AllocError) => Err(Refusal::NoMemory),
         },
@@ -159,21 +184,23 @@ fn make_room<C: Catalogue>(catalogue: &mut C, entry: &Entry) -> Result<(), Refus
 
 /// Appends an entry that is no Sweep. Rejects it as `Stale` or `Full`, as [`judge`] does and without an allocation, else as
 /// `NoMemory` if memory is refused. If it may come only after a Sweep, the Sweep is appended first. A rejected entry changes
-/// nothing, but that this Sweep may stay if memory is refused.
-pub fn add<C: Catalogue>(catalogue: &mut C, entry: Entry) -> Result<(), Refusal>
-    requires { is_sweep entry.operation ≡ false }
+/// nothing, but that this Sweep may stay if memory is refused. `calm` is of the catalogue before and after.
+pub fn add<C: Catalogue>(catalogue: &mut C, calm: &mut Calm, entry: Entry) -> Result<(), Refusal>
+    requires no_sweep { is_sweep entry.operation ≡ false }
+    requires calm { NoneExpiredBefore calm.old (C.content catalogue.old) }
     ensures done { OnOk result (IsAdded (C.content catalogue.old) entry (C.content catalogue.new)) }
     ensures refused { IfErr result (λ r. NotAddedBy (C.content catalogue.old) entry r (C.content catalogue.new)) }
     ensures stands { (history : List Entry) → Stands (C.content catalogue.old) history → MatchResult result
         (λ _. Adds (C.content catalogue.old).limit history entry (Stands (C.content catalogue.new)))
         (λ r. NotAdds (C.content catalogue.old).limit history entry r (Stands (C.content catalogue.new))) }
+    ensures calm { NoneExpiredBefore calm.new (C.content catalogue.new) }
 {
     // For the proof: these calls say which places and serials an origin may have.
     let (_place, _serial) = (entry.origin.place(), entry.origin.serial());
-    if let Err(refusal) = make_room(catalogue, &entry) {
+    if let Err(refusal) = make_room(catalogue, calm, &entry) {
         return Err(refusal);
     }
-    match catalogue.apply(entry) {
+    match append(catalogue, calm, entry) {
         Ok(()) => Ok(()),
         Err(_) => Err(Refusal::NoMemory),
     }

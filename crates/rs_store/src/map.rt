@@ -1,17 +1,18 @@
 //! A catalogue in an ordered map.
 
-ghost use Rattle.std.specs.Prelude.{◌≡◌, ◌≤◌, ◌++◌, nat_le, length, map, slice_index, slice_set, IfErr, IfOk, OnOk, OnErr};
+ghost use Rattle.std.specs.Prelude.{◌≡◌, ◌-◌, ◌^◌, ◌≤◌, ◌++◌, nat_le, length, map, slice_index, slice_set, IfErr, IfOk, OnOk, OnErr};
 ghost use Rattle.std.specs.Option.{option_map};
 ghost use Rattle.std.specs.List.{filter as filter_list};
 ghost use Rattle.rs_topic.specs.Matching.{matches};
 ghost use Rattle.rs_store.specs.Contents.{after, found_of, if_fits, is_answered, is_gone, stays};
+ghost use Rattle.rs_store.specs.Expiring.{first_end};
 ghost use Rattle.rs_store.specs.Room.{IsStop};
 ghost use Rattle.rs_store.specs.declared.limit.TheConstants.{MAX_TOPICS};
 
 use crate::answer::{Answer, Stop};
 use crate::catalogue::Catalogue;
 use crate::fault::Refusal;
-use crate::found::is_expired;
+use crate::found::{is_expired, lowered};
 use crate::limit::{SERIALS, TopicLimit};
 use rs_message::{Entry, Found, Message, Operation};
 use rs_topic::{TopicFilter, TopicName};
@@ -89,6 +90,17 @@ fn count_expired(held: &BTreeMap<TopicName, Message>, now: u64) -> u32
         }
     }
     count
+}
+
+/// The first moment at which a message is expired, or the greatest number if there is none.
+fn earliest_of(held: &BTreeMap<TopicName, Message>) -> u64
+    ensures { result ≡ first_end (2 ^ 64 - 1) held.now.entries }
+{
+    let mut least = u64::MAX;
+    for (_, message) in held {
+        least = lowered(least, message);
+    }
+    least
 }
 
 fn does_match(filter: &TopicFilter, topic: &TopicName) -> bool
@@ -231,8 +243,8 @@ impl Catalogue for MapCatalogue {
         count_expired(&self.held, now)
     }
 
-    fn has_expired(&mut self, now: u64) -> bool {
-        self.expired(now) > 0
+    fn earliest(&self) -> u64 {
+        earliest_of(&self.held)
     }
 
     fn copy(&self) -> Result<MapCatalogue, AllocError> {

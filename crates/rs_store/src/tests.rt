@@ -4,7 +4,7 @@ ghost use Rattle.std.specs.Prelude.{◌≡◌, ◌≢◌, ◌≤◌, [], false, 
 ghost use Rattle.rs_message.specs.Messages.{is_sweep};
 
 use crate::{
-    Catalogue, MAX_TOPICS, MapCatalogue, Refusal, TopicLimit, TreeCatalogue, add, content_law,
+    Catalogue, MAX_TOPICS, MapCatalogue, Refusal, Store, TopicLimit, TreeCatalogue, content_law,
 };
 use bytes::Bytes;
 use rs_message::{Entry, Message, Operation, Origin};
@@ -72,7 +72,7 @@ fn origin(place: u8, serial: u64) -> Result<Origin, Fail> {
 /// Adds a Set whose interval is 10 seconds.
 fn set<C: Catalogue>(
     alloc: Global,
-    catalogue: &mut C,
+    store: &mut Store<C>,
     place: u8,
     serial: u64,
     topic: &[u8],
@@ -80,12 +80,12 @@ fn set<C: Catalogue>(
     let origin = origin(place, serial)?;
     let topic = TopicName::read(alloc, topic)?;
     let operation = Operation::Set(topic, message(alloc, b"x", Some(10))?);
-    Ok(add(catalogue, Entry { origin, operation }))
+    Ok(store.add(Entry { origin, operation }))
 }
 
 fn clear<C: Catalogue>(
     alloc: Global,
-    catalogue: &mut C,
+    store: &mut Store<C>,
     place: u8,
     serial: u64,
     topic: &[u8],
@@ -93,11 +93,15 @@ fn clear<C: Catalogue>(
     let origin = origin(place, serial)?;
     let topic = TopicName::read(alloc, topic)?;
     let operation = Operation::Clear(topic);
-    Ok(add(catalogue, Entry { origin, operation }))
+    Ok(store.add(Entry { origin, operation }))
 }
 
 /// Adds entries one after the other, by the bound alone.
-fn limit_of_2<C: Catalogue>(rt: &impl Abort, alloc: Global, catalogue: &mut C) -> Result<(), Fail> {
+fn limit_of_2<C: Catalogue>(
+    rt: &impl Abort,
+    alloc: Global,
+    store: &mut Store<C>,
+) -> Result<(), Fail> {
     let rows: [(u64, &[u8], Result<(), Refusal>); 5] = [
         (1, b"a", Ok(())),
         (2, b"b", Ok(())),
@@ -106,9 +110,9 @@ fn limit_of_2<C: Catalogue>(rt: &impl Abort, alloc: Global, catalogue: &mut C) -
         (3, b"a", Ok(())),
     ];
     for (serial, topic, wanted) in rows {
-        assert!(rt; set(alloc, catalogue, 1, serial, topic)? == wanted);
+        assert!(rt; set(alloc, store, 1, serial, topic)? == wanted);
     }
-    assert!(rt; clear(alloc, catalogue, 2, 1, b"d")? == Ok(()));
+    assert!(rt; clear(alloc, store, 2, 1, b"d")? == Ok(()));
     Ok(())
 }
 
@@ -123,12 +127,12 @@ fn after_these<C: Catalogue>(rt: &impl Abort, catalogue: &C) {
 fn full_and_stale(rt: HostRuntime) -> Result<(), Fail> {
     let alloc = rt.alloc();
     let limit = TopicLimit::new(2).ok_or("2 is a limit")?;
-    let mut map = MapCatalogue::new(alloc, limit)?;
+    let mut map: Store<MapCatalogue> = Store::new(alloc, limit)?;
     limit_of_2(&rt, alloc, &mut map)?;
-    after_these(&rt, &map);
-    let mut tree = TreeCatalogue::new(alloc, limit)?;
+    after_these(&rt, map.catalogue());
+    let mut tree: Store<TreeCatalogue> = Store::new(alloc, limit)?;
     limit_of_2(&rt, alloc, &mut tree)?;
-    after_these(&rt, &tree);
+    after_these(&rt, tree.catalogue());
     Ok(())
 }
 
@@ -159,11 +163,11 @@ fn topics<C: Catalogue>(
     Ok(all)
 }
 
-fn fill<C: Catalogue>(alloc: Global, catalogue: &mut C) -> Result<(), Fail> {
-    set(alloc, catalogue, 1, 1, b"a.b")??;
-    set(alloc, catalogue, 1, 2, b"a/b")??;
-    set(alloc, catalogue, 1, 3, b"$SYS/x")??;
-    set(alloc, catalogue, 1, 4, b"c")??;
+fn fill<C: Catalogue>(alloc: Global, store: &mut Store<C>) -> Result<(), Fail> {
+    set(alloc, store, 1, 1, b"a.b")??;
+    set(alloc, store, 1, 2, b"a/b")??;
+    set(alloc, store, 1, 3, b"$SYS/x")??;
+    set(alloc, store, 1, 4, b"c")??;
     Ok(())
 }
 
@@ -181,12 +185,12 @@ fn answered<C: Catalogue>(rt: &impl Abort, alloc: Global, catalogue: &C) -> Resu
 }
 
 /// Topics with empty levels, with a level that is a prefix of another, and with a dollar.
-fn set_by_levels<C: Catalogue>(alloc: Global, catalogue: &mut C) -> Result<(), Fail> {
+fn set_by_levels<C: Catalogue>(alloc: Global, store: &mut Store<C>) -> Result<(), Fail> {
     let names: [&[u8]; 6] = [b"a.b", b"a/b", b"$s", b"a/", b"/", b"a"];
     let mut serial: u64 = 0;
     for name in names {
         serial = serial.saturating_add(1);
-        set(alloc, catalogue, 1, serial, name)??;
+        set(alloc, store, 1, serial, name)??;
     }
     Ok(())
 }
@@ -211,11 +215,11 @@ fn by_levels<C: Catalogue>(rt: &impl Abort, alloc: Global, catalogue: &C) -> Res
 fn set_and_copied<C: Catalogue + Drop>(
     rt: &impl Abort,
     alloc: Global,
-    mut catalogue: C,
+    mut store: Store<C>,
 ) -> Result<(), Fail> {
-    set_by_levels(alloc, &mut catalogue)?;
-    by_levels(rt, alloc, &catalogue)?;
-    by_levels(rt, alloc, &catalogue.copy()?)?;
+    set_by_levels(alloc, &mut store)?;
+    by_levels(rt, alloc, store.catalogue())?;
+    by_levels(rt, alloc, &store.catalogue().copy()?)?;
     Ok(())
 }
 
@@ -223,8 +227,10 @@ fn set_and_copied<C: Catalogue + Drop>(
 fn levels(rt: HostRuntime) -> Result<(), Fail> {
     let alloc = rt.alloc();
     let limit = TopicLimit::new(10).ok_or("10 is a limit")?;
-    set_and_copied(&rt, alloc, MapCatalogue::new(alloc, limit)?)?;
-    set_and_copied(&rt, alloc, TreeCatalogue::new(alloc, limit)?)?;
+    let map: Store<MapCatalogue> = Store::new(alloc, limit)?;
+    set_and_copied(&rt, alloc, map)?;
+    let tree: Store<TreeCatalogue> = Store::new(alloc, limit)?;
+    set_and_copied(&rt, alloc, tree)?;
     Ok(())
 }
 
@@ -288,14 +294,14 @@ fn codes(rt: HostRuntime) -> Result<(), Fail> {
 fn copied<C: Catalogue + Drop>(
     rt: &impl Abort,
     alloc: Global,
-    mut catalogue: C,
+    mut store: Store<C>,
 ) -> Result<(), Fail> {
-    fill(alloc, &mut catalogue)?;
-    let copy = catalogue.copy()?;
-    clear(alloc, &mut catalogue, 2, 1, b"c")??;
+    fill(alloc, &mut store)?;
+    let copy = store.catalogue().copy()?;
+    clear(alloc, &mut store, 2, 1, b"c")??;
     answered(rt, alloc, &copy)?;
     assert!(rt; (copy.version(), copy.count(), copy.last_serial(1)) == (4, 4, 4));
-    assert!(rt; (catalogue.version(), catalogue.count()) == (5, 3));
+    assert!(rt; (store.catalogue().version(), store.catalogue().count()) == (5, 3));
     Ok(())
 }
 
@@ -303,7 +309,9 @@ fn copied<C: Catalogue + Drop>(
 fn copies(rt: HostRuntime) -> Result<(), Fail> {
     let alloc = rt.alloc();
     let limit = TopicLimit::new(10).ok_or("10 is a limit")?;
-    copied(&rt, alloc, MapCatalogue::new(alloc, limit)?)?;
-    copied(&rt, alloc, TreeCatalogue::new(alloc, limit)?)?;
+    let map: Store<MapCatalogue> = Store::new(alloc, limit)?;
+    copied(&rt, alloc, map)?;
+    let tree: Store<TreeCatalogue> = Store::new(alloc, limit)?;
+    copied(&rt, alloc, tree)?;
     Ok(())
 }

@@ -1,15 +1,14 @@
 //! A catalogue in a tree of levels.
 
-ghost use Rattle.std.specs.Prelude.{◌≡◌, ℕ, ◌-◌, ◌^◌, ◌≤◌, List, nat_le, length, map, slice_index, IfOk, OnOk, OnErr};
+ghost use Rattle.std.specs.Prelude.{◌≡◌, ◌-◌, ◌^◌, ◌≤◌, nat_le, length, map, slice_index, IfOk, OnOk, OnErr};
 ghost use Rattle.std.specs.List.{filter as filter_list};
 ghost use Rattle.std.specs.List.Sorted.{IsStrictlySortedBy};
 ghost use Rattle.std.specs.BTreeMap.{insert_entry, is_at};
 ghost use Rattle.std.specs.Option.{option_map};
 ghost use Rattle.std.specs.Map.{keys_of, remove_entry};
 ghost use Rattle.rs_topic.specs.Order.{topic_cmp};
-ghost use Rattle.rs_message.specs.Values.{MessageValue};
 ghost use Rattle.rs_store.specs.Contents.{after, found_of, if_fits, is_answered, is_gone, serial_count, stays};
-ghost use Rattle.rs_store.specs.Expiring.{IsEarly, earliest};
+ghost use Rattle.rs_store.specs.Expiring.{first_end};
 ghost use Rattle.rs_store.specs.Spots.{ArePlaced, pairs};
 ghost use Rattle.rs_store.specs.declared.limit.TheConstants.{MAX_TOPICS};
 ghost use Rattle.rs_store.specs.Trees.{IsTree};
@@ -18,7 +17,6 @@ use crate::answer::{Answer, Stop};
 use crate::branch::Branch;
 use crate::catalogue::Catalogue;
 use crate::fault::Refusal;
-use crate::found::lowered;
 use crate::limit::{SERIALS, TopicLimit};
 use rs_message::{Entry, Found, Message, Operation};
 use rs_topic::{TopicFilter, TopicName};
@@ -34,16 +32,13 @@ use std::marker::Model;
 /// the branches that the filter can match: one for a level without a wildcard, each for a `+`, all below for a `#`. It builds no
 /// list of levels and copies no byte of a topic, text or payload. `version`, `last_serial` and `count` take constant time.
 ///
-/// It keeps a moment before which no message is expired. So `has_expired` looks at all messages only from that moment on, and then
-/// finds the moment anew if none is expired. A Sweep and `expired` visit each message once.
+/// A Sweep, `expired` and `earliest` visit each message once.
 #[derive(Drop)]
 pub struct TreeCatalogue {
     alloc: Global,
     limit: TopicLimit,
     root: Branch,
     count: u32,
-    // No message is expired before this moment.
-    earliest: u64,
     // Indexed by place. The writer's is at 0.
     serials: [u64; SERIALS],
     version: u64,
@@ -51,7 +46,6 @@ pub struct TreeCatalogue {
 
 impl Model for TreeCatalogue {
     ghost use Rattle.rs_store.specs.declared.content.Content.{Content};
-    ghost use Rattle.rs_store.specs.Expiring.{IsEarly};
     ghost use Rattle.rs_store.specs.Trees.{IsTree};
     ghost use Rattle.rs_store.specs.Spots.{pairs};
 
@@ -59,7 +53,7 @@ impl Model for TreeCatalogue {
 
     ghost view = { λ c. record { limit = c.limit; held = pairs c.root; serials = c.serials; version = c.version } };
 
-    ghost invariant = { λ c. IsTree c.root c.count c.limit × IsEarly c.earliest (pairs c.root) };
+    ghost invariant = { λ c. IsTree c.root c.count c.limit };
 }
 
 fn serial_of(serials: &[u64; SERIALS], place: u8) -> u64
@@ -115,23 +109,11 @@ fn count_expired(root: &Branch, now: u64) -> u32
     count
 }
 
-/// A moment before which no message is expired: the first one at which one is, or the greatest number if there is none.
+/// The first moment at which a message is expired, or the greatest number if there is none.
 fn earliest_of(root: &Branch) -> u64
-    ensures exact { result ≡ earliest (2 ^ 64 - 1) root.now }
-    ensures early { IsEarly result (pairs root.now) }
+    ensures { result ≡ first_end (2 ^ 64 - 1) (pairs root.now) }
 {
     root.earliest(u64::MAX)
-}
-
-/// A moment before which no message is expired after the operation, if that is so of the bound before it.
-fn bound_after(bound: u64, operation: &Operation) -> u64
-    ensures { (held : List (List ℕ × MessageValue)) → IsEarly bound held → IsEarly result (after held operation.now) }
-{
-    match operation {
-        Operation::Set(_, message) => lowered(bound, message),
-        Operation::Clear(_) => bound,
-        Operation::Sweep(_) => bound,
-    }
 }
 
 /// Removes the messages that are expired and returns how many topics hold a message then.
@@ -256,7 +238,6 @@ impl Catalogue for TreeCatalogue {
             limit,
             root: Branch::new(alloc),
             count: 0,
-            earliest: u64::MAX,
             serials: [0; SERIALS],
             version: 0,
         })
@@ -279,10 +260,8 @@ impl Catalogue for TreeCatalogue {
     fn apply(&mut self, entry: Entry) -> Result<(), AllocError> {
         let _limit = self.limit.get();
         let origin = entry.origin;
-        let earliest = bound_after(self.earliest, &entry.operation);
         let count = change(&mut self.root, self.alloc, self.count, entry.operation)?;
         self.count = count;
-        self.earliest = earliest;
         self.serials[origin.place() as usize] = origin.serial();
         self.version += 1;
         Ok(())
@@ -322,16 +301,8 @@ impl Catalogue for TreeCatalogue {
         count_expired(&self.root, now)
     }
 
-    fn has_expired(&mut self, now: u64) -> bool {
-        if now < self.earliest {
-            return false;
-        }
-        let _limit = self.limit.get();
-        if count_expired(&self.root, now) > 0 {
-            return true;
-        }
-        self.earliest = earliest_of(&self.root);
-        false
+    fn earliest(&self) -> u64 {
+        earliest_of(&self.root)
     }
 
     fn copy(&self) -> Result<TreeCatalogue, AllocError> {
@@ -340,7 +311,6 @@ impl Catalogue for TreeCatalogue {
             limit: self.limit,
             root: self.root.copy(self.alloc)?,
             count: self.count,
-            earliest: self.earliest,
             serials: self.serials,
             version: self.version,
         })

@@ -18,6 +18,7 @@ use Rattle.left_right.specs.contracts.reader.Reader as Reader
 use Rattle.rs_message.proofs.entry.Entry.TheSendSync as entry
 use Rattle.rs_message.specs.contracts.entry.Entry as Entry
 use Rattle.rs_store.proofs.Sent.{tree_send, tree_sync}
+use Rattle.rs_store.proofs.calm.Calm.TheSendSync as calm
 use Rattle.rs_store.proofs.limit.TopicLimit.TheSendSync as limit
 use Rattle.rs_store.specs.contracts.content.Content as Content
 use Rattle.rs_version.proofs.catalogue_copy.Step.TheSendSync as step
@@ -85,11 +86,8 @@ module _ (N : RattleType) (g : StoreName.Ghosts N.Denot) where
               (
                 list.the_send N g,
                 (
-                  tree_send,
-                  (
-                    option.the_field_send Entry.the_row entry.the_send,
-                    (option.the_field_send Entry.the_row entry.the_send, tt),
-                  ),
+                  calm.the_send,
+                  (option.the_field_send Entry.the_row entry.the_send, tt),
                 ),
               ),
             ),
@@ -113,7 +111,7 @@ pub blank_send : IsSend Blank.the_row
 blank_send = view_send InBlank.the_row _ _ _ _
     (recorded_send InBlank.the_field.row _ _ InBlank.the_type.to_one (struct_send (shape InBlank.the_type) (
       heap.the_field_send,
-      (history.the_field_send, (limit.the_send, (u8_send, (tree_send, (tree_send, (tree_send, tt)))))),
+      (history.the_field_send, (limit.the_send, (u8_send, (tree_send, (tree_send, tt))))),
     )))
 
 all_rows : (Ts : List RattleType) → AllSend Ts → AllSend (rows (parts Ts))

@@ -1,16 +1,17 @@
 -- What the writer's invariant says, and that each step of the writer keeps it.
-use Rattle.std.proofs.Common.{◌≡◌, ℕ, ◌+◌, ◌<◌, ◌≤◌, List, [], ◌∷◌, ◌++◌, length, fold, ◌⊎◌, Option, Some, None, inl, inr, ⊎_elim, subst, refl, sym, ◌∙◌, ap, arith, length-append}
+use Rattle.std.proofs.Common.{◌≡◌, ℕ, ◌<◌, ◌≤◌, List, [], ◌∷◌, ◌++◌, length, fold, ◌⊎◌, Option, Some, None, inl, inr, ⊎_elim, subst, refl, sym, ◌∙◌, ap, arith, length-append}
 use Rattle.std.proofs.lemmas.List.{append-nil}
 use Rattle.logbook.specs.Pages.{Book}
 use Rattle.rs_message.specs.declared.entry.Entry.{Entry}
 use Rattle.rs_message.specs.declared.entry.TheConstants.{MAX_PLACES}
 use Rattle.rs_store.specs.declared.content.Content.{Content}
-use Rattle.rs_store.specs.Contents.{Accepts}
+use Rattle.rs_store.specs.Contents.{Accepts, followed}
+use Rattle.rs_store.specs.Expiring.{NoneExpiredBefore}
 use Rattle.rs_store.specs.Adding.{Adds}
-use Rattle.rs_store.specs.History.{IsLegal, NeedsSweepAfter, Stands, cleaned, extended}
+use Rattle.rs_store.specs.History.{IsLegal, cleaned, extended}
 use Rattle.rs_store.proofs.Histories.{legal_front}
-use Rattle.rs_store.proofs.Standing.{accepts, legal_more, stands_more}
-use Rattle.rs_version.specs.Catalogues.{KeptCatalogue, content_of}
+use Rattle.rs_store.proofs.Standing.{accepts}
+use Rattle.rs_version.specs.Catalogues.{content_of}
 use Rattle.rs_version.specs.declared.catalogue_copy.CatalogueCopy.{CatalogueCopy}
 use Rattle.rs_version.specs.declared.catalogue_copy.Step.{Step}
 use Rattle.rs_version.specs.declared.copies.Copies.{Copies}
@@ -19,141 +20,97 @@ use Rattle.rs_version.specs.declared.fault.PutFault.TheVariants.{Full, Stale, No
 use Rattle.rs_version.specs.Copies.{listed, shown, steps_of}
 use Rattle.rs_version.specs.Receipts.{StandsAt}
 use Rattle.rs_version.specs.VersionRule.{Follows, IsSound, applied, state}
-use Rattle.rs_version.specs.Writer.{CatchesUp, Declines, IsReady, IsSweptInPart, IsWriting, Precedes, Refuses, StepsFor, Written, holds_back, kept_of, settled, shows}
+use Rattle.rs_version.specs.Writer.{Declines, IsReady, IsWriting, Precedes, Refuses, StepsFor, Written, holds_back, kept_content, kept_of, settled, shows}
 use Rattle.rs_version.proofs.VersionRule.{settled as goes_on}
 
--- the writer's own catalogue stands for the published list
-pub own_stands : (history : Book) (limit : ℕ) (copies : Copies) (list : List Entry) (own : KeptCatalogue) (held : Option Entry) → IsWriting history limit copies list own held → held ≡ None → Stands (content_of own) (shown copies).prefix.log
-own_stands history limit copies list own held w none =
-    let whole : list ≡ (shown copies).prefix.log = w.list_is ∙ (ap (λ h. (shown copies).prefix.log ++ listed h) none ∙ append-nil (shown copies).prefix.log) in
-    ⊎_elim (λ s. subst (Stands (content_of own)) whole s) (λ s. s) w.own_is
+-- if nothing is held, the kept list is the published one
+nothing_held : (history : Book) (limit : ℕ) (copies : Copies) (list : List Entry) (calm : ℕ) (held : Option Entry) → IsWriting history limit copies list calm held → held ≡ None → list ≡ (shown copies).prefix.log
+nothing_held history limit copies list calm held w none = w.list_is ∙ (ap (λ h. (shown copies).prefix.log ++ listed h) none ∙ append-nil (shown copies).prefix.log)
 
--- two contents of one list accept the same entries
-pub accepts_alike : (c d : Content) (log : List Entry) (e : Entry) → Stands c log → Stands d log → d.limit ≡ c.limit → Accepts c e → Accepts d e
-accepts_alike c d log e s t same a =
-    let P : ℕ → Type 0 = λ n. IsLegal n (extended log e) in
-    accepts d log e t (omega (arith, a.0)) (subst P (sym same) (legal_more c log e s a))
+-- and the calm moment is that of the published copy
+pub calm_of : (history : Book) (limit : ℕ) (copies : Copies) (list : List Entry) (calm : ℕ) (held : Option Entry) → IsWriting history limit copies list calm held → held ≡ None → NoneExpiredBefore calm (content_of (shown copies).catalogue)
+calm_of history limit copies list calm held w none =
+    let P : Option Entry → Type 0 = λ h. NoneExpiredBefore calm (kept_content (content_of (shown copies).catalogue) h) in
+    subst P none w.calm_is
 
--- if the writer's own catalogue is behind, it accepts the held entry
-pub own_accepts : (history : Book) (limit : ℕ) (copies : Copies) (list : List Entry) (own : KeptCatalogue) (held : Option Entry) (e : Entry) (number : ℕ) → IsWriting history limit copies list own held → held ≡ Some e → number ≡ length list → (content_of own).version < number → Accepts (content_of own) e
-own_accepts history limit copies list own held e number writing is n less =
-    let W : Option Entry → Type 0 = λ h. IsWriting history limit copies list own h in
-    let w : IsWriting history limit copies list own (Some e) = subst W is writing in
-    let x = shown copies in
-    let next = w.steps in
-    let P : Entry → Type 0 = λ z. Accepts (content_of x.catalogue) z in
-    let a : Accepts (content_of x.catalogue) e = subst P next.2 next.3.1 in
-    ⊎_elim
-    (λ s. absurd (omega (arith, s.version, n, less)))
-    (λ s. accepts_alike (content_of x.catalogue) (content_of own) x.prefix.log e w.sound s (w.own_limit ∙ sym w.limit_is) a)
-    w.own_is
+-- so it may be another one of that copy
+pub judged_writing : (history : Book) (limit : ℕ) (copies : Copies) (list : List Entry) (calm calm' : ℕ) (held : Option Entry) → IsWriting history limit copies list calm held → held ≡ None → NoneExpiredBefore calm' (content_of (shown copies).catalogue)
+    → IsWriting history limit copies list calm' held
+judged_writing history limit copies list calm calm' held w none now =
+    let P : Option Entry → Type 0 = λ h. NoneExpiredBefore calm' (kept_content (content_of (shown copies).catalogue) h) in
+    record {
+      history_is = w.history_is;
+      limit_is = w.limit_is;
+      sound = w.sound;
+      list_is = w.list_is;
+      calm_is = subst P (sym none) now;
+      steps = w.steps;
+    }
 
--- caught up, it stands for the kept list
-pub own_after : (history : Book) (limit : ℕ) (copies : Copies) (list : List Entry) (own own' : KeptCatalogue) (held : Option Entry) (e : Entry) (number : ℕ) → IsWriting history limit copies list own held → held ≡ Some e → number ≡ length list → CatchesUp (content_of own) number e (content_of own')
-    → Stands (content_of own') list × ((content_of own').limit ≡ limit)
-own_after history limit copies list own own' held e number writing is n caught =
-    let W : Option Entry → Type 0 = λ h. IsWriting history limit copies list own h in
-    let w : IsWriting history limit copies list own (Some e) = subst W is writing in
-    let log = (shown copies).prefix.log in
-    let next = w.steps in
-    let whole : list ≡ extended log e = w.list_is in
-    let more : length list ≡ length log + 1 = ap length whole ∙ length-append log (e ∷ []) in
-    let C : Content → Type 0 = λ c. Stands c list in
-    let Q : Entry → Type 0 = λ z. z.origin.place ≤ MAX_PLACES in
-    ⊎_elim
-    (λ t. (
-      ⊎_elim (λ s. subst C (sym t.1) s) (λ s. absurd (omega (arith, s.version, n, more, t.0))) w.own_is,
-      ap (λ c. c.limit) t.1 ∙ w.own_limit,
-    ))
-    (λ t. (
-      ⊎_elim
-          (λ s. absurd (omega (arith, s.version, n, t.0)))
-          (λ s. subst C (sym t.1) (rw whole (stands_more (content_of own) log e s (subst Q next.2 next.3.0) (own_accepts history limit copies list own held e number writing is n t.0))))
-          w.own_is,
-      ap (λ c. c.limit) t.1 ∙ w.own_limit,
-    ))
-    caught
-
--- if the publish is refused, only the writer's own catalogue goes on
-pub still_writing : (history : Book) (limit : ℕ) (copies copies' : Copies) (list : List Entry) (own own' : KeptCatalogue) (held : Option Entry) → IsWriting history limit copies list own held → Stands (content_of own') list × ((content_of own').limit ≡ limit) → shown copies' ≡ shown copies → steps_of copies' ≡ steps_of copies
-    → IsWriting history limit copies' list own' held
-still_writing history limit copies copies' list own own' held w now same steps =
+-- if the publish is refused, all is as before
+pub still_writing : (history : Book) (limit : ℕ) (copies copies' : Copies) (list : List Entry) (calm : ℕ) (held : Option Entry) → IsWriting history limit copies list calm held → shown copies' ≡ shown copies → steps_of copies' ≡ steps_of copies
+    → IsWriting history limit copies' list calm held
+still_writing history limit copies copies' list calm held w same steps =
+    let C : CatalogueCopy → Type 0 = λ x. NoneExpiredBefore calm (kept_content (content_of x.catalogue) held) in
     let P : CatalogueCopy → Type 0 = λ x. StepsFor x held (steps_of copies) in
     let Q : List Step → Type 0 = λ ss. StepsFor (shown copies') held ss in
     record {
       history_is = ap (λ x. x.prefix.history) same ∙ w.history_is;
       limit_is = ap (λ x. (content_of x.catalogue).limit) same ∙ w.limit_is;
-      own_limit = now.1;
       sound = subst IsSound (sym same) w.sound;
       list_is = w.list_is ∙ ap (λ x. x.prefix.log ++ listed held) (sym same);
-      own_is = inl now.0;
+      calm_is = subst C (sym same) w.calm_is;
       steps = subst Q (sym steps) (subst P (sym same) w.steps);
     }
 
 -- if it is done, nothing is held
-pub all_published : (history : Book) (limit : ℕ) (copies copies' : Copies) (list : List Entry) (own own' : KeptCatalogue) (held : Option Entry) (e : Entry) → IsWriting history limit copies list own held → held ≡ Some e → Stands (content_of own') list × ((content_of own').limit ≡ limit)
-    → state (shown copies') ≡ fold applied (state (shown copies)) (steps_of copies) → steps_of copies' ≡ [] → IsWriting history limit copies' list own' None
-all_published history limit copies copies' list own own' held e writing is now goes none =
-    let W : Option Entry → Type 0 = λ h. IsWriting history limit copies list own h in
-    let w : IsWriting history limit copies list own (Some e) = subst W is writing in
+pub all_published : (history : Book) (limit : ℕ) (copies copies' : Copies) (list : List Entry) (calm : ℕ) (held : Option Entry) (e : Entry) → IsWriting history limit copies list calm held → held ≡ Some e
+    → state (shown copies') ≡ fold applied (state (shown copies)) (steps_of copies) → steps_of copies' ≡ [] → IsWriting history limit copies' list calm None
+all_published history limit copies copies' list calm held e writing is goes none =
+    let W : Option Entry → Type 0 = λ h. IsWriting history limit copies list calm h in
+    let w : IsWriting history limit copies list calm (Some e) = subst W is writing in
     let x = shown copies in
     let y = shown copies' in
     let next = w.steps in
     let one : length (steps_of copies) ≤ 1 = rw next.1 (omega arith) in
     let follows : (s : Step) → steps_of copies ≡ s ∷ [] → Follows x s = λ s at. let same : next.0 ≡ s = cc (next.1, at) in subst (Follows x) same next.3 in
     let g = goes_on x y (steps_of copies) one follows goes w.sound in
-    let last : y.prefix ≡ next.0.after = ap (λ p. p.1) (goes ∙ ap (λ ss. fold applied (state x) ss) next.1) in
+    let turn = goes ∙ ap (λ ss. fold applied (state x) ss) next.1 in
+    let last : y.prefix ≡ next.0.after = ap (λ p. p.1) turn in
     let log : y.prefix.log ≡ list = ap (λ z. z.log) last ∙ (next.3.3 ∙ (ap (λ z. extended x.prefix.log z) next.2 ∙ sym w.list_is)) in
+    let content : content_of y.catalogue ≡ followed (content_of x.catalogue) e = ap (λ p. p.0) turn ∙ ap (λ z. followed (content_of x.catalogue) z) next.2 in
     record {
       history_is = g.1.0 ∙ w.history_is;
       limit_is = g.1.1 ∙ w.limit_is;
-      own_limit = now.1;
       sound = g.0;
       list_is = sym log ∙ sym (append-nil y.prefix.log);
-      own_is = inl now.0;
+      calm_is = subst (NoneExpiredBefore calm) (sym content) w.calm_is;
       steps = none;
     }
 
 -- an entry that was appended is held
-pub appended : (history : Book) (limit : ℕ) (copies copies' : Copies) (list list' : List Entry) (own : KeptCatalogue) (held : Option Entry) (e : Entry) (step : Step) → IsWriting history limit copies list own held → held ≡ None
+pub appended : (history : Book) (limit : ℕ) (copies copies' : Copies) (list list' : List Entry) (calm calm' : ℕ) (held : Option Entry) (e : Entry) (step : Step) → IsWriting history limit copies list calm held → held ≡ None
     → IsLegal limit (extended (shown copies).prefix.log e) → e.origin.place ≤ MAX_PLACES → 0 < e.origin.serial
     → shown copies' ≡ shown copies → steps_of copies' ≡ step ∷ [] → step.entry ≡ e → step.after.history ≡ history → step.after.log ≡ list' → list' ≡ extended list e
-    → IsWriting history limit copies' list' own (Some e)
-appended history limit copies copies' list list' own held e step w none legal small some same steps entry book log more =
+    → ((c : Content) → NoneExpiredBefore calm c → NoneExpiredBefore calm' (followed c e))
+    → IsWriting history limit copies' list' calm' (Some e)
+appended history limit copies copies' list list' calm calm' held e step w none legal small some same steps entry book log more after =
     let x = shown copies in
-    let whole : list ≡ x.prefix.log = w.list_is ∙ (ap (λ h. x.prefix.log ++ listed h) none ∙ append-nil x.prefix.log) in
-    let list_is : list' ≡ extended x.prefix.log e = more ∙ ap (λ l. extended l e) whole in
-    let own_is : Stands (content_of own) x.prefix.log = own_stands history limit copies list own held w none in
+    let list_is : list' ≡ extended x.prefix.log e = more ∙ ap (λ l. extended l e) (nothing_held history limit copies list calm held w none) in
     let L : ℕ → Type 0 = λ n. IsLegal n (extended x.prefix.log e) in
     let a : Accepts (content_of x.catalogue) e = accepts (content_of x.catalogue) x.prefix.log e w.sound some (subst L (sym w.limit_is) legal) in
     let A : Entry → Type 0 = λ z. (z.origin.place ≤ MAX_PLACES) × Accepts (content_of x.catalogue) z in
     let fits : (step.entry.origin.place ≤ MAX_PLACES) × Accepts (content_of x.catalogue) step.entry = subst A (sym entry) (small, a) in
     let follows : Follows x step = (fits.0, fits.1, book ∙ sym w.history_is, log ∙ (list_is ∙ ap (λ z. extended x.prefix.log z) (sym entry))) in
     let F : CatalogueCopy → Type 0 = λ z. Follows z step in
-    let S : List Entry → Type 0 = λ l. Stands (content_of own) l in
+    let C : CatalogueCopy → Type 0 = λ z. NoneExpiredBefore calm' (followed (content_of z.catalogue) e) in
     record {
       history_is = ap (λ z. z.prefix.history) same ∙ w.history_is;
       limit_is = ap (λ z. (content_of z.catalogue).limit) same ∙ w.limit_is;
-      own_limit = w.own_limit;
       sound = subst IsSound (sym same) w.sound;
       list_is = list_is ∙ ap (λ z. extended z.prefix.log e) (sym same);
-      own_is = inr (subst S (ap (λ z. z.prefix.log) (sym same)) own_is);
+      calm_is = subst C (sym same) (after (content_of x.catalogue) (calm_of history limit copies list calm held w none));
       steps = (step, steps, entry, subst F (sym same) follows);
-    }
-
--- an equal content in place of the writer's own
-pub judged_writing : (history : Book) (limit : ℕ) (copies : Copies) (list : List Entry) (own own' : KeptCatalogue) (held : Option Entry) → IsWriting history limit copies list own held → content_of own' ≡ content_of own
-    → IsWriting history limit copies list own' held
-judged_writing history limit copies list own own' held w same =
-    let P : List Entry → Content → Type 0 = λ l c. Stands c l in
-    record {
-      history_is = w.history_is;
-      limit_is = w.limit_is;
-      own_limit = ap (λ (c : Content). c.limit) same ∙ w.own_limit;
-      sound = w.sound;
-      list_is = w.list_is;
-      own_is = ⊎_elim (λ s. inl (subst (P list) (sym same) s)) (λ s. inr (subst (P (shown copies).prefix.log) (sym same) s)) w.own_is;
-      steps = w.steps;
     }
 
 -- ---- what `put` makes of what is kept

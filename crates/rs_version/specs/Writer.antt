@@ -1,18 +1,19 @@
 -- What the writer has published and what it holds.
-use Rattle.std.specs.Prelude.{ℕ, ◌≡◌, ◌≢◌, ◌+◌, ◌<◌, ◌≤◌, ◌++◌, ◌∷◌, ◌⊎◌, [], List, Option, Some, None}
+use Rattle.std.specs.Prelude.{ℕ, ◌≡◌, ◌≢◌, ◌++◌, ◌∷◌, ◌⊎◌, [], List, Option, Some, None}
 use Rattle.logbook.specs.Pages.{Book}
 use Rattle.rs_message.specs.declared.entry.Entry.{Entry}
 use Rattle.rs_store.specs.declared.content.Content.{Content}
 use Rattle.rs_store.specs.declared.fault.Refusal.{Refusal}
 use Rattle.rs_store.specs.declared.fault.Refusal.TheVariants as refusal
 use Rattle.rs_store.specs.Contents.{followed}
-use Rattle.rs_store.specs.History.{IsLegal, MayNotCome, NeedsSweepAfter, Stands, cleaned, extended, sweep_after}
+use Rattle.rs_store.specs.Expiring.{NoneExpiredBefore}
+use Rattle.rs_store.specs.History.{IsLegal, MayNotCome, NeedsSweepAfter, cleaned, extended, sweep_after}
 use Rattle.rs_version.specs.declared.catalogue_copy.CatalogueCopy.{CatalogueCopy}
 use Rattle.rs_version.specs.declared.catalogue_copy.Step.{Step}
 use Rattle.rs_version.specs.declared.copies.Copies.{Copies}
 use Rattle.rs_version.specs.declared.fault.PutFault.{PutFault}
 use Rattle.rs_version.specs.declared.fault.PutFault.TheVariants as fault
-use Rattle.rs_version.specs.Catalogues.{KeptCatalogue, content_of}
+use Rattle.rs_version.specs.Catalogues.{content_of}
 use Rattle.rs_version.specs.VersionRule.{IsSound, Follows}
 use Rattle.rs_version.specs.Copies.{listed, shown, steps_of}
 
@@ -33,14 +34,18 @@ abbrev pub StepsFor : CatalogueCopy → Option Entry → List Step → Type 0
 StepsFor x None ss = ss ≡ []
 StepsFor x (Some e) ss = (s : Step) × (ss ≡ s ∷ []) × (s.entry ≡ e) × Follows x s
 
--- what holds of a writer's parts: the two copies, the kept list, its own catalogue and the held entry
-pub record IsWriting (history : Book) (limit : ℕ) (copies : Copies) (list : List Entry) (own : KeptCatalogue) (held : Option Entry) : Type 0 where
+-- the content after the kept list, by that after the published list
+abbrev pub kept_content : Content → Option Entry → Content
+kept_content c None = c
+kept_content c (Some e) = followed c e
+
+-- what holds of a writer's parts: the two copies, the kept list, the calm moment and the held entry
+pub record IsWriting (history : Book) (limit : ℕ) (copies : Copies) (list : List Entry) (calm : ℕ) (held : Option Entry) : Type 0 where
   pub history_is : (shown copies).prefix.history ≡ history
   pub limit_is : (content_of (shown copies).catalogue).limit ≡ limit
-  pub own_limit : (content_of own).limit ≡ limit
   pub sound : IsSound (shown copies)
   pub list_is : list ≡ (shown copies).prefix.log ++ listed held
-  pub own_is : Stands (content_of own) list ⊎ Stands (content_of own) (shown copies).prefix.log
+  pub calm_is : NoneExpiredBefore calm (kept_content (content_of (shown copies).catalogue) held)
   pub steps : StepsFor (shown copies) held (steps_of copies)
 
 -- the list published, and nothing held
@@ -83,12 +88,3 @@ Refuses limit w e fault.Stale w' = IsDeclined limit w e refusal.Stale w'
 Refuses limit w e fault.Full w' = IsDeclined limit w e refusal.Full w'
 Refuses limit w e fault.NoMemory w' = (IsLegal limit (extended (kept_of w) e) × (w' ≡ settled w)) ⊎ ((s : NeedsSweepAfter limit (kept_of w) e) × IsSweptInPart s.message.received w w') ⊎ ((w.held ≢ None) × (w' ≡ w))
 Refuses limit w e fault.Held w' = (IsLegal limit (extended (kept_of w) e) × (w' ≡ holds_back (kept_of w) e)) ⊎ ((s : NeedsSweepAfter limit (kept_of w) e) × (w' ≡ holds_back (cleaned s.message.received (kept_of w)) e))
-
--- a copy of the held entry, if there is one
-abbrev pub IsSpare : Option Entry → Option Entry → Type 0
-IsSpare held None = Unit {0}
-IsSpare held (Some e) = held ≡ Some e
-
--- the content was made one entry longer, if it was of fewer than `number` entries
-abbrev pub CatchesUp : Content → ℕ → Entry → Content → Type 0
-CatchesUp c number e c' = ((number ≤ c.version) × (c' ≡ c)) ⊎ ((c.version < number) × (c' ≡ followed c e))

@@ -28,7 +28,6 @@ pub struct Blank {
     new_history: NewHistory,
     limit: TopicLimit,
     places: u8,
-    own: Kept,
     first: Kept,
     second: Kept,
 }
@@ -43,7 +42,7 @@ impl Model for Blank {
 
     ghost view = { λ b. record { history = b.new_history.prefix.history; limit = b.limit; places = b.places } };
 
-    ghost invariant = { λ b. (0 < b.places) × (content_of b.own ≡ empty b.limit) × (content_of b.first ≡ empty b.limit) × (content_of b.second ≡ empty b.limit) };
+    ghost invariant = { λ b. (0 < b.places) × (content_of b.first ≡ empty b.limit) × (content_of b.second ≡ empty b.limit) };
 }
 
 /// What writes the two copies. It knows nothing of them yet.
@@ -114,15 +113,13 @@ impl Blank {
         requires { (0 < places) × (places ≤ MAX_PLACES) }
         ensures { IfOk result (λ b. (b.limit ≡ limit) × (b.places ≡ places)) }
     {
-        let own = Kept::new(alloc, limit)?;
-        let first = own.copy()?;
-        let second = own.copy()?;
+        let first = Kept::new(alloc, limit)?;
+        let second = first.copy()?;
         Ok(Blank {
             alloc,
             new_history: NewHistory::new(),
             limit,
             places,
-            own,
             first,
             second,
         })
@@ -149,7 +146,6 @@ impl Blank {
             new_history,
             limit: _,
             places,
-            own,
             first,
             second,
         } = self;
@@ -167,7 +163,7 @@ impl Blank {
         let list: KnownList<N> = KnownList::of(prefix);
         match seats(alloc, &mut writer, &list, places) {
             Ok(seats) => Ok((
-                VersionWriter::over(rt, writer, HistoryWord::of(word), list, own),
+                VersionWriter::over(rt, writer, HistoryWord::of(word), list),
                 seats,
             )),
             Err(_) => {

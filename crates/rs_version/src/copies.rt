@@ -6,6 +6,7 @@ ghost use Rattle.rs_version.specs.VersionRule.{Follows, known, applied, state};
 ghost use Rattle.rs_version.specs.Copies.{listed, shown, steps_of};
 
 use crate::catalogue_copy::{CatalogueCopy, Step};
+use crate::kept::Kept;
 use crate::prefix::Prefix;
 use crate::rule::{KnownVersion, Notes, Sees, VersionRule};
 use core::mem::replace_with;
@@ -108,6 +109,13 @@ impl Copies {
     {
         self.bring()?;
         publish_in(rt, &mut self.writer)
+    }
+
+    /// The catalogue of the published copy.
+    pub fn catalogue(&self) -> &Kept
+        ensures { result.now ≡ (shown self.now).catalogue }
+    {
+        &self.writer.published().catalogue
     }
 
     /// The prefix of the published copy.

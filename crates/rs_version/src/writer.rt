@@ -1,15 +1,16 @@
 //! The one writer of a store.
 
-ghost use Rattle.std.specs.Prelude.{◌≡◌, ◌≢◌, ◌⊎◌, ◌<◌, false, List, [], length, drop, Some, None, MatchOption, MatchResult, IfOk, IfErr, IfNone, IfSome, OnErr, OnOk, OnSome};
+ghost use Rattle.std.specs.Prelude.{◌≡◌, ◌≢◌, ◌⊎◌, false, List, [], length, drop, Some, None, MatchOption, MatchResult, IfOk, IfErr, IfNone, IfSome, OnErr, OnOk, OnSome};
 ghost use Rattle.std.specs.Option.{option_map};
 ghost use Rattle.rs_message.specs.Messages.{is_sweep};
 ghost use Rattle.rs_store.specs.Adding.{Adds};
-ghost use Rattle.rs_store.specs.Contents.{Accepts, empty};
+ghost use Rattle.rs_store.specs.Contents.{empty};
+ghost use Rattle.rs_store.specs.Expiring.{NoneExpiredBefore};
 ghost use Rattle.rs_message.specs.declared.entry.Entry.{Entry};
 ghost use Rattle.rs_store.specs.History.{IsLegal, Stands, extended};
 ghost use Rattle.rs_version.specs.Catalogues.{content_of};
 ghost use Rattle.rs_version.specs.Receipts.{StandsAt};
-ghost use Rattle.rs_version.specs.Writer.{Written, CatchesUp, Declines, IsReady, IsSpare, Precedes, Refuses, holds_back, kept_of, settled, shows};
+ghost use Rattle.rs_version.specs.Writer.{Written, Declines, IsReady, Precedes, Refuses, holds_back, kept_of, settled, shows};
 
 use crate::catalogue_copy::Step;
 use crate::copies::{Copies, CopyWriter};
@@ -19,7 +20,7 @@ use crate::kept::Kept;
 use crate::known::{HistoryWord, KnownList};
 use crate::receipt::{Receipt, Told};
 use rs_message::{Entry, Origin};
-use rs_store::{Catalogue, Refusal, judge};
+use rs_store::{Calm, Refusal, judge};
 use std::alloc::AllocError;
 use std::marker::Model;
 use std::sync::Wait;
@@ -35,62 +36,31 @@ pub struct VersionWriter<N: StoreName, R: Wait + Drop> {
     history_word: HistoryWord<N>,
     // The kept list.
     list: KnownList<N>,
-    // A third catalogue, on which entries are judged, so that no copy that seats read is touched by that.
-    own: Kept,
+    // Of the catalogue that the kept list makes. Entries are judged by it, on the published copy.
+    calm: Calm,
     held: Option<Entry>,
-    // A copy of the held entry for `own`, until `own` takes it.
-    spare: Option<Entry>,
 }
 
 impl<N: StoreName, R: Wait + Drop> Model for VersionWriter<N, R> {
-    ghost use Rattle.rs_version.specs.Writer.{Written, IsSpare, IsWriting};
+    ghost use Rattle.rs_version.specs.Writer.{Written, IsWriting};
     ghost use Rattle.rs_version.specs.Copies.{shown};
 
     ghost Value = { Written };
 
     ghost view = { λ w. record { published = (shown w.copies).prefix.log; held = w.held } };
 
-    ghost invariant = { λ w. IsWriting N.history N.limit w.copies w.list w.own w.held × IsSpare w.held w.spare };
-}
-
-/// The spare copy of the entry, or a new one.
-fn copy_of(entry: &Entry, spare: Option<Entry>) -> Result<Entry, AllocError>
-    requires { IsSpare (Some entry.now) spare }
-    ensures { IfOk result (λ copy. copy ≡ entry.now) }
-{
-    match spare {
-        Some(copy) => Ok(copy),
-        None => entry.copy(),
-    }
-}
-
-/// Applies the entry, if the catalogue has fewer than `number`.
-fn catch_up(
-    own: &mut Kept,
-    number: u64,
-    entry: &Entry,
-    spare: Option<Entry>,
-) -> Result<(), AllocError>
-    requires accepts { (content_of own.old).version < number → Accepts (content_of own.old) entry.now }
-    requires spare { IsSpare (Some entry.now) spare }
-    ensures { MatchResult result
-        (λ _. CatchesUp (content_of own.old) number entry.now (content_of own.new))
-        (λ _. content_of own.new ≡ content_of own.old) }
-{
-    if own.version() < number {
-        own.apply(copy_of(entry, spare)?)?;
-    }
-    Ok(())
+    ghost invariant = { λ w. IsWriting N.history N.limit w.copies w.list w.calm w.held };
 }
 
 /// Whether the entry may come next, or after which Sweep.
-fn judge_on(own: &mut Kept, entry: &Entry) -> Result<Option<Entry>, PutFault>
-    ensures same { content_of own.new ≡ content_of own.old }
-    ensures stands { (history : List Entry) → Stands (content_of own.old) history → MatchResult result
-        (λ before. MatchOption before (IsLegal (content_of own.old).limit (extended history entry.now)) (λ sweep. Precedes (content_of own.old).limit history entry.now sweep))
-        (λ f. Declines (content_of own.old).limit history entry.now f) }
+fn judge_on(catalogue: &Kept, calm: &mut Calm, entry: &Entry) -> Result<Option<Entry>, PutFault>
+    requires { NoneExpiredBefore calm.old (content_of catalogue.now) }
+    ensures stands { (history : List Entry) → Stands (content_of catalogue.now) history → MatchResult result
+        (λ before. MatchOption before (IsLegal (content_of catalogue.now).limit (extended history entry.now)) (λ sweep. Precedes (content_of catalogue.now).limit history entry.now sweep))
+        (λ f. Declines (content_of catalogue.now).limit history entry.now f) }
+    ensures calm { NoneExpiredBefore calm.new (content_of catalogue.now) }
 {
-    match judge(own, entry) {
+    match judge(catalogue, calm, entry) {
         Ok(before) => Ok(before),
         Err(Refusal::Stale) => Err(PutFault::Stale),
         Err(Refusal::Full) => Err(PutFault::Full),
@@ -105,9 +75,8 @@ impl<N: StoreName, R: Wait + Drop> Drop for VersionWriter<N, R> {
             copies,
             history_word: _word,
             list: _list,
-            own: _own,
+            calm: _calm,
             held: _held,
-            spare: _spare,
         } = self;
         copies.end(&rt);
     }
@@ -120,11 +89,10 @@ impl<N: StoreName, R: Wait + Drop> VersionWriter<N, R> {
         writer: CopyWriter,
         history_word: HistoryWord<N>,
         list: KnownList<N>,
-        own: Kept,
     ) -> VersionWriter<N, R>
         requires steps { drop writer.behind writer.log.items ≡ [] }
         requires history { (writer.desk.shown.value.prefix.history ≡ N.history) × (list ≡ []) × (writer.desk.shown.value.prefix.log ≡ []) }
-        requires content { (content_of writer.desk.shown.value.catalogue ≡ empty N.limit) × (content_of own ≡ empty N.limit) }
+        requires content { content_of writer.desk.shown.value.catalogue ≡ empty N.limit }
         ensures { result ≡ record { published = []; held = None } }
     {
         VersionWriter {
@@ -135,9 +103,8 @@ impl<N: StoreName, R: Wait + Drop> VersionWriter<N, R> {
             },
             history_word,
             list,
-            own,
+            calm: Calm::new(),
             held: None,
-            spare: None,
         }
     }
 
@@ -145,17 +112,14 @@ impl<N: StoreName, R: Wait + Drop> VersionWriter<N, R> {
     fn release(&mut self) -> Result<Option<Entry>, AllocError>
         ensures { MatchResult result (λ o. (o ≡ self.old.held) × (self.new ≡ settled self.old)) (λ _. (self.old.held ≢ None) × (self.new ≡ self.old)) }
     {
-        let number = self.list.version();
-        let Some(entry) = &self.held else {
+        let Some(_held) = &self.held else {
             return Ok(None);
         };
-        let spare = self.spare.take();
-        catch_up(&mut self.own, number, entry, spare)?;
         self.copies.publish(&self.rt)?;
         Ok(self.held.take())
     }
 
-    /// Whether the entry may come next, or after which Sweep.
+    /// Whether the entry may come next, or after which Sweep. Nothing is held, so the published copy has all that is kept.
     fn judge(&mut self, entry: &Entry) -> Result<Option<Entry>, PutFault>
         requires { self.old.held ≡ None }
         ensures same { self.new ≡ self.old }
@@ -163,10 +127,10 @@ impl<N: StoreName, R: Wait + Drop> VersionWriter<N, R> {
             (λ before. MatchOption before (IsLegal N.limit (extended self.old.published entry.now)) (λ sweep. Precedes N.limit self.old.published entry.now sweep))
             (λ f. Declines N.limit self.old.published entry.now f) }
     {
-        judge_on(&mut self.own, entry)
+        judge_on(self.copies.catalogue(), &mut self.calm, entry)
     }
 
-    /// Appends the entry, which is held from then on. Its copies are made first, so a refusal leaves the history as it was.
+    /// Appends the entry, which is held from then on. Its copy is made first, so a refusal leaves the history as it was.
     fn append(&mut self, entry: Entry) -> Result<(), AllocError>
         requires none { self.old.held ≡ None }
         requires legal { IsLegal N.limit (extended self.old.published entry) }
@@ -175,7 +139,7 @@ impl<N: StoreName, R: Wait + Drop> VersionWriter<N, R> {
         // For the proof: these calls say which places and serials an origin may have.
         let (_place, _serial) = (entry.origin.place(), entry.origin.serial());
         let copy = entry.copy()?;
-        let spare = entry.copy()?;
+        let calm = self.calm.after(&entry);
         let Some(list) = self.list.followed(&self.history_word, &entry) else {
             return Err(AllocError);
         };
@@ -184,7 +148,7 @@ impl<N: StoreName, R: Wait + Drop> VersionWriter<N, R> {
             after: list.prefix(),
         });
         self.list = list;
-        self.spare = Some(spare);
+        self.calm = calm;
         self.held = Some(entry);
         Ok(())
     }

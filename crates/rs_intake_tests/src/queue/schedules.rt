@@ -6,7 +6,7 @@ ghost use Rattle.rs_message.specs.Messages.{is_sweep};
 use super::{Opened, blank_store, clear, open_both, set};
 use rs_intake::{BlankQueue, Intake, LineName, SeatLine, blank_queue, run_writer};
 use rs_message::{Entry, Found, Operation, SubmitFault};
-use rs_store::{Catalogue, MapCatalogue, TopicLimit, add};
+use rs_store::{Catalogue, MapCatalogue, Store, TopicLimit};
 use rs_topic::TopicFilter;
 use rs_version::{Blank, Receipt, Seat};
 use std::alloc::Global;
@@ -152,16 +152,16 @@ fn add_text(alloc: Global, catalogue: &MapCatalogue, texts: &mut Vec<Vec<u8>>) -
 /// What a store of one thread reads after each of the entries, from none to this many, in the order of their numbers.
 fn texts<N: LineName>(alloc: Global, records: &[Record<N>], version: u64) -> Option<Vec<Vec<u8>>> {
     let limit = TopicLimit::new(TOPICS)?;
-    let mut catalogue = MapCatalogue::new(alloc, limit).ok()?;
+    let mut store: Store<MapCatalogue> = Store::new(alloc, limit).ok()?;
     let mut texts = Vec::new(alloc);
-    add_text(alloc, &catalogue, &mut texts)?;
+    add_text(alloc, store.catalogue(), &mut texts)?;
     for before in 0..version {
         let entry = entry_at(records, before + 1)?;
         if entry.operation.is_sweep() {
             return None;
         }
-        add(&mut catalogue, entry).ok()?;
-        add_text(alloc, &catalogue, &mut texts)?;
+        store.add(entry).ok()?;
+        add_text(alloc, store.catalogue(), &mut texts)?;
     }
     Some(texts)
 }

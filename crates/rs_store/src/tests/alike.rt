@@ -4,7 +4,7 @@ ghost use Rattle.std.specs.Prelude.{◌≡◌, ◌<◌, false, IfOk};
 ghost use Rattle.rs_message.specs.Messages.{is_sweep};
 
 use super::{as_many, origin, set_at};
-use crate::{Catalogue, MapCatalogue, Refusal, TopicLimit, TreeCatalogue, add};
+use crate::{Catalogue, MapCatalogue, Refusal, Store, TopicLimit, TreeCatalogue};
 use rs_message::{Entry, Operation};
 use rs_topic::{TopicFilter, TopicName};
 use std::alloc::Global;
@@ -96,14 +96,14 @@ fn operation_of(alloc: Global, name: &[u8], kind: u64) -> Result<Operation, Fail
 
 fn put<C: Catalogue>(
     alloc: Global,
-    catalogue: &mut C,
+    store: &mut Store<C>,
     serial: u64,
     name: &[u8],
     kind: u64,
 ) -> Result<Result<(), Refusal>, Fail> {
     let origin = origin(1, serial)?;
     let operation = operation_of(alloc, name, kind)?;
-    Ok(add(catalogue, Entry { origin, operation }))
+    Ok(store.add(Entry { origin, operation }))
 }
 
 /// The topics and payloads that a filter is answered at a given time.
@@ -193,8 +193,8 @@ fn are_alike<C: Catalogue, D: Catalogue>(
 fn entries<C: Catalogue, D: Catalogue>(
     rt: &impl Abort,
     alloc: Global,
-    first: &mut C,
-    second: &mut D,
+    first: &mut Store<C>,
+    second: &mut Store<D>,
 ) -> Result<(), Fail> {
     let mut draw = Draw { state: 7 };
     for serial in 1..1001 {
@@ -202,7 +202,7 @@ fn entries<C: Catalogue, D: Catalogue>(
         let kind = draw.below(6);
         let taken = put(alloc, first, serial, name.as_slice(), kind)?;
         assert!(rt; put(alloc, second, serial, name.as_slice(), kind)? == taken);
-        assert!(rt; second.count() == first.count());
+        assert!(rt; second.catalogue().count() == first.catalogue().count());
     }
     Ok(())
 }
@@ -221,10 +221,11 @@ fn copies_are_alike<C: Catalogue + Drop, D: Catalogue + Drop>(
 fn filled<C: Catalogue + Drop>(
     rt: &impl Abort,
     alloc: Global,
-    map: &mut C,
-    tree: &mut TreeCatalogue,
+    map: &mut Store<C>,
+    tree: &mut Store<TreeCatalogue>,
 ) -> Result<(), Fail> {
     entries(rt, alloc, map, tree)?;
+    let (map, tree) = (map.catalogue(), tree.catalogue());
     assert!(rt; 250 < map.count());
     assert!(rt; tree.branches() <= tree.count());
     are_alike(rt, alloc, map, tree)?;
@@ -235,8 +236,8 @@ fn filled<C: Catalogue + Drop>(
 fn both_alike(rt: HostRuntime) -> Result<(), Fail> {
     let alloc = rt.alloc();
     let limit = TopicLimit::new(300).ok_or("300 is a limit")?;
-    let mut map = MapCatalogue::new(alloc, limit)?;
-    let mut tree = TreeCatalogue::new(alloc, limit)?;
+    let mut map: Store<MapCatalogue> = Store::new(alloc, limit)?;
+    let mut tree: Store<TreeCatalogue> = Store::new(alloc, limit)?;
     filled(&rt, alloc, &mut map, &mut tree)?;
     Ok(())
 }
@@ -254,12 +255,12 @@ fn below(alloc: Global, levels: u64, last: &[u8]) -> Result<Vec<u8>, Fail> {
 /// Sets or clears one topic in both.
 fn put_both<C: Catalogue, D: Catalogue>(
     alloc: Global,
-    first: &mut C,
-    second: &mut D,
+    first: &mut Store<C>,
+    second: &mut Store<D>,
     name: &[u8],
     kind: u64,
 ) -> Result<(), Fail> {
-    let serial = first.last_serial(1).saturating_add(1);
+    let serial = first.catalogue().last_serial(1).saturating_add(1);
     put(alloc, first, serial, name, kind)??;
     put(alloc, second, serial, name, kind)??;
     Ok(())
@@ -269,8 +270,8 @@ fn put_both<C: Catalogue, D: Catalogue>(
 fn at_each_level<C: Catalogue, D: Catalogue>(
     rt: &impl Abort,
     alloc: Global,
-    first: &mut C,
-    second: &mut D,
+    first: &mut Store<C>,
+    second: &mut Store<D>,
     kind: u64,
 ) -> Result<(), Fail> {
     for i in 0..127 {
@@ -278,7 +279,7 @@ fn at_each_level<C: Catalogue, D: Catalogue>(
         let name = below(alloc, i * 37 % 127, last)?;
         put_both(alloc, first, second, name.as_slice(), kind)?;
         if i % 16 == 0 {
-            is_alike(rt, alloc, first, second, b"#")?;
+            is_alike(rt, alloc, first.catalogue(), second.catalogue(), b"#")?;
         }
     }
     Ok(())
@@ -287,8 +288,8 @@ fn at_each_level<C: Catalogue, D: Catalogue>(
 /// Sets a topic of the most levels in both.
 fn set_deepest<C: Catalogue, D: Catalogue>(
     alloc: Global,
-    first: &mut C,
-    second: &mut D,
+    first: &mut Store<C>,
+    second: &mut Store<D>,
     serial: u64,
     last: &[u8],
 ) -> Result<(), Fail> {
@@ -302,17 +303,17 @@ fn set_deepest<C: Catalogue, D: Catalogue>(
 fn shared<C: Catalogue>(
     rt: &impl Abort,
     alloc: Global,
-    map: &mut C,
-    tree: &mut TreeCatalogue,
+    map: &mut Store<C>,
+    tree: &mut Store<TreeCatalogue>,
 ) -> Result<(), Fail> {
     set_deepest(alloc, map, tree, 1, b"c")?;
     set_deepest(alloc, map, tree, 2, b"d")?;
-    assert!(rt; tree.branches() == 1);
+    assert!(rt; tree.catalogue().branches() == 1);
     at_each_level(rt, alloc, map, tree, 1)?;
-    assert!(rt; 100 < tree.branches());
+    assert!(rt; 100 < tree.catalogue().branches());
     at_each_level(rt, alloc, map, tree, 4)?;
-    assert!(rt; tree.branches() == 1);
-    assert!(rt; tree.count() == 2);
+    assert!(rt; tree.catalogue().branches() == 1);
+    assert!(rt; tree.catalogue().count() == 2);
     Ok(())
 }
 
@@ -334,18 +335,18 @@ fn shared_alike<C: Catalogue, D: Catalogue>(
 fn shared_levels(rt: HostRuntime) -> Result<(), Fail> {
     let alloc = rt.alloc();
     let limit = TopicLimit::new(300).ok_or("300 is a limit")?;
-    let mut map = MapCatalogue::new(alloc, limit)?;
-    let mut tree = TreeCatalogue::new(alloc, limit)?;
+    let mut map: Store<MapCatalogue> = Store::new(alloc, limit)?;
+    let mut tree: Store<TreeCatalogue> = Store::new(alloc, limit)?;
     shared(&rt, alloc, &mut map, &mut tree)?;
-    shared_alike(&rt, alloc, &map, &tree)?;
+    shared_alike(&rt, alloc, map.catalogue(), tree.catalogue())?;
     Ok(())
 }
 
 /// Sets or clears a topic, and then eight below it, in both.
 fn with_eight_below<C: Catalogue, D: Catalogue>(
     alloc: Global,
-    first: &mut C,
-    second: &mut D,
+    first: &mut Store<C>,
+    second: &mut Store<D>,
     name: &[u8],
     kinds: (u64, u64),
 ) -> Result<(), Fail> {
@@ -364,15 +365,15 @@ fn with_eight_below<C: Catalogue, D: Catalogue>(
 fn left_alone<C: Catalogue>(
     rt: &impl Abort,
     alloc: Global,
-    map: &mut C,
-    tree: &mut TreeCatalogue,
+    map: &mut Store<C>,
+    tree: &mut Store<TreeCatalogue>,
     name: &[u8],
 ) -> Result<(), Fail> {
     with_eight_below(alloc, map, tree, name, (1, 1))?;
-    assert!(rt; 1 < tree.branches());
+    assert!(rt; 1 < tree.catalogue().branches());
     // The topic is set again.
     with_eight_below(alloc, map, tree, name, (1, 4))?;
-    is_alike(rt, alloc, map, tree, b"#")?;
+    is_alike(rt, alloc, map.catalogue(), tree.catalogue(), b"#")?;
     Ok(())
 }
 
@@ -380,13 +381,14 @@ fn left_alone<C: Catalogue>(
 fn lone_messages(rt: HostRuntime) -> Result<(), Fail> {
     let alloc = rt.alloc();
     let limit = TopicLimit::new(300).ok_or("300 is a limit")?;
-    let mut map = MapCatalogue::new(alloc, limit)?;
-    let mut tree = TreeCatalogue::new(alloc, limit)?;
+    let mut map: Store<MapCatalogue> = Store::new(alloc, limit)?;
+    let mut tree: Store<TreeCatalogue> = Store::new(alloc, limit)?;
     let names: [&[u8]; 5] = [b"a/a", b"a/b", b"b/a", b"b/b", b"c"];
     for name in names {
         left_alone(&rt, alloc, &mut map, &mut tree, name)?;
     }
     // The root, and those of `a` and `b`, which have two children.
+    let tree = tree.catalogue();
     assert!(rt; (tree.count(), tree.branches()) == (5, 3));
     Ok(())
 }

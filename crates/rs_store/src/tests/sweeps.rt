@@ -2,7 +2,7 @@
 
 use super::alike::{Draw, is_alike, name_of};
 use super::{origin, set_at};
-use crate::{Catalogue, MapCatalogue, Refusal, TopicLimit, TreeCatalogue};
+use crate::{Catalogue, MapCatalogue, Refusal, Store, TopicLimit, TreeCatalogue};
 use rs_message::{Entry, Operation, Origin};
 use rs_topic::TopicName;
 use std::alloc::{AllocError, Global};
@@ -56,7 +56,7 @@ fn sweep<C: Catalogue>(rt: &impl Abort, catalogue: &mut C, moment: u64) -> Resul
     let (version, serial) = (version.saturating_add(1), serial.saturating_add(1));
     take_sweep(catalogue, serial, moment)??;
     assert!(rt; numbers(catalogue, moment) == (version, serial, 0, others));
-    assert!(rt; !catalogue.has_expired(moment));
+    assert!(rt; catalogue.earliest() > moment);
     Ok(())
 }
 
@@ -72,12 +72,11 @@ fn is_same<C: Catalogue, D: Catalogue>(rt: &impl Abort, first: &C, second: &D) {
     }
 }
 
-/// Both say that something is expired just if there is something.
-fn is_told<C: Catalogue, D: Catalogue>(rt: &impl Abort, first: &mut C, second: &mut D, now: u64) {
-    let wanted = first.expired(now) > 0;
-    assert!(rt; first.has_expired(now) == wanted);
-    assert!(rt; second.has_expired(now) == wanted);
-    assert!(rt; second.has_expired(now) == wanted);
+/// Both say from which moment on something is expired, and something is at a moment just if that has come.
+fn is_told<C: Catalogue, D: Catalogue>(rt: &impl Abort, first: &C, second: &D, now: u64) {
+    let earliest = first.earliest();
+    assert!(rt; second.earliest() == earliest);
+    assert!(rt; (first.expired(now) > 0) == (earliest <= now));
 }
 
 /// A Set of a message that came at a moment, for six kinds of eight, else a Clear.
@@ -142,10 +141,10 @@ fn copies_same<C: Catalogue + Drop, D: Catalogue + Drop>(
     second: &D,
     now: u64,
 ) -> Result<(), Fail> {
-    let (mut third, mut fourth) = (first.copy()?, second.copy()?);
+    let (third, fourth) = (first.copy()?, second.copy()?);
     is_same(rt, &third, &fourth);
     is_alike(rt, alloc, &third, &fourth, b"#")?;
-    is_told(rt, &mut third, &mut fourth, now);
+    is_told(rt, &third, &fourth, now);
     Ok(())
 }
 
@@ -280,16 +279,16 @@ fn set_until<C: Catalogue>(
 }
 
 /// Something is expired from the moment on, and not just before it.
-fn expires_from<C: Catalogue>(rt: &impl Abort, catalogue: &mut C, moment: u64) {
-    assert!(rt; !catalogue.has_expired(moment.saturating_sub(1)));
-    assert!(rt; catalogue.has_expired(moment));
-    assert!(rt; catalogue.has_expired(moment.saturating_add(1)));
+fn expires_from<C: Catalogue>(rt: &impl Abort, catalogue: &C, moment: u64) {
+    assert!(rt; catalogue.earliest() == moment);
+    assert!(rt; catalogue.expired(moment.saturating_sub(1)) == 0);
+    assert!(rt; catalogue.expired(moment) > 0);
 }
 
 /// No message ever expires.
-fn never_expires<C: Catalogue>(rt: &impl Abort, catalogue: &mut C) {
-    let any = catalogue.has_expired(u64::MAX);
-    assert!(rt; !any);
+fn never_expires<C: Catalogue>(rt: &impl Abort, catalogue: &C) {
+    assert!(rt; catalogue.earliest() == u64::MAX);
+    assert!(rt; catalogue.expired(u64::MAX) == 0);
 }
 
 /// Clears one topic, at another place than the one that sets.
@@ -335,7 +334,7 @@ fn told_first<C: Catalogue>(rt: &impl Abort, alloc: Global, catalogue: &mut C) -
     expires_from(rt, catalogue, 130);
     sweep_all(rt, catalogue, 130)?;
     set_until(alloc, catalogue, b"b", Some(0))?;
-    assert!(rt; catalogue.has_expired(0));
+    assert!(rt; catalogue.earliest() == 0);
     sweep_all(rt, catalogue, 0)?;
     assert!(rt; catalogue.count() == 1);
     Ok(())
@@ -370,5 +369,52 @@ fn swept_branches(rt: HostRuntime) -> Result<(), Fail> {
     assert!(rt; (tree.count(), tree.branches()) == (120, 4));
     sweep(&rt, &mut tree, 110)?;
     assert!(rt; (tree.count(), tree.branches()) == (3, 1));
+    Ok(())
+}
+
+/// A full store takes a new topic from the moment on at which one has expired, by a Sweep of its own, and not before.
+fn makes_room<C: Catalogue>(
+    rt: &impl Abort,
+    alloc: Global,
+    store: &mut Store<C>,
+) -> Result<(), Fail> {
+    let rows: [(&[u8], u64, Result<(), Refusal>, u64); 6] = [
+        (b"a", 100, Ok(()), 1),
+        (b"b", 100, Err(Refusal::Full), 1),
+        (b"b", 109, Err(Refusal::Full), 1),
+        (b"b", 110, Ok(()), 3),
+        (b"c", 119, Err(Refusal::Full), 3),
+        (b"c", 120, Ok(()), 5),
+    ];
+    for (topic, received, wanted, version) in rows {
+        let serial = store.catalogue().last_serial(1).saturating_add(1);
+        assert!(rt; set_at_moment(alloc, store, serial, topic, received)? == wanted);
+        assert!(rt; store.catalogue().version() == version);
+    }
+    Ok(())
+}
+
+/// Adds a Set of a message that came at a moment, with an interval of 10 seconds.
+fn set_at_moment<C: Catalogue>(
+    alloc: Global,
+    store: &mut Store<C>,
+    serial: u64,
+    topic: &[u8],
+    received: u64,
+) -> Result<Result<(), Refusal>, Fail> {
+    let origin = origin(1, serial)?;
+    let topic = TopicName::read(alloc, topic)?;
+    let operation = set_at(alloc, topic, b"x", received, Some(10))?;
+    Ok(store.add(Entry { origin, operation }))
+}
+
+#[test]
+fn room_made(rt: HostRuntime) -> Result<(), Fail> {
+    let alloc = rt.alloc();
+    let limit = TopicLimit::new(1).ok_or("1 is a limit")?;
+    let mut map: Store<MapCatalogue> = Store::new(alloc, limit)?;
+    makes_room(&rt, alloc, &mut map)?;
+    let mut tree: Store<TreeCatalogue> = Store::new(alloc, limit)?;
+    makes_room(&rt, alloc, &mut tree)?;
     Ok(())
 }

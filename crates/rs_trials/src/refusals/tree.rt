@@ -6,7 +6,7 @@ ghost use Rattle.rs_message.specs.Messages.{is_sweep};
 use crate::failure::{Failure, expect};
 use crate::samples::{HOUSE, clear, set_at, topic};
 use rs_message::{Entry, Found, Remaining};
-use rs_store::{Catalogue, Refusal, TopicLimit, TreeCatalogue, add};
+use rs_store::{Catalogue, Refusal, Store, TopicLimit, TreeCatalogue};
 use rs_topic::{TopicFilter, TopicName};
 use std::alloc::{AllocError, Global};
 
@@ -56,7 +56,7 @@ fn counted(adds: [u32; 4], number: u32) -> [u32; 4] {
 /// A tree, and the filters that it is asked for.
 #[derive(Drop)]
 struct Run {
-    tree: TreeCatalogue,
+    store: Store<TreeCatalogue>,
     filters: Vec<TopicFilter>,
     refused: Refused,
 }
@@ -151,7 +151,7 @@ fn without(shown: Shown, topic: &TopicName) -> Shown {
 
 impl Run {
     fn shown(&self, alloc: Global) -> Result<Shown, AllocError> {
-        shown_by(alloc, &self.tree, self.filters.as_slice())
+        shown_by(alloc, self.store.catalogue(), self.filters.as_slice())
     }
 
     /// Whether it shows this.
@@ -166,7 +166,7 @@ impl Run {
     }
 
     fn next_serial(&self) -> u64 {
-        self.tree.last_serial(1).saturating_add(1)
+        self.store.catalogue().last_serial(1).saturating_add(1)
     }
 
     /// A Set of the topic of this number.
@@ -187,7 +187,7 @@ impl Run {
     fn adds(&mut self, entry: Entry) -> Result<bool, Failure>
         requires { is_sweep entry.operation ≡ false }
     {
-        match add(&mut self.tree, entry) {
+        match self.store.add(entry) {
             Ok(()) => Ok(true),
             Err(Refusal::NoMemory) => Ok(false),
             Err(_) => Err(Failure::Wrong),
@@ -246,11 +246,11 @@ impl Run {
 
     /// A copy. If memory is refused for it, another one.
     fn copied(&mut self) -> Result<TreeCatalogue, Failure> {
-        if let Ok(copy) = self.tree.copy() {
+        if let Ok(copy) = self.store.catalogue().copy() {
             return Ok(copy);
         }
         self.refused.copies = self.refused.copies.saturating_add(1);
-        match self.tree.copy() {
+        match self.store.catalogue().copy() {
             Ok(copy) => Ok(copy),
             Err(_) => Err(Failure::Wrong),
         }
@@ -292,7 +292,7 @@ fn filters(alloc: Global) -> Result<Vec<TopicFilter>, Failure> {
 pub fn work(rt: &impl Print, alloc: Global) -> Result<(), Failure> {
     let limit = TopicLimit::new(TOPICS).ok_or(Failure::Wrong)?;
     let mut run = Run {
-        tree: TreeCatalogue::new(alloc, limit)?,
+        store: Store::new(alloc, limit)?,
         filters: filters(alloc)?,
         refused: Refused {
             adds: [0; 4],
@@ -301,7 +301,7 @@ pub fn work(rt: &impl Print, alloc: Global) -> Result<(), Failure> {
         },
     };
     for number in 0..ADDED {
-        if run.tree.count() == TOPICS {
+        if run.store.catalogue().count() == TOPICS {
             run.add_swept(alloc, number)?;
         } else {
             run.add_new(alloc, number)?;
@@ -310,7 +310,7 @@ pub fn work(rt: &impl Print, alloc: Global) -> Result<(), Failure> {
             run.clear_last(alloc, number)?;
         }
     }
-    expect(run.tree.last_serial(0) == u64::from(ROUND.div_ceil(ROW)))?;
+    expect(run.store.catalogue().last_serial(0) == u64::from(ROUND.div_ceil(ROW)))?;
     let Refused {
         adds: [root, middle, leaf, above],
         swept,

@@ -6,7 +6,7 @@ use super::tree::mixed;
 use crate::failure::{Failure, expect};
 use crate::samples::set_even_at;
 use rs_message::Entry;
-use rs_store::{Catalogue, Refusal, TopicLimit, TreeCatalogue, add};
+use rs_store::{Catalogue, Refusal, Store, TopicLimit, TreeCatalogue};
 use std::alloc::Global;
 use std::rt::Clock;
 use std::time::Instant;
@@ -41,7 +41,7 @@ fn sets(
 
 /// Adds the entries, each of which must be answered so.
 fn add_all(
-    tree: &mut TreeCatalogue,
+    store: &mut Store<TreeCatalogue>,
     entries: Vec<Entry>,
     wanted: Result<(), Refusal>,
 ) -> Result<(), Failure> {
@@ -49,7 +49,7 @@ fn add_all(
         if entry.operation.is_sweep() {
             return Err(Failure::Wrong);
         }
-        expect(add(tree, entry) == wanted)?;
+        expect(store.add(entry) == wanted)?;
     }
     Ok(())
 }
@@ -57,13 +57,13 @@ fn add_all(
 /// The same, and prints the nanoseconds that all took.
 fn timed<H: Print + Clock>(
     rt: &H,
-    tree: &mut TreeCatalogue,
+    store: &mut Store<TreeCatalogue>,
     name: &str,
     entries: Vec<Entry>,
     wanted: Result<(), Refusal>,
 ) -> Result<(), Failure> {
     let start = Instant::now(rt)?;
-    add_all(tree, entries, wanted)?;
+    add_all(store, entries, wanted)?;
     let took = start.elapsed(rt)?.as_nanos();
     println!(rt; "{name} {took}")?;
     Ok(())
@@ -76,14 +76,14 @@ pub fn measure<H: Print + Clock>(rt: &H, alloc: Global, limit: TopicLimit) -> Re
     let part = topics / PART;
     let all = topics + part + 1;
     let early = u64::from(EARLY);
-    let mut tree = TreeCatalogue::new(alloc, limit)?;
-    add_all(&mut tree, sets(alloc, 0, topics - part, all, 0)?, Ok(()))?;
+    let mut store = Store::new(alloc, limit)?;
+    add_all(&mut store, sets(alloc, 0, topics - part, all, 0)?, Ok(()))?;
     let room = sets(alloc, topics - part, topics, all, 0)?;
-    timed(rt, &mut tree, "room", room, Ok(()))?;
-    expect(tree.count() == topics)?;
+    timed(rt, &mut store, "room", room, Ok(()))?;
+    expect(store.catalogue().count() == topics)?;
     let full = sets(alloc, topics, topics + part, all, early - 1)?;
-    timed(rt, &mut tree, "full", full, Err(Refusal::Full))?;
+    timed(rt, &mut store, "full", full, Err(Refusal::Full))?;
     let last = sets(alloc, topics + part, all, all, early)?;
-    timed(rt, &mut tree, "sweep", last, Ok(()))?;
-    expect(tree.count() == topics / 2 + 1)
+    timed(rt, &mut store, "sweep", last, Ok(()))?;
+    expect(store.catalogue().count() == topics / 2 + 1)
 }

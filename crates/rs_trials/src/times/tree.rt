@@ -5,7 +5,7 @@ ghost use Rattle.std.specs.Prelude.{◌<◌, ◌^◌};
 use crate::failure::{Failure, expect};
 use crate::samples::{clear_even, set_deep, set_even};
 use rs_message::Entry;
-use rs_store::{Catalogue, TopicLimit, TreeCatalogue, add};
+use rs_store::{Catalogue, Store, TopicLimit, TreeCatalogue};
 use rs_topic::TopicFilter;
 use std::alloc::Global;
 use std::rt::Clock;
@@ -45,12 +45,12 @@ fn clears(alloc: Global, topics: u32, used: u32) -> Result<Vec<Entry>, Failure> 
     Ok(entries)
 }
 
-fn add_all(tree: &mut TreeCatalogue, entries: Vec<Entry>) -> Result<(), Failure> {
+fn add_all(store: &mut Store<TreeCatalogue>, entries: Vec<Entry>) -> Result<(), Failure> {
     for entry in entries {
         if entry.operation.is_sweep() {
             return Err(Failure::Wrong);
         }
-        expect(add(tree, entry).is_ok())?;
+        expect(store.add(entry).is_ok())?;
     }
     Ok(())
 }
@@ -58,15 +58,15 @@ fn add_all(tree: &mut TreeCatalogue, entries: Vec<Entry>) -> Result<(), Failure>
 /// Adds the entries, and prints the nanoseconds that all took. Then so many topics must hold a message.
 fn timed<H: Print + Clock>(
     rt: &H,
-    tree: &mut TreeCatalogue,
+    store: &mut Store<TreeCatalogue>,
     name: &str,
     entries: Vec<Entry>,
     wanted: u32,
 ) -> Result<(), Failure> {
     let start = Instant::now(rt)?;
-    add_all(tree, entries)?;
+    add_all(store, entries)?;
     let took = start.elapsed(rt)?.as_nanos();
-    expect(tree.count() == wanted)?;
+    expect(store.catalogue().count() == wanted)?;
     println!(rt; "{name} {took}")?;
     Ok(())
 }
@@ -146,38 +146,38 @@ fn answered_all<H: Print + Clock>(
 /// them, to give one answer to others, and to clear each.
 pub fn measure<H: Print + Clock>(rt: &H, alloc: Global, limit: TopicLimit) -> Result<(), Failure> {
     let topics = limit.get();
-    let mut tree = TreeCatalogue::new(alloc, limit)?;
-    timed(rt, &mut tree, "set", sets(alloc, topics, 0)?, topics)?;
+    let mut store: Store<TreeCatalogue> = Store::new(alloc, limit)?;
+    timed(rt, &mut store, "set", sets(alloc, topics, 0)?, topics)?;
     timed(
         rt,
-        &mut tree,
+        &mut store,
         "replace",
         sets(alloc, topics, topics)?,
         topics,
     )?;
     let all = TopicFilter::read(alloc, b"#")?;
-    answered(rt, &tree, "answer_all", &all, topics)?;
-    answered_all(rt, alloc, &tree, topics)?;
+    answered(rt, store.catalogue(), "answer_all", &all, topics)?;
+    answered_all(rt, alloc, store.catalogue(), topics)?;
     let used = topics.saturating_mul(2);
-    timed(rt, &mut tree, "clear", clears(alloc, topics, used)?, 0)
+    timed(rt, &mut store, "clear", clears(alloc, topics, used)?, 0)
 }
 
 /// Keeps so many messages in a tree, at topics of 64 bytes.
 pub fn keep(alloc: Global, limit: TopicLimit) -> Result<(), Failure> {
-    let mut tree = TreeCatalogue::new(alloc, limit)?;
+    let mut store: Store<TreeCatalogue> = Store::new(alloc, limit)?;
     for number in 0..limit.get() {
         let number = u64::from(number);
-        expect(add(&mut tree, set_even(alloc, number + 1, number)?).is_ok())?;
+        expect(store.add(set_even(alloc, number + 1, number)?).is_ok())?;
     }
     Ok(())
 }
 
 /// Keeps so many messages in a tree, at topics of the most levels, of which each two share all levels but the last.
 pub fn keep_deep(alloc: Global, limit: TopicLimit) -> Result<(), Failure> {
-    let mut tree = TreeCatalogue::new(alloc, limit)?;
+    let mut store: Store<TreeCatalogue> = Store::new(alloc, limit)?;
     for number in 0..limit.get() {
         let number = u64::from(number);
-        expect(add(&mut tree, set_deep(alloc, number + 1, number)?).is_ok())?;
+        expect(store.add(set_deep(alloc, number + 1, number)?).is_ok())?;
     }
     Ok(())
 }

@@ -29,7 +29,7 @@ returns-clause-some g c =
       | else-place-eq0-via-then-place-eq0+else-serial w ↦ omega (arith, w.if-serial.false, w.serial.ensures.value, last)
       | else-place-eq0-via-else-place-eq0 w ↦ absurd (w.if-place-eq0.false (c.place.ensures.value ∙ zero))
     ] in
-    let made = makes_room content c.args.entry.now c.in-Set.field-0 c.in-Set.message c.last_serial-last.ensures.wide c.in-Set.is c.requires.0 c.requires.1
+    let made = makes_room content c.args.entry.now c.in-Set.field-0 c.in-Set.message c.last_serial-last.ensures.wide c.in-Set.is c.requires.full.0 c.requires.full.1
     (omega (arith, c.count-count.ensures.value, c.count-count.ensures.few)) some (omega (arith, c.if-version.false, c.version.ensures)) (omega (arith, c.if-last.false, last)) above in
     let first : OriginValue = record { place = 0; serial = c.last_serial-last.result + 1 } in
     let next : OriginValue = record { place = 0; serial = slice_index content.serials 0 + 1 } in

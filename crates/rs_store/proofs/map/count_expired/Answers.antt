@@ -1,5 +1,4 @@
-use Rattle.std.proofs.Common.{◌≡◌, ◌+◌, ◌≤◌, length, arith}
-use Rattle.std.specs.List.{filter}
+use Rattle.std.proofs.Common.{arith}
 use Rattle.rs_store.specs.Contents.{is_gone}
 use Rattle.rs_store.proofs.Maps.{filter_few}
 use Rattle.rs_store.proofs.map.count_expired.Goals as goal

@@ -1,5 +1,4 @@
 use Rattle.std.proofs.Common.{◌≡◌, not, refl, ap, sym, ◌∙◌}
-use Rattle.std.specs.List.{filter}
 use Rattle.std.proofs.lemmas.Map.Entries.{filter_from_retain_pairs}
 use Rattle.rs_message.specs.Messages.{is_expired}
 use Rattle.rs_store.specs.Contents.{stays}

@@ -1,4 +1,4 @@
-use Rattle.std.proofs.Common.{◌≡◌, ◌≤◌, length, arith}
+use Rattle.std.proofs.Common.{arith}
 use Rattle.rs_store.specs.Spots.{pairs}
 use Rattle.rs_store.proofs.Trees.{all_counted, pairs_swept, placed_swept}
 use Rattle.rs_store.proofs.tree.sweep.Goals as goal

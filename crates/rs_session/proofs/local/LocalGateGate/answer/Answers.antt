@@ -7,4 +7,4 @@ use Rattle.rs_session.proofs.local.LocalGateGate.answer.Goals as goal
 
 pub returns-clause-list : goal.returns-clause-list
 returns-clause-list g c = λ seen s.
-    (seen, s, ([], sym (append-nil seen)), IfOk-weaker c.answer.result _ _ (λ found e. subst (IsAnswer seen c.args.filter.now c.args.now) (sym e) (stands_answer (g.C.Catalogue.content (catalogue_of c.args.self.now)) seen c.args.filter.now c.args.now s)) c.answer.ensures)
+    (seen, s, ([], sym (append-nil seen)), IfOk-weaker c.answer.result _ _ (λ found e. subst (IsAnswer seen c.args.filter.now c.args.now) (sym e) (stands_answer (g.C.Catalogue.content (catalogue_of c.args.self.now)) seen c.args.filter.now c.args.now s)) (rw c.catalogue.ensures at c.answer.ensures))

@@ -12,5 +12,5 @@ returns-clause-list g c = λ seen s. (
   ([], sym (append-nil seen)),
   IfOk-weaker c.answer_within.result _ _
       (λ answer e. subst (IsAnswerWithin c.args.room seen c.args.filter.now c.args.now) (sym e)
-      (stands_answer_within c.args.room (g.C.Catalogue.content (catalogue_of c.args.self.now)) seen c.args.filter.now c.args.now s)) c.answer_within.ensures,
+      (stands_answer_within c.args.room (g.C.Catalogue.content (catalogue_of c.args.self.now)) seen c.args.filter.now c.args.now s)) (rw c.catalogue.ensures at c.answer_within.ensures),
 )

@@ -1,8 +1,7 @@
-use Rattle.std.proofs.Common.{◌≡◌, ◌∷◌, ◌++◌, [], sym, ap, subst, ◌∙◌, IsTrue}
+use Rattle.std.proofs.Common.{◌≡◌, sym, ap, subst, ◌∙◌, IsTrue}
 use Rattle.rs_store.specs.Chains.{under_all}
 use Rattle.rs_store.specs.Nodes.{spots_of, stem_spots}
-use Rattle.rs_store.specs.Spots.{levels_from, spot_of, under}
-use Rattle.rs_store.proofs.Stems.{under_one}
+use Rattle.rs_store.specs.Spots.{levels_from, under}
 use Rattle.rs_store.proofs.branch.Child.lift.Goals as goal
 use Rattle.rs_store.proofs.branch.Child.lift.Goals.{in-Few, in-Inner+then-is_level, in-Inner+else-is_level}
 

@@ -8,6 +8,6 @@ use Rattle.rs_store.proofs.tree.TreeCatalogueCatalogue.answer.Goals as goal
 pub returns-in-None : goal.returns-in-None
 returns-in-None c =
     let held = pairs c.self.inside.root in
-    let few : length held ≤ c.self.inside.count = omega (arith, c.self.invariant.0.counted) in
+    let few : length held ≤ c.self.inside.count = omega (arith, c.self.invariant.counted) in
     let none : None ≡ if_fits c.self.inside.count (map found_of (filter (is_answered c.args.filter.now c.args.now) held)) = rw c.in-None.is at c.in_ok-found.ensures in
     absurd (always_fits c.self.inside.count c.args.filter.now c.args.now held few none)

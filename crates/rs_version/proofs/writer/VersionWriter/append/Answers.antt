@@ -1,4 +1,4 @@
-use Rattle.std.proofs.Common.{Some, ap, sym, ◌∙◌, arith}
+use Rattle.std.proofs.Common.{ap, ◌∙◌, arith}
 use Rattle.rs_store.specs.History.{IsLegal, extended}
 use Rattle.rs_version.specs.Copies.{shown}
 use Rattle.rs_version.proofs.WriterState.{appended}
@@ -7,9 +7,7 @@ use Rattle.rs_version.proofs.writer.VersionWriter.append.Goals as goal
 pub invariant_of-self : goal.invariant_of-self
 invariant_of-self g c =
     let log = (shown c.self.inside.copies).prefix.log in
-    let legal : IsLegal g.N.StoreName.limit (extended log c.args.entry) = rw (ap (λ w. w.published) c.self.view_is) c.requires.legal in (
-      appended _ _ _ c.push.new.self _ c.in-Some.list _ _ c.args.entry _ c.self.invariant.0 (ap (λ w. w.held) c.self.view_is ∙ c.requires.none)
-          legal (omega (arith, c.place-place.ensures.value, c.place-place.ensures.small)) (omega (arith, c.serial-serial.ensures.value, c.serial-serial.ensures.some))
-          c.push.ensures.shown c.push.ensures.steps c.in_ok-copy.ensures c.prefix.ensures.0 c.prefix.ensures.1 c.in-Some.ensures,
-      ap Some (sym c.in_ok-spare.ensures),
-    )
+    let legal : IsLegal g.N.StoreName.limit (extended log c.args.entry) = rw (ap (λ w. w.published) c.self.view_is) c.requires.legal in
+    appended _ _ _ c.push.new.self _ c.in-Some.list _ c.after-calm.result _ c.args.entry _ c.self.invariant (ap (λ w. w.held) c.self.view_is ∙ c.requires.none)
+    legal (omega (arith, c.place-place.ensures.value, c.place-place.ensures.small)) (omega (arith, c.serial-serial.ensures.value, c.serial-serial.ensures.some))
+    c.push.ensures.shown c.push.ensures.steps c.in_ok-copy.ensures c.prefix.ensures.0 c.prefix.ensures.1 c.in-Some.ensures c.after-calm.ensures

@@ -1,4 +1,4 @@
-use Rattle.std.proofs.Common.{ap, sym, ◌∙◌, inr}
+use Rattle.std.proofs.Common.{ap, sym, ◌∙◌}
 use Rattle.std.proofs.lemmas.List.{append-nil}
 use Rattle.rs_store.proofs.Standing.{stands_empty}
 use Rattle.rs_version.proofs.writer.VersionWriter.over.Goals as goal
@@ -7,15 +7,12 @@ pub invariant_of-result : goal.invariant_of-result
 invariant_of-result g c =
     let h = c.requires.history in
     let k = c.requires.content in
-    let log = c.args.writer.desk.shown.value.prefix.log in (
-      record {
-        history_is = h.0;
-        limit_is = ap (λ z. z.limit) k.0;
-        own_limit = ap (λ z. z.limit) k.1;
-        sound = rw (k.0, h.2) (stands_empty g.N.StoreName.limit);
-        list_is = h.1 ∙ (sym h.2 ∙ sym (append-nil log));
-        own_is = inr (rw (k.1, h.2) (stands_empty g.N.StoreName.limit));
-        steps = append-nil _ ∙ c.requires.steps;
-      },
-      tt,
-    )
+    let log = c.args.writer.desk.shown.value.prefix.log in
+    record {
+      history_is = h.0;
+      limit_is = ap (λ z. z.limit) k;
+      sound = rw (k, h.2) (stands_empty g.N.StoreName.limit);
+      list_is = h.1 ∙ (sym h.2 ∙ sym (append-nil log));
+      calm_is = rw k (c.new.ensures g.N.StoreName.limit);
+      steps = append-nil _ ∙ c.requires.steps;
+    }
