@@ -1,0 +1,189 @@
+-- What a Sweep leaves of a branch, child by child.
+use Rattle.std.proofs.Common.{◌≡◌, ◌≢◌, ℕ, zero, suc, ◌+◌, ◌-◌, ◌^◌, ◌<◌, ◌≤◌, ◌==◌, Bool, true, false, cond, List, [], ◌∷◌, ◌++◌, length, get_or, take, drop, refl, sym, ap, subst, ◌∙◌, arith, append_assoc, Option, Some, None, is_some}
+use Rattle.std.proofs.lemmas.List.{append-nil, take_more}
+use Rattle.std.proofs.lemmas.Bool.Decides.{nat_tests}
+use Rattle.std.proofs.lemmas.List.Elements.{filter-append}
+use Rattle.std.specs.List.{filter}
+use Rattle.rs_message.specs.declared.entry.Found.{Found}
+use Rattle.rs_store.specs.Chains.{under_all}
+use Rattle.rs_store.specs.Expiring.{earliest}
+use Rattle.rs_store.specs.Spots.{IsFull, is_nothing, own, under}
+use Rattle.rs_store.specs.Sweeping.{spot_stays}
+use Rattle.rs_store.proofs.Sweeping.{swept_chain}
+use Rattle.rs_tree.specs.Rows.{IsBefore, IsFrom, IsLeft, IsRow, IsUpTo, parts, push_some}
+use Rattle.rs_tree.specs.Values.{ChildValue}
+use Rattle.rs_tree.proofs.Dividing.{full_parts, full_under, up_to_all, up_to_front, up_to_rear}
+use Rattle.rs_message.specs.Messages.{is_expired}
+use Rattle.rs_store.specs.Contents.{is_gone}
+use Rattle.rs_store.specs.Spots.{pairs}
+use Rattle.rs_store.proofs.Expiring.{calm_until, pairs_end}
+use Rattle.rs_tree.proofs.Growing.{from_at, row_at}
+use Rattle.rs_tree.proofs.Rows.{Held}
+
+-- ---- a row that grows at its end
+
+before_one : (w : Held) (cs : List ChildValue) (c : ChildValue) → IsUpTo c.level w → IsBefore w cs → IsBefore w (cs ++ c ∷ [])
+before_one w [] c u b = u
+before_one w (d ∷ cs) c u b = b
+
+pub row_push : (cs : List ChildValue) (c : ChildValue) → IsRow cs → IsUpTo c.level (parts cs) → IsFull c.spots → IsFrom c.level c.spots → IsRow (cs ++ c ∷ [])
+row_push [] c r u full from = (full, from, tt, tt)
+row_push (d ∷ cs) c r u full from =
+    (r.0, r.1, before_one d.spots cs c (up_to_front c.level d.spots (parts cs) u) r.2, row_push cs c r.3 (up_to_rear c.level d.spots (parts cs) u) full from)
+
+pub parts_push : (cs : List ChildValue) (c : ChildValue) → parts (cs ++ c ∷ []) ≡ parts cs ++ c.spots
+parts_push [] c = append-nil c.spots
+parts_push (d ∷ cs) c = ap (λ (w : Held). d.spots ++ w) (parts_push cs c) ∙ sym (append_assoc d.spots (parts cs) c.spots)
+
+-- ---- filters
+
+from_filter : (k : List ℕ) (moment : ℕ) (w : Held) → IsFrom k w → IsFrom k (filter (spot_stays moment) w)
+from_filter k moment [] f = tt
+from_filter k moment (s ∷ w) f = at (spot_stays moment s) (from_filter k moment w f.1)
+  where
+    at : (b : Bool) → IsFrom k (filter (spot_stays moment) w) → IsFrom k (cond b (s ∷ filter (spot_stays moment) w) (filter (spot_stays moment) w))
+    at true more = (f.0, more)
+    at false more = more
+
+up_to_filter : (k : List ℕ) (moment : ℕ) (w : Held) → IsUpTo k w → IsUpTo k (filter (spot_stays moment) w)
+up_to_filter k moment [] f = tt
+up_to_filter k moment (s ∷ w) f = at (spot_stays moment s) (up_to_filter k moment w f.1)
+  where
+    at : (b : Bool) → IsUpTo k (filter (spot_stays moment) w) → IsUpTo k (cond b (s ∷ filter (spot_stays moment) w) (filter (spot_stays moment) w))
+    at true more = (f.0, more)
+    at false more = more
+
+same_place : (cs : List ChildValue) (i : ℕ) (d : ChildValue) → get_or (drop i cs) 0 d ≡ get_or cs i d
+same_place [] zero d = refl
+same_place [] (suc i) d = refl
+same_place (c ∷ cs) zero d = refl
+same_place (c ∷ cs) (suc i) d = same_place cs i d
+
+up_to_at : (cs : List ChildValue) (i : ℕ) (c : ChildValue) → i < length cs → c ≡ get_or cs i c → IsRow cs → IsUpTo c.level (parts (take i cs))
+up_to_at cs i c small is r = let P : ChildValue → Type 0 = λ w. IsUpTo w.level (parts (take i cs)) in subst P (same_place cs i c ∙ sym is) (up_to_all cs i c small r)
+
+-- ---- one child after the other
+
+-- so much is left of the first children
+pub record IsSwept (moment : ℕ) (cs left : List ChildValue) (i : ℕ) : Type 0 where
+  pub row : IsRow left
+  pub same : parts left ≡ filter (spot_stays moment) (parts (take i cs))
+
+module _ (moment : ℕ) (cs left : List ChildValue) (i : ℕ) where
+  pub swept_none : left ≡ [] → i ≡ 0 → IsSwept moment cs left i
+  swept_none none start = record {
+    row = (let P : List ChildValue → Type 0 = λ l. IsRow l in subst P (sym none) tt);
+    same = ap parts none ∙ ap (λ (n : ℕ). filter (spot_stays moment) (parts (take n cs))) (sym start);
+  }
+
+  module _ (c : ChildValue) (small : i < length cs) (is : c ≡ get_or cs i c) (r : IsRow cs) (so : IsSwept moment cs left i) where
+    more : filter (spot_stays moment) (parts (take (i + 1) cs)) ≡ filter (spot_stays moment) (parts (take i cs)) ++ filter (spot_stays moment) c.spots
+    more =
+        ap (λ (l : List ChildValue). filter (spot_stays moment) (parts l)) (take_more cs i c small ∙ ap (λ (w : ChildValue). take i cs ++ w ∷ []) (sym is))
+        ∙ (ap (filter (spot_stays moment)) (parts_push (take i cs) c) ∙ filter-append (spot_stays moment) (parts (take i cs)) c.spots)
+
+    pub swept_gone : IsLeft moment c None → IsSwept moment cs left (i + 1)
+    swept_gone h = record {
+      row = so.row;
+      same = so.same ∙ sym (more ∙ (ap (λ (w : Held). filter (spot_stays moment) (parts (take i cs)) ++ w) h ∙ append-nil (filter (spot_stays moment) (parts (take i cs)))));
+    }
+
+    pub swept_left : (d : ChildValue) (new : List ChildValue) → new ≡ left ++ d ∷ [] → IsLeft moment c (Some d) → IsSwept moment cs new (i + 1)
+    swept_left d new put h =
+        let up : IsUpTo d.level (parts left) = (let P : List ℕ → Type 0 = λ k. IsUpTo k (parts left) in subst P (sym h.0) (let Q : Held → Type 0 = λ w. IsUpTo c.level w in subst Q (sym so.same) (up_to_filter c.level moment (parts (take i cs)) (up_to_at cs i c small is r)))) in
+        let from : IsFrom d.level d.spots = (let P : List ℕ → Type 0 = λ k. IsFrom k d.spots in subst P (sym h.0) (let Q : Held → Type 0 = λ w. IsFrom c.level w in subst Q (sym h.1) (from_filter c.level moment c.spots (from_at cs i c small is r)))) in
+        record {
+          row = (let P : List ChildValue → Type 0 = λ l. IsRow l in subst P (sym put) (row_push left d so.row up h.2 from));
+          same = ap parts put ∙ (parts_push left d ∙ (ap (λ (w : Held). w ++ d.spots) so.same ∙ (ap (λ (w : Held). filter (spot_stays moment) (parts (take i cs)) ++ w) h.1 ∙ sym more)));
+        }
+
+    pub swept_step : (o : Option ChildValue) (new : List ChildValue) → new ≡ push_some left o → IsLeft moment c o → IsSwept moment cs new (i + 1)
+    swept_step None new put h = let P : List ChildValue → Type 0 = λ l. IsSwept moment cs l (i + 1) in subst P (sym put) (swept_gone h)
+    swept_step (Some d) new put h = swept_left d new put h
+
+pub swept_all : (moment : ℕ) (cs left : List ChildValue) (i : ℕ) → length cs ≤ i → IsSwept moment cs left i → parts left ≡ filter (spot_stays moment) (parts cs)
+swept_all moment cs left i all so = so.same ∙ ap (λ (l : List ChildValue). filter (spot_stays moment) (parts l)) (take_whole cs i all)
+  where
+    take_whole : (cs : List ChildValue) (i : ℕ) → length cs ≤ i → take i cs ≡ cs
+    take_whole [] zero small = refl
+    take_whole [] (suc i) small = refl
+    take_whole (c ∷ cs) zero small = absurd (omega (arith, small))
+    take_whole (c ∷ cs) (suc i) small = ap (λ (l : List ChildValue). c ∷ l) (take_whole cs i (omega (arith, small)))
+
+-- ---- one child
+
+pub full_not : (w : Held) → is_nothing w ≡ false → IsFull w
+full_not [] n = absurd (cc (n))
+full_not (s ∷ w) n = tt
+
+pub none_is : (w : Held) → is_nothing w ≡ true → w ≡ []
+none_is [] n = refl
+none_is (s ∷ w) n = absurd (cc (n))
+
+none_below : (ks : List (List ℕ)) → under_all ks [] ≡ []
+none_below [] = refl
+none_below (k ∷ ks) = ap (under k) (none_below ks)
+
+pub chain_left : (moment : ℕ) (ks : List (List ℕ)) (w w' : Held) → w' ≡ filter (spot_stays moment) w → under_all ks w' ≡ filter (spot_stays moment) (under_all ks w)
+chain_left moment ks w w' is = ap (under_all ks) is ∙ sym (swept_chain moment ks w)
+
+pub chain_gone : (moment : ℕ) (ks : List (List ℕ)) (w w' : Held) → w' ≡ filter (spot_stays moment) w → w' ≡ [] → filter (spot_stays moment) (under_all ks w) ≡ []
+chain_gone moment ks w w' is none = sym (chain_left moment ks w w' is) ∙ (ap (under_all ks) none ∙ none_below ks)
+
+-- ---- a branch
+
+pub nothing_is : (held : Option Found) (cs : List ChildValue) → IsRow cs → is_some held ≡ false → length cs ≡ 0 → is_nothing (own held ++ parts cs) ≡ true
+nothing_is None [] r none size = refl
+nothing_is None (c ∷ cs) r none size = absurd (omega (arith, size))
+nothing_is (Some f) cs r none size = absurd (cc (none))
+
+pub something_held : (held : Option Found) (cs : List ChildValue) → is_some held ≡ true → is_nothing (own held ++ parts cs) ≡ false
+something_held None cs some = absurd (cc (some))
+something_held (Some f) cs some = refl
+
+pub something_below : (held : Option Found) (cs : List ChildValue) → IsRow cs → length cs ≢ 0 → is_nothing (own held ++ parts cs) ≡ false
+something_below (Some f) cs r more = refl
+something_below None [] r more = absurd (more refl)
+something_below None (c ∷ cs) r more = at (parts (c ∷ cs)) (full_parts (c ∷ cs) r (omega arith))
+  where
+    at : (w : Held) → IsFull w → is_nothing w ≡ false
+    at [] full = absurd full
+    at (s ∷ w) full = refl
+
+pub branch_left : (moment : ℕ) (held held' : Option Found) (cs cs' : List ChildValue) → own held' ≡ filter (spot_stays moment) (own held) → parts cs' ≡ filter (spot_stays moment) (parts cs) → own held' ++ parts cs' ≡ filter (spot_stays moment) (own held ++ parts cs)
+branch_left moment held held' cs cs' a b = ap (λ (w : Held). w ++ parts cs') a ∙ (ap (λ (w : Held). filter (spot_stays moment) (own held) ++ w) b ∙ sym (filter-append (spot_stays moment) (own held) (parts cs)))
+
+-- ---- before the first moment at which one is expired, all stay
+
+none_goes : (moment : ℕ) (w : Held) → length (filter (is_gone moment) (pairs w)) ≡ 0 → filter (spot_stays moment) w ≡ w
+none_goes moment [] n = refl
+none_goes moment (s ∷ w) n = at (is_expired moment s.1.message) refl (none_goes moment w)
+  where
+    at : (b : Bool) → is_expired moment s.1.message ≡ b → (length (filter (is_gone moment) (pairs w)) ≡ 0 → filter (spot_stays moment) w ≡ w) → filter (spot_stays moment) (s ∷ w) ≡ s ∷ w
+    at false is more = rw is (ap (λ (x : Held). s ∷ x) (more (rw is at n)))
+    at true is more = absurd (let m : suc (length (filter (is_gone moment) (pairs w))) ≡ 0 = (rw is at n) in omega (arith, m))
+
+stays_all : (moment : ℕ) (w : Held) → moment < earliest (2 ^ 64 - 1) w → filter (spot_stays moment) w ≡ w
+stays_all moment w early = none_goes moment w (calm_until (earliest (2 ^ 64 - 1) w) (pairs w) (pairs_end (2 ^ 64 - 1) w) moment early)
+
+pub all_left : (moment e : ℕ) (c d : ChildValue) → e ≡ earliest (2 ^ 64 - 1) c.spots → moment < e → IsFull c.spots → d ≡ c → IsLeft moment c (Some d)
+all_left moment e c d is small full same =
+    let stay : filter (spot_stays moment) c.spots ≡ c.spots = stays_all moment c.spots (omega (arith, is, small)) in
+    let P : ChildValue → Type 0 = λ w. IsLeft moment c (Some w) in
+    subst P (sym same) (refl, sym stay, full)
+
+pub full_at : (cs : List ChildValue) (i : ℕ) (c : ChildValue) → i < length cs → c ≡ get_or cs i c → IsRow cs → IsFull c.spots
+full_at cs i c small is r = let P : ChildValue → Type 0 = λ w. IsFull w.spots in subst P (sym is) (row_at cs i c small r).0
+
+pub nothing_by : (held : Option Found) (cs : List ChildValue) (n : ℕ) → IsRow cs → is_some held ≡ false → n ≡ length cs → (n == 0) ≡ is_nothing (own held ++ parts cs)
+nothing_by held cs n r none size = at (n == 0) refl
+  where
+    at : (b : Bool) → (n == 0) ≡ b → (n == 0) ≡ is_nothing (own held ++ parts cs)
+    at true is = is ∙ sym (nothing_is held cs r none (let z : n ≡ 0 = grind (arith, nat_tests, is) in omega (arith, size, z)))
+    at false is = is ∙ sym (something_below held cs r (λ h. let z : n ≢ 0 = (λ k. grind (arith, nat_tests, is, k)) in z (omega (arith, size, h))))
+
+pub level_left : (moment : ℕ) (k k' : List ℕ) (w w' : Held) → k' ≡ k → w' ≡ filter (spot_stays moment) w → IsFull w' → (k' ≡ k) × (under k' w' ≡ filter (spot_stays moment) (under k w)) × IsFull (under k' w')
+level_left moment k k' w w' same is full = rw same (refl, chain_left moment (k ∷ []) w w' is, full_under k w' full)
+
+pub row_left : (moment : ℕ) (k k' : List ℕ) (w w' v : Held) → k' ≡ k → v ≡ w' → w' ≡ filter (spot_stays moment) w → IsFull w' → (k' ≡ k) × (v ≡ filter (spot_stays moment) w) × IsFull v
+row_left moment k k' w w' v same put is full = rw put (same, is, full)

@@ -1,0 +1,11 @@
+pub mod Buckets
+pub mod Choosing
+pub mod Clearing
+pub mod Dividing
+pub mod Expiring
+pub mod Growing
+pub mod Leaving
+pub mod Rows
+pub mod Sent
+pub mod Stopping
+pub mod Sweeping

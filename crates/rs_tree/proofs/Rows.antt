@@ -1,0 +1,391 @@
+-- Where a path belongs among the children of a branch.
+use Rattle.std.proofs.Common.{◌≡◌, ◌≢◌, ℕ, zero, suc, ◌+◌, ◌<◌, ◌≤◌, Bool, true, false, List, [], ◌∷◌, ◌++◌, length, get_or, take, drop, refl, sym, ap, subst, ◌∙◌, arith, append_assoc, add-one, Option, Some, None, is_some}
+use Rattle.std.specs.Cmp.Lexicographic.{bytes_decides, slice_cmp}
+use Rattle.std.specs.Str.{bytes_eq}
+use Rattle.std.specs.Ordering.{nat_cmp, is_eq}
+use Rattle.std.specs.Map.{lookup, remove_entry}
+use Rattle.std.specs.BTreeMap.{insert_entry, is_at}
+use Rattle.std.specs.declared.cmp.Ordering.{Ordering}
+use Rattle.std.specs.declared.cmp.Ordering.TheVariants.{Less, Equal, Greater}
+use Rattle.std.proofs.lemmas.Cmp.{nat_list_cmp_total, tied_itself}
+use Rattle.std.proofs.lemmas.Map.Lookups.{exact_bytes}
+use Rattle.rs_message.specs.declared.entry.Found.{Found}
+use Rattle.rs_topic.specs.Order.{path_cmp}
+use Rattle.rs_topic.specs.TopicOrder.{exact_paths, path_total}
+use Rattle.std.proofs.lemmas.List.{append-nil}
+use Rattle.rs_store.proofs.Looking.{same_child}
+use Rattle.rs_store.specs.Spots.{Spot, IsFull, is_there, own, under}
+use Rattle.rs_tree.specs.Rows.{IsAhead, IsBehind, IsEdge, IsFrom, IsGap, IsIn, IsNotBefore, IsRow, IsUpTo, Leads, LeadsAs, Passes, Takes, TakesAs, depth, parts}
+use Rattle.rs_tree.specs.Values.{ChildValue}
+
+abbrev pub Path : Type 0
+Path = List (List ℕ)
+
+abbrev pub Held : Type 0
+Held = List Spot
+
+abbrev pub level_cmp : List ℕ → List ℕ → Ordering
+level_cmp = slice_cmp nat_cmp
+
+-- ---- the order of paths
+
+pub flip : (a b : Path) → path_cmp a b ≡ Less → path_cmp b a ≡ Greater
+flip a b is = let h = path_total.antisymm b a in rw is at h
+
+pub back : (a b : Path) → path_cmp a b ≡ Greater → path_cmp b a ≡ Less
+back a b is = at (path_cmp b a) refl (path_total.antisymm a b)
+  where
+    at : (o : Ordering) → path_cmp b a ≡ o → path_cmp a b ≡ Rattle.std.specs.Ordering.ordering_reverse (path_cmp b a) → path_cmp b a ≡ Less
+    at Less e h = e
+    at Equal e h = absurd (cc (is, rw e at h))
+    at Greater e h = absurd (cc (is, rw e at h))
+
+-- a is before k, and b is not
+pub between : (a k b : Path) → path_cmp a k ≡ Less → path_cmp b k ≢ Less → path_cmp a b ≡ Less
+between a k b la nb = at (path_cmp a b) refl
+  where
+    at : (o : Ordering) → path_cmp a b ≡ o → path_cmp a b ≡ Less
+    at Less is = is
+    at Equal is = absurd (nb (let P : Path → Type 0 = λ w. path_cmp w k ≡ Less in subst P (exact_paths a b is) la))
+    at Greater is = absurd (nb (path_total.trans b a k (back a b is) la))
+
+pub level_less : (q k : List ℕ) (p : Path) → level_cmp q k ≡ Less → path_cmp (q ∷ p) (k ∷ []) ≡ Less
+level_less q k p is = rw is refl
+
+pub level_not : (q k : List ℕ) (p : Path) → level_cmp q k ≢ Less → path_cmp (q ∷ p) (k ∷ []) ≢ Less
+level_not q k p n h = at (level_cmp q k) refl p h
+  where
+    at : (o : Ordering) → level_cmp q k ≡ o → (p : Path) → path_cmp (q ∷ p) (k ∷ []) ≡ Less → ⊥
+    at Less is p h = n is
+    at Equal is [] h = cc (is, h)
+    at Equal is (r ∷ p) h = cc (is, h)
+    at Greater is p h = cc (is, h)
+
+pub not_itself : (q k : List ℕ) → q ≡ k → level_cmp q k ≢ Less
+not_itself q k same h = let e : level_cmp k k ≡ Less = (rw same at h) in cc (e, tied_itself nat_list_cmp_total k)
+
+-- ---- what stands before a path, and behind it
+
+abbrev pub Ahead : Path → Held → Type 0
+Ahead p [] = Unit {0}
+Ahead p (s ∷ ss) = (path_cmp p s.0 ≡ Less) × Ahead p ss
+
+pub behind_both : (p : Path) (xs ys : Held) → IsBehind p xs → IsBehind p ys → IsBehind p (xs ++ ys)
+behind_both p [] ys a b = b
+behind_both p (x ∷ xs) ys a b = (a.0, behind_both p xs ys a.1 b)
+
+pub ahead_both : (p : Path) (xs ys : Held) → Ahead p xs → Ahead p ys → Ahead p (xs ++ ys)
+ahead_both p [] ys a b = b
+ahead_both p (x ∷ xs) ys a b = (a.0, ahead_both p xs ys a.1 b)
+
+pub own_behind : (q : List ℕ) (p : Path) (held : Option Found) → IsBehind (q ∷ p) (own held)
+own_behind q p None = tt
+own_behind q p (Some f) = (refl, tt)
+
+up_to_behind : (p : Path) (k : List ℕ) (ss : Held) → path_cmp p (k ∷ []) ≢ Less → IsUpTo k ss → IsBehind p ss
+up_to_behind p k [] n u = tt
+up_to_behind p k (s ∷ ss) n u = (flip s.0 p (between s.0 (k ∷ []) p u.0 n), up_to_behind p k ss n u.1)
+
+pub behind_up_to : (q : List ℕ) (ss : Held) → IsBehind (q ∷ []) ss → IsUpTo q ss
+behind_up_to q [] b = tt
+behind_up_to q (s ∷ ss) b = (back (q ∷ []) s.0 b.0, behind_up_to q ss b.1)
+
+from_ahead : (p : Path) (k : List ℕ) (ss : Held) → path_cmp p (k ∷ []) ≡ Less → IsFrom k ss → Ahead p ss
+from_ahead p k [] l f = tt
+from_ahead p k (s ∷ ss) l f = (between p (k ∷ []) s.0 l f.0, from_ahead p k ss l f.1)
+
+-- the path is before the first child
+abbrev pub BeforeAll : Path → List ChildValue → Type 0
+BeforeAll p [] = Unit {0}
+BeforeAll p (c ∷ cs) = path_cmp p (c.level ∷ []) ≡ Less
+
+over : (p : Path) (k n : List ℕ) (ss : Held) → IsFull ss → IsFrom k ss → IsUpTo n ss → path_cmp p (k ∷ []) ≡ Less → path_cmp p (n ∷ []) ≡ Less
+over p k n [] full f u l = absurd full
+over p k n (s ∷ ss) full f u l = path_total.trans p s.0 (n ∷ []) (between p (k ∷ []) s.0 l f.0) u.0
+
+pub before_next : (p : Path) (c : ChildValue) (cs : List ChildValue) → IsRow (c ∷ cs) → path_cmp p (c.level ∷ []) ≡ Less → BeforeAll p cs
+before_next p c [] r l = tt
+before_next p c (d ∷ cs) r l = over p c.level d.level c.spots r.0 r.1 r.2 l
+
+pub ahead_all : (p : Path) (cs : List ChildValue) → IsRow cs → BeforeAll p cs → Ahead p (parts cs)
+ahead_all p [] r a = tt
+ahead_all p (c ∷ cs) r a = ahead_both p c.spots (parts cs) (from_ahead p c.level c.spots a r.1) (ahead_all p cs r.3 (before_next p c cs r a))
+
+pub ahead_level : (q : List ℕ) (p : Path) (cs : List ChildValue) → IsAhead q cs → BeforeAll (q ∷ p) cs
+ahead_level q p [] a = tt
+ahead_level q p (c ∷ cs) a = level_less q c.level p a
+
+-- the path is not before the child at the index
+abbrev pub IsReached : Path → List ChildValue → ℕ → Type 0
+IsReached p [] i = ⊥
+IsReached p (c ∷ cs) zero = path_cmp p (c.level ∷ []) ≢ Less
+IsReached p (c ∷ cs) (suc i) = IsReached p cs i
+
+pub reached_first : (p : Path) (cs : List ChildValue) (i : ℕ) → IsRow cs → IsReached p cs i → IsReached p cs zero
+reached_first p [] i r a = absurd a
+reached_first p (c ∷ cs) zero r a = a
+reached_first p (c ∷ []) (suc i) r a = absurd a
+reached_first p (c ∷ d ∷ cs) (suc i) r a = λ l. reached_first p (d ∷ cs) i r.3 a (before_next p c (d ∷ cs) r l)
+
+pub front_behind : (p : Path) (cs : List ChildValue) (i : ℕ) → IsRow cs → IsReached p cs i → IsBehind p (parts (take i cs))
+front_behind p [] i r a = absurd a
+front_behind p (c ∷ cs) zero r a = tt
+front_behind p (c ∷ []) (suc i) r a = absurd a
+front_behind p (c ∷ d ∷ cs) (suc i) r a =
+    behind_both p c.spots (parts (take i (d ∷ cs))) (up_to_behind p d.level c.spots (reached_first p (d ∷ cs) i r.3 a) r.2) (front_behind p (d ∷ cs) i r.3 a)
+
+passed_reached : (p : Path) (k : List ℕ) (ss : Held) → IsFull ss → IsFrom k ss → IsBehind p ss → path_cmp p (k ∷ []) ≢ Less
+passed_reached p k [] full f b l = absurd full
+passed_reached p k (s ∷ ss) full f b l = cc (between p (k ∷ []) s.0 l f.0, b.0)
+
+-- ---- an edge
+
+pub edge_at : (P : ChildValue → Type 0) (q : List ℕ) (cs : List ChildValue) (i : ℕ) (d : ChildValue) → IsEdge P q cs (suc i) → P (get_or cs i d)
+edge_at P q [] i d e = absurd e
+edge_at P q (c ∷ cs) zero d e = e.0
+edge_at P q (c ∷ cs) (suc i) d e = edge_at P q cs i d e
+
+pub edge_turned : (P Q : ChildValue → Type 0) (q : List ℕ) (cs : List ChildValue) (i : ℕ) (d : ChildValue) → Q (get_or cs i d) → IsEdge P q cs (suc i) → IsEdge Q q cs (suc i)
+edge_turned P Q q [] i d h e = absurd e
+edge_turned P Q q (c ∷ cs) zero d h e = (h, e.1)
+edge_turned P Q q (c ∷ cs) (suc i) d h e = edge_turned P Q q cs i d h e
+
+pub edge_small : (P : ChildValue → Type 0) (q : List ℕ) (cs : List ChildValue) (i : ℕ) → IsEdge P q cs i → i ≤ length cs
+edge_small P q cs zero e = omega arith
+edge_small P q [] (suc i) e = absurd e
+edge_small P q (c ∷ cs) (suc zero) e = omega arith
+edge_small P q (c ∷ cs) (suc (suc i)) e = omega (arith, edge_small P q cs (suc i) e)
+
+edge_ahead : (P : ChildValue → Type 0) (q : List ℕ) (cs : List ChildValue) (i : ℕ) → IsEdge P q cs i → IsAhead q (drop i cs)
+edge_ahead P q cs zero e = e
+edge_ahead P q [] (suc i) e = absurd e
+edge_ahead P q (c ∷ cs) (suc zero) e = e.1
+edge_ahead P q (c ∷ cs) (suc (suc i)) e = edge_ahead P q cs (suc i) e
+
+pub row_drop : (cs : List ChildValue) (i : ℕ) → IsRow cs → IsRow (drop i cs)
+row_drop cs zero r = r
+row_drop [] (suc i) r = r
+row_drop (c ∷ cs) (suc i) r = row_drop cs i r.3
+
+pub rear_ahead : (P : ChildValue → Type 0) (q : List ℕ) (p : Path) (cs : List ChildValue) (i : ℕ) → IsRow cs → IsEdge P q cs i → Ahead (q ∷ p) (parts (drop i cs))
+rear_ahead P q p cs i r e = ahead_all (q ∷ p) (drop i cs) (row_drop cs i r) (ahead_level q p (drop i cs) (edge_ahead P q cs i e))
+
+pub takes_reached : (b : Bool) (own q : List ℕ) (p : Path) → TakesAs b own q → path_cmp (q ∷ p) (own ∷ []) ≢ Less
+takes_reached true own q p t = level_not q own p t
+takes_reached false own q p t = level_not q own p (not_itself q own t)
+
+pub in_reached : (q : List ℕ) (p : Path) (cs : List ChildValue) (i : ℕ) → IsIn q cs i → IsReached (q ∷ p) cs i
+in_reached q p [] i e = absurd e
+in_reached q p (c ∷ cs) zero e = takes_reached c.is_row c.level q p e.0
+in_reached q p (c ∷ cs) (suc i) e = in_reached q p cs i e
+
+gap_reached : (q : List ℕ) (p : Path) (cs : List ChildValue) (i : ℕ) → IsRow cs → IsGap q cs (suc i) → IsReached (q ∷ p) cs i
+gap_reached q p [] i r e = absurd e
+gap_reached q p (c ∷ cs) zero r e = passed_reached (q ∷ p) c.level c.spots r.0 r.1 (e.0 p)
+gap_reached q p (c ∷ cs) (suc i) r e = gap_reached q p cs i r.3 e
+
+take_one : (p : Path) (cs : List ChildValue) (i : ℕ) (d : ChildValue) → i < length cs → IsBehind p (parts (take i cs)) → IsBehind p (get_or cs i d).spots → IsBehind p (parts (take (suc i) cs))
+take_one p [] i d small a b = tt
+take_one p (c ∷ cs) zero d small a b = behind_both p c.spots [] b tt
+take_one p (c ∷ cs) (suc i) d small a b = behind_both p c.spots (parts (take (suc i) cs)) (first p c.spots (parts (take i cs)) a) (take_one p cs i d (omega (arith, small)) (second p c.spots (parts (take i cs)) a) b)
+  where
+    first : (p : Path) (xs ys : Held) → IsBehind p (xs ++ ys) → IsBehind p xs
+    first p [] ys h = tt
+    first p (x ∷ xs) ys h = (h.0, first p xs ys h.1)
+
+    second : (p : Path) (xs ys : Held) → IsBehind p (xs ++ ys) → IsBehind p ys
+    second p [] ys h = h
+    second p (x ∷ xs) ys h = second p xs ys h.1
+
+pub gap_behind : (q : List ℕ) (p : Path) (cs : List ChildValue) (i : ℕ) → IsRow cs → IsGap q cs i → IsBehind (q ∷ p) (parts (take i cs))
+gap_behind q p cs zero r e = tt
+gap_behind q p [] (suc i) r e = absurd e
+gap_behind q p (c ∷ cs) (suc i) r e =
+    take_one (q ∷ p) (c ∷ cs) i c (omega (arith, edge_small (Passes q) q (c ∷ cs) (suc i) e)) (front_behind (q ∷ p) (c ∷ cs) i r (gap_reached q p (c ∷ cs) i r e)) (edge_at (Passes q) q (c ∷ cs) i c e p)
+
+-- ---- a look among what stands before, what may be the place, and what stands behind
+
+there_none : (p : Path) (r : Held) → Ahead p r → is_there p r ≡ false
+there_none p [] a = refl
+there_none p (s ∷ r) a = rw a.0 (there_none p r a.1)
+
+there_front : (p : Path) (w r : Held) → Ahead p r → is_there p (w ++ r) ≡ is_there p w
+there_front p [] r a = there_none p r a
+there_front p (s ∷ w) r a = at (path_cmp p s.0) refl (there_front p w r a)
+  where
+    at : (o : Ordering) → path_cmp p s.0 ≡ o → is_there p (w ++ r) ≡ is_there p w → is_there p (s ∷ w ++ r) ≡ is_there p (s ∷ w)
+    at Less is more = rw is more
+    at Equal is more = rw is refl
+    at Greater is more = rw is more
+
+there_rear : (p : Path) (l w : Held) → IsBehind p l → is_there p (l ++ w) ≡ is_there p w
+there_rear p [] w b = refl
+there_rear p (s ∷ l) w b = rw b.0 (there_rear p l w b.1)
+
+pub there_mid : (p : Path) (l w r : Held) → IsBehind p l → Ahead p r → is_there p (l ++ (w ++ r)) ≡ is_there p w
+there_mid p l w r b a = there_rear p l (w ++ r) b ∙ there_front p w r a
+
+-- ---- the parts around an index
+
+pub parts_split : (cs : List ChildValue) (i : ℕ) → parts cs ≡ parts (take i cs) ++ parts (drop i cs)
+parts_split cs zero = refl
+parts_split [] (suc i) = refl
+parts_split (c ∷ cs) (suc i) = ap (λ (w : Held). c.spots ++ w) (parts_split cs i) ∙ sym (append_assoc c.spots (parts (take i cs)) (parts (drop i cs)))
+
+pub parts_at : (cs : List ChildValue) (i : ℕ) (d : ChildValue) → i < length cs → parts (drop i cs) ≡ (get_or cs i d).spots ++ parts (drop (suc i) cs)
+parts_at [] i d small = absurd (omega (arith, small))
+parts_at (c ∷ cs) zero d small = refl
+parts_at (c ∷ cs) (suc i) d small = parts_at cs i d (omega (arith, small))
+
+pub around : (h l a w r : Held) → a ≡ l ++ (w ++ r) → h ++ a ≡ (h ++ l) ++ (w ++ r)
+around h l a w r is = ap (λ (x : Held). h ++ x) is ∙ sym (append_assoc h l (w ++ r))
+
+pub split_at : (held : Option Found) (cs : List ChildValue) (i : ℕ) (d : ChildValue) → i < length cs
+    → own held ++ parts cs ≡ (own held ++ parts (take i cs)) ++ ((get_or cs i d).spots ++ parts (drop (suc i) cs))
+split_at held cs i d small = around (own held) (parts (take i cs)) (parts cs) (get_or cs i d).spots (parts (drop (suc i) cs)) (parts_split cs i ∙ ap (λ (w : Held). parts (take i cs) ++ w) (parts_at cs i d small))
+
+pub split_gap : (held : Option Found) (cs : List ChildValue) (i : ℕ) → own held ++ parts cs ≡ (own held ++ parts (take i cs)) ++ parts (drop i cs)
+split_gap held cs i = ap (λ (w : Held). own held ++ w) (parts_split cs i) ∙ sym (append_assoc (own held) (parts (take i cs)) (parts (drop i cs)))
+
+takes_leads : (b : Bool) (own q : List ℕ) (p : Path) → TakesAs b own q → LeadsAs b own (q ∷ p) p
+takes_leads true own q p t = tt
+takes_leads false own q p t = ap (λ (k : List ℕ). k ∷ p) t
+
+pub deep_at : (cs : List ChildValue) (i : ℕ) (d : ChildValue) → i < length cs → (get_or cs i d).depth + 1 ≤ depth cs
+deep_at [] i d small = absurd (omega (arith, small))
+deep_at (c ∷ cs) zero d small = omega arith
+deep_at (c ∷ cs) (suc i) d small = omega (arith, deep_at cs i d (omega (arith, small)))
+
+pub deep_child : (cs : List ChildValue) (i : ℕ) (c : ChildValue) → i < length cs → c ≡ get_or cs i c → c.depth + 1 ≤ depth cs
+deep_child cs i c small is = let P : ChildValue → Type 0 = λ w. w.depth + 1 ≤ depth cs in subst P (sym is) (deep_at cs i c small)
+
+-- ---- a look-up, as the calls say it
+
+module _ (held : Option Found) (cs : List ChildValue) (r : IsRow cs) (q : List ℕ) (p : Path) where
+  pub in_front : (i : ℕ) → IsIn q cs i → IsBehind (q ∷ p) (own held ++ parts (take i cs))
+  in_front i e = behind_both (q ∷ p) (own held) (parts (take i cs)) (own_behind q p held) (front_behind (q ∷ p) cs i r (in_reached q p cs i e))
+
+  pub in_rear : (i : ℕ) → IsIn q cs i → Ahead (q ∷ p) (parts (drop (suc i) cs))
+  in_rear i e = rear_ahead (Takes q) q p cs (suc i) r e
+
+  pub gap_front : (i : ℕ) → IsGap q cs i → IsBehind (q ∷ p) (own held ++ parts (take i cs))
+  gap_front i e = behind_both (q ∷ p) (own held) (parts (take i cs)) (own_behind q p held) (gap_behind q p cs i r e)
+
+  pub gap_rear : (i : ℕ) → IsGap q cs i → Ahead (q ∷ p) (parts (drop i cs))
+  gap_rear i e = rear_ahead (Passes q) q p cs i r e
+
+  pub there_in : (i : ℕ) (d : ChildValue) → i < length cs → IsIn q cs i → is_there (q ∷ p) (own held ++ parts cs) ≡ is_there (q ∷ p) (get_or cs i d).spots
+  there_in i d small e = rw (split_at held cs i d small) (there_mid (q ∷ p) (own held ++ parts (take i cs)) (get_or cs i d).spots (parts (drop (suc i) cs)) (in_front i e) (in_rear i e))
+
+  pub there_child : (i : ℕ) (c : ChildValue) → i < length cs → IsIn q cs i → c ≡ get_or cs i c → is_there (q ∷ p) c.spots ≡ is_there (q ∷ p) (own held ++ parts cs)
+  there_child i c small e is = ap (λ (w : ChildValue). is_there (q ∷ p) w.spots) is ∙ sym (there_in i c small e)
+
+  pub leads_child : (i : ℕ) (c : ChildValue) → IsIn q cs i → c ≡ get_or cs i c → Leads c (q ∷ p) p
+  leads_child i c e is = takes_leads c.is_row c.level q p (let P : ChildValue → Type 0 = λ w. Takes q w in subst P (sym is) (edge_at (Takes q) q cs i c e))
+
+  pub there_gap : (i : ℕ) → IsGap q cs i → is_there (q ∷ p) (own held ++ parts cs) ≡ false
+  there_gap i e = rw (split_gap held cs i) (there_rear (q ∷ p) (own held ++ parts (take i cs)) (parts (drop i cs)) (gap_front i e) ∙ there_none (q ∷ p) (parts (drop i cs)) (gap_rear i e))
+
+-- at the place itself is only its own message
+pub there_own : (held : Option Found) (cs : List ChildValue) → IsRow cs → is_there [] (own held ++ parts cs) ≡ is_some held
+there_own held cs r = there_front [] (own held) (parts cs) (ahead_all [] cs r (first cs)) ∙ alone held
+  where
+    first : (cs : List ChildValue) → BeforeAll [] cs
+    first [] = tt
+    first (c ∷ cs) = refl
+
+    alone : (held : Option Found) → is_there [] (own held) ≡ is_some held
+    alone None = refl
+    alone (Some f) = refl
+
+-- ---- the search for a place
+
+abbrev pub IsLow : List ℕ → List ChildValue → ℕ → Type 0
+IsLow q cs zero = Unit {0}
+IsLow q [] (suc i) = ⊥
+IsLow q (c ∷ cs) (suc zero) = IsNotBefore q c
+IsLow q (c ∷ cs) (suc (suc i)) = IsLow q cs (suc i)
+
+abbrev pub IsHigh : List ℕ → List ChildValue → ℕ → Type 0
+IsHigh q cs zero = IsAhead q cs
+IsHigh q [] (suc i) = Unit {0}
+IsHigh q (c ∷ cs) (suc i) = IsHigh q cs i
+
+pub high_end : (q : List ℕ) (cs : List ChildValue) → IsHigh q cs (length cs)
+high_end q [] = tt
+high_end q (c ∷ cs) = high_end q cs
+
+pub low_at : (q : List ℕ) (cs : List ChildValue) (i : ℕ) (d : ChildValue) → i < length cs → IsNotBefore q (get_or cs i d) → IsLow q cs (suc i)
+low_at q [] i d small h = absurd (omega (arith, small))
+low_at q (c ∷ cs) zero d small h = h
+low_at q (c ∷ cs) (suc i) d small h = low_at q cs i d (omega (arith, small)) h
+
+pub high_at : (q : List ℕ) (cs : List ChildValue) (i : ℕ) (d : ChildValue) → i < length cs → level_cmp q (get_or cs i d).level ≡ Less → IsHigh q cs i
+high_at q [] i d small h = absurd (omega (arith, small))
+high_at q (c ∷ cs) zero d small h = h
+high_at q (c ∷ cs) (suc i) d small h = high_at q cs i d (omega (arith, small)) h
+
+pub edge_between : (q : List ℕ) (cs : List ChildValue) (i : ℕ) → IsLow q cs i → IsHigh q cs i → IsEdge (IsNotBefore q) q cs i
+edge_between q cs zero l h = h
+edge_between q [] (suc i) l h = absurd l
+edge_between q (c ∷ cs) (suc zero) l h = (l, h)
+edge_between q (c ∷ cs) (suc (suc i)) l h = edge_between q cs (suc i) l h
+
+-- ---- a child beside a level
+
+pub under_behind : (q k : List ℕ) (p : Path) (w : Held) → level_cmp q k ≡ Greater → IsBehind (q ∷ p) (under k w)
+under_behind q k p [] g = tt
+under_behind q k p (s ∷ ss) g = (rw g refl, under_behind q k p ss g)
+
+not_same : (q k own : List ℕ) (b : Bool) → own ≡ k → b ≡ bytes_eq own q → b ≡ false → level_cmp q k ≢ Less → level_cmp q k ≡ Greater
+not_same q k own b here is nay n = at (level_cmp q k) refl
+  where
+    at : (o : Ordering) → level_cmp q k ≡ o → level_cmp q k ≡ Greater
+    at Less e = absurd (n e)
+    at Greater e = e
+    at Equal e =
+        let same : own ≡ q = here ∙ sym (exact_bytes q k e) in
+        let yea : bytes_eq own q ≡ true = (bytes_decides own q).1 same in
+        absurd (cc (yea, is, nay))
+
+pub passed_under : (q k own : List ℕ) (b : Bool) (w : Held) → own ≡ k → b ≡ bytes_eq own q → level_cmp q k ≢ Less → b ≡ false → (p : Path) → IsBehind (q ∷ p) (under k w)
+passed_under q k own b w here is n nay p = under_behind q k p w (not_same q k own b here is nay n)
+
+-- ---- the same as the calls say it
+
+pub low_step : (q : List ℕ) (cs : List ChildValue) (i n : ℕ) (c : ChildValue) (k : List ℕ) (o : Ordering) → n ≡ i + 1 → i < length cs → c ≡ get_or cs i c → k ≡ c.level → o ≡ level_cmp q k → o ≢ Less → IsLow q cs n
+low_step q cs i n c k o e small is same cmp nay =
+    let not : IsNotBefore q c = (λ l. nay (cmp ∙ (ap (level_cmp q) same ∙ l))) in
+    let here : IsNotBefore q (get_or cs i c) = (let P : ChildValue → Type 0 = λ w. IsNotBefore q w in subst P is not) in
+    let P : ℕ → Type 0 = λ m. IsLow q cs m in subst P (sym (e ∙ add-one i)) (low_at q cs i c small here)
+
+pub high_step : (q : List ℕ) (cs : List ChildValue) (i : ℕ) (c : ChildValue) (k : List ℕ) (o : Ordering) → i < length cs → c ≡ get_or cs i c → k ≡ c.level → o ≡ level_cmp q k → o ≡ Less → IsHigh q cs i
+high_step q cs i c k o small is same cmp yea =
+    let less : level_cmp q c.level ≡ Less = ap (level_cmp q) (sym same) ∙ (sym cmp ∙ yea) in
+    high_at q cs i c small (let P : ChildValue → Type 0 = λ w. level_cmp q w.level ≡ Less in subst P is less)
+
+pub edge_end : (q : List ℕ) (cs : List ChildValue) (i j : ℕ) → j ≡ i → IsLow q cs i → IsHigh q cs j → IsEdge (IsNotBefore q) q cs i
+edge_end q cs i j e l h = edge_between q cs i l (let P : ℕ → Type 0 = λ m. IsHigh q cs m in subst P e h)
+
+module _ (q : List ℕ) (cs : List ChildValue) (i j : ℕ) (c : ChildValue) (e : i ≡ j + 1) (edge : IsEdge (IsNotBefore q) q cs i) (is : c ≡ get_or cs j c) where
+  edge_suc : IsEdge (IsNotBefore q) q cs (suc j)
+  edge_suc = let P : ℕ → Type 0 = λ m. IsEdge (IsNotBefore q) q cs m in subst P (e ∙ add-one j) edge
+
+  pub place_not : IsNotBefore q c
+  place_not = let P : ChildValue → Type 0 = λ w. IsNotBefore q w in subst P (sym is) (edge_at (IsNotBefore q) q cs j c edge_suc)
+
+  pub place_in : Takes q c → IsIn q cs j
+  place_in t = edge_turned (IsNotBefore q) (Takes q) q cs j c (let P : ChildValue → Type 0 = λ w. Takes q w in subst P is t) edge_suc
+
+  pub place_gap : Passes q c → IsGap q cs i
+  place_gap p =
+      let turned : IsGap q cs (suc j) = edge_turned (IsNotBefore q) (Passes q) q cs j c (let P : ChildValue → Type 0 = λ w. Passes q w in subst P is p) edge_suc in
+      let P : ℕ → Type 0 = λ m. IsGap q cs m in subst P (sym (e ∙ add-one j)) turned
+
+pub gap_first : (q : List ℕ) (cs : List ChildValue) (i : ℕ) → i ≡ 0 → IsEdge (IsNotBefore q) q cs i → IsGap q cs 0
+gap_first q cs i e edge = let P : ℕ → Type 0 = λ m. IsEdge (IsNotBefore q) q cs m in subst P e edge
+
+-- ---- one child, below its level
+
+pub there_under : (k : List ℕ) (p path : Path) (w : Held) → path ≡ k ∷ p → is_there p w ≡ is_there path (under k w)
+there_under k p path w is = rw is (sym (ap (is_there (k ∷ p)) (sym (append-nil (under k w))) ∙ same_child k p w [] refl))

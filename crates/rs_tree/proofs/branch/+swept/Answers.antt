@@ -1,0 +1,84 @@
+use Rattle.std.proofs.Common.{◌≡◌, ◌+◌, ◌≤◌, ◌∷◌, [], ℕ, List, subst, arith, refl, sym, ap, ◌∙◌}
+use Rattle.std.specs.List.{filter}
+use Rattle.rs_store.specs.Sweeping.{spot_stays}
+use Rattle.rs_store.specs.Spots.{IsFull, levels_from}
+use Rattle.rs_tree.specs.Nodes.{stem_spots}
+use Rattle.rs_tree.specs.Rows.{depth}
+use Rattle.rs_tree.specs.Values.{BranchValue}
+use Rattle.rs_tree.proofs.Leaving.{all_left, branch_left, chain_gone, chain_left, full_at, full_not, level_left, none_is, row_left, swept_all, swept_none, swept_step}
+use Rattle.rs_store.specs.Chains.{under_all}
+use Rattle.rs_store.proofs.Stems.{full_below}
+use Rattle.rs_tree.proofs.Rows.{Held, deep_child}
+use Rattle.rs_tree.proofs.branch.+swept.Goals as goal
+
+pub sweep::each_swept-loop-child-init : goal.sweep::each_swept-loop-child-init
+sweep::each_swept-loop-child-init t c = swept_none c.args.moment c.args.children.now c.in_ok-left.left.items 0 c.in_ok-left.ensures.items refl
+
+pub sweep::each_swept-swept-requires : goal.sweep::each_swept-swept-requires
+sweep::each_swept-swept-requires t c =
+    let deep : c.child-item.result.depth + 1 ≤ depth c.args.children.now = deep_child c.args.children.now c.loop-child.child-index c.child-item.result (omega arith) c.child-item.is in
+    (omega arith, full_at c.args.children.now c.loop-child.child-index c.child-item.result (omega arith) c.child-item.is c.requires)
+
+pub sweep::each_swept-loop-child-preserved : goal.sweep::each_swept-loop-child-preserved
+sweep::each_swept-loop-child-preserved t c =
+    swept_step c.args.moment c.args.children.now c.loop-child.left.items c.loop-child.child-index c.child-item.result (omega arith) c.child-item.is c.requires c.loop-child.invariant c.in_ok-swept.field-0 c.push_left.new.children.items c.in_ok-push_left.ensures c.in_ok-swept.ensures
+
+pub sweep::each_swept-returns-clause-left : goal.sweep::each_swept-returns-clause-left
+sweep::each_swept-returns-clause-left t c = swept_all c.args.moment c.args.children.now c.loop-child.left.items c.loop-child.child-index (omega arith) c.loop-child.invariant
+
+pub sweep::each_swept-returns-clause-row : goal.sweep::each_swept-returns-clause-row
+sweep::each_swept-returns-clause-row t c = c.loop-child.invariant.row
+
+pub Branch::swept-each_swept-requires : goal.Branch::swept-each_swept-requires
+Branch::swept-each_swept-requires t c =
+    let whole : depth c.self.inside.children.items ≡ c.args.self.now.depth = ap (λ (v : BranchValue). v.depth) c.self.view_is in
+    let same : depth c.as_slice.result.now ≡ depth c.self.inside.children.items = ap depth c.as_slice.ensures.value in
+    (omega arith, rw c.as_slice.ensures.value c.self.invariant)
+
+pub Branch::swept-returns : goal.Branch::swept-returns
+Branch::swept-returns t c = rw (← c.self.view_is) (branch_left c.args.moment c.self.inside.held c.in_ok-held.held c.self.inside.children.items c.in_ok-children.children.items c.in_ok-held.ensures (rw c.as_slice.ensures.value at c.in_ok-children.ensures.left))
+
+pub Child::swept-returns-then-is_empty : goal.Child::swept-returns-then-is_empty
+Child::swept-returns-then-is_empty t c =
+    let left : c.in_ok-left-in-Few.left ≡ filter (spot_stays c.args.moment) c.in-Few.bucket = c.in_ok-left-in-Few.ensures in
+    rw (← c.self.view_is, c.in-Few.is) (chain_gone c.args.moment (c.self.inside.level ∷ []) c.in-Few.bucket c.in_ok-left-in-Few.left left (none_is c.in_ok-left-in-Few.left (sym c.is_empty.ensures ∙ c.if-is_empty.true)))
+
+pub Child::swept-returns-then-is_empty-2 : goal.Child::swept-returns-then-is_empty-2
+Child::swept-returns-then-is_empty-2 t c =
+    let stem = c.in-Inner.stem.value in
+    let left : c.in_ok-branch-in-Inner.branch.spots ≡ filter (spot_stays c.args.moment) stem.branch.spots = rw c.deref.ensures at c.in_ok-branch-in-Inner.ensures in
+    rw (← c.self.view_is, c.in-Inner.is) (chain_gone c.args.moment (c.self.inside.level ∷ levels_from 1 stem.chain.items) stem.branch.spots c.in_ok-branch-in-Inner.branch.spots left (none_is c.in_ok-branch-in-Inner.branch.spots (sym c.is_empty-in-Inner.ensures ∙ c.if-is_empty-2.true)))
+
+pub Child::swept-returns-then-is_empty-3 : goal.Child::swept-returns-then-is_empty-3
+Child::swept-returns-then-is_empty-3 t c =
+    let left : c.in_ok-branch-in-Row.branch.spots ≡ filter (spot_stays c.args.moment) c.in-Row.row.value.spots = rw c.deref-in-Row.ensures at c.in_ok-branch-in-Row.ensures in
+    rw (← c.self.view_is, c.in-Row.is) (sym left ∙ none_is c.in_ok-branch-in-Row.branch.spots (sym c.is_empty-in-Row.ensures ∙ c.if-is_empty-3.true))
+
+pub Child::swept-returns-in_ok-left-in-Inner : goal.Child::swept-returns-in_ok-left-in-Inner
+Child::swept-returns-in_ok-left-in-Inner t c =
+    let stem = c.in-Inner.stem.value in
+    let new = c.in_ok-left-in-Inner.left.value in
+    let ks = levels_from 1 stem.chain.items in
+    let left : c.in_ok-branch-in-Inner.branch.spots ≡ filter (spot_stays c.args.moment) stem.branch.spots = rw c.deref.ensures at c.in_ok-branch-in-Inner.ensures in
+    let chain : c.in_ok-chain-in-Inner.chain.items ≡ stem.chain.items = rw (c.as_slice.ensures.value, c.deref-in-Inner.ensures) at c.in_ok-chain-in-Inner.ensures.items in
+    let some : IsFull c.in_ok-branch-in-Inner.branch.spots = full_not c.in_ok-branch-in-Inner.branch.spots (sym c.is_empty-in-Inner.ensures ∙ c.if-is_empty-2.false) in
+    let made : stem_spots new ≡ under_all ks c.in_ok-branch-in-Inner.branch.spots = ap stem_spots c.in_ok-left-in-Inner.ensures.ok ∙ ap (λ (l : List ℕ). under_all (levels_from 1 l) c.in_ok-branch-in-Inner.branch.spots) chain in
+    let full : IsFull (stem_spots new) = (let P : Held → Type 0 = λ w. IsFull w in subst P (sym made) (full_below ks c.in_ok-branch-in-Inner.branch.spots some)) in
+    rw (← c.self.view_is, c.in-Inner.is) (level_left c.args.moment c.self.inside.level c.in_ok-level-in-Inner.level (stem_spots stem) (stem_spots new) c.in_ok-level-in-Inner.ensures (made ∙ chain_left c.args.moment ks stem.branch.spots c.in_ok-branch-in-Inner.branch.spots left) full)
+
+pub Child::swept-returns-in_ok-left-in-Row : goal.Child::swept-returns-in_ok-left-in-Row
+Child::swept-returns-in_ok-left-in-Row t c =
+    let row = c.in_ok-branch-in-Row.branch in
+    let left : row.spots ≡ filter (spot_stays c.args.moment) c.in-Row.row.value.spots = rw c.deref-in-Row.ensures at c.in_ok-branch-in-Row.ensures in
+    let some : IsFull row.spots = full_not row.spots (sym c.is_empty-in-Row.ensures ∙ c.if-is_empty-3.false) in
+    rw (← c.self.view_is, c.in-Row.is) (row_left c.args.moment c.self.inside.level c.in_ok-level-in-Row.level c.in-Row.row.value.spots row.spots c.in_ok-left-in-Row.left.value.spots c.in_ok-level-in-Row.ensures (ap (λ (v : BranchValue). v.spots) c.in_ok-left-in-Row.ensures.ok) left some)
+
+pub Child::swept-returns-then-moment-earliest : goal.Child::swept-returns-then-moment-earliest
+Child::swept-returns-then-moment-earliest t c =
+    all_left c.args.moment c.earliest.result c.args.self.now c.in_ok-all.all c.earliest.ensures c.if-moment-earliest.true c.requires c.in_ok-all.ensures
+
+pub Child::swept-returns-in_ok-level-in-Few : goal.Child::swept-returns-in_ok-level-in-Few
+Child::swept-returns-in_ok-level-in-Few t c =
+    let left : c.in_ok-left-in-Few.left ≡ filter (spot_stays c.args.moment) c.in-Few.bucket = c.in_ok-left-in-Few.ensures in
+    let some : IsFull c.in_ok-left-in-Few.left = full_not c.in_ok-left-in-Few.left (sym c.is_empty.ensures ∙ c.if-is_empty.false) in
+    rw (← c.self.view_is, c.in-Few.is) (level_left c.args.moment c.self.inside.level c.in_ok-level-in-Few.level c.in-Few.bucket c.in_ok-left-in-Few.left c.in_ok-level-in-Few.ensures left some)

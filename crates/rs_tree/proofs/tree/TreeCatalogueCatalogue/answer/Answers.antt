@@ -1,0 +1,13 @@
+use Rattle.std.proofs.Common.{◌≡◌, ◌≤◌, length, map, arith, None}
+use Rattle.std.specs.List.{filter}
+use Rattle.rs_store.specs.Contents.{found_of, if_fits, is_answered}
+use Rattle.rs_store.specs.Spots.{pairs}
+use Rattle.rs_store.proofs.Rooms.{always_fits}
+use Rattle.rs_tree.proofs.tree.TreeCatalogueCatalogue.answer.Goals as goal
+
+pub returns-in-None : goal.returns-in-None
+returns-in-None c =
+    let held = pairs c.self.inside.root in
+    let few : length held ≤ c.self.inside.count = omega (arith, c.self.invariant.counted) in
+    let none : None ≡ if_fits c.self.inside.count (map found_of (filter (is_answered c.args.filter.now c.args.now) held)) = rw c.in-None.is at c.in_ok-found.ensures in
+    absurd (always_fits c.self.inside.count c.args.filter.now c.args.now held few none)

@@ -1,0 +1,23 @@
+use Rattle.std.proofs.Common.{ap, ◌∙◌}
+use Rattle.rs_store.specs.Spots.{levels_from, pairs}
+use Rattle.rs_store.proofs.Places.{from_start}
+use Rattle.rs_store.proofs.Trees.{pairs_insert, placed_insert, set_old, set_new}
+use Rattle.rs_tree.proofs.tree.set_one.Goals as goal
+
+pub returns-then-was-clause-done : goal.returns-then-was-clause-done
+returns-then-was-clause-done c = ap pairs c.in_ok-was.ensures.done ∙ pairs_insert c.args.root.now (levels_from 0 c.args.topic) (record { topic = c.args.topic; message = c.args.message }) c.requires.placed (from_start c.args.topic)
+
+pub returns-then-was-clause-counted : goal.returns-then-was-clause-counted
+returns-then-was-clause-counted c = set_old c.args.root.now c.args.topic c.args.message c.in_ok-was.was' c.args.count c.requires.placed c.requires.sorted c.requires.counted c.in_ok-was.ensures.told c.if-was.true
+
+pub returns-then-was-clause-placed : goal.returns-then-was-clause-placed
+returns-then-was-clause-placed c = rw c.in_ok-was.ensures.done (placed_insert c.args.root.now (levels_from 0 c.args.topic) (record { topic = c.args.topic; message = c.args.message }) c.requires.placed (from_start c.args.topic))
+
+pub returns-else-was-clause-done : goal.returns-else-was-clause-done
+returns-else-was-clause-done c = ap pairs c.in_ok-was.ensures.done ∙ pairs_insert c.args.root.now (levels_from 0 c.args.topic) (record { topic = c.args.topic; message = c.args.message }) c.requires.placed (from_start c.args.topic)
+
+pub returns-else-was-clause-counted : goal.returns-else-was-clause-counted
+returns-else-was-clause-counted c = set_new c.args.root.now c.args.topic c.args.message c.in_ok-was.was' c.args.count c.requires.placed c.requires.sorted c.requires.counted c.in_ok-was.ensures.told c.if-was.false
+
+pub returns-else-was-clause-placed : goal.returns-else-was-clause-placed
+returns-else-was-clause-placed c = rw c.in_ok-was.ensures.done (placed_insert c.args.root.now (levels_from 0 c.args.topic) (record { topic = c.args.topic; message = c.args.message }) c.requires.placed (from_start c.args.topic))

@@ -1,0 +1,9 @@
+pub mod Answers
+pub mod Buckets
+pub mod Clearing
+pub mod Depths
+pub mod Heights
+pub mod Nodes
+pub mod Room
+pub mod Rows
+pub mod Values

@@ -1,0 +1,73 @@
+//! An answer while it is made.
+
+ghost use Rattle.std.specs.Prelude.{◌≡◌, ◌≤◌, ◌++◌, ◌∷◌, [], length, OnOk, IfErr};
+ghost use Rattle.rs_tree.specs.Room.{IsStop};
+ghost use Rattle.rs_tree.specs.declared.answer.Stop.TheVariants.{NoMemory};
+
+use rs_message::{Found, Message};
+use rs_topic::TopicName;
+use std::alloc::{AllocError, Global};
+
+/// Why an answer was abandoned.
+#[derive(Clone, Copy, PartialEq, Eq)]
+pub enum Stop {
+    /// It would have more messages than it may.
+    Full,
+    /// Out of memory.
+    NoMemory,
+}
+
+impl From<AllocError> for Stop {
+    ghost from_gives = { λ _ stop. stop ≡ NoMemory };
+
+    fn from(_: AllocError) -> Stop {
+        Stop::NoMemory
+    }
+}
+
+/// The messages found so far, and how many there may be.
+#[derive(Drop)]
+pub struct Answer {
+    pub found: Vec<Found>,
+    pub room: usize,
+    ghost fits: { length found.items ≤ room },
+}
+
+impl Answer {
+    pub fn new(alloc: Global, room: usize) -> Answer
+        ensures empty { result.found.items ≡ [] }
+        ensures room { result.room ≡ room }
+    {
+        Answer {
+            found: Vec::new(alloc),
+            room,
+        }
+    }
+
+    /// Appends a copy of a message, which shares the bytes.
+    pub fn push(&mut self, topic: &TopicName, message: &Message) -> Result<(), Stop>
+        ensures done { OnOk result (self.new.found.items ≡ self.old.found.items ++ record { topic = topic.now; message = message.now } ∷ []) }
+        ensures stop { IfErr result (λ stop. IsStop stop self.old.room (self.old.found.items ++ record { topic = topic.now; message = message.now } ∷ [])) }
+        ensures room { self.new.room ≡ self.old.room }
+    {
+        if self.found.len() == self.room {
+            return Err(Stop::Full);
+        }
+        let found = Found {
+            topic: topic.copy()?,
+            message: message.copy()?,
+        };
+        match self.found.push(found) {
+            Ok(()) => Ok(()),
+            Err(_) => Err(Stop::NoMemory),
+        }
+    }
+
+    /// The messages, which are no more than there was room for.
+    pub fn into_found(self) -> Vec<Found>
+        ensures found { result.items ≡ self.found.items }
+        ensures fits { length result.items ≤ self.room }
+    {
+        self.found
+    }
+}

@@ -1,0 +1,208 @@
+//! The retained messages as a tree of levels, whose nodes are shared.
+
+ghost use Rattle.std.specs.Prelude.{◌≡◌, ◌<◌, ◌≤◌, false, [], List, ℕ, length, IfErr, IfOk, IsTrue, MatchResult};
+ghost use Rattle.rs_tree.specs.Nodes.{depth_of, is_row, spots_of};
+ghost use Rattle.rs_tree.specs.Rows.{IsEdge, IsGap, IsIn, IsNotBefore, Passes, Takes};
+
+mod answers;
+mod clear;
+mod earliest;
+mod expired;
+mod holds;
+mod rows;
+mod set;
+mod sweep;
+
+use crate::bucket::Bucket;
+use crate::held::held_again;
+use crate::label::Label;
+use crate::shared::Shared;
+use std::alloc::{AllocError, Global};
+use std::cmp::Ordering;
+use std::marker::Model;
+use std::sync::Arc;
+
+/// The messages below one node: the one of the node itself, and the others by their next level.
+#[cycle(tree)]
+#[derive(Drop)]
+pub struct Branch {
+    held: Option<Shared>,
+    children: Vec<Child>,
+}
+
+/// The messages below one level of a branch, or below some levels that follow one another.
+#[cycle(tree)]
+#[derive(Drop)]
+pub struct Child {
+    level: Label,
+    below: Below,
+}
+
+#[cycle(tree)]
+#[derive(Drop)]
+pub enum Below {
+    /// A few messages.
+    Few(Bucket),
+    /// More messages, or some that had more beside them.
+    Inner(Arc<Stem>),
+    /// The messages below some levels, from that of the child on.
+    Row(Arc<Branch>),
+}
+
+/// A branch below a chain of levels that all of its messages share.
+#[cycle(tree)]
+#[derive(Drop)]
+pub struct Stem {
+    // The levels, a slash before each.
+    chain: Vec<u8>,
+    branch: Branch,
+}
+
+impl Model for Child {
+    ghost use Rattle.rs_tree.specs.Values.{ChildValue};
+
+    ghost Value = { ChildValue };
+
+    ghost use Rattle.rs_tree.specs.Nodes.{depth_of, is_row, spots_of};
+
+    ghost view = { λ c. record { level = c.level; is_row = is_row c.below; spots = spots_of c.level c.below; depth = depth_of c.below } };
+
+    ghost size = { λ v. v.depth };
+
+    ghost use Rattle.rs_tree.specs.Depths.{below_falls};
+
+    ghost size_decreases = { λ a h. below_falls a.below };
+}
+
+impl Model for Branch {
+    ghost use Rattle.rs_tree.specs.Values.{BranchValue};
+
+    ghost Value = { BranchValue };
+
+    ghost use Rattle.std.specs.Prelude.{◌++◌};
+    ghost use Rattle.rs_store.specs.Spots.{own};
+    ghost use Rattle.rs_tree.specs.Rows.{IsRow, depth, parts};
+
+    ghost view = { λ b. record { spots = own b.held ++ parts b.children.items; depth = depth b.children.items } };
+
+    ghost invariant = { λ b. IsRow b.children.items };
+
+    ghost size = { λ v. v.depth };
+
+    ghost use Rattle.rs_tree.specs.Heights.{children_fall};
+
+    ghost size_decreases = { λ a h. children_fall a.children.items };
+}
+
+impl Branch {
+    pub fn new(alloc: Global) -> Branch
+        ensures { result.spots ≡ [] }
+    {
+        Branch {
+            held: None,
+            children: Vec::new(alloc),
+        }
+    }
+}
+
+impl Below {
+    /// One more owner of the same messages.
+    fn again(&self) -> Result<Below, AllocError>
+        ensures row { IfOk result (λ b. is_row b ≡ is_row self.now) }
+        ensures depth { IfOk result (λ b. depth_of b ≡ depth_of self.now) }
+        ensures spots { (level : List ℕ) → IfOk result (λ b. spots_of level b ≡ spots_of level self.now) }
+    {
+        match self {
+            Below::Few(bucket) => Ok(Below::Few(bucket.again()?)),
+            Below::Inner(stem) => Ok(Below::Inner(Arc::try_clone(stem)?)),
+            Below::Row(row) => Ok(Below::Row(Arc::try_clone(row)?)),
+        }
+    }
+}
+
+impl Child {
+    fn level(&self) -> &[u8]
+        ensures { result.now ≡ self.now.level }
+    {
+        self.level.as_slice()
+    }
+
+    /// What is below a level belongs to this child. If not, it is behind all that is here.
+    fn takes(&self, level: &[u8]) -> bool
+        requires { IsNotBefore level.now self.now }
+        ensures taken { IsTrue result → Takes level.now self.now }
+        ensures passed { result ≡ false → Passes level.now self.now }
+    {
+        match &self.below {
+            Below::Few(_) => self.level.as_slice() == level,
+            Below::Inner(_) => self.level.as_slice() == level,
+            Below::Row(_) => true,
+        }
+    }
+
+    /// One more owner of the same messages.
+    fn again(&self, alloc: Global) -> Result<Child, AllocError>
+        ensures { IfOk result (λ c. c ≡ self.now) }
+    {
+        Ok(Child {
+            level: self.level.again(alloc)?,
+            below: self.below.again()?,
+        })
+    }
+}
+
+/// One more owner of the messages of each child.
+fn copies(alloc: Global, children: &[Child]) -> Result<Vec<Child>, AllocError>
+    ensures { IfOk result (λ copies. copies.items ≡ children.now) }
+{
+    let mut copies = Vec::with_capacity(alloc, children.len())?;
+    for child in children {
+        copies.push(child.again(alloc)?)?;
+    }
+    Ok(copies)
+}
+
+impl Branch {
+    /// An equal branch, which shares what is below its children.
+    pub fn again(&self, alloc: Global) -> Result<Branch, AllocError>
+        ensures { IfOk result (λ b. b ≡ self.now) }
+    {
+        Ok(Branch {
+            held: held_again(&self.held)?,
+            children: copies(alloc, self.children.as_slice())?,
+        })
+    }
+}
+
+/// The index of the first child whose level is behind a level.
+fn first_behind(children: &[Child], level: &[u8]) -> usize
+    ensures edge { IsEdge (IsNotBefore level.now) level.now children.now result }
+    ensures small { result ≤ length children.now }
+{
+    let (mut low, mut high) = (0, children.len());
+    while low < high {
+        let middle = low + (high - low) / 2;
+        match level.cmp(children[middle].level()) {
+            Ordering::Less => high = middle,
+            _ => low = middle + 1,
+        }
+    }
+    low
+}
+
+/// The index of the child that a level belongs to, or else the index where it would stand.
+fn place_of(children: &[Child], level: &[u8]) -> Result<usize, usize>
+    ensures found { MatchResult result (λ i. IsIn level.now children.now i) (λ i. IsGap level.now children.now i) }
+    ensures within { IfOk result (λ i. i < length children.now) }
+    ensures room { IfErr result (λ i. i ≤ length children.now) }
+{
+    let i = first_behind(children, level);
+    if i == 0 {
+        return Err(0);
+    }
+    if children[i - 1].takes(level) {
+        Ok(i - 1)
+    } else {
+        Err(i)
+    }
+}

@@ -1,0 +1,57 @@
+//! The first moment at which a message of a branch is expired.
+
+ghost use Rattle.std.specs.Prelude.{◌≡◌};
+ghost use Rattle.rs_store.specs.Expiring.{earliest};
+ghost use Rattle.rs_store.specs.Spots.{own};
+ghost use Rattle.rs_tree.specs.Rows.{parts};
+
+use super::{Below, Branch, Child};
+use crate::found::lowered;
+use crate::shared::Shared;
+
+/// A bound, or the first moment at which the message of one place is expired if that is earlier.
+fn lowered_by_held(held: &Option<Shared>, bound: u64) -> u64
+    ensures { result ≡ earliest bound (own held.now) }
+{
+    match held {
+        Some(found) => lowered(bound, found.message()),
+        None => bound,
+    }
+}
+
+/// A bound, or the first moment at which a message of one of the children is expired if that is earlier.
+#[cycle(earliest)]
+fn lowered_by_each(children: &[Child], bound: u64) -> u64
+    ensures { result ≡ earliest bound (parts children.now) }
+{
+    let mut least = bound;
+    for child in children {
+        least = child.earliest(least);
+    }
+    least
+}
+
+impl Child {
+    /// A bound, or the first moment at which one of its messages is expired if that is earlier.
+    #[cycle(earliest)]
+    pub fn earliest(&self, bound: u64) -> u64
+        ensures { result ≡ earliest bound self.now.spots }
+    {
+        match &self.below {
+            Below::Few(bucket) => bucket.earliest(bound),
+            Below::Inner(stem) => stem.branch.earliest(bound),
+            Below::Row(row) => row.earliest(bound),
+        }
+    }
+}
+
+impl Branch {
+    /// A bound, or the first moment at which one of its messages is expired if that is earlier.
+    #[cycle(earliest)]
+    pub fn earliest(&self, bound: u64) -> u64
+        ensures { result ≡ earliest bound self.now.spots }
+    {
+        let least = lowered_by_held(&self.held, bound);
+        lowered_by_each(self.children.as_slice(), least)
+    }
+}

@@ -1,0 +1,160 @@
+//! Rows of children, of which none has too many.
+
+ghost use Rattle.std.specs.Prelude.{◌≡◌, ◌+◌, ◌∷◌, [], ◌<◌, false, length, slice_set, IfOk, IfSome, IsTrue};
+ghost use Rattle.std.specs.List.{insert};
+ghost use Rattle.rs_store.specs.Spots.{IsFull, spot_of, under};
+ghost use Rattle.rs_tree.specs.Nodes.{stem_spots};
+ghost use Rattle.rs_tree.specs.Rows.{AreHalves, IsFrom, IsRow, parts};
+
+use super::{Below, Branch, Child, Stem, copies};
+use crate::bucket::Bucket;
+use crate::label::Label;
+use crate::shared::Shared;
+use std::alloc::{AllocError, Global};
+use std::sync::Arc;
+
+/// The most children of a branch. Two rows of half as many take the place of more.
+const MOST: usize = 32;
+
+const HALF: usize = 16;
+
+/// A branch of one child, which is a stem.
+pub fn single(alloc: Global, level: Label, stem: Stem) -> Result<Branch, AllocError>
+    requires { IsFull (stem_spots stem) }
+    ensures { IfOk result (λ b. b.spots ≡ under level (stem_spots stem)) }
+{
+    let mut children = Vec::with_capacity(alloc, 1)?;
+    children.push(Child {
+        level,
+        below: Below::Inner(Arc::new(alloc, stem)?),
+    })?;
+    Ok(Branch {
+        held: None,
+        children,
+    })
+}
+
+/// Two rows of some children: a half in each. The first one begins at a level.
+fn halves(alloc: Global, level: Label, children: &[Child]) -> Result<(Child, Child), AllocError>
+    requires row { IsRow children.now }
+    requires start { IsFrom level (parts children.now) }
+    requires many { 16 < length children.now }
+    ensures { IfOk result (λ r. AreHalves level (parts children.now) r.0 r.1) }
+{
+    let (low, high) = children.split_at(HALF);
+    let first = &high[0];
+    let middle = first.level.again(alloc)?;
+    Ok((
+        Child::row(alloc, level, low)?,
+        Child::row(alloc, middle, high)?,
+    ))
+}
+
+impl Child {
+    /// One message below a level.
+    pub fn of(alloc: Global, level: Label, found: Shared, at: usize) -> Result<Child, AllocError>
+        ensures level { IfOk result (λ c. c.level ≡ level) }
+        ensures spots { IfOk result (λ c. c.spots ≡ under level (spot_of at found ∷ [])) }
+    {
+        Ok(Child {
+            level,
+            below: Below::Few(Bucket::of(alloc, found, at)?),
+        })
+    }
+
+    /// A row of some children, which begins at a level.
+    fn row(alloc: Global, level: Label, children: &[Child]) -> Result<Child, AllocError>
+        requires { IsRow children.now }
+        ensures level { IfOk result (λ c. c.level ≡ level) }
+        ensures spots { IfOk result (λ c. c.spots ≡ parts children.now) }
+    {
+        let branch = Branch {
+            held: None,
+            children: copies(alloc, children)?,
+        };
+        Ok(Child {
+            level,
+            below: Below::Row(Arc::new(alloc, branch)?),
+        })
+    }
+
+    /// The halves of a row, if it has too many children.
+    fn halved(&self, alloc: Global) -> Result<Option<(Child, Child)>, AllocError>
+        requires { IsFrom self.now.level self.now.spots }
+        ensures { IfOk result (λ o. IfSome o (λ r. AreHalves self.now.level self.now.spots r.0 r.1)) }
+    {
+        match &self.below {
+            Below::Few(_) => Ok(None),
+            Below::Inner(_) => Ok(None),
+            Below::Row(row) => row.halved(alloc, &self.level),
+        }
+    }
+}
+
+/// Puts two children in the place of one, and says whether there was memory. If not, nothing changes.
+fn put_two(children: &mut Vec<Child>, i: usize, low: Child, high: Child) -> bool
+    requires { i < length children.old.items }
+    ensures done { IsTrue result → children.new.items ≡ slice_set (insert children.old.items (i + 1) high) i low }
+    ensures kept { result ≡ false → children.new.items ≡ children.old.items }
+{
+    let Ok(()) = children.insert(i + 1, high) else {
+        return false;
+    };
+    children[i] = low;
+    true
+}
+
+impl Branch {
+    /// Two rows of its children, if these are too many. The first one begins at a level.
+    fn halved(&self, alloc: Global, level: &Label) -> Result<Option<(Child, Child)>, AllocError>
+        requires { IsFrom level.now self.now.spots }
+        ensures { IfOk result (λ o. IfSome o (λ r. AreHalves level.now self.now.spots r.0 r.1)) }
+    {
+        if self.held.is_some() || self.children.len() <= MOST {
+            return Ok(None);
+        }
+        let pair = halves(alloc, level.again(alloc)?, self.children.as_slice())?;
+        Ok(Some(pair))
+    }
+
+    /// Puts two rows in the place of the row at an index, if that has too many children. If memory is refused, it stays, and the next
+    /// entry that goes there tries again.
+    pub fn divide(&mut self, alloc: Global, i: usize)
+        ensures { self.new.spots ≡ self.old.spots }
+    {
+        if i >= self.children.len() {
+            return;
+        }
+        let Ok(Some((low, high))) = self.children[i].halved(alloc) else {
+            return;
+        };
+        put_two(&mut self.children, i, low, high);
+    }
+
+    /// Puts two rows in the place of the children, if these are too many. If memory is refused, they stay, and the next entry that goes
+    /// there tries again.
+    pub fn fold(&mut self, alloc: Global)
+        ensures { self.new.spots ≡ self.old.spots }
+    {
+        if self.children.len() <= MOST {
+            return;
+        }
+        if let Ok(rows) = two_rows(alloc, self.children.as_slice()) {
+            self.children = rows;
+        }
+    }
+}
+
+/// A row of two rows, a half of some children in each.
+fn two_rows(alloc: Global, children: &[Child]) -> Result<Vec<Child>, AllocError>
+    requires row { IsRow children.now }
+    requires many { 16 < length children.now }
+    ensures row { IfOk result (λ rows. IsRow rows.items) }
+    ensures same { IfOk result (λ rows. parts rows.items ≡ parts children.now) }
+{
+    let mut rows = Vec::with_capacity(alloc, 2)?;
+    let (low, high) = halves(alloc, Label::empty(alloc), children)?;
+    rows.push(low)?;
+    rows.push(high)?;
+    Ok(rows)
+}

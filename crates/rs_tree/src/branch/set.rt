@@ -1,0 +1,266 @@
+//! Sets a message in a branch, which is changed in place while it has one owner and copied otherwise.
+
+ghost use Rattle.std.specs.Prelude.{◌≡◌, ◌∷◌, ◌++◌, [], ◌≤◌, IfOk, OnErr, OnOk};
+ghost use Rattle.std.specs.Arc.{arc_value};
+ghost use Rattle.std.specs.BTreeMap.{insert_entry};
+ghost use Rattle.rs_topic.specs.Order.{path_cmp};
+ghost use Rattle.rs_store.specs.Spots.{IsFull, is_there, levels_from};
+ghost use Rattle.rs_tree.specs.Nodes.{stem_spots};
+ghost use Rattle.rs_tree.specs.Rows.{Leads};
+
+use super::rows::single;
+use super::{Below, Branch, Child, Stem, place_of};
+use crate::bucket::Bucket;
+use crate::chain::{behind, shared_levels};
+use crate::label::Label;
+use crate::level::level_at;
+use crate::shared::Shared;
+use std::alloc::{AllocError, Global};
+use std::sync::Arc;
+
+/// A chain of the levels that the messages of a bucket share, and a branch of the same messages.
+fn parted(alloc: Global, bucket: &Bucket) -> Result<Stem, AllocError>
+    ensures { IfOk result (λ s. stem_spots s ≡ bucket.now) }
+{
+    let chain = bucket.shared(alloc)?;
+    let mut branch = Branch::new(alloc);
+    let leaves = bucket.as_slice();
+    for leaf in leaves {
+        // Never none: the messages are in order, so all share what the first and the last share.
+        let Some(next) = behind(chain.as_slice(), leaf.found.topic(), leaf.at) else {
+            return Err(AllocError);
+        };
+        branch.hold(alloc, leaf.found.again()?, next)?;
+    }
+    Ok(Stem { chain, branch })
+}
+
+impl Child {
+    /// Sets a message in a bucket, and returns whether there was one. If memory is refused, nothing changes.
+    fn hold(
+        &mut self,
+        alloc: Global,
+        found: Shared,
+        at: usize,
+        next: usize,
+    ) -> Result<bool, AllocError>
+        requires { Leads self.old (levels_from at found.topic) (levels_from next found.topic) }
+        ensures level { self.new.level ≡ self.old.level }
+        ensures done { OnOk result (self.new.spots ≡ insert_entry path_cmp self.old.spots (levels_from at found.topic) found) }
+        ensures told { IfOk result (λ was. was ≡ is_there (levels_from at found.topic) self.old.spots) }
+        ensures refused { OnErr result (self.new.spots ≡ self.old.spots) }
+    {
+        if let Below::Few(bucket) = &mut self.below {
+            return bucket.set(alloc, found, next);
+        }
+        // Never: the children of a branch that is made of a bucket are buckets.
+        Err(AllocError)
+    }
+
+    /// Puts a branch in the place of a bucket that has too many messages. If memory is refused, the bucket stays, and the next entry
+    /// that goes there tries again.
+    fn part(&mut self, alloc: Global)
+        ensures level { self.new.level ≡ self.old.level }
+        ensures same { self.new.spots ≡ self.old.spots }
+    {
+        let Below::Few(bucket) = &self.below else {
+            return;
+        };
+        if !bucket.is_over() {
+            return;
+        }
+        let Ok(stem) = parted(alloc, bucket) else {
+            return;
+        };
+        if let Ok(stem) = Arc::new(alloc, stem) {
+            self.below = Below::Inner(stem);
+        }
+    }
+
+    /// Sets the message at the rest of its topic, of which the first level ends before `next`, and returns whether there was one. If
+    /// memory is refused, nothing changes.
+    #[cycle(set)]
+    fn set(
+        &mut self,
+        alloc: Global,
+        found: Shared,
+        at: usize,
+        next: usize,
+    ) -> Result<bool, AllocError>
+        requires full { IsFull self.old.spots }
+        requires leads { Leads self.old (levels_from at found.topic) (levels_from next found.topic) }
+        ensures level { self.new.level ≡ self.old.level }
+        ensures done { OnOk result (self.new.spots ≡ insert_entry path_cmp self.old.spots (levels_from at found.topic) found) }
+        ensures told { IfOk result (λ was. was ≡ is_there (levels_from at found.topic) self.old.spots) }
+        ensures refused { OnErr result (self.new.spots ≡ self.old.spots) }
+    {
+        match &mut self.below {
+            Below::Few(bucket) => {
+                let done = bucket.set(alloc, found, next);
+                self.part(alloc);
+                return done;
+            }
+            Below::Inner(stem) => return Stem::set(stem, alloc, found, next),
+            Below::Row(row) => return Branch::set_in(row, alloc, found, at),
+        }
+    }
+}
+
+impl Stem {
+    /// An equal stem, which shares what is below its children.
+    pub fn again(&self, alloc: Global) -> Result<Stem, AllocError>
+        ensures chain { IfOk result (λ s. s.chain.items ≡ self.now.chain.items) }
+        ensures branch { IfOk result (λ s. s.branch ≡ self.now.branch) }
+    {
+        Ok(Stem {
+            chain: Vec::from_slice(alloc, self.chain.as_slice())?,
+            branch: self.branch.again(alloc)?,
+        })
+    }
+
+    /// Ends the chain before the level at a byte, and puts a branch with that level in between. If memory is refused, nothing
+    /// changes.
+    fn cut(&mut self, alloc: Global, upper: Vec<u8>, at: usize) -> Result<(), AllocError>
+        requires full { IsFull self.old.branch.spots }
+        requires upper { levels_from 1 self.old.chain.items ≡ levels_from 1 upper.items ++ levels_from at self.old.chain.items }
+        ensures done { OnOk result (self.new.chain ≡ upper) }
+        ensures same { stem_spots self.new ≡ stem_spots self.old }
+    {
+        let Some((level, next)) = level_at(self.chain.as_slice(), at) else {
+            self.chain = upper;
+            return Ok(());
+        };
+        let label = Label::new(alloc, level)?;
+        let (_, rest) = self.chain.as_slice().split_at(next - 1);
+        let lower = Stem {
+            chain: Vec::from_slice(alloc, rest)?,
+            branch: self.branch.again(alloc)?,
+        };
+        self.branch = single(alloc, label, lower)?;
+        self.chain = upper;
+        Ok(())
+    }
+
+    /// Sets a message whose topic leaves the chain. If memory is refused, nothing changes.
+    fn set_beside(&mut self, alloc: Global, found: Shared, at: usize) -> Result<bool, AllocError>
+        requires { IsFull self.old.branch.spots }
+        ensures done { OnOk result (stem_spots self.new ≡ insert_entry path_cmp (stem_spots self.old) (levels_from at found.topic) found) }
+        ensures told { IfOk result (λ was. was ≡ is_there (levels_from at found.topic) (stem_spots self.old)) }
+        ensures refused { OnErr result (stem_spots self.new ≡ stem_spots self.old) }
+    {
+        let shared = shared_levels(alloc, self.chain.as_slice(), 1, found.topic(), at)?;
+        self.cut(alloc, shared.chain, shared.at)?;
+        self.branch.hold(alloc, found, shared.from)
+    }
+
+    /// Sets the message at the rest of its topic, and returns whether there was one. If memory is refused, nothing changes.
+    #[cycle(set)]
+    fn set_here(&mut self, alloc: Global, found: Shared, at: usize) -> Result<bool, AllocError>
+        requires { IsFull self.old.branch.spots }
+        ensures done { OnOk result (stem_spots self.new ≡ insert_entry path_cmp (stem_spots self.old) (levels_from at found.topic) found) }
+        ensures told { IfOk result (λ was. was ≡ is_there (levels_from at found.topic) (stem_spots self.old)) }
+        ensures refused { OnErr result (stem_spots self.new ≡ stem_spots self.old) }
+    {
+        let Some(next) = behind(self.chain.as_slice(), found.topic(), at) else {
+            return self.set_beside(alloc, found, at);
+        };
+        let done = self.branch.set(alloc, found, next);
+        self.branch.fold(alloc);
+        done
+    }
+
+    /// The same in place if the stem has one owner, and else in a copy.
+    #[cycle(set)]
+    fn set(
+        this: &mut Arc<Stem>,
+        alloc: Global,
+        found: Shared,
+        at: usize,
+    ) -> Result<bool, AllocError>
+        requires { IsFull (arc_value this.old).branch.spots }
+        ensures done { OnOk result (stem_spots (arc_value this.new) ≡ insert_entry path_cmp (stem_spots (arc_value this.old)) (levels_from at found.topic) found) }
+        ensures told { IfOk result (λ was. was ≡ is_there (levels_from at found.topic) (stem_spots (arc_value this.old))) }
+        ensures refused { OnErr result (stem_spots (arc_value this.new) ≡ stem_spots (arc_value this.old)) }
+    {
+        if let Some(stem) = Arc::get_mut(this) {
+            return stem.set_here(alloc, found, at);
+        }
+        let mut copy = this.again(alloc)?;
+        let was = copy.set_here(alloc, found, at)?;
+        *this = Arc::new(alloc, copy)?;
+        Ok(was)
+    }
+}
+
+impl Branch {
+    /// Sets a message in a branch whose children are buckets, and returns whether there was one. If memory is refused, nothing
+    /// changes.
+    fn hold(&mut self, alloc: Global, found: Shared, at: usize) -> Result<bool, AllocError>
+        ensures done { OnOk result (self.new.spots ≡ insert_entry path_cmp self.old.spots (levels_from at found.topic) found) }
+        ensures told { IfOk result (λ was. was ≡ is_there (levels_from at found.topic) self.old.spots) }
+        ensures refused { OnErr result (self.new.spots ≡ self.old.spots) }
+    {
+        let Some((level, next)) = level_at(found.topic(), at) else {
+            let was = self.held.is_some();
+            self.held = Some(found);
+            return Ok(was);
+        };
+        match place_of(self.children.as_slice(), level) {
+            Ok(i) => self.children[i].hold(alloc, found, at, next),
+            Err(i) => {
+                let label = Label::new(alloc, level)?;
+                let child = Child::of(alloc, label, found, next)?;
+                self.children.insert(i, child)?;
+                Ok(false)
+            }
+        }
+    }
+
+    /// Sets the message at the rest of its topic, and returns whether there was one. If memory is refused, nothing changes.
+    #[cycle(set)]
+    pub fn set(&mut self, alloc: Global, found: Shared, at: usize) -> Result<bool, AllocError>
+        ensures done { OnOk result (self.new.spots ≡ insert_entry path_cmp self.old.spots (levels_from at found.topic) found) }
+        ensures told { IfOk result (λ was. was ≡ is_there (levels_from at found.topic) self.old.spots) }
+        ensures refused { OnErr result (self.new.spots ≡ self.old.spots) }
+    {
+        let Some((level, next)) = level_at(found.topic(), at) else {
+            let was = self.held.is_some();
+            self.held = Some(found);
+            return Ok(was);
+        };
+        match place_of(self.children.as_slice(), level) {
+            Ok(i) => {
+                let done = self.children[i].set(alloc, found, at, next);
+                self.divide(alloc, i);
+                done
+            }
+            Err(i) => {
+                let label = Label::new(alloc, level)?;
+                let child = Child::of(alloc, label, found, next)?;
+                self.children.insert(i, child)?;
+                Ok(false)
+            }
+        }
+    }
+
+    /// The same in place if the branch has one owner, and else in a copy.
+    #[cycle(set)]
+    pub fn set_in(
+        this: &mut Arc<Branch>,
+        alloc: Global,
+        found: Shared,
+        at: usize,
+    ) -> Result<bool, AllocError>
+        ensures done { OnOk result ((arc_value this.new).spots ≡ insert_entry path_cmp (arc_value this.old).spots (levels_from at found.topic) found) }
+        ensures told { IfOk result (λ was. was ≡ is_there (levels_from at found.topic) (arc_value this.old).spots) }
+        ensures refused { OnErr result ((arc_value this.new).spots ≡ (arc_value this.old).spots) }
+    {
+        if let Some(branch) = Arc::get_mut(this) {
+            return branch.set(alloc, found, at);
+        }
+        let mut copy = this.again(alloc)?;
+        let was = copy.set(alloc, found, at)?;
+        *this = Arc::new(alloc, copy)?;
+        Ok(was)
+    }
+}

@@ -1,0 +1,33 @@
+//! The message of one place, or none.
+
+ghost use Rattle.std.specs.Prelude.{◌≡◌, IfOk};
+ghost use Rattle.rs_store.specs.Chosen.{own_chosen};
+ghost use Rattle.rs_tree.specs.Answers.{Gives};
+
+use crate::answer::{Answer, Stop};
+use crate::found::is_expired;
+use crate::shared::Shared;
+use std::alloc::AllocError;
+
+/// Appends a copy of the message of one place, unless it is expired.
+pub fn answer_held(held: &Option<Shared>, now: u64, answer: &mut Answer) -> Result<(), Stop>
+    ensures { Gives result answer.old answer.new (own_chosen now held.now) }
+{
+    let Some(found) = held else {
+        return Ok(());
+    };
+    if is_expired(found.message(), now) {
+        return Ok(());
+    }
+    answer.push(&found.get().topic, found.message())
+}
+
+/// One more owner of the message of one place, if there is one.
+pub fn held_again(held: &Option<Shared>) -> Result<Option<Shared>, AllocError>
+    ensures { IfOk result (λ h. h ≡ held.now) }
+{
+    match held {
+        None => Ok(None),
+        Some(found) => Ok(Some(found.again()?)),
+    }
+}

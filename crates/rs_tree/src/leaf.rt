@@ -1,0 +1,81 @@
+//! A message below a place of the tree.
+
+ghost use Rattle.std.specs.Prelude.{◌≡◌, false, [], ◌∷◌, ◌++◌, IfErr, IfOk, IsTrue, OnOk};
+ghost use Rattle.rs_topic.specs.Order.{path_cmp};
+ghost use Rattle.rs_store.specs.Chosen.{chosen};
+ghost use Rattle.rs_tree.specs.Room.{IsStop};
+ghost use Rattle.rs_store.specs.Spots.{levels_from, spot_of};
+
+use crate::answer::{Answer, Stop};
+use crate::chain::behind;
+use crate::found::is_expired;
+use crate::level::{compare_rests, level_at, levels_fit};
+use crate::shared::Shared;
+use std::alloc::AllocError;
+use std::cmp::Ordering;
+
+/// A message below a place, however many levels are left of its topic.
+#[derive(Drop)]
+pub struct Leaf {
+    pub found: Shared,
+    /// The byte at which the rest of the topic begins.
+    pub at: usize,
+}
+
+impl Leaf {
+    /// Begins the rest of the topic at an earlier byte, if exactly a chain and a level stand in between, and says whether they do.
+    pub fn rise(&mut self, chain: &[u8], level: &[u8], at: usize) -> bool
+        ensures same { self.new.found ≡ self.old.found }
+        ensures done { IsTrue result → levels_from self.new.at self.old.found.topic ≡ levels_from 1 chain.now ++ level.now ∷ levels_from self.old.at self.old.found.topic }
+        ensures kept { result ≡ false → self.new.at ≡ self.old.at }
+    {
+        let topic = self.found.topic();
+        let Some(next) = behind(chain, topic, at) else {
+            return false;
+        };
+        let Some((own, rest)) = level_at(topic, next) else {
+            return false;
+        };
+        if own != level || rest != self.at {
+            return false;
+        }
+        self.at = at;
+        true
+    }
+
+    /// How the rest of another topic compares to the rest of its own.
+    pub fn compared(&self, topic: &[u8], at: usize) -> Ordering
+        ensures { result ≡ path_cmp (levels_from at topic.now) (levels_from self.now.at self.now.found.topic) }
+    {
+        compare_rests(topic, at, self.found.topic(), self.at)
+    }
+
+    /// An equal leaf, which shares the bytes.
+    pub fn copy(&self) -> Result<Leaf, AllocError>
+        ensures { IfOk result (λ l. l ≡ self.now) }
+    {
+        Ok(Leaf {
+            found: self.found.again()?,
+            at: self.at,
+        })
+    }
+
+    /// Appends a copy of the message if the filter fits the rest of its topic and it is not expired.
+    pub fn answer(
+        &self,
+        filter: &[u8],
+        at: usize,
+        now: u64,
+        answer: &mut Answer,
+    ) -> Result<(), Stop>
+        ensures done { OnOk result (answer.new.found.items ≡ answer.old.found.items ++ chosen (levels_from at filter.now) now (spot_of self.now.at self.now.found ∷ [])) }
+        ensures stop { IfErr result (λ stop. IsStop stop answer.old.room (answer.old.found.items ++ chosen (levels_from at filter.now) now (spot_of self.now.at self.now.found ∷ []))) }
+        ensures room { answer.new.room ≡ answer.old.room }
+    {
+        let topic = self.found.topic();
+        if !levels_fit(filter, at, topic, self.at) || is_expired(self.found.message(), now) {
+            return Ok(());
+        }
+        answer.push(&self.found.get().topic, self.found.message())
+    }
+}

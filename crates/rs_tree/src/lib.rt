@@ -1,0 +1,22 @@
+//! The store of retained messages that many readers look at: a tree of levels whose nodes are shared between a catalogue and its
+//! copies. A node is changed in place while it has one owner, and copied otherwise.
+#![tactic(auto)]
+
+mod answer;
+mod branch;
+mod bucket;
+mod chain;
+mod cleared;
+mod found;
+mod held;
+mod label;
+mod leaf;
+mod leaves;
+mod level;
+mod root;
+mod shared;
+#[cfg(test)]
+mod tests;
+mod tree;
+
+pub use tree::TreeCatalogue;

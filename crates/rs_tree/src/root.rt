@@ -1,0 +1,134 @@
+//! The whole tree, which a catalogue and its copies share until one of them changes it.
+
+ghost use Rattle.std.specs.Prelude.{◌≡◌, ◌+◌, ◌++◌, ◌≤◌, [], length, IfErr, IfOk, OnErr, OnOk};
+ghost use Rattle.std.specs.BTreeMap.{insert_entry, is_at};
+ghost use Rattle.std.specs.List.{filter};
+ghost use Rattle.std.specs.Map.{remove_entry};
+ghost use Rattle.rs_topic.specs.Order.{path_cmp};
+ghost use Rattle.rs_store.specs.Chosen.{chosen_at_root};
+ghost use Rattle.rs_store.specs.Expiring.{earliest};
+ghost use Rattle.rs_store.specs.Spots.{is_there, levels_from};
+ghost use Rattle.rs_store.specs.Sweeping.{is_expired_spot, spot_stays};
+ghost use Rattle.rs_store.specs.declared.limit.TheConstants.{MAX_TOPICS};
+ghost use Rattle.rs_tree.specs.Room.{IsStop};
+
+use crate::answer::{Answer, Stop};
+use crate::branch::Branch;
+use crate::cleared::Cleared;
+use crate::shared::Shared;
+use rs_message::Found;
+use std::alloc::{AllocError, Global};
+use std::marker::Model;
+use std::sync::Arc;
+
+/// The messages of all topics. Contracts see them with the levels of their topics, in the order of replay.
+#[derive(Drop)]
+pub struct Root {
+    branch: Arc<Branch>,
+}
+
+impl Model for Root {
+    ghost use Rattle.std.specs.Prelude.{List, ℕ};
+    ghost use Rattle.rs_message.specs.declared.entry.Found.{Found};
+
+    ghost Value = { List (List (List ℕ) × Found) };
+
+    ghost view = { λ r. r.branch.value.spots };
+}
+
+impl Root {
+    pub fn new(alloc: Global) -> Result<Root, AllocError>
+        ensures { IfOk result (λ r. r ≡ []) }
+    {
+        Ok(Root {
+            branch: Arc::new(alloc, Branch::new(alloc))?,
+        })
+    }
+
+    /// One more owner of the same tree. The error says that the count of owners is full.
+    pub fn again(&self) -> Result<Root, AllocError>
+        ensures { IfOk result (λ r. r ≡ self.now) }
+    {
+        Ok(Root {
+            branch: Arc::try_clone(&self.branch)?,
+        })
+    }
+
+    /// Puts two rows in the place of the children of the root, if these are too many.
+    fn fold(&mut self, alloc: Global)
+        ensures { self.new ≡ self.old }
+    {
+        if let Some(branch) = Arc::get_mut(&mut self.branch) {
+            branch.fold(alloc);
+        }
+    }
+
+    /// Sets the message of its topic, and returns whether there was one. If memory is refused, nothing changes.
+    pub fn set(&mut self, alloc: Global, found: Found) -> Result<bool, AllocError>
+        ensures done { OnOk result (self.new ≡ insert_entry path_cmp self.old (levels_from 0 found.topic) found) }
+        ensures told { IfOk result (λ was. was ≡ is_there (levels_from 0 found.topic) self.old) }
+        ensures refused { OnErr result (self.new ≡ self.old) }
+    {
+        let shared = Shared::new(alloc, found)?;
+        let done = Branch::set_in(&mut self.branch, alloc, shared, 0);
+        self.fold(alloc);
+        done
+    }
+
+    /// Removes the message of a topic, and returns whether there was one. If memory is refused, nothing changes.
+    pub fn clear(&mut self, alloc: Global, topic: &[u8]) -> Result<bool, AllocError>
+        ensures done { OnOk result (self.new ≡ remove_entry (is_at (path_cmp (levels_from 0 topic.now))) self.old) }
+        ensures told { IfOk result (λ was. was ≡ is_there (levels_from 0 topic.now) self.old) }
+        ensures refused { OnErr result (self.new ≡ self.old) }
+    {
+        match Branch::clear_in(&mut self.branch, alloc, topic, 0) {
+            Ok(Cleared::Missing) => Ok(false),
+            Ok(Cleared::Left) => Ok(true),
+            Ok(Cleared::Last) => {
+                self.branch = Arc::new(alloc, Branch::new(alloc))?;
+                Ok(true)
+            }
+            Err(refused) => Err(refused),
+        }
+    }
+
+    /// Removes the messages that are expired. If memory is refused, nothing changes.
+    pub fn sweep(&mut self, alloc: Global, moment: u64) -> Result<(), AllocError>
+        ensures done { OnOk result (self.new ≡ filter (spot_stays moment) self.old) }
+        ensures refused { OnErr result (self.new ≡ self.old) }
+    {
+        let swept = self.branch.swept(alloc, moment)?;
+        self.branch = Arc::new(alloc, swept)?;
+        Ok(())
+    }
+
+    /// There is a message of this topic.
+    pub fn holds(&self, topic: &[u8]) -> bool
+        ensures { result ≡ is_there (levels_from 0 topic.now) self.now }
+    {
+        self.branch.holds(topic, 0)
+    }
+
+    /// Appends copies of the messages that a filter matches and that are not expired.
+    pub fn answer(&self, filter: &[u8], now: u64, answer: &mut Answer) -> Result<(), Stop>
+        ensures done { OnOk result (answer.new.found.items ≡ answer.old.found.items ++ chosen_at_root (levels_from 0 filter.now) now self.now) }
+        ensures stop { IfErr result (λ stop. IsStop stop answer.old.room (answer.old.found.items ++ chosen_at_root (levels_from 0 filter.now) now self.now)) }
+        ensures room { answer.new.room ≡ answer.old.room }
+    {
+        self.branch.answer_at_root(filter, now, answer)
+    }
+
+    /// Adds how many of the messages are expired.
+    pub fn expired(&self, now: u64, count: &mut u32)
+        ensures { count.old + length self.now ≤ MAX_TOPICS → count.new ≡ count.old + length (filter (is_expired_spot now) self.now) }
+    {
+        self.branch.expired(now, count);
+    }
+
+    /// A bound, or the first moment at which one of the messages is expired if that is earlier.
+    pub fn earliest(&self, bound: u64) -> u64
+        ensures { result ≡ earliest bound self.now }
+    {
+        self.branch.earliest(bound)
+    }
+}

@@ -1,0 +1,85 @@
+//! The tree beside a map, over many entries.
+
+ghost use Rattle.std.specs.Prelude.{◌≢◌, ◌≡◌, ◌≤◌, [], false, length, IfOk};
+ghost use Rattle.rs_message.specs.Messages.{is_sweep};
+
+use bytes::Bytes;
+use rs_message::{Message, Operation, Origin};
+use rs_packet::{Properties, Qos};
+use rs_store::Catalogue;
+use rs_topic::{TopicFilter, TopicName};
+use std::alloc::{AllocError, Global};
+use std::process::Abort;
+use std::test::Fail;
+
+mod alike;
+mod wide;
+
+/// A message that came at a moment.
+fn message_at(
+    alloc: Global,
+    payload: &'static [u8],
+    received: u64,
+    expiry: Option<u32>,
+) -> Result<Message, AllocError>
+    requires some { payload.now ≢ [] }
+    requires small { length payload.now ≤ 1000 }
+{
+    Message::new(
+        alloc,
+        Bytes::from_static(payload),
+        Qos::AtLeastOnce,
+        received,
+        expiry,
+        Properties::none(),
+    )
+}
+
+/// A Set of a message that came at a moment.
+fn set_at(
+    alloc: Global,
+    topic: TopicName,
+    payload: &'static [u8],
+    received: u64,
+    expiry: Option<u32>,
+) -> Result<Operation, AllocError>
+    requires some { payload.now ≢ [] }
+    requires small { length payload.now ≤ 1000 }
+    ensures { IfOk result (λ o. is_sweep o ≡ false) }
+{
+    let message = message_at(alloc, payload, received, expiry)?;
+    Ok(Operation::Set(topic, message))
+}
+
+fn origin(place: u8, serial: u64) -> Result<Origin, Fail> {
+    Ok(Origin::new(place, serial).ok_or("no place or no serial")?)
+}
+
+/// How many messages an answer within this room has. `None` if there are more.
+fn within<C: Catalogue>(
+    catalogue: &C,
+    filter: &TopicFilter,
+    now: u64,
+    room: usize,
+) -> Result<Option<usize>, Fail> {
+    match catalogue.answer_within(filter, now, room)? {
+        Some(found) => Ok(Some(found.len())),
+        None => Ok(None),
+    }
+}
+
+/// The filter is answered as many as there is room for, and not with one less.
+fn as_many<C: Catalogue>(
+    rt: &impl Abort,
+    catalogue: &C,
+    filter: &TopicFilter,
+    now: u64,
+    wanted: usize,
+) -> Result<(), Fail> {
+    assert!(rt; within(catalogue, filter, now, wanted)? == Some(wanted));
+    if wanted > 0 {
+        assert!(rt; within(catalogue, filter, now, wanted - 1)?.is_none());
+        assert!(rt; within(catalogue, filter, now, 0)?.is_none());
+    }
+    Ok(())
+}

@@ -1,0 +1,243 @@
+//! Both catalogues over one list of entries, drawn by a fixed generator.
+
+ghost use Rattle.std.specs.Prelude.{◌≡◌, ◌<◌, false, IfOk};
+ghost use Rattle.rs_message.specs.Messages.{is_sweep};
+
+use super::{as_many, origin, set_at};
+use crate::TreeCatalogue;
+use rs_message::{Entry, Operation};
+use rs_store::{Catalogue, MapCatalogue, Refusal, Store, TopicLimit};
+use rs_topic::{TopicFilter, TopicName};
+use std::alloc::Global;
+use std::process::Abort;
+use std::test::Fail;
+
+/// A linear congruential generator.
+#[derive(Drop)]
+pub struct Draw {
+    pub state: u64,
+}
+
+impl Draw {
+    /// A number below the bound.
+    pub fn below(&mut self, bound: u64) -> u64
+        requires { 0 < bound }
+        ensures { result < bound }
+    {
+        let state = self
+            .state
+            .wrapping_mul(6364136223846793005)
+            .wrapping_add(1442695040888963407);
+        self.state = state;
+        (state >> 33) % bound
+    }
+
+    /// How many levels: mostly a few, at times 128.
+    fn length(&mut self) -> u64 {
+        if self.below(8) > 0 {
+            return 1 + self.below(5);
+        }
+        120 + self.below(9)
+    }
+}
+
+/// Levels of a topic name. Long names share most of theirs.
+pub fn name_of(alloc: Global, draw: &mut Draw) -> Result<Vec<u8>, Fail> {
+    let levels: [&[u8]; 8] = [b"a", b"a", b"b", b"", b"$s", b"a.b", b"$", b"aa"];
+    let mut name = Vec::new(alloc);
+    let length = draw.length();
+    for i in 0..length {
+        if i > 0 {
+            name.push(b'/')?;
+        }
+        let kinds = if length > 5 && i < 118 { 2 } else { 8 };
+        name.extend_from_slice(levels[draw.below(kinds) as usize])?;
+    }
+    if name.is_empty() {
+        name.push(b'e')?;
+    }
+    Ok(name)
+}
+
+/// Levels of a topic filter.
+fn filter_of(alloc: Global, draw: &mut Draw) -> Result<Vec<u8>, Fail> {
+    let levels: [&[u8]; 8] = [b"+", b"a", b"+", b"b", b"", b"$s", b"+", b"aa"];
+    let mut filter = Vec::new(alloc);
+    let length = draw.length();
+    for i in 0..length {
+        if i > 0 {
+            filter.push(b'/')?;
+        }
+        let kinds = if length > 5 && i < 118 { 3 } else { 8 };
+        filter.extend_from_slice(levels[draw.below(kinds) as usize])?;
+    }
+    if length < 128 && draw.below(2) == 0 {
+        filter.extend_from_slice(b"/#")?;
+    }
+    if filter.is_empty() {
+        filter.push(b'#')?;
+    }
+    Ok(filter)
+}
+
+/// What an entry does: two Sets of three, with an interval or none.
+pub fn operation_of(alloc: Global, name: &[u8], kind: u64) -> Result<Operation, Fail>
+    ensures { IfOk result (λ o. is_sweep o ≡ false) }
+{
+    let topic = TopicName::read(alloc, name)?;
+    let operation = match kind {
+        0 => set_at(alloc, topic, b"x", 100, Some(10)),
+        1 => set_at(alloc, topic, b"y", 100, None),
+        2 => set_at(alloc, topic, b"z", 100, Some(20)),
+        3 => set_at(alloc, topic, b"z", 100, Some(0)),
+        _ => Ok(Operation::Clear(topic)),
+    };
+    Ok(operation?)
+}
+
+pub fn put<C: Catalogue>(
+    alloc: Global,
+    store: &mut Store<C>,
+    serial: u64,
+    name: &[u8],
+    kind: u64,
+) -> Result<Result<(), Refusal>, Fail> {
+    let origin = origin(1, serial)?;
+    let operation = operation_of(alloc, name, kind)?;
+    Ok(store.add(Entry { origin, operation }))
+}
+
+/// The topics and payloads that a filter is answered at a given time.
+fn answer_of<C: Catalogue>(
+    alloc: Global,
+    catalogue: &C,
+    filter: &TopicFilter,
+    now: u64,
+) -> Result<Vec<u8>, Fail> {
+    let mut all = Vec::new(alloc);
+    for one in &catalogue.answer(filter, now)? {
+        all.extend_from_slice(one.topic.as_bytes())?;
+        all.push(b'=')?;
+        all.extend_from_slice(one.message.payload().as_slice())?;
+        all.push(b' ')?;
+    }
+    Ok(all)
+}
+
+/// The filter is answered alike at a given time. Says whether there was anything to find.
+pub fn answers_alike<C: Catalogue, D: Catalogue>(
+    rt: &impl Abort,
+    alloc: Global,
+    first: &C,
+    second: &D,
+    filter: &TopicFilter,
+    now: u64,
+) -> Result<bool, Fail> {
+    let wanted = answer_of(alloc, first, filter, now)?;
+    let answer = answer_of(alloc, second, filter, now)?;
+    assert!(rt; answer.as_slice() == wanted.as_slice());
+    Ok(!wanted.is_empty())
+}
+
+/// Both answer within a room as many messages as the first answers without one.
+fn as_many_alike<C: Catalogue, D: Catalogue>(
+    rt: &impl Abort,
+    first: &C,
+    second: &D,
+    filter: &TopicFilter,
+    now: u64,
+) -> Result<(), Fail> {
+    let many = first.answer(filter, now)?.len();
+    as_many(rt, first, filter, now, many)?;
+    as_many(rt, second, filter, now, many)?;
+    Ok(())
+}
+
+/// The filter is answered alike. Says whether there was anything to find.
+pub fn is_alike<C: Catalogue, D: Catalogue>(
+    rt: &impl Abort,
+    alloc: Global,
+    first: &C,
+    second: &D,
+    filter: &[u8],
+) -> Result<bool, Fail> {
+    let filter = TopicFilter::read(alloc, filter)?;
+    let mut any = false;
+    for now in [100, 111, 125] {
+        let some = answers_alike(rt, alloc, first, second, &filter, now)?;
+        as_many_alike(rt, first, second, &filter, now)?;
+        any = any || some;
+    }
+    Ok(any)
+}
+
+/// 50 filters are answered alike, and 20 of them at least find something.
+fn are_alike<C: Catalogue, D: Catalogue>(
+    rt: &impl Abort,
+    alloc: Global,
+    first: &C,
+    second: &D,
+) -> Result<(), Fail> {
+    let mut draw = Draw { state: 11 };
+    let mut some: u32 = 0;
+    for _ in 0..50 {
+        let filter = filter_of(alloc, &mut draw)?;
+        if is_alike(rt, alloc, first, second, filter.as_slice())? {
+            some = some.saturating_add(1);
+        }
+    }
+    assert!(rt; 20 < some);
+    Ok(())
+}
+
+/// 1,000 entries: each is accepted or rejected alike.
+fn entries<C: Catalogue, D: Catalogue>(
+    rt: &impl Abort,
+    alloc: Global,
+    first: &mut Store<C>,
+    second: &mut Store<D>,
+) -> Result<(), Fail> {
+    let mut draw = Draw { state: 7 };
+    for serial in 1..1001 {
+        let name = name_of(alloc, &mut draw)?;
+        let kind = draw.below(6);
+        let taken = put(alloc, first, serial, name.as_slice(), kind)?;
+        assert!(rt; put(alloc, second, serial, name.as_slice(), kind)? == taken);
+        assert!(rt; second.catalogue().count() == first.catalogue().count());
+    }
+    Ok(())
+}
+
+/// Copies are alike too.
+fn copies_are_alike<C: Catalogue + Drop, D: Catalogue + Drop>(
+    rt: &impl Abort,
+    alloc: Global,
+    first: &C,
+    second: &D,
+) -> Result<(), Fail> {
+    are_alike(rt, alloc, &first.copy()?, &second.copy()?)
+}
+
+/// Many entries in both, which are alike then.
+fn filled<C: Catalogue + Drop>(
+    rt: &impl Abort,
+    alloc: Global,
+    map: &mut Store<C>,
+    tree: &mut Store<TreeCatalogue>,
+) -> Result<(), Fail> {
+    entries(rt, alloc, map, tree)?;
+    let (map, tree) = (map.catalogue(), tree.catalogue());
+    assert!(rt; 250 < map.count());
+    are_alike(rt, alloc, map, tree)?;
+    copies_are_alike(rt, alloc, map, tree)
+}
+
+#[test]
+fn both_alike(rt: HostRuntime) -> Result<(), Fail> {
+    let alloc = rt.alloc();
+    let limit = TopicLimit::new(300).ok_or("300 is a limit")?;
+    let mut map: Store<MapCatalogue> = Store::new(alloc, limit)?;
+    let mut tree: Store<TreeCatalogue> = Store::new(alloc, limit)?;
+    filled(&rt, alloc, &mut map, &mut tree)?;
+    Ok(())
+}

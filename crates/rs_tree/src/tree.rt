@@ -1,0 +1,315 @@
+//! A catalogue in a tree of levels.
+
+ghost use Rattle.std.specs.Prelude.{◌≡◌, ◌-◌, ◌^◌, ◌≤◌, nat_le, length, map, slice_index, IfOk, OnOk, OnErr};
+ghost use Rattle.std.specs.List.{filter as filter_list};
+ghost use Rattle.std.specs.List.Sorted.{IsStrictlySortedBy};
+ghost use Rattle.std.specs.BTreeMap.{insert_entry, is_at};
+ghost use Rattle.std.specs.Option.{option_map};
+ghost use Rattle.std.specs.Map.{keys_of, remove_entry};
+ghost use Rattle.rs_topic.specs.Order.{topic_cmp};
+ghost use Rattle.rs_store.specs.Contents.{after, found_of, if_fits, is_answered, is_gone, serial_count, stays};
+ghost use Rattle.rs_store.specs.Expiring.{first_end};
+ghost use Rattle.rs_store.specs.Spots.{ArePlaced, pairs};
+ghost use Rattle.rs_store.specs.declared.limit.TheConstants.{MAX_TOPICS};
+ghost use Rattle.rs_store.specs.Trees.{IsTree};
+
+use crate::answer::{Answer, Stop};
+use crate::root::Root;
+use rs_message::{Entry, Found, MAX_PLACES, Message, Operation};
+use rs_store::{Catalogue, Refusal, TopicLimit};
+use rs_topic::{TopicFilter, TopicName};
+use std::alloc::{AllocError, Global};
+use std::marker::Model;
+
+/// One serial for each place, at its number, and the writer's at 0.
+const SERIALS: usize = MAX_PLACES as usize + 1;
+
+/// The messages in a tree of the levels of their topics.
+///
+/// A few messages below one place lie side by side, in order. If there are more, the place has a row of the next levels, and the
+/// levels that all topics below share are one text. A row that grows too long becomes a row of rows.
+///
+/// A copy takes one count: it shares the whole tree. `apply` changes a node in place if no copy shares it, and else puts a copy of
+/// that node in its place, which shares what is below. So a copy never changes.
+///
+/// `accepts` and `apply` look up one topic, level by level, and then among the few messages that lie together. `answer` visits only
+/// the branches that the filter can match: one for a level without a wildcard, each for a `+`, all below for a `#`. It builds no
+/// list of levels and copies no byte of a topic, text or payload. `version`, `last_serial` and `count` take constant time.
+///
+/// A Sweep makes what it changes anew, and shares the rest. `expired` and `earliest` visit each message once.
+#[derive(Drop)]
+pub struct TreeCatalogue {
+    alloc: Global,
+    limit: TopicLimit,
+    root: Root,
+    count: u32,
+    // Indexed by place. The writer's is at 0.
+    serials: [u64; SERIALS],
+    version: u64,
+}
+
+impl Model for TreeCatalogue {
+    ghost use Rattle.rs_store.specs.declared.content.Content.{Content};
+    ghost use Rattle.rs_store.specs.Trees.{IsTree};
+    ghost use Rattle.rs_store.specs.Spots.{pairs};
+
+    ghost Value = { Content };
+
+    ghost view = { λ c. record { limit = c.limit; held = pairs c.root; serials = c.serials; version = c.version } };
+
+    ghost invariant = { λ c. IsTree c.root c.count c.limit };
+}
+
+fn serial_of(serials: &[u64; SERIALS], place: u8) -> u64
+    ensures value { result ≡ slice_index serials.now place }
+    ensures wide { length serials.now ≡ serial_count }
+{
+    if (place as usize) < SERIALS {
+        return serials[place as usize];
+    }
+    0
+}
+
+/// Sets one topic and returns how many hold a message then. If memory is refused, nothing changes.
+fn set_one(
+    root: &mut Root,
+    alloc: Global,
+    count: u32,
+    topic: TopicName,
+    message: Message,
+) -> Result<u32, AllocError>
+    requires placed { ArePlaced root.old }
+    requires sorted { IsStrictlySortedBy topic_cmp (keys_of (pairs root.old)) }
+    requires counted { length (pairs root.old) ≡ count }
+    requires small { count ≤ MAX_TOPICS }
+    ensures done { OnOk result (pairs root.new ≡ insert_entry topic_cmp (pairs root.old) topic message) }
+    ensures counted { IfOk result (λ n. n ≡ length (insert_entry topic_cmp (pairs root.old) topic message)) }
+    ensures placed { ArePlaced root.new }
+    ensures refused { OnErr result (root.new ≡ root.old) }
+{
+    let was = root.set(alloc, Found { topic, message })?;
+    if was { Ok(count) } else { Ok(count + 1) }
+}
+
+/// Clears one topic and returns how many hold a message then. If memory is refused, nothing changes.
+fn clear_one(
+    root: &mut Root,
+    alloc: Global,
+    count: u32,
+    topic: &TopicName,
+) -> Result<u32, AllocError>
+    requires placed { ArePlaced root.old }
+    requires counted { length (pairs root.old) ≡ count }
+    ensures done { OnOk result (pairs root.new ≡ remove_entry (is_at (topic_cmp topic.now)) (pairs root.old)) }
+    ensures counted { IfOk result (λ n. n ≡ length (remove_entry (is_at (topic_cmp topic.now)) (pairs root.old))) }
+    ensures placed { ArePlaced root.new }
+    ensures refused { OnErr result (root.new ≡ root.old) }
+{
+    let was = root.clear(alloc, topic.as_bytes())?;
+    if was { Ok(count - 1) } else { Ok(count) }
+}
+
+/// How many of the messages are expired.
+fn count_expired(root: &Root, now: u64) -> u32
+    requires { length (pairs root.now) ≤ MAX_TOPICS }
+    ensures { result ≡ length (filter_list (is_gone now) (pairs root.now)) }
+{
+    let mut count = 0;
+    root.expired(now, &mut count);
+    count
+}
+
+/// The first moment at which a message is expired, or the greatest number if there is none.
+fn earliest_of(root: &Root) -> u64
+    ensures { result ≡ first_end (2 ^ 64 - 1) (pairs root.now) }
+{
+    root.earliest(u64::MAX)
+}
+
+/// Removes the messages that are expired and returns how many topics hold a message then. If memory is refused, nothing changes.
+fn sweep(root: &mut Root, alloc: Global, count: u32, moment: u64) -> Result<u32, AllocError>
+    requires placed { ArePlaced root.old }
+    requires counted { length (pairs root.old) ≡ count }
+    requires small { count ≤ MAX_TOPICS }
+    ensures done { OnOk result (pairs root.new ≡ filter_list (stays moment) (pairs root.old)) }
+    ensures counted { IfOk result (λ n. n ≡ length (filter_list (stays moment) (pairs root.old))) }
+    ensures placed { ArePlaced root.new }
+    ensures refused { OnErr result (root.new ≡ root.old) }
+{
+    let gone = count_expired(root, moment);
+    root.sweep(alloc, moment)?;
+    Ok(count - gone)
+}
+
+/// Sets or clears one topic, or removes what is expired, and returns how many topics hold a message then. If memory is refused,
+/// nothing changes.
+fn change(
+    root: &mut Root,
+    alloc: Global,
+    count: u32,
+    operation: Operation,
+) -> Result<u32, AllocError>
+    requires placed { ArePlaced root.old }
+    requires sorted { IsStrictlySortedBy topic_cmp (keys_of (pairs root.old)) }
+    requires counted { length (pairs root.old) ≡ count }
+    requires small { count ≤ MAX_TOPICS }
+    ensures done { OnOk result (pairs root.new ≡ after (pairs root.old) operation) }
+    ensures counted { IfOk result (λ n. n ≡ length (after (pairs root.old) operation)) }
+    ensures placed { ArePlaced root.new }
+    ensures refused { OnErr result (root.new ≡ root.old) }
+{
+    match operation {
+        Operation::Set(topic, message) => set_one(root, alloc, count, topic, message),
+        Operation::Clear(topic) => clear_one(root, alloc, count, &topic),
+        Operation::Sweep(moment) => sweep(root, alloc, count, moment),
+    }
+}
+
+/// The number of topics that hold a message after the operation.
+fn count_after(root: &Root, count: u32, operation: &Operation) -> u32
+    requires placed { ArePlaced root.now }
+    requires sorted { IsStrictlySortedBy topic_cmp (keys_of (pairs root.now)) }
+    requires counted { length (pairs root.now) ≡ count }
+    requires small { count ≤ MAX_TOPICS }
+    ensures { result ≡ length (after (pairs root.now) operation.now) }
+{
+    match operation {
+        Operation::Set(topic, _) => {
+            if root.holds(topic.as_bytes()) {
+                count
+            } else {
+                count + 1
+            }
+        }
+        Operation::Clear(topic) => {
+            if root.holds(topic.as_bytes()) {
+                count - 1
+            } else {
+                count
+            }
+        }
+        Operation::Sweep(moment) => count - count_expired(root, *moment),
+    }
+}
+
+/// At most `limit` topics hold a message after the operation.
+#[tactic(auto, using(rs_store::proofs::Trees::room_below, rs_store::proofs::Trees::room_swept))]
+fn has_room(root: &Root, count: u32, limit: TopicLimit, operation: &Operation) -> bool
+    requires { IsTree root.now count limit }
+    ensures { result ≡ nat_le (length (after (pairs root.now) operation.now)) limit }
+{
+    if let Operation::Sweep(_) = operation {
+        return true;
+    }
+    if count < limit.get() {
+        return true;
+    }
+    count_after(root, count, operation) <= limit.get()
+}
+
+/// Copies of the messages that answer the filter, if they are at most `room`.
+fn answers(
+    alloc: Global,
+    root: &Root,
+    filter: &TopicFilter,
+    now: u64,
+    room: usize,
+) -> Result<Option<Vec<Found>>, AllocError>
+    requires { ArePlaced root.now }
+    ensures { IfOk result (λ answer. option_map (λ found. found.items) answer ≡ if_fits room (map found_of (filter_list (is_answered filter.now now) (pairs root.now)))) }
+{
+    let mut answer = Answer::new(alloc, room);
+    match root.answer(filter.as_bytes(), now, &mut answer) {
+        Ok(()) => Ok(Some(answer.into_found())),
+        Err(Stop::Full) => Ok(None),
+        Err(Stop::NoMemory) => Err(AllocError),
+    }
+}
+
+impl Catalogue for TreeCatalogue {
+    ghost content = { λ c. c };
+
+    fn new(alloc: Global, limit: TopicLimit) -> Result<TreeCatalogue, AllocError> {
+        Ok(TreeCatalogue {
+            alloc,
+            limit,
+            root: Root::new(alloc)?,
+            count: 0,
+            serials: [0; SERIALS],
+            version: 0,
+        })
+    }
+
+    fn accepts(&self, entry: &Entry) -> Result<(), Refusal> {
+        let place = entry.origin.place();
+        if entry.origin.serial() <= self.serials[place as usize] {
+            return Err(Refusal::Stale);
+        }
+        if self.version == u64::MAX {
+            return Err(Refusal::Full);
+        }
+        if !has_room(&self.root, self.count, self.limit, &entry.operation) {
+            return Err(Refusal::Full);
+        }
+        Ok(())
+    }
+
+    fn apply(&mut self, entry: Entry) -> Result<(), AllocError> {
+        let _limit = self.limit.get();
+        let origin = entry.origin;
+        let count = change(&mut self.root, self.alloc, self.count, entry.operation)?;
+        self.count = count;
+        self.serials[origin.place() as usize] = origin.serial();
+        self.version += 1;
+        Ok(())
+    }
+
+    fn answer(&self, filter: &TopicFilter, now: u64) -> Result<Vec<Found>, AllocError> {
+        match answers(self.alloc, &self.root, filter, now, self.count as usize)? {
+            Some(found) => Ok(found),
+            // Never: no answer has more messages than are held.
+            None => Ok(Vec::new(self.alloc)),
+        }
+    }
+
+    fn answer_within(
+        &self,
+        filter: &TopicFilter,
+        now: u64,
+        room: usize,
+    ) -> Result<Option<Vec<Found>>, AllocError> {
+        answers(self.alloc, &self.root, filter, now, room)
+    }
+
+    fn version(&self) -> u64 {
+        self.version
+    }
+
+    fn last_serial(&self, place: u8) -> u64 {
+        serial_of(&self.serials, place)
+    }
+
+    fn count(&self) -> u32 {
+        self.count
+    }
+
+    fn expired(&self, now: u64) -> u32 {
+        let _limit = self.limit.get();
+        count_expired(&self.root, now)
+    }
+
+    fn earliest(&self) -> u64 {
+        earliest_of(&self.root)
+    }
+
+    fn copy(&self) -> Result<TreeCatalogue, AllocError> {
+        Ok(TreeCatalogue {
+            alloc: self.alloc,
+            limit: self.limit,
+            root: self.root.again()?,
+            count: self.count,
+            serials: self.serials,
+            version: self.version,
+        })
+    }
+}
