@@ -15,8 +15,6 @@ mod leaves;
 mod level;
 mod root;
 mod shared;
-#[cfg(test)]
-mod tests;
 mod tree;
 
 pub use tree::TreeCatalogue;

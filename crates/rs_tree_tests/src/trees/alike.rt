@@ -4,10 +4,10 @@ ghost use Rattle.std.specs.Prelude.{◌≡◌, ◌<◌, false, IfOk};
 ghost use Rattle.rs_message.specs.Messages.{is_sweep};
 
 use super::{as_many, origin, set_at};
-use crate::TreeCatalogue;
 use rs_message::{Entry, Operation};
 use rs_store::{Catalogue, MapCatalogue, Refusal, Store, TopicLimit};
 use rs_topic::{TopicFilter, TopicName};
+use rs_tree::TreeCatalogue;
 use std::alloc::Global;
 use std::process::Abort;
 use std::test::Fail;

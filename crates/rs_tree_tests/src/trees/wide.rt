@@ -2,10 +2,10 @@
 
 use super::alike::{is_alike, put};
 use super::{origin, set_at};
-use crate::TreeCatalogue;
 use rs_message::Entry;
 use rs_store::{Catalogue, MapCatalogue, Store, TopicLimit};
 use rs_topic::TopicName;
+use rs_tree::TreeCatalogue;
 use std::alloc::Global;
 use std::process::Abort;
 use std::test::Fail;
