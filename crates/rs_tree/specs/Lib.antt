@@ -3,6 +3,7 @@ pub mod Buckets
 pub mod Clearing
 pub mod Depths
 pub mod Heights
+pub mod Labels
 pub mod Nodes
 pub mod Room
 pub mod Rows

@@ -145,7 +145,7 @@ impl Child {
         ensures { IfOk result (λ c. c ≡ self.now) }
     {
         Ok(Child {
-            level: self.level.again(alloc)?,
+            level: self.level.again()?,
             below: self.below.again()?,
         })
     }

@@ -43,7 +43,7 @@ fn halves(alloc: Global, level: Label, children: &[Child]) -> Result<(Child, Chi
 {
     let (low, high) = children.split_at(HALF);
     let first = &high[0];
-    let middle = first.level.again(alloc)?;
+    let middle = first.level.again()?;
     Ok((
         Child::row(alloc, level, low)?,
         Child::row(alloc, middle, high)?,
@@ -113,7 +113,7 @@ impl Branch {
         if self.held.is_some() || self.children.len() <= MOST {
             return Ok(None);
         }
-        let pair = halves(alloc, level.again(alloc)?, self.children.as_slice())?;
+        let pair = halves(alloc, level.again()?, self.children.as_slice())?;
         Ok(Some(pair))
     }
 
@@ -153,7 +153,7 @@ fn two_rows(alloc: Global, children: &[Child]) -> Result<Vec<Child>, AllocError>
     ensures same { IfOk result (λ rows. parts rows.items ≡ parts children.now) }
 {
     let mut rows = Vec::with_capacity(alloc, 2)?;
-    let (low, high) = halves(alloc, Label::empty(alloc), children)?;
+    let (low, high) = halves(alloc, Label::empty(), children)?;
     rows.push(low)?;
     rows.push(high)?;
     Ok(rows)

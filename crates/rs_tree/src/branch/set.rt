@@ -210,6 +210,7 @@ impl Branch {
             Err(i) => {
                 let label = Label::new(alloc, level)?;
                 let child = Child::of(alloc, label, found, next)?;
+                self.children.reserve_exact(1)?;
                 self.children.insert(i, child)?;
                 Ok(false)
             }
@@ -237,6 +238,7 @@ impl Branch {
             Err(i) => {
                 let label = Label::new(alloc, level)?;
                 let child = Child::of(alloc, label, found, next)?;
+                self.children.reserve_exact(1)?;
                 self.children.insert(i, child)?;
                 Ok(false)
             }

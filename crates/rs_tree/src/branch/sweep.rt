@@ -66,7 +66,7 @@ impl Child {
                 if left.is_empty() {
                     return Ok(None);
                 }
-                let level = self.level.again(alloc)?;
+                let level = self.level.again()?;
                 Ok(Some(Child {
                     level,
                     below: Below::Few(left),
@@ -78,7 +78,7 @@ impl Child {
                     return Ok(None);
                 }
                 let chain = Vec::from_slice(alloc, stem.chain.as_slice())?;
-                let level = self.level.again(alloc)?;
+                let level = self.level.again()?;
                 let left = Arc::new(alloc, Stem { chain, branch })?;
                 Ok(Some(Child {
                     level,
@@ -90,7 +90,7 @@ impl Child {
                 if branch.is_empty() {
                     return Ok(None);
                 }
-                let level = self.level.again(alloc)?;
+                let level = self.level.again()?;
                 let left = Arc::new(alloc, branch)?;
                 Ok(Some(Child {
                     level,

@@ -39,7 +39,7 @@ invariant_of-self-in-Err c =
     let here : IsGap c.in-Some.level.now es c.in-Err.i = rw c.as_slice.ensures.value at c.in-Err.ensures.found in
     let level = c.in_ok-child-in-Err.ensures.level ∙ c.in_ok-label-in-Err.ensures in
     let spots : c.in_ok-child-in-Err.child.spots ≡ (c.in-Some.level.now ∷ levels_from c.in-Some.next c.args.found.topic, c.args.found) ∷ [] = c.in_ok-child-in-Err.ensures.spots ∙ ap (λ (k : List _). under k (spot_of c.in-Some.next c.args.found ∷ [])) c.in_ok-label-in-Err.ensures in
-    rw c.in_ok-insert-in-Err.ensures.items (row_new c.in-Some.level.now (levels_from c.in-Some.next c.args.found.topic) c.args.found es c.in-Err.i c.in_ok-child-in-Err.child c.self.invariant here level spots)
+    rw (c.in_ok-insert-in-Err.ensures.items, c.reserve_exact.ensures.items) (row_new c.in-Some.level.now (levels_from c.in-Some.next c.args.found.topic) c.args.found es c.in-Err.i c.in_ok-child-in-Err.child c.self.invariant here level spots)
 
 pub returns-in-Ok-clause-done : goal.returns-in-Ok-clause-done
 returns-in-Ok-clause-done c =
@@ -71,7 +71,7 @@ returns-in_ok-insert-in-Err-clause-done c =
     let here : IsGap c.in-Some.level.now es c.in-Err.i = rw c.as_slice.ensures.value at c.in-Err.ensures.found in
     let small : c.in-Err.i ≤ length es = rw c.as_slice.ensures.value at c.in-Err.ensures.room in
     let spots : c.in_ok-child-in-Err.child.spots ≡ (c.in-Some.level.now ∷ levels_from c.in-Some.next c.args.found.topic, c.args.found) ∷ [] = c.in_ok-child-in-Err.ensures.spots ∙ ap (λ (k : List _). under k (spot_of c.in-Some.next c.args.found ∷ [])) c.in_ok-label-in-Err.ensures in
-    rw (e, ← c.self.view_is, c.in_ok-insert-in-Err.ensures.items) (grown_gap c.self.inside.held es c.self.invariant c.in-Some.level.now (levels_from c.in-Some.next c.args.found.topic) c.args.found c.in-Err.i c.in_ok-child-in-Err.child small here spots)
+    rw (e, ← c.self.view_is, c.in_ok-insert-in-Err.ensures.items, c.reserve_exact.ensures.items) (grown_gap c.self.inside.held es c.self.invariant c.in-Some.level.now (levels_from c.in-Some.next c.args.found.topic) c.args.found c.in-Err.i c.in_ok-child-in-Err.child small here spots)
 
 pub returns-in_ok-insert-in-Err-clause-told : goal.returns-in_ok-insert-in-Err-clause-told
 returns-in_ok-insert-in-Err-clause-told c =
