@@ -9,6 +9,7 @@ mod clear;
 mod earliest;
 mod expired;
 mod holds;
+mod join;
 mod rows;
 mod set;
 mod sweep;
