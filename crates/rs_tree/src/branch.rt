@@ -6,6 +6,7 @@ ghost use Rattle.rs_tree.specs.Rows.{IsEdge, IsGap, IsIn, IsNotBefore, Passes, T
 
 mod answers;
 mod clear;
+mod count;
 mod earliest;
 mod expired;
 mod holds;
