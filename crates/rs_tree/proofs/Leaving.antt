@@ -187,3 +187,7 @@ level_left moment k k' w w' same is full = rw same (refl, chain_left moment (k �
 
 pub row_left : (moment : ℕ) (k k' : List ℕ) (w w' v : Held) → k' ≡ k → v ≡ w' → w' ≡ filter (spot_stays moment) w → IsFull w' → (k' ≡ k) × (v ≡ filter (spot_stays moment) w) × IsFull v
 row_left moment k k' w w' v same put is full = rw put (same, is, full)
+
+-- a child that is put into another shape
+pub joined_left : (moment : ℕ) (c d e : ChildValue) → e.level ≡ d.level → e.spots ≡ d.spots → IsLeft moment c (Some d) → IsLeft moment c (Some e)
+joined_left moment c d e same is h = (same ∙ h.0, is ∙ h.1, let P : Held → Type 0 = λ w. IsFull w in subst P (sym is) h.2)

@@ -6,9 +6,11 @@ ghost use Rattle.rs_tree.specs.Rows.{IsEdge, IsGap, IsIn, IsNotBefore, Passes, T
 
 mod answers;
 mod clear;
+mod count;
 mod earliest;
 mod expired;
 mod holds;
+mod join;
 mod rows;
 mod set;
 mod sweep;

@@ -1,14 +1,15 @@
 //! A few messages below one place of the tree, which are shared until they are changed.
 
-ghost use Rattle.std.specs.Prelude.{◌≡◌, ◌+◌, ◌++◌, ◌≤◌, [], ◌∷◌, length, IfErr, IfOk, OnErr, OnOk};
+ghost use Rattle.std.specs.Prelude.{◌≡◌, ◌+◌, ◌++◌, ◌≤◌, [], ◌∷◌, length, IfErr, IfOk, IfSome, OnErr, OnOk};
 ghost use Rattle.std.specs.BTreeMap.{insert_entry};
 ghost use Rattle.std.specs.List.{filter};
 ghost use Rattle.std.specs.List.Sorted.{IsStrictlySortedBy};
 ghost use Rattle.std.specs.Map.{keys_of};
 ghost use Rattle.rs_topic.specs.Order.{path_cmp};
+ghost use Rattle.rs_store.specs.Chains.{under_all};
 ghost use Rattle.rs_store.specs.Chosen.{chosen};
 ghost use Rattle.rs_store.specs.Expiring.{earliest};
-ghost use Rattle.rs_store.specs.Spots.{is_nothing, is_there, levels_from, spot_of};
+ghost use Rattle.rs_store.specs.Spots.{is_nothing, is_there, levels_from, spot_of, under};
 ghost use Rattle.rs_store.specs.Sweeping.{is_expired_spot, spot_stays};
 ghost use Rattle.rs_store.specs.declared.limit.TheConstants.{MAX_TOPICS};
 ghost use Rattle.rs_tree.specs.Buckets.{spots_in};
@@ -125,6 +126,23 @@ impl Bucket {
         Ok(Bucket {
             leaves: Arc::new(alloc, left)?,
         })
+    }
+
+    /// A bucket of its messages below a chain and a level, if these stand before the rest of each topic.
+    pub fn risen(
+        &self,
+        alloc: Global,
+        chain: &[u8],
+        level: &[u8],
+    ) -> Result<Option<Bucket>, AllocError>
+        ensures { IfOk result (λ r. IfSome r (λ b. b ≡ under_all (levels_from 1 chain.now) (under level.now self.now))) }
+    {
+        match self.leaves.risen(alloc, chain, level)? {
+            Some(leaves) => Ok(Some(Bucket {
+                leaves: Arc::new(alloc, leaves)?,
+            })),
+            None => Ok(None),
+        }
     }
 
     /// Adds how many of its messages are expired.

@@ -23,13 +23,16 @@ pub struct Leaf {
 }
 
 impl Leaf {
-    /// Begins the rest of the topic at an earlier byte, if exactly a chain and a level stand in between, and says whether they do.
-    pub fn rise(&mut self, chain: &[u8], level: &[u8], at: usize) -> bool
+    /// Begins the rest of the topic before a chain and a level, if these stand there, and says whether they do.
+    pub fn rise(&mut self, chain: &[u8], level: &[u8]) -> bool
         ensures same { self.new.found ≡ self.old.found }
         ensures done { IsTrue result → levels_from self.new.at self.old.found.topic ≡ levels_from 1 chain.now ++ level.now ∷ levels_from self.old.at self.old.found.topic }
         ensures kept { result ≡ false → self.new.at ≡ self.old.at }
     {
         let topic = self.found.topic();
+        // A chain has a slash before each level, and a slash stands between the level and the rest.
+        let above = self.at.saturating_sub(level.len()).saturating_sub(1);
+        let at = above.saturating_sub(chain.len());
         let Some(next) = behind(chain, topic, at) else {
             return false;
         };

@@ -97,20 +97,19 @@ fn copies(alloc: Global, leaves: &[Leaf]) -> Result<Vec<Leaf>, AllocError>
     Ok(copies)
 }
 
-/// Copies of the leaves whose rests begin at an earlier byte, if exactly a chain and a level stand in between.
+/// Copies of the leaves whose rests begin before a chain and a level, if these stand there.
 fn risen(
     alloc: Global,
     leaves: &[Leaf],
     chain: &[u8],
     level: &[u8],
-    at: usize,
 ) -> Result<Option<Vec<Leaf>>, AllocError>
     ensures { IfOk result (λ r. IfSome r (λ higher. spots_in higher.items ≡ under_all (levels_from 1 chain.now) (under level.now (spots_in leaves.now)))) }
 {
     let mut higher = Vec::with_capacity(alloc, leaves.len())?;
     for leaf in leaves {
         let mut raised = leaf.copy()?;
-        if !raised.rise(chain, level, at) {
+        if !raised.rise(chain, level) {
             return Ok(None);
         }
         higher.push(raised)?;
@@ -311,18 +310,18 @@ impl Leaves {
         }
     }
 
-    /// Begins the rests of all topics at an earlier byte, if exactly a chain and a level stand in between, and says whether that is
-    /// done. If memory is refused, nothing changes.
-    pub fn rise(&mut self, alloc: Global, chain: &[u8], level: &[u8], at: usize) -> bool
-        ensures done { IsTrue result → self.new ≡ under_all (levels_from 1 chain.now) (under level.now self.old) }
-        ensures kept { result ≡ false → self.new ≡ self.old }
+    /// Leaves whose rests begin before a chain and a level, if these stand there.
+    pub fn risen(
+        &self,
+        alloc: Global,
+        chain: &[u8],
+        level: &[u8],
+    ) -> Result<Option<Leaves>, AllocError>
+        ensures { IfOk result (λ r. IfSome r (λ higher. higher ≡ under_all (levels_from 1 chain.now) (under level.now self.now))) }
     {
-        match risen(alloc, self.leaves.as_slice(), chain, level, at) {
-            Ok(Some(leaves)) => {
-                self.leaves = leaves;
-                true
-            }
-            _ => false,
+        match risen(alloc, self.leaves.as_slice(), chain, level)? {
+            Some(leaves) => Ok(Some(Leaves { leaves })),
+            None => Ok(None),
         }
     }
 }

@@ -131,4 +131,9 @@ impl Root {
     {
         self.branch.earliest(bound)
     }
+
+    /// The number of branches, this one among them.
+    pub fn branches(&self) -> u32 {
+        self.branch.branches()
+    }
 }

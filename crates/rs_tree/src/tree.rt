@@ -226,6 +226,13 @@ fn answers(
     }
 }
 
+impl TreeCatalogue {
+    /// The number of branches, the root among them, for tests and measurements. No contract speaks of it.
+    pub fn branches(&self) -> u32 {
+        self.root.branches()
+    }
+}
+
 impl Catalogue for TreeCatalogue {
     ghost content = { λ c. c };
 

@@ -13,6 +13,7 @@ use std::process::Abort;
 use std::test::Fail;
 
 mod alike;
+mod joined;
 mod wide;
 
 /// A message that came at a moment.

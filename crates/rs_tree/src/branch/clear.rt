@@ -33,7 +33,11 @@ impl Child {
     {
         match &mut self.below {
             Below::Few(bucket) => return bucket.clear_few(alloc, topic, next),
-            Below::Inner(stem) => return Stem::clear(stem, alloc, topic, next),
+            Below::Inner(stem) => {
+                let cleared = Stem::clear(stem, alloc, topic, next);
+                self.join(alloc);
+                return cleared;
+            }
             Below::Row(row) => return Branch::clear_in(row, alloc, topic, at),
         }
     }
@@ -121,6 +125,7 @@ impl Branch {
                     return Ok(Cleared::Last);
                 }
                 remove_at(&mut self.children, i);
+                self.unfold(alloc);
                 Ok(Cleared::Left)
             }
             Err(refused) => Err(refused),

@@ -80,10 +80,12 @@ impl Child {
                 let chain = Vec::from_slice(alloc, stem.chain.as_slice())?;
                 let level = self.level.again()?;
                 let left = Arc::new(alloc, Stem { chain, branch })?;
-                Ok(Some(Child {
+                let mut child = Child {
                     level,
                     below: Below::Inner(left),
-                }))
+                };
+                child.join(alloc);
+                Ok(Some(child))
             }
             Below::Row(row) => {
                 let branch = row.swept(alloc, moment)?;
@@ -118,6 +120,8 @@ impl Branch {
     {
         let held = held_swept(&self.held, moment)?;
         let children = each_swept(alloc, self.children.as_slice(), moment)?;
-        Ok(Branch { held, children })
+        let mut left = Branch { held, children };
+        left.unfold(alloc);
+        Ok(left)
     }
 }

@@ -1,13 +1,13 @@
-use Rattle.std.proofs.Common.{◌≡◌, ◌+◌, ◌<◌, ◌≤◌, ◌∷◌, List, arith, length, refl, sym, ap, ◌∙◌, Some, None}
+use Rattle.std.proofs.Common.{◌≡◌, ◌+◌, ◌<◌, ◌≤◌, ◌∷◌, ◌++◌, List, arith, length, refl, subst, sym, ap, ◌∙◌, Some, None}
 use Rattle.std.proofs.Math.ListN.{length-set}
 use Rattle.rs_store.specs.Chains.{behind}
-use Rattle.rs_store.specs.Spots.{levels_from}
-use Rattle.rs_tree.specs.Clearing.{ClearsAs}
+use Rattle.rs_store.specs.Spots.{levels_from, own, under}
+use Rattle.rs_tree.specs.Clearing.{Clears, ClearsAs}
 use Rattle.rs_tree.specs.Nodes.{stem_spots}
-use Rattle.rs_tree.specs.Rows.{IsGap, IsIn, depth}
+use Rattle.rs_tree.specs.Rows.{IsGap, IsIn, depth, parts}
 use Rattle.rs_tree.specs.Values.{BranchValue, ChildValue}
 use Rattle.rs_tree.proofs.Clearing.{clears_chain, clears_child, clears_last, clears_left, clears_level, clears_missing, clears_none, clears_same, remove_set, row_cleared, row_kept, row_removed}
-use Rattle.rs_tree.proofs.Rows.{deep_child, leads_child, there_gap}
+use Rattle.rs_tree.proofs.Rows.{Held, deep_child, leads_child, there_gap}
 use Rattle.rs_tree.specs.declared.cleared.Cleared.TheVariants.{Last, Left, Missing}
 use Rattle.rs_tree.proofs.branch.+clear.Goals as goal
 
@@ -18,11 +18,16 @@ Child::clear-returns-in-Few-clause-cleared t c =
 
 pub Child::clear-returns-in-Inner-clause-cleared : goal.Child::clear-returns-in-Inner-clause-cleared
 Child::clear-returns-in-Inner-clause-cleared t c =
-    let leads : levels_from c.args.at c.args.topic.now ≡ c.self.inside.level ∷ levels_from c.args.next c.args.topic.now = rw (← c.self.view_is, c.in-Inner.is) at c.requires in
-    rw (← c.self.view_is, c.in-Inner.is) (clears_level c.self.inside.level (levels_from c.args.next c.args.topic.now) (levels_from c.args.at c.args.topic.now) c.clear.result (stem_spots c.in-Inner.stem.value) (stem_spots c.clear.new.this.value) leads c.clear.ensures)
+    let old = stem_spots c.in-Inner.stem.value in
+    let new = stem_spots c.clear-cleared.new.this.value in
+    let path = levels_from c.args.at c.args.topic.now in
+    let leads : path ≡ c.self.inside.level ∷ levels_from c.args.next c.args.topic.now = rw (← c.self.view_is, c.in-Inner.is) at c.requires in
+    let P : Held → Type 0 = λ w. Clears c.clear-cleared.result (under c.self.inside.level old) w path in
+    rw (← c.self.view_is, c.in-Inner.is)
+    (subst P (sym c.join.ensures.same) (clears_level c.self.inside.level (levels_from c.args.next c.args.topic.now) path c.clear-cleared.result old new leads c.clear-cleared.ensures))
 
-pub Child::clear-clear-requires : goal.Child::clear-clear-requires
-Child::clear-clear-requires t c =
+pub Child::clear-clear-cleared-requires : goal.Child::clear-clear-cleared-requires
+Child::clear-clear-cleared-requires t c =
     let deep : c.in-Inner.stem.value.branch.depth + 1 ≡ c.args.self.now.depth = rw c.in-Inner.is at (ap (λ (v : ChildValue). v.depth) c.self.view_is) in
     (omega arith, tt)
 
@@ -144,4 +149,6 @@ Branch::clear-returns-else-is_lone t c =
     let small : c.in-Ok.i < length es = rw c.as_slice.ensures.value at c.in-Ok.ensures.within in
     let cleared : ClearsAs Last c.index_mut.result.now.spots c.clear.new.self.spots (c.in-Some.level.now ∷ levels_from c.in-Some.next c.args.topic.now) = rw (e, c.in-Ok-Last.field-0-is) at c.in-Ok-Last.ensures.cleared in
     let size : length c.as_slice-in-Ok-Last.result.now ≡ length es = ap (λ (l : List ChildValue). length l) c.as_slice-in-Ok-Last.ensures.value ∙ length-set es c.in-Ok.i c.clear.new.self in
-    rw (e, ← c.self.view_is) (clears_child c.self.inside.held es c.self.invariant c.in-Some.level.now (levels_from c.in-Some.next c.args.topic.now) c.in-Ok.i c.index_mut.result.now c.clear.new.self small here c.index_mut.ensures.value c.clear.ensures.level c.remove_at.new.children.items c.remove_at.ensures (λ none one. c.if-is_lone.ensures.more refl none (size ∙ one)) cleared)
+    let path = c.in-Some.level.now ∷ levels_from c.in-Some.next c.args.topic.now in
+    let P : Held → Type 0 = λ w. ClearsAs Left (own c.self.inside.held ++ parts es) w path in
+    rw (e, ← c.self.view_is) (subst P (sym c.unfold.ensures) (clears_child c.self.inside.held es c.self.invariant c.in-Some.level.now (levels_from c.in-Some.next c.args.topic.now) c.in-Ok.i c.index_mut.result.now c.clear.new.self small here c.index_mut.ensures.value c.clear.ensures.level c.remove_at.new.children.items c.remove_at.ensures (λ none one. c.if-is_lone.ensures.more refl none (size ∙ one)) cleared))

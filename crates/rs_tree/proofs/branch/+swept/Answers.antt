@@ -1,11 +1,11 @@
-use Rattle.std.proofs.Common.{◌≡◌, ◌+◌, ◌≤◌, ◌∷◌, [], ℕ, List, subst, arith, refl, sym, ap, ◌∙◌}
+use Rattle.std.proofs.Common.{◌≡◌, ◌+◌, ◌≤◌, ◌∷◌, [], ℕ, List, false, subst, arith, refl, sym, ap, ◌∙◌}
 use Rattle.std.specs.List.{filter}
 use Rattle.rs_store.specs.Sweeping.{spot_stays}
-use Rattle.rs_store.specs.Spots.{IsFull, levels_from}
+use Rattle.rs_store.specs.Spots.{IsFull, levels_from, under}
 use Rattle.rs_tree.specs.Nodes.{stem_spots}
 use Rattle.rs_tree.specs.Rows.{depth}
-use Rattle.rs_tree.specs.Values.{BranchValue}
-use Rattle.rs_tree.proofs.Leaving.{all_left, branch_left, chain_gone, chain_left, full_at, full_not, level_left, none_is, row_left, swept_all, swept_none, swept_step}
+use Rattle.rs_tree.specs.Values.{BranchValue, ChildValue}
+use Rattle.rs_tree.proofs.Leaving.{all_left, branch_left, chain_gone, chain_left, full_at, full_not, joined_left, level_left, none_is, row_left, swept_all, swept_none, swept_step}
 use Rattle.rs_store.specs.Chains.{under_all}
 use Rattle.rs_store.proofs.Stems.{full_below}
 use Rattle.rs_tree.proofs.Rows.{Held, deep_child}
@@ -36,7 +36,9 @@ Branch::swept-each_swept-requires t c =
     (omega arith, rw c.as_slice.ensures.value c.self.invariant)
 
 pub Branch::swept-returns : goal.Branch::swept-returns
-Branch::swept-returns t c = rw (← c.self.view_is) (branch_left c.args.moment c.self.inside.held c.in_ok-held.held c.self.inside.children.items c.in_ok-children.children.items c.in_ok-held.ensures (rw c.as_slice.ensures.value at c.in_ok-children.ensures.left))
+Branch::swept-returns t c =
+    let left = branch_left c.args.moment c.self.inside.held c.in_ok-held.held c.self.inside.children.items c.in_ok-children.children.items c.in_ok-held.ensures (rw c.as_slice.ensures.value at c.in_ok-children.ensures.left) in
+    rw (← c.self.view_is) (c.unfold.ensures ∙ left)
 
 pub Child::swept-returns-then-is_empty : goal.Child::swept-returns-then-is_empty
 Child::swept-returns-then-is_empty t c =
@@ -64,7 +66,10 @@ Child::swept-returns-in_ok-left-in-Inner t c =
     let some : IsFull c.in_ok-branch-in-Inner.branch.spots = full_not c.in_ok-branch-in-Inner.branch.spots (sym c.is_empty-in-Inner.ensures ∙ c.if-is_empty-2.false) in
     let made : stem_spots new ≡ under_all ks c.in_ok-branch-in-Inner.branch.spots = ap stem_spots c.in_ok-left-in-Inner.ensures.ok ∙ ap (λ (l : List ℕ). under_all (levels_from 1 l) c.in_ok-branch-in-Inner.branch.spots) chain in
     let full : IsFull (stem_spots new) = (let P : Held → Type 0 = λ w. IsFull w in subst P (sym made) (full_below ks c.in_ok-branch-in-Inner.branch.spots some)) in
-    rw (← c.self.view_is, c.in-Inner.is) (level_left c.args.moment c.self.inside.level c.in_ok-level-in-Inner.level (stem_spots stem) (stem_spots new) c.in_ok-level-in-Inner.ensures (made ∙ chain_left c.args.moment ks stem.branch.spots c.in_ok-branch-in-Inner.branch.spots left) full)
+    let level = c.self.inside.level in
+    let was : ChildValue = record { level = level; is_row = false; spots = under level (stem_spots stem); depth = stem.branch.depth + 1 } in
+    let built : ChildValue = record { level = c.in_ok-level-in-Inner.level; is_row = false; spots = under c.in_ok-level-in-Inner.level (stem_spots new); depth = new.branch.depth + 1 } in
+    rw (← c.self.view_is, c.in-Inner.is) (joined_left c.args.moment was built c.join.new.self c.join.ensures.level c.join.ensures.same (level_left c.args.moment c.self.inside.level c.in_ok-level-in-Inner.level (stem_spots stem) (stem_spots new) c.in_ok-level-in-Inner.ensures (made ∙ chain_left c.args.moment ks stem.branch.spots c.in_ok-branch-in-Inner.branch.spots left) full))
 
 pub Child::swept-returns-in_ok-left-in-Row : goal.Child::swept-returns-in_ok-left-in-Row
 Child::swept-returns-in_ok-left-in-Row t c =

@@ -4,11 +4,11 @@ use Rattle.rs_store.specs.Chains.{under_all}
 use Rattle.rs_store.specs.Spots.{levels_from, under}
 use Rattle.rs_tree.specs.declared.leaf.Leaf.{Leaf}
 use Rattle.rs_tree.proofs.Buckets.{sorted_risen}
-use Rattle.rs_tree.proofs.leaves.Leaves.rise.Goals as goal
+use Rattle.rs_tree.proofs.leaves.Leaves.risen.Goals as goal
 
-pub invariant_of-self : goal.invariant_of-self
-invariant_of-self c =
+pub invariant_of-result : goal.invariant_of-result
+invariant_of-result c =
     let ks = levels_from 1 c.args.chain.now in
-    let done : spots_in c.in-Ok-Some.leaves.items ≡ under_all ks (under c.args.level.now (spots_in c.as_slice.result.now)) = rw c.in-Ok-Some.field-0-is at c.in-Ok-Some.ensures in
-    sorted_risen ks c.args.level.now (spots_in c.self.inside.leaves.items) (spots_in c.in-Ok-Some.leaves.items) c.self.invariant
+    let done : spots_in c.in-Some.leaves.items ≡ under_all ks (under c.args.level.now (spots_in c.as_slice.result.now)) = rw c.in-Some.is at c.in_ok-leaves.ensures in
+    sorted_risen ks c.args.level.now (spots_in c.self.inside.leaves.items) (spots_in c.in-Some.leaves.items) c.self.invariant
     (done ∙ ap (λ (ls : List Leaf). under_all ks (under c.args.level.now (spots_in ls))) c.as_slice.ensures.value)
