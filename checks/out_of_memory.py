@@ -143,7 +143,7 @@ def main():
         sessions("a long session", long_exchange(), least, False, library)
         places = ("at the root", "in the middle", "at a leaf", "above others")
         kinds = [f"a topic that is new {place}" for place in places]
-        kinds += ["a topic behind a Sweep", "a copy"]
+        kinds += ["a topic behind a Sweep", "a Clear"]
         calls("tree", dict.fromkeys(kinds, 2), library, untold=2)
         calls("window", {"a queue": 2}, library)
         for count in (1, 2):

@@ -7,7 +7,7 @@ ghost use Rattle.rs_session.specs.Local.{catalogue_of};
 mod gate;
 
 use rs_session::LocalGate;
-use rs_store::TreeCatalogue;
+use rs_tree::TreeCatalogue;
 
 /// How many topics of an [`OwnStore`] may hold a message.
 pub const MAX_OWN_TOPICS: u32 = 10_000;

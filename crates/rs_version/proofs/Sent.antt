@@ -17,10 +17,10 @@ use Rattle.left_right.proofs.writer.Writer.TheSendSync as copy_writer
 use Rattle.left_right.specs.contracts.reader.Reader as Reader
 use Rattle.rs_message.proofs.entry.Entry.TheSendSync as entry
 use Rattle.rs_message.specs.contracts.entry.Entry as Entry
-use Rattle.rs_store.proofs.Sent.{tree_send, tree_sync}
 use Rattle.rs_store.proofs.calm.Calm.TheSendSync as calm
 use Rattle.rs_store.proofs.limit.TopicLimit.TheSendSync as limit
 use Rattle.rs_store.specs.contracts.content.Content as Content
+use Rattle.rs_tree.proofs.Sent.{tree_send, tree_sync}
 use Rattle.rs_version.proofs.catalogue_copy.Step.TheSendSync as step
 use Rattle.rs_version.proofs.known.HistoryWord.TheSendSync as word
 use Rattle.rs_version.proofs.known.KnownList.TheSendSync as list

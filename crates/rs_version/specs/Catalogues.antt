@@ -1,4 +1,4 @@
--- Which catalogue is kept, as contracts name it. Another one takes an edit of this file and of src/kept.rt.
+-- Which catalogue is kept, as contracts name it. Another one takes an edit of this file, of src/kept.rt and of proofs/Sent.antt.
 use Rattle.rs_store.specs.declared.content.Content.{Content}
 
 abbrev pub KeptCatalogue : Type 0

@@ -11,6 +11,7 @@ ghost use Rattle.rs_version.specs.VersionRule.{Names, IsSound};
 use crate::catalogue_copy::CatalogueCopy;
 use crate::copies::CopyReader;
 use crate::history::StoreName;
+use crate::kept::Kept;
 use crate::known::KnownList;
 use crate::receipt::Told;
 use crate::rule::Sees;
@@ -51,69 +52,64 @@ impl<N: StoreName> Model for Seat<N> {
     ghost invariant = { λ s. MatchOption s.reader (Unit {0}) (λ r. Names N.history N.limit (known_by r.place)) };
 }
 
-/// The list that the copy is of. An error if it is shorter than the known one.
-fn list_of<N: StoreName>(
-    copy: &CatalogueCopy,
+/// The list that the published copy is of, and its catalogue with one more owner. An error if this list is shorter than the known
+/// one.
+fn take_from<N: StoreName>(
+    published: &CatalogueCopy,
     known: &KnownList<N>,
-) -> Result<KnownList<N>, AllocError>
-    requires sound { IsSound copy.now }
-    requires history { copy.now.prefix.history ≡ N.history }
-    requires limit { (content_of copy.now.catalogue).limit ≡ N.limit }
-    ensures later { IfOk result (λ list. IsPrefix known.now list) }
-    ensures legal { IfOk result (λ list. IsLegal N.limit list) }
-    ensures stands { IfOk result (λ list. Stands (content_of copy.now.catalogue) list) }
+) -> Result<(KnownList<N>, Kept), AllocError>
+    requires sound { IsSound published.now }
+    requires history { published.now.prefix.history ≡ N.history }
+    requires limit { (content_of published.now.catalogue).limit ≡ N.limit }
+    ensures later { IfOk result (λ r. IsPrefix known.now r.0) }
+    ensures legal { IfOk result (λ r. IsLegal N.limit r.0) }
+    ensures stands { IfOk result (λ r. Stands (content_of r.1) r.0) }
 {
-    let list: KnownList<N> = KnownList::of(copy.prefix.again());
+    let list: KnownList<N> = KnownList::of(published.prefix.again());
     // Never: a publish is no shorter than what was published before. The rule of the published copy says so of what was read,
     // and not of what was learned from a token.
     if !list.reaches(known) {
         return Err(AllocError);
     }
-    Ok(list)
+    Ok((list, published.catalogue.copy()?))
 }
 
-/// What the copy answers, with the list that the copy is of. An error if that list is shorter than the known one.
+/// What the catalogue of this list answers.
 fn look<N: StoreName>(
-    copy: &CatalogueCopy,
-    known: &KnownList<N>,
+    list: &KnownList<N>,
+    catalogue: &Kept,
     filter: &TopicFilter,
     now: u64,
-) -> Result<(KnownList<N>, Snapshot), AllocError>
-    requires sound { IsSound copy.now }
-    requires history { copy.now.prefix.history ≡ N.history }
-    requires limit { (content_of copy.now.catalogue).limit ≡ N.limit }
-    ensures later { IfOk result (λ r. IsPrefix known.now r.0) }
-    ensures version { IfOk result (λ r. r.1.version ≡ length r.0) }
-    ensures legal { IfOk result (λ r. IsLegal N.limit r.0) }
-    ensures found { IfOk result (λ r. IsAnswer r.0 filter.now now r.1.found.items) }
+) -> Result<Snapshot, AllocError>
+    requires { Stands (content_of catalogue.now) list.now }
+    ensures version { IfOk result (λ s. s.version ≡ length list.now) }
+    ensures found { IfOk result (λ s. IsAnswer list.now filter.now now s.found.items) }
 {
-    let list = list_of(copy, known)?;
-    let version = list.version();
-    let found = copy.catalogue.answer(filter, now)?;
-    Ok((list, Snapshot { version, found }))
+    let found = catalogue.answer(filter, now)?;
+    Ok(Snapshot {
+        version: list.version(),
+        found,
+    })
 }
 
 /// The same if there are at most `room` messages, else no snapshot.
 fn look_within<N: StoreName>(
-    copy: &CatalogueCopy,
-    known: &KnownList<N>,
+    list: &KnownList<N>,
+    catalogue: &Kept,
     filter: &TopicFilter,
     now: u64,
     room: usize,
-) -> Result<(KnownList<N>, Option<Snapshot>), AllocError>
-    requires sound { IsSound copy.now }
-    requires history { copy.now.prefix.history ≡ N.history }
-    requires limit { (content_of copy.now.catalogue).limit ≡ N.limit }
-    ensures later { IfOk result (λ r. IsPrefix known.now r.0) }
-    ensures version { IfOk result (λ r. IfSome r.1 (λ s. s.version ≡ length r.0)) }
-    ensures legal { IfOk result (λ r. IsLegal N.limit r.0) }
-    ensures found { IfOk result (λ r. IsAnswerWithin room r.0 filter.now now (option_map (λ s. s.found.items) r.1)) }
+) -> Result<Option<Snapshot>, AllocError>
+    requires { Stands (content_of catalogue.now) list.now }
+    ensures version { IfOk result (λ answer. IfSome answer (λ s. s.version ≡ length list.now)) }
+    ensures found { IfOk result (λ answer. IsAnswerWithin room list.now filter.now now (option_map (λ s. s.found.items) answer)) }
 {
-    let list = list_of(copy, known)?;
-    let version = list.version();
-    match copy.catalogue.answer_within(filter, now, room)? {
-        Some(found) => Ok((list, Some(Snapshot { version, found }))),
-        None => Ok((list, None)),
+    match catalogue.answer_within(filter, now, room)? {
+        Some(found) => Ok(Some(Snapshot {
+            version: list.version(),
+            found,
+        })),
+        None => Ok(None),
     }
 }
 
@@ -162,8 +158,32 @@ impl<N: StoreName> Seat<N> {
         }
     }
 
-    /// Reads the published copy, and answers from it: copies of the messages that the filter matches and that have not expired
-    /// at `now`, in seconds, in the order of replay (3.8.4). It waits for nobody.
+    /// Takes the list and the catalogue out of the published copy. The seat is inside of it for as long as a count takes, so a
+    /// publish does not wait for a walk.
+    fn take(&mut self) -> Result<(KnownList<N>, Kept), AllocError>
+        ensures same { self.new ≡ self.old }
+        ensures later { IfOk result (λ r. IsPrefix self.old r.0) }
+        ensures legal { IfOk result (λ r. IsLegal N.limit r.0) }
+        ensures stands { IfOk result (λ r. Stands (content_of r.1) r.0) }
+    {
+        let Some(reader) = self.reader.take() else {
+            return Err(AllocError);
+        };
+        match reader.enter_as::<Sees>() {
+            Ok(reading) => {
+                let taken = take_from(reading.get(), &self.known);
+                self.reader = Some(reading.leave());
+                taken
+            }
+            Err(reader) => {
+                self.reader = Some(reader);
+                Err(AllocError)
+            }
+        }
+    }
+
+    /// Takes the catalogue out of the published copy, and answers from it: copies of the messages that the filter matches and that
+    /// have not expired at `now`, in seconds, in the order of replay (3.8.4). It waits for nobody.
     ///
     /// # Errors
     ///
@@ -175,22 +195,10 @@ impl<N: StoreName> Seat<N> {
         ensures legal { OnOk result (IsLegal N.limit self.new) }
         ensures found { IfOk result (λ s. IsAnswer self.new filter.now now s.found.items) }
     {
-        let Some(reader) = self.reader.take() else {
-            return Err(AllocError);
-        };
-        match reader.enter_as::<Sees>() {
-            Ok(reading) => {
-                let looked = look(reading.get(), &self.known, filter, now);
-                self.reader = Some(reading.leave());
-                let (list, snapshot) = looked?;
-                self.known = list;
-                Ok(snapshot)
-            }
-            Err(reader) => {
-                self.reader = Some(reader);
-                Err(AllocError)
-            }
-        }
+        let (list, catalogue) = self.take()?;
+        let snapshot = look(&list, &catalogue, filter, now)?;
+        self.known = list;
+        Ok(snapshot)
     }
 
     /// The same answer if it has at most `room` messages, else `None`. It gives up at the first message beyond the room.
@@ -210,21 +218,9 @@ impl<N: StoreName> Seat<N> {
         ensures legal { OnOk result (IsLegal N.limit self.new) }
         ensures found { IfOk result (λ answer. IsAnswerWithin room self.new filter.now now (option_map (λ s. s.found.items) answer)) }
     {
-        let Some(reader) = self.reader.take() else {
-            return Err(AllocError);
-        };
-        match reader.enter_as::<Sees>() {
-            Ok(reading) => {
-                let looked = look_within(reading.get(), &self.known, filter, now, room);
-                self.reader = Some(reading.leave());
-                let (list, answer) = looked?;
-                self.known = list;
-                Ok(answer)
-            }
-            Err(reader) => {
-                self.reader = Some(reader);
-                Err(AllocError)
-            }
-        }
+        let (list, catalogue) = self.take()?;
+        let answer = look_within(&list, &catalogue, filter, now, room)?;
+        self.known = list;
+        Ok(answer)
     }
 }

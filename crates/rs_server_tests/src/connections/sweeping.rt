@@ -2,7 +2,8 @@
 
 use rs_server::{ConnectionId, Counted, Moments, Served, serve};
 use rs_session::LocalGate;
-use rs_store::{Catalogue, MapCatalogue, TopicLimit, TreeCatalogue};
+use rs_store::{Catalogue, MapCatalogue, TopicLimit};
+use rs_tree::TreeCatalogue;
 use std::alloc::Global;
 use std::process::Abort;
 use std::sync::Wait;

@@ -1,4 +1,4 @@
-//! What a tree shows after memory was refused to `add` or to `copy`.
+//! What a tree and its copies show after memory was refused to `add`. To copy a tree takes none.
 
 ghost use Rattle.std.specs.Prelude.{◌≡◌, ◌<◌, false, IfOk};
 ghost use Rattle.rs_message.specs.Messages.{is_sweep};
@@ -6,15 +6,16 @@ ghost use Rattle.rs_message.specs.Messages.{is_sweep};
 use crate::failure::{Failure, expect};
 use crate::samples::{HOUSE, clear, set_at, topic};
 use rs_message::{Entry, Found, Remaining};
-use rs_store::{Catalogue, Refusal, Store, TopicLimit, TreeCatalogue};
+use rs_store::{Catalogue, Refusal, Store, TopicLimit};
 use rs_topic::{TopicFilter, TopicName};
+use rs_tree::TreeCatalogue;
 use std::alloc::{AllocError, Global};
 
 /// How many topics the tree takes: so many that it has to grow more than once.
 const TOPICS: u32 = 64;
 
-/// Each time that so many topics were added, the last one is cleared and added again. The tree is copied before, between and
-/// after.
+/// Each time that so many topics were added, the last one is cleared and added again. The tree is copied before and between, and the
+/// copies are kept as long, so that what they share with the tree has to be copied.
 const ROUND: u32 = HOUSE as u32;
 
 /// How many topics are added. So many of them find the tree full, or the room of those that are swept.
@@ -37,12 +38,12 @@ struct Shown {
 }
 
 /// How often memory was refused: to a topic of each kind of place, which `samples::topic` has in turn, to one behind a Sweep, and to
-/// a copy.
+/// a Clear.
 #[derive(Clone, Copy)]
 struct Refused {
     adds: [u32; 4],
     swept: u32,
-    copies: u32,
+    clears: u32,
 }
 
 /// One more for the kind of place that the topic of this number has.
@@ -51,6 +52,13 @@ fn counted(adds: [u32; 4], number: u32) -> [u32; 4] {
     let place = (number % 4) as usize;
     adds[place] = adds[place].saturating_add(1);
     adds
+}
+
+/// A copy of a tree, and what it showed when it was made.
+#[derive(Drop)]
+struct Copied {
+    tree: TreeCatalogue,
+    shown: Shown,
 }
 
 /// A tree, and the filters that it is asked for.
@@ -234,44 +242,48 @@ impl Run {
         Ok(wanted)
     }
 
-    /// Clears a topic. All answers must be as before without it: they do not tell whether memory was refused for joining a branch
-    /// to its only child.
+    /// Clears a topic. If memory is refused for it, the tree must show the same as before, and take the same Clear. Then all answers
+    /// must be as before without it: they do not tell whether memory was refused for joining a branch to its only child.
     fn clear(&mut self, alloc: Global, number: u32) -> Result<(), Failure> {
         let number = u64::from(number);
         let entry = clear(alloc, self.next_serial(), number)?;
+        let again = entry.copy()?;
+        let before = self.shown(alloc)?;
         let wanted = self.cleared(alloc, number, entry.origin.serial())?;
-        expect(self.adds(entry)?)?;
+        if !self.adds(entry)? {
+            expect(self.shows(alloc, &before)?)?;
+            expect(self.adds(again)?)?;
+            self.refused.clears = self.refused.clears.saturating_add(1);
+        }
         expect(self.shows(alloc, &wanted)?)
     }
 
-    /// A copy. If memory is refused for it, another one.
-    fn copied(&mut self) -> Result<TreeCatalogue, Failure> {
-        if let Ok(copy) = self.store.catalogue().copy() {
-            return Ok(copy);
-        }
-        self.refused.copies = self.refused.copies.saturating_add(1);
-        match self.store.catalogue().copy() {
-            Ok(copy) => Ok(copy),
-            Err(_) => Err(Failure::Wrong),
-        }
+    /// A copy of the tree, and what it shows.
+    fn copied(&self, alloc: Global) -> Result<Copied, Failure> {
+        let Ok(tree) = self.store.catalogue().copy() else {
+            return Err(Failure::Wrong);
+        };
+        Ok(Copied {
+            tree,
+            shown: self.shown(alloc)?,
+        })
     }
 
-    /// Copies the tree. The copy and the tree must show the same as before.
-    fn copy(&mut self, alloc: Global) -> Result<(), Failure> {
-        let before = self.shown(alloc)?;
-        let copy = self.copied()?;
-        expect(is_same(&before, &shown_by(alloc, &copy, self.filters.as_slice())?))?;
-        expect(self.shows(alloc, &before)?)
+    /// The copy must show what it showed when it was made.
+    fn is_kept(&self, alloc: Global, copied: &Copied) -> Result<(), Failure> {
+        let shown = shown_by(alloc, &copied.tree, self.filters.as_slice())?;
+        expect(is_same(&copied.shown, &shown))
     }
 
-    /// Clears the last topic and adds it again. Then the answers must be as before.
+    /// Clears the last topic and adds it again. Then the answers must be as before, and the copies must show what they did.
     fn clear_last(&mut self, alloc: Global, number: u32) -> Result<(), Failure> {
         let before = self.shown(alloc)?;
-        self.copy(alloc)?;
+        let full = self.copied(alloc)?;
         self.clear(alloc, number)?;
-        self.copy(alloc)?;
+        let cleared = self.copied(alloc)?;
         self.add_new(alloc, number)?;
-        self.copy(alloc)?;
+        self.is_kept(alloc, &full)?;
+        self.is_kept(alloc, &cleared)?;
         let after = self.shown(alloc)?;
         expect(are_same_answers(before.answers.as_slice(), after.answers.as_slice()))
     }
@@ -288,7 +300,7 @@ fn filters(alloc: Global) -> Result<Vec<TopicFilter>, Failure> {
 }
 
 /// Adds new topics one after the other, clears and copies now and then, and prints how often memory was refused for a topic of each
-/// kind of place, for one behind a Sweep, and for a copy.
+/// kind of place, for one behind a Sweep, and for a Clear.
 pub fn work(rt: &impl Print, alloc: Global) -> Result<(), Failure> {
     let limit = TopicLimit::new(TOPICS).ok_or(Failure::Wrong)?;
     let mut run = Run {
@@ -297,7 +309,7 @@ pub fn work(rt: &impl Print, alloc: Global) -> Result<(), Failure> {
         refused: Refused {
             adds: [0; 4],
             swept: 0,
-            copies: 0,
+            clears: 0,
         },
     };
     for number in 0..ADDED {
@@ -314,8 +326,8 @@ pub fn work(rt: &impl Print, alloc: Global) -> Result<(), Failure> {
     let Refused {
         adds: [root, middle, leaf, above],
         swept,
-        copies,
+        clears,
     } = run.refused;
-    println!(rt; "refused {root} {middle} {leaf} {above} {swept} {copies}")?;
+    println!(rt; "refused {root} {middle} {leaf} {above} {swept} {clears}")?;
     Ok(())
 }

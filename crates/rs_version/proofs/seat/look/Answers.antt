@@ -4,4 +4,4 @@ use Rattle.rs_version.proofs.seat.look.Goals as goal
 
 pub returns-clause-found : goal.returns-clause-found
 returns-clause-found g c =
-    rw (c.in_ok-found.ensures) (stands_answer (content_of c.args.copy.now.catalogue) c.in_ok-list.list c.args.filter.now c.args.now c.in_ok-list.ensures.stands)
+    rw (c.in_ok-found.ensures) (stands_answer (content_of c.args.catalogue.now) c.args.list.now c.args.filter.now c.args.now c.requires)
