@@ -13,6 +13,9 @@ use std::process::Abort;
 use std::test::Fail;
 
 mod alike;
+mod examples;
+mod levels;
+mod sweeps;
 mod wide;
 
 /// A message that came at a moment.

@@ -1,7 +1,7 @@
 use Rattle.std.proofs.Common.{◌≡◌, ◌+◌, ◌<◌, ◌≤◌, ◌∷◌, List, arith, length, refl, sym, ap, ◌∙◌, Some, None}
 use Rattle.std.proofs.Math.ListN.{length-set}
-use Rattle.rs_store.specs.Chains.{behind}
-use Rattle.rs_store.specs.Spots.{levels_from}
+use Rattle.rs_tree.specs.Chains.{behind}
+use Rattle.rs_tree.specs.Spots.{levels_from}
 use Rattle.rs_tree.specs.Clearing.{ClearsAs}
 use Rattle.rs_tree.specs.Nodes.{stem_spots}
 use Rattle.rs_tree.specs.Rows.{IsGap, IsIn, depth}
