@@ -1,4 +1,5 @@
 -- When a Sweep makes room for a Set, of a content and of the lists that it stands for.
+use Rattle.rs_store.proofs.Expiring.{all_counted}
 use Rattle.std.proofs.Common.{⊎_elim, ◌≡◌, ◌≢◌, ◌==◌, ℕ, ◌+◌, ◌<◌, ◌≤◌, ◌⊎◌, inl, inr, Bool, true, false, List, [], ◌∷◌, ◌++◌, length, refl, sym, ap, subst, ◌∙◌, arith, get_or, set}
 use Rattle.std.specs.Prelude.{slice_index, ◌^◌, Some, None, nat_lt, if◌then◌else◌}
 use Rattle.std.specs.List.{filter}
@@ -21,7 +22,6 @@ use Rattle.rs_store.specs.declared.fault.Refusal.TheVariants.{Full, Stale, NoMem
 use Rattle.rs_store.proofs.Maps.{filter_few}
 use Rattle.rs_store.proofs.Histories.{holds_few, legal_front, never_overfull_more}
 use Rattle.rs_store.proofs.Standing.{accepts, at_most, has_room, held_more, keeps_at_most, legal_more, new_rises, rising_is_new, stands_more}
-use Rattle.rs_store.proofs.Trees.{all_counted}
 use Rattle.std.proofs.lemmas.Bool.{cases_lt}
 use Rattle.std.proofs.lemmas.Bool.Decides.{nat_tests}
 
@@ -154,19 +154,8 @@ may_not_come c history e NoMemory s some n = absurd n
 abbrev pub IsReady : Content → Entry → Content → Type 0
 IsReady c e new = (Accepts c e × (new ≡ c)) ⊎ ((s : NeedsSweep c e) × (new ≡ swept s.message.received c))
 
-pub precedes_accepts : (c : Content) (e sweep : Entry) → Precedes c e sweep → Accepts c sweep
-precedes_accepts c e sweep p = let P : Entry → Type 0 = λ z. Accepts c z in subst P (sym p.1) p.0.sweeps
-
 pub precedes_ready : (c : Content) (e sweep : Entry) (new : Content) → Precedes c e sweep → new ≡ followed c sweep → IsReady c e new
 precedes_ready c e sweep new p is = inr (p.0, is ∙ ap (λ (z : Entry). followed c z) p.1)
-
-pub precedes_refused : (c : Content) (e sweep : Entry) (new : Content) → Precedes c e sweep → new ≡ c → NotAddedBy c e NoMemory new
-precedes_refused c e sweep new p is = inr (p.0, inl is)
-
-pub not_next_refused : (c : Content) (e : Entry) (r : Refusal) (new : Content) → IsNotNext c e r → new ≡ c → NotAddedBy c e r new
-not_next_refused c e Stale new n is = (n, is)
-not_next_refused c e Full new n is = (n, is)
-not_next_refused c e NoMemory new n is = absurd n
 
 pub ready_accepts : (c : Content) (e : Entry) (new : Content) → IsReady c e new → Accepts new e
 ready_accepts c e new (inl r) = let P : Content → Type 0 = λ w. Accepts w e in subst P (sym r.1) r.0

@@ -1,12 +1,11 @@
--- When messages of a branch expire.
-use Rattle.std.proofs.Common.{◌≡◌, ℕ, ◌+◌, ◌-◌, ◌<◌, ◌≤◌, ◌^◌, min, Bool, true, false, Option, Some, None, List, [], ◌∷◌, ◌++◌, length, ⊎_elim, refl, sym, ap, subst, ◌∙◌, arith}
+-- When messages expire.
+use Rattle.std.proofs.Common.{◌≡◌, ℕ, ◌+◌, ◌-◌, ◌<◌, ◌≤◌, ◌^◌, min, Bool, true, false, Option, Some, None, List, [], ◌∷◌, length, ⊎_elim, refl, sym, subst, arith}
 use Rattle.std.specs.Prelude.{nat_eq, nat_le}
 use Rattle.std.specs.List.{filter}
 use Rattle.std.specs.Map.{remove_entry}
 use Rattle.std.specs.BTreeMap.{insert_entry, is_at}
 use Rattle.std.specs.declared.cmp.Ordering.{Ordering}
 use Rattle.std.specs.declared.cmp.Ordering.TheVariants.{Less, Equal, Greater}
-use Rattle.std.specs.declared.vec.Vec.{Vec}
 use Rattle.std.proofs.lemmas.Bool.{cases_lt}
 use Rattle.std.proofs.lemmas.Bool.Decides.{nat_tests}
 use Rattle.rs_topic.specs.Order.{topic_cmp}
@@ -14,35 +13,9 @@ use Rattle.rs_message.specs.Values.{MessageValue}
 use Rattle.rs_message.specs.Messages.{is_over, left_of}
 use Rattle.rs_message.specs.declared.entry.Entry.{Entry}
 use Rattle.rs_message.specs.declared.entry.Operation.TheVariants.{Set, Clear, Sweep}
-use Rattle.rs_store.specs.Chains.{under_all}
 use Rattle.rs_store.specs.Contents.{followed, is_gone, stays}
-use Rattle.rs_store.specs.Expiring.{NoneExpiredBefore, earliest, ends_at, ends_of, first_end}
-use Rattle.rs_store.specs.Spots.{Spot, below, pairs, under}
+use Rattle.rs_store.specs.Expiring.{NoneExpiredBefore, ends_at, ends_of, first_end}
 use Rattle.rs_store.specs.declared.content.Content.{Content}
-
--- ---- one part of the messages after the other
-
-pub earliest_both : (bound : ℕ) (xs ys : List Spot) → earliest bound (xs ++ ys) ≡ earliest (earliest bound xs) ys
-earliest_both bound [] ys = refl
-earliest_both bound (x ∷ xs) ys = earliest_both (min bound (ends_at x.1.message)) xs ys
-
-earliest_under : (bound : ℕ) (k : List ℕ) (ss : List Spot) → earliest bound (under k ss) ≡ earliest bound ss
-earliest_under bound k [] = refl
-earliest_under bound k (s ∷ ss) = earliest_under (min bound (ends_at s.1.message)) k ss
-
-pub earliest_chain : (bound : ℕ) (ks : List (List ℕ)) (ss : List Spot) → earliest bound (under_all ks ss) ≡ earliest bound ss
-earliest_chain bound [] ss = refl
-earliest_chain bound (k ∷ ks) ss = earliest_under bound k (under_all ks ss) ∙ earliest_chain bound ks ss
-
--- of the first child and of the others
-pub earliest_turn : {A : Type 0} (bound : ℕ) (left : List (Vec ℕ A × List Spot)) (e : Vec ℕ A × List Spot) (rest : List (Vec ℕ A × List Spot)) → left ≡ e ∷ rest
-    → earliest bound (below left) ≡ earliest (earliest bound e.1) (below rest)
-earliest_turn bound left e rest is = rw is (earliest_both bound (under e.0.items e.1) (below rest) ∙ ap (λ (b : ℕ). earliest b (below rest)) (earliest_under bound e.0.items e.1))
-
--- of a branch's messages, without their paths
-pub pairs_end : (bound : ℕ) (ss : List Spot) → earliest bound ss ≡ first_end bound (pairs ss)
-pairs_end bound [] = refl
-pairs_end bound (s ∷ ss) = pairs_end (min bound (ends_at s.1.message)) ss
 
 -- ---- before the end of a message it is not expired, and at its end it is
 
@@ -110,6 +83,15 @@ some_at bound (e ∷ es) few small =
 
 pub some_gone : (until : ℕ) (es : List (List ℕ × MessageValue)) → until ≡ first_end (2 ^ 64 - 1) es → until < 2 ^ 64 - 1 → 0 < length (filter (is_gone until) es)
 some_gone until es is small = rw is (some_at (2 ^ 64 - 1) es (omega arith) (omega (arith, is, small)))
+
+-- those that stay and those that do not are all
+pub all_counted : (moment : ℕ) (held : List (List ℕ × MessageValue)) → length (filter (stays moment) held) + length (filter (is_gone moment) held) ≡ length held
+all_counted moment [] = refl
+all_counted moment (e ∷ es) = at (is_gone moment e) refl (all_counted moment es)
+  where
+    at : (b : Bool) → is_gone moment e ≡ b → length (filter (stays moment) es) + length (filter (is_gone moment) es) ≡ length es → length (filter (stays moment) (e ∷ es)) + length (filter (is_gone moment) (e ∷ es)) ≡ length (e ∷ es)
+    at true is more = rw is (omega (arith, more))
+    at false is more = rw is (omega (arith, more))
 
 -- ---- after an operation none is expired before the moment
 

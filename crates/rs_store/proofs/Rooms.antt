@@ -17,14 +17,6 @@ some_fits room xs ys same h = rw (← same, le-leb (length xs) room h) refl
 pub none_fits : (room : ℕ) (ys : List Found) → room < length ys → None ≡ if_fits room ys
 none_fits room ys h = rw (not_le (length ys) room h) refl
 
--- what fits is the whole answer
-pub whole_fits : (room : ℕ) (xs ys : List Found) → Some xs ≡ if_fits room ys → xs ≡ ys
-whole_fits room xs ys e = at (nat_le (length ys) room) refl
-  where
-    at : (b : Bool) → nat_le (length ys) room ≡ b → xs ≡ ys
-    at true is = let h : Some xs ≡ Some ys = rw is at e in cc (h)
-    at false is = let h : Some xs ≡ None = rw is at e in absurd (cc (h))
-
 fewer : (p : List ℕ × MessageValue → Bool) (es : List (List ℕ × MessageValue)) → length (filter p es) ≤ length es
 fewer p [] = omega arith
 fewer p (e ∷ es) = at (p e) (fewer p es)

@@ -2,7 +2,6 @@
 use Rattle.std.specs.Prelude.{◌≡◌, ℕ, ◌+◌, ◌-◌, ◌^◌, ◌<◌, min, nat_eq, if◌then◌else◌, List, [], ◌∷◌, Option, Some, None}
 use Rattle.rs_message.specs.Values.{MessageValue}
 use Rattle.rs_store.specs.Contents.{expired_in}
-use Rattle.rs_store.specs.Spots.{Spot}
 use Rattle.rs_store.specs.declared.content.Content.{Content}
 
 -- the first moment at which an interval is over; the greatest u64 if there is no such moment
@@ -12,11 +11,6 @@ ends_of (Some expiry) received = if nat_eq expiry 0 then 0 else min (received + 
 
 abbrev pub ends_at : MessageValue → ℕ
 ends_at m = ends_of m.expiry m.received
-
--- the least of a bound and the moments from which on the messages are expired
-abbrev pub earliest : ℕ → List Spot → ℕ
-earliest bound [] = bound
-earliest bound (s ∷ ss) = earliest (min bound (ends_at s.1.message)) ss
 
 -- the same of the messages that are held
 abbrev pub first_end : ℕ → List (List ℕ × MessageValue) → ℕ

@@ -4,28 +4,19 @@
 //! A [`Catalogue`] keeps the content of a list of entries: the message of each topic, the last serial of each place and of the writer,
 //! and the number of entries. [`add`] appends one entry or says why not. If a Set is one topic too many, it first appends a Sweep, by
 //! which expired messages free their topics. A [`Calm`] says from which moment on it has to look for them. A [`Store`] is a
-//! catalogue with its calm moment. [`TreeCatalogue`] keeps the messages in a tree of levels, [`MapCatalogue`] in one ordered map.
+//! catalogue with its calm moment. [`MapCatalogue`] keeps the messages in one ordered map.
 #![tactic(auto)]
 
 mod answer;
-mod branch;
-mod bucket;
 mod calm;
 mod catalogue;
-mod chain;
 mod content;
 mod fault;
 mod found;
-mod held;
 mod law;
-mod leaf;
-mod level;
 mod limit;
 mod map;
 mod store;
-#[cfg(test)]
-mod tests;
-mod tree;
 
 pub use calm::Calm;
 pub use catalogue::{Catalogue, add, judge};
@@ -35,4 +26,3 @@ pub use law::{content_law, sweep_law};
 pub use limit::{MAX_TOPICS, TopicLimit};
 pub use map::MapCatalogue;
 pub use store::Store;
-pub use tree::TreeCatalogue;

@@ -160,14 +160,6 @@ fn copy_of(
     Ok(copy)
 }
 
-impl MapCatalogue {
-    /// Goes on with the greatest version.
-    #[cfg(test)]
-    pub(crate) fn end_versions(&mut self) {
-        self.version = u64::MAX;
-    }
-}
-
 impl Catalogue for MapCatalogue {
     ghost use Rattle.rs_store.specs.Maps.{kept};
 

@@ -17,16 +17,16 @@ use Rattle.rs_topic.specs.Matching.{fits}
 use Rattle.rs_topic.specs.TopicOrder.{exact_paths, path_total}
 use Rattle.rs_tree.specs.declared.leaf.Leaf.{Leaf}
 use Rattle.rs_tree.specs.Buckets.{IsGap, IsHere, IsPast, spots_in}
-use Rattle.rs_store.specs.Chains.{behind, under_all}
-use Rattle.rs_store.specs.Chosen.{chosen}
+use Rattle.rs_tree.specs.Chains.{behind, under_all}
+use Rattle.rs_tree.specs.Chosen.{chosen}
 use Rattle.rs_tree.specs.Room.{IsStop}
 use Rattle.rs_tree.specs.declared.answer.Stop.{Stop}
-use Rattle.rs_store.specs.Spots.{is_nothing, is_there, levels_from, spot_of, under}
+use Rattle.rs_tree.specs.Spots.{is_nothing, is_there, levels_from, spot_of, under}
 use Rattle.rs_store.proofs.Entries.{sorted_cons, sorted_none, sorted_insert, sorted_remove}
-use Rattle.rs_store.proofs.Growing.{Held}
-use Rattle.rs_store.proofs.Choosing.{chosen-append}
+use Rattle.rs_tree.proofs.Under.{Held, Path}
+use Rattle.rs_tree.proofs.Chosen.{chosen-append}
 use Rattle.rs_store.proofs.Maps.{insert_next, remove_absent}
-use Rattle.rs_store.proofs.Stems.{Path, behind_is, insert_all, under_one}
+use Rattle.rs_tree.proofs.Stems.{behind_is, insert_all, under_one}
 use Rattle.rs_tree.proofs.Stopping.{stop_at, stop_more}
 
 abbrev pub path_of : Leaf → Path

@@ -1,4 +1,5 @@
 -- What a filter chooses of a branch, child by child.
+use Rattle.rs_tree.proofs.Chosen.{goes, stops, Test, all_here, chosen-append, chosen_same, dollar_stops, hash_goes, plain_goes, plus_goes, plus_not_here}
 use Rattle.std.proofs.Common.{◌≡◌, ℕ, suc, ◌+◌, ◌<◌, ◌≤◌, Bool, true, false, not, ◌&&◌, ◌||◌, List, [], ◌∷◌, ◌++◌, length, get_or, take, drop, refl, sym, ap, subst, ◌∙◌, append_assoc, add-one, Option, Some, None, Result, Ok, Err}
 use Rattle.std.proofs.lemmas.List.{append-nil, drop_all}
 use Rattle.std.specs.Prelude.{IfErr, OnOk}
@@ -12,9 +13,8 @@ use Rattle.rs_topic.specs.Topics.{hash, is_end, plus}
 use Rattle.rs_topic.specs.Order.{path_cmp}
 use Rattle.rs_topic.specs.TopicOrder.{path_total}
 use Rattle.rs_topic.specs.Matching.{begins_with_dollar, fits, is_wild}
-use Rattle.rs_store.specs.Chosen.{chosen, chosen_at_root, chosen_by, is_matched, is_plain_below, own_chosen}
-use Rattle.rs_store.specs.Spots.{own, under}
-use Rattle.rs_store.proofs.Choosing.{Test, all_here, chosen-append, chosen_same, dollar_stops, hash_goes, plain_goes, plus_goes, plus_not_here}
+use Rattle.rs_tree.specs.Chosen.{chosen, chosen_at_root, chosen_by, is_matched, is_plain_below, own_chosen}
+use Rattle.rs_tree.specs.Spots.{own, under}
 use Rattle.rs_tree.specs.Answers.{Enters, EntersAs, Gives, Steps}
 use Rattle.std.specs.declared.sync.Arc.{Arc}
 use Rattle.std.specs.declared.alloc.Global.{Global}
@@ -22,11 +22,12 @@ use Rattle.rs_tree.specs.declared.branch.Below.{Below}
 use Rattle.rs_tree.specs.declared.branch.Below.TheVariants.{Few, Inner, Row}
 use Rattle.rs_tree.specs.Nodes.{spots_of, stem_spots}
 use Rattle.rs_tree.specs.Room.{IsStop}
-use Rattle.rs_tree.specs.Rows.{IsBehind, IsFrom, IsGap, IsIn, IsRow, Passes, Takes, parts}
+use Rattle.rs_tree.specs.Rows.{IsBehind, IsFrom, IsGap, IsIn, IsRow, Takes, parts}
 use Rattle.rs_tree.specs.Values.{BranchValue, ChildValue}
 use Rattle.rs_tree.specs.declared.answer.Answer.{Answer}
 use Rattle.rs_tree.specs.declared.answer.Stop.{Stop}
-use Rattle.rs_tree.proofs.Rows.{Ahead, Held, Path, gap_front, gap_rear, in_front, in_rear, parts_at, split_at, split_gap}
+use Rattle.rs_tree.proofs.Rows.{Ahead, gap_front, gap_rear, in_front, in_rear, parts_at, split_at, split_gap}
+use Rattle.rs_tree.proofs.Under.{Held, Path}
 use Rattle.rs_tree.proofs.Stopping.{stop_at, stop_more}
 
 -- ---- an answer in two parts
@@ -96,14 +97,6 @@ module _ (test : Test) (now : ℕ) (old mid new : Answer) (cs : List ChildValue)
       (subst P so.1 (stop_at s mid.room _ _ whole more), g.1 ∙ so.1)
 
 -- ---- below one level
-
-pub goes : (test further : Test) (now : ℕ) (k : List ℕ) → ((p : Path) → test (k ∷ p) ≡ further p) → (w : Held) → chosen_by test now (under k w) ≡ chosen_by further now w
-goes test further now k same [] = refl
-goes test further now k same (s ∷ ss) = rw (same s.0, goes test further now k same ss) refl
-
-stops : (test : Test) (now : ℕ) (k : List ℕ) → ((p : Path) → test (k ∷ p) ≡ false) → (w : Held) → chosen_by test now (under k w) ≡ []
-stops test now k fails [] = refl
-stops test now k fails (s ∷ ss) = rw (fails s.0) (stops test now k fails ss)
 
 steps_enter : (b : Bool) (level : List ℕ) (pattern rest : Path) → Steps pattern rest → EntersAs b level pattern rest
 steps_enter true level pattern rest s = tt

@@ -12,9 +12,9 @@ use Rattle.std.specs.declared.cmp.Ordering.{Ordering}
 use Rattle.std.specs.declared.cmp.Ordering.TheVariants.{Less, Equal, Greater}
 use Rattle.rs_message.specs.declared.entry.Found.{Found}
 use Rattle.rs_topic.specs.Order.{path_cmp}
-use Rattle.rs_store.specs.Chains.{behind, under_all}
-use Rattle.rs_store.specs.Spots.{IsFull, is_there, own, under}
-use Rattle.rs_store.proofs.Stems.{full_below, not_behind, removed, there_behind}
+use Rattle.rs_tree.specs.Chains.{behind, under_all}
+use Rattle.rs_tree.specs.Spots.{IsFull, is_there, own, under}
+use Rattle.rs_tree.proofs.Stems.{full_below, not_behind, removed, there_behind}
 use Rattle.rs_tree.specs.Buckets.{spots_in}
 use Rattle.rs_tree.specs.Clearing.{Clears, ClearsAs}
 use Rattle.rs_tree.specs.declared.cleared.Cleared.{Cleared}
@@ -24,7 +24,8 @@ use Rattle.rs_tree.specs.Rows.{IsBefore, IsBehind, IsFrom, IsIn, IsRow, IsUpTo, 
 use Rattle.rs_tree.specs.Values.{ChildValue}
 use Rattle.rs_tree.proofs.Dividing.{full_parts, level_rises, up_to_wider}
 use Rattle.rs_tree.proofs.Growing.{from_at, row_at, put_whole, row_set, same_parts}
-use Rattle.rs_tree.proofs.Rows.{Ahead, Held, Path, around, in_front, in_rear, level_cmp, split_at, there_child, there_gap, there_own}
+use Rattle.rs_tree.proofs.Rows.{Ahead, around, in_front, in_rear, split_at, there_child, there_gap, there_own}
+use Rattle.rs_tree.proofs.Under.{Held, Path}
 
 -- ---- a bucket
 

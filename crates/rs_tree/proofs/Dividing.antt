@@ -7,11 +7,12 @@ use Rattle.std.specs.declared.cmp.Ordering.{Ordering}
 use Rattle.std.specs.declared.cmp.Ordering.TheVariants.{Less, Equal, Greater}
 use Rattle.rs_topic.specs.Order.{path_cmp}
 use Rattle.rs_topic.specs.TopicOrder.{exact_paths, path_total}
-use Rattle.rs_store.specs.Spots.{IsFull, under}
-use Rattle.rs_store.proofs.Stems.{full_below}
+use Rattle.rs_tree.specs.Spots.{IsFull, under}
+use Rattle.rs_tree.proofs.Stems.{full_below}
 use Rattle.rs_tree.specs.Rows.{AreHalves, IsBefore, IsFrom, IsRow, IsUpTo, parts}
 use Rattle.rs_tree.specs.Values.{ChildValue}
-use Rattle.rs_tree.proofs.Rows.{Held, IsReached, Path, back, between, level_cmp, level_not, parts_split, reached_first, takes_reached}
+use Rattle.rs_tree.proofs.Under.{Held, Path, level_cmp}
+use Rattle.rs_tree.proofs.Rows.{IsReached, back, between, level_not, parts_split, reached_first, takes_reached}
 
 -- ---- one child
 

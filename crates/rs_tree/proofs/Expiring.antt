@@ -2,13 +2,13 @@
 use Rattle.std.proofs.Common.{◌≡◌, ℕ, suc, ◌+◌, ◌<◌, ◌≤◌, List, [], ◌++◌, length, get_or, drop, sym, ap, ◌∙◌, add-one, length-append}
 use Rattle.std.proofs.lemmas.List.{drop_all}
 use Rattle.std.specs.List.{filter}
-use Rattle.rs_store.specs.Expiring.{earliest}
-use Rattle.rs_store.specs.Sweeping.{is_expired_spot}
-use Rattle.rs_store.proofs.Expiring.{earliest_both}
-use Rattle.rs_store.proofs.Sweeping.{gone_both}
+use Rattle.rs_tree.specs.Expiring.{earliest}
+use Rattle.rs_tree.specs.Sweeping.{is_expired_spot}
+use Rattle.rs_tree.proofs.Ends.{earliest_both, gone_both}
 use Rattle.rs_tree.specs.Rows.{parts}
 use Rattle.rs_tree.specs.Values.{ChildValue}
-use Rattle.rs_tree.proofs.Rows.{Held, parts_at}
+use Rattle.rs_tree.proofs.Under.{Held}
+use Rattle.rs_tree.proofs.Rows.{parts_at}
 
 module _ (cs : List ChildValue) (i : ℕ) (c : ChildValue) (small : i < length cs) (is : c ≡ get_or cs i c) where
   here : parts (drop i cs) ≡ c.spots ++ parts (drop (i + 1) cs)

@@ -8,13 +8,12 @@ use Rattle.std.specs.declared.cmp.Ordering.{Ordering}
 use Rattle.std.specs.declared.cmp.Ordering.TheVariants.{Less, Equal, Greater}
 use Rattle.rs_message.specs.declared.entry.Found.{Found}
 use Rattle.rs_topic.specs.Order.{path_cmp}
-use Rattle.rs_store.specs.Spots.{IsFull, is_there, own, under}
-use Rattle.rs_store.proofs.Looking.{told_by}
-use Rattle.rs_store.proofs.Stems.{insert_all}
-use Rattle.rs_store.proofs.Growing.{full_insert}
+use Rattle.rs_tree.specs.Spots.{IsFull, is_there, own, under}
+use Rattle.rs_tree.proofs.Under.{told_by, full_insert, Held, Path, level_cmp}
+use Rattle.rs_tree.proofs.Stems.{insert_all}
 use Rattle.rs_tree.specs.Rows.{IsAhead, IsBefore, IsBehind, IsEdge, IsFrom, IsGap, IsIn, IsRow, IsUpTo, Takes, parts}
 use Rattle.rs_tree.specs.Values.{ChildValue}
-use Rattle.rs_tree.proofs.Rows.{Ahead, BeforeAll, ahead_all, Held, Path, around, behind_up_to, edge_at, gap_front, gap_rear, in_front, in_rear, level_cmp, level_less, split_at, split_gap, takes_reached, there_under}
+use Rattle.rs_tree.proofs.Rows.{Ahead, BeforeAll, ahead_all, around, behind_up_to, edge_at, gap_front, gap_rear, in_front, in_rear, level_less, split_at, split_gap, takes_reached, there_under}
 
 -- ---- an insertion among what stands before, what may be the place, and what stands behind
 

@@ -5,20 +5,19 @@ use Rattle.std.proofs.lemmas.Bool.Decides.{nat_tests}
 use Rattle.std.proofs.lemmas.List.Elements.{filter-append}
 use Rattle.std.specs.List.{filter}
 use Rattle.rs_message.specs.declared.entry.Found.{Found}
-use Rattle.rs_store.specs.Chains.{under_all}
-use Rattle.rs_store.specs.Expiring.{earliest}
-use Rattle.rs_store.specs.Spots.{IsFull, is_nothing, own, under}
-use Rattle.rs_store.specs.Sweeping.{spot_stays}
-use Rattle.rs_store.proofs.Sweeping.{swept_chain}
+use Rattle.rs_tree.specs.Chains.{under_all}
+use Rattle.rs_tree.specs.Expiring.{earliest}
+use Rattle.rs_tree.specs.Spots.{IsFull, is_nothing, own, under, pairs}
+use Rattle.rs_tree.specs.Sweeping.{spot_stays}
+use Rattle.rs_tree.proofs.Ends.{swept_chain, pairs_end}
 use Rattle.rs_tree.specs.Rows.{IsBefore, IsFrom, IsLeft, IsRow, IsUpTo, parts, push_some}
 use Rattle.rs_tree.specs.Values.{ChildValue}
 use Rattle.rs_tree.proofs.Dividing.{full_parts, full_under, up_to_all, up_to_front, up_to_rear}
 use Rattle.rs_message.specs.Messages.{is_expired}
 use Rattle.rs_store.specs.Contents.{is_gone}
-use Rattle.rs_store.specs.Spots.{pairs}
-use Rattle.rs_store.proofs.Expiring.{calm_until, pairs_end}
+use Rattle.rs_store.proofs.Expiring.{calm_until}
 use Rattle.rs_tree.proofs.Growing.{from_at, row_at}
-use Rattle.rs_tree.proofs.Rows.{Held}
+use Rattle.rs_tree.proofs.Under.{Held}
 
 -- ---- a row that grows at its end
 

@@ -1,10 +1,8 @@
 -- Where a path belongs among the children of a branch.
+use Rattle.rs_tree.proofs.Under.{there_one, Held, Path, level_cmp}
 use Rattle.std.proofs.Common.{◌≡◌, ◌≢◌, ℕ, zero, suc, ◌+◌, ◌<◌, ◌≤◌, Bool, true, false, List, [], ◌∷◌, ◌++◌, length, get_or, take, drop, refl, sym, ap, subst, ◌∙◌, arith, append_assoc, add-one, Option, Some, None, is_some}
-use Rattle.std.specs.Cmp.Lexicographic.{bytes_decides, slice_cmp}
+use Rattle.std.specs.Cmp.Lexicographic.{bytes_decides}
 use Rattle.std.specs.Str.{bytes_eq}
-use Rattle.std.specs.Ordering.{nat_cmp, is_eq}
-use Rattle.std.specs.Map.{lookup, remove_entry}
-use Rattle.std.specs.BTreeMap.{insert_entry, is_at}
 use Rattle.std.specs.declared.cmp.Ordering.{Ordering}
 use Rattle.std.specs.declared.cmp.Ordering.TheVariants.{Less, Equal, Greater}
 use Rattle.std.proofs.lemmas.Cmp.{nat_list_cmp_total, tied_itself}
@@ -12,20 +10,9 @@ use Rattle.std.proofs.lemmas.Map.Lookups.{exact_bytes}
 use Rattle.rs_message.specs.declared.entry.Found.{Found}
 use Rattle.rs_topic.specs.Order.{path_cmp}
 use Rattle.rs_topic.specs.TopicOrder.{exact_paths, path_total}
-use Rattle.std.proofs.lemmas.List.{append-nil}
-use Rattle.rs_store.proofs.Looking.{same_child}
-use Rattle.rs_store.specs.Spots.{Spot, IsFull, is_there, own, under}
+use Rattle.rs_tree.specs.Spots.{IsFull, is_there, own, under}
 use Rattle.rs_tree.specs.Rows.{IsAhead, IsBehind, IsEdge, IsFrom, IsGap, IsIn, IsNotBefore, IsRow, IsUpTo, Leads, LeadsAs, Passes, Takes, TakesAs, depth, parts}
 use Rattle.rs_tree.specs.Values.{ChildValue}
-
-abbrev pub Path : Type 0
-Path = List (List ℕ)
-
-abbrev pub Held : Type 0
-Held = List Spot
-
-abbrev pub level_cmp : List ℕ → List ℕ → Ordering
-level_cmp = slice_cmp nat_cmp
 
 -- ---- the order of paths
 
@@ -388,4 +375,4 @@ gap_first q cs i e edge = let P : ℕ → Type 0 = λ m. IsEdge (IsNotBefore q) 
 -- ---- one child, below its level
 
 pub there_under : (k : List ℕ) (p path : Path) (w : Held) → path ≡ k ∷ p → is_there p w ≡ is_there path (under k w)
-there_under k p path w is = rw is (sym (ap (is_there (k ∷ p)) (sym (append-nil (under k w))) ∙ same_child k p w [] refl))
+there_under k p path w is = rw is (sym (there_one k p w))

@@ -5,8 +5,8 @@ use Rattle.rs_message.specs.Messages.{is_expired}
 use Rattle.rs_topic.specs.Order.{path_cmp}
 use Rattle.rs_tree.specs.declared.leaf.Leaf.{Leaf}
 use Rattle.rs_tree.specs.Buckets.{spots_in}
-use Rattle.rs_store.specs.Spots.{Spot, spot_of}
-use Rattle.rs_store.specs.Sweeping.{spot_stays}
+use Rattle.rs_tree.specs.Spots.{Spot, spot_of}
+use Rattle.rs_tree.specs.Sweeping.{spot_stays}
 use Rattle.rs_tree.proofs.Buckets.{Sorted}
 use Rattle.rs_store.proofs.Entries.{sorted_filter}
 

@@ -3,7 +3,7 @@ use Rattle.std.specs.Prelude.{◌≡◌, ℕ, true, false, List, [], Result, Ok,
 use Rattle.std.specs.Map.{remove_entry}
 use Rattle.std.specs.BTreeMap.{is_at}
 use Rattle.rs_topic.specs.Order.{path_cmp}
-use Rattle.rs_store.specs.Spots.{Spot, IsFull, is_there}
+use Rattle.rs_tree.specs.Spots.{Spot, IsFull, is_there}
 use Rattle.rs_tree.specs.declared.cleared.Cleared.{Cleared}
 use Rattle.rs_tree.specs.declared.cleared.Cleared.TheVariants.{Missing, Left, Last}
 

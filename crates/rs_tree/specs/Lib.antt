@@ -1,10 +1,16 @@
 pub mod Answers
 pub mod Buckets
+pub mod Chains
+pub mod Chosen
 pub mod Clearing
 pub mod Depths
+pub mod Expiring
 pub mod Heights
 pub mod Labels
 pub mod Nodes
 pub mod Room
 pub mod Rows
+pub mod Spots
+pub mod Sweeping
+pub mod Trees
 pub mod Values

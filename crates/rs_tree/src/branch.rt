@@ -82,7 +82,7 @@ impl Model for Branch {
     ghost Value = { BranchValue };
 
     ghost use Rattle.std.specs.Prelude.{◌++◌};
-    ghost use Rattle.rs_store.specs.Spots.{own};
+    ghost use Rattle.rs_tree.specs.Spots.{own};
     ghost use Rattle.rs_tree.specs.Rows.{IsRow, depth, parts};
 
     ghost view = { λ b. record { spots = own b.held ++ parts b.children.items; depth = depth b.children.items } };

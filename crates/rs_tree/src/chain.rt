@@ -3,8 +3,8 @@
 ghost use Rattle.std.specs.Prelude.{◌≡◌, ◌∷◌, [], ◌++◌, ◌≤◌, IfOk, IfSome, OnOk};
 ghost use Rattle.std.specs.Option.{option_map};
 ghost use Rattle.rs_topic.specs.Topics.{levels};
-ghost use Rattle.rs_store.specs.Chains.{behind, past};
-ghost use Rattle.rs_store.specs.Spots.{levels_from};
+ghost use Rattle.rs_tree.specs.Chains.{behind, past};
+ghost use Rattle.rs_tree.specs.Spots.{levels_from};
 
 use crate::level::{is_all_below, is_plus, level_at};
 use std::alloc::{AllocError, Global};

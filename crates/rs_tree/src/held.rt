@@ -1,7 +1,7 @@
 //! The message of one place, or none.
 
 ghost use Rattle.std.specs.Prelude.{◌≡◌, IfOk};
-ghost use Rattle.rs_store.specs.Chosen.{own_chosen};
+ghost use Rattle.rs_tree.specs.Chosen.{own_chosen};
 ghost use Rattle.rs_tree.specs.Answers.{Gives};
 
 use crate::answer::{Answer, Stop};

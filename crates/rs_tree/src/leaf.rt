@@ -2,9 +2,9 @@
 
 ghost use Rattle.std.specs.Prelude.{◌≡◌, false, [], ◌∷◌, ◌++◌, IfErr, IfOk, IsTrue, OnOk};
 ghost use Rattle.rs_topic.specs.Order.{path_cmp};
-ghost use Rattle.rs_store.specs.Chosen.{chosen};
+ghost use Rattle.rs_tree.specs.Chosen.{chosen};
 ghost use Rattle.rs_tree.specs.Room.{IsStop};
-ghost use Rattle.rs_store.specs.Spots.{levels_from, spot_of};
+ghost use Rattle.rs_tree.specs.Spots.{levels_from, spot_of};
 
 use crate::answer::{Answer, Stop};
 use crate::chain::behind;

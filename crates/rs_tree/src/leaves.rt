@@ -7,13 +7,13 @@ ghost use Rattle.std.specs.List.Sorted.{IsStrictlySortedBy};
 ghost use Rattle.std.specs.Map.{keys_of, remove_entry};
 ghost use Rattle.rs_topic.specs.Order.{path_cmp};
 ghost use Rattle.rs_tree.specs.Buckets.{IsGap, IsHere, spots_in};
-ghost use Rattle.rs_store.specs.Chains.{under_all};
-ghost use Rattle.rs_store.specs.Chosen.{chosen};
-ghost use Rattle.rs_store.specs.Expiring.{earliest};
+ghost use Rattle.rs_tree.specs.Chains.{under_all};
+ghost use Rattle.rs_tree.specs.Chosen.{chosen};
+ghost use Rattle.rs_tree.specs.Expiring.{earliest};
 ghost use Rattle.rs_tree.specs.Clearing.{ClearsAs};
 ghost use Rattle.rs_tree.specs.Room.{IsStop};
-ghost use Rattle.rs_store.specs.Spots.{is_nothing, is_there, levels_from, spot_of, under};
-ghost use Rattle.rs_store.specs.Sweeping.{is_expired_spot, spot_stays};
+ghost use Rattle.rs_tree.specs.Spots.{is_nothing, is_there, levels_from, spot_of, under};
+ghost use Rattle.rs_tree.specs.Sweeping.{is_expired_spot, spot_stays};
 ghost use Rattle.rs_store.specs.declared.limit.TheConstants.{MAX_TOPICS};
 
 use crate::answer::{Answer, Stop};

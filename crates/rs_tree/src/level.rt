@@ -6,7 +6,7 @@ ghost use Rattle.std.specs.Str.{bytes_eq};
 ghost use Rattle.rs_topic.specs.Topics.{levels, slash, plus};
 ghost use Rattle.rs_topic.specs.Order.{differing_cmp, path_cmp, topic_cmp};
 ghost use Rattle.rs_topic.specs.Matching.{begins_with_dollar, fits};
-ghost use Rattle.rs_store.specs.Spots.{levels_from};
+ghost use Rattle.rs_tree.specs.Spots.{levels_from};
 
 use std::cmp::Ordering;
 
@@ -25,7 +25,7 @@ fn end_of_level(text: &[u8]) -> usize
 }
 
 /// The level that begins at a byte, and where the next one begins.
-#[tactic(auto, using(rs_store::proofs::Places::one_more, rs_store::proofs::Places::no_more, rs_store::proofs::Places::is_level))]
+#[tactic(auto, using(crate::proofs::Places::one_more, crate::proofs::Places::no_more, crate::proofs::Places::is_level))]
 pub fn level_at(text: &[u8], at: usize) -> Option<(&[u8], usize)>
     ensures more { IfSome result (λ r. levels_from at text.now ≡ r.0.now ∷ levels_from r.1 text.now) }
     ensures further { IfSome result (λ r. (at < r.1) × (r.1 ≤ length text.now + 1)) }
@@ -42,7 +42,7 @@ pub fn level_at(text: &[u8], at: usize) -> Option<(&[u8], usize)>
 }
 
 /// The level is a `#` in the last place, so it fits any rest of a topic.
-#[tactic(auto, using(rs_store::proofs::Places::all_below))]
+#[tactic(auto, using(crate::proofs::Places::all_below))]
 pub fn is_all_below(level: &[u8], text: &[u8], next: usize) -> bool
     ensures { result ≡ fits (level.now ∷ levels_from next text.now) [] }
 {
@@ -116,7 +116,7 @@ fn compare(a: &[u8], b: &[u8]) -> Ordering
 }
 
 /// Compares the rests of two texts level by level.
-#[tactic(auto, using(rs_store::proofs::Places::both_within, rs_store::proofs::Places::one_within, rs_store::proofs::Places::other_within, rs_store::proofs::Places::none_within))]
+#[tactic(auto, using(crate::proofs::Places::both_within, crate::proofs::Places::one_within, crate::proofs::Places::other_within, crate::proofs::Places::none_within))]
 pub fn compare_rests(text: &[u8], at: usize, other: &[u8], from: usize) -> Ordering
     ensures { result ≡ path_cmp (levels_from at text.now) (levels_from from other.now) }
 {

@@ -5,10 +5,10 @@ ghost use Rattle.std.specs.BTreeMap.{insert_entry, is_at};
 ghost use Rattle.std.specs.List.{filter};
 ghost use Rattle.std.specs.Map.{remove_entry};
 ghost use Rattle.rs_topic.specs.Order.{path_cmp};
-ghost use Rattle.rs_store.specs.Chosen.{chosen_at_root};
-ghost use Rattle.rs_store.specs.Expiring.{earliest};
-ghost use Rattle.rs_store.specs.Spots.{is_there, levels_from};
-ghost use Rattle.rs_store.specs.Sweeping.{is_expired_spot, spot_stays};
+ghost use Rattle.rs_tree.specs.Chosen.{chosen_at_root};
+ghost use Rattle.rs_tree.specs.Expiring.{earliest};
+ghost use Rattle.rs_tree.specs.Spots.{is_there, levels_from};
+ghost use Rattle.rs_tree.specs.Sweeping.{is_expired_spot, spot_stays};
 ghost use Rattle.rs_store.specs.declared.limit.TheConstants.{MAX_TOPICS};
 ghost use Rattle.rs_tree.specs.Room.{IsStop};
 

@@ -9,9 +9,9 @@ ghost use Rattle.std.specs.Map.{keys_of, remove_entry};
 ghost use Rattle.rs_topic.specs.Order.{topic_cmp};
 ghost use Rattle.rs_store.specs.Contents.{after, found_of, if_fits, is_answered, is_gone, serial_count, stays};
 ghost use Rattle.rs_store.specs.Expiring.{first_end};
-ghost use Rattle.rs_store.specs.Spots.{ArePlaced, pairs};
+ghost use Rattle.rs_tree.specs.Spots.{ArePlaced, pairs};
 ghost use Rattle.rs_store.specs.declared.limit.TheConstants.{MAX_TOPICS};
-ghost use Rattle.rs_store.specs.Trees.{IsTree};
+ghost use Rattle.rs_tree.specs.Trees.{IsTree};
 
 use crate::answer::{Answer, Stop};
 use crate::root::Root;
@@ -50,8 +50,8 @@ pub struct TreeCatalogue {
 
 impl Model for TreeCatalogue {
     ghost use Rattle.rs_store.specs.declared.content.Content.{Content};
-    ghost use Rattle.rs_store.specs.Trees.{IsTree};
-    ghost use Rattle.rs_store.specs.Spots.{pairs};
+    ghost use Rattle.rs_tree.specs.Trees.{IsTree};
+    ghost use Rattle.rs_tree.specs.Spots.{pairs};
 
     ghost Value = { Content };
 
@@ -193,7 +193,7 @@ fn count_after(root: &Root, count: u32, operation: &Operation) -> u32
 }
 
 /// At most `limit` topics hold a message after the operation.
-#[tactic(auto, using(rs_store::proofs::Trees::room_below, rs_store::proofs::Trees::room_swept))]
+#[tactic(auto, using(crate::proofs::Trees::room_below, crate::proofs::Trees::room_swept))]
 fn has_room(root: &Root, count: u32, limit: TopicLimit, operation: &Operation) -> bool
     requires { IsTree root.now count limit }
     ensures { result ≡ nat_le (length (after (pairs root.now) operation.now)) limit }

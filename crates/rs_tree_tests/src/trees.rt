@@ -13,7 +13,10 @@ use std::process::Abort;
 use std::test::Fail;
 
 mod alike;
+mod examples;
 mod joined;
+mod levels;
+mod sweeps;
 mod wide;
 
 /// A message that came at a moment.

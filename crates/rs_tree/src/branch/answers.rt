@@ -1,8 +1,8 @@
 //! What a branch answers: copies of the messages that a filter fits, in the order of replay.
 
 ghost use Rattle.std.specs.Prelude.{◌≡◌};
-ghost use Rattle.rs_store.specs.Chosen.{chosen, chosen_at_root, chosen_by, is_plain_below};
-ghost use Rattle.rs_store.specs.Spots.{levels_from};
+ghost use Rattle.rs_tree.specs.Chosen.{chosen, chosen_at_root, chosen_by, is_plain_below};
+ghost use Rattle.rs_tree.specs.Spots.{levels_from};
 ghost use Rattle.rs_tree.specs.Answers.{Enters, Gives, Steps};
 ghost use Rattle.rs_tree.specs.Nodes.{stem_spots};
 ghost use Rattle.rs_tree.specs.Rows.{parts};

@@ -3,7 +3,7 @@
 ghost use Rattle.std.specs.Prelude.{◌≡◌, ◌<◌, false, [], length, is_some, IsTrue};
 ghost use Rattle.std.specs.List.{remove};
 ghost use Rattle.std.specs.Arc.{arc_value};
-ghost use Rattle.rs_store.specs.Spots.{levels_from};
+ghost use Rattle.rs_tree.specs.Spots.{levels_from};
 ghost use Rattle.rs_tree.specs.Clearing.{Clears, ClearsAs};
 ghost use Rattle.rs_tree.specs.Nodes.{stem_spots};
 ghost use Rattle.rs_tree.specs.Rows.{Leads};

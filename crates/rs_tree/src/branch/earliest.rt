@@ -1,8 +1,8 @@
 //! The first moment at which a message of a branch is expired.
 
 ghost use Rattle.std.specs.Prelude.{◌≡◌};
-ghost use Rattle.rs_store.specs.Expiring.{earliest};
-ghost use Rattle.rs_store.specs.Spots.{own};
+ghost use Rattle.rs_tree.specs.Expiring.{earliest};
+ghost use Rattle.rs_tree.specs.Spots.{own};
 ghost use Rattle.rs_tree.specs.Rows.{parts};
 
 use super::{Below, Branch, Child};

@@ -2,8 +2,8 @@
 
 ghost use Rattle.std.specs.Prelude.{◌≡◌, ◌+◌, ◌≤◌, length};
 ghost use Rattle.std.specs.List.{filter};
-ghost use Rattle.rs_store.specs.Spots.{own};
-ghost use Rattle.rs_store.specs.Sweeping.{is_expired_spot};
+ghost use Rattle.rs_tree.specs.Spots.{own};
+ghost use Rattle.rs_tree.specs.Sweeping.{is_expired_spot};
 ghost use Rattle.rs_store.specs.declared.limit.TheConstants.{MAX_TOPICS};
 ghost use Rattle.rs_tree.specs.Rows.{parts};
 

@@ -1,7 +1,7 @@
 //! Whether there is a message at a topic.
 
 ghost use Rattle.std.specs.Prelude.{◌≡◌};
-ghost use Rattle.rs_store.specs.Spots.{is_there, levels_from};
+ghost use Rattle.rs_tree.specs.Spots.{is_there, levels_from};
 ghost use Rattle.rs_tree.specs.Nodes.{stem_spots};
 ghost use Rattle.rs_tree.specs.Rows.{Leads};
 

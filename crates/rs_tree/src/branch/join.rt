@@ -4,8 +4,8 @@
 
 ghost use Rattle.std.specs.Prelude.{◌≡◌, ◌∷◌, [], IfOk, IfSome};
 ghost use Rattle.rs_topic.specs.Topics.{levels};
-ghost use Rattle.rs_store.specs.Chains.{under_all};
-ghost use Rattle.rs_store.specs.Spots.{levels_from, under};
+ghost use Rattle.rs_tree.specs.Chains.{under_all};
+ghost use Rattle.rs_tree.specs.Spots.{levels_from, under};
 ghost use Rattle.rs_tree.specs.Nodes.{stem_spots};
 ghost use Rattle.rs_tree.specs.Rows.{IsRow, parts};
 

@@ -2,7 +2,7 @@
 
 ghost use Rattle.std.specs.Prelude.{◌≡◌, ◌+◌, ◌∷◌, [], ◌<◌, false, length, slice_set, IfOk, IfSome, IsTrue};
 ghost use Rattle.std.specs.List.{insert};
-ghost use Rattle.rs_store.specs.Spots.{IsFull, spot_of, under};
+ghost use Rattle.rs_tree.specs.Spots.{IsFull, spot_of, under};
 ghost use Rattle.rs_tree.specs.Nodes.{stem_spots};
 ghost use Rattle.rs_tree.specs.Rows.{AreHalves, IsFrom, IsRow, parts};
 

@@ -2,8 +2,8 @@
 
 ghost use Rattle.std.specs.Prelude.{◌≡◌, IfOk, OnOk};
 ghost use Rattle.std.specs.List.{filter};
-ghost use Rattle.rs_store.specs.Spots.{IsFull, is_nothing, own};
-ghost use Rattle.rs_store.specs.Sweeping.{spot_stays};
+ghost use Rattle.rs_tree.specs.Spots.{IsFull, is_nothing, own};
+ghost use Rattle.rs_tree.specs.Sweeping.{spot_stays};
 ghost use Rattle.rs_tree.specs.Rows.{IsLeft, IsRow, parts, push_some};
 
 use super::{Below, Branch, Child, Stem};

@@ -1,13 +1,14 @@
 use Rattle.std.proofs.Common.{◌≡◌, ℕ, List, ◌+◌, ◌≤◌, subst, Err, ◌<◌, ◌∷◌, [], true, false, length, refl, sym, ap, ◌∙◌, arith, Some, None}
 use Rattle.rs_topic.specs.Matching.{fits}
-use Rattle.rs_store.specs.Chains.{past}
-use Rattle.rs_store.specs.Chosen.{chosen, own_chosen}
-use Rattle.rs_store.specs.Spots.{levels_from}
-use Rattle.rs_store.proofs.Stems.{chosen_past, none_past}
+use Rattle.rs_tree.specs.Chains.{past}
+use Rattle.rs_tree.specs.Chosen.{chosen, own_chosen}
+use Rattle.rs_tree.specs.Spots.{levels_from}
+use Rattle.rs_tree.proofs.Stems.{chosen_past, none_past}
 use Rattle.rs_tree.specs.Nodes.{stem_spots}
 use Rattle.rs_tree.specs.Rows.{IsGap, IsIn, Takes, depth, parts}
 use Rattle.rs_tree.specs.Values.{BranchValue, ChildValue}
-use Rattle.rs_tree.proofs.Choosing.{all_of, ended, exact_gap, exact_in, gives_none, gives_of, gives_same, gives_stop, gives_then, goes, hash_steps, plus_of, plus_steps, so_far_end, so_far_more, so_far_stop, steps_in, takes_in}
+use Rattle.rs_tree.proofs.Choosing.{all_of, ended, exact_gap, exact_in, gives_none, gives_of, gives_same, gives_stop, gives_then, hash_steps, plus_of, plus_steps, so_far_end, so_far_more, so_far_stop, steps_in, takes_in}
+use Rattle.rs_tree.proofs.Chosen.{goes}
 use Rattle.rs_tree.proofs.Rows.{deep_child, edge_at}
 use Rattle.rs_tree.proofs.branch.+answer.Goals as goal
 

@@ -1,13 +1,14 @@
 use Rattle.std.proofs.Common.{◌≡◌, ◌+◌, ◌<◌, ◌≤◌, ◌∷◌, ◌++◌, List, arith, length, refl, subst, sym, ap, ◌∙◌, Some, None}
 use Rattle.std.proofs.Math.ListN.{length-set}
-use Rattle.rs_store.specs.Chains.{behind}
-use Rattle.rs_store.specs.Spots.{levels_from, own, under}
+use Rattle.rs_tree.specs.Chains.{behind}
+use Rattle.rs_tree.specs.Spots.{levels_from, own, under}
 use Rattle.rs_tree.specs.Clearing.{Clears, ClearsAs}
 use Rattle.rs_tree.specs.Nodes.{stem_spots}
 use Rattle.rs_tree.specs.Rows.{IsGap, IsIn, depth, parts}
 use Rattle.rs_tree.specs.Values.{BranchValue, ChildValue}
 use Rattle.rs_tree.proofs.Clearing.{clears_chain, clears_child, clears_last, clears_left, clears_level, clears_missing, clears_none, clears_same, remove_set, row_cleared, row_kept, row_removed}
-use Rattle.rs_tree.proofs.Rows.{Held, deep_child, leads_child, there_gap}
+use Rattle.rs_tree.proofs.Under.{Held}
+use Rattle.rs_tree.proofs.Rows.{deep_child, leads_child, there_gap}
 use Rattle.rs_tree.specs.declared.cleared.Cleared.TheVariants.{Last, Left, Missing}
 use Rattle.rs_tree.proofs.branch.+clear.Goals as goal
 

@@ -1,12 +1,13 @@
 use Rattle.std.proofs.Common.{◌≡◌, List, ◌+◌, ◌≤◌, ◌∷◌, [], refl, ap, sym, ◌∙◌, arith, length, length-append}
 use Rattle.std.specs.List.{filter}
-use Rattle.rs_store.specs.Spots.{levels_from, own}
-use Rattle.rs_store.specs.Sweeping.{is_expired_spot}
-use Rattle.rs_store.proofs.Sweeping.{gone_both, gone_chain, gone_few, many_chain}
+use Rattle.rs_tree.specs.Spots.{levels_from, own}
+use Rattle.rs_tree.specs.Sweeping.{is_expired_spot}
+use Rattle.rs_tree.proofs.Ends.{gone_both, gone_chain, gone_few, many_chain}
 use Rattle.rs_tree.specs.Rows.{depth, parts}
 use Rattle.rs_tree.specs.Values.{BranchValue, ChildValue}
 use Rattle.rs_tree.proofs.Expiring.{gone_turn, many_turn, none_left}
-use Rattle.rs_tree.proofs.Rows.{Held, deep_child}
+use Rattle.rs_tree.proofs.Under.{Held}
+use Rattle.rs_tree.proofs.Rows.{deep_child}
 use Rattle.rs_tree.proofs.branch.+expired.Goals as goal
 
 pub expired::count_each-loop-child-init : goal.expired::count_each-loop-child-init

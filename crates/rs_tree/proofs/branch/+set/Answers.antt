@@ -1,10 +1,10 @@
 use Rattle.std.proofs.Common.{◌≡◌, ◌+◌, ◌<◌, ◌≤◌, ◌∷◌, [], List, arith, length, refl, sym, ap, ◌∙◌, Some}
 use Rattle.std.proofs.lemmas.Result.{on_ok_weaker, on_err_weaker}
-use Rattle.rs_store.specs.Spots.{IsFull, levels_from, spot_of, under}
-use Rattle.rs_store.proofs.Looking.{told_by}
+use Rattle.rs_tree.specs.Spots.{IsFull, levels_from, spot_of, under}
+use Rattle.rs_tree.proofs.Under.{told_by}
 use Rattle.rs_tree.specs.Rows.{IsGap, IsIn, depth}
-use Rattle.rs_store.specs.Chains.{behind, under_all}
-use Rattle.rs_store.proofs.Stems.{behind_is, full_inside, set_whole, told_whole}
+use Rattle.rs_tree.specs.Chains.{behind, under_all}
+use Rattle.rs_tree.proofs.Stems.{behind_is, full_inside, set_whole, told_whole}
 use Rattle.rs_tree.specs.Nodes.{stem_spots}
 use Rattle.rs_tree.specs.Values.{BranchValue, ChildValue}
 use Rattle.rs_tree.proofs.Growing.{full_child, grown_gap, grown_in, grown_under, told_under, own_first, row_new, row_put, same_in}

@@ -1,14 +1,15 @@
 use Rattle.std.proofs.Common.{◌≡◌, ◌+◌, ◌≤◌, ◌∷◌, [], ℕ, List, false, subst, arith, refl, sym, ap, ◌∙◌}
 use Rattle.std.specs.List.{filter}
-use Rattle.rs_store.specs.Sweeping.{spot_stays}
-use Rattle.rs_store.specs.Spots.{IsFull, levels_from, under}
+use Rattle.rs_tree.specs.Sweeping.{spot_stays}
+use Rattle.rs_tree.specs.Spots.{IsFull, levels_from, under}
 use Rattle.rs_tree.specs.Nodes.{stem_spots}
 use Rattle.rs_tree.specs.Rows.{depth}
 use Rattle.rs_tree.specs.Values.{BranchValue, ChildValue}
 use Rattle.rs_tree.proofs.Leaving.{all_left, branch_left, chain_gone, chain_left, full_at, full_not, joined_left, level_left, none_is, row_left, swept_all, swept_none, swept_step}
-use Rattle.rs_store.specs.Chains.{under_all}
-use Rattle.rs_store.proofs.Stems.{full_below}
-use Rattle.rs_tree.proofs.Rows.{Held, deep_child}
+use Rattle.rs_tree.specs.Chains.{under_all}
+use Rattle.rs_tree.proofs.Stems.{full_below}
+use Rattle.rs_tree.proofs.Under.{Held}
+use Rattle.rs_tree.proofs.Rows.{deep_child}
 use Rattle.rs_tree.proofs.branch.+swept.Goals as goal
 
 pub sweep::each_swept-loop-child-init : goal.sweep::each_swept-loop-child-init

@@ -1,4 +1,4 @@
-use Rattle.rs_store.proofs.Chains.{one_longer}
+use Rattle.rs_tree.proofs.Chains.{one_longer}
 use Rattle.rs_tree.proofs.chain.push_level.Goals as goal
 
 pub returns : goal.returns

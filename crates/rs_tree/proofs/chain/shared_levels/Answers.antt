@@ -1,6 +1,6 @@
 use Rattle.std.proofs.Common.{◌≡◌, ◌∷◌, arith}
-use Rattle.rs_store.specs.Spots.{levels_from}
-use Rattle.rs_store.proofs.Chains.{shared_more, told_same}
+use Rattle.rs_tree.specs.Spots.{levels_from}
+use Rattle.rs_tree.proofs.Chains.{shared_more, told_same}
 use Rattle.rs_tree.proofs.chain.shared_levels.Goals as goal
 
 pub loop-level-preserved : goal.loop-level-preserved

@@ -1,7 +1,7 @@
 use Rattle.std.proofs.Common.{◌≡◌, ◌+◌, ◌≤◌, drop, length}
 use Rattle.std.specs.List.{filter}
 use Rattle.rs_tree.specs.Buckets.{spots_in}
-use Rattle.rs_store.specs.Sweeping.{is_expired_spot}
+use Rattle.rs_tree.specs.Sweeping.{is_expired_spot}
 use Rattle.rs_store.specs.declared.limit.TheConstants.{MAX_TOPICS}
 use Rattle.rs_tree.proofs.leaves.count_each.Given as goal
 

@@ -1,6 +1,6 @@
 use Rattle.std.proofs.Common.{◌≡◌, drop}
 use Rattle.rs_tree.specs.Buckets.{spots_in}
-use Rattle.rs_store.specs.Expiring.{earliest}
+use Rattle.rs_tree.specs.Expiring.{earliest}
 use Rattle.rs_tree.proofs.leaves.lowered_by_each.Given as goal
 
 abbrev pub invariant-loop-leaf : goal.invariant-loop-leaf

@@ -1,6 +1,6 @@
 use Rattle.std.proofs.Common.{◌≡◌, ◌+◌, ◌-◌, length}
 use Rattle.rs_topic.specs.Matching.{fits}
-use Rattle.rs_store.specs.Spots.{levels_from}
+use Rattle.rs_tree.specs.Spots.{levels_from}
 use Rattle.rs_tree.proofs.level.levels_fit.Given as goal
 
 abbrev pub invariant-loop-wanted : goal.invariant-loop-wanted

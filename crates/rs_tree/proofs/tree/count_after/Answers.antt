@@ -1,6 +1,7 @@
 use Rattle.std.proofs.Common.{◌≡◌, arith}
-use Rattle.rs_store.specs.Spots.{is_there, levels_from, pairs}
-use Rattle.rs_store.proofs.Trees.{all_counted, set_old, set_new, clear_old, clear_none}
+use Rattle.rs_tree.specs.Spots.{is_there, levels_from, pairs}
+use Rattle.rs_store.proofs.Expiring.{all_counted}
+use Rattle.rs_tree.proofs.Trees.{set_old, set_new, clear_old, clear_none}
 use Rattle.rs_tree.proofs.tree.count_after.Goals as goal
 
 pub returns-then-holds : goal.returns-then-holds

@@ -1,6 +1,7 @@
 use Rattle.std.proofs.Common.{arith}
-use Rattle.rs_store.specs.Spots.{pairs}
-use Rattle.rs_store.proofs.Trees.{all_counted, pairs_swept, placed_swept}
+use Rattle.rs_tree.specs.Spots.{pairs}
+use Rattle.rs_store.proofs.Expiring.{all_counted}
+use Rattle.rs_tree.proofs.Trees.{pairs_swept, placed_swept}
 use Rattle.rs_tree.proofs.tree.sweep.Goals as goal
 
 pub overflow_sub-result : goal.overflow_sub-result

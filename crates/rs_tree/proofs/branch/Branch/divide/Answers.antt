@@ -1,9 +1,9 @@
 use Rattle.std.proofs.Common.{◌++◌, ap, arith}
-use Rattle.rs_store.specs.Spots.{own}
+use Rattle.rs_tree.specs.Spots.{own}
 use Rattle.rs_tree.specs.Rows.{AreHalves}
 use Rattle.rs_tree.proofs.Dividing.{divided}
 use Rattle.rs_tree.proofs.Growing.{from_at}
-use Rattle.rs_tree.proofs.Rows.{Held}
+use Rattle.rs_tree.proofs.Under.{Held}
 use Rattle.rs_tree.proofs.branch.Branch.divide.Goals as goal
 
 pub halved-requires : goal.halved-requires

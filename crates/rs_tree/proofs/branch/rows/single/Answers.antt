@@ -1,5 +1,5 @@
 use Rattle.std.proofs.Common.{List, ℕ, ◌+◌, ap, ◌∙◌, false, refl}
-use Rattle.rs_store.specs.Spots.{under}
+use Rattle.rs_tree.specs.Spots.{under}
 use Rattle.rs_tree.specs.Labels.{text_of}
 use Rattle.rs_tree.specs.Nodes.{stem_spots}
 use Rattle.rs_tree.specs.Values.{ChildValue}

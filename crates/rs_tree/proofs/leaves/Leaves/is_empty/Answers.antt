@@ -1,5 +1,5 @@
 use Rattle.std.proofs.Common.{◌∙◌, ap}
-use Rattle.rs_store.specs.Spots.{is_nothing}
+use Rattle.rs_tree.specs.Spots.{is_nothing}
 use Rattle.rs_tree.proofs.Buckets.{empty_is}
 use Rattle.rs_tree.proofs.leaves.Leaves.is_empty.Goals as goal
 

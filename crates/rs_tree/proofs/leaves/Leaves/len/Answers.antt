@@ -1,6 +1,6 @@
 use Rattle.std.proofs.Common.{ap, arith, length}
 use Rattle.rs_tree.proofs.Clearing.{length_leaves}
-use Rattle.rs_tree.proofs.Rows.{Held}
+use Rattle.rs_tree.proofs.Under.{Held}
 use Rattle.rs_tree.proofs.leaves.Leaves.len.Goals as goal
 
 pub returns : goal.returns

@@ -1,8 +1,8 @@
 use Rattle.std.proofs.Common.{List, ap, ◌∙◌}
 use Rattle.std.specs.List.{filter}
 use Rattle.rs_tree.specs.Buckets.{spots_in}
-use Rattle.rs_store.specs.Spots.{Spot}
-use Rattle.rs_store.specs.Sweeping.{spot_stays}
+use Rattle.rs_tree.specs.Spots.{Spot}
+use Rattle.rs_tree.specs.Sweeping.{spot_stays}
 use Rattle.rs_tree.proofs.Sweeping.{sorted_swept}
 use Rattle.rs_tree.proofs.leaves.Leaves.sweep.Goals as goal
 

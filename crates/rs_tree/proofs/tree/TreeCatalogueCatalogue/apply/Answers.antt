@@ -1,4 +1,4 @@
-use Rattle.rs_store.proofs.Trees.{is_tree}
+use Rattle.rs_tree.proofs.Trees.{is_tree}
 use Rattle.rs_tree.proofs.tree.TreeCatalogueCatalogue.apply.Goals as goal
 
 pub invariant_of-self-2 : goal.invariant_of-self-2

@@ -1,4 +1,4 @@
-use Rattle.rs_store.proofs.Trees.{empty_tree}
+use Rattle.rs_tree.proofs.Trees.{empty_tree}
 use Rattle.rs_tree.proofs.tree.TreeCatalogueCatalogue.new.Goals as goal
 
 pub invariant_of-result : goal.invariant_of-result

@@ -1,8 +1,0 @@
-use Rattle.std.proofs.Common.{arith}
-use Rattle.std.proofs.lemmas.List.{length-map}
-use Rattle.rs_store.specs.Spots.{pair_of}
-use Rattle.rs_store.proofs.Trees.{pairs_gone}
-use Rattle.rs_store.proofs.tree.count_expired.Goals as goal
-
-pub returns : goal.returns
-returns c = omega (arith, pairs_gone c.args.now c.args.root.now, c.expired.ensures (omega (arith, c.requires, length-map c.args.root.now pair_of)))

@@ -1,6 +1,0 @@
-use Rattle.std.proofs.Common.{◌^◌, ◌-◌, ◌∙◌}
-use Rattle.rs_store.proofs.Expiring.{pairs_end}
-use Rattle.rs_store.proofs.tree.earliest_of.Goals as goal
-
-pub returns : goal.returns
-returns c = c.earliest.ensures ∙ pairs_end (2 ^ 64 - 1) c.args.root.now

@@ -1,0 +1,55 @@
+-- What a branch of the tree holds: the messages with their paths, in the order of replay. A path is a list of levels.
+use Rattle.std.specs.Prelude.{◌≡◌, ℕ, Bool, true, false, nat_le, if◌then◌else◌, List, [], ◌∷◌, length, drop, Option, Some, None, map}
+use Rattle.std.specs.Map.{lookup}
+use Rattle.std.specs.BTreeMap.{is_at}
+use Rattle.std.specs.Option.{is_some}
+use Rattle.rs_topic.specs.Topics.{levels}
+use Rattle.rs_topic.specs.Order.{path_cmp}
+use Rattle.rs_message.specs.Values.{MessageValue}
+use Rattle.rs_message.specs.declared.entry.Found.{Found}
+
+-- the levels of a text from a byte on; none past its end
+abbrev pub levels_from : ℕ → List ℕ → List (List ℕ)
+levels_from at text = if nat_le at (length text) then levels (drop at text) else []
+
+abbrev pub Spot : Type 0
+Spot = List (List ℕ) × Found
+
+-- a message at what its topic has from a byte on
+abbrev pub spot_of : ℕ → Found → Spot
+spot_of at f = (levels_from at f.topic, f)
+
+-- the same messages one level further down
+abbrev pub under : List ℕ → List Spot → List Spot
+under level [] = []
+under level (s ∷ ss) = (level ∷ s.0, s.1) ∷ under level ss
+
+abbrev pub own : Option Found → List Spot
+own None = []
+own (Some f) = ([], f) ∷ []
+
+abbrev pub is_nothing : {X : Type 0} → List X → Bool
+is_nothing [] = true
+is_nothing (x ∷ xs) = false
+
+-- there is a message at the path
+abbrev pub is_there : List (List ℕ) → List Spot → Bool
+is_there path ss = is_some (lookup (is_at (path_cmp path)) ss)
+
+-- no child holds nothing
+abbrev pub IsFull : List Spot → Type 0
+IsFull [] = ⊥
+IsFull (s ∷ ss) = Unit {0}
+
+-- ---- the root
+
+-- each path is the levels of its topic
+abbrev pub ArePlaced : List Spot → Type 0
+ArePlaced [] = Unit {0}
+ArePlaced (s ∷ ss) = (levels s.1.topic ≡ s.0) × ArePlaced ss
+
+abbrev pub pair_of : Spot → List ℕ × MessageValue
+pair_of s = (s.1.topic, s.1.message)
+
+abbrev pub pairs : List Spot → List (List ℕ × MessageValue)
+pairs ss = map pair_of ss
