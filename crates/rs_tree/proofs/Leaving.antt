@@ -10,7 +10,7 @@ use Rattle.rs_tree.specs.Expiring.{earliest}
 use Rattle.rs_tree.specs.Spots.{IsFull, is_nothing, own, under, pairs}
 use Rattle.rs_tree.specs.Sweeping.{spot_stays}
 use Rattle.rs_tree.proofs.Ends.{swept_chain, pairs_end}
-use Rattle.rs_tree.specs.Rows.{IsBefore, IsFrom, IsLeft, IsRow, IsUpTo, parts, push_some}
+use Rattle.rs_tree.specs.Rows.{IsBefore, IsFrom, IsLeft, IsRow, IsUpTo, Notes, parts, push_some}
 use Rattle.rs_tree.specs.Values.{ChildValue}
 use Rattle.rs_tree.proofs.Dividing.{full_parts, full_under, up_to_all, up_to_front, up_to_rear}
 use Rattle.rs_message.specs.Messages.{is_expired}
@@ -100,14 +100,31 @@ module _ (moment : ℕ) (cs left : List ChildValue) (i : ℕ) where
     swept_step None new put h = let P : List ChildValue → Type 0 = λ l. IsSwept moment cs l (i + 1) in subst P (sym put) (swept_gone h)
     swept_step (Some d) new put h = swept_left d new put h
 
+take_whole : (cs : List ChildValue) (i : ℕ) → length cs ≤ i → take i cs ≡ cs
+take_whole [] zero small = refl
+take_whole [] (suc i) small = refl
+take_whole (c ∷ cs) zero small = absurd (omega (arith, small))
+take_whole (c ∷ cs) (suc i) small = ap (λ (l : List ChildValue). c ∷ l) (take_whole cs i (omega (arith, small)))
+
 pub swept_all : (moment : ℕ) (cs left : List ChildValue) (i : ℕ) → length cs ≤ i → IsSwept moment cs left i → parts left ≡ filter (spot_stays moment) (parts cs)
 swept_all moment cs left i all so = so.same ∙ ap (λ (l : List ChildValue). filter (spot_stays moment) (parts l)) (take_whole cs i all)
-  where
-    take_whole : (cs : List ChildValue) (i : ℕ) → length cs ≤ i → take i cs ≡ cs
-    take_whole [] zero small = refl
-    take_whole [] (suc i) small = refl
-    take_whole (c ∷ cs) zero small = absurd (omega (arith, small))
-    take_whole (c ∷ cs) (suc i) small = ap (λ (l : List ChildValue). c ∷ l) (take_whole cs i (omega (arith, small)))
+
+-- ---- what is noted of one child after the other
+
+pub noted_both : (moment : ℕ) (v w : Held) (a b c : Bool) → Notes moment v a b → Notes moment w b c → Notes moment (v ++ w) a c
+noted_both moment v w a b c first next none =
+    let last = next none in
+    let before = first last.0 in
+    (before.0, filter-append (spot_stays moment) v w ∙ (ap (λ (x : Held). x ++ filter (spot_stays moment) w) before.1 ∙ ap (λ (x : Held). v ++ x) last.1))
+
+pub noted_step : (moment : ℕ) (cs : List ChildValue) (i : ℕ) (c : ChildValue) → i < length cs → c ≡ get_or cs i c → (first before after : Bool) → Notes moment (parts (take i cs)) first before → Notes moment c.spots before after → Notes moment (parts (take (i + 1) cs)) first after
+noted_step moment cs i c small is first before after so here =
+    let more : parts (take (i + 1) cs) ≡ parts (take i cs) ++ c.spots = ap parts (take_more cs i c small ∙ ap (λ (w : ChildValue). take i cs ++ w ∷ []) (sym is)) ∙ parts_push (take i cs) c in
+    let P : Held → Type 0 = λ w. Notes moment w first after in
+    subst P (sym more) (noted_both moment (parts (take i cs)) c.spots first before after so here)
+
+pub noted_all : (moment : ℕ) (cs : List ChildValue) (i : ℕ) (first last : Bool) → length cs ≤ i → Notes moment (parts (take i cs)) first last → Notes moment (parts cs) first last
+noted_all moment cs i first last all so = let P : List ChildValue → Type 0 = λ l. Notes moment (parts l) first last in subst P (take_whole cs i all) so
 
 -- ---- one child
 
@@ -162,14 +179,14 @@ none_goes moment (s ∷ w) n = at (is_expired moment s.1.message) refl (none_goe
     at false is more = rw is (ap (λ (x : Held). s ∷ x) (more (rw is at n)))
     at true is more = absurd (let m : suc (length (filter (is_gone moment) (pairs w))) ≡ 0 = (rw is at n) in omega (arith, m))
 
-stays_all : (moment : ℕ) (w : Held) → moment < earliest (2 ^ 64 - 1) w → filter (spot_stays moment) w ≡ w
+pub stays_all : (moment : ℕ) (w : Held) → moment < earliest (2 ^ 64 - 1) w → filter (spot_stays moment) w ≡ w
 stays_all moment w early = none_goes moment w (calm_until (earliest (2 ^ 64 - 1) w) (pairs w) (pairs_end (2 ^ 64 - 1) w) moment early)
 
-pub all_left : (moment e : ℕ) (c d : ChildValue) → e ≡ earliest (2 ^ 64 - 1) c.spots → moment < e → IsFull c.spots → d ≡ c → IsLeft moment c (Some d)
-all_left moment e c d is small full same =
-    let stay : filter (spot_stays moment) c.spots ≡ c.spots = stays_all moment c.spots (omega (arith, is, small)) in
-    let P : ChildValue → Type 0 = λ w. IsLeft moment c (Some w) in
-    subst P (sym same) (refl, sym stay, full)
+pub chain_stays : (moment : ℕ) (ks : List (List ℕ)) (w : Held) → filter (spot_stays moment) w ≡ w → filter (spot_stays moment) (under_all ks w) ≡ under_all ks w
+chain_stays moment ks w stay = sym (chain_left moment ks w w (sym stay))
+
+pub all_left : (moment : ℕ) (c d : ChildValue) → filter (spot_stays moment) c.spots ≡ c.spots → IsFull c.spots → d ≡ c → IsLeft moment c (Some d)
+all_left moment c d stay full same = let P : ChildValue → Type 0 = λ w. IsLeft moment c (Some w) in subst P (sym same) (refl, sym stay, full)
 
 pub full_at : (cs : List ChildValue) (i : ℕ) (c : ChildValue) → i < length cs → c ≡ get_or cs i c → IsRow cs → IsFull c.spots
 full_at cs i c small is r = let P : ChildValue → Type 0 = λ w. IsFull w.spots in subst P (sym is) (row_at cs i c small r).0

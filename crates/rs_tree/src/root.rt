@@ -97,8 +97,11 @@ impl Root {
         ensures done { OnOk result (self.new ≡ filter (spot_stays moment) self.old) }
         ensures refused { OnErr result (self.new ≡ self.old) }
     {
-        let swept = self.branch.swept(alloc, moment)?;
-        self.branch = Arc::new(alloc, swept)?;
+        let mut goes = false;
+        let swept = self.branch.swept(alloc, moment, &mut goes)?;
+        if goes {
+            self.branch = Arc::new(alloc, swept)?;
+        }
         Ok(())
     }
 

@@ -1,10 +1,10 @@
-use Rattle.std.proofs.Common.{◌+◌, ◌*◌}
-use Rattle.rs_tree.specs.Rows.{depth}
+use Rattle.std.proofs.Common.{◌+◌, ◌*◌, take}
+use Rattle.rs_tree.specs.Rows.{Notes, depth, parts}
 use Rattle.rs_tree.proofs.Leaving.{IsSwept}
 use Rattle.rs_tree.proofs.branch.+swept.Given as goal
 
 abbrev pub invariant-sweep::each_swept-loop-child : goal.invariant-sweep::each_swept-loop-child
-invariant-sweep::each_swept-loop-child l = IsSwept l.moment l.children l.left.items l.child-index
+invariant-sweep::each_swept-loop-child l = IsSwept l.moment l.children l.left.items l.child-index × Notes l.moment (parts (take l.child-index l.children)) l.initial.goes l.goes
 
 -- four times the depth, and more for the calls that leave the branch as it is
 abbrev pub decreases-Branch::swept : goal.decreases-Branch::swept
