@@ -4,7 +4,7 @@ use mathlib.Core.Option.{some}
 use mathlib.Core.List.{IsPrefix}
 use lib.ListN.{get_elem?}
 use Rattle.rs_intake.specs.declared.rule.PassView.{PassView}
-use Rattle.rs_intake.specs.declared.rule.Job.{Job}
+use Rattle.rs_intake.specs.declared.job.Job.{Job}
 use Rattle.rs_message.specs.Messages.{is_sweep}
 use Rattle.rs_message.specs.declared.entry.Entry.{Entry}
 use Rattle.rs_intake.specs.Done.{Answer, AreDone, ReplyValue, refused_in}

@@ -10,9 +10,10 @@ ghost use Rattle.rs_intake.specs.Names.{IsQueue, IsIn};
 ghost use Rattle.rs_intake.specs.Lines.{IsClosed, job, next_serial};
 ghost use Rattle.rs_intake.specs.Refusals.{IsUnsent};
 
+use crate::job::{Change, Job};
 use crate::name::LineName;
 use crate::reply::{Reply, ReplyReceiver};
-use crate::rule::{Change, Job, JobSender, PassView};
+use crate::rule::{JobSender, PassView};
 use crate::steps::send;
 use crate::waiting::Gone;
 use crossbeam_channel::Pass;
