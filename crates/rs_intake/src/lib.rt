@@ -34,7 +34,7 @@ pub use ending::Cause;
 pub use fault::SettleFault;
 pub use intake::{Intake, read_reply};
 pub use job::{Change, Job};
-pub use law::{line_order_law, reply_order_law, told_law};
+pub use law::{answered_law, line_order_law, reply_order_law};
 pub use line::{LineEnd, SeatLine};
 pub use name::LineName;
 pub use reply::Reply;

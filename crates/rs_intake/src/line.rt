@@ -70,7 +70,7 @@ impl<N: LineName> OpenLine<N> {
     }
 
     /// Whether the queue took the job.
-    fn put<R: Wait>(&mut self, rt: &R, entry: Entry) -> bool
+    fn send_entry<R: Wait>(&mut self, rt: &R, entry: Entry) -> bool
         requires no_sweep { is_sweep entry.operation ≡ false }
         requires place { entry.origin.place ≡ self.old.place }
         requires serial { last_serial self.old.place self.old.sent < entry.origin.serial }
@@ -253,7 +253,7 @@ impl<N: LineName> SeatLine<N> {
             origin,
             operation: copy,
         };
-        if self.line.put(rt, Entry { origin, operation }) {
+        if self.line.send_entry(rt, Entry { origin, operation }) {
             Ok(entry)
         } else {
             Err(SubmitFault::Closed)
