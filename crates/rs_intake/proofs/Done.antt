@@ -156,8 +156,8 @@ all_served limit before (job ∷ jobs) (answer ∷ told) kept kept' s plain are 
       (let n = one.1 in let m = rest.1 in let r = refused_more answer told in omega (arith, n, m, r)),
     )
 
-pub kept_as_told : (limit : ℕ) (jobs kept : List Entry) (told : List Answer) → All (λ e. is_sweep e.operation ≡ false) jobs → AreDone limit [] jobs told kept
+pub kept_as_answered : (limit : ℕ) (jobs kept : List Entry) (told : List Answer) → All (λ e. is_sweep e.operation ≡ false) jobs → AreDone limit [] jobs told kept
     → IsPart (without_sweeps kept) jobs × (length (without_sweeps kept) + refused_in told ≡ length jobs) × AreForJobs limit jobs kept
-kept_as_told limit jobs kept told plain are =
+kept_as_answered limit jobs kept told plain are =
     let all = all_served limit [] jobs told [] kept (serves_start limit [] [] refl refl) plain are in
     (all.0.part, all.1 ∙ zero-add (length jobs), all.0.sweeps)

@@ -13,8 +13,8 @@ use Rattle.rs_store.proofs.Histories.{serials_rise_more}
 use Rattle.rs_message.specs.declared.entry.Entry.{Entry}
 use Rattle.rs_intake.specs.declared.rule.PassView.{PassView}
 use Rattle.rs_intake.specs.declared.rule.SentFrom.{SentFrom}
-use Rattle.rs_intake.specs.declared.rule.Job.{Job}
-use Rattle.rs_intake.specs.declared.rule.Job.TheVariants.{Put, End}
+use Rattle.rs_intake.specs.declared.job.Job.{Job}
+use Rattle.rs_intake.specs.declared.job.Job.TheVariants.{Put, End}
 use Rattle.rs_intake.proofs.Parts.{part_front, part_rises, rises_none}
 use Rattle.rs_intake.specs.QueueRule.{AreEnds, AreLast, AreWhole, Balances, Closes, ClosesLine, ClosesTaker, Delivers, FitsLine, FitsTaker, IsAbove, IsOutside, Keeps, Sends, SumsUp, Takes, at_place, end_of, ends_of, entries_of, entry_of, job_more, new_line, of_place, one_line_less, one_line_more, place_of, spent, taker}
 

@@ -6,7 +6,7 @@ use Rattle.crossbeam_channel.specs.declared.flavors.array.Doing.{Doing}
 use Rattle.crossbeam_channel.specs.declared.flavors.array.Rows.{Rows}
 use Rattle.crossbeam_channel.specs.Claims.{Pass, IsSeatAt}
 use Rattle.rs_intake.specs.declared.rule.PassView.{PassView}
-use Rattle.rs_intake.specs.declared.rule.Job.{Job}
+use Rattle.rs_intake.specs.declared.job.Job.{Job}
 use Rattle.rs_intake.specs.Names.{QueueName, IsQueue, IsIn}
 
 pub seat_at : {Q M L A : Type 0} (name : QueueName) (c : Rows (Badge (Key Job)) (Doing Job PassView) Q M (Key Job) L A) (p : Pass Job PassView) → IsQueue name c → IsIn name p → IsSeatAt c p

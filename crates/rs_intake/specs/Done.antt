@@ -74,6 +74,6 @@ pub record IsWritten (limit : ℕ) (jobs kept : List Entry) : Type 0 where
   pub done : AreDone limit [] jobs told kept
   pub changes : without_sweeps kept ≡ accepted jobs told
 
--- what each line was told, once the line of this origin's place was told this answer behind all else
-abbrev pub told_more : List (List ReplyValue) → Origin → Answer → List (List ReplyValue)
-told_more told origin answer = slice_set told (origin.place - 1) (slice_index_or told (origin.place - 1) [] ++ record { origin = origin; answer = answer } ∷ [])
+-- what each line was answered, once the line of this origin's place was answered this behind all else
+abbrev pub answered_more : List (List ReplyValue) → Origin → Answer → List (List ReplyValue)
+answered_more answered origin answer = slice_set answered (origin.place - 1) (slice_index_or answered (origin.place - 1) [] ++ record { origin = origin; answer = answer } ∷ [])

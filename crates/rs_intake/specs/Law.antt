@@ -1,10 +1,10 @@
--- What follows from the rule of the queue, and from what the lines were told.
+-- What follows from the rule of the queue, and from the answers to jobs.
 use Rattle.std.specs.Prelude.{ℕ, ◌≡◌, ◌+◌, true, false, All, List, [], length}
 use mathlib.Core.Option.{some}
 use mathlib.Core.List.{IsPrefix}
 use lib.ListN.{get_elem?}
 use Rattle.rs_intake.specs.declared.rule.PassView.{PassView}
-use Rattle.rs_intake.specs.declared.rule.Job.{Job}
+use Rattle.rs_intake.specs.declared.job.Job.{Job}
 use Rattle.rs_message.specs.Messages.{is_sweep}
 use Rattle.rs_message.specs.declared.entry.Entry.{Entry}
 use Rattle.rs_intake.specs.Done.{Answer, AreDone, ReplyValue, refused_in}
@@ -35,8 +35,8 @@ HeardInOrder = (items : List ReplyValue) (views : List WayView) (i j : ℕ) (wri
     → get_elem? views j ≡ some line → line.receives ≡ true
     → IsPrefix line.replies writer.replies
 
--- whatever the lines were told of jobs that are no Sweeps: what is kept then, without its Sweeps, is a part of the jobs, which lacks as
+-- whatever the answers to jobs that are no Sweeps: what is kept then, without its Sweeps, is a part of the jobs, which lacks as
 -- many of them as were refused; and each Sweep is the one that a job needed there
-abbrev pub KeptAsTold : Type 0
-KeptAsTold = (limit : ℕ) (jobs kept : List Entry) (told : List Answer) → All (λ e. is_sweep e.operation ≡ false) jobs → AreDone limit [] jobs told kept
-    → IsPart (without_sweeps kept) jobs × (length (without_sweeps kept) + refused_in told ≡ length jobs) × AreForJobs limit jobs kept
+abbrev pub KeptAsAnswered : Type 0
+KeptAsAnswered = (limit : ℕ) (jobs kept : List Entry) (answers : List Answer) → All (λ e. is_sweep e.operation ≡ false) jobs → AreDone limit [] jobs answers kept
+    → IsPart (without_sweeps kept) jobs × (length (without_sweeps kept) + refused_in answers ≡ length jobs) × AreForJobs limit jobs kept

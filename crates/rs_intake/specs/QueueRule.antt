@@ -7,8 +7,8 @@ use Rattle.rs_store.specs.History.{SerialsRise, last_serial}
 use Rattle.rs_message.specs.declared.entry.Entry.{Entry}
 use Rattle.rs_intake.specs.declared.rule.PassView.{PassView}
 use Rattle.rs_intake.specs.declared.rule.SentFrom.{SentFrom}
-use Rattle.rs_intake.specs.declared.rule.Job.{Job}
-use Rattle.rs_intake.specs.declared.rule.Job.TheVariants.{Put, End}
+use Rattle.rs_intake.specs.declared.job.Job.{Job}
+use Rattle.rs_intake.specs.declared.job.Job.TheVariants.{Put, End}
 
 -- the entries of a place, in order
 abbrev pub of_place : ℕ → List Entry → List Entry

@@ -3,7 +3,7 @@ use Rattle.std.specs.Prelude.{ℕ, ◌≡◌, ◌==◌, ◌<◌, ◌≤◌, ◌+
 use mathlib.Core.List.{IsPrefix}
 use Rattle.rs_message.specs.declared.entry.Entry.{Entry}
 use Rattle.rs_intake.specs.declared.rule.SentFrom.{SentFrom}
-use Rattle.rs_intake.specs.declared.rule.Job.{Job}
+use Rattle.rs_intake.specs.declared.job.Job.{Job}
 use Rattle.rs_intake.specs.QueueRule.{of_place, entries_of, IsOutside, SumsUp}
 use Rattle.rs_intake.specs.Lines.{Closed, Received}
 

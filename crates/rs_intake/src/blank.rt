@@ -8,10 +8,11 @@ ghost use Rattle.rs_intake.specs.Names.{IsQueue, IsIn};
 ghost use Rattle.rs_intake.specs.Lines.{new_lines};
 
 use crate::intake::Intake;
+use crate::job::Job;
 use crate::line::{OpenLine, SeatLine};
 use crate::name::LineName;
 use crate::reply::{ReplySender, way_back};
-use crate::rule::{Job, JobReceiver, JobSender, PassView, QueueRule};
+use crate::rule::{JobReceiver, JobSender, PassView, QueueRule};
 use crate::steps::cut;
 use crate::taken::Taken;
 use crate::telling::WaysBack;

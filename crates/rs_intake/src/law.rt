@@ -1,6 +1,6 @@
 //! First in, first out for each place, and the End last, as laws over the rule of the queue; and what the answers say of the kept list.
 
-ghost use Rattle.rs_intake.specs.Law.{EndIsLast, HeardInOrder, InOrder, KeptAsTold};
+ghost use Rattle.rs_intake.specs.Law.{EndIsLast, HeardInOrder, InOrder, KeptAsAnswered};
 
 /// Does nothing. Its contract says what the rule of the queue gives at every moment: what the writer took of a place is a prefix
 /// of what the line of that place sent, and once the writer took the place's End, all of it.
@@ -15,7 +15,7 @@ pub fn reply_order_law()
     ensures { HeardInOrder }
 {}
 
-/// Does nothing. Its contract says what follows for the kept list from what the lines were told of their jobs.
-pub fn told_law()
-    ensures { KeptAsTold }
+/// Does nothing. Its contract says what follows for the kept list from the answers to the jobs.
+pub fn answered_law()
+    ensures { KeptAsAnswered }
 {}

@@ -10,9 +10,10 @@ ghost use Rattle.rs_intake.specs.Names.{IsQueue, IsIn};
 ghost use Rattle.rs_intake.specs.Lines.{IsClosed, job, next_serial};
 ghost use Rattle.rs_intake.specs.Refusals.{IsUnsent};
 
+use crate::job::{Change, Job};
 use crate::name::LineName;
 use crate::reply::{Reply, ReplyReceiver};
-use crate::rule::{Change, Job, JobSender, PassView};
+use crate::rule::{JobSender, PassView};
 use crate::steps::send;
 use crate::waiting::Gone;
 use crossbeam_channel::Pass;
@@ -69,7 +70,7 @@ impl<N: LineName> OpenLine<N> {
     }
 
     /// Whether the queue took the job.
-    fn put<R: Wait>(&mut self, rt: &R, entry: Entry) -> bool
+    fn send_entry<R: Wait>(&mut self, rt: &R, entry: Entry) -> bool
         requires no_sweep { is_sweep entry.operation ≡ false }
         requires place { entry.origin.place ≡ self.old.place }
         requires serial { last_serial self.old.place self.old.sent < entry.origin.serial }
@@ -252,7 +253,7 @@ impl<N: LineName> SeatLine<N> {
             origin,
             operation: copy,
         };
-        if self.line.put(rt, Entry { origin, operation }) {
+        if self.line.send_entry(rt, Entry { origin, operation }) {
             Ok(entry)
         } else {
             Err(SubmitFault::Closed)

@@ -1,7 +1,7 @@
 //! What the lines and the writer know together, once both have ended.
 
 ghost use Rattle.std.specs.Prelude.{◌≡◌, ◌^◌, ◌<◌, ◌≤◌, List, MatchBool, MatchOption, IfOk, IfErr, length};
-ghost use Rattle.rs_intake.specs.declared.rule.Job.{Job};
+ghost use Rattle.rs_intake.specs.declared.job.Job.{Job};
 ghost use Rattle.rs_intake.specs.Settling.{ends_at, EachOnce, sent_in_all, AreTaken, AreTakenInOrder, BalancesWith};
 
 use crate::fault::SettleFault;
@@ -55,7 +55,7 @@ fn all_sent<N: LineName>(ends: &Vec<LineEnd<N>>, places: u8, taken: u64) -> Opti
 }
 
 /// Joins all lines' passes, and compares them with what was taken.
-fn gather<N: LineName>(taken: &mut Taken<N>, ends: Vec<LineEnd<N>>)
+fn join_all<N: LineName>(taken: &mut Taken<N>, ends: Vec<LineEnd<N>>)
     ensures same { (taken.new.entries ≡ taken.old.entries) × (taken.new.ends ≡ taken.old.ends) }
     ensures learned { 0 < length ends.items → (items : List Job) × BalancesWith N.places taken.new.entries items ends.items }
 {
@@ -67,7 +67,7 @@ fn gather<N: LineName>(taken: &mut Taken<N>, ends: Vec<LineEnd<N>>)
 }
 
 /// Whether all that was sent was taken. If so, what was taken of each place is what was sent from there, in its order and each
-/// job once, and the answer is how many jobs these are. If not, what was taken of each place that has an end is a prefix of what was
+/// job once, and the result is how many jobs these are. If not, what was taken of each place that has an end is a prefix of what was
 /// sent from there.
 ///
 /// It takes no memory. `ended` is lent mutably since its pass of the queue learns what the lines know; nothing else of it changes.
@@ -88,7 +88,7 @@ pub fn settle<N: LineName, R: Wait + Drop>(
     ensures same { (ended.new.writer ≡ ended.old.writer) × (ended.new.taken ≡ ended.old.taken) × (ended.new.refused ≡ ended.old.refused) × (ended.new.held ≡ ended.old.held) × (ended.new.cause ≡ ended.old.cause) × (ended.new.jobs.entries ≡ ended.old.jobs.entries) × (ended.new.jobs.ends ≡ ended.old.jobs.ends) }
 {
     let all = all_sent(&ends, ended.jobs.places(), ended.taken);
-    gather(&mut ended.jobs, ends);
+    join_all(&mut ended.jobs, ends);
     match all {
         Some(sum) => Ok(sum),
         None => Err(SettleFault::Unsettled),

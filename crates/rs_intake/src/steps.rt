@@ -4,9 +4,10 @@ ghost use Rattle.std.specs.Prelude.{◌≡◌, List, [], true, false, MatchResul
 ghost use Rattle.crossbeam_channel.specs.Claims.{view, IsSeatAt};
 ghost use Rattle.crossbeam_channel.specs.Ends.{sends_on, receives_on};
 ghost use Rattle.rs_intake.specs.QueueRule.{job_more, place_of, IsAbove, Takes, one_line_more, new_line, one_line_less, Balances};
-ghost use Rattle.rs_intake.specs.declared.rule.Job.{Job};
+ghost use Rattle.rs_intake.specs.declared.job.Job.{Job};
 
-use crate::rule::{Job, JobReceiver, JobSender, LinePass, PassView, QueueRule, Sending, Taking};
+use crate::job::Job;
+use crate::rule::{JobReceiver, JobSender, LinePass, PassView, QueueRule, Sending, Taking};
 use crate::waiting;
 use crate::waiting::{Gone, Patience, receive};
 use crossbeam_channel::Pass;

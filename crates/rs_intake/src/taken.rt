@@ -8,10 +8,11 @@ ghost use Rattle.rs_intake.specs.QueueRule.{AreEnds, IsOutside, ends_of, entries
 ghost use Rattle.rs_intake.specs.Names.{IsQueue, IsIn};
 ghost use Rattle.rs_intake.specs.Lines.{IsTaker};
 ghost use Rattle.rs_intake.specs.Settling.{IsBalanced};
-ghost use Rattle.rs_intake.specs.declared.rule.Job.{Job};
+ghost use Rattle.rs_intake.specs.declared.job.Job.{Job};
 
+use crate::job::Job;
 use crate::name::LineName;
-use crate::rule::{Job, JobReceiver, JobSender, PassView};
+use crate::rule::{JobReceiver, JobSender, PassView};
 use crate::steps::{compare, join, take};
 use crate::waiting::{Gone, Patience};
 use crossbeam_channel::Pass;

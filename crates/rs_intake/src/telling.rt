@@ -4,7 +4,7 @@ ghost use Rattle.std.specs.Prelude.{◌≡◌, ◌<◌, ◌≤◌, false, length
 ghost use Rattle.rs_message.specs.Messages.{is_sweep};
 ghost use Rattle.rs_store.specs.History.{SerialsRise, extended};
 ghost use Rattle.rs_version.specs.Writer.{kept_of};
-ghost use Rattle.rs_intake.specs.Done.{Answer, IsDone, IsPut, is_refused, told_more};
+ghost use Rattle.rs_intake.specs.Done.{Answer, IsDone, IsPut, is_refused, answered_more};
 
 use crate::name::LineName;
 use crate::reply::{Reply, ReplySender};
@@ -52,7 +52,7 @@ impl<N: LineName> WaysBack<N> {
         requires rises { SerialsRise (extended (kept_of writer.old) job) }
         ensures done { (answer : Answer) × IsDone N.limit (kept_of writer.old) job answer (kept_of writer.new) × (result.0 ≡ is_refused answer)
             × IsPut N.limit writer.old job answer writer.new
-            × MatchBool result.1 (self.new.senders.items ≡ told_more self.old.senders.items job.origin answer) (self.new.senders.items ≡ self.old.senders.items) }
+            × MatchBool result.1 (self.new.senders.items ≡ answered_more self.old.senders.items job.origin answer) (self.new.senders.items ≡ self.old.senders.items) }
         ensures ways { length self.new.senders.items ≡ length self.old.senders.items }
     {
         let reply = reply_to(writer, job);

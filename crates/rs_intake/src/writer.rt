@@ -11,8 +11,9 @@ ghost use Rattle.rs_intake.specs.Parts.{IsPart};
 ghost use Rattle.rs_intake.specs.Sweeps.{AreForJobs, without_sweeps};
 
 use crate::ending::Cause;
+use crate::job::Job;
 use crate::name::LineName;
-use crate::rule::{Job, JobReceiver};
+use crate::rule::JobReceiver;
 use crate::taken::Taken;
 use crate::telling::WaysBack;
 use crate::waiting::Patience;

@@ -5,7 +5,7 @@ use Rattle.std.specs.Prelude.{Result}
 use Rattle.std.specs.Io.KnownBytes.{Consumes, IsAtEnd}
 use Rattle.rs_intake.specs.Lines.{Closed, IsClosed}
 use Rattle.rs_message.specs.declared.entry.Entry.{Entry}
-use Rattle.rs_server.specs.Clock.{Told}
+use Rattle.rs_server.specs.Clock.{TellsInOrder}
 use Rattle.rs_server.specs.Conversation.{WritesTurns, assigned_of, start}
 use Rattle.rs_server.specs.declared.connection.Served.{Served}
 use Rattle.rs_server.specs.declared.writing.ServeFault.{ServeFault}
@@ -107,7 +107,7 @@ pub one_served : {R W C : Type 0} (remaining : R → Option (List ℕ)) (content
     (input read_from read_to input_back : R) (output write_from write_to output_back : W) (clock clock_back : C) (result : Result Served ServeFault)
     → read_from ≡ input → write_from ≡ output → input_back ≡ read_to → output_back ≡ write_to
     → IsServedAt limit (start (assigned_of gate.mark.place number) gate.known gate.mark) (Consumes (remaining read_from) (remaining read_to)) (IsAtEnd (remaining read_to))
-    (Told (moments clock) (moments clock_back)) (WritesTurns result (contents write_from) (contents write_to)) result after
+    (TellsInOrder (moments clock) (moments clock_back)) (WritesTurns result (contents write_from) (contents write_to)) result after
     → TakesBack old (record { streams = record { unread = remaining input_back; written = contents output_back; moments = moments clock_back }; result = result }) new
     → ServesOne limit number (place_at old gate) (record { unread = remaining input; written = contents output; moments = moments clock }) (place_at new after)
 one_served {R} {W} {C} remaining contents moments limit number old new gate after input read_from read_to input_back output write_from write_to output_back clock clock_back result same_in same_out back_in back_out served taken =

@@ -4,7 +4,7 @@ use Rattle.std.specs.Io.KnownBytes.{Consumes, IsAtEnd}
 use Rattle.rs_intake.specs.Lines.{Closed, IsClosed}
 use Rattle.rs_message.specs.declared.entry.Entry.{Entry}
 use Rattle.rs_session.specs.Run.{Turn}
-use Rattle.rs_server.specs.Clock.{Told}
+use Rattle.rs_server.specs.Clock.{TellsInOrder}
 use Rattle.rs_server.specs.Conversation.{WritesTurns, assigned_of, start}
 use Rattle.rs_places.specs.Serving.{IsServedAt}
 use Rattle.rs_places.specs.Shared.{SharedValue}
@@ -25,7 +25,7 @@ pub record Visit : Type 0 where
 pub record IsConnectionServed (limit number : ℕ) (before : SharedValue) (visit : Visit) : Type 0 where
   pub connection : IsServedAt limit (start (assigned_of before.mark.place number) before.known before.mark)
       (Consumes visit.given.unread visit.ending.streams.unread) (IsAtEnd visit.ending.streams.unread)
-      (Told visit.given.moments visit.ending.streams.moments)
+      (TellsInOrder visit.given.moments visit.ending.streams.moments)
       (WritesTurns visit.ending.result visit.given.written visit.ending.streams.written) visit.ending.result visit.gate
   pub turns : visit.turns ≡ connection.turns
 

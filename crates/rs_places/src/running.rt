@@ -5,7 +5,7 @@ ghost use Rattle.rs_places.specs.Places.{AreEachServed, IsPlaceServed, Place, Se
 
 use crate::fault::StoreFault;
 use crate::serving::serve_place;
-use crate::settled::put;
+use crate::settled::push_reserved;
 use crate::shared_gate::SharedGate;
 use crate::turn::{Connection, Turn};
 use rs_intake::{LineEnd, LineName};
@@ -174,11 +174,11 @@ fn start_places<
     let mut served = Vec::with_capacity(alloc, gates.len())?;
     for (turn, gate) in turns.into_iter().zip(gates) {
         if !served.is_empty() {
-            put(&mut served, serve_turns(&rt, alloc, turn, gate));
+            push_reserved(&mut served, serve_turns(&rt, alloc, turn, gate));
         } else {
             match start_place(rt, alloc, turn, gate, !threads.is_empty()) {
-                Ok(thread) => put(&mut threads, thread),
-                Err(Some(end)) => put(&mut served, end),
+                Ok(thread) => push_reserved(&mut threads, thread),
+                Err(Some(end)) => push_reserved(&mut served, end),
                 Err(None) => return Err(StoreFault::NoThread),
             }
         }
@@ -199,7 +199,7 @@ fn join_places<T: Turn + Drop, N: LineName, H: Threads + Wait + Copy>(
 {
     let mut ends = ends;
     for thread in threads {
-        put(&mut ends, thread.join(rt));
+        push_reserved(&mut ends, thread.join(rt));
     }
     ends
 }

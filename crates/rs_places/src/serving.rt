@@ -2,7 +2,7 @@
 
 ghost use Rattle.std.specs.Prelude.{◌<◌, ◌-◌, ◌^◌};
 ghost use Rattle.std.specs.Io.KnownBytes.{Consumes, IsAtEnd};
-ghost use Rattle.rs_server.specs.Clock.{Told};
+ghost use Rattle.rs_server.specs.Clock.{TellsInOrder};
 ghost use Rattle.rs_server.specs.Conversation.{Causes, WritesTurns, assigned_of, start};
 ghost use Rattle.rs_server.specs.Counts.{failures_of, inner_of};
 ghost use Rattle.rs_places.specs.Serving.{IsServedAt};
@@ -41,7 +41,7 @@ pub fn serve_place<T: Wait, N: LineName, H: Wait + Copy, R: Read, W: Write, C: C
     requires writer_room { failures_of writer.old < 2 ^ 64 - 1 }
     ensures connection { IsServedAt N.limit (start (assigned_of gate.mark.place number) gate.known gate.mark)
         (Consumes (R.remaining (inner_of reader.old)) (R.remaining (inner_of reader.new))) (IsAtEnd (R.remaining (inner_of reader.new)))
-        (Told (C.moments clock.old) (C.moments clock.new))
+        (TellsInOrder (C.moments clock.old) (C.moments clock.new))
         (WritesTurns result.0 (W.contents (inner_of writer.old)) (W.contents (inner_of writer.new))) result.0 result.1 }
     ensures cause { Causes result.0 (failures_of reader.old) (failures_of reader.new) (failures_of writer.old) (failures_of writer.new) }
 {

@@ -40,7 +40,7 @@ pub fn all_known<N: LineName, T: Turn + Drop, R: Wait + Drop>(
 }
 
 /// Appends to what has room.
-pub(crate) fn put<X: Drop>(items: &mut Vec<X>, item: X)
+pub(crate) fn push_reserved<X: Drop>(items: &mut Vec<X>, item: X)
     requires { length items.old.items < vec_capacity items.old }
     ensures items { items.new.items ≡ items.old.items ++ item ∷ [] }
     ensures capacity { vec_capacity items.old ≤ vec_capacity items.new }
@@ -69,8 +69,8 @@ fn parted<N: LineName, T: Turn + Drop>(
             told: _told,
             turn,
         } = end;
-        put(&mut lines, line);
-        put(&mut turns, turn);
+        push_reserved(&mut lines, line);
+        push_reserved(&mut turns, turn);
     }
     (lines, turns)
 }

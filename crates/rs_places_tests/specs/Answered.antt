@@ -9,7 +9,7 @@ use Rattle.rs_session.specs.Kept.{lists_of}
 use Rattle.rs_session.specs.Points.{Point}
 use Rattle.rs_session.specs.Run.{Run, Turn}
 use Rattle.rs_session.specs.State.{State}
-use Rattle.rs_server.specs.Clock.{Told}
+use Rattle.rs_server.specs.Clock.{TellsInOrder}
 use Rattle.rs_server.specs.Conversation.{InputsOf, WritesTurns, inputs_of, moments_of, start}
 use Rattle.rs_places.specs.Turns.{Ending, Plan, Streams}
 
@@ -26,7 +26,7 @@ pub record IsAnswered (history : List Entry) (given : Streams) (ending : Ending)
   pub run : Run (start assigned seen mark) turns to
   pub read : Consumes given.unread ending.streams.unread bytes
   pub inputs : InputsOf (inputs_of turns) bytes held
-  pub moments : Told given.moments ending.streams.moments (moments_of turns)
+  pub moments : TellsInOrder given.moments ending.streams.moments (moments_of turns)
   pub replies : WritesTurns ending.result given.written ending.streams.written turns
   pub first : Extends history seen
   pub lists : AllByRecursion (λ list. Extends history list) (lists_of turns)

@@ -8,14 +8,14 @@ use Rattle.rs_store.specs.History.{IsLegal, Stands}
 use Rattle.rs_store.specs.Needed.{AreNeeded}
 use Rattle.rs_session.specs.Gate.{Mark, Extends}
 use Rattle.rs_session.specs.Local.{local_mark}
-use Rattle.rs_program.specs.declared.own_store.OwnStore.{OwnStore}
+use Rattle.rs_program.specs.declared.own_store.OwnGate.{OwnGate}
 use Rattle.rs_program.specs.declared.own_store.TheConstants.{MAX_OWN_TOPICS}
 use Rattle.rs_program.specs.Memory.{IsOfMark}
 use Rattle.rs_program.specs.OwnStores.{content_of, IsOfOwnPlace, IsOwn, IsOwnEntry}
 
 -- what it stands for has no serial above its mark's
-pub of_mark : (store : OwnStore) (mark : Mark) (list : List Entry) → IsOwn (content_of store) list → local_mark (content_of store) ≡ mark → IsOfMark mark list
-of_mark store mark list own is = record { legal = own.legal; places = own.places; needed = own.needed; serial = sym (own.stands.serials 1) ∙ ap (λ (m : Mark). m.serial) is }
+pub of_mark : (gate : OwnGate) (mark : Mark) (list : List Entry) → IsOwn (content_of gate) list → local_mark (content_of gate) ≡ mark → IsOfMark mark list
+of_mark gate mark list own is = record { legal = own.legal; places = own.places; needed = own.needed; serial = sym (own.stands.serials 1) ∙ ap (λ (m : Mark). m.serial) is }
 
 -- if the content stays, a list with the one before as prefix is the same list
 pub own_stays : (old new : Content) (seen list : List Entry) → old.limit ≡ MAX_OWN_TOPICS → new ≡ old → IsOwn old seen → Stands new list → Extends list seen → IsOwn new list

@@ -7,11 +7,11 @@ use Rattle.rs_store.specs.declared.content.Content.{Content}
 use Rattle.rs_store.specs.History.{IsLegal, Stands}
 use Rattle.rs_store.specs.Needed.{AreNeeded}
 use Rattle.rs_session.specs.Local.{catalogue_of}
-use Rattle.rs_program.specs.declared.own_store.OwnStore.{OwnStore}
+use Rattle.rs_program.specs.declared.own_store.OwnGate.{OwnGate}
 use Rattle.rs_program.specs.declared.own_store.TheConstants.{MAX_OWN_TOPICS}
 
-abbrev pub content_of : OwnStore → Content
-content_of store = catalogue_of store.gate
+abbrev pub content_of : OwnGate → Content
+content_of own = catalogue_of own.gate
 
 abbrev pub IsOfOwnPlace : Entry → Type 0
 IsOfOwnPlace e = e.origin.place ≡ 1

@@ -3,13 +3,13 @@
 ghost use Rattle.std.specs.Prelude.{◌≡◌, IfOk};
 ghost use Rattle.rs_program.specs.Memory.{IsServed};
 
-use crate::own_store::OwnStore;
+use crate::own_store::OwnGate;
 use rs_server::{ConnectionId, Counted, Moments, ServeFault, Served, serve};
 use std::alloc::Global;
 use std::sync::Wait;
 
 /// Serves one connection over bytes in memory: how it ends, and the replies. It is connection 1 at place 1,
-/// over an empty [`OwnStore`]. Every time is `now`, in seconds.
+/// over an [`OwnGate`] to an empty store. Every time is `now`, in seconds.
 ///
 /// # Errors
 ///
@@ -24,7 +24,7 @@ pub fn serve_bytes<H: Wait>(
 ) -> Result<(Served, Vec<u8>), ServeFault>
     ensures { IfOk result (λ r. IsServed input.now now r.0 r.1.items) }
 {
-    let Ok(gate) = OwnStore::new(alloc) else {
+    let Ok(gate) = OwnGate::new(alloc) else {
         return Err(ServeFault::NoMemory);
     };
     let mut reader = Counted::new(input);

@@ -105,7 +105,7 @@ fn pipe_bytes<H: Wait, R: Read + Drop, W: Write + Drop, G: Gate>(
     let mut clock = Moments::new(at, Vec::new(alloc));
     let (served, gate) = serve(rt, alloc, &mut reader, &mut writer, gate, FIRST, &mut clock);
     Piped {
-        served: answer_of(served, None),
+        served: result_of(served, None),
         input: reader.into_inner(),
         output: writer.into_inner(),
         gate,
@@ -130,15 +130,15 @@ fn pipe_lines<H: Wait, R: Read + Drop, W: Write + Drop, G: Gate>(
     let (served, gate) = serve(rt, alloc, &mut reader, &mut writer, gate, FIRST, &mut clock);
     let lines = reader.into_inner();
     Piped {
-        served: answer_of(served, lines.not_hex()),
+        served: result_of(served, lines.not_hex()),
         input: lines.into_inner(),
         output: writer.into_inner().into_inner(),
         gate,
     }
 }
 
-/// What is answered if this line, if any, was not hex.
-fn answer_of(served: Result<Served, ServeFault>, not_hex: Option<u64>) -> Result<Served, PipeFault>
+/// The result if this line, if any, was not hex.
+fn result_of(served: Result<Served, ServeFault>, not_hex: Option<u64>) -> Result<Served, PipeFault>
     ensures { result ≡ piped served not_hex }
 {
     match served {

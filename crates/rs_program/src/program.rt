@@ -6,7 +6,7 @@ ghost use Rattle.rs_program.specs.Statuses.{fault_status, run_status, server_out
 ghost use Rattle.rs_program.specs.declared.program.RunFault.{RunFault};
 
 use crate::listening::listen;
-use crate::own_store::OwnStore;
+use crate::own_store::OwnGate;
 use crate::piping::{PipeFault, pipe};
 use crate::words::{Run, WordsFault, read_words, refused};
 use rs_listener::{ListenFault, Summary};
@@ -183,7 +183,7 @@ fn pipe_once<H: Wait, I: Read + Drop, W: Write + Drop>(
     hex: bool,
     at: u64,
 ) -> Result<Served, PipeFault> {
-    let Ok(gate) = OwnStore::new(alloc) else {
+    let Ok(gate) = OwnGate::new(alloc) else {
         return Err(PipeFault::NoMemory);
     };
     pipe(rt, alloc, input, output, gate, hex, at).served

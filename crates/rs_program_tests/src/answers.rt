@@ -6,7 +6,7 @@ ghost use Rattle.rs_message.specs.Messages.{is_sweep};
 use bytes::Bytes;
 use rs_message::{Found, Message, Operation};
 use rs_packet::{Properties, Qos};
-use rs_program::OwnStore;
+use rs_program::OwnGate;
 use rs_session::{Gate, LocalGate};
 use rs_store::{Catalogue, MapCatalogue, TopicLimit};
 use rs_topic::{TopicFilter, TopicName};
@@ -58,5 +58,5 @@ fn gates_answer(rt: HostRuntime) -> Result<(), Fail> {
     let alloc = rt.alloc();
     check(&rt, alloc, &mut local::<MapCatalogue>(alloc)?)?;
     check(&rt, alloc, &mut local::<TreeCatalogue>(alloc)?)?;
-    check(&rt, alloc, &mut OwnStore::new(alloc)?)
+    check(&rt, alloc, &mut OwnGate::new(alloc)?)
 }

@@ -2,7 +2,7 @@
 //! program's store and over a bare gate.
 
 use crate::streams::{ByteWriter, Call, Failing, StepReader};
-use rs_program::OwnStore;
+use rs_program::OwnGate;
 use rs_server::{ConnectionId, Counted, Moments, ServeFault, Served, serve};
 use rs_session::{Gate, LocalGate};
 use rs_store::{MapCatalogue, TopicLimit};
@@ -114,8 +114,8 @@ fn check_row<H: Abort + Wait>(rt: &H, alloc: Global, step: usize, row: Row) -> R
         let failing = Failing { call, at };
         let written = &FIRST_REPLIES[..written];
         let got = &SECOND_REPLIES[..got];
-        let store = OwnStore::new(alloc)?;
-        check(rt, alloc, store, step, failing, ends, written, got)?;
+        let gate = OwnGate::new(alloc)?;
+        check(rt, alloc, gate, step, failing, ends, written, got)?;
         let local = local_gate(alloc)?;
         check(rt, alloc, local, step, failing, ends, written, got)?;
     }

@@ -2,7 +2,7 @@
 
 use crate::faults::FIRST;
 use crate::streams::{ByteWriter, Call, Failing, StepReader};
-use rs_program::{OwnStore, PipeFault, pipe};
+use rs_program::{OwnGate, PipeFault, pipe};
 use rs_server::Served;
 use std::alloc::Global;
 use std::process::Abort;
@@ -45,7 +45,7 @@ fn check_row<H: Abort + Wait>(rt: &H, alloc: Global, row: Row) -> Result<(), Fai
         let failing = Failing { call, at };
         let reader = StepReader::new(input, 1, failing);
         let writer = ByteWriter::new(alloc, failing);
-        let ended = pipe(rt, alloc, reader, writer, OwnStore::new(alloc)?, hex, 0);
+        let ended = pipe(rt, alloc, reader, writer, OwnGate::new(alloc)?, hex, 0);
         assert!(rt; ended.served == ends, "{hex} {call:?} {at}");
     }
     Ok(())

@@ -17,7 +17,7 @@ use Rattle.rs_session.proofs.Runs.{run_more, of_gate_more}
 use Rattle.rs_server.specs.declared.connection.Served.{Served}
 use Rattle.rs_server.specs.declared.writing.ServeFault.{ServeFault}
 use Rattle.rs_server.specs.declared.writing.ServeFault.TheVariants.{Read, Write, NoMemory}
-use Rattle.rs_server.specs.Clock.{TellsAll, Told, Tells}
+use Rattle.rs_server.specs.Clock.{TellsAll, TellsInOrder, Tells}
 use Rattle.rs_server.specs.Writing.{Writes, AppendsFront, all_reply_bytes}
 use Rattle.rs_server.specs.Conversation.{InputsOf, inputs_of, moments_of, replies_of, start, AppendsReplies, AppendsIntoLast, WritesTurns, Conversation, TakesTurn, TakesInput, IsReadCause, IsConnection, Ends}
 
@@ -27,15 +27,15 @@ tells_more : (f g h : ℕ → ℕ) (ms : List ℕ) (n : ℕ) → TellsAll f ms g
 tells_more f g h [] n p q = (q.0 ∙ p 0, λ k. q.1 k ∙ p (suc k))
 tells_more f g h (m ∷ ms) n p q = (p.0, tells_more (λ k. f (suc k)) g h ms n p.1 q)
 
-pub told_more : (a b c : Option (ℕ → ℕ)) (ms : List ℕ) (n : ℕ) → Told a b ms → Tells b c n → Told a c (ms ++ n ∷ [])
-told_more None b c ms n p q = tt
-told_more (Some f) None c ms n p q = absurd p
-told_more (Some f) (Some g) None ms n p q = absurd q
-told_more (Some f) (Some g) (Some h) ms n p q = tells_more f g h ms n p q
+pub in_order_more : (a b c : Option (ℕ → ℕ)) (ms : List ℕ) (n : ℕ) → TellsInOrder a b ms → Tells b c n → TellsInOrder a c (ms ++ n ∷ [])
+in_order_more None b c ms n p q = tt
+in_order_more (Some f) None c ms n p q = absurd p
+in_order_more (Some f) (Some g) None ms n p q = absurd q
+in_order_more (Some f) (Some g) (Some h) ms n p q = tells_more f g h ms n p q
 
-pub told_none : (a : Option (ℕ → ℕ)) → Told a a []
-told_none None = tt
-told_none (Some f) = λ k. refl
+pub in_order_none : (a : Option (ℕ → ℕ)) → TellsInOrder a a []
+in_order_none None = tt
+in_order_none (Some f) = λ k. refl
 
 -- ---- the bytes
 
@@ -97,8 +97,8 @@ writes_turn (Err NoMemory) a b c turns turn p q = front_written a b c turns turn
 pub conversation_turn : {T : Type 0} (from : Point State) (stands_at : Mark → List Entry → Type 0) (s1 s2 : List Entry → Type 0) (m1 m2 : Mark) (st1 st2 : State) (consumed : List ℕ → Type 0) (held1 held2 : List ℕ) (told c1 c2 : Option (ℕ → ℕ)) (r : Result T ServeFault) (wrote w1 w2 : Option (List ℕ)) (input : Input) (now : ℕ)
     → TakesInput held1 (Some input) held2 → Tells c1 c2 now
     → ((seen : List Entry) → s1 seen → TakesTurn (point_at st1 seen m1) (given_at input now) stands_at s2 m2 st2 (Writes r w1 w2))
-    → Conversation from stands_at s1 m1 st1 consumed held1 (Told told c1) (AppendsReplies wrote w1)
-    → Conversation from stands_at s2 m2 st2 consumed held2 (Told told c2) (WritesTurns r wrote w2)
+    → Conversation from stands_at s1 m1 st1 consumed held1 (TellsInOrder told c1) (AppendsReplies wrote w1)
+    → Conversation from stands_at s2 m2 st2 consumed held2 (TellsInOrder told c2) (WritesTurns r wrote w2)
 conversation_turn from stands_at s1 s2 m1 m2 st1 st2 consumed held1 held2 told c1 c2 r wrote w1 w2 input now front tells turn conversation =
     let t = turn conversation.seen conversation.stood_for in
     let is : inputs_of (conversation.turns ++ t.turn ∷ []) ≡ inputs_of conversation.turns ++ input ∷ [] = map-append (λ (x : Turn). x.given.input) conversation.turns (t.turn ∷ []) ∙ ap (λ (x : Given). inputs_of conversation.turns ++ x.input ∷ []) t.given_is in
@@ -112,7 +112,7 @@ conversation_turn from stands_at s1 s2 m1 m2 st1 st2 consumed held1 held2 told c
       stood_for = t.stood_for;
       read = conversation.read;
       inputs = subst (λ (l : List Input). InputsOf l conversation.bytes held2) (sym is) (inputs_with_next _ input conversation.bytes held1 held2 conversation.inputs front);
-      moments = subst (Told told c2) (sym ms) (told_more told c1 c2 _ now conversation.moments tells);
+      moments = subst (TellsInOrder told c2) (sym ms) (in_order_more told c1 c2 _ now conversation.moments tells);
       replies = writes_turn r wrote w1 w2 conversation.turns t.turn conversation.replies t.replies;
     }
 
@@ -144,7 +144,7 @@ conversation_read from stands_at stands mark state read r1 r2 held1 held2 more t
 -- at first nothing was written
 pub conversation_first : {G : Type 0} (stands : G → List Entry → Type 0) (mark : G → Mark) (gate kept : G) (state : State) (held : List ℕ) (assigned : List ℕ) (read : Option (List ℕ)) (told : Option (ℕ → ℕ)) (wrote : Option (List ℕ))
     → kept ≡ gate → state ≡ fresh assigned → held ≡ []
-    → (seen : List Entry) → stands gate seen → Conversation (start assigned seen (mark gate)) (StandsAt stands mark) (stands kept) (mark kept) state (Consumes read read) held (Told told told) (AppendsReplies wrote wrote)
+    → (seen : List Entry) → stands gate seen → Conversation (start assigned seen (mark gate)) (StandsAt stands mark) (stands kept) (mark kept) state (Consumes read read) held (TellsInOrder told told) (AppendsReplies wrote wrote)
 conversation_first {G} stands mark gate kept state held assigned read told wrote e f h = λ seen s.
     record {
       turns = [];
@@ -155,7 +155,7 @@ conversation_first {G} stands mark gate kept state held assigned read told wrote
       stood_for = subst (λ (g : G). stands g seen) (sym e) s;
       read = Consumes-nil read;
       inputs = sym h;
-      moments = told_none told;
+      moments = in_order_none told;
       replies = Appends-nil wrote;
     }
 
@@ -174,10 +174,10 @@ conversation_as T U f from stands_at stands mark state consumed held told a b t 
 pub conversation_turn_err : (T U : Type 0) (from : Point State) (stands_at : Mark → List Entry → Type 0) (s1 s2 : List Entry → Type 0) (m1 m2 : Mark) (st1 st2 : State) (consumed : List ℕ → Type 0) (held1 held2 : List ℕ) (told c1 c2 : Option (ℕ → ℕ)) (f : ServeFault) (wrote w1 w2 : Option (List ℕ)) (input : Input) (now : ℕ)
     → TakesInput held1 (Some input) held2 → Tells c1 c2 now
     → ((seen : List Entry) → s1 seen → TakesTurn (point_at st1 seen m1) (given_at input now) stands_at s2 m2 st2 (Writes {T = T} (Err f) w1 w2))
-    → Conversation from stands_at s1 m1 st1 consumed held1 (Told told c1) (AppendsReplies wrote w1)
-    → Conversation from stands_at s2 m2 st2 consumed held2 (Told told c2) (WritesTurns {T = U} (Err f) wrote w2)
+    → Conversation from stands_at s1 m1 st1 consumed held1 (TellsInOrder told c1) (AppendsReplies wrote w1)
+    → Conversation from stands_at s2 m2 st2 consumed held2 (TellsInOrder told c2) (WritesTurns {T = U} (Err f) wrote w2)
 conversation_turn_err T U from stands_at s1 s2 m1 m2 st1 st2 consumed held1 held2 told c1 c2 f wrote w1 w2 input now front tells turn conversation =
-    conversation_as T U f from stands_at s2 m2 st2 consumed held2 (Told told c2) wrote w2 (conversation_turn {T = T} from stands_at s1 s2 m1 m2 st1 st2 consumed held1 held2 told c1 c2 (Err f) wrote w1 w2 input now front tells turn conversation)
+    conversation_as T U f from stands_at s2 m2 st2 consumed held2 (TellsInOrder told c2) wrote w2 (conversation_turn {T = T} from stands_at s1 s2 m1 m2 st1 st2 consumed held1 held2 told c1 c2 (Err f) wrote w1 w2 input now front tells turn conversation)
 
 -- the gate comes back as it is
 pub conversation_kept : {G : Type 0} (stands : G → List Entry → Type 0) (mark : G → Mark) (gate kept : G) (from : Point State) (stands_at : Mark → List Entry → Type 0) (state : State) (consumed : List ℕ → Type 0) (held : List ℕ) (told : List ℕ → Type 0) (written : List Turn → Type 0)
@@ -187,7 +187,7 @@ conversation_kept {G} stands mark gate kept from stands_at state consumed held t
 
 -- if there is no memory for the identifier, nothing is read
 pub conversation_refused : (T : Type 0) (stands_at : Mark → List Entry → Type 0) (stands : List Entry → Type 0) (mark : Mark) (assigned : List ℕ) (read : Option (List ℕ)) (told : Option (ℕ → ℕ)) (wrote : Option (List ℕ)) (seen : List Entry)
-    → stands seen → Conversation (start assigned seen mark) stands_at stands mark (fresh assigned) (Consumes read read) [] (Told told told) (WritesTurns {T = T} (Err NoMemory) wrote wrote)
+    → stands seen → Conversation (start assigned seen mark) stands_at stands mark (fresh assigned) (Consumes read read) [] (TellsInOrder told told) (WritesTurns {T = T} (Err NoMemory) wrote wrote)
 conversation_refused T stands_at stands mark assigned read told wrote seen s =
     record {
       turns = [];
@@ -198,7 +198,7 @@ conversation_refused T stands_at stands mark assigned read told wrote seen s =
       stood_for = s;
       read = Consumes-nil read;
       inputs = refl;
-      moments = told_none told;
+      moments = in_order_none told;
       replies = ([], [], refl, omega arith, [], [], refl, Appends-nil wrote);
     }
 

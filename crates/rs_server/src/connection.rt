@@ -8,7 +8,7 @@ ghost use Rattle.rs_packet.specs.PacketReading.{Gives, answer};
 ghost use Rattle.rs_session.specs.Gate.{StandsAt};
 ghost use Rattle.rs_session.specs.Points.{Point, given_at};
 ghost use Rattle.rs_session.specs.State.{session_at, state_of, due_of, gate_of, closing_of, State};
-ghost use Rattle.rs_server.specs.Clock.{Told};
+ghost use Rattle.rs_server.specs.Clock.{TellsInOrder};
 ghost use Rattle.rs_server.specs.Counts.{inner_of, failures_of};
 ghost use Rattle.rs_server.specs.Writing.{IsWriteCause, Writes};
 ghost use Rattle.rs_server.specs.Conversation.{TakesInput, TakesTurn, Closes, Causes, Conversation, AppendsReplies, WritesTurns, IsConnection, IsReadCause, IsEnd, assigned_of, start, served_as};
@@ -79,7 +79,7 @@ pub fn serve<H: Wait, R: Read, W: Write, G: Gate, C: Clock>(
     // What was written are the replies of a session to the packets that the bytes read encode.
     ensures conversation { (seen : List Entry) → G.stands gate seen
         → IsConnection (start (assigned_of id.place id.number) seen (G.mark gate)) (StandsAt G.stands G.mark) (G.stands result.1) (G.mark result.1)
-        (Told (C.moments clock.old) (C.moments clock.new))
+        (TellsInOrder (C.moments clock.old) (C.moments clock.new))
         (R.remaining (inner_of reader.old)) (R.remaining (inner_of reader.new))
         (W.contents (inner_of writer.old)) (W.contents (inner_of writer.new)) result.0 }
 
@@ -120,11 +120,11 @@ fn serve_once<R: Read, W: Write, G: Gate, C: Clock>(
     ensures conversation { (from : Point State) (read wrote : Option (List ℕ)) (told : Option (ℕ → ℕ))
         → Conversation from (StandsAt G.stands G.mark) (G.stands (gate_of session.old)) (G.mark (gate_of session.old)) (state_of session.old)
         (Consumes read (R.remaining (inner_of reader.old))) held.old.items
-        (Told told (C.moments clock.old))
+        (TellsInOrder told (C.moments clock.old))
         (AppendsReplies wrote (W.contents (inner_of writer.old)))
         → Conversation from (StandsAt G.stands G.mark) (G.stands (gate_of session.new)) (G.mark (gate_of session.new)) (state_of session.new)
         (Consumes read (R.remaining (inner_of reader.new))) held.new.items
-        (Told told (C.moments clock.new))
+        (TellsInOrder told (C.moments clock.new))
         (WritesTurns result wrote (W.contents (inner_of writer.new))) }
     ensures closes { Closes result (state_of session.new) held.new.items (IsAtEnd (R.remaining (inner_of reader.new))) }
     ensures due { due_of session.new ≡ None }

@@ -209,37 +209,37 @@ no_ack_given r (p ∷ given) ack (inl e) = subst IsAck (sym e) ack
 no_ack_given r (p ∷ given) ack (inr h) = no_ack_given r given ack h
 
 -- a reply that is due is that of the outcome
-due_is : (limit : ℕ) (outcome : Outcome) (r : Reply) → IsAck r → Among r (listed (due_for limit outcome)) → outcome ≡ Replies (Some r)
-due_is limit (Replies None) r ack h = absurd h
-due_is limit (Replies (Some first)) r ack h = by_case (leb (length (reply_bytes first)) limit) h
+due_is : (maximum : ℕ) (outcome : Outcome) (r : Reply) → IsAck r → Among r (listed (due_for maximum outcome)) → outcome ≡ Replies (Some r)
+due_is maximum (Replies None) r ack h = absurd h
+due_is maximum (Replies (Some first)) r ack h = by_case (leb (length (reply_bytes first)) maximum) h
   where
     by_case : (b : Bool) → Among r (listed (cond b (Some first) None)) → Replies (Some first) ≡ Replies (Some r)
     by_case true (inl e) = ap (λ (x : Reply). let o : Outcome = Replies (Some x) in o) e
     by_case true (inr none) = absurd none
     by_case false none = absurd none
-due_is limit (Closes code) r ack h = by_case (leb (length (reply_bytes (reply.Disconnect (code_of code)))) limit) h
+due_is maximum (Closes code) r ack h = by_case (leb (length (reply_bytes (reply.Disconnect (code_of code)))) maximum) h
   where
     by_case : (b : Bool) → Among r (listed (cond b (Some (reply.Disconnect (code_of code))) None)) → Closes code ≡ Replies (Some r)
     by_case true (inl e) = absurd (subst IsAck (sym e) ack)
     by_case true (inr none) = absurd none
     by_case false none = absurd none
-due_is limit Leaves r ack h = absurd h
+due_is maximum Leaves r ack h = absurd h
 
-replied_by : (turn : Turn) (limit : ℕ) (outcome : Outcome) (left : Open) (old mid : State) (due : Option Reply) (r : Reply) → due ≡ due_for limit outcome → mid ≡ state_after outcome old left
+replied_by : (turn : Turn) (maximum : ℕ) (outcome : Outcome) (left : Open) (old mid : State) (due : Option Reply) (r : Reply) → due ≡ due_for maximum outcome → mid ≡ state_after outcome old left
     → GivesAll turn.given.now due mid turn.replies turn.to.state → IsAck r → Among r turn.replies → outcome ≡ Replies (Some r)
-replied_by turn limit (Replies answer) left old mid due r d same g ack h =
+replied_by turn maximum (Replies answer) left old mid due r d same g ack h =
     let (given, n, is, run, whole) = given_calls turn.given.now due mid left turn.replies g.left g.last turn.to.state (phase_of mid _ same) g.given g.none_left in
     by_case given (among_append r (listed due) (map reply_of given) (subst (λ (rs : List Reply). Among r rs) whole h))
   where
     by_case : (given : List PublishValue) → Among r (listed due) ⊎ Among r (map reply_of given) → Replies answer ≡ Replies (Some r)
-    by_case given (inl a) = due_is limit (Replies answer) r ack (subst (λ (o : Option Reply). Among r (listed o)) d a)
+    by_case given (inl a) = due_is maximum (Replies answer) r ack (subst (λ (o : Option Reply). Among r (listed o)) d a)
     by_case given (inr b) = absurd (no_ack_given r given ack b)
-replied_by turn limit (Closes code) left old mid due r d same g ack h =
+replied_by turn maximum (Closes code) left old mid due r d same g ack h =
     let whole = (left_replies turn.given.now due mid (ByServer (code_of code)) turn.replies g.left g.last turn.to.state (phase_of mid _ same) g.given g.none_left).1 in
-    due_is limit (Closes code) r ack (subst (λ (o : Option Reply). Among r (listed o)) d (subst (λ (rs : List Reply). Among r rs) whole h))
-replied_by turn limit Leaves left old mid due r d same g ack h =
+    due_is maximum (Closes code) r ack (subst (λ (o : Option Reply). Among r (listed o)) d (subst (λ (rs : List Reply). Among r rs) whole h))
+replied_by turn maximum Leaves left old mid due r d same g ack h =
     let whole = (left_replies turn.given.now due mid ByClient turn.replies g.left g.last turn.to.state (phase_of mid _ same) g.given g.none_left).1 in
-    due_is limit Leaves r ack (subst (λ (o : Option Reply). Among r (listed o)) d (subst (λ (rs : List Reply). Among r rs) whole h))
+    due_is maximum Leaves r ack (subst (λ (o : Option Reply). Among r (listed o)) d (subst (λ (rs : List Reply). Among r rs) whole h))
 
 -- ---- the row that keeps it
 

@@ -49,7 +49,7 @@ use Rattle.rs_session.specs.declared.reason.ReasonCode.TheVariants.{Success, Pac
 use Rattle.rs_session.specs.declared.subscriptions.Subscription.{Subscription}
 use Rattle.rs_session.specs.Subscriptions.{Subscriptions, none, is_subscribed, replays}
 use Rattle.rs_session.specs.State.{State, fresh, closing_of, IsGiven, IsReplayed}
-use Rattle.rs_session.specs.Table.{subscription_for, acknowledged_by, acknowledgement_of, released_by, IsSubscribed, IsGrantedTo, Grants, OpenCase, OpenRow, Case, SessionRow, due_for, state_after, connack, open_for, packet_limit, receive_limit, With_method, With_will, Connect_refused, Accepted, Connack_too_long, Other_version, Unexpected, In_session, Over, Faulty, With_alias, Bad_topic, Sent_again, Too_many_held, Not_retained, Kept, Topic_unread, Not_kept, Uncertain, Gate_closed, Wrong_acknowledgement, Acknowledged, Shared_no_local, Not_subscribed, Subscribed, Not_unsubscribed, Unsubscribed, Connected_twice, Pinged, Disconnected}
+use Rattle.rs_session.specs.Table.{subscription_for, acknowledged_by, acknowledgement_of, released_by, IsSubscribed, IsGrantedTo, Grants, OpenCase, OpenRow, Case, SessionRow, due_for, state_after, connack, open_for, packet_maximum, receive_maximum, With_method, With_will, Connect_refused, Accepted, Connack_too_long, Other_version, Unexpected, In_session, Over, Faulty, With_alias, Bad_topic, Sent_again, Too_many_held, Not_retained, Kept, Topic_unread, Not_kept, Uncertain, Gate_closed, Wrong_acknowledgement, Acknowledged, Shared_no_local, Not_subscribed, Subscribed, Not_unsubscribed, Unsubscribed, Connected_twice, Pinged, Disconnected}
 use Rattle.rs_session.specs.Table as table
 use Rattle.rs_session.specs.Points.{Given, Point, with_state}
 use Rattle.rs_session.specs.Run.{Turn, Gives, GivesAll, IsTurn, Run}
@@ -301,9 +301,9 @@ left_replies now None old closing (answer ∷ replies) left last new e (later, m
 
 -- ---- a turn
 
-run_limit : (from : window_state.State) (made : List Call) (to : window_state.State) → calls.Run from made to → to.packet_maximum ≡ from.packet_maximum
-run_limit from [] to e = ap (λ (s : window_state.State). s.packet_maximum) e
-run_limit from (call ∷ made) to (mid, step, rest) = run_limit mid made to rest ∙ (step_limits from call mid step).1
+run_maximum : (from : window_state.State) (made : List Call) (to : window_state.State) → calls.Run from made to → to.packet_maximum ≡ from.packet_maximum
+run_maximum from [] to e = ap (λ (s : window_state.State). s.packet_maximum) e
+run_maximum from (call ∷ made) to (mid, step, rest) = run_maximum mid made to rest ∙ (step_limits from call mid step).1
 
 run_quota : (from : window_state.State) (made : List Call) (to : window_state.State) → calls.Run from made to → to.quota ≡ from.quota
 run_quota from [] to e = ap (λ (s : window_state.State). s.quota) e
@@ -330,7 +330,7 @@ led_made turn o left (Replies answer) old mid due (own, run, called, no_publish)
       no_publish = no_publish;
       whole = refl;
       replies = whole ∙ ap (λ (r : Option Reply). listed r ++ map reply_of given) d
-          ∙ ap (λ (limit : ℕ). listed (due_for limit (Replies answer)) ++ map reply_of given) (sym (run_limit o.window (own ++ giving turn.given.now given) n.window all));
+          ∙ ap (λ (maximum : ℕ). listed (due_for maximum (Replies answer)) ++ map reply_of given) (sym (run_maximum o.window (own ++ giving turn.given.now given) n.window all));
     } in
     subst (λ (p : Phase). IsMadeTo o turn p) (sym is) (own ++ giving turn.given.now given, all, served)
 led_made turn o left (Closes code) old mid due (own, run, refused) d same g =
@@ -522,9 +522,9 @@ other_first : (r : Reply) (rs : List Reply) → IsNoPublish (Some r) → publica
 other_first (reply.Publish p) rs h = absurd h
 other_first r rs h = refl
 
-answer_first : (limit : ℕ) (answer : Option Reply) (rs : List Reply) → IsNoPublish answer → publications (listed (due_for limit (Replies answer)) ++ rs) ≡ publications rs
-answer_first limit None rs h = refl
-answer_first limit (Some r) rs h = by_case (leb (length (reply_bytes r)) limit)
+answer_first : (maximum : ℕ) (answer : Option Reply) (rs : List Reply) → IsNoPublish answer → publications (listed (due_for maximum (Replies answer)) ++ rs) ≡ publications rs
+answer_first maximum None rs h = refl
+answer_first maximum (Some r) rs h = by_case (leb (length (reply_bytes r)) maximum)
   where
     by_case : (b : Bool) → publications (listed (cond b (Some r) None) ++ rs) ≡ publications rs
     by_case true = other_first r rs h
@@ -557,24 +557,24 @@ run_first from (call ∷ before) after to (next, step, rest) = let (mid, more) =
 
 within_quota : (c : Connect) (made : List Call) (end : window_state.State) → calls.Run (window_for c) made end → (before after : List Call) → made ≡ before ++ after → IsWithinQuota c before
 within_quota c made end run before after e =
-    let limit : ℕ = packet_limit c.packet_maximum in
-    let quota : ℕ = receive_limit c.receive_maximum in
+    let maximum : ℕ = packet_maximum c.packet_maximum in
+    let quota : ℕ = receive_maximum c.receive_maximum in
     let (mid, first) = run_first (window_for c) before after end (subst (λ (cs : List Call). calls.Run (window_for c) cs end) e run) in
-    record { kinds = mid.kinds; unacknowledged = kinds_read quota limit before mid first; few = quota_holds quota limit before mid first }
+    record { kinds = mid.kinds; unacknowledged = kinds_read quota maximum before mid first; few = quota_holds quota maximum before mid first }
 
 pub replay_sends : (c : Connect) (turns : List Turn) (r : IsReplaying c turns) → IsSentInOrder c turns r.made
 replay_sends c turns r =
-    let limit : ℕ = packet_limit c.packet_maximum in
-    let quota : ℕ = receive_limit c.receive_maximum in
+    let maximum : ℕ = packet_maximum c.packet_maximum in
+    let quota : ℕ = receive_maximum c.receive_maximum in
     let end : window_state.State = window_after (window_for c) turns in
-    let replay : calls.IsReplayed limit r.made end.waiting = replayed quota limit r.made end r.run in
+    let replay : calls.IsReplayed maximum r.made end.waiting = replayed quota maximum r.made end r.run in
     record {
       front = replay.prefix;
       whole = replay.whole;
-      sent = turns_send limit phase.Before turns r.made replay.prefix r.by_turns replay.leaves;
+      sent = turns_send maximum phase.Before turns r.made replay.prefix r.by_turns replay.leaves;
       quota = run_quota (window_for c) r.made end r.run;
       within = within_quota c r.made end r.run;
-      unacknowledged = kinds_read quota limit r.made end r.run;
+      unacknowledged = kinds_read quota maximum r.made end r.run;
     }
 
 -- ---- which turn opens a session

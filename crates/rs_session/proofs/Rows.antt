@@ -51,8 +51,8 @@ use Rattle.rs_session.specs.Subscriptions.{Subscriptions, is_subscribed}
 use Rattle.rs_session.specs.declared.subscriptions.Subscription.{Subscription}
 use Rattle.rs_session.proofs.SubscriptionLemmas.{remove_inserted, get_absent}
 use Rattle.rs_session.proofs.Submitting.{nothing_new, nothing_sent}
-use Rattle.rs_session.specs.Steps.{IsAccepted, connect_refusal, outcome_before, outcome_of_alias, outcome_of_topic, outcome_of_id, topic_refusal, IsSettled}
-use Rattle.rs_session.specs.Table.{Answers, AnswersWithoutGate, LeadsTo, IsNeitherConnectNorVersion, fault_reason, packet_limit, connack, open_for, change, topic_reason, acknowledged_by, held_id, is_held, is_one_too_many, holding, IsTaken, IsTopicOrUnread, IsHanded, acknowledgement_of, released_by, released_reason, is_shared_local, Grants, IsGranted, removal_reason, removal_codes, without, without_all, due_for, state_after, With_method, With_will, Connect_refused, Accepted, Connack_too_long, Other_version, Unexpected, In_session, Over, Faulty, With_alias, Bad_topic, Sent_again, Too_many_held, Not_retained, Kept, Topic_unread, Not_kept, Uncertain, Gate_closed, Released, Wrong_acknowledgement, Acknowledged, Shared_no_local, Not_subscribed, Subscribed, Not_unsubscribed, Unsubscribed, Connected_twice, Pinged, Disconnected}
+use Rattle.rs_session.specs.Steps.{IsAccepted, connect_refusal, outcome_before, outcome_of_alias, outcome_of_topic, outcome_of_id, topic_refusal, IsConcluded}
+use Rattle.rs_session.specs.Table.{Answers, AnswersWithoutGate, LeadsTo, IsNeitherConnectNorVersion, fault_reason, packet_maximum, connack, open_for, change, topic_reason, acknowledged_by, held_id, is_held, is_one_too_many, holding, IsTaken, IsTopicOrUnread, IsHanded, acknowledgement_of, released_by, released_reason, is_shared_local, Grants, IsGranted, removal_reason, removal_codes, without, without_all, due_for, state_after, With_method, With_will, Connect_refused, Accepted, Connack_too_long, Other_version, Unexpected, In_session, Over, Faulty, With_alias, Bad_topic, Sent_again, Too_many_held, Not_retained, Kept, Topic_unread, Not_kept, Uncertain, Gate_closed, Released, Wrong_acknowledgement, Acknowledged, Shared_no_local, Not_subscribed, Subscribed, Not_unsubscribed, Unsubscribed, Connected_twice, Pinged, Disconnected}
 
 pub Grows-weaker : (before after : List Entry → Type 0) (P Q : List Entry → List Entry → Type 0) → ((seen list : List Entry) → P seen list → Q seen list) → Grows before after P → Grows before after Q
 Grows-weaker before after P Q f h = λ seen s. let (list, stands, begins, p) = h seen s in (list, stands, begins, f seen list p)
@@ -91,7 +91,7 @@ pub connected : (c : Connect) (p : Packet) (old new : State) (due : Option Reply
     → AnswersWithoutGate (Whole p) old due new
 connected c p old new due e h = λ now mark list. subst (λ (x : Packet). Answers (given_at (Whole x) now) (point_at old list mark) [] due (point_at new list mark)) (sym e) (h now mark list)
 
-pub accepted : (c : Connect) (method will : Bool) (old new : State) (due : Option Reply) → is_some c.method ≡ method → c.will ≡ will → connect_refusal method will ≡ None → old.phase ≡ phase.Before → IsAccepted (connack c old) (packet_limit c.packet_maximum) (open_for c) old due new
+pub accepted : (c : Connect) (method will : Bool) (old new : State) (due : Option Reply) → is_some c.method ≡ method → c.will ≡ will → connect_refusal method will ≡ None → old.phase ≡ phase.Before → IsAccepted (connack c old) (packet_maximum c.packet_maximum) (open_for c) old due new
     → AnswersWithoutGate (Whole (packet.Connect c)) old due new
 accepted c true will old new due m w none before h = absurd (cc)
 accepted c false true old new due m w none before h = absurd (cc)
@@ -99,18 +99,18 @@ accepted c false false old new due m w none before (inl (a, b, d)) = λ now mark
 accepted c false false old new due m w none before (inr (a, b, d)) = λ now mark list. (Connack_too_long, (refl, (c, refl, before, m, w, a, refl, b, d)))
 
 pub connect_refused : (c : Connect) (method will : Bool) (code : ReasonCode) (old new : State) (due : Option Reply) → is_some c.method ≡ method → c.will ≡ will → connect_refusal method will ≡ Some code → old.phase ≡ phase.Before
-    → due ≡ within (packet_limit c.packet_maximum) (reply.Refused (code_of code)) → new ≡ ended old (ByServer (code_of code))
+    → due ≡ within (packet_maximum c.packet_maximum) (reply.Refused (code_of code)) → new ≡ ended old (ByServer (code_of code))
     → AnswersWithoutGate (Whole (packet.Connect c)) old due new
 connect_refused c true will code old new due m w is before d s = λ now mark list.
     let e : code ≡ BadAuthenticationMethod = cc in
-    (With_method, (refl, (c, refl, before, m, record { none_used = refl; reply = d ∙ ap (λ (n : ReasonCode). within (packet_limit c.packet_maximum) (reply.Refused (code_of n))) e; end = s ∙ ap (λ (n : ReasonCode). ended old (ByServer (code_of n))) e })))
+    (With_method, (refl, (c, refl, before, m, record { none_used = refl; reply = d ∙ ap (λ (n : ReasonCode). within (packet_maximum c.packet_maximum) (reply.Refused (code_of n))) e; end = s ∙ ap (λ (n : ReasonCode). ended old (ByServer (code_of n))) e })))
 connect_refused c false true code old new due m w is before d s = λ now mark list.
     let e : code ≡ ImplementationSpecificError = cc in
-    (With_will, (refl, (c, refl, before, m, w, record { none_used = refl; reply = d ∙ ap (λ (n : ReasonCode). within (packet_limit c.packet_maximum) (reply.Refused (code_of n))) e; end = s ∙ ap (λ (n : ReasonCode). ended old (ByServer (code_of n))) e })))
+    (With_will, (refl, (c, refl, before, m, w, record { none_used = refl; reply = d ∙ ap (λ (n : ReasonCode). within (packet_maximum c.packet_maximum) (reply.Refused (code_of n))) e; end = s ∙ ap (λ (n : ReasonCode). ended old (ByServer (code_of n))) e })))
 connect_refused c false false code old new due m w is before d s = absurd (cc)
 
 pub connect_without_memory : (c : Connect) (method will : Bool) (old new : State) (due : Option Reply) → is_some c.method ≡ method → c.will ≡ will → connect_refusal method will ≡ None → old.phase ≡ phase.Before
-    → due ≡ within (packet_limit c.packet_maximum) (reply.Refused (code_of QuotaExceeded)) → new ≡ ended old (ByServer (code_of QuotaExceeded))
+    → due ≡ within (packet_maximum c.packet_maximum) (reply.Refused (code_of QuotaExceeded)) → new ≡ ended old (ByServer (code_of QuotaExceeded))
     → AnswersWithoutGate (Whole (packet.Connect c)) old due new
 connect_without_memory c true will old new due m w none before d s = absurd (cc)
 connect_without_memory c false true old new due m w none before d s = absurd (cc)
@@ -123,10 +123,10 @@ pub over : (given : Given) (at : Point State) (due : Option Reply) (closing : Cl
 over given at due closing e d = (Over, (refl, (closing, e, refl, d, refl)))
 
 -- what a row leads to is due, and the state after it
-pub concluded : (given : Given) (from : Point State) (o : Open) (answered : List (List Entry)) (outcome : Outcome) (limit : ℕ) (left : Open) (due : Option Reply) (to : Point State)
-    → from.state.phase ≡ phase.Open o → limit ≡ o.window.packet_maximum → LeadsTo given (with_state from o) answered outcome (with_state to left) → due ≡ due_for limit outcome → to.state ≡ state_after outcome from.state left
+pub concluded : (given : Given) (from : Point State) (o : Open) (answered : List (List Entry)) (outcome : Outcome) (maximum : ℕ) (left : Open) (due : Option Reply) (to : Point State)
+    → from.state.phase ≡ phase.Open o → maximum ≡ o.window.packet_maximum → LeadsTo given (with_state from o) answered outcome (with_state to left) → due ≡ due_for maximum outcome → to.state ≡ state_after outcome from.state left
     → Answers given from answered due to
-concluded given from o answered outcome limit left due to p l h d s =
+concluded given from o answered outcome maximum left due to p l h d s =
     (In_session, (tt, (o, left, outcome, p, h, d ∙ ap (λ (n : ℕ). due_for n outcome) l, s)))
 
 pub faulty : (f : PacketFault) (now : ℕ) (code : ReasonCode) (at : Point Open) → code ≡ fault_reason f → LeadsTo (given_at (Broken f) now) at [] (Closes code) at
@@ -290,7 +290,7 @@ not_retained p topic outcome now from new e t c d s =
     (Not_retained, refl, (p, topic, refl, (taken p from.state e).0, t, unretained p.retain topic _ c, d, refl, s))
 
 settled : (p : Publish) (topic : List ℕ) (operation : Operation) (now : ℕ) (from : Point Open) (outcome : Outcome) (to : Point Open)
-    → IsHanded p topic operation now from to → IsSettled operation p.qos p.id from outcome to → LeadsTo (given_at (Whole (packet.Publish p)) now) from [] outcome to
+    → IsHanded p topic operation now from to → IsConcluded operation p.qos p.id from outcome to → LeadsTo (given_at (Whole (packet.Publish p)) now) from [] outcome to
 settled p topic operation now from outcome to may h =
     elim h as (λ h. LeadsTo (given_at (Whole (packet.Publish p)) now) from [] outcome to) [
       | inl k ↦ (Kept, refl, (p, topic, operation, refl, may, k.0, k.1, k.2))
@@ -306,11 +306,11 @@ settled p topic operation now from outcome to may h =
 pub submitted : {G : Type 0} (stands : G → List Entry → Type 0) (mark : G → Mark) (before after : G) (p : Publish) (topic : List ℕ) (operation : Operation) (now : ℕ) (outcome : Outcome) (old new : Open)
     → outcome_before p old ≡ None → p.topic ≡ Ok topic → change p topic now ≡ Some operation → Uses (mark before) (mark after)
     → SendsAtMost (mark before).sent (entry_by operation (mark after)) (mark after).sent
-    → Grows (stands before) (stands after) (λ seen list. IsHandedOver operation (mark after) seen list × IsSettled operation p.qos p.id (point_at old seen (mark before)) outcome (point_at new list (mark after)))
+    → Grows (stands before) (stands after) (λ seen list. IsHandedOver operation (mark after) seen list × IsConcluded operation p.qos p.id (point_at old seen (mark before)) outcome (point_at new list (mark after)))
     → GrowsAnswering stands mark before after (λ seen answered list. LeadsTo (given_at (Whole (packet.Publish p)) now) (point_at old seen (mark before)) answered outcome (point_at new list (mark after)))
 submitted stands mark before after p topic operation now outcome old new e t c u sent h =
     none_answered stands mark before after (λ seen answered list. LeadsTo (given_at (Whole (packet.Publish p)) now) (point_at old seen (mark before)) answered outcome (point_at new list (mark after)))
-    (Grows-weaker (stands before) (stands after) (λ seen list. IsHandedOver operation (mark after) seen list × IsSettled operation p.qos p.id (point_at old seen (mark before)) outcome (point_at new list (mark after))) _
+    (Grows-weaker (stands before) (stands after) (λ seen list. IsHandedOver operation (mark after) seen list × IsConcluded operation p.qos p.id (point_at old seen (mark before)) outcome (point_at new list (mark after))) _
     (λ seen list k. settled p topic operation now (point_at old seen (mark before)) outcome (point_at new list (mark after)) (record { taken = (taken p old e).0; is_topic = t; changes = c; one_used = u; no_other = k.0; sent = sent }) k.1) h)
 
 -- ---- the filters of a SUBSCRIBE and of an UNSUBSCRIBE
@@ -426,11 +426,11 @@ after_same (Closes code) a b o e = ap (λ (l : List ℕ). let s : State = record
 after_same Leaves a b o e = ap (λ (l : List ℕ). let s : State = record { phase = phase.Ended ByClient; assigned = l } in s) e
 
 -- an open session took a packet
-pub took : {G : Type 0} (stands : G → List Entry → Type 0) (mark : G → Mark) (given : Given) (old mid new : Session G) (o left : Open) (gate : G) (outcome : Outcome) (limit : ℕ)
-    → new ≡ mid → gate_of mid ≡ gate → (state_of old).phase ≡ phase.Open o → limit ≡ o.window.packet_maximum → due_of mid ≡ due_for limit outcome → state_of mid ≡ state_after outcome (state_of old) left
+pub took : {G : Type 0} (stands : G → List Entry → Type 0) (mark : G → Mark) (given : Given) (old mid new : Session G) (o left : Open) (gate : G) (outcome : Outcome) (maximum : ℕ)
+    → new ≡ mid → gate_of mid ≡ gate → (state_of old).phase ≡ phase.Open o → maximum ≡ o.window.packet_maximum → due_of mid ≡ due_for maximum outcome → state_of mid ≡ state_after outcome (state_of old) left
     → GrowsAnswering stands mark (gate_of old) gate (λ seen answered list. LeadsTo given (point_at o seen (mark (gate_of old))) answered outcome (point_at left list (mark gate)))
     → GrowsAnswering stands mark (gate_of old) (gate_of new) (λ seen answered list. Answers given (session_at mark old seen) answered (due_of new) (session_at mark new list))
-took {G} stands mark given old mid new o left gate outcome limit e g p l d s h =
+took {G} stands mark given old mid new o left gate outcome maximum e g p l d s h =
     subst (λ (x : Session G). GrowsAnswering stands mark (gate_of old) (gate_of x) (λ seen answered list. Answers given (session_at mark old seen) answered (due_of x) (session_at mark x list))) (sym e)
     (subst (λ (x : G). GrowsAnswering stands mark (gate_of old) x (λ seen answered list. Answers given (session_at mark old seen) answered (due_of mid) (point_at (state_of mid) list (mark x)))) (sym g)
-    (Grows-weaker _ _ _ _ (λ seen list k. (k.0, k.1, concluded given (session_at mark old seen) o k.0 outcome limit left (due_of mid) (point_at (state_of mid) list (mark gate)) p l k.2 d s)) h))
+    (Grows-weaker _ _ _ _ (λ seen list k. (k.0, k.1, concluded given (session_at mark old seen) o k.0 outcome maximum left (due_of mid) (point_at (state_of mid) list (mark gate)) p l k.2 d s)) h))

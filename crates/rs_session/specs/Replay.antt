@@ -26,7 +26,7 @@ use Rattle.rs_window.specs.declared.fault.Ack.{Ack}
 use Rattle.rs_window.specs.declared.fault.WindowFault.TheVariants.{WrongKind}
 use Rattle.rs_session.specs.Subscriptions.{Subscriptions, none, is_subscribed, replays}
 use Rattle.rs_session.specs.declared.subscriptions.Subscription.{Subscription}
-use Rattle.rs_session.specs.Table.{receive_limit, packet_limit, acknowledgement_of, due_for, subscription_for}
+use Rattle.rs_session.specs.Table.{receive_maximum, packet_maximum, acknowledgement_of, due_for, subscription_for}
 use Rattle.rs_session.specs.Run.{Turn}
 use Rattle.rs_session.specs.declared.open.Outcome.TheVariants.{Replies}
 use Rattle.rs_session.specs.declared.phase.Input.{Input}
@@ -151,7 +151,7 @@ window_after old (turn ∷ turns) = window_after (window_of old turn.to.state.ph
 
 -- 3.1.2.11.3, 3.1.2.11.4: by the client's Receive Maximum and Maximum Packet Size
 abbrev pub window_for : Connect → window_state.State
-window_for c = window.fresh (receive_limit c.receive_maximum) (packet_limit c.packet_maximum)
+window_for c = window.fresh (receive_maximum c.receive_maximum) (packet_maximum c.packet_maximum)
 
 abbrev pub IsOpen : Phase → Type 0
 IsOpen phase.Before = ⊥
@@ -189,7 +189,7 @@ AreSent packet_maximum (turn ∷ turns) front =
 pub record IsWithinQuota (c : Connect) (before : List Call) : Type 0 where
   pub kinds : Kinds
   pub unacknowledged : calls.AreUnacknowledged before kinds
-  pub few : finite.len kinds ≤ min (receive_limit c.receive_maximum) MAX_QUOTA
+  pub few : finite.len kinds ≤ min (receive_maximum c.receive_maximum) MAX_QUOTA
 
 -- A prefix of what these calls queued has left the queue, and the rest waits. The PUBLISH replies of the run are this prefix, in
 -- order, each message once, less what was dropped. The quota is the lesser of the client's Receive Maximum and `MAX_QUOTA`:
@@ -197,7 +197,7 @@ pub record IsWithinQuota (c : Connect) (before : List Call) : Type 0 where
 pub record IsSentInOrder (c : Connect) (turns : List Turn) (made : List Call) : Type 0 where
   pub front : List Waiting
   pub whole : calls.queued made ≡ front ++ (window_after (window_for c) turns).waiting
-  pub sent : AreSent (packet_limit c.packet_maximum) turns front
-  pub quota : (window_after (window_for c) turns).quota ≡ min (receive_limit c.receive_maximum) MAX_QUOTA
+  pub sent : AreSent (packet_maximum c.packet_maximum) turns front
+  pub quota : (window_after (window_for c) turns).quota ≡ min (receive_maximum c.receive_maximum) MAX_QUOTA
   pub within : (before after : List Call) → made ≡ before ++ after → IsWithinQuota c before
   pub unacknowledged : calls.AreUnacknowledged made (window_after (window_for c) turns).kinds

@@ -62,7 +62,7 @@ waiting_of (phase.Ended closing) = []
 
 -- 3.1.2.11.4: a reply that the client takes; another is not sent, and counts as sent
 abbrev pub within : ℕ → Reply → Option Reply
-within limit r = if nat_le (length (reply_bytes r)) limit then Some r else None
+within maximum r = if nat_le (length (reply_bytes r)) maximum then Some r else None
 
 -- what the window gives at a given time, as a reply
 pub record IsSent (now : ℕ) (old : Open) (given : Option Reply) (new : Open) : Type 0 where

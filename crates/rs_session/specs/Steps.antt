@@ -30,9 +30,9 @@ connect_refusal false false = None
 
 -- the session is open, or the CONNACK was too long
 abbrev pub IsAccepted : Reply → ℕ → Open → State → Option Reply → State → Type 0
-IsAccepted connack limit open_ old due new =
-    ((length (reply_bytes connack) ≤ limit) × (due ≡ Some connack) × (new ≡ opened old open_))
-    ⊎ ((limit < length (reply_bytes connack)) × (due ≡ None) × (new ≡ ended old (ByServer (code_of Success))))
+IsAccepted connack maximum open_ old due new =
+    ((length (reply_bytes connack) ≤ maximum) × (due ≡ Some connack) × (new ≡ opened old open_))
+    ⊎ ((maximum < length (reply_bytes connack)) × (due ≡ None) × (new ≡ ended old (ByServer (code_of Success))))
 
 -- the code of a topic that is not a topic name
 abbrev pub fault_refusal : TopicFault → Option ReasonCode
@@ -66,18 +66,18 @@ outcome_before p o =
     outcome_of_alias p.alias (outcome_of_topic (topic_refusal p.topic)
     (outcome_of_id (is_held (held_id p.qos p.id) o.inbound) (is_one_too_many (held_id p.qos p.id) o.inbound) (acknowledged_by p.qos p.id Success)))
 
--- the outcome of what the gate answered to a change
-abbrev pub outcome_of_answer : Result (Unit {0}) SubmitFault → Qos → Option ℕ → Outcome
-outcome_of_answer (Ok done) qos id = Replies (acknowledged_by qos id Success)
-outcome_of_answer (Err Full) qos id = Replies (acknowledged_by qos id QuotaExceeded)
-outcome_of_answer (Err NoMemory) qos id = Replies (acknowledged_by qos id QuotaExceeded)
-outcome_of_answer (Err submit_fault.Open) qos id = Closes QuotaExceeded
-outcome_of_answer (Err Strange) qos id = Closes ImplementationSpecificError
-outcome_of_answer (Err Closed) qos id = Closes ImplementationSpecificError
+-- what a submit leads to, by what became of the change
+abbrev pub outcome_of_submit : Result (Unit {0}) SubmitFault → Qos → Option ℕ → Outcome
+outcome_of_submit (Ok done) qos id = Replies (acknowledged_by qos id Success)
+outcome_of_submit (Err Full) qos id = Replies (acknowledged_by qos id QuotaExceeded)
+outcome_of_submit (Err NoMemory) qos id = Replies (acknowledged_by qos id QuotaExceeded)
+outcome_of_submit (Err submit_fault.Open) qos id = Closes QuotaExceeded
+outcome_of_submit (Err Strange) qos id = Closes ImplementationSpecificError
+outcome_of_submit (Err Closed) qos id = Closes ImplementationSpecificError
 
--- what a submit leads to
-abbrev pub IsSettled : Operation → Qos → Option ℕ → Point Open → Outcome → Point Open → Type 0
-IsSettled operation qos id from outcome to =
+-- what a submit leads to, with what stands then
+abbrev pub IsConcluded : Operation → Qos → Option ℕ → Point Open → Outcome → Point Open → Type 0
+IsConcluded operation qos id from outcome to =
     (IsSubmitted operation from.mark to.mark to.seen × (outcome ≡ Replies (acknowledged_by qos id Success)) × (to.state ≡ record from.state { inbound = held_with (held_id qos id) from.state.inbound }))
     ⊎ (((outcome ≡ Replies (acknowledged_by qos id QuotaExceeded)) × (to.state ≡ from.state))
     ⊎ (((outcome ≡ Closes QuotaExceeded) × (to.state ≡ from.state))

@@ -51,14 +51,14 @@ use Rattle.rs_session.specs.declared.phase.Input.TheVariants.{Whole, Broken}
 -- ---- 3.1, 3.2: CONNECT and CONNACK
 
 -- 3.1.2.11.3: without a Receive Maximum it is the greatest number
-abbrev pub receive_limit : Option ℕ → ℕ
-receive_limit None = 2 ^ 16 - 1
-receive_limit (Some limit) = limit
+abbrev pub receive_maximum : Option ℕ → ℕ
+receive_maximum None = 2 ^ 16 - 1
+receive_maximum (Some maximum) = maximum
 
--- 3.1.2.11.4: without a Maximum Packet Size there is no limit but the greatest number
-abbrev pub packet_limit : Option ℕ → ℕ
-packet_limit None = 2 ^ 32 - 1
-packet_limit (Some limit) = limit
+-- 3.1.2.11.4: without a Maximum Packet Size it is the greatest number
+abbrev pub packet_maximum : Option ℕ → ℕ
+packet_maximum None = 2 ^ 32 - 1
+packet_maximum (Some maximum) = maximum
 
 -- 3.2.2.3.2: the session ends with its connection; a client that asked for more is told so
 abbrev pub is_longer : Option ℕ → Bool
@@ -75,7 +75,7 @@ connack c old = reply.Accepted (record { session_expiry_zero = is_longer c.sessi
 
 -- a session that was just opened
 abbrev pub open_for : Connect → Open
-open_for c = record { subscriptions = finite.empty; inbound = set.empty; window = window.fresh (receive_limit c.receive_maximum) (packet_limit c.packet_maximum) }
+open_for c = record { subscriptions = finite.empty; inbound = set.empty; window = window.fresh (receive_maximum c.receive_maximum) (packet_maximum c.packet_maximum) }
 
 -- ---- 3.3 to 3.7: PUBLISH and its acknowledgements
 
@@ -370,10 +370,10 @@ LeadsWithoutGate input old outcome new = (now : ℕ) (mark : Mark) (list : List 
 
 -- 3.1.2.11.4: what is sent of it to a client that takes packets of at most this length
 abbrev pub due_for : ℕ → Outcome → Option Reply
-due_for limit (Replies None) = None
-due_for limit (Replies (Some r)) = within limit r
-due_for limit (Closes code) = within limit (reply.Disconnect (code_of code))
-due_for limit Leaves = None
+due_for maximum (Replies None) = None
+due_for maximum (Replies (Some r)) = within maximum r
+due_for maximum (Closes code) = within maximum (reply.Disconnect (code_of code))
+due_for maximum Leaves = None
 
 abbrev pub state_after : Outcome → State → Open → State
 state_after (Replies r) old o = opened old o
@@ -404,7 +404,7 @@ pub data Case : Type 0 where
 -- 3.2: a CONNACK that refuses, and the end. It is not sent if it is longer than the client takes
 pub record IsRefused (code : ReasonCode) (c : Connect) (from : Point State) (due : Option Reply) (to : Point State) : Type 0 where
   pub none_used : to.mark ≡ from.mark
-  pub reply : due ≡ within (packet_limit c.packet_maximum) (reply.Refused (code_of code))
+  pub reply : due ≡ within (packet_maximum c.packet_maximum) (reply.Refused (code_of code))
   pub end : to.state ≡ ended from.state (ByServer (code_of code))
 
 -- what a row does with what is given, from the point before to the point after, with the reply that is then due
@@ -420,10 +420,10 @@ SessionRow Connect_refused given from answered due to =
     (c : Connect) × (given.input ≡ Whole (packet.Connect c)) × (from.state.phase ≡ phase.Before) × (is_some c.method ≡ false) × (c.will ≡ false) × IsRefused QuotaExceeded c from due to
 SessionRow Accepted given from answered due to =
     (c : Connect) × (given.input ≡ Whole (packet.Connect c)) × (from.state.phase ≡ phase.Before) × (is_some c.method ≡ false) × (c.will ≡ false)
-    × (length (reply_bytes (connack c from.state)) ≤ packet_limit c.packet_maximum) × (to.mark ≡ from.mark) × (due ≡ Some (connack c from.state)) × (to.state ≡ opened from.state (open_for c))
+    × (length (reply_bytes (connack c from.state)) ≤ packet_maximum c.packet_maximum) × (to.mark ≡ from.mark) × (due ≡ Some (connack c from.state)) × (to.state ≡ opened from.state (open_for c))
 SessionRow Connack_too_long given from answered due to =
     (c : Connect) × (given.input ≡ Whole (packet.Connect c)) × (from.state.phase ≡ phase.Before) × (is_some c.method ≡ false) × (c.will ≡ false)
-    × (packet_limit c.packet_maximum < length (reply_bytes (connack c from.state))) × (to.mark ≡ from.mark) × (due ≡ None) × (to.state ≡ ended from.state (ByServer (code_of Success)))
+    × (packet_maximum c.packet_maximum < length (reply_bytes (connack c from.state))) × (to.mark ≡ from.mark) × (due ≡ None) × (to.state ≡ ended from.state (ByServer (code_of Success)))
 -- 3.1.2.2
 SessionRow Other_version given from answered due to =
     (given.input ≡ Broken Version) × (from.state.phase ≡ phase.Before) × (to.mark ≡ from.mark) × (due ≡ Some (reply.Refused (code_of UnsupportedProtocolVersion)))

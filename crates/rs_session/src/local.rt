@@ -17,8 +17,8 @@ use std::alloc::{AllocError, Global};
 /// The place that it serves as.
 const PLACE: u8 = 1;
 
-/// The store of a single connection: a catalogue, served as place 1 with serials from 1. It stands for
-/// each list of entries that its catalogue stands for.
+/// A gate for a single connection, to a store of its own: a catalogue, served as place 1 with serials from 1. It stands
+/// for each list of entries that its catalogue stands for.
 #[derive(Drop)]
 pub struct LocalGate<C: Catalogue> {
     store: Store<C>,

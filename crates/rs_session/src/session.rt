@@ -60,9 +60,9 @@ impl<G: Gate> Session<G> {
         match &mut self.phase {
             Phase::Before => self.first_packet(packet),
             Phase::Open(open) => {
-                let limit = open.window.packet_maximum();
+                let maximum = open.window.packet_maximum();
                 let outcome = open.handle(self.alloc, &mut self.gate, packet, now);
-                self.conclude(outcome, limit);
+                self.conclude(outcome, maximum);
             }
             Phase::Ended(_) => {}
         }
@@ -82,8 +82,8 @@ impl<G: Gate> Session<G> {
         match &self.phase {
             Phase::Before => self.first_fault(fault),
             Phase::Open(open) => {
-                let limit = open.window.packet_maximum();
-                self.conclude(Outcome::Closes(fault_reason(fault)), limit);
+                let maximum = open.window.packet_maximum();
+                self.conclude(Outcome::Closes(fault_reason(fault)), maximum);
             }
             Phase::Ended(_) => {}
         }
@@ -151,19 +151,19 @@ impl<G: Gate> Session<G> {
         }
     }
 
-    /// What an outcome leaves due and open, for a client that takes packets of at most `limit` bytes.
-    fn conclude(&mut self, outcome: Outcome, limit: u32)
+    /// What an outcome leaves due and open, for a client that takes packets of at most `maximum` bytes.
+    fn conclude(&mut self, outcome: Outcome, maximum: u32)
         requires { self.old.due ≡ None }
-        ensures due { self.new.due ≡ due_for limit outcome }
+        ensures due { self.new.due ≡ due_for maximum outcome }
         ensures state { (o : Open) → self.old.phase ≡ Phase.Open o → state_of self.new ≡ state_after outcome (state_of self.old) o }
         ensures gate { self.new.gate ≡ self.old.gate }
     {
         match outcome {
             Outcome::Replies(None) => {}
-            Outcome::Replies(Some(reply)) => self.due = within(limit, reply),
+            Outcome::Replies(Some(reply)) => self.due = within(maximum, reply),
             Outcome::Closes(code) => {
                 let code = code.code();
-                self.due = within(limit, Reply::Disconnect(code));
+                self.due = within(maximum, Reply::Disconnect(code));
                 self.end(Closing::ByServer(code));
             }
             Outcome::Leaves => self.end(Closing::ByClient),
@@ -194,10 +194,10 @@ fn next_waiting(phase: &mut Phase, now: u64) -> Option<Reply>
 }
 
 /// The reply, if the client takes so long a packet (3.1.2.11.4).
-fn within(limit: u32, reply: Reply) -> Option<Reply>
-    ensures { result ≡ within limit reply }
+fn within(maximum: u32, reply: Reply) -> Option<Reply>
+    ensures { result ≡ within maximum reply }
 {
-    if encoded_len(&reply) <= limit as usize {
+    if encoded_len(&reply) <= maximum as usize {
         return Some(reply);
     }
     None

@@ -9,7 +9,7 @@ use thiserror::Error;
 
 #[derive(Clone, Copy, Debug, Error)]
 pub enum Failure {
-    #[error("give a job and its numbers, as bench/run and checks/out_of_memory do")]
+    #[error("give a task and its numbers, as bench/run and checks/out_of_memory do")]
     Words,
     #[error("standard input has to be one PUBLISH or SUBSCRIBE")]
     Input,

@@ -1,7 +1,7 @@
 //! Works single calls of the crates, for the checks and the benchmark.
 //!
 //! `refuse tree`, `refuse window`, `refuse versions` and `refuse queue` look at what is shown after memory was refused.
-//! The other jobs are timed:
+//! The other tasks are timed:
 //!
 //! - `tree TOPICS`: the calls of a tree in which so many topics, 1 to 65,536, hold a message;
 //! - `full TOPICS`: the adds to a full tree of so many topics, and one that sweeps half of it;

@@ -1,6 +1,6 @@
 //! What a tree, a window, a store of versions and the queue to its writer show after they were refused memory.
 //!
-//! Each job prints `refused`, and of each kind of call how often it was refused memory, kept what it owes, and did its work when it
+//! Each task prints `refused`, and of each kind of call how often it was refused memory, kept what it owes, and did its work when it
 //! was called again: 0 with ample memory.
 
 mod queue;

@@ -24,7 +24,7 @@ fn topics(word: &String) -> Result<TopicLimit, Failure> {
     TopicLimit::new(number(word)?).ok_or(Failure::Words)
 }
 
-/// Does the job of this name with one number.
+/// Does the task of this name with one number.
 fn work_one<H: AllocGlobal + Print + Clock + Wait, R: Read>(
     rt: &H,
     alloc: Global,
@@ -44,7 +44,7 @@ fn work_one<H: AllocGlobal + Print + Clock + Wait, R: Read>(
     }
 }
 
-/// Does the job of this name with these numbers.
+/// Does the task of this name with these numbers.
 pub fn work<
     H: AllocGlobal + Print + Clock + Wait + Threads + Copy + Send + Sync + 'static,
     R: Read,

@@ -1,4 +1,4 @@
-//! The program's store as a gate.
+//! The gate to the program's own store.
 
 ghost use Rattle.std.specs.Prelude.{◌≡◌, ◌↔◌, [], false, None, IfOk, IfErr, OnOk, Err};
 ghost use Rattle.std.specs.Option.{option_map};
@@ -10,22 +10,22 @@ ghost use Rattle.rs_session.specs.Local.{local_mark, next_entry, IsFull, IsLeft}
 ghost use Rattle.rs_program.specs.OwnStores.{IsOwn, content_of};
 ghost use Rattle.rs_program.specs.declared.own_store.TheConstants.{MAX_OWN_TOPICS};
 
-use super::{MAX_OWN_TOPICS, OwnStore};
+use super::{MAX_OWN_TOPICS, OwnGate};
 use rs_message::{Found, Operation, SubmitFault};
 use rs_session::{Gate, LocalGate};
 use rs_store::TopicLimit;
 use rs_topic::TopicFilter;
 use std::alloc::{AllocError, Global};
 
-impl OwnStore {
+impl OwnGate {
     /// A gate to an empty store. Fails only if memory is refused.
-    pub fn new(alloc: Global) -> Result<OwnStore, AllocError>
-        ensures content { IfOk result (λ store. content_of store ≡ empty MAX_OWN_TOPICS) }
-        ensures list { IfOk result (λ store. IsOwn (content_of store) []) }
-        ensures mark { IfOk result (λ store. local_mark (content_of store) ≡ record { place = 1; serial = 0; sent = None }) }
+    pub fn new(alloc: Global) -> Result<OwnGate, AllocError>
+        ensures content { IfOk result (λ gate. content_of gate ≡ empty MAX_OWN_TOPICS) }
+        ensures list { IfOk result (λ gate. IsOwn (content_of gate) []) }
+        ensures mark { IfOk result (λ gate. local_mark (content_of gate) ≡ record { place = 1; serial = 0; sent = None }) }
     {
         match TopicLimit::new(MAX_OWN_TOPICS) {
-            Some(limit) => Ok(OwnStore {
+            Some(limit) => Ok(OwnGate {
                 gate: LocalGate::new(alloc, limit)?,
             }),
             None => unreachable!(),
@@ -33,13 +33,13 @@ impl OwnStore {
     }
 }
 
-impl Gate for OwnStore {
+impl Gate for OwnGate {
     ghost use Rattle.rs_session.specs.Local.{local_mark};
     ghost use Rattle.rs_program.specs.OwnStores.{IsOwn, content_of};
 
-    ghost stands = { λ store list. IsOwn (content_of store) list };
+    ghost stands = { λ gate list. IsOwn (content_of gate) list };
 
-    ghost mark = { λ store. local_mark (content_of store) };
+    ghost mark = { λ gate. local_mark (content_of gate) };
 
     /// `Full` if no serial is left or the store has no room, `NoMemory` if memory is refused. A Set for which a Sweep makes room is
     /// preceded by that Sweep. Refused, the store is as before, but that this Sweep may stay if memory is refused.

@@ -5,7 +5,7 @@ ghost use Rattle.rs_message.specs.Messages.{is_sweep};
 ghost use Rattle.rs_message.specs.declared.entry.Operation.{Operation};
 ghost use Rattle.rs_session.specs.Gate.{Grows, GrowsAnswering, IsHandedOver, SendsAtMost, Uses, entry_by};
 ghost use Rattle.rs_session.specs.Points.{given_at, point_at};
-ghost use Rattle.rs_session.specs.Steps.{IsSettled, outcome_before, outcome_of_answer, outcome_of_id, topic_refusal};
+ghost use Rattle.rs_session.specs.Steps.{IsConcluded, outcome_before, outcome_of_submit, outcome_of_id, topic_refusal};
 ghost use Rattle.rs_session.specs.Table.{LeadsTo, acknowledged_by, held_id, held_with, is_held, is_one_too_many};
 
 use super::{Open, Outcome};
@@ -30,7 +30,7 @@ impl Open {
     {
         match self.outcome_before(&p) {
             Some(outcome) => outcome,
-            None => self.store(alloc, gate, p, now),
+            None => self.hand_over(alloc, gate, p, now),
         }
     }
 
@@ -51,10 +51,10 @@ impl Open {
     fn outcome_of_id(&self, qos: Qos, id: Option<PacketId>) -> Option<Outcome>
         ensures { result ≡ outcome_of_id (is_held (held_id qos id) self.now.inbound) (is_one_too_many (held_id qos id) self.now.inbound) (acknowledged_by qos id ReasonCode.Success) }
     {
-        let answered = id;
+        let own_id = id;
         let held = held_id(qos, id)?;
         if self.inbound.holds(held) {
-            return Some(Outcome::Replies(acknowledged_by(qos, answered, ReasonCode::Success)));
+            return Some(Outcome::Replies(acknowledged_by(qos, own_id, ReasonCode::Success)));
         }
         if self.inbound.is_full() {
             return Some(Outcome::Closes(ReasonCode::ReceiveMaximumExceeded));
@@ -64,7 +64,7 @@ impl Open {
 
     /// Hands the change that a PUBLISH asks for to the store.
     #[tactic(auto, using(crate::proofs::Submitting::no_sweep))]
-    fn store<G: Gate>(&mut self, alloc: Global, gate: &mut G, p: Publish, now: u64) -> Outcome
+    fn hand_over<G: Gate>(&mut self, alloc: Global, gate: &mut G, p: Publish, now: u64) -> Outcome
         requires { outcome_before p self.old ≡ None }
         ensures { GrowsAnswering G.stands G.mark gate.old gate.new (λ seen answered list.
             LeadsTo (given_at (Input.Whole (Packet.Publish p)) now) (point_at self.old seen (G.mark gate.old)) answered result (point_at self.new list (G.mark gate.new))) }
@@ -107,16 +107,16 @@ impl Open {
         requires change { is_sweep operation ≡ false }
         ensures list { Grows (G.stands gate.old) (G.stands gate.new) (λ seen list.
             IsHandedOver operation (G.mark gate.new) seen list
-            × IsSettled operation qos id (point_at self.old seen (G.mark gate.old)) result (point_at self.new list (G.mark gate.new))) }
+            × IsConcluded operation qos id (point_at self.old seen (G.mark gate.old)) result (point_at self.new list (G.mark gate.new))) }
         ensures mark { Uses (G.mark gate.old) (G.mark gate.new) }
         ensures sent { SendsAtMost (G.mark gate.old).sent (entry_by operation (G.mark gate.new)) (G.mark gate.new).sent }
     {
-        let answer = gate.submit(operation);
-        if answer.is_ok() {
+        let submitted = gate.submit(operation);
+        if submitted.is_ok() {
             let held = id;
             self.hold(qos, held);
         }
-        outcome_of_answer(answer, qos, id)
+        outcome_of_submit(submitted, qos, id)
     }
 
     /// At QoS 2 the identifier is held from now on.
@@ -133,11 +133,11 @@ impl Open {
     }
 }
 
-/// What the answer of the gate to a change leads to.
-fn outcome_of_answer(answer: Result<(), SubmitFault>, qos: Qos, id: Option<PacketId>) -> Outcome
-    ensures { result ≡ outcome_of_answer answer qos id }
+/// What a submit leads to, by what became of the change.
+fn outcome_of_submit(submitted: Result<(), SubmitFault>, qos: Qos, id: Option<PacketId>) -> Outcome
+    ensures { result ≡ outcome_of_submit submitted qos id }
 {
-    match answer {
+    match submitted {
         Ok(()) => Outcome::Replies(acknowledged_by(qos, id, ReasonCode::Success)),
         Err(SubmitFault::Full | SubmitFault::NoMemory) => {
             Outcome::Replies(acknowledged_by(qos, id, ReasonCode::QuotaExceeded))
@@ -171,7 +171,7 @@ fn held_id(qos: Qos, id: Option<PacketId>) -> Option<PacketId>
     }
 }
 
-/// The answer to a PUBLISH: none, a PUBACK or a PUBREC.
+/// The reply to a PUBLISH: none, a PUBACK or a PUBREC.
 fn acknowledged_by(qos: Qos, id: Option<PacketId>, reason: ReasonCode) -> Option<Reply>
     ensures { result ≡ acknowledged_by qos id reason }
 {

@@ -5,7 +5,7 @@ ghost use Rattle.rs_packet.specs.declared.reply.Reply.{Reply};
 ghost use Rattle.rs_session.specs.Reasons.{code_of};
 ghost use Rattle.rs_session.specs.State.{state_of, ended, within};
 ghost use Rattle.rs_session.specs.Steps.{IsAccepted, connect_refusal};
-ghost use Rattle.rs_session.specs.Table.{AnswersWithoutGate, connack, open_for, packet_limit, receive_limit, is_longer, assigned_for};
+ghost use Rattle.rs_session.specs.Table.{AnswersWithoutGate, connack, open_for, packet_maximum, receive_maximum, is_longer, assigned_for};
 ghost use Rattle.rs_session.specs.declared.open.Open.{Open};
 
 use super::Session;
@@ -68,14 +68,14 @@ impl<G: Gate> Session<G> {
         ensures row { AnswersWithoutGate (Input.Whole (Packet.Connect c.now)) (state_of self.old) self.new.due (state_of self.new) }
         ensures gate { self.new.gate ≡ self.old.gate }
     {
-        let limit = packet_limit(c);
+        let maximum = packet_maximum(c);
         if let Some(reason) = refusal(c) {
-            self.refuse(reason, limit);
+            self.refuse(reason, maximum);
             return;
         }
         match self.begin(c) {
-            Ok((connack, begun)) => self.accept(connack, begun, limit),
-            Err(_) => self.refuse(ReasonCode::QuotaExceeded, limit),
+            Ok((connack, begun)) => self.accept(connack, begun, maximum),
+            Err(_) => self.refuse(ReasonCode::QuotaExceeded, maximum),
         }
     }
 
@@ -96,18 +96,18 @@ impl<G: Gate> Session<G> {
         Ok(Open {
             subscriptions: Subscriptions::new(self.alloc),
             inbound: Inbound::new(),
-            window: Window::new(self.alloc, receive_limit(c), packet_limit(c))?,
+            window: Window::new(self.alloc, receive_maximum(c), packet_maximum(c))?,
         })
     }
 
     /// A CONNACK that refuses, to a client that takes it, and the end.
-    fn refuse(&mut self, reason: ReasonCode, limit: u32)
+    fn refuse(&mut self, reason: ReasonCode, maximum: u32)
         ensures state { state_of self.new ≡ ended (state_of self.old) (Closing.ByServer (code_of reason)) }
-        ensures due { self.new.due ≡ within limit (Reply.Refused (code_of reason)) }
+        ensures due { self.new.due ≡ within maximum (Reply.Refused (code_of reason)) }
         ensures gate { self.new.gate ≡ self.old.gate }
     {
         let code = reason.code();
-        self.due = within(limit, Reply::Refused(code));
+        self.due = within(maximum, Reply::Refused(code));
         self.end(Closing::ByServer(code));
     }
 
@@ -132,12 +132,12 @@ impl<G: Gate> Session<G> {
     }
 
     /// The session is open, unless the client would not take the CONNACK.
-    fn accept(&mut self, connack: Reply, begun: Open, limit: u32)
+    fn accept(&mut self, connack: Reply, begun: Open, maximum: u32)
         requires { self.old.due ≡ None }
-        ensures accepted { IsAccepted connack limit begun (state_of self.old) self.new.due (state_of self.new) }
+        ensures accepted { IsAccepted connack maximum begun (state_of self.old) self.new.due (state_of self.new) }
         ensures gate { self.new.gate ≡ self.old.gate }
     {
-        if encoded_len(&connack) > limit as usize {
+        if encoded_len(&connack) > maximum as usize {
             self.end(Closing::ByServer(ReasonCode::Success.code()));
         } else {
             self.due = Some(connack);
@@ -147,23 +147,23 @@ impl<G: Gate> Session<G> {
 }
 
 /// The longest packet that the client takes, in bytes (3.1.2.11.4).
-fn packet_limit(c: &Connect) -> u32
-    ensures value { result ≡ packet_limit c.now.packet_maximum }
+fn packet_maximum(c: &Connect) -> u32
+    ensures value { result ≡ packet_maximum c.now.packet_maximum }
     ensures some { 0 < result }
 {
     match c.packet_maximum {
-        Some(limit) => limit,
+        Some(maximum) => maximum,
         None => u32::MAX,
     }
 }
 
 /// How many PUBLISH packets of QoS 1 and 2 the client takes before it acknowledges one (3.1.2.11.3).
-fn receive_limit(c: &Connect) -> u16
-    ensures value { result ≡ receive_limit c.now.receive_maximum }
+fn receive_maximum(c: &Connect) -> u16
+    ensures value { result ≡ receive_maximum c.now.receive_maximum }
     ensures some { 0 < result }
 {
     match c.receive_maximum {
-        Some(limit) => limit,
+        Some(maximum) => maximum,
         None => u16::MAX,
     }
 }

@@ -2,7 +2,7 @@ use Rattle.std.proofs.Common.{rules, IsSome, ◌≡◌, ◌+◌, ◌∷◌, ◌+
 use Rattle.rs_message.specs.declared.entry.Entry.{Entry}
 use Rattle.rs_store.specs.History.{SerialsRise}
 use Rattle.rs_version.specs.Writer.{kept_of}
-use Rattle.rs_intake.specs.declared.rule.Job.{Job}
+use Rattle.rs_intake.specs.declared.job.Job.{Job}
 use Rattle.rs_intake.specs.QueueRule.{ends_of, entries_of}
 use Rattle.rs_intake.specs.declared.ending.Cause.TheVariants.{AllEnded, MostTaken, QueueGone}
 use Rattle.rs_intake.proofs.Done.{adds_if_done, swept_if_done, written_same, written_with}

@@ -23,10 +23,10 @@ loop-turn-preserved-then-not-is_empty g c =
     let steps = c.in-Some.ensures.steps in
     let first = next_place g.T.Turn.plan _ _ _ _ _ _ steps.0.0 steps.1.0 in
     record {
-      started = served_here _ _ _ _ _ _ _ _ _ _ c.put.ensures.items c.serve_turns.ensures first i.started;
-      few = omega (arith, i.few, length_more _ _ _ c.put.ensures.items, ap length steps.1.0);
+      started = served_here _ _ _ _ _ _ _ _ _ _ c.push_reserved.ensures.items c.serve_turns.ensures first i.started;
+      few = omega (arith, i.few, length_more _ _ _ c.push_reserved.ensures.items, ap length steps.1.0);
       threads_room = i.threads_room;
-      served_room = omega (arith, i.served_room, c.put.ensures.capacity);
+      served_room = omega (arith, i.served_room, c.push_reserved.ensures.capacity);
     }
 
 pub loop-turn-preserved-in-Ok : goal.loop-turn-preserved-in-Ok
@@ -37,9 +37,9 @@ loop-turn-preserved-in-Ok g c =
     let promised = c.in-Ok.ensures in
     let none : length c.loop-turn.served.items ≡ 0 = grind (arith, nat_tests, c.is_empty.ensures, c.if-not-is_empty.false) in
     record {
-      started = thread_more _ _ _ _ _ _ _ _ _ _ _ c.put-in-Ok.ensures.items none (same_place g.T.Turn.plan _ _ _ _ promised.0 promised.1) first i.started;
-      few = omega (arith, i.few, length_more _ _ _ c.put-in-Ok.ensures.items, ap length steps.1.0);
-      threads_room = omega (arith, i.threads_room, c.put-in-Ok.ensures.capacity);
+      started = thread_more _ _ _ _ _ _ _ _ _ _ _ c.push_reserved-in-Ok.ensures.items none (same_place g.T.Turn.plan _ _ _ _ promised.0 promised.1) first i.started;
+      few = omega (arith, i.few, length_more _ _ _ c.push_reserved-in-Ok.ensures.items, ap length steps.1.0);
+      threads_room = omega (arith, i.threads_room, c.push_reserved-in-Ok.ensures.capacity);
       served_room = i.served_room;
     }
 
@@ -50,10 +50,10 @@ loop-turn-preserved g c =
     let first = next_place g.T.Turn.plan _ _ _ _ _ _ steps.0.0 steps.1.0 in
     let one = rw c.in-Err-Some.field-0-is at c.in-Err-Some.ensures in
     record {
-      started = served_here _ _ _ _ _ _ _ _ _ _ c.put-in-Err-Some.ensures.items one first i.started;
-      few = omega (arith, i.few, length_more _ _ _ c.put-in-Err-Some.ensures.items, ap length steps.1.0);
+      started = served_here _ _ _ _ _ _ _ _ _ _ c.push_reserved-in-Err-Some.ensures.items one first i.started;
+      few = omega (arith, i.few, length_more _ _ _ c.push_reserved-in-Err-Some.ensures.items, ap length steps.1.0);
       threads_room = i.threads_room;
-      served_room = omega (arith, i.served_room, c.put-in-Err-Some.ensures.capacity);
+      served_room = omega (arith, i.served_room, c.push_reserved-in-Err-Some.ensures.capacity);
     }
 
 pub returns-clause-served : goal.returns-clause-served

@@ -3,18 +3,18 @@ use Rattle.rs_places.proofs.Starting.{first_of_all, length_more}
 use Rattle.rs_places.proofs.Whole.{all_done, push_map}
 use Rattle.rs_places.proofs.settled.parted.Goals as goal
 
-pub put-requires : goal.put-requires
-put-requires g c = omega (arith, c.loop-end.invariant.3, ap length c.in-Some.ensures.steps.0)
+pub push_reserved-requires : goal.push_reserved-requires
+push_reserved-requires g c = omega (arith, c.loop-end.invariant.3, ap length c.in-Some.ensures.steps.0)
 
 pub loop-end-preserved : goal.loop-end-preserved
 loop-end-preserved g c =
     let i = c.loop-end.invariant in
     let first = c.in-Some.ensures.steps.0 in (
-      push_map _ _ _ _ _ c.put.ensures.items i.0,
-      push_map _ _ _ _ _ c.put-in-loop-end.ensures.items i.1,
+      push_map _ _ _ _ _ c.push_reserved.ensures.items i.0,
+      push_map _ _ _ _ _ c.push_reserved-in-loop-end.ensures.items i.1,
       first_of_all _ _ _ _ _ i.2 first,
-      omega (arith, i.3, length_more _ _ _ c.put.ensures.items, c.put.ensures.capacity, ap length first),
-      omega (arith, i.4, length_more _ _ _ c.put-in-loop-end.ensures.items, c.put-in-loop-end.ensures.capacity, ap length first),
+      omega (arith, i.3, length_more _ _ _ c.push_reserved.ensures.items, c.push_reserved.ensures.capacity, ap length first),
+      omega (arith, i.4, length_more _ _ _ c.push_reserved-in-loop-end.ensures.items, c.push_reserved-in-loop-end.ensures.capacity, ap length first),
     )
 
 pub returns : goal.returns

@@ -21,5 +21,5 @@ returns g c = λ seen s.
           (c.serve-served.ensures.conversation seen s);
       left_is = refl;
       held_is = refl;
-      answer = c.answer_of.ensures;
+      answer = c.result_of.ensures;
     }

@@ -26,5 +26,5 @@ returns g c = λ seen s.
           (c.serve-served.ensures.conversation seen s);
       left_is = tt;
       held_is = (due_digits written.due, one_digit written.due, same_output g.W.Write.contents written _ (c.into_inner-3.ensures ∙ ap output_of c.into_inner-2.ensures));
-      answer = c.answer_of.ensures;
+      answer = c.result_of.ensures;
     }

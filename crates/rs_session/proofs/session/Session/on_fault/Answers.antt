@@ -15,7 +15,7 @@ returns-clause-row g c = λ now.
     elim c.match-self.branch [
       | in-Before w ↦ stays g.G.Gate.stands g.G.Gate.mark (given_at (Broken c.args.fault) now) old w.first_fault.new.self c.match-self.self w.self-is w.first_fault.ensures.gate (λ list. w.first_fault.ensures.row now mark list)
       | in-Open w ↦
-          took g.G.Gate.stands g.G.Gate.mark (given_at (Broken c.args.fault) now) old w.conclude.new.self c.match-self.self w.in-Open.open w.in-Open.open (gate_of old) _ _ w.self-is w.conclude.ensures.gate w.in-Open.is w.packet_maximum-limit.ensures w.conclude.ensures.due
+          took g.G.Gate.stands g.G.Gate.mark (given_at (Broken c.args.fault) now) old w.conclude.new.self c.match-self.self w.in-Open.open w.in-Open.open (gate_of old) _ _ w.self-is w.conclude.ensures.gate w.in-Open.is w.packet_maximum-maximum.ensures w.conclude.ensures.due
           (w.conclude.ensures.state w.in-Open.open w.in-Open.is)
           (unmoved g.G.Gate.stands g.G.Gate.mark (gate_of old) (gate_of old) (λ seen answered list used. LeadsTo (given_at (Broken c.args.fault) now) (point_at w.in-Open.open seen mark) answered (Closes w.fault_reason.result) (point_at w.in-Open.open list used)) refl
           (λ list. faulty c.args.fault now w.fault_reason.result (point_at w.in-Open.open list mark) w.fault_reason.ensures))

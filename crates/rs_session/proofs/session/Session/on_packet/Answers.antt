@@ -14,7 +14,7 @@ returns-clause-row g c =
     elim c.match-self.branch [
       | in-Before w ↦ stays g.G.Gate.stands g.G.Gate.mark (given_at (Whole c.args.packet) now) old w.first_packet.new.self c.match-self.self w.self-is w.first_packet.ensures.gate (λ list. w.first_packet.ensures.row now mark list)
       | in-Open w ↦
-          took g.G.Gate.stands g.G.Gate.mark (given_at (Whole c.args.packet) now) old w.conclude.new.self c.match-self.self w.in-Open.open w.handle-outcome.new.self w.handle-outcome.new.gate w.handle-outcome.result _ w.self-is w.conclude.ensures.gate w.in-Open.is w.packet_maximum-limit.ensures w.conclude.ensures.due
+          took g.G.Gate.stands g.G.Gate.mark (given_at (Whole c.args.packet) now) old w.conclude.new.self c.match-self.self w.in-Open.open w.handle-outcome.new.self w.handle-outcome.new.gate w.handle-outcome.result _ w.self-is w.conclude.ensures.gate w.in-Open.is w.packet_maximum-maximum.ensures w.conclude.ensures.due
           (w.conclude.ensures.state w.handle-outcome.new.self refl ∙ after_same w.handle-outcome.result _ (state_of old) w.handle-outcome.new.self refl)
           w.handle-outcome.ensures
       | in-Ended w ↦ stays g.G.Gate.stands g.G.Gate.mark (given_at (Whole c.args.packet) now) old old c.match-self.self w.self-is refl (λ list. over _ (session_at g.G.Gate.mark old list) _ _ w.in-Ended.is c.requires)

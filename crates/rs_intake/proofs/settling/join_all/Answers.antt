@@ -4,7 +4,7 @@ use Rattle.rs_intake.specs.declared.rule.SentFrom.{SentFrom}
 use Rattle.rs_intake.specs.Lines.{Closed}
 use Rattle.rs_intake.specs.Settling.{Covers}
 use Rattle.rs_intake.proofs.Sums.{covers_more, no_more}
-use Rattle.rs_intake.proofs.settling.gather.Goals as goal
+use Rattle.rs_intake.proofs.settling.join_all.Goals as goal
 
 pub loop-end-preserved : goal.loop-end-preserved
 loop-end-preserved g c =

@@ -1,6 +1,6 @@
 use Rattle.rs_program.specs.OwnStores.{content_of}
 use Rattle.rs_program.proofs.Submits.{own_left, own_submitted}
-use Rattle.rs_program.proofs.own_store.gate.OwnStoreGate.submit.Goals as goal
+use Rattle.rs_program.proofs.own_store.gate.OwnGateGate.submit.Goals as goal
 
 pub returns-in-Ok-clause-list : goal.returns-in-Ok-clause-list
 returns-in-Ok-clause-list c = λ seen own. own_submitted (content_of c.args.self.now) _ c.args.operation seen c.args.self.now.limit c.requires c.in-Ok.ensures.done own

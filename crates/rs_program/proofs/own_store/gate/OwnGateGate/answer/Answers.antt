@@ -1,6 +1,6 @@
 use Rattle.rs_program.specs.OwnStores.{content_of}
 use Rattle.rs_program.proofs.OwnStores.{own_stays}
-use Rattle.rs_program.proofs.own_store.gate.OwnStoreGate.answer_within.Goals as goal
+use Rattle.rs_program.proofs.own_store.gate.OwnGateGate.answer.Goals as goal
 
 pub returns-in-Ok-clause-list : goal.returns-in-Ok-clause-list
 returns-in-Ok-clause-list c = λ seen own.

@@ -1,7 +1,7 @@
 use Rattle.std.proofs.Common.{◌≡◌, ◌<◌, ◌++◌, List, length}
-use Rattle.rs_intake.specs.declared.rule.Job.{Job}
+use Rattle.rs_intake.specs.declared.job.Job.{Job}
 use Rattle.rs_intake.specs.Settling.{Covers, IsBalanced}
-use Rattle.rs_intake.proofs.settling.gather.Given as goal
+use Rattle.rs_intake.proofs.settling.join_all.Given as goal
 
 abbrev pub invariant-loop-end : goal.invariant-loop-end
 invariant-loop-end g l = (l.taken.entries ≡ l.fn.taken.entries) × Covers l.taken.whole l.yielded

@@ -9,7 +9,7 @@ use Rattle.rs_session.specs.Steps.{outcome_before}
 use Rattle.rs_session.specs.Points.{given_at, point_at}
 use Rattle.rs_session.specs.Table.{LeadsTo}
 use Rattle.rs_session.proofs.Rows.{unmoved, topic_unread, submitted, not_kept, not_retained}
-use Rattle.rs_session.proofs.open.Open.store.Goals as goal
+use Rattle.rs_session.proofs.open.Open.hand_over.Goals as goal
 
 pub returns-in_default : goal.returns-in_default
 returns-in_default g c =
