@@ -119,7 +119,10 @@ impl Branch {
         };
         match self.children[i].clear(alloc, topic, at, next) {
             Ok(Cleared::Missing) => Ok(Cleared::Missing),
-            Ok(Cleared::Left) => Ok(Cleared::Left),
+            Ok(Cleared::Left) => {
+                self.unfold(alloc);
+                Ok(Cleared::Left)
+            }
             Ok(Cleared::Last) => {
                 if is_lone(&self.held, self.children.as_slice()) {
                     return Ok(Cleared::Last);

@@ -112,7 +112,9 @@ Branch::clear-returns-in-Ok-Left t c =
     let here : IsIn c.in-Some.level.now es c.in-Ok.i = rw c.as_slice.ensures.value at c.in-Ok.ensures.found in
     let small : c.in-Ok.i < length es = rw c.as_slice.ensures.value at c.in-Ok.ensures.within in
     let cleared : ClearsAs Left c.index_mut.result.now.spots c.clear.new.self.spots (c.in-Some.level.now ∷ levels_from c.in-Some.next c.args.topic.now) = rw (e, c.in-Ok-Left.field-0-is) at c.in-Ok-Left.ensures.cleared in
-    rw (e, ← c.self.view_is) (clears_left c.self.inside.held es c.self.invariant c.in-Some.level.now (levels_from c.in-Some.next c.args.topic.now) c.in-Ok.i c.index_mut.result.now c.clear.new.self small here c.index_mut.ensures.value c.clear.ensures.level cleared)
+    let path = c.in-Some.level.now ∷ levels_from c.in-Some.next c.args.topic.now in
+    let P : Held → Type 0 = λ w. ClearsAs Left (own c.self.inside.held ++ parts es) w path in
+    rw (e, ← c.self.view_is) (subst P (sym c.unfold-in-Ok-Left.ensures) (clears_left c.self.inside.held es c.self.invariant c.in-Some.level.now (levels_from c.in-Some.next c.args.topic.now) c.in-Ok.i c.index_mut.result.now c.clear.new.self small here c.index_mut.ensures.value c.clear.ensures.level cleared))
 
 pub Branch::clear-returns-in-Err : goal.Branch::clear-returns-in-Err
 Branch::clear-returns-in-Err t c =
