@@ -114,7 +114,7 @@ Branch::clear-returns-in-Ok-Left t c =
     let cleared : ClearsAs Left c.index_mut.result.now.spots c.clear.new.self.spots (c.in-Some.level.now ∷ levels_from c.in-Some.next c.args.topic.now) = rw (e, c.in-Ok-Left.field-0-is) at c.in-Ok-Left.ensures.cleared in
     let path = c.in-Some.level.now ∷ levels_from c.in-Some.next c.args.topic.now in
     let P : Held → Type 0 = λ w. ClearsAs Left (own c.self.inside.held ++ parts es) w path in
-    rw (e, ← c.self.view_is) (subst P (sym c.unfold-in-Ok-Left.ensures) (clears_left c.self.inside.held es c.self.invariant c.in-Some.level.now (levels_from c.in-Some.next c.args.topic.now) c.in-Ok.i c.index_mut.result.now c.clear.new.self small here c.index_mut.ensures.value c.clear.ensures.level cleared))
+    rw (e, ← c.self.view_is) (subst P (sym c.unfold.ensures) (clears_left c.self.inside.held es c.self.invariant c.in-Some.level.now (levels_from c.in-Some.next c.args.topic.now) c.in-Ok.i c.index_mut.result.now c.clear.new.self small here c.index_mut.ensures.value c.clear.ensures.level cleared))
 
 pub Branch::clear-returns-in-Err : goal.Branch::clear-returns-in-Err
 Branch::clear-returns-in-Err t c =
@@ -154,4 +154,4 @@ Branch::clear-returns-else-is_lone t c =
     let size : length c.as_slice-in-Ok-Last.result.now ≡ length es = ap (λ (l : List ChildValue). length l) c.as_slice-in-Ok-Last.ensures.value ∙ length-set es c.in-Ok.i c.clear.new.self in
     let path = c.in-Some.level.now ∷ levels_from c.in-Some.next c.args.topic.now in
     let P : Held → Type 0 = λ w. ClearsAs Left (own c.self.inside.held ++ parts es) w path in
-    rw (e, ← c.self.view_is) (subst P (sym c.unfold.ensures) (clears_child c.self.inside.held es c.self.invariant c.in-Some.level.now (levels_from c.in-Some.next c.args.topic.now) c.in-Ok.i c.index_mut.result.now c.clear.new.self small here c.index_mut.ensures.value c.clear.ensures.level c.remove_at.new.children.items c.remove_at.ensures (λ none one. c.if-is_lone.ensures.more refl none (size ∙ one)) cleared))
+    rw (e, ← c.self.view_is) (subst P (sym c.unfold-in-Ok-Last.ensures) (clears_child c.self.inside.held es c.self.invariant c.in-Some.level.now (levels_from c.in-Some.next c.args.topic.now) c.in-Ok.i c.index_mut.result.now c.clear.new.self small here c.index_mut.ensures.value c.clear.ensures.level c.remove_at.new.children.items c.remove_at.ensures (λ none one. c.if-is_lone.ensures.more refl none (size ∙ one)) cleared))

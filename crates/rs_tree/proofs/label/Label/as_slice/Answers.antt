@@ -1,4 +1,4 @@
-use Rattle.std.proofs.Common.{◌≡◌, ◌≤◌, length}
+use Rattle.std.proofs.Common.{◌≤◌, length}
 use Rattle.rs_tree.proofs.label.Label.as_slice.Goals as goal
 
 pub split_at-requires : goal.split_at-requires
