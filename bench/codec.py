@@ -31,9 +31,9 @@ USERS = published(b"x" * 64, USER)
 LARGE = published(b"x" * 200_000)
 MANY = subscribe(FILTERS, 1), len(FILTERS), SUBACK_BYTES + 1
 
-# A job, what is decoded or encoded, the packet and its sums, and how often, so that a run takes
+# A task, what is decoded or encoded, the packet and its sums, and how often, so that a run takes
 # some tenths of a second.
-JOBS = (
+TASKS = (
     ("decode", "a PUBLISH of 64 bytes", SMALL, 1_000_000),
     ("decode", "a PUBLISH with ten user properties", USERS, 200_000),
     ("decode", "a PUBLISH of 200 kB", LARGE, 1_000_000),
@@ -61,44 +61,44 @@ def compiled(folder):
     return path
 
 
-def run(path, job, packet, times):
+def run(path, task, packet, times):
     """The microseconds of one run, and the sum over what it made."""
-    words = [path, job, str(times)]
+    words = [path, task, str(times)]
     done = subprocess.run(words, input=packet, stdout=subprocess.PIPE, check=True)
     micros, total = done.stdout.split()
     return int(micros), int(total)
 
 
 def once(times=3):
-    """Runs each job a few rounds, and fails if it does not make what is right."""
-    for job, what, (packet, decoded, encoded), _ in JOBS:
-        _, total = run(program("rs_trials"), job, packet, times)
-        if total != times * (decoded if job == "decode" else encoded):
-            sys.exit(f"bench: {job} {what} made {total}")
+    """Runs each task a few rounds, and fails if it does not make what is right."""
+    for task, what, (packet, decoded, encoded), _ in TASKS:
+        _, total = run(program("rs_trials"), task, packet, times)
+        if total != times * (decoded if task == "decode" else encoded):
+            sys.exit(f"bench: {task} {what} made {total}")
 
 
-def least_micros(paths, job, packet, times, tries=5):
+def least_micros(paths, task, packet, times, tries=5):
     """The least microseconds that each program took, in turns; all must make the same."""
     totals = set()
 
     def in_turn():
-        made = {path: run(path, job, packet, times) for path in paths}
+        made = {path: run(path, task, packet, times) for path in paths}
         totals.update(total for _, total in made.values())
         return {path: micros for path, (micros, _) in made.items()}
 
     best = least(tries, in_turn)
     if len(totals) != 1:
-        sys.exit(f"bench: the programs {job} differently: {sorted(totals)}")
+        sys.exit(f"bench: the programs {task} differently: {sorted(totals)}")
     return best
 
 
 @with_rounds
-def is_near(job, what, packet, times, plain):
-    """Prints how long the job takes each time; whether that is less than a few times as long as in
+def is_near(task, what, packet, times, plain):
+    """Prints how long the task takes each time; whether that is less than a few times as long as in
     the plain program."""
     timed = program("rs_trials")
-    best = least_micros([path for path in (timed, plain) if path], job, packet, times)
-    each = f"{job} {what}: {best[timed] / times:.3f} us"
+    best = least_micros([path for path in (timed, plain) if path], task, packet, times)
+    each = f"{task} {what}: {best[timed] / times:.3f} us"
     if plain is None:
         print(f"{each}; no rustc to compare with")
         return True
@@ -111,4 +111,5 @@ def is_near(job, what, packet, times, plain):
 def is_fast():
     with tempfile.TemporaryDirectory() as folder:
         plain = compiled(folder)
-        return all([is_near(job, what, sums[0], times, plain) for job, what, sums, times in JOBS])
+        near = [is_near(task, what, sums[0], times, plain) for task, what, sums, times in TASKS]
+        return all(near)

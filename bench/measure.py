@@ -37,22 +37,22 @@ def grows_slowly(name, measure, few, many, limit=15):
     return grown < limit
 
 
-def trial(job, *numbers):
-    """By name, the numbers that a job of rs_trials prints."""
-    words = [program("rs_trials"), job, *map(str, numbers)]
+def trial(task, *numbers):
+    """By name, the numbers that a task of rs_trials prints."""
+    words = [program("rs_trials"), task, *map(str, numbers)]
     out = subprocess.run(words, capture_output=True, text=True, check=True).stdout
     return {name: int(number) for name, number in (line.split() for line in out.splitlines())}
 
 
-def peak_memory(job, topics):
+def peak_memory(task, topics):
     """The most kilobytes that rs_trials holds while it keeps so many messages. It lets them go one
     by one, so that it is seen then."""
-    running = subprocess.Popen([program("rs_trials"), job, str(topics)])
+    running = subprocess.Popen([program("rs_trials"), task, str(topics)])
     most = 0
     while running.poll() is None:
         # It may have ended since.
         with contextlib.suppress(OSError, StopIteration):
             most = max(most, most_memory(running.pid))
     if running.returncode != 0:
-        sys.exit(f"bench: {job} {topics} ended with status {running.returncode}")
+        sys.exit(f"bench: {task} {topics} ended with status {running.returncode}")
     return most

@@ -1,4 +1,4 @@
-//! What the jobs `decode` and `encode` of rs_trials do, for a PUBLISH and a SUBSCRIBE (OASIS MQTT
+//! What the tasks `decode` and `encode` of rs_trials do, for a PUBLISH and a SUBSCRIBE (OASIS MQTT
 //! Version 5.0, sections 3.3 and 3.8), in plain Rust over std alone: bench/run takes its times as
 //! the measure of theirs.
 //!
@@ -476,7 +476,7 @@ fn encode_often(reply: &Reply, rounds: u32) -> u64 {
 
 fn main() {
     let words: Vec<String> = std::env::args().skip(1).collect();
-    let [job, rounds] = words.as_slice() else {
+    let [task, rounds] = words.as_slice() else {
         panic!("give decode ROUNDS or encode ROUNDS");
     };
     let rounds = rounds.parse().expect("a number of rounds");
@@ -486,10 +486,10 @@ fn main() {
     let bytes = Part { buffer: input.into(), start: 0, end };
     let reply = reply_to(decode_whole(&bytes));
     let start = Instant::now();
-    let total = match job.as_str() {
+    let total = match task.as_str() {
         "decode" => decode_often(&bytes, rounds),
         "encode" => encode_often(&reply, rounds),
-        _ => panic!("unknown job {job}"),
+        _ => panic!("unknown task {task}"),
     };
     println!("{} {total}", start.elapsed().as_micros());
 }

@@ -34,11 +34,11 @@ DEEP_BYTES = len(b"00000/" + 126 * b"a/" + b"a")
 DEEP_LIMIT = 1_000 + 3 * DEEP_BYTES
 
 
-def tree_times(job, topics, tries=5):
-    """By name, the nanoseconds that the calls of a job on a tree take with so many topics: Set,
+def tree_times(task, topics, tries=5):
+    """By name, the nanoseconds that the calls of a task on a tree take with so many topics: Set,
     replace, Clear and `#`, and one answer to each other filter, or the adds to a full tree. The
     least of some runs."""
-    return least(tries, trial, job, topics)
+    return least(tries, trial, task, topics)
 
 
 def tree_grows_slowly(name, times):
@@ -99,6 +99,6 @@ def is_fast():
 
 
 def once():
-    for job in ("tree", "full"):
-        tree_times(job, TREES[0], tries=1)
+    for task in ("tree", "full"):
+        tree_times(task, TREES[0], tries=1)
     peak_memory("keep_deep", 100)

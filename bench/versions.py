@@ -76,7 +76,7 @@ def seats_are_fast():
 
 def copies_share():
     """Whether two copies take less than twice the memory of one catalogue."""
-    one, two = (peak_memory(job, MESSAGES) for job in ("keep", "keep_versions"))
+    one, two = (peak_memory(task, MESSAGES) for task in ("keep", "keep_versions"))
     times = two / one
     shown = f"one catalogue {one:,} kB, two copies {two:,} kB; {times:.2f} times"
     print(f"memory of {MESSAGES:,} messages: {shown} (less than {MEMORY_LIMIT} needed)")
@@ -103,5 +103,5 @@ def once():
     for readers in READERS:
         run(TOPICS[0], readers, 10)
     run(TOPICS[-1], 1, 10)
-    for job in ("keep", "keep_versions"):
-        peak_memory(job, TOPICS[0])
+    for task in ("keep", "keep_versions"):
+        peak_memory(task, TOPICS[0])

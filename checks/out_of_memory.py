@@ -103,17 +103,18 @@ def sessions(name, steps, least, is_hex, library):
     enough(name, counts, least, at - 1)
 
 
-def calls(job, least, library, count=1, untold=0):
-    """Runs a job of rs_trials, in which so many allocations in a row fail. It prints how often
+def calls(task, least, library, count=1, untold=0):
+    """Runs a task of rs_trials, in which so many allocations in a row fail. It prints how often
     each kind of call was refused.
 
     At least so many runs as `untold` says must have been refused memory in a call that does not
-    tell it. If the job cannot go on, it says so, and in the first runs that the words were not
+    tell it. If the task cannot go on, it says so, and in the first runs that the words were not
     read.
     """
     refused, unread = Counter(), 0
     not_read = b"rs_trials: the clock, the words, the input or the output failed\n"
-    for at, run, was_refused in in_turn([program("rs_trials"), "refuse", job], b"", library, count):
+    words = [program("rs_trials"), "refuse", task]
+    for at, run, was_refused in in_turn(words, b"", library, count):
         printed = re.fullmatch(r"refused((?: \d+)+)\n", run.stdout.decode())
         counts = dict(zip(least, map(int, printed[1].split()))) if printed else {}
         is_whole = run.returncode == 0 and len(counts) == len(least)
@@ -126,8 +127,8 @@ def calls(job, least, library, count=1, untold=0):
         is_told = is_unread or run.stderr == b"rs_trials: out of memory\n"
         if not (was_refused and run.returncode == 1 and run.stdout == b"" and is_told):
             shown = f"status {run.returncode}, {run.stdout!r}, {run.stderr!r}"
-            sys.exit(f"{job}, allocation {at}: {shown}")
-    enough(f"{job}, {count} in a row", refused, least | {UNTOLD: untold}, at - 1)
+            sys.exit(f"{task}, allocation {at}: {shown}")
+    enough(f"{task}, {count} in a row", refused, least | {UNTOLD: untold}, at - 1)
 
 
 def main():
