@@ -14,7 +14,6 @@ use std::test::Fail;
 
 mod alike;
 mod examples;
-mod levels;
 mod sweeps;
 mod wide;
 
