@@ -15,7 +15,6 @@ use std::test::Fail;
 mod alike;
 mod examples;
 mod joined;
-mod levels;
 mod sweeps;
 mod wide;
 

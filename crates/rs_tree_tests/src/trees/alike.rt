@@ -107,20 +107,6 @@ pub fn put<C: Catalogue>(
     Ok(store.add(Entry { origin, operation }))
 }
 
-/// Sets or clears one topic in both.
-pub fn put_named<C: Catalogue, D: Catalogue>(
-    alloc: Global,
-    first: &mut Store<C>,
-    second: &mut Store<D>,
-    name: &[u8],
-    kind: u64,
-) -> Result<(), Fail> {
-    let serial = first.catalogue().last_serial(1).saturating_add(1);
-    put(alloc, first, serial, name, kind)??;
-    put(alloc, second, serial, name, kind)??;
-    Ok(())
-}
-
 /// The topics and payloads that a filter is answered at a given time.
 fn answer_of<C: Catalogue>(
     alloc: Global,

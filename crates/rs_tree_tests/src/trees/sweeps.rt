@@ -329,29 +329,6 @@ fn first_to_expire(rt: HostRuntime) -> Result<(), Fail> {
     Ok(())
 }
 
-/// Sets 40 topics at each of three places of the tree. At each one stays, and the others expire.
-fn set_many<C: Catalogue>(alloc: Global, catalogue: &mut C) -> Result<(), Fail> {
-    for i in 0..120u32 {
-        let name = format!(in alloc; "{}/{}", i % 3, i)?;
-        let expiry = if i < 117 { Some(10) } else { None };
-        set_until(alloc, catalogue, name.as_bytes(), expiry)?;
-    }
-    Ok(())
-}
-
-#[test]
-fn swept_branches(rt: HostRuntime) -> Result<(), Fail> {
-    let alloc = rt.alloc();
-    let limit = TopicLimit::new(200).ok_or("200 is a limit")?;
-    let mut tree = TreeCatalogue::new(alloc, limit)?;
-    set_many(alloc, &mut tree)?;
-    sweep(&rt, &mut tree, 109)?;
-    assert!(rt; tree.count() == 120);
-    sweep(&rt, &mut tree, 110)?;
-    assert!(rt; tree.count() == 3);
-    Ok(())
-}
-
 /// A full store takes a new topic from the moment on at which one has expired, by a Sweep of its own, and not before.
 fn makes_room<C: Catalogue>(
     rt: &impl Abort,

@@ -1,6 +1,6 @@
 //! Many levels side by side, so that rows are divided, and copies that never change.
 
-use super::alike::{is_alike, put_named};
+use super::alike::{is_alike, put};
 use super::{origin, set_at};
 use rs_message::Entry;
 use rs_store::{Catalogue, MapCatalogue, Store, TopicLimit};
@@ -34,8 +34,11 @@ fn put_both(
     number: u64,
     kind: u64,
 ) -> Result<(), Fail> {
+    let serial = map.catalogue().last_serial(1).saturating_add(1);
     let name = name_of(alloc, number)?;
-    put_named(alloc, map, tree, name.as_slice(), kind)
+    put(alloc, map, serial, name.as_slice(), kind)??;
+    put(alloc, tree, serial, name.as_slice(), kind)??;
+    Ok(())
 }
 
 /// Some filters are answered alike.
