@@ -1,5 +1,5 @@
-"""Compares how the program ends in each way that README.md names, and more: its status, standard
-output and standard error.
+"""Compares how the program ends in each way that PIPE.md and RUNNING.md name, and more: its status,
+standard output and standard error.
 
 What this project words is compared as it is. Of what clap words, which is help and why a command
 line is refused, it is compared how it begins and what else it has to say, in this order.
