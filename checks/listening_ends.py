@@ -136,8 +136,8 @@ REFUSALS = {
     "a will": (WILL, bytes.fromhex("2003008300")),
     "a second CONNECT": (2 * CONNECT, CONNACK + bytes.fromhex("E00182")),
 }
-# What a client still sends once it was refused, 960 KiB in all: in pieces, with a pause before each,
-# so that a server that closes the connection and discards nothing breaks the sending.
+# What a client still sends once it was refused, 960 KiB in all: in pieces, with a pause before
+# each, so that a server that closes the connection and discards nothing breaks the sending.
 PIECES, PIECE, PAUSE = 15, bytes(1 << 16), 0.005
 
 
