@@ -5,4 +5,6 @@
 #[cfg(test)]
 mod queue;
 #[cfg(test)]
+mod samples;
+#[cfg(test)]
 mod versions;

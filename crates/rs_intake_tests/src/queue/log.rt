@@ -1,0 +1,102 @@
+//! What the places of a run were answered, in plain values.
+
+use rs_message::{Entry, Found};
+use rs_version::Snapshot;
+use std::alloc::{AllocError, Global};
+
+/// What a submit was answered.
+#[derive(Drop)]
+pub(crate) struct Answer {
+    /// Of the receipt, or 0.
+    pub(crate) number: u64,
+    /// Of the fault, or 0.
+    pub(crate) code: u8,
+    /// Of the receipt.
+    pub(crate) entry: Option<Entry>,
+}
+
+/// What a place read.
+#[derive(Drop)]
+pub(crate) struct Reading {
+    /// What the version has to be at least, by what the place knew.
+    pub(crate) least: u64,
+    pub(crate) version: u64,
+    pub(crate) found: Vec<Found>,
+}
+
+/// What a place did and was answered.
+#[derive(Drop)]
+pub(crate) struct Log {
+    pub(crate) place: u8,
+    pub(crate) answers: Vec<Answer>,
+    pub(crate) readings: Vec<Reading>,
+    /// The longest version that the place knows.
+    pub(crate) known: u64,
+    /// Whether each turn was made.
+    pub(crate) is_whole: bool,
+    /// Of the line, once it is closed: its last serial, and how many jobs the queue took.
+    pub(crate) serial: u64,
+    pub(crate) sent: u64,
+}
+
+impl Log {
+    pub(crate) fn new(alloc: Global, place: u8) -> Log {
+        Log {
+            place,
+            answers: Vec::new(alloc),
+            readings: Vec::new(alloc),
+            known: 0,
+            is_whole: false,
+            serial: 0,
+            sent: 0,
+        }
+    }
+
+    pub(crate) fn add_answer(&mut self, answer: Answer) -> Result<(), AllocError> {
+        self.known = self.known.max(answer.number);
+        self.answers.push(answer).map_err(|_| AllocError)
+    }
+
+    pub(crate) fn add_reading(&mut self, snapshot: Snapshot) -> Result<(), AllocError> {
+        let Snapshot { version, found } = snapshot;
+        let reading = Reading {
+            least: self.known,
+            version,
+            found,
+        };
+        self.known = version;
+        self.readings.push(reading).map_err(|_| AllocError)
+    }
+}
+
+/// What the writer did, and whether all is settled.
+#[derive(Clone, Copy)]
+pub(crate) struct Totals {
+    pub(crate) taken: u64,
+    pub(crate) refused: u64,
+    pub(crate) holds_none: bool,
+    pub(crate) version: u64,
+    /// Whether it is settled without any line.
+    pub(crate) without_lines: bool,
+    /// What is settled by the ends of all lines.
+    pub(crate) settled: Option<u64>,
+}
+
+/// What a run came to.
+#[derive(Drop)]
+pub(crate) struct Outcome {
+    /// In the order of the places.
+    pub(crate) logs: Vec<Log>,
+    /// `None` if the writer took no job.
+    pub(crate) totals: Option<Totals>,
+}
+
+/// What the writer did, if each place took all its turns.
+pub(crate) fn totals_of(outcome: &Outcome) -> Option<Totals> {
+    for log in &outcome.logs {
+        if !log.is_whole {
+            return None;
+        }
+    }
+    outcome.totals
+}

@@ -1,0 +1,342 @@
+//! A store with its queue: a thread for each place, which follows a script, and one for the writer.
+
+ghost use Rattle.std.specs.Prelude.{◌≡◌, ◌<◌, ◌≤◌, [], false};
+ghost use Rattle.rs_message.specs.Messages.{is_sweep};
+ghost use Rattle.rs_message.specs.declared.entry.TheConstants.{MAX_PLACES};
+ghost use Rattle.rs_version.specs.Writer.{kept_of};
+
+use super::log::{Answer, Log, Outcome, Totals};
+use super::script::{Act, Script, operation_of};
+use crate::samples::{blank_store, read_all};
+use rs_intake::{
+    BlankQueue, Ended, Intake, LineEnd, LineName, Queue, SeatLine, blank_queue, run_writer,
+    run_writer_for, settle,
+};
+use rs_message::Operation;
+use rs_version::{Blank, Receipt, Seat, VersionWriter};
+use std::alloc::{AllocError, Global};
+use std::marker::Brand;
+use std::process::Abort;
+use std::sync::atomic::{AtomicU64, Ordering};
+use std::sync::{Arc, Wait};
+use std::test::Fail;
+use std::thread::{JoinHandle, Threads, sleep, spawn, yield_now};
+use std::time::{Clock, Duration};
+
+/// How often a count is looked at, with a millisecond between two looks.
+const LOOKS: u32 = 300_000;
+
+/// How long places have for a submit before a queue is dropped, in milliseconds.
+const PAUSE: u64 = 20;
+
+/// What the writer does.
+#[derive(Clone, Copy)]
+pub(crate) enum Writing {
+    /// It takes all jobs.
+    All,
+    /// It ends after so many jobs.
+    Most(u64),
+    /// It takes none, and the queue is dropped after a pause.
+    Never,
+}
+
+#[derive(Clone, Copy)]
+pub(crate) struct Plan {
+    pub(crate) alloc: Global,
+    pub(crate) limit: u32,
+    pub(crate) places: u8,
+    pub(crate) script: Script,
+    pub(crate) writing: Writing,
+}
+
+/// What the threads of all places count.
+#[derive(Drop)]
+struct Counts {
+    /// How often a place came to a meeting.
+    met: AtomicU64,
+    /// How many places have ended.
+    ended: AtomicU64,
+}
+
+/// What the thread of a place has beside its line and its seat.
+#[derive(Drop)]
+struct Task {
+    alloc: Global,
+    places: u8,
+    script: Script,
+    counts: Arc<Counts>,
+}
+
+/// Fails if the count does not come to this after so many looks, since a place that waits for ever can't be joined.
+fn watch<R: Clock + Abort>(rt: &R, count: &AtomicU64, wanted: u64) {
+    for _ in 0..LOOKS {
+        if count.load(Ordering::SeqCst) >= wanted {
+            return;
+        }
+        sleep(rt, Duration::from_millis(1));
+    }
+    assert!(rt; count.load(Ordering::SeqCst) >= wanted);
+}
+
+/// The number after this one in a row of pseudo-random numbers, of which the upper half is used.
+fn next_random(state: u64) -> u64 {
+    state
+        .wrapping_mul(6_364_136_223_846_793_005)
+        .wrapping_add(1_442_695_040_888_963_407)
+}
+
+/// The first number of a place. No two places share their numbers, whatever the seed.
+fn first_random(script: Script, place: u8) -> u64 {
+    let seed = match script {
+        Script::Random(seed) => seed,
+        _ => 0,
+    };
+    next_random(seed.wrapping_mul(64).wrapping_add(u64::from(place)))
+}
+
+/// What a receipt says. `None` if memory is refused.
+fn answer_of<N: LineName>(receipt: &Receipt<N>) -> Option<Answer> {
+    let entry = receipt.entry().copy().ok()?;
+    Some(Answer {
+        number: receipt.number(),
+        code: 0,
+        entry: Some(entry),
+    })
+}
+
+/// Submits the operation. The seat learns of the receipt.
+fn submit<N: LineName, R: Wait>(
+    rt: &R,
+    line: &mut SeatLine<N>,
+    seat: &mut Seat<N>,
+    operation: Operation,
+) -> Option<Answer>
+    requires { is_sweep operation ≡ false }
+{
+    match Intake::new().submit(rt, line, operation) {
+        Ok(receipt) => {
+            seat.learn(receipt.told());
+            answer_of(&receipt)
+        }
+        Err(fault) => Some(Answer {
+            number: 0,
+            code: fault.code(),
+            entry: None,
+        }),
+    }
+}
+
+/// Does what is due. `None` if memory is refused.
+fn take_turn<N: LineName, R: Wait + Clock + Abort>(
+    rt: &R,
+    task: &Task,
+    line: &mut SeatLine<N>,
+    seat: &mut Seat<N>,
+    log: &mut Log,
+    act: Act,
+) -> Option<()> {
+    match act {
+        Act::Nothing => Some(()),
+        Act::Read(now) => {
+            let snapshot = read_all(task.alloc, seat, now).ok()?;
+            log.add_reading(snapshot).ok()
+        }
+        Act::Meet(number) => {
+            task.counts.met.fetch_add(1, Ordering::SeqCst);
+            let all = u64::from(task.places).saturating_mul(number);
+            watch(rt, &task.counts.met, all);
+            Some(())
+        }
+        change => {
+            let operation = operation_of(task.alloc, change)?;
+            let answer = submit(rt, line, seat, operation)?;
+            log.add_answer(answer).ok()
+        }
+    }
+}
+
+/// Takes all turns.
+fn follow<N: LineName, R: Wait + Clock + Abort>(
+    rt: &R,
+    task: &Task,
+    line: &mut SeatLine<N>,
+    seat: &mut Seat<N>,
+    log: &mut Log,
+) -> bool {
+    let place = line.place();
+    let mut state = first_random(task.script, place);
+    for turn in 0..task.script.turns() {
+        state = next_random(state);
+        let random = state >> 32;
+        if random / 16 % 3 == 0 {
+            yield_now();
+        }
+        let act = task.script.act(place, turn, random);
+        if take_turn(rt, task, line, seat, log, act).is_none() {
+            return false;
+        }
+    }
+    true
+}
+
+/// The thread of a place: it follows the script, and closes the line.
+fn serve<N: LineName, R: Wait + Clock + Abort + Copy>(
+    rt: R,
+    task: Task,
+    line: SeatLine<N>,
+    seat: Seat<N>,
+) -> (Log, LineEnd<N>) {
+    let (mut line, mut seat) = (line, seat);
+    let mut log = Log::new(task.alloc, line.place());
+    log.is_whole = follow(&rt, &task, &mut line, &mut seat, &mut log);
+    log.serial = line.serial();
+    let end = line.close(&rt);
+    log.sent = end.sent();
+    task.counts.ended.fetch_add(1, Ordering::SeqCst);
+    (log, end)
+}
+
+/// The thread of the writer.
+fn write<N: LineName, R: Wait + Clock + Copy>(
+    rt: R,
+    queue: Queue<N>,
+    writer: VersionWriter<N, R>,
+    writing: Writing,
+) -> Option<Ended<N, R>>
+    requires empty { kept_of writer ≡ [] }
+{
+    match writing {
+        Writing::All => Some(run_writer(&rt, queue, writer)),
+        Writing::Most(jobs) => Some(run_writer_for(&rt, queue, writer, jobs)),
+        Writing::Never => {
+            sleep(&rt, Duration::from_millis(PAUSE));
+            drop(queue);
+            None
+        }
+    }
+}
+
+fn start_one<
+    N: LineName + Send + Sync + 'static,
+    R: Threads + Wait + Clock + Abort + Copy + Send + Sync + 'static,
+>(
+    rt: R,
+    task: Task,
+    line: SeatLine<N>,
+    seat: Seat<N>,
+) -> Result<JoinHandle<(Log, LineEnd<N>)>, Fail> {
+    Ok(spawn(&rt, move || serve(rt, task, line, seat))?)
+}
+
+fn task_of(plan: Plan, counts: &Arc<Counts>) -> Option<Task> {
+    let counts = Arc::try_clone(counts).ok()?;
+    Some(Task {
+        alloc: plan.alloc,
+        places: plan.places,
+        script: plan.script,
+        counts,
+    })
+}
+
+/// A thread for each place.
+fn start<
+    N: LineName + Send + Sync + 'static,
+    R: Threads + Wait + Clock + Abort + Copy + Send + Sync + 'static,
+>(
+    rt: R,
+    plan: Plan,
+    counts: &Arc<Counts>,
+    lines: Vec<SeatLine<N>>,
+    seats: Vec<Seat<N>>,
+) -> Result<Vec<JoinHandle<(Log, LineEnd<N>)>>, Fail> {
+    let mut seats = seats;
+    let mut handles = Vec::new(plan.alloc);
+    for line in lines {
+        match (seats.pop(), task_of(plan, counts)) {
+            (Some(seat), Some(task)) => handles.push(start_one(rt, task, line, seat)?)?,
+            _ => return Err(Fail::from("a seat and memory for each place")),
+        }
+    }
+    Ok(handles)
+}
+
+fn totals_of<N: LineName, R: Wait + Drop>(
+    alloc: Global,
+    ended: Ended<N, R>,
+    ends: Vec<LineEnd<N>>,
+) -> Totals {
+    let mut ended = ended;
+    let without_lines = settle(Vec::new(alloc), &mut ended).is_ok();
+    Totals {
+        taken: ended.taken,
+        refused: ended.refused,
+        holds_none: ended.held.is_none(),
+        version: ended.writer.tell().version(),
+        without_lines,
+        settled: settle(ends, &mut ended).ok(),
+    }
+}
+
+/// The logs and the ends of all lines.
+fn join<N: LineName, R: Threads>(
+    rt: &R,
+    alloc: Global,
+    handles: Vec<JoinHandle<(Log, LineEnd<N>)>>,
+) -> Result<(Vec<Log>, Vec<LineEnd<N>>), AllocError> {
+    let (mut logs, mut ends) = (Vec::new(alloc), Vec::new(alloc));
+    for handle in handles {
+        let (log, end) = handle.join(rt);
+        logs.push(log).map_err(|_| AllocError)?;
+        ends.push(end).map_err(|_| AllocError)?;
+    }
+    Ok((logs, ends))
+}
+
+fn finish<N: LineName, R: Threads + Wait + Copy>(
+    rt: &R,
+    alloc: Global,
+    writer: JoinHandle<Option<Ended<N, R>>>,
+    handles: Vec<JoinHandle<(Log, LineEnd<N>)>>,
+) -> Result<Outcome, Fail> {
+    let (logs, ends) = join(rt, alloc, handles)?;
+    let totals = match writer.join(rt) {
+        Some(ended) => Some(totals_of(alloc, ended, ends)),
+        None => None,
+    };
+    Ok(Outcome { logs, totals })
+}
+
+fn run_named<
+    N: LineName + Send + Sync + 'static,
+    R: Threads + Wait + Clock + Abort + Copy + Send + Sync + 'static,
+>(rt: R, blank: Blank, queue: BlankQueue, plan: Plan, counts: &Arc<Counts>) -> Result<Outcome, Fail>
+    requires store { (blank.history ≡ N.history) × (blank.limit ≡ N.limit) }
+    requires queue { (queue.name ≡ N.queue) × (queue.places ≡ N.places) }
+{
+    let (_intake, lines, queue) = queue.open::<N>()?;
+    let (writer, seats) = blank.open::<N, R>(rt)?;
+    let handles = start(rt, plan, counts, lines, seats)?;
+    let writing = plan.writing;
+    let writer = spawn(&rt, move || write(rt, queue, writer, writing))?;
+    watch(&rt, &counts.ended, u64::from(plan.places));
+    finish(&rt, plan.alloc, writer, handles)
+}
+
+/// Runs all threads to their end. Each place has to take all turns.
+pub(crate) fn run<R: Threads + Wait + Clock + Abort + Copy + Send + Sync + 'static>(
+    rt: R,
+    plan: Plan,
+) -> Result<Outcome, Fail>
+    requires { (0 < plan.places) × (plan.places ≤ MAX_PLACES) }
+{
+    let counts = Arc::new(
+        plan.alloc,
+        Counts {
+            met: AtomicU64::new(0),
+            ended: AtomicU64::new(0),
+        },
+    )?;
+    let blank = blank_store(plan.alloc, plan.limit, plan.places)?;
+    let queue = blank_queue(plan.alloc, plan.places)?;
+    run_named::<Brand, R>(rt, blank, queue, plan, &counts)
+}

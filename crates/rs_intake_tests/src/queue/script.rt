@@ -1,0 +1,183 @@
+//! What the places of a run do.
+
+ghost use Rattle.std.specs.Prelude.{◌≡◌, false, IfSome};
+ghost use Rattle.rs_message.specs.Messages.{is_sweep};
+
+use crate::samples::{PAYLOAD, clear, set_at};
+use rs_message::{MAX_PLACES, Operation};
+use rs_topic::MAX_TEXT_SIZE;
+use std::alloc::Global;
+
+/// How many Sets a place of `Hundred` and of `Beside` submits.
+pub(crate) const SETS: u32 = 100;
+
+/// How often a place of `Beside` reads meanwhile.
+const READS: u32 = 500;
+
+/// What a place does in one turn.
+#[derive(Clone, Copy)]
+pub(crate) enum Act {
+    /// Submits a Set: its topic, its payload, the moment at which the message came, and for how long it lasts.
+    Set([u8; 2], [u8; 2], u64, Option<u32>),
+    /// Submits the Set of the longest topic, with as long a payload as fits.
+    Largest,
+    /// Submits the Clear of a topic.
+    Clear([u8; 2]),
+    /// Reads all messages at this moment.
+    Read(u64),
+    /// Waits until all places have come to their meeting of this number.
+    Meet(u64),
+    Nothing,
+}
+
+/// What the places do, turn by turn.
+#[derive(Clone, Copy)]
+pub(crate) enum Script {
+    /// Five changes of four topics.
+    Changes,
+    /// The first two of these changes.
+    Two,
+    /// Sets of the place's own topic, with their numbers. Then the places meet, and read.
+    Hundred,
+    /// The last place submits the largest entry, and reads it.
+    Largest,
+    /// The first place submits Sets, and the others read. Then they meet, and read.
+    Beside,
+    /// Three rounds: a Set of a new topic, which lasts for a second, and a meeting. Then all read.
+    Rounds,
+    /// Sets, Clears and reads at random, from this seed.
+    Random(u64),
+}
+
+impl Script {
+    /// How many turns there are.
+    pub(crate) fn turns(&self) -> u32 {
+        match self {
+            Script::Changes => 5,
+            Script::Two | Script::Largest => 2,
+            Script::Hundred => 102,
+            Script::Beside => 502,
+            Script::Rounds => 7,
+            Script::Random(_) => 12,
+        }
+    }
+
+    /// What the place does in this turn.
+    pub(crate) fn act(&self, place: u8, turn: u32, random: u64) -> Act {
+        match self {
+            Script::Changes | Script::Two => change_at(turn),
+            Script::Hundred => act_of_hundred(place, turn),
+            Script::Largest if place < MAX_PLACES => Act::Nothing,
+            Script::Largest if turn == 0 => Act::Largest,
+            Script::Largest => Act::Read(u64::MAX),
+            Script::Beside => act_beside(place, turn),
+            Script::Rounds => act_of_round(place, turn),
+            Script::Random(_) => any_act(place, turn, random),
+        }
+    }
+}
+
+/// Text of two letters, the first of which is of the place.
+fn pair(place: u8, number: u32) -> [u8; 2] {
+    [
+        b'0'.saturating_add(place),
+        b'0'.saturating_add((number % 128) as u8),
+    ]
+}
+
+fn set(topic: [u8; 2], payload: [u8; 2]) -> Act {
+    Act::Set(topic, payload, 0, None)
+}
+
+fn change_at(turn: u32) -> Act {
+    match turn {
+        0 => set(*b"a0", *b"00"),
+        1 => set(*b"b0", *b"01"),
+        2 => set(*b"c0", *b"02"),
+        3 => set(*b"a0", *b"03"),
+        _ => Act::Clear(*b"d0"),
+    }
+}
+
+fn act_of_hundred(place: u8, turn: u32) -> Act {
+    if turn < SETS {
+        return set(pair(place, 0), pair(0, turn));
+    }
+    if turn == SETS {
+        return Act::Meet(1);
+    }
+    Act::Read(0)
+}
+
+/// The payload of the last Set of `Hundred`.
+pub(crate) fn last_of_hundred() -> [u8; 2] {
+    pair(0, SETS - 1)
+}
+
+fn act_beside(place: u8, turn: u32) -> Act {
+    if turn == READS {
+        return Act::Meet(1);
+    }
+    if place > 1 || turn > READS {
+        return Act::Read(0);
+    }
+    if turn < SETS {
+        return set(*b"a0", pair(0, turn));
+    }
+    Act::Nothing
+}
+
+/// The moments of the rounds are 10, 20 and 30.
+fn act_of_round(place: u8, turn: u32) -> Act {
+    if turn > 5 {
+        return Act::Read(30);
+    }
+    let round = turn / 2 + 1;
+    if turn % 2 == 1 {
+        return Act::Meet(u64::from(round));
+    }
+    Act::Set(pair(place, round), *b"00", u64::from(round) * 10, Some(1))
+}
+
+/// In a third of the turns a read, else a Set of one of four topics, three of four times, or its Clear.
+fn any_act(place: u8, turn: u32, random: u64) -> Act {
+    if random / 64 % 3 == 0 {
+        return Act::Read(0);
+    }
+    let topic = [b'0'.saturating_add((random % 4) as u8), b'0'];
+    if random / 4 % 4 == 0 {
+        return Act::Clear(topic);
+    }
+    set(topic, pair(place, turn))
+}
+
+fn repeated(alloc: Global, byte: u8, count: usize) -> Option<Vec<u8>> {
+    let mut bytes = Vec::new(alloc);
+    for _ in 0..count {
+        bytes.push(byte).ok()?;
+    }
+    Some(bytes)
+}
+
+pub(crate) fn largest(alloc: Global) -> Option<Operation>
+    ensures { IfSome result (λ o. is_sweep o ≡ false) }
+{
+    let topic = repeated(alloc, b'a', MAX_TEXT_SIZE)?;
+    let payload = repeated(alloc, b'x', PAYLOAD)?;
+    let (topic, payload) = (topic.as_slice(), payload.as_slice());
+    set_at(alloc, topic, payload, u64::MAX, Some(u32::MAX))
+}
+
+/// The operation that is submitted. `None` if nothing is, or if memory is refused.
+pub(crate) fn operation_of(alloc: Global, act: Act) -> Option<Operation>
+    ensures { IfSome result (λ o. is_sweep o ≡ false) }
+{
+    match act {
+        Act::Set(topic, payload, received, expiry) => {
+            set_at(alloc, &topic, &payload, received, expiry)
+        }
+        Act::Largest => largest(alloc),
+        Act::Clear(topic) => clear(alloc, &topic),
+        Act::Read(_) | Act::Meet(_) | Act::Nothing => None,
+    }
+}
