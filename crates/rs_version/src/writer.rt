@@ -68,6 +68,27 @@ fn judge_on(catalogue: &Kept, calm: &mut Calm, entry: &Entry) -> Result<Option<E
     }
 }
 
+/// Adds an entry to the history: its step, and the list with it. Its copy is made first, so a refusal leaves the history as it was.
+fn next_step<N: StoreName>(
+    list: &KnownList<N>,
+    history_word: &HistoryWord<N>,
+    entry: &Entry,
+) -> Result<(Step, KnownList<N>), AllocError>
+    requires { IsLegal N.limit (extended list.now entry.now) }
+    ensures step { IfOk result (λ r. (r.0.entry ≡ entry.now) × (r.0.after.history ≡ N.history) × (r.0.after.log ≡ r.1)) }
+    ensures list { IfOk result (λ r. r.1 ≡ extended list.now entry.now) }
+{
+    let copy = entry.copy()?;
+    let Some(list) = list.followed(history_word, entry) else {
+        return Err(AllocError);
+    };
+    let step = Step {
+        entry: copy,
+        after: list.prefix(),
+    };
+    Ok((step, list))
+}
+
 impl<N: StoreName, R: Wait + Drop> Drop for VersionWriter<N, R> {
     fn drop(self) {
         let VersionWriter {
@@ -130,7 +151,7 @@ impl<N: StoreName, R: Wait + Drop> VersionWriter<N, R> {
         judge_on(self.copies.catalogue(), &mut self.calm, entry)
     }
 
-    /// Appends the entry, which is held from then on. Its copy is made first, so a refusal leaves the history as it was.
+    /// Appends the entry, which is held from then on.
     fn append(&mut self, entry: Entry) -> Result<(), AllocError>
         requires none { self.old.held ≡ None }
         requires legal { IsLegal N.limit (extended self.old.published entry) }
@@ -138,15 +159,9 @@ impl<N: StoreName, R: Wait + Drop> VersionWriter<N, R> {
     {
         // For the proof: these calls say which places and serials an origin may have.
         let (_place, _serial) = (entry.origin.place(), entry.origin.serial());
-        let copy = entry.copy()?;
         let calm = self.calm.after(&entry);
-        let Some(list) = self.list.followed(&self.history_word, &entry) else {
-            return Err(AllocError);
-        };
-        self.copies.push(Step {
-            entry: copy,
-            after: list.prefix(),
-        });
+        let (step, list) = next_step(&self.list, &self.history_word, &entry)?;
+        self.copies.push(step);
         self.list = list;
         self.calm = calm;
         self.held = Some(entry);
