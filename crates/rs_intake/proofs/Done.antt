@@ -8,7 +8,7 @@ use Rattle.rs_store.specs.Adding.{Adds}
 use Rattle.rs_store.specs.History.{SerialsRise, cleaned, extended}
 use Rattle.rs_version.specs.Writer.{Refuses, Written, kept_of, shows}
 use Rattle.rs_version.specs.declared.fault.PutFault.TheVariants.{Full, Held, NoMemory, Stale}
-use Rattle.rs_intake.specs.Done.{Answer, AreDone, IsDone, IsWritten, accepted, is_refused, refused_in}
+use Rattle.rs_intake.specs.Done.{Answer, AreDone, IsDone, IsPut, IsWritten, accepted, is_refused, refused_in}
 use Rattle.rs_intake.specs.Parts.{IsPart}
 use Rattle.rs_intake.specs.Sweeps.{AreForJobs, IsSweptAtMost, without_sweeps}
 use Rattle.rs_intake.proofs.Sweeps.{Serves, adds_kept, held_kept, no_memory_kept, serves_job, serves_refused, serves_start, settled_kept, without_cleaned, without_more}
@@ -33,6 +33,11 @@ put_done limit w w' e (Err Full) rises adds entry number told refuses = (refuses
 put_done limit w w' e (Err Stale) rises adds entry number told refuses = refuses.0 rises
 put_done limit w w' e (Err NoMemory) rises adds entry number told refuses = no_memory_kept limit w e w' refuses
 put_done limit w w' e (Err Held) rises adds entry number told refuses = held_kept limit w e w' refuses
+
+pub put_is : (limit : ℕ) (w w' : Written) (e : Entry) (answer : Answer) → OnOk answer (Adds limit (kept_of w) e (λ list. w' ≡ shows list)) → IfOk answer (λ r. r.entry ≡ e)
+    → IfOk answer (λ r. r.number ≡ length w'.published) → IfOk answer (λ r. r.told ≡ w'.published) → IfErr answer (λ f. Refuses limit w e f w') → IsPut limit w e answer w'
+put_is limit w w' e (Ok r) adds entry number told refuses = (adds, (entry, number, told))
+put_is limit w w' e (Err f) adds entry number told refuses = refuses
 
 -- ---- one job after the other
 

@@ -87,6 +87,12 @@ are_for_same limit jobs jobs' kept kept' same alike a =
     let Q : List Entry → Type 0 = λ l. AreForJobs limit jobs l in
     subst P (sym same) (subst Q (sym alike) a)
 
+pub part_same : (jobs jobs' kept kept' : List Entry) → jobs' ≡ jobs → kept' ≡ kept → IsPart (without_sweeps kept) jobs → IsPart (without_sweeps kept') jobs'
+part_same jobs jobs' kept kept' same alike is =
+    let P : List Entry → Type 0 = λ l. IsPart (without_sweeps kept') l in
+    let Q : List Entry → Type 0 = λ l. IsPart (without_sweeps l) jobs in
+    subst P (sym same) (subst Q (sym alike) is)
+
 -- what the jobs serve, after one more
 abbrev pub OneMore : ℕ → List Entry → List Entry → List Entry → Type 0
 OneMore limit jobs kept kept' = Serves limit jobs kept' × (length (without_sweeps kept') ≡ length (without_sweeps kept) + 1)

@@ -1,7 +1,12 @@
-use Rattle.rs_intake.proofs.Done.{put_done}
+use Rattle.rs_intake.proofs.Done.{put_done, put_is}
 use Rattle.rs_intake.proofs.telling.reply_to.Goals as goal
 
 pub returns-clause-done : goal.returns-clause-done
 returns-clause-done g c =
     let e = c.put-answer.ensures in
     put_done _ _ _ _ c.put-answer.result c.requires.rises e.published e.entry e.number e.told e.refused
+
+pub returns-clause-put : goal.returns-clause-put
+returns-clause-put g c =
+    let e = c.put-answer.ensures in
+    put_is _ _ _ _ c.put-answer.result e.published e.entry e.number e.told e.refused

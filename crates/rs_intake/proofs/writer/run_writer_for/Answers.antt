@@ -7,7 +7,8 @@ use Rattle.rs_intake.specs.QueueRule.{ends_of, entries_of}
 use Rattle.rs_intake.specs.declared.ending.Cause.TheVariants.{AllEnded, MostTaken, QueueGone}
 use Rattle.rs_intake.proofs.Done.{adds_if_done, swept_if_done, written_same, written_with}
 use Rattle.rs_intake.proofs.Endings.{all_ended, cause_same}
-use Rattle.rs_intake.proofs.Sweeps.{Serves, are_for_same, job_rises, retried_kept, serves_job, serves_refused}
+use Rattle.rs_intake.specs.Sweeps.{without_sweeps}
+use Rattle.rs_intake.proofs.Sweeps.{Serves, are_for_same, job_rises, part_same, retried_kept, serves_job, serves_refused}
 use Rattle.rs_intake.proofs.writer.run_writer_for.Given as given
 use Rattle.rs_intake.proofs.writer.run_writer_for.Goals as goal
 use Rattle.rs_intake.proofs.writer.run_writer_for.Goals.{in-None, in-Some+then-taken-most, in-Some+else-taken-most+in-Ok-End+then-open-eq0, in-Some+else-taken-most+in-Err}
@@ -81,6 +82,14 @@ loop-preserved-else-is_refused g c =
       ap (λ (l : List ℕ). c.loop.open + length l) ends ∙ i.7,
       i.8,
     )
+
+pub returns-clause-part : goal.returns-clause-part
+returns-clause-part g c = part_same c.loop.jobs.entries _ (kept_of c.loop.writer) _ (same_entries g c) (same_kept g c) c.loop.invariant.1.part
+
+pub returns-clause-refused : goal.returns-clause-refused
+returns-clause-refused g c =
+    let v = c.new.ensures.values in
+    omega (arith, ap (λ (l : List Entry). length (without_sweeps l)) (same_kept g c), v.1, v.2, c.loop.invariant.3)
 
 pub returns-clause-sweeps : goal.returns-clause-sweeps
 returns-clause-sweeps g c = are_for_same g.N.StoreName.limit c.loop.jobs.entries _ (kept_of c.loop.writer) _ (same_entries g c) (same_kept g c) c.loop.invariant.1.sweeps

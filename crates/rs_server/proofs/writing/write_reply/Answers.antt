@@ -1,4 +1,4 @@
-use Rattle.std.proofs.Common.{subst, List, ℕ, ◌∙◌}
+use Rattle.std.proofs.Common.{rules, subst, List, ℕ, ◌∙◌}
 use Rattle.rs_server.specs.Counts.{inner_of}
 use Rattle.rs_server.specs.Writing.{AppendsFront}
 use Rattle.rs_server.proofs.Written.{all_in_front}
@@ -10,3 +10,6 @@ returns-clause-bytes g c =
     let mid = g.W.Write.contents (inner_of c.write_bytes.new.writer) in
     let last = g.W.Write.contents (inner_of c.flush.new.self) in
     subst (λ (l : List ℕ). AppendsFront first last l) (c.as_slice.ensures ∙ c.in-Ok.ensures.bytes) (all_in_front first mid last c.as_slice.result.now c.in_ok-write_bytes.ensures.bytes c.flush.ensures.bytes)
+
+pub returns-clause-cause : goal.returns-clause-cause
+returns-clause-cause g c = search rules
