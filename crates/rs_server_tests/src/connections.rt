@@ -1,37 +1,41 @@
-mod assigned;
 mod counted;
 mod gate;
 mod handed;
-mod long;
 mod streams;
-mod sweeping;
 
 use rs_server::ServeFault;
+use std::alloc::Global;
 use std::test::Fail;
+
+/// Each fault, its number and its text.
+const FAULTS: &[(ServeFault, u8, &str)] = &[
+    (
+        ServeFault::Read,
+        60,
+        "reading from the client failed; check the connection",
+    ),
+    (
+        ServeFault::Write,
+        61,
+        "writing to the client failed; check that it still reads",
+    ),
+    (
+        ServeFault::NoMemory,
+        62,
+        "out of memory to serve the connection; try again with fewer clients",
+    ),
+];
+
+fn is_shown(alloc: Global, fault: ServeFault, text: &str) -> Result<bool, Fail> {
+    let shown = format!(in alloc; "{fault}")?;
+    Ok(shown.as_str() == text)
+}
 
 #[test]
 fn faults_have_a_code_and_a_text(rt: HostRuntime) -> Result<(), Fail> {
-    let faults = [
-        (
-            ServeFault::Read,
-            60,
-            "reading from the client failed; check the connection",
-        ),
-        (
-            ServeFault::Write,
-            61,
-            "writing to the client failed; check that it still reads",
-        ),
-        (
-            ServeFault::NoMemory,
-            62,
-            "out of memory to serve the connection; try again with fewer clients",
-        ),
-    ];
-    for (fault, code, text) in faults {
-        assert!(rt; fault.code() == code);
-        let found = format!(in rt.alloc(); "{fault}")?;
-        assert!(rt; found.as_str() == text);
+    for (fault, code, text) in FAULTS {
+        assert!(rt; fault.code() == *code);
+        assert!(rt; is_shown(rt.alloc(), *fault, text)?);
     }
     Ok(())
 }

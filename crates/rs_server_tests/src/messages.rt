@@ -4,7 +4,7 @@ ghost use Rattle.std.specs.Prelude.{◌≢◌, ◌≤◌, [], length};
 
 use bytes::Bytes;
 use rs_message::{Entry, MAX_PLACES, Message, Operation, Origin, Remaining, SubmitFault};
-use rs_packet::{Properties, Qos};
+use rs_packet::{MessageContent, Properties, Qos};
 use rs_topic::TopicName;
 use std::alloc::{AllocError, Global};
 use std::test::Fail;
@@ -27,24 +27,28 @@ fn received_at_100(
     )
 }
 
-#[test]
-fn interval_of_10(rt: HostRuntime) -> Result<(), Fail> {
-    let message = received_at_100(rt.alloc(), b"x", Some(10))?;
-    assert!(rt; message.remaining(100) == Remaining::Left(10));
-    assert!(rt; message.remaining(109) == Remaining::Left(1));
-    assert!(rt; message.remaining(110) == Remaining::Expired);
-    assert!(rt; message.remaining(99) == Remaining::Left(10));
-    assert!(rt; message.remaining(u64::MAX) == Remaining::Expired);
-    Ok(())
+/// The interval of a message that was received at 100, a moment, and what is left of the interval then.
+const LEFT: &[(Option<u32>, u64, Remaining)] = &[
+    (Some(10), 100, Remaining::Left(10)),
+    (Some(10), 109, Remaining::Left(1)),
+    (Some(10), 110, Remaining::Expired),
+    (Some(10), 99, Remaining::Left(10)),
+    (Some(10), u64::MAX, Remaining::Expired),
+    (Some(0), 0, Remaining::Expired),
+    (Some(0), 100, Remaining::Expired),
+    (None, u64::MAX, Remaining::Forever),
+];
+
+fn left_at(alloc: Global, expiry: Option<u32>, now: u64) -> Result<Remaining, AllocError> {
+    let message = received_at_100(alloc, b"x", expiry)?;
+    Ok(message.remaining(now))
 }
 
 #[test]
-fn interval_of_0_and_none(rt: HostRuntime) -> Result<(), Fail> {
-    let at_once = received_at_100(rt.alloc(), b"x", Some(0))?;
-    assert!(rt; at_once.remaining(0) == Remaining::Expired);
-    assert!(rt; at_once.remaining(100) == Remaining::Expired);
-    let for_ever = received_at_100(rt.alloc(), b"x", None)?;
-    assert!(rt; for_ever.remaining(u64::MAX) == Remaining::Forever);
+fn intervals_run_out(rt: HostRuntime) -> Result<(), Fail> {
+    for (expiry, now, left) in LEFT {
+        assert!(rt; left_at(rt.alloc(), *expiry, *now)? == *left);
+    }
     Ok(())
 }
 
@@ -80,13 +84,6 @@ fn published(
     )?)
 }
 
-fn clears(operation: &Option<Operation>) -> bool {
-    match operation {
-        Some(Operation::Clear(topic)) => topic.as_bytes() == b"a/b".as_slice(),
-        _ => false,
-    }
-}
-
 fn is_x(message: &Message) -> bool {
     message.payload().as_slice() == b"x".as_slice()
         && message.qos() == Qos::ExactlyOnce
@@ -95,27 +92,24 @@ fn is_x(message: &Message) -> bool {
         && message.properties().fields().is_none()
 }
 
-fn sets(operation: &Option<Operation>) -> bool {
+/// What a PUBLISH does: nothing, or it clears its topic, or it sets it to a message with the payload `x`. `None` if it does otherwise.
+#[derive(Clone, Copy, PartialEq, Eq)]
+enum Done {
+    Nothing,
+    Clears,
+    Sets,
+}
+
+fn what_is_done(operation: &Option<Operation>) -> Option<Done> {
     match operation {
-        Some(Operation::Set(topic, message)) => {
-            topic.as_bytes() == b"a/b".as_slice() && is_x(message)
-        }
-        _ => false,
+        Some(Operation::Clear(topic)) if topic.as_bytes() == b"a/b".as_slice() => Some(
+            Done::Clears,
+        ),
+        Some(Operation::Set(topic, message))
+            if topic.as_bytes() == b"a/b".as_slice() && is_x(message) => { Some(Done::Sets) }
+        Some(_) => None,
+        None => Some(Done::Nothing),
     }
-}
-
-#[test]
-fn without_retain(rt: HostRuntime) -> Result<(), Fail> {
-    assert!(rt; published(rt.alloc(), false, b"x", None)?.is_none());
-    assert!(rt; published(rt.alloc(), false, b"", None)?.is_none());
-    Ok(())
-}
-
-#[test]
-fn an_empty_payload_clears(rt: HostRuntime) -> Result<(), Fail> {
-    let operation = published(rt.alloc(), true, b"", Some(9))?;
-    assert!(rt; clears(&operation));
-    Ok(())
 }
 
 fn copy_of(operation: &Option<Operation>) -> Result<Option<Operation>, AllocError> {
@@ -125,13 +119,22 @@ fn copy_of(operation: &Option<Operation>) -> Result<Option<Operation>, AllocErro
     }
 }
 
-#[test]
-fn a_payload_is_kept(rt: HostRuntime) -> Result<(), Fail> {
-    let operation = published(rt.alloc(), true, b"x", Some(9))?;
-    assert!(rt; sets(&operation));
+/// Whether a PUBLISH with this RETAIN and payload, and its copy, does what is wanted.
+fn does(alloc: Global, retain: bool, payload: &'static [u8], wanted: Done) -> Result<bool, Fail>
+    requires { length payload.now ≤ 1000 }
+{
+    let operation = published(alloc, retain, payload, Some(9))?;
     let copy = copy_of(&operation)?;
-    assert!(rt; sets(&copy));
-    assert!(rt; copy == operation);
+    let are_done = what_is_done(&operation) == Some(wanted) && what_is_done(&copy) == Some(wanted);
+    Ok(are_done && copy == operation)
+}
+
+#[test]
+fn retain_and_payload_say_what_is_done(rt: HostRuntime) -> Result<(), Fail> {
+    assert!(rt; does(rt.alloc(), false, b"x", Done::Nothing)?);
+    assert!(rt; does(rt.alloc(), false, b"", Done::Nothing)?);
+    assert!(rt; does(rt.alloc(), true, b"", Done::Clears)?);
+    assert!(rt; does(rt.alloc(), true, b"x", Done::Sets)?);
     Ok(())
 }
 
@@ -149,44 +152,50 @@ fn entry_of_set(alloc: Global) -> Result<Entry, Fail> {
     Ok(Entry { origin, operation })
 }
 
-fn is_copied(entry: &Entry) -> Result<bool, AllocError> {
+/// Whether a copy of an entry equals it, and the entry differs from a Clear of a/b at place 1 with the serial 2.
+fn is_copied(alloc: Global, entry: &Entry) -> Result<bool, Fail> {
     let copy = entry.copy()?;
-    Ok(copy == *entry)
-}
-
-fn is_cleared(entry: &Entry, alloc: Global, place: u8, serial: u64) -> Result<bool, Fail> {
-    let other = cleared(alloc, place, serial)?;
-    Ok(*entry == other)
+    let other = cleared(alloc, 1, 2)?;
+    Ok(copy == *entry && *entry != other)
 }
 
 #[test]
 fn a_clear_is_copied(rt: HostRuntime) -> Result<(), Fail> {
     let entry = cleared(rt.alloc(), 1, 1)?;
-    assert!(rt; is_copied(&entry)?);
-    assert!(rt; !is_cleared(&entry, rt.alloc(), 1, 2)?);
+    assert!(rt; is_copied(rt.alloc(), &entry)?);
     Ok(())
 }
 
 #[test]
 fn a_set_is_copied(rt: HostRuntime) -> Result<(), Fail> {
     let entry = entry_of_set(rt.alloc())?;
-    assert!(rt; is_copied(&entry)?);
-    assert!(rt; !is_cleared(&entry, rt.alloc(), 1, 1)?);
+    assert!(rt; is_copied(rt.alloc(), &entry)?);
     Ok(())
+}
+
+fn is_received_at_100(message: &Message) -> bool {
+    message.payload().as_slice() == b"x".as_slice()
+        && message.qos() == Qos::AtLeastOnce
+        && message.received() == 100
+        && message.expiry() == Some(10)
+}
+
+fn is_content(content: &MessageContent) -> bool {
+    content.payload().as_slice() == b"x".as_slice() && content.properties().fields().is_none()
+}
+
+/// Whether a copy of a message that was received at 100 equals it, and differs from one with another interval.
+fn is_message_copied(alloc: Global) -> Result<bool, AllocError> {
+    let message = received_at_100(alloc, b"x", Some(10))?;
+    let copy = message.copy()?;
+    let other = received_at_100(alloc, b"x", Some(11))?;
+    let is_same = copy == message && copy != other && is_received_at_100(&copy);
+    Ok(is_content(&copy.into_content()) && is_same)
 }
 
 #[test]
 fn a_message_is_copied(rt: HostRuntime) -> Result<(), Fail> {
-    let message = received_at_100(rt.alloc(), b"x", Some(10))?;
-    let copy = message.copy()?;
-    assert!(rt; copy == message);
-    assert!(rt; copy != received_at_100(rt.alloc(), b"x", Some(11))?);
-    assert!(rt; copy.qos() == Qos::AtLeastOnce);
-    assert!(rt; copy.received() == 100);
-    assert!(rt; copy.expiry() == Some(10));
-    let content = copy.into_content();
-    assert!(rt; content.payload().as_slice() == b"x".as_slice());
-    assert!(rt; content.properties().fields().is_none());
+    assert!(rt; is_message_copied(rt.alloc())?);
     Ok(())
 }
 
@@ -207,31 +216,26 @@ fn of_payload(alloc: Global, payload: &[u8], expiry: Option<u32>) -> Result<Mess
     )
 }
 
-/// The largest payload that the tests send.
-fn large_payload(alloc: Global) -> Result<Vec<u8>, AllocError> {
-    let mut bytes = Vec::new(alloc);
-    for _ in 0..262_000 {
-        bytes.push(b'x')?;
-    }
-    Ok(bytes)
-}
-
+/// A message with the largest payload that the tests send.
 fn large_message(alloc: Global) -> Result<Message, Fail> {
-    let payload = large_payload(alloc)?;
+    let payload = vec![in alloc; b'x'; 262_000]?;
     if payload.is_empty() || payload.len() > 262_000 {
         return Err(Fail::from("the payload has another size"));
     }
     Ok(of_payload(alloc, &payload, Some(u32::MAX))?)
 }
 
+fn is_large(message: &Message) -> bool {
+    message.payload().len() == 262_000
+        && message.received() == u64::MAX
+        && message.expiry() == Some(u32::MAX)
+}
+
 #[test]
 fn a_large_message_is_copied(rt: HostRuntime) -> Result<(), Fail> {
     let message = large_message(rt.alloc())?;
-    assert!(rt; message.payload().len() == 262_000);
     let copy = message.copy()?;
-    assert!(rt; copy == message);
-    assert!(rt; copy.received() == u64::MAX);
-    assert!(rt; copy.expiry() == Some(u32::MAX));
+    assert!(rt; copy == message && is_large(&copy));
     Ok(())
 }
 
@@ -241,43 +245,49 @@ fn an_entry_of_a_large_message_is_copied(rt: HostRuntime) -> Result<(), Fail> {
     let topic = TopicName::read(rt.alloc(), b"a/b")?;
     let operation = Operation::Set(topic, large_message(rt.alloc())?);
     let entry = Entry { origin, operation };
-    assert!(rt; is_copied(&entry)?);
+    assert!(rt; is_copied(rt.alloc(), &entry)?);
     Ok(())
+}
+
+/// Each fault, its number and its text.
+const FAULTS: &[(SubmitFault, u8, &str)] = &[
+    (
+        SubmitFault::Full,
+        40,
+        "the store holds as many topics as it may, or has no number left; clear a topic or raise the limit",
+    ),
+    (
+        SubmitFault::NoMemory,
+        41,
+        "memory was refused, and nothing was stored; free memory and try again",
+    ),
+    (
+        SubmitFault::Open,
+        42,
+        "the store gave no receipt; the change may still be made, once",
+    ),
+    (
+        SubmitFault::Strange,
+        43,
+        "the store answered for another change; whether this one was made is not known",
+    ),
+    (
+        SubmitFault::Closed,
+        44,
+        "the store takes no more changes; start it again",
+    ),
+];
+
+fn is_shown(alloc: Global, fault: SubmitFault, text: &str) -> Result<bool, Fail> {
+    let shown = format!(in alloc; "{fault}")?;
+    Ok(shown.as_str() == text)
 }
 
 #[test]
 fn faults_have_codes_and_texts(rt: HostRuntime) -> Result<(), Fail> {
-    let rows: [(SubmitFault, u8, &str); 5] = [
-        (
-            SubmitFault::Full,
-            40,
-            "the store holds as many topics as it may, or has no number left; clear a topic or raise the limit",
-        ),
-        (
-            SubmitFault::NoMemory,
-            41,
-            "memory was refused, and nothing was stored; free memory and try again",
-        ),
-        (
-            SubmitFault::Open,
-            42,
-            "the store gave no receipt; the change may still be made, once",
-        ),
-        (
-            SubmitFault::Strange,
-            43,
-            "the store answered for another change; whether this one was made is not known",
-        ),
-        (
-            SubmitFault::Closed,
-            44,
-            "the store takes no more changes; start it again",
-        ),
-    ];
-    for (fault, code, text) in rows {
-        assert!(rt; fault.code() == code);
-        let shown = format!(in rt.alloc(); "{fault}")?;
-        assert!(rt; shown.as_str() == text);
+    for (fault, code, text) in FAULTS {
+        assert!(rt; fault.code() == *code);
+        assert!(rt; is_shown(rt.alloc(), *fault, text)?);
     }
     Ok(())
 }

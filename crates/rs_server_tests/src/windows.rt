@@ -1,7 +1,5 @@
 //! Worked examples: what is given, in which order, and with which identifiers.
 
-ghost use Rattle.std.specs.Prelude.{◌≢◌, ◌<◌, ◌≤◌, [], length};
-
 use bytes::Bytes;
 use rs_message::{Found, Message};
 use rs_packet::{PacketId, Properties, Qos, RECEIVE_MAXIMUM, SubscriptionId, encode};
@@ -11,7 +9,7 @@ use std::alloc::Global;
 use std::process::Abort;
 use std::test::Fail;
 
-/// A retained message that was received at 0.
+/// A retained message that was received at 0. Its payload is not empty, and short.
 #[tactic(auto, using(rs_message::proofs::Sizes::small_message))]
 fn found(
     alloc: Global,
@@ -19,20 +17,14 @@ fn found(
     payload: &'static [u8],
     qos: Qos,
     expiry: Option<u32>,
-) -> Option<Found>
-    requires some { payload.now ≢ [] }
-    requires small { length payload.now ≤ 1000 }
-{
+) -> Option<Found> {
+    if payload.is_empty() || payload.len() > 1000 {
+        return None;
+    }
     let topic = TopicName::read(alloc, topic).ok()?;
     let payload = Bytes::from_static(payload);
     let message = Message::new(alloc, payload, qos, 0, expiry, Properties::none()).ok()?;
     Some(Found { topic, message })
-}
-
-fn one(alloc: Global, found: Option<Found>) -> Option<Vec<Found>> {
-    let mut all = Vec::new(alloc);
-    all.push(found?).ok()?;
-    Some(all)
 }
 
 /// `count` messages under one topic, at this QoS.
@@ -44,32 +36,75 @@ fn many(alloc: Global, topic: &[u8], count: u32, qos: Qos) -> Option<Vec<Found>>
     Some(all)
 }
 
-fn queue(window: &mut Window, found: Option<Vec<Found>>, granted: Qos) -> Result<(), Fail> {
-    let found = found.ok_or("no memory for the messages")?;
-    window.queue(found, granted, None)?;
-    Ok(())
-}
-
 fn id(number: u16) -> Result<PacketId, Fail> {
     Ok(PacketId::new(number).ok_or("0 is no identifier")?)
 }
 
-/// A call at a given time, or an acknowledgement of an identifier with its code.
-#[derive(Clone, Copy, Debug)]
+/// A message that is queued, at the granted QoS and with a Subscription Identifier, 0 for none.
+#[derive(Clone, Copy)]
+struct One {
+    topic: &'static [u8],
+    payload: &'static [u8],
+    qos: Qos,
+    expiry: Option<u32>,
+    granted: Qos,
+    subscription: u32,
+}
+
+/// A call of a window.
+#[derive(Clone, Copy)]
 enum Call {
+    /// So many messages of a topic with the payload `1` are queued, published and granted at this QoS.
+    Queue(&'static [u8], u32, Qos),
+    QueueOne(One),
+    /// The next PUBLISH at a given time.
     Next(u64),
+    /// So many messages of `a` are given, with the identifiers from 1.
+    InOrder(u16),
+    /// The next PUBLISH at 9 is these bytes.
+    Packet(&'static [u8]),
+    /// An acknowledgement of an identifier with its code.
     Puback(u16, u8),
     Pubrec(u16, u8),
     Pubcomp(u16, u8),
 }
 
 /// What a call answers. A given PUBLISH is named by its topic, of one byte, and its identifier, 0 if it has none.
-#[derive(Clone, Copy, Debug, PartialEq, Eq)]
+#[derive(Clone, Copy, PartialEq, Eq)]
 enum Answer {
     Gives(u8, u16),
     Nothing,
     Does(Ack),
     Refuses(WindowFault),
+    /// The messages are queued, or what is given is what the call says.
+    Done,
+    Differs,
+}
+
+fn queued(answer: Result<(), WindowFault>) -> Answer {
+    match answer {
+        Ok(()) => Answer::Done,
+        Err(fault) => Answer::Refuses(fault),
+    }
+}
+
+fn queue_many(
+    alloc: Global,
+    window: &mut Window,
+    topic: &[u8],
+    count: u32,
+    qos: Qos,
+) -> Result<Answer, Fail> {
+    let found = many(alloc, topic, count, qos).ok_or("no memory for the messages")?;
+    Ok(queued(window.queue(found, qos, None)))
+}
+
+fn queue_one(alloc: Global, window: &mut Window, one: &One) -> Result<Answer, Fail> {
+    let found = found(alloc, one.topic, one.payload, one.qos, one.expiry).ok_or("no memory")?;
+    let mut all = Vec::new(alloc);
+    all.push(found)?;
+    let subscription = SubscriptionId::new(one.subscription);
+    Ok(queued(window.queue(all, one.granted, subscription)))
 }
 
 fn given(publish: Option<Publish>) -> Answer {
@@ -80,6 +115,26 @@ fn given(publish: Option<Publish>) -> Answer {
     Answer::Gives(topic, publish.id.map_or(0, |id| id.get()))
 }
 
+fn given_in_order(window: &mut Window, count: u16) -> Answer {
+    for number in 0..count {
+        if given(window.next(0)) != Answer::Gives(b'a', number + 1) {
+            return Answer::Differs;
+        }
+    }
+    Answer::Done
+}
+
+fn given_as(alloc: Global, publish: Option<Publish>, sent: &[u8]) -> Result<Answer, Fail> {
+    let Some(publish) = publish else {
+        return Ok(Answer::Nothing);
+    };
+    let packet = encode(alloc, &publish.reply())?;
+    if packet.as_slice() == sent {
+        return Ok(Answer::Done);
+    }
+    Ok(Answer::Differs)
+}
+
 fn done(answer: Result<Ack, WindowFault>) -> Answer {
     match answer {
         Ok(ack) => Answer::Does(ack),
@@ -87,265 +142,315 @@ fn done(answer: Result<Ack, WindowFault>) -> Answer {
     }
 }
 
-fn answer_of(window: &mut Window, call: Call) -> Result<Answer, Fail> {
+fn answer_of(alloc: Global, window: &mut Window, call: Call) -> Result<Answer, Fail> {
     match call {
+        Call::Queue(topic, count, qos) => queue_many(alloc, window, topic, count, qos),
+        Call::QueueOne(one) => queue_one(alloc, window, &one),
         Call::Next(now) => Ok(given(window.next(now))),
+        Call::InOrder(count) => Ok(given_in_order(window, count)),
+        Call::Packet(sent) => given_as(alloc, window.next(9), sent),
         Call::Puback(number, code) => Ok(done(window.on_puback(id(number)?, code))),
         Call::Pubrec(number, code) => Ok(done(window.on_pubrec(id(number)?, code))),
         Call::Pubcomp(number, code) => Ok(done(window.on_pubcomp(id(number)?, code))),
     }
 }
 
-fn run(rt: &impl Abort, window: &mut Window, rows: &[(Call, Answer)]) -> Result<(), Fail> {
+type Row = (Call, Answer);
+
+/// Makes the calls, each of which is answered as its row says.
+fn go_on(rt: &impl Abort, alloc: Global, window: &mut Window, rows: &[Row]) -> Result<(), Fail> {
     for (call, wanted) in rows {
-        assert_eq!(rt; answer_of(window, *call)?, *wanted, "{call:?}");
+        assert!(rt; answer_of(alloc, window, *call)? == *wanted);
     }
     Ok(())
 }
 
-#[test]
-fn one_by_one_at_qos_2(rt: HostRuntime) -> Result<(), Fail> {
-    let alloc = rt.alloc();
-    let mut window = Window::new(alloc, 1, u32::MAX)?;
-    for topic in [b"a", b"b", b"c"] {
-        let message = found(alloc, topic, b"1", Qos::ExactlyOnce, None);
-        queue(&mut window, one(alloc, message), Qos::ExactlyOnce)?;
-    }
-    let rows = [
-        (Call::Next(0), Answer::Gives(b'a', 1)),
-        (Call::Next(0), Answer::Nothing),
-        (Call::Pubrec(1, 0x00), Answer::Does(Ack::Released)),
-        (Call::Pubrec(1, 0x00), Answer::Does(Ack::Released)),
-        (Call::Next(0), Answer::Nothing),
-        (
-            Call::Puback(1, 0x00),
-            Answer::Refuses(WindowFault::WrongKind),
-        ),
-        (Call::Pubcomp(1, 0x00), Answer::Does(Ack::Freed)),
-        (Call::Next(0), Answer::Gives(b'b', 1)),
-        (
-            Call::Pubcomp(1, 0x00),
-            Answer::Refuses(WindowFault::WrongKind),
-        ),
-        (Call::Pubrec(1, 0x97), Answer::Does(Ack::Freed)),
-        (Call::Next(0), Answer::Gives(b'c', 1)),
-        (Call::Pubcomp(7, 0x00), Answer::Does(Ack::Unknown)),
-    ];
-    run(&rt, &mut window, &rows)
-}
-
-#[test]
-fn expired_behind_the_quota(rt: HostRuntime) -> Result<(), Fail> {
-    let alloc = rt.alloc();
-    let mut window = Window::new(alloc, 1, u32::MAX)?;
-    let a = found(alloc, b"a", b"1", Qos::AtLeastOnce, None);
-    queue(&mut window, one(alloc, a), Qos::AtLeastOnce)?;
-    let b = found(alloc, b"b", b"2", Qos::AtLeastOnce, Some(10));
-    queue(&mut window, one(alloc, b), Qos::AtLeastOnce)?;
-    let c = found(alloc, b"c", b"3", Qos::AtMostOnce, None);
-    queue(&mut window, one(alloc, c), Qos::AtLeastOnce)?;
-    let rows = [
-        (Call::Next(0), Answer::Gives(b'a', 1)),
-        (Call::Next(9), Answer::Nothing),
-        (Call::Next(10), Answer::Gives(b'c', 0)),
-        (Call::Puback(1, 0x00), Answer::Does(Ack::Freed)),
-        (Call::Puback(1, 0x00), Answer::Does(Ack::Unknown)),
-        (Call::Next(10), Answer::Nothing),
-    ];
-    run(&rt, &mut window, &rows)
-}
-
-#[test]
-fn too_long_for_the_client(rt: HostRuntime) -> Result<(), Fail> {
-    let alloc = rt.alloc();
-    let mut window = Window::new(alloc, 1, 10)?;
-    let long = found(alloc, b"a", b"12345678901234567890", Qos::AtLeastOnce, None);
-    queue(&mut window, one(alloc, long), Qos::AtLeastOnce)?;
-    let short = found(alloc, b"b", b"1", Qos::AtLeastOnce, None);
-    queue(&mut window, one(alloc, short), Qos::AtLeastOnce)?;
-    run(&rt, &mut window, &[(Call::Next(0), Answer::Gives(b'b', 1))])
-}
-
-/// Whether the first packet that a window gives at 9 is these bytes. Nothing else waits.
-fn gives(rt: &impl Abort, alloc: Global, window: &mut Window, sent: &[u8]) -> Result<(), Fail> {
-    let publish = window.next(9).ok_or("nothing is given")?;
-    let packet = encode(alloc, &publish.reply())?;
-    assert!(rt; packet.as_slice() == sent);
-    assert!(rt; window.next(9).is_none());
-    Ok(())
-}
-
-/// A message whose packet is these bytes is given if the client takes as many, and dropped if it takes one byte less.
-fn is_sent_as(
-    rt: &impl Abort,
-    alloc: Global,
-    sent: &[u8],
-    message: (&'static [u8], Qos, Option<u32>),
-    granted: Qos,
-    subscription: Option<SubscriptionId>,
-) -> Result<(), Fail>
-    requires long { 1 < length sent.now }
-    requires short { length sent.now ≤ 1000 }
-{
-    let (topic, qos, expiry) = message;
-    let mut takes = Window::new(alloc, 65535, sent.len() as u32)?;
-    let first = one(alloc, found(alloc, topic, b"x", qos, expiry));
-    takes.queue(first.ok_or("no memory")?, granted, subscription)?;
-    gives(rt, alloc, &mut takes, sent)?;
-    let mut takes_less = Window::new(alloc, 65535, sent.len() as u32 - 1)?;
-    let again = one(alloc, found(alloc, topic, b"x", qos, expiry));
-    takes_less.queue(again.ok_or("no memory")?, granted, subscription)?;
-    assert!(rt; takes_less.next(9).is_none());
-    Ok(())
-}
-
-#[test]
-fn packets(rt: HostRuntime) -> Result<(), Fail> {
-    let alloc = rt.alloc();
-    let (once, twice) = (Qos::AtLeastOnce, Qos::ExactlyOnce);
-    // The lesser of the published and the granted QoS.
-    let at_1 = b"\x33\x07\x00\x01a\x00\x01\x00x";
-    is_sent_as(&rt, alloc, at_1, (b"a", once, None), once, None)?;
-    is_sent_as(&rt, alloc, at_1, (b"a", once, None), twice, None)?;
-    is_sent_as(&rt, alloc, at_1, (b"a", twice, None), once, None)?;
-    let at_2 = b"\x35\x07\x00\x01a\x00\x01\x00x";
-    is_sent_as(&rt, alloc, at_2, (b"a", twice, None), twice, None)?;
-    // One second of an interval of ten is left.
-    let zero = Qos::AtMostOnce;
-    let left = b"\x31\x0c\x00\x03a/b\x05\x02\x00\x00\x00\x01x";
-    is_sent_as(&rt, alloc, left, (b"a/b", zero, Some(10)), zero, None)?;
-    // Subscription Identifiers of one byte and of two.
-    let short = b"\x31\x09\x00\x03a/b\x02\x0b\x01x";
-    is_sent_as(
-        &rt,
-        alloc,
-        short,
-        (b"a/b", zero, None),
-        zero,
-        SubscriptionId::new(1),
-    )?;
-    let long = b"\x31\x0a\x00\x03a/b\x03\x0b\xac\x02x";
-    is_sent_as(
-        &rt,
-        alloc,
-        long,
-        (b"a/b", zero, None),
-        zero,
-        SubscriptionId::new(300),
-    )
-}
-
-#[test]
-fn identifiers_in_order(rt: HostRuntime) -> Result<(), Fail> {
-    let mut window = Window::new(rt.alloc(), 65535, u32::MAX)?;
-    queue(
-        &mut window,
-        many(rt.alloc(), b"a", 1025, Qos::AtLeastOnce),
-        Qos::AtLeastOnce,
-    )?;
-    for number in 1..1025u16 {
-        assert!(rt; answer_of(&mut window, Call::Next(0))? == Answer::Gives(b'a', number));
-    }
-    let rows = [
-        (Call::Next(0), Answer::Nothing),
-        (Call::Puback(2, 0x00), Answer::Does(Ack::Freed)),
-        (Call::Next(0), Answer::Gives(b'a', 2)),
-        (Call::Next(0), Answer::Nothing),
-    ];
-    run(&rt, &mut window, &rows)
-}
-
-/// A window in which `MAX_WAITING` messages wait.
-fn full_queue(alloc: Global) -> Result<Window, Fail> {
-    let mut window = Window::new(alloc, 1, u32::MAX)?;
-    let most = many(alloc, b"a", MAX_WAITING as u32, Qos::AtLeastOnce);
-    queue(&mut window, most, Qos::AtLeastOnce)?;
-    Ok(window)
-}
-
-#[test]
-fn no_more_than_the_limit_wait(rt: HostRuntime) -> Result<(), Fail> {
-    let alloc = rt.alloc();
-    let mut window = full_queue(alloc)?;
-    queue(
-        &mut window,
-        many(alloc, b"b", 0, Qos::AtMostOnce),
-        Qos::AtMostOnce,
-    )?;
-    let more = many(alloc, b"b", 1, Qos::AtLeastOnce).ok_or("no memory")?;
-    let refused = window.queue(more, Qos::AtLeastOnce, None);
-    assert!(rt; refused == Err(WindowFault::TooManyWaiting));
-    run(&rt, &mut window, &[(Call::Next(0), Answer::Gives(b'a', 1))])?;
-    queue(
-        &mut window,
-        many(alloc, b"b", 1, Qos::AtMostOnce),
-        Qos::AtMostOnce,
-    )
-}
-
-#[test]
-fn more_than_the_limit_at_once(rt: HostRuntime) -> Result<(), Fail> {
-    let alloc = rt.alloc();
-    let mut window = Window::new(alloc, u16::MAX, 1)?;
-    let more = many(alloc, b"a", MAX_WAITING as u32 + 1, Qos::AtMostOnce);
-    let refused = window.queue(more.ok_or("no memory")?, Qos::AtMostOnce, None);
-    assert!(rt; refused == Err(WindowFault::TooManyWaiting));
-    run(&rt, &mut window, &[(Call::Next(0), Answer::Nothing)])
-}
-
-/// Whether a window with this Receive Maximum gives exactly as many messages of QoS 2.
-fn gives_as_many(
+/// The same with a new window, of these two maxima, which are not 0.
+fn run(
     rt: &impl Abort,
     alloc: Global,
     receive_maximum: u16,
-    quota: u16,
-) -> Result<(), Fail>
-    requires some { 0 < receive_maximum }
-    requires few { quota < 2000 }
-{
-    let mut window = Window::new(alloc, receive_maximum, u32::MAX)?;
-    let messages = many(alloc, b"a", quota as u32 + 1, Qos::ExactlyOnce);
-    queue(&mut window, messages, Qos::ExactlyOnce)?;
-    for number in 0..quota {
-        let given = answer_of(&mut window, Call::Next(0))?;
-        assert_eq!(rt; given, Answer::Gives(b'a', number + 1), "{receive_maximum}");
+    packet_maximum: u32,
+    rows: &[Row],
+) -> Result<(), Fail> {
+    if receive_maximum == 0 || packet_maximum == 0 {
+        return Err(Fail::from("a maximum is 0"));
     }
-    run(rt, &mut window, &[(Call::Next(0), Answer::Nothing)])
+    let mut window = Window::new(alloc, receive_maximum, packet_maximum)?;
+    go_on(rt, alloc, &mut window, rows)
 }
+
+const QUOTA_1_AT_QOS_2: &[Row] = &[
+    (Call::Queue(b"a", 1, Qos::ExactlyOnce), Answer::Done),
+    (Call::Queue(b"b", 1, Qos::ExactlyOnce), Answer::Done),
+    (Call::Queue(b"c", 1, Qos::ExactlyOnce), Answer::Done),
+    (Call::Next(0), Answer::Gives(b'a', 1)),
+    (Call::Next(0), Answer::Nothing),
+    (Call::Pubrec(1, 0x00), Answer::Does(Ack::Released)),
+    (Call::Pubrec(1, 0x00), Answer::Does(Ack::Released)),
+    (Call::Next(0), Answer::Nothing),
+    (
+        Call::Puback(1, 0x00),
+        Answer::Refuses(WindowFault::WrongKind),
+    ),
+    (Call::Pubcomp(1, 0x00), Answer::Does(Ack::Freed)),
+    (Call::Next(0), Answer::Gives(b'b', 1)),
+    (
+        Call::Pubcomp(1, 0x00),
+        Answer::Refuses(WindowFault::WrongKind),
+    ),
+    (Call::Pubrec(1, 0x97), Answer::Does(Ack::Freed)),
+    (Call::Next(0), Answer::Gives(b'c', 1)),
+    (Call::Pubcomp(7, 0x00), Answer::Does(Ack::Unknown)),
+];
+
+#[test]
+fn one_by_one_at_qos_2(rt: HostRuntime) -> Result<(), Fail> {
+    run(&rt, rt.alloc(), 1, u32::MAX, QUOTA_1_AT_QOS_2)
+}
+
+const EXPIRED: &[Row] = &[
+    (Call::Queue(b"a", 1, Qos::AtLeastOnce), Answer::Done),
+    (
+        Call::QueueOne(One {
+            topic: b"b",
+            payload: b"2",
+            qos: Qos::AtLeastOnce,
+            expiry: Some(10),
+            granted: Qos::AtLeastOnce,
+            subscription: 0,
+        }),
+        Answer::Done,
+    ),
+    (
+        Call::QueueOne(One {
+            topic: b"c",
+            payload: b"3",
+            qos: Qos::AtMostOnce,
+            expiry: None,
+            granted: Qos::AtLeastOnce,
+            subscription: 0,
+        }),
+        Answer::Done,
+    ),
+    (Call::Next(0), Answer::Gives(b'a', 1)),
+    (Call::Next(9), Answer::Nothing),
+    (Call::Next(10), Answer::Gives(b'c', 0)),
+    (Call::Puback(1, 0x00), Answer::Does(Ack::Freed)),
+    (Call::Puback(1, 0x00), Answer::Does(Ack::Unknown)),
+    (Call::Next(10), Answer::Nothing),
+];
+
+#[test]
+fn expired_behind_the_quota(rt: HostRuntime) -> Result<(), Fail> {
+    run(&rt, rt.alloc(), 1, u32::MAX, EXPIRED)
+}
+
+const TOO_LONG: &[Row] = &[
+    (
+        Call::QueueOne(One {
+            topic: b"a",
+            payload: b"12345678901234567890",
+            qos: Qos::AtLeastOnce,
+            expiry: None,
+            granted: Qos::AtLeastOnce,
+            subscription: 0,
+        }),
+        Answer::Done,
+    ),
+    (Call::Queue(b"b", 1, Qos::AtLeastOnce), Answer::Done),
+    (Call::Next(0), Answer::Gives(b'b', 1)),
+];
+
+#[test]
+fn too_long_for_the_client(rt: HostRuntime) -> Result<(), Fail> {
+    run(&rt, rt.alloc(), 1, 10, TOO_LONG)
+}
+
+/// A message whose packet is these bytes is given if the client takes as many, and dropped if it takes one byte less.
+fn is_sent_as(rt: &impl Abort, alloc: Global, one: One, sent: &'static [u8]) -> Result<(), Fail> {
+    let size = sent.len().min(1000) as u32;
+    let given = [
+        (Call::QueueOne(one), Answer::Done),
+        (Call::Packet(sent), Answer::Done),
+        (Call::Next(9), Answer::Nothing),
+    ];
+    run(rt, alloc, 65535, size, &given)?;
+    run(
+        rt,
+        alloc,
+        65535,
+        size.saturating_sub(1),
+        &[given[0], given[2]],
+    )
+}
+
+/// Messages with the payload `x`: the topic, the QoS, the interval, the granted QoS, the Subscription Identifier, and the packet.
+const PACKETS: &[(&[u8], Qos, Option<u32>, Qos, u32, &[u8])] = &[
+    // The lesser of the published and the granted QoS.
+    (
+        b"a",
+        Qos::AtLeastOnce,
+        None,
+        Qos::AtLeastOnce,
+        0,
+        b"\x33\x07\x00\x01a\x00\x01\x00x",
+    ),
+    (
+        b"a",
+        Qos::AtLeastOnce,
+        None,
+        Qos::ExactlyOnce,
+        0,
+        b"\x33\x07\x00\x01a\x00\x01\x00x",
+    ),
+    (
+        b"a",
+        Qos::ExactlyOnce,
+        None,
+        Qos::AtLeastOnce,
+        0,
+        b"\x33\x07\x00\x01a\x00\x01\x00x",
+    ),
+    (
+        b"a",
+        Qos::ExactlyOnce,
+        None,
+        Qos::ExactlyOnce,
+        0,
+        b"\x35\x07\x00\x01a\x00\x01\x00x",
+    ),
+    // One second of an interval of ten is left.
+    (
+        b"a/b",
+        Qos::AtMostOnce,
+        Some(10),
+        Qos::AtMostOnce,
+        0,
+        b"\x31\x0c\x00\x03a/b\x05\x02\x00\x00\x00\x01x",
+    ),
+    // Subscription Identifiers of one byte and of two.
+    (
+        b"a/b",
+        Qos::AtMostOnce,
+        None,
+        Qos::AtMostOnce,
+        1,
+        b"\x31\x09\x00\x03a/b\x02\x0b\x01x",
+    ),
+    (
+        b"a/b",
+        Qos::AtMostOnce,
+        None,
+        Qos::AtMostOnce,
+        300,
+        b"\x31\x0a\x00\x03a/b\x03\x0b\xac\x02x",
+    ),
+];
+
+#[test]
+fn packets(rt: HostRuntime) -> Result<(), Fail> {
+    for (topic, qos, expiry, granted, subscription, sent) in PACKETS {
+        let one = One {
+            topic,
+            payload: b"x",
+            qos: *qos,
+            expiry: *expiry,
+            granted: *granted,
+            subscription: *subscription,
+        };
+        is_sent_as(&rt, rt.alloc(), one, sent)?;
+    }
+    Ok(())
+}
+
+const MOST_IDENTIFIERS: &[Row] = &[
+    (Call::Queue(b"a", 1025, Qos::AtLeastOnce), Answer::Done),
+    (Call::InOrder(1024), Answer::Done),
+    (Call::Next(0), Answer::Nothing),
+    (Call::Puback(2, 0x00), Answer::Does(Ack::Freed)),
+    (Call::Next(0), Answer::Gives(b'a', 2)),
+    (Call::Next(0), Answer::Nothing),
+];
+
+#[test]
+fn identifiers_in_order(rt: HostRuntime) -> Result<(), Fail> {
+    run(&rt, rt.alloc(), 65535, u32::MAX, MOST_IDENTIFIERS)
+}
+
+const FULL_QUEUE: &[Row] = &[
+    (
+        Call::Queue(b"a", MAX_WAITING as u32, Qos::AtLeastOnce),
+        Answer::Done,
+    ),
+    (Call::Queue(b"b", 0, Qos::AtMostOnce), Answer::Done),
+    (
+        Call::Queue(b"b", 1, Qos::AtLeastOnce),
+        Answer::Refuses(WindowFault::TooManyWaiting),
+    ),
+    (Call::Next(0), Answer::Gives(b'a', 1)),
+    (Call::Queue(b"b", 1, Qos::AtMostOnce), Answer::Done),
+];
+
+#[test]
+fn no_more_than_the_limit_wait(rt: HostRuntime) -> Result<(), Fail> {
+    run(&rt, rt.alloc(), 1, u32::MAX, FULL_QUEUE)
+}
+
+const TOO_MANY: &[Row] = &[
+    (
+        Call::Queue(b"a", MAX_WAITING as u32 + 1, Qos::AtMostOnce),
+        Answer::Refuses(WindowFault::TooManyWaiting),
+    ),
+    (Call::Next(0), Answer::Nothing),
+];
+
+#[test]
+fn more_than_the_limit_at_once(rt: HostRuntime) -> Result<(), Fail> {
+    run(&rt, rt.alloc(), u16::MAX, 1, TOO_MANY)
+}
+
+/// A Receive Maximum, and how many messages of QoS 2 a window with it gives.
+const QUOTAS: &[(u16, u16)] = &[
+    (1, 1),
+    (2, 2),
+    (MAX_QUOTA - 1, MAX_QUOTA - 1),
+    (MAX_QUOTA, MAX_QUOTA),
+    (MAX_QUOTA + 1, MAX_QUOTA),
+    (40_000, MAX_QUOTA),
+    (u16::MAX, MAX_QUOTA),
+];
 
 #[test]
 fn every_receive_maximum_is_accepted(rt: HostRuntime) -> Result<(), Fail> {
-    let alloc = rt.alloc();
-    gives_as_many(&rt, alloc, 1, 1)?;
-    gives_as_many(&rt, alloc, 2, 2)?;
-    gives_as_many(&rt, alloc, MAX_QUOTA - 1, MAX_QUOTA - 1)?;
-    gives_as_many(&rt, alloc, MAX_QUOTA, MAX_QUOTA)?;
-    gives_as_many(&rt, alloc, MAX_QUOTA + 1, MAX_QUOTA)?;
-    gives_as_many(&rt, alloc, 40_000, MAX_QUOTA)?;
-    gives_as_many(&rt, alloc, u16::MAX, MAX_QUOTA)
+    for (receive_maximum, quota) in QUOTAS {
+        let rows = [
+            (
+                Call::Queue(b"a", u32::from(*quota) + 1, Qos::ExactlyOnce),
+                Answer::Done,
+            ),
+            (Call::InOrder(*quota), Answer::Done),
+            (Call::Next(0), Answer::Nothing),
+        ];
+        run(&rt, rt.alloc(), *receive_maximum, u32::MAX, &rows)?;
+    }
+    Ok(())
 }
 
 /// Identifiers freed out of order: the last one freed is given first, and then the one freed before it.
+const FREED: &[Row] = &[
+    (Call::Queue(b"a", 7, Qos::AtLeastOnce), Answer::Done),
+    (Call::InOrder(3), Answer::Done),
+    (Call::Puback(1, 0x00), Answer::Does(Ack::Freed)),
+    (Call::Puback(3, 0x80), Answer::Does(Ack::Freed)),
+    (Call::Next(0), Answer::Gives(b'a', 3)),
+    (Call::Next(0), Answer::Gives(b'a', 1)),
+    (Call::Next(0), Answer::Nothing),
+];
+
 #[test]
 fn the_last_freed_identifier_comes_first(rt: HostRuntime) -> Result<(), Fail> {
-    let alloc = rt.alloc();
-    let mut window = Window::new(alloc, 3, u32::MAX)?;
-    queue(
-        &mut window,
-        many(alloc, b"a", 7, Qos::AtLeastOnce),
-        Qos::AtLeastOnce,
-    )?;
-    let rows = [
-        (Call::Next(0), Answer::Gives(b'a', 1)),
-        (Call::Next(0), Answer::Gives(b'a', 2)),
-        (Call::Next(0), Answer::Gives(b'a', 3)),
-        (Call::Puback(1, 0x00), Answer::Does(Ack::Freed)),
-        (Call::Puback(3, 0x80), Answer::Does(Ack::Freed)),
-        (Call::Next(0), Answer::Gives(b'a', 3)),
-        (Call::Next(0), Answer::Gives(b'a', 1)),
-        (Call::Next(0), Answer::Nothing),
-    ];
-    run(&rt, &mut window, &rows)
+    run(&rt, rt.alloc(), 3, u32::MAX, FREED)
 }
 
 /// A window with two messages `a` that wait, and nine more to be queued, for which its queue has to grow.
@@ -363,16 +468,22 @@ fn queue_if_memory_is_refused(rt: HostRuntime) -> Result<(), Fail> {
     let Some((mut window, later)) = before_a_refusal(rt.alloc()) else {
         return Ok(());
     };
-    let answer = window.queue(later, Qos::AtMostOnce, None);
     let first = (Call::Next(0), Answer::Gives(b'a', 0));
-    run(&rt, &mut window, &[first, first])?;
-    if answer.is_ok() {
-        let later = (Call::Next(0), Answer::Gives(b'b', 0));
-        run(&rt, &mut window, &[later; 9])?;
-    } else {
-        assert!(rt; answer == Err(WindowFault::NoMemory));
+    let second = (Call::Next(0), Answer::Gives(b'b', 0));
+    let last = (Call::Next(0), Answer::Nothing);
+    match window.queue(later, Qos::AtMostOnce, None) {
+        Ok(()) => {
+            let rows = [
+                first, first, second, second, second, second, second, second, second, second,
+                second, last,
+            ];
+            go_on(&rt, rt.alloc(), &mut window, &rows)
+        }
+        Err(fault) => {
+            assert!(rt; fault == WindowFault::NoMemory);
+            go_on(&rt, rt.alloc(), &mut window, &[first, first, last])
+        }
     }
-    run(&rt, &mut window, &[(Call::Next(0), Answer::Nothing)])
 }
 
 #[test]
@@ -393,34 +504,40 @@ fn as_many_are_held_as_announced(rt: HostRuntime) -> Result<(), Fail> {
     Ok(())
 }
 
+/// Each fault, its number and its text.
+const FAULTS: &[(WindowFault, u8, &str)] = &[
+    (
+        WindowFault::TooManyWaiting,
+        50,
+        "more than 100000 messages would wait for this client; subscribe to fewer topics at a time",
+    ),
+    (
+        WindowFault::NoMemory,
+        51,
+        "there is no memory for the messages that would wait; subscribe again later",
+    ),
+    (
+        WindowFault::WrongKind,
+        52,
+        "the packet identifier waits for another acknowledgement; answer QoS 1 by PUBACK, QoS 2 by PUBREC and then PUBCOMP",
+    ),
+    (
+        WindowFault::TooManyHeld,
+        53,
+        "16 messages of QoS 2 are not yet released; send PUBREL for one of them first",
+    ),
+];
+
+fn is_shown(alloc: Global, fault: WindowFault, text: &str) -> Result<bool, Fail> {
+    let shown = format!(in alloc; "{fault}")?;
+    Ok(shown.as_str() == text)
+}
+
 #[test]
 fn faults_have_codes_and_texts(rt: HostRuntime) -> Result<(), Fail> {
-    let rows = [
-        (
-            WindowFault::TooManyWaiting,
-            50,
-            "more than 100000 messages would wait for this client; subscribe to fewer topics at a time",
-        ),
-        (
-            WindowFault::NoMemory,
-            51,
-            "there is no memory for the messages that would wait; subscribe again later",
-        ),
-        (
-            WindowFault::WrongKind,
-            52,
-            "the packet identifier waits for another acknowledgement; answer QoS 1 by PUBACK, QoS 2 by PUBREC and then PUBCOMP",
-        ),
-        (
-            WindowFault::TooManyHeld,
-            53,
-            "16 messages of QoS 2 are not yet released; send PUBREL for one of them first",
-        ),
-    ];
-    for (fault, code, text) in rows {
-        assert!(rt; fault.code() == code);
-        let shown = format!(in rt.alloc(); "{fault}")?;
-        assert!(rt; shown.as_str() == text);
+    for (fault, code, text) in FAULTS {
+        assert!(rt; fault.code() == *code);
+        assert!(rt; is_shown(rt.alloc(), *fault, text)?);
     }
     Ok(())
 }

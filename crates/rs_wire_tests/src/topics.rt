@@ -6,7 +6,6 @@ use rs_topic::{
 };
 use std::alloc::{AllocError, Global};
 use std::cmp::Ordering;
-use std::process::Abort;
 use std::test::Fail;
 
 struct Match {
@@ -103,12 +102,16 @@ static MATCHES: [Match; 17] = [
     },
 ];
 
+fn is_matched(alloc: Global, row: &Match) -> Result<bool, TopicFault> {
+    let filter = TopicFilter::read(alloc, row.filter)?;
+    let name = TopicName::read(alloc, row.name)?;
+    Ok(filter.matches(&name) == row.wanted)
+}
+
 #[test]
 fn filters_match_names(rt: HostRuntime) -> Result<(), Fail> {
     for row in MATCHES.iter() {
-        let filter = TopicFilter::read(rt.alloc(), row.filter)?;
-        let name = TopicName::read(rt.alloc(), row.name)?;
-        assert!(rt; filter.matches(&name) == row.wanted);
+        assert!(rt; is_matched(rt.alloc(), row)?);
     }
     Ok(())
 }
@@ -201,24 +204,6 @@ static READINGS: [Reading; 13] = [
     },
 ];
 
-#[test]
-fn the_first_fault_is_answered(rt: HostRuntime) {
-    for row in READINGS.iter() {
-        assert!(rt; Text::read(rt.alloc(), row.bytes).err() == row.text);
-        assert!(rt; TopicName::read(rt.alloc(), row.bytes).err() == row.name);
-        assert!(rt; TopicFilter::read(rt.alloc(), row.bytes).err() == row.filter);
-    }
-}
-
-/// A list of equal bytes.
-fn repeated(alloc: Global, byte: u8, count: usize) -> Result<Vec<u8>, AllocError> {
-    let mut bytes = Vec::new(alloc);
-    for _ in 0..count {
-        bytes.push(byte)?;
-    }
-    Ok(bytes)
-}
-
 /// What reading these bytes as a text, a name and a filter answers: the fault, or None.
 fn faults_of(alloc: Global, bytes: &[u8]) -> [Option<TopicFault>; 3] {
     [
@@ -229,57 +214,86 @@ fn faults_of(alloc: Global, bytes: &[u8]) -> [Option<TopicFault>; 3] {
 }
 
 #[test]
-fn a_text_of_one_byte_more_is_too_long(rt: HostRuntime) -> Result<(), Fail> {
-    let long = repeated(rt.alloc(), b'x', MAX_TEXT_SIZE + 1)?;
-    assert!(rt; faults_of(rt.alloc(), &long) == [Some(TopicFault::TooLong); 3]);
-    let longest = repeated(rt.alloc(), b'x', MAX_TEXT_SIZE)?;
-    assert!(rt; faults_of(rt.alloc(), &longest) == [None; 3]);
-    Ok(())
+fn the_first_fault_is_answered(rt: HostRuntime) {
+    for row in READINGS.iter() {
+        let wanted = [row.text, row.name, row.filter];
+        assert!(rt; faults_of(rt.alloc(), row.bytes) == wanted);
+    }
+}
+
+/// A byte so many times, the fault of a text of these bytes, and that of a name and of a filter.
+type Repeated = (u8, usize, Option<TopicFault>, Option<TopicFault>);
+
+/// The longest text and the most levels, and one byte and one level more.
+static LIMITS: [Repeated; 4] = [
+    (b'x', MAX_TEXT_SIZE, None, None),
+    (
+        b'x',
+        MAX_TEXT_SIZE + 1,
+        Some(TopicFault::TooLong),
+        Some(TopicFault::TooLong),
+    ),
+    (b'/', MAX_LEVELS - 1, None, None),
+    (b'/', MAX_LEVELS, None, Some(TopicFault::TooManyLevels)),
+];
+
+fn has_faults(alloc: Global, row: &Repeated) -> Result<bool, AllocError> {
+    let bytes = vec![in alloc; row.0; row.1]?;
+    Ok(faults_of(alloc, &bytes) == [row.2, row.3, row.3])
 }
 
 #[test]
-fn one_level_more_is_too_many(rt: HostRuntime) -> Result<(), Fail> {
-    let many = repeated(rt.alloc(), b'/', MAX_LEVELS)?;
-    let too_many = Some(TopicFault::TooManyLevels);
-    assert!(rt; faults_of(rt.alloc(), &many) == [None, too_many, too_many]);
-    let most = repeated(rt.alloc(), b'/', MAX_LEVELS - 1)?;
-    assert!(rt; faults_of(rt.alloc(), &most) == [None; 3]);
+fn one_byte_and_one_level_more_are_too_many(rt: HostRuntime) -> Result<(), Fail> {
+    for row in LIMITS.iter() {
+        assert!(rt; has_faults(rt.alloc(), row)?);
+    }
     Ok(())
 }
 
-fn is_text_copied(alloc: Global, bytes: &[u8]) -> Result<bool, Fail> {
+fn is_text_copied(alloc: Global, bytes: &[u8], is_plain: bool) -> Result<bool, Fail> {
     let text = Text::read(alloc, bytes)?;
     let copy = text.copy()?;
-    Ok(copy == text && copy.as_bytes() == bytes)
+    let is_same = copy == text && copy.as_bytes() == bytes;
+    Ok(is_same && copy.is_plain() == is_plain && copy.is_empty() == bytes.is_empty())
 }
 
 fn is_name_copied(alloc: Global, bytes: &[u8]) -> Result<bool, Fail> {
-    let name = TopicName::read(alloc, bytes)?;
+    let name = TopicName::of(Text::read(alloc, bytes)?)?;
     let copy = name.copy()?;
     Ok(copy == name && copy.as_bytes() == bytes)
 }
 
 fn is_filter_copied(alloc: Global, bytes: &[u8]) -> Result<bool, Fail> {
-    let filter = TopicFilter::read(alloc, bytes)?;
+    let filter = TopicFilter::of(Text::read(alloc, bytes)?)?;
     let copy = filter.copy()?;
     Ok(copy == filter && copy.as_bytes() == bytes)
 }
 
-/// A text, a name and a filter of these bytes are read and copied.
-fn are_copied(rt: &impl Abort, alloc: Global, bytes: &[u8]) -> Result<(), Fail> {
-    assert!(rt; is_text_copied(alloc, bytes)?);
-    assert!(rt; is_name_copied(alloc, bytes)?);
-    assert!(rt; is_filter_copied(alloc, bytes)?);
-    Ok(())
+/// Bytes read as a text, as a filter, and as a name if they have no wildcard, are copied.
+fn are_copied(alloc: Global, bytes: &[u8], is_plain: bool) -> Result<bool, Fail> {
+    let is_copied = is_text_copied(alloc, bytes, is_plain)? && is_filter_copied(alloc, bytes)?;
+    if is_plain {
+        return Ok(is_copied && is_name_copied(alloc, bytes)?);
+    }
+    Ok(is_copied)
 }
 
 #[test]
 fn the_greatest_are_copied(rt: HostRuntime) -> Result<(), Fail> {
-    let longest = repeated(rt.alloc(), b'x', MAX_TEXT_SIZE)?;
-    are_copied(&rt, rt.alloc(), &longest)?;
-    let most = repeated(rt.alloc(), b'/', MAX_LEVELS - 1)?;
-    are_copied(&rt, rt.alloc(), &most)?;
-    are_copied(&rt, rt.alloc(), b"$share")
+    for (byte, count) in [(b'x', MAX_TEXT_SIZE), (b'/', MAX_LEVELS - 1)] {
+        let bytes = vec![in rt.alloc(); byte; count]?;
+        assert!(rt; are_copied(rt.alloc(), &bytes, true)?);
+    }
+    Ok(())
+}
+
+#[test]
+fn the_least_are_copied(rt: HostRuntime) -> Result<(), Fail> {
+    assert!(rt; is_text_copied(rt.alloc(), b"", true)?);
+    assert!(rt; are_copied(rt.alloc(), b"$share", true)?);
+    assert!(rt; are_copied(rt.alloc(), b"a/b", true)?);
+    assert!(rt; are_copied(rt.alloc(), b"a/+", false)?);
+    Ok(())
 }
 
 struct Shown {
@@ -336,27 +350,35 @@ static SHOWN: [Shown; 9] = [
     },
 ];
 
+fn is_shown(alloc: Global, row: &Shown) -> Result<bool, Fail> {
+    let shown = format!(in alloc; "{}", row.fault)?;
+    Ok(shown.as_str() == row.text && row.fault.code() == row.code)
+}
+
 #[test]
 fn faults_have_codes_and_texts(rt: HostRuntime) -> Result<(), Fail> {
     for row in SHOWN.iter() {
-        assert!(rt; row.fault.code() == row.code);
-        let shown = format!(in rt.alloc(); "{}", row.fault)?;
-        assert!(rt; shown.as_str() == row.text);
+        assert!(rt; is_shown(rt.alloc(), row)?);
     }
     Ok(())
 }
 
 static RISING: [&[u8]; 8] = [b"/", b"$s", b"a", b"a/", b"a/b", b"a.b", b"aa", b"b"];
 
+/// Whether the name of the first bytes comes before that of the second.
+fn is_before(alloc: Global, first: &[u8], second: &[u8]) -> Result<bool, Fail> {
+    let first = TopicName::read(alloc, first)?;
+    let second = TopicName::read(alloc, second)?;
+    let is_less = first.cmp(&second) == Ordering::Less && first < second;
+    Ok(is_less && second.cmp(&first) == Ordering::Greater && first != second)
+}
+
 #[test]
 fn names_are_ordered_as_replayed(rt: HostRuntime) -> Result<(), Fail> {
-    let mut last = TopicName::read(rt.alloc(), b"/")?;
+    let mut last = RISING[0];
     for bytes in RISING[1..].iter() {
-        let name = TopicName::read(rt.alloc(), bytes)?;
-        assert!(rt; last.cmp(&name) == Ordering::Less);
-        assert!(rt; name.cmp(&last) == Ordering::Greater);
-        assert!(rt; last < name && last != name);
-        last = name;
+        assert!(rt; is_before(rt.alloc(), last, bytes)?);
+        last = bytes;
     }
     level_law();
     match_law();
@@ -370,54 +392,39 @@ static LEVELS: [&[u8]; 4] = [b"", b"a", b"", b"b"];
 #[test]
 fn levels_come_in_order(rt: HostRuntime) -> Result<(), Fail> {
     let name = TopicName::read(rt.alloc(), b"/a//b")?;
-    for (level, wanted) in name.levels().zip(LEVELS.iter()) {
-        assert!(rt; level == *wanted);
+    let mut wanted = LEVELS.iter();
+    for level in name.levels() {
+        assert!(rt; wanted.next() == Some(&level));
     }
-    assert!(rt; name.levels().count() == 4);
+    assert!(rt; wanted.next().is_none());
     let filter = TopicFilter::read(rt.alloc(), b"+/#")?;
-    assert!(rt; filter.levels().count() == 2);
+    let mut levels = filter.levels();
+    assert!(rt; levels.next() == Some(b"+".as_slice()));
+    assert!(rt; levels.next() == Some(b"#".as_slice()));
+    assert!(rt; levels.next().is_none());
     Ok(())
 }
 
-#[test]
-fn texts_and_names_are_copied(rt: HostRuntime) -> Result<(), Fail> {
-    let text = Text::read(rt.alloc(), b"a/b")?;
-    let copy = text.copy()?;
-    assert!(rt; copy == text && copy.is_plain() && !copy.is_empty());
-    assert!(rt; copy.as_bytes() == b"a/b".as_slice());
-    let name = TopicName::of(text)?;
-    let copy = name.copy()?;
-    assert!(rt; copy == name);
-    assert!(rt; copy.as_bytes() == b"a/b".as_slice());
-    Ok(())
-}
-
-#[test]
-fn filters_are_copied(rt: HostRuntime) -> Result<(), Fail> {
-    assert!(rt; is_filter_copied(rt.alloc(), b"a/+")?);
-    Ok(())
-}
-
-/// Whether the filter is that of the text of these bytes.
-fn is_of(filter: &TopicFilter, alloc: Global, bytes: &[u8]) -> Result<bool, Fail> {
-    let other = TopicFilter::of(Text::read(alloc, bytes)?)?;
-    Ok(other == *filter)
+/// Whether the filters of these bytes are equal.
+fn are_equal(alloc: Global, first: &[u8], second: &[u8]) -> Result<bool, Fail> {
+    let first = TopicFilter::read(alloc, first)?;
+    let second = TopicFilter::of(Text::read(alloc, second)?)?;
+    Ok(first == second)
 }
 
 #[test]
 fn filters_are_compared(rt: HostRuntime) -> Result<(), Fail> {
-    let filter = TopicFilter::read(rt.alloc(), b"a/+")?;
-    assert!(rt; is_of(&filter, rt.alloc(), b"a/+")?);
-    assert!(rt; !is_of(&filter, rt.alloc(), b"a/#")?);
+    assert!(rt; are_equal(rt.alloc(), b"a/+", b"a/+")?);
+    assert!(rt; !are_equal(rt.alloc(), b"a/+", b"a/#")?);
     Ok(())
 }
 
 /// If memory is refused the answer is NoMemory; a fault of the bytes comes first.
 #[test]
 fn out_of_memory_is_answered(rt: HostRuntime) {
-    let name = TopicName::read(rt.alloc(), b"a/b").err();
-    assert!(rt; name.is_none() || name == Some(TopicFault::NoMemory));
-    let filter = TopicFilter::read(rt.alloc(), b"a/+").err();
-    assert!(rt; filter.is_none() || filter == Some(TopicFault::NoMemory));
-    assert!(rt; TopicName::read(rt.alloc(), b"a/+").err() == Some(TopicFault::HasWildcard));
+    for fault in faults_of(rt.alloc(), b"a/b") {
+        assert!(rt; fault.is_none() || fault == Some(TopicFault::NoMemory));
+    }
+    let [_, name, _] = faults_of(rt.alloc(), b"a/+");
+    assert!(rt; name == Some(TopicFault::HasWildcard));
 }

@@ -1,11 +1,11 @@
 //! What a session hands to its gate and what it then replies, for each QoS and each answer of the gate.
 
-ghost use Rattle.std.specs.Prelude.{◌≡◌, None, IfOk, OnOk};
+ghost use Rattle.std.specs.Prelude.{◌≡◌, None, OnOk};
 ghost use Rattle.rs_session.specs.State.{due_of};
 
 use bytes::Bytes;
 use rs_message::{Found, Operation, SubmitFault};
-use rs_packet::{Decoded, Packet, RECEIVE_MAXIMUM, Reply, decode, encode};
+use rs_packet::{Decoded, Packet, Reply, decode, encode};
 use rs_session::{Gate, Session};
 use rs_topic::{Text, TopicFilter};
 use std::alloc::{AllocError, Global};
@@ -114,21 +114,6 @@ fn reply_to(alloc: Global, session: &mut Session<Recording>, packet: &[u8]) -> R
     bytes_of(alloc, session.next_reply(0))
 }
 
-/// A session that accepted the CONNECT.
-fn connected(alloc: Global, fault: Option<SubmitFault>) -> Result<Session<Recording>, Fail>
-    ensures { IfOk result (λ session. due_of session ≡ None) }
-{
-    let gate = Recording {
-        fault,
-        handed: Vec::new(alloc),
-    };
-    let mut session = Session::new(alloc, gate, Text::read(alloc, b"b")?);
-    if reply_to(alloc, &mut session, CONNECT)?.as_slice() != CONNACK {
-        return Err("the CONNACK")?;
-    }
-    Ok(session)
-}
-
 /// One change was handed over: to `a`, with this payload, or with an empty one.
 fn is_handed(gate: &Recording, payload: &[u8]) -> bool {
     match gate.handed.as_slice() {
@@ -140,26 +125,44 @@ fn is_handed(gate: &Recording, payload: &[u8]) -> bool {
     }
 }
 
-fn check<H: Abort>(
-    rt: &H,
+/// Whether a session over a gate that answers so, once it accepted the CONNECT, hands the change of this packet over, with this payload,
+/// and then sends this reply.
+fn is_answered(
     alloc: Global,
     fault: Option<SubmitFault>,
     packet: &[u8],
     payload: &[u8],
     reply: &[u8],
-) -> Result<(), Fail> {
-    let mut session = connected(alloc, fault)?;
+) -> Result<bool, Fail> {
+    let gate = Recording {
+        fault,
+        handed: Vec::new(alloc),
+    };
+    let mut session = Session::new(alloc, gate, Text::read(alloc, b"b")?);
+    let accepted = reply_to(alloc, &mut session, CONNECT)?;
     let replied = reply_to(alloc, &mut session, packet)?;
-    assert!(rt; replied.as_slice() == reply);
-    assert!(rt; is_handed(&session.into_gate(), payload));
+    let is_replied = accepted.as_slice() == CONNACK && replied.as_slice() == reply;
+    Ok(is_handed(&session.into_gate(), payload) && is_replied)
+}
+
+/// A PUBLISH that sets, and one that clears, are answered alike.
+fn check(
+    rt: &impl Abort,
+    alloc: Global,
+    fault: Option<SubmitFault>,
+    set: &[u8],
+    clear: &[u8],
+    reply: &[u8],
+) -> Result<(), Fail> {
+    assert!(rt; is_answered(alloc, fault, set, b"x", reply)?);
+    assert!(rt; is_answered(alloc, fault, clear, b"", reply)?);
     Ok(())
 }
 
 #[test]
 fn what_is_kept_was_handed_over(rt: HostRuntime) -> Result<(), Fail> {
     for (set, clear, kept, _) in PUBLISHED {
-        check(&rt, rt.alloc(), None, set, b"x", kept)?;
-        check(&rt, rt.alloc(), None, clear, b"", kept)?;
+        check(&rt, rt.alloc(), None, set, clear, kept)?;
     }
     Ok(())
 }
@@ -168,8 +171,7 @@ fn what_is_kept_was_handed_over(rt: HostRuntime) -> Result<(), Fail> {
 fn what_a_full_store_refuses_was_handed_over(rt: HostRuntime) -> Result<(), Fail> {
     for fault in FULL {
         for (set, clear, _, refused) in PUBLISHED {
-            check(&rt, rt.alloc(), Some(fault), set, b"x", refused)?;
-            check(&rt, rt.alloc(), Some(fault), clear, b"", refused)?;
+            check(&rt, rt.alloc(), Some(fault), set, clear, refused)?;
         }
     }
     Ok(())
@@ -179,53 +181,8 @@ fn what_a_full_store_refuses_was_handed_over(rt: HostRuntime) -> Result<(), Fail
 fn what_has_no_receipt_was_handed_over(rt: HostRuntime) -> Result<(), Fail> {
     for (fault, disconnect) in ENDING {
         for (set, clear, _, _) in PUBLISHED {
-            check(&rt, rt.alloc(), Some(fault), set, b"x", disconnect)?;
-            check(&rt, rt.alloc(), Some(fault), clear, b"", disconnect)?;
+            check(&rt, rt.alloc(), Some(fault), set, clear, disconnect)?;
         }
-    }
-    Ok(())
-}
-
-/// Holds this identifier, by a PUBLISH of QoS 2 with RETAIN 0.
-fn hold(alloc: Global, session: &mut Session<Recording>, id: u16) -> Result<(), Fail>
-    requires { due_of session.old ≡ None }
-    ensures { OnOk result (due_of session.new ≡ None) }
-{
-    let [high, low] = id.to_be_bytes();
-    reply_to(alloc, session, &[0x34, 7, 0, 1, b'a', high, low, 0, b'x'])?;
-    Ok(())
-}
-
-/// Holds the identifiers from 1 to [`RECEIVE_MAXIMUM`].
-fn holding(alloc: Global) -> Result<Session<Recording>, Fail>
-    ensures { IfOk result (λ session. due_of session ≡ None) }
-{
-    let mut session = connected(alloc, None)?;
-    for id in 1..RECEIVE_MAXIMUM + 1 {
-        hold(alloc, &mut session, id)?;
-    }
-    Ok(session)
-}
-
-fn check_holding<H: Abort>(
-    rt: &H,
-    alloc: Global,
-    packet: &[u8],
-    payload: &[u8],
-    reply: &[u8],
-) -> Result<(), Fail> {
-    let mut session = holding(alloc)?;
-    let replied = reply_to(alloc, &mut session, packet)?;
-    assert!(rt; replied.as_slice() == reply);
-    assert!(rt; is_handed(&session.into_gate(), payload));
-    Ok(())
-}
-
-#[test]
-fn held_identifiers_stop_no_lower_quality(rt: HostRuntime) -> Result<(), Fail> {
-    for (set, clear, kept, _) in [PUBLISHED[0], PUBLISHED[1]] {
-        check_holding(&rt, rt.alloc(), set, b"x", kept)?;
-        check_holding(&rt, rt.alloc(), clear, b"", kept)?;
     }
     Ok(())
 }

@@ -1,6 +1,8 @@
+//! Clients that send and take bytes slowly, or fail.
+
 use super::gate::FULL;
 use rs_server::{ConnectionId, Counted, Moments, ServeFault, Served, serve};
-use std::alloc::Global;
+use std::alloc::{AllocError, Global};
 use std::io;
 use std::io::{ErrorKind, Read, Write};
 use std::sync::Wait;
@@ -18,43 +20,36 @@ const OUTPUT: &[u8] = &[
     0x04, 0x00, 0x01, 0x00, 0x97, 0xD0, 0x00,
 ];
 
-// Gives a fixed number of bytes a read, and fails when it is told to.
+/// Gives at most `step` bytes a read, and fails once so many bytes are left.
 #[derive(Drop)]
-struct Slow {
-    at: usize,
-    end: usize,
+struct Slow<'a> {
+    bytes: &'a [u8],
     step: usize,
-    fails_at: usize,
+    fails_at: Option<usize>,
 }
 
-impl Read for Slow {
+impl Read for Slow<'_> {
     fn read(&mut self, buf: &mut [u8]) -> io::Result<usize> {
-        if self.at == self.fails_at {
+        if self.fails_at == Some(self.bytes.len()) {
             return Err(io::Error::from(ErrorKind::Interrupted));
         }
-        let end = self.end.min(INPUT.len());
-        let n = end.saturating_sub(self.at).min(self.step).min(buf.len());
-        for k in 0..n {
-            if self.at < INPUT.len() {
-                buf[k] = INPUT[self.at];
-                self.at += 1;
-            }
-        }
-        Ok(n)
+        let n = buf.len().min(self.step);
+        self.bytes.read(&mut buf[..n])
     }
 }
 
-// Takes at most two bytes a write, is full after some, and notes at which byte it was flushed.
+/// Takes at most `step` bytes a write, is full after some, and notes at which byte it was flushed.
 #[derive(Drop)]
 struct Narrow {
     bytes: Vec<u8>,
+    step: usize,
     room: usize,
     flushed_at: Vec<usize>,
 }
 
 impl Write for Narrow {
     fn write(&mut self, buf: &[u8]) -> io::Result<usize> {
-        let n = buf.len().min(2).min(self.room);
+        let n = buf.len().min(self.step).min(self.room);
         self.bytes.extend_from_slice(&buf[..n])?;
         self.room -= n;
         Ok(n)
@@ -66,60 +61,84 @@ impl Write for Narrow {
     }
 }
 
-#[derive(Drop)]
-struct Outcome {
+/// How a client sends bytes and takes the replies.
+#[derive(Clone, Copy)]
+struct Script<'a> {
+    id: ConnectionId,
+    input: &'a [u8],
+    /// How many bytes a read gives.
+    step: usize,
+    /// How many bytes are left when a read fails.
+    fails_at: Option<usize>,
+    /// How many bytes a write takes.
+    takes: usize,
+    /// How many bytes are taken in all.
+    room: usize,
+}
+
+/// The first connection of the first place, which takes all, two bytes a write.
+const PLAIN: Script<'static> = Script {
+    id: ConnectionId {
+        place: 1,
+        number: 1,
+    },
+    input: INPUT,
+    step: 1,
+    fails_at: None,
+    takes: 2,
+    room: 1000,
+};
+
+/// What a connection is answered: its end, the replies, after which of their bytes they were flushed, and how many reads and writes
+/// failed.
+#[derive(Clone, Copy)]
+struct Outcome<'a> {
     served: Result<Served, ServeFault>,
-    bytes: Vec<u8>,
-    flushed_at: Vec<usize>,
+    output: &'a [u8],
+    flushed_at: Option<&'a [usize]>,
     failures: (u64, u64),
 }
 
-fn run<H: Wait>(rt: &H, alloc: Global, slow: Slow, room: usize) -> Outcome {
-    let mut reader = Counted::new(slow);
+fn is_written(narrow: &Narrow, wanted: &Outcome) -> bool {
+    let is_flushed = match wanted.flushed_at {
+        Some(wanted) => narrow.flushed_at.as_slice() == wanted,
+        None => true,
+    };
+    is_flushed && narrow.bytes.as_slice() == wanted.output
+}
+
+fn is_served<H: Wait>(rt: &H, alloc: Global, script: &Script, wanted: &Outcome) -> bool {
+    let mut reader = Counted::new(Slow {
+        bytes: script.input,
+        step: script.step,
+        fails_at: script.fails_at,
+    });
     let mut writer = Counted::new(Narrow {
         bytes: Vec::new(alloc),
-        room,
+        step: script.takes,
+        room: script.room,
         flushed_at: Vec::new(alloc),
     });
     let mut clock = Moments::new(0, Vec::new(alloc));
-    let id = ConnectionId {
-        place: 1,
-        number: 1,
-    };
+    let id = script.id;
     let (served, _gate) = serve(rt, alloc, &mut reader, &mut writer, FULL, id, &mut clock);
     let failures = (reader.failures(), writer.failures());
-    let Narrow {
-        bytes,
-        room: _,
-        flushed_at,
-    } = writer.into_inner();
-    Outcome {
-        served,
-        bytes,
-        flushed_at,
-        failures,
-    }
+    let is_ended = served == wanted.served && failures == wanted.failures;
+    is_written(&writer.into_inner(), wanted) && is_ended
 }
 
+// Each reply is flushed when it is written.
 #[test]
 fn pieces_of_any_size(rt: HostRuntime) {
+    let wanted = Outcome {
+        served: Ok(Served::ClientClosed),
+        output: OUTPUT,
+        flushed_at: Some(&[15, 21, 23]),
+        failures: (0, 0),
+    };
     for step in [1, 2, 3, 7, 16, 1000] {
-        let slow = Slow {
-            at: 0,
-            end: 1000,
-            step,
-            fails_at: 1000,
-        };
-        let all = run(&rt, rt.alloc(), slow, 1000);
-        assert!(rt; all.served == Ok(Served::ClientClosed), "{step}");
-        assert_eq!(rt; all.bytes.as_slice(), OUTPUT, "{step}");
-        // Each reply is flushed when it is written.
-        assert_eq!(rt;
-            all.flushed_at.as_slice(),
-            [15, 21, 23].as_slice(),
-            "{step}"
-        );
-        assert!(rt; all.failures == (0, 0), "{step}");
+        let script = Script { step, ..PLAIN };
+        assert!(rt; is_served(&rt, rt.alloc(), &script, &wanted), "{step}");
     }
 }
 
@@ -134,46 +153,106 @@ fn the_input_ends(rt: HostRuntime) {
         (29, Served::EndOfInput, 23),
     ];
     for (end, served, len) in ends {
-        let slow = Slow {
-            at: 0,
-            end,
-            step: 1,
-            fails_at: 1000,
+        let wanted = Outcome {
+            served: Ok(served),
+            output: &OUTPUT[..len],
+            flushed_at: None,
+            failures: (0, 0),
         };
-        let all = run(&rt, rt.alloc(), slow, 1000);
-        assert!(rt; all.served == Ok(served), "{end}");
-        assert!(rt; all.bytes.as_slice() == &OUTPUT[..len], "{end}");
+        let script = Script {
+            input: &INPUT[..end],
+            ..PLAIN
+        };
+        assert!(rt; is_served(&rt, rt.alloc(), &script, &wanted), "{end}");
     }
 }
 
 #[test]
 fn the_reader_fails(rt: HostRuntime) {
-    for (fails_at, len) in [(0, 0), (15, 0), (16, 15), (28, 21)] {
-        let slow = Slow {
-            at: 0,
-            end: 1000,
-            step: 1,
-            fails_at,
+    for (fails_at, len) in [(31, 0), (16, 0), (15, 15), (3, 21)] {
+        let wanted = Outcome {
+            served: Err(ServeFault::Read),
+            output: &OUTPUT[..len],
+            flushed_at: None,
+            failures: (1, 0),
         };
-        let all = run(&rt, rt.alloc(), slow, 1000);
-        assert!(rt; all.served == Err(ServeFault::Read), "{fails_at}");
-        assert!(rt; all.bytes.as_slice() == &OUTPUT[..len], "{fails_at}");
-        assert!(rt; all.failures == (1, 0), "{fails_at}");
+        let script = Script {
+            fails_at: Some(fails_at),
+            ..PLAIN
+        };
+        assert!(rt; is_served(&rt, rt.alloc(), &script, &wanted), "{fails_at}");
     }
 }
 
 #[test]
 fn the_writer_is_full(rt: HostRuntime) {
     for room in [0, 7, 15, 22] {
-        let slow = Slow {
-            at: 0,
-            end: 1000,
-            step: 16,
-            fails_at: 1000,
+        let wanted = Outcome {
+            served: Err(ServeFault::Write),
+            output: &OUTPUT[..room],
+            flushed_at: None,
+            failures: (0, 1),
         };
-        let all = run(&rt, rt.alloc(), slow, room);
-        assert!(rt; all.served == Err(ServeFault::Write), "{room}");
-        assert!(rt; all.bytes.as_slice() == &OUTPUT[..room], "{room}");
-        assert!(rt; all.failures == (0, 1), "{room}");
+        let script = Script {
+            step: 16,
+            room,
+            ..PLAIN
+        };
+        assert!(rt; is_served(&rt, rt.alloc(), &script, &wanted), "{room}");
     }
+}
+
+// A client that gives no identifier, at the last place and with the greatest number, is assigned the longest one (3.2.2.3.7).
+#[test]
+fn the_longest_identifier_is_assigned(rt: HostRuntime) {
+    let script = Script {
+        id: ConnectionId {
+            place: 64,
+            number: u64::MAX,
+        },
+        input: b"\x10\x0D\x00\x04MQTT\x05\x02\x00\x3C\x00\x00\x00",
+        ..PLAIN
+    };
+    let wanted = Outcome {
+        served: Ok(Served::EndOfInput),
+        output: b"\x20\x29\x00\x00\x26\x12\x00\x19rs64-18446744073709551615\x21\x00\x10\x27\x00\x04\x00\x00\x2A\x00",
+        flushed_at: None,
+        failures: (0, 0),
+    };
+    assert!(rt; is_served(&rt, rt.alloc(), &script, &wanted));
+}
+
+// Appends so many times these bytes.
+fn put_repeated(all: &mut Vec<u8>, bytes: &[u8], count: u16) -> Result<(), AllocError> {
+    for _ in 0..count {
+        all.extend_from_slice(bytes)?;
+    }
+    Ok(())
+}
+
+// CONNECT, and UNSUBSCRIBE of 1,000 filters `a`: CONNACK is 15 bytes, and UNSUBACK of 1,000 codes 1,006, which is longer than what one
+// write takes.
+#[test]
+fn a_long_reply_is_flushed(rt: HostRuntime) -> Result<(), Fail> {
+    let mut input = INPUT[..16].to_vec(rt.alloc())?;
+    input.extend_from_slice(b"\xA2\xBB\x17\x00\x01\x00")?;
+    put_repeated(&mut input, b"\x00\x01a", 1000)?;
+    let mut output = OUTPUT[..15].to_vec(rt.alloc())?;
+    output.extend_from_slice(b"\xB0\xEB\x07\x00\x01\x00")?;
+    put_repeated(&mut output, b"\x11", 1000)?;
+    let script = Script {
+        input: &input,
+        step: 10_000,
+        takes: 100,
+        room: 10_000,
+        ..PLAIN
+    };
+    let wanted = Outcome {
+        served: Ok(Served::EndOfInput),
+        output: &output,
+        flushed_at: Some(&[15, 1021]),
+        failures: (0, 0),
+    };
+    assert!(rt; is_served(&rt, rt.alloc(), &script, &wanted));
+    Ok(())
 }

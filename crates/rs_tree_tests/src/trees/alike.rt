@@ -3,6 +3,8 @@
 ghost use Rattle.std.specs.Prelude.{◌≡◌, ◌<◌, false, IfOk};
 ghost use Rattle.rs_message.specs.Messages.{is_sweep};
 
+use super::joined::{cleared_rows, deep, lone_messages, swept_rows};
+use super::wide::{grown, swept_grown};
 use super::{as_many, origin, set_at};
 use rs_message::{Entry, Operation};
 use rs_store::{Catalogue, MapCatalogue, Refusal, Store, TopicLimit};
@@ -80,6 +82,9 @@ fn filter_of(alloc: Global, draw: &mut Draw) -> Result<Vec<u8>, Fail> {
     Ok(filter)
 }
 
+/// The kind of a Set that comes when all others with an interval have expired.
+pub const LATE: u64 = 6;
+
 /// What an entry does: two Sets of three, with an interval or none.
 pub fn operation_of(alloc: Global, name: &[u8], kind: u64) -> Result<Operation, Fail>
     ensures { IfOk result (λ o. is_sweep o ≡ false) }
@@ -90,6 +95,7 @@ pub fn operation_of(alloc: Global, name: &[u8], kind: u64) -> Result<Operation, 
         1 => set_at(alloc, topic, b"y", 100, None),
         2 => set_at(alloc, topic, b"z", 100, Some(20)),
         3 => set_at(alloc, topic, b"z", 100, Some(0)),
+        LATE => set_at(alloc, topic, b"l", 200, None),
         _ => Ok(Operation::Clear(topic)),
     };
     Ok(operation?)
@@ -232,12 +238,65 @@ fn filled<C: Catalogue + Drop>(
     copies_are_alike(rt, alloc, map, tree)
 }
 
-#[test]
-fn both_alike(rt: HostRuntime) -> Result<(), Fail> {
-    let alloc = rt.alloc();
-    let limit = TopicLimit::new(300).ok_or("300 is a limit")?;
+/// Sets or clears one topic in both.
+pub fn put_both(
+    alloc: Global,
+    map: &mut Store<MapCatalogue>,
+    tree: &mut Store<TreeCatalogue>,
+    name: &[u8],
+    kind: u64,
+) -> Result<(), Fail> {
+    let serial = map.catalogue().last_serial(1).saturating_add(1);
+    put(alloc, map, serial, name, kind)??;
+    put(alloc, tree, serial, name, kind)??;
+    Ok(())
+}
+
+/// The filters are answered alike, and both count and expire alike.
+pub fn all_alike<C: Catalogue, D: Catalogue>(
+    rt: &impl Abort,
+    alloc: Global,
+    first: &C,
+    second: &D,
+    filters: &[&[u8]],
+) -> Result<(), Fail> {
+    for filter in filters {
+        is_alike(rt, alloc, first, second, filter)?;
+    }
+    assert!(rt; first.count() == second.count());
+    assert!(rt; first.expired(115) == second.expired(115));
+    assert!(rt; first.earliest() == second.earliest());
+    Ok(())
+}
+
+/// A check of both catalogues, over new stores of so many topics.
+#[derive(Clone, Copy)]
+pub enum Case {
+    Entries,
+    Deep,
+    LoneMessages,
+    ClearedRows,
+    SweptRows,
+    Grown(u64),
+    SweptGrown,
+}
+
+pub fn check(rt: &impl Abort, alloc: Global, topics: u32, check: Case) -> Result<(), Fail> {
+    let limit = TopicLimit::new(topics).ok_or("a limit")?;
     let mut map: Store<MapCatalogue> = Store::new(alloc, limit)?;
     let mut tree: Store<TreeCatalogue> = Store::new(alloc, limit)?;
-    filled(&rt, alloc, &mut map, &mut tree)?;
-    Ok(())
+    match check {
+        Case::Entries => filled(rt, alloc, &mut map, &mut tree),
+        Case::Deep => deep(rt, alloc, &mut map, &mut tree),
+        Case::LoneMessages => lone_messages(rt, alloc, &mut map, &mut tree),
+        Case::ClearedRows => cleared_rows(rt, alloc, &mut map, &mut tree),
+        Case::SweptRows => swept_rows(rt, alloc, &mut map, &mut tree),
+        Case::Grown(step) => grown(rt, alloc, &mut map, &mut tree, step),
+        Case::SweptGrown => swept_grown(rt, alloc, &mut map, &mut tree),
+    }
+}
+
+#[test]
+fn both_alike(rt: HostRuntime) -> Result<(), Fail> {
+    check(&rt, rt.alloc(), 300, Case::Entries)
 }

@@ -1,7 +1,10 @@
-//! Worked examples, and each public call once with ample memory.
+//! Worked examples over both catalogues, and each public call once with ample memory.
+
+ghost use Rattle.std.specs.Prelude.{◌≡◌, false, IfOk};
+ghost use Rattle.rs_message.specs.Messages.{is_sweep};
 
 use super::{origin, set_at};
-use rs_message::{Entry, Operation};
+use rs_message::{Entry, Operation, Origin};
 use rs_store::{Catalogue, MAX_TOPICS, MapCatalogue, Refusal, Store, TopicLimit, content_law};
 use rs_topic::{TopicFilter, TopicName};
 use rs_tree::TreeCatalogue;
@@ -9,71 +12,232 @@ use std::alloc::Global;
 use std::process::Abort;
 use std::test::Fail;
 
-/// Adds a Set of a message that came at 100, with an interval of 10 seconds.
-fn set<C: Catalogue>(
-    alloc: Global,
-    store: &mut Store<C>,
-    place: u8,
-    serial: u64,
-    topic: &[u8],
-) -> Result<Result<(), Refusal>, Fail> {
-    let origin = origin(place, serial)?;
-    let topic = TopicName::read(alloc, topic)?;
-    let operation = set_at(alloc, topic, b"x", 100, Some(10))?;
-    Ok(store.add(Entry { origin, operation }))
+/// An entry: its serial, and what it does.
+#[derive(Clone, Copy)]
+enum Change {
+    /// A Set at place 1: the topic, when the message came, and its interval.
+    Set(u64, &'static [u8], u64, Option<u32>),
+    /// A Clear at place 2.
+    Clear(u64, &'static [u8]),
+    /// The writer's Sweep of a moment.
+    Sweep(u64, u64),
 }
 
-fn clear<C: Catalogue>(
-    alloc: Global,
-    store: &mut Store<C>,
-    place: u8,
-    serial: u64,
-    topic: &[u8],
-) -> Result<Result<(), Refusal>, Fail> {
-    let origin = origin(place, serial)?;
-    let topic = TopicName::read(alloc, topic)?;
-    let operation = Operation::Clear(topic);
-    Ok(store.add(Entry { origin, operation }))
+/// What a catalogue says.
+#[derive(Clone, Copy)]
+enum Fact {
+    /// The version, and how many messages it holds.
+    Numbers(u64, u32),
+    /// The last serial of a place.
+    Serial(u8, u64),
+    /// The topics that a filter is answered at a given time, each followed by a space.
+    Topics(&'static [u8], u64, &'static [u8]),
+    /// How many messages are expired at a moment.
+    Expired(u64, u32),
+    /// From which moment on something is expired.
+    Earliest(u64),
 }
 
-/// Adds entries one after the other, by the bound alone.
-fn limit_of_2<C: Catalogue>(
+#[derive(Clone, Copy)]
+enum Step {
+    /// An entry, and why it is refused, if it is.
+    Takes(Change, Option<Refusal>),
+    Says(Fact),
+}
+
+/// What a Set or a Clear does. An error at a Sweep.
+fn operation_of(alloc: Global, change: Change) -> Result<Operation, Fail>
+    ensures { IfOk result (λ o. is_sweep o ≡ false) }
+{
+    match change {
+        Change::Set(_, topic, received, expiry) => {
+            let topic = TopicName::read(alloc, topic)?;
+            Ok(set_at(alloc, topic, b"x", received, expiry)?)
+        }
+        Change::Clear(_, topic) => Ok(Operation::Clear(TopicName::read(alloc, topic)?)),
+        Change::Sweep(_, _) => Err(Fail::from("a Sweep")),
+    }
+}
+
+fn origin_of(change: Change) -> Result<Origin, Fail> {
+    match change {
+        Change::Set(serial, _, _, _) => origin(1, serial),
+        Change::Clear(serial, _) => origin(2, serial),
+        Change::Sweep(serial, _) => Ok(Origin::of_writer(serial).ok_or("no serial")?),
+    }
+}
+
+fn refusal(answer: Result<(), Refusal>) -> Option<Refusal> {
+    match answer {
+        Ok(()) => None,
+        Err(refusal) => Some(refusal),
+    }
+}
+
+/// Adds a Set or a Clear, or says why it is refused.
+fn add<C: Catalogue>(
+    alloc: Global,
+    store: &mut Store<C>,
+    change: Change,
+) -> Result<Option<Refusal>, Fail> {
+    let origin = origin_of(change)?;
+    let operation = operation_of(alloc, change)?;
+    Ok(refusal(store.add(Entry { origin, operation })))
+}
+
+fn entry_of(alloc: Global, change: Change) -> Result<Entry, Fail> {
+    let origin = origin_of(change)?;
+    let operation = match change {
+        Change::Sweep(_, moment) => Operation::Sweep(moment),
+        other => operation_of(alloc, other)?,
+    };
+    Ok(Entry { origin, operation })
+}
+
+/// Applies an entry that is accepted, or says why it is not.
+pub fn take<C: Catalogue>(catalogue: &mut C, entry: Entry) -> Result<Option<Refusal>, Fail> {
+    match catalogue.accepts(&entry) {
+        Ok(()) => {
+            catalogue.apply(entry)?;
+            Ok(None)
+        }
+        Err(refusal) => Ok(Some(refusal)),
+    }
+}
+
+fn answers<C: Catalogue>(
+    alloc: Global,
+    catalogue: &C,
+    filter: &[u8],
+    now: u64,
+    topics: &[u8],
+) -> Result<bool, Fail> {
+    let filter = TopicFilter::read(alloc, filter)?;
+    let mut all = Vec::new(alloc);
+    for one in &catalogue.answer(&filter, now)? {
+        all.extend_from_slice(one.topic.as_bytes())?;
+        all.push(b' ')?;
+    }
+    Ok(all.as_slice() == topics)
+}
+
+fn says<C: Catalogue>(alloc: Global, catalogue: &C, fact: Fact) -> Result<bool, Fail> {
+    match fact {
+        Fact::Numbers(version, count) => {
+            Ok(catalogue.version() == version && catalogue.count() == count)
+        }
+        Fact::Serial(place, serial) => Ok(catalogue.last_serial(place) == serial),
+        Fact::Topics(filter, now, topics) => answers(alloc, catalogue, filter, now, topics),
+        Fact::Expired(now, count) => Ok(catalogue.expired(now) == count),
+        Fact::Earliest(moment) => Ok(catalogue.earliest() == moment),
+    }
+}
+
+/// Makes the steps in a store, which sweeps by itself.
+fn in_store<C: Catalogue>(
     rt: &impl Abort,
     alloc: Global,
     store: &mut Store<C>,
+    steps: &[Step],
 ) -> Result<(), Fail> {
-    let rows: [(u64, &[u8], Result<(), Refusal>); 5] = [
-        (1, b"a", Ok(())),
-        (2, b"b", Ok(())),
-        (3, b"c", Err(Refusal::Full)),
-        (2, b"c", Err(Refusal::Stale)),
-        (3, b"a", Ok(())),
-    ];
-    for (serial, topic, wanted) in rows {
-        assert!(rt; set(alloc, store, 1, serial, topic)? == wanted);
+    for step in steps {
+        let is_so = match *step {
+            Step::Takes(change, wanted) => add(alloc, store, change)? == wanted,
+            Step::Says(fact) => says(alloc, store.catalogue(), fact)?,
+        };
+        assert!(rt; is_so);
     }
-    assert!(rt; clear(alloc, store, 2, 1, b"d")? == Ok(()));
     Ok(())
 }
 
-fn after_these<C: Catalogue>(rt: &impl Abort, catalogue: &C) {
-    assert!(rt; (catalogue.version(), catalogue.count()) == (4, 2));
-    for (place, serial) in [(1, 3), (2, 1), (3, 0), (255, 0)] {
-        assert!(rt; catalogue.last_serial(place) == serial);
+/// Makes the steps in a catalogue.
+fn in_catalogue<C: Catalogue>(
+    rt: &impl Abort,
+    alloc: Global,
+    catalogue: &mut C,
+    steps: &[Step],
+) -> Result<(), Fail> {
+    for step in steps {
+        let is_so = match *step {
+            Step::Takes(change, wanted) => take(catalogue, entry_of(alloc, change)?)? == wanted,
+            Step::Says(fact) => says(alloc, catalogue, fact)?,
+        };
+        assert!(rt; is_so);
     }
+    Ok(())
 }
+
+/// The catalogue says all of this.
+fn says_all<C: Catalogue>(
+    rt: &impl Abort,
+    alloc: Global,
+    catalogue: &C,
+    facts: &[Fact],
+) -> Result<(), Fail> {
+    for fact in facts {
+        assert!(rt; says(alloc, catalogue, *fact)?);
+    }
+    Ok(())
+}
+
+/// Makes the first steps in a new store of so many topics. Then it says what it has to, and so does a copy of its catalogue once the
+/// other steps are made. It is known by the bound alone.
+fn check_store<C: Catalogue + Drop>(
+    rt: &impl Abort,
+    alloc: Global,
+    limit: TopicLimit,
+    steps: [&[Step]; 2],
+    facts: &[Fact],
+) -> Result<(), Fail> {
+    let mut store: Store<C> = Store::new(alloc, limit)?;
+    in_store(rt, alloc, &mut store, steps[0])?;
+    says_all(rt, alloc, store.catalogue(), facts)?;
+    let copy = store.catalogue().copy()?;
+    in_store(rt, alloc, &mut store, steps[1])?;
+    says_all(rt, alloc, &copy, facts)
+}
+
+fn check_stores(
+    rt: &impl Abort,
+    alloc: Global,
+    topics: u32,
+    steps: [&[Step]; 2],
+    facts: &[Fact],
+) -> Result<(), Fail> {
+    let limit = TopicLimit::new(topics).ok_or("a limit")?;
+    check_store::<MapCatalogue>(rt, alloc, limit, steps, facts)?;
+    check_store::<TreeCatalogue>(rt, alloc, limit, steps, facts)
+}
+
+/// Makes the steps in new catalogues of so many topics.
+fn check_catalogues(
+    rt: &impl Abort,
+    alloc: Global,
+    topics: u32,
+    steps: &[Step],
+) -> Result<(), Fail> {
+    let limit = TopicLimit::new(topics).ok_or("a limit")?;
+    in_catalogue(rt, alloc, &mut MapCatalogue::new(alloc, limit)?, steps)?;
+    in_catalogue(rt, alloc, &mut TreeCatalogue::new(alloc, limit)?, steps)
+}
+
+const FULL_AND_STALE: &[Step] = &[
+    Step::Takes(Change::Set(1, b"a", 100, Some(10)), None),
+    Step::Takes(Change::Set(2, b"b", 100, Some(10)), None),
+    Step::Takes(Change::Set(3, b"c", 100, Some(10)), Some(Refusal::Full)),
+    Step::Takes(Change::Set(2, b"c", 100, Some(10)), Some(Refusal::Stale)),
+    Step::Takes(Change::Set(3, b"a", 100, Some(10)), None),
+    Step::Takes(Change::Clear(1, b"d"), None),
+    Step::Says(Fact::Numbers(4, 2)),
+    Step::Says(Fact::Serial(1, 3)),
+    Step::Says(Fact::Serial(2, 1)),
+    Step::Says(Fact::Serial(3, 0)),
+    Step::Says(Fact::Serial(255, 0)),
+];
 
 #[test]
 fn full_and_stale(rt: HostRuntime) -> Result<(), Fail> {
-    let alloc = rt.alloc();
-    let limit = TopicLimit::new(2).ok_or("2 is a limit")?;
-    let mut map: Store<MapCatalogue> = Store::new(alloc, limit)?;
-    limit_of_2(&rt, alloc, &mut map)?;
-    after_these(&rt, map.catalogue());
-    let mut tree: Store<TreeCatalogue> = Store::new(alloc, limit)?;
-    limit_of_2(&rt, alloc, &mut tree)?;
-    after_these(&rt, tree.catalogue());
-    Ok(())
+    check_stores(&rt, rt.alloc(), 2, [FULL_AND_STALE, &[]], &[])
 }
 
 #[test]
@@ -86,143 +250,167 @@ fn limits(rt: HostRuntime) -> Result<(), Fail> {
     Ok(())
 }
 
-/// The topics that a filter is answered at a given time, each followed by a space.
-fn topics<C: Catalogue>(
-    alloc: Global,
-    catalogue: &C,
-    filter: &[u8],
-    now: u64,
-) -> Result<Vec<u8>, Fail> {
-    let filter = TopicFilter::read(alloc, filter)?;
-    let found = catalogue.answer(&filter, now)?;
-    let mut all = Vec::new(alloc);
-    for one in &found {
-        all.extend_from_slice(one.topic.as_bytes())?;
-        all.push(b' ')?;
-    }
-    Ok(all)
-}
-
-fn fill<C: Catalogue>(alloc: Global, store: &mut Store<C>) -> Result<(), Fail> {
-    set(alloc, store, 1, 1, b"a.b")??;
-    set(alloc, store, 1, 2, b"a/b")??;
-    set(alloc, store, 1, 3, b"$SYS/x")??;
-    set(alloc, store, 1, 4, b"c")??;
-    Ok(())
-}
-
-fn answered<C: Catalogue>(rt: &impl Abort, alloc: Global, catalogue: &C) -> Result<(), Fail> {
-    let rows: [(&[u8], u64, &[u8]); 4] = [
-        (b"#", 109, b"a/b a.b c "),
-        (b"#", 110, b""),
-        (b"$SYS/#", 100, b"$SYS/x "),
-        (b"a/+", 100, b"a/b "),
-    ];
-    for (filter, now, wanted) in rows {
-        assert!(rt; topics(alloc, catalogue, filter, now)?.as_slice() == wanted);
-    }
-    Ok(())
-}
-
 /// Topics with empty levels, with a level that is a prefix of another, and with a dollar.
-fn set_by_levels<C: Catalogue>(alloc: Global, store: &mut Store<C>) -> Result<(), Fail> {
-    let names: [&[u8]; 6] = [b"a.b", b"a/b", b"$s", b"a/", b"/", b"a"];
-    let mut serial: u64 = 0;
-    for name in names {
-        serial = serial.saturating_add(1);
-        set(alloc, store, 1, serial, name)??;
-    }
-    Ok(())
-}
+const SET_BY_LEVELS: &[Step] = &[
+    Step::Takes(Change::Set(1, b"a.b", 100, Some(10)), None),
+    Step::Takes(Change::Set(2, b"a/b", 100, Some(10)), None),
+    Step::Takes(Change::Set(3, b"$s", 100, Some(10)), None),
+    Step::Takes(Change::Set(4, b"a/", 100, Some(10)), None),
+    Step::Takes(Change::Set(5, b"/", 100, Some(10)), None),
+    Step::Takes(Change::Set(6, b"a", 100, Some(10)), None),
+];
 
-fn by_levels<C: Catalogue>(rt: &impl Abort, alloc: Global, catalogue: &C) -> Result<(), Fail> {
-    let rows: [(&[u8], &[u8]); 7] = [
-        (b"#", b"/ a a/ a/b a.b "),
-        (b"+/#", b"/ a a/ a/b a.b "),
-        (b"+/+", b"/ a/ a/b "),
-        (b"a/#", b"a a/ a/b "),
-        (b"$s/#", b"$s "),
-        (b"$s", b"$s "),
-        (b"+", b"a a.b "),
-    ];
-    for (filter, wanted) in rows {
-        assert!(rt; topics(alloc, catalogue, filter, 100)?.as_slice() == wanted);
-    }
-    Ok(())
-}
-
-/// By the bound alone, and so also in a copy.
-fn set_and_copied<C: Catalogue + Drop>(
-    rt: &impl Abort,
-    alloc: Global,
-    mut store: Store<C>,
-) -> Result<(), Fail> {
-    set_by_levels(alloc, &mut store)?;
-    by_levels(rt, alloc, store.catalogue())?;
-    by_levels(rt, alloc, &store.catalogue().copy()?)?;
-    Ok(())
-}
+const BY_LEVELS: &[Fact] = &[
+    Fact::Topics(b"#", 100, b"/ a a/ a/b a.b "),
+    Fact::Topics(b"+/#", 100, b"/ a a/ a/b a.b "),
+    Fact::Topics(b"+/+", 100, b"/ a/ a/b "),
+    Fact::Topics(b"a/#", 100, b"a a/ a/b "),
+    Fact::Topics(b"$s/#", 100, b"$s "),
+    Fact::Topics(b"$s", 100, b"$s "),
+    Fact::Topics(b"+", 100, b"a a.b "),
+];
 
 #[test]
 fn levels(rt: HostRuntime) -> Result<(), Fail> {
-    let alloc = rt.alloc();
-    let limit = TopicLimit::new(10).ok_or("10 is a limit")?;
-    let map: Store<MapCatalogue> = Store::new(alloc, limit)?;
-    set_and_copied(&rt, alloc, map)?;
-    let tree: Store<TreeCatalogue> = Store::new(alloc, limit)?;
-    set_and_copied(&rt, alloc, tree)?;
-    Ok(())
+    check_stores(&rt, rt.alloc(), 10, [SET_BY_LEVELS, &[]], BY_LEVELS)
+}
+
+const BEFORE_A_COPY: &[Step] = &[
+    Step::Takes(Change::Set(1, b"a.b", 100, Some(10)), None),
+    Step::Takes(Change::Set(2, b"a/b", 100, Some(10)), None),
+    Step::Takes(Change::Set(3, b"$SYS/x", 100, Some(10)), None),
+    Step::Takes(Change::Set(4, b"c", 100, Some(10)), None),
+];
+
+const AFTER_A_COPY: &[Step] = &[
+    Step::Takes(Change::Clear(1, b"c"), None),
+    Step::Says(Fact::Numbers(5, 3)),
+];
+
+/// A copy keeps what the first loses.
+const COPIED: &[Fact] = &[
+    Fact::Topics(b"#", 109, b"a/b a.b c "),
+    Fact::Topics(b"#", 110, b""),
+    Fact::Topics(b"$SYS/#", 100, b"$SYS/x "),
+    Fact::Topics(b"a/+", 100, b"a/b "),
+    Fact::Numbers(4, 4),
+    Fact::Serial(1, 4),
+];
+
+#[test]
+fn copies(rt: HostRuntime) -> Result<(), Fail> {
+    check_stores(&rt, rt.alloc(), 10, [BEFORE_A_COPY, AFTER_A_COPY], COPIED)
+}
+
+/// A full store takes a new topic from the moment on at which one has expired, by a Sweep of its own, and not before.
+const ROOM_MADE: &[Step] = &[
+    Step::Takes(Change::Set(1, b"a", 100, Some(10)), None),
+    Step::Says(Fact::Numbers(1, 1)),
+    Step::Takes(Change::Set(2, b"b", 100, Some(10)), Some(Refusal::Full)),
+    Step::Takes(Change::Set(2, b"b", 109, Some(10)), Some(Refusal::Full)),
+    Step::Says(Fact::Numbers(1, 1)),
+    Step::Takes(Change::Set(2, b"b", 110, Some(10)), None),
+    Step::Says(Fact::Numbers(3, 1)),
+    Step::Takes(Change::Set(3, b"c", 119, Some(10)), Some(Refusal::Full)),
+    Step::Says(Fact::Numbers(3, 1)),
+    Step::Takes(Change::Set(3, b"c", 120, Some(10)), None),
+    Step::Says(Fact::Numbers(5, 1)),
+];
+
+#[test]
+fn room_made(rt: HostRuntime) -> Result<(), Fail> {
+    check_stores(&rt, rt.alloc(), 1, [ROOM_MADE, &[]], &[])
+}
+
+/// A Sweep is stale with a serial of before, and else accepted, also by a full store.
+const SWEEPS_JUDGED: &[Step] = &[
+    Step::Takes(Change::Set(1, b"a", 100, Some(10)), None),
+    Step::Takes(Change::Sweep(3, 109), None),
+    Step::Says(Fact::Numbers(2, 1)),
+    Step::Says(Fact::Expired(109, 0)),
+    Step::Says(Fact::Expired(110, 1)),
+    Step::Takes(Change::Sweep(3, 110), Some(Refusal::Stale)),
+    Step::Takes(Change::Sweep(2, 110), Some(Refusal::Stale)),
+    Step::Takes(Change::Sweep(4, 110), None),
+    Step::Says(Fact::Numbers(3, 0)),
+    Step::Says(Fact::Serial(0, 4)),
+    Step::Says(Fact::Serial(1, 1)),
+];
+
+#[test]
+fn sweeps_judged(rt: HostRuntime) -> Result<(), Fail> {
+    check_catalogues(&rt, rt.alloc(), 1, SWEEPS_JUDGED)
+}
+
+/// What is first expired, while messages are set, replaced, cleared and swept.
+const FIRST_TO_EXPIRE: &[Step] = &[
+    Step::Says(Fact::Earliest(u64::MAX)),
+    Step::Says(Fact::Expired(u64::MAX, 0)),
+    Step::Takes(Change::Set(1, b"a/b", 100, None), None),
+    Step::Says(Fact::Earliest(u64::MAX)),
+    Step::Says(Fact::Expired(u64::MAX, 0)),
+    Step::Takes(Change::Set(2, b"a", 100, Some(20)), None),
+    Step::Says(Fact::Earliest(120)),
+    Step::Says(Fact::Expired(119, 0)),
+    Step::Says(Fact::Expired(120, 1)),
+    Step::Takes(Change::Set(3, b"a/c", 100, Some(10)), None),
+    Step::Says(Fact::Earliest(110)),
+    Step::Says(Fact::Expired(109, 0)),
+    Step::Says(Fact::Expired(110, 1)),
+    Step::Takes(Change::Set(4, b"a/c", 100, Some(30)), None),
+    Step::Says(Fact::Earliest(120)),
+    Step::Says(Fact::Expired(119, 0)),
+    Step::Says(Fact::Expired(120, 1)),
+    Step::Takes(Change::Clear(1, b"a"), None),
+    Step::Says(Fact::Earliest(130)),
+    Step::Says(Fact::Expired(129, 0)),
+    Step::Says(Fact::Expired(130, 1)),
+    Step::Takes(Change::Sweep(1, 130), None),
+    Step::Says(Fact::Numbers(6, 1)),
+    Step::Says(Fact::Earliest(u64::MAX)),
+    Step::Says(Fact::Expired(u64::MAX, 0)),
+    Step::Takes(Change::Set(5, b"b", 100, Some(0)), None),
+    Step::Says(Fact::Earliest(0)),
+    Step::Takes(Change::Sweep(2, 0), None),
+    Step::Says(Fact::Numbers(8, 1)),
+    Step::Says(Fact::Earliest(u64::MAX)),
+    Step::Says(Fact::Expired(u64::MAX, 0)),
+];
+
+#[test]
+fn first_to_expire(rt: HostRuntime) -> Result<(), Fail> {
+    check_catalogues(&rt, rt.alloc(), 10, FIRST_TO_EXPIRE)
+}
+
+/// Each refusal, its number and its text.
+const REFUSALS: &[(Refusal, u8, &str)] = &[
+    (
+        Refusal::Full,
+        20,
+        "the store holds as many topics as it may, or has no number left; clear a topic or raise the limit",
+    ),
+    (
+        Refusal::Stale,
+        21,
+        "the serial is not above the last one of its place; number the entries of a place in rising order",
+    ),
+    (
+        Refusal::NoMemory,
+        22,
+        "memory was refused, and nothing was stored; free memory and try again",
+    ),
+];
+
+fn is_shown(alloc: Global, refusal: Refusal, text: &str) -> Result<bool, Fail> {
+    let shown = format!(in alloc; "{refusal}")?;
+    Ok(shown.as_str() == text)
 }
 
 #[test]
 fn codes(rt: HostRuntime) -> Result<(), Fail> {
-    let rows: [(Refusal, u8, &str); 3] = [
-        (
-            Refusal::Full,
-            20,
-            "the store holds as many topics as it may, or has no number left; clear a topic or raise the limit",
-        ),
-        (
-            Refusal::Stale,
-            21,
-            "the serial is not above the last one of its place; number the entries of a place in rising order",
-        ),
-        (
-            Refusal::NoMemory,
-            22,
-            "memory was refused, and nothing was stored; free memory and try again",
-        ),
-    ];
-    for (refusal, code, text) in rows {
-        assert!(rt; refusal.code() == code);
-        let shown = format!(in rt.alloc(); "{refusal}")?;
-        assert!(rt; shown.as_str() == text);
+    for (refusal, code, text) in REFUSALS {
+        assert!(rt; refusal.code() == *code);
+        assert!(rt; is_shown(rt.alloc(), *refusal, text)?);
     }
-    Ok(())
-}
-
-/// A copy, by the bound alone: it keeps what the first loses.
-fn copied<C: Catalogue + Drop>(
-    rt: &impl Abort,
-    alloc: Global,
-    mut store: Store<C>,
-) -> Result<(), Fail> {
-    fill(alloc, &mut store)?;
-    let copy = store.catalogue().copy()?;
-    clear(alloc, &mut store, 2, 1, b"c")??;
-    answered(rt, alloc, &copy)?;
-    assert!(rt; (copy.version(), copy.count(), copy.last_serial(1)) == (4, 4, 4));
-    assert!(rt; (store.catalogue().version(), store.catalogue().count()) == (5, 3));
-    Ok(())
-}
-
-#[test]
-fn copies(rt: HostRuntime) -> Result<(), Fail> {
-    let alloc = rt.alloc();
-    let limit = TopicLimit::new(10).ok_or("10 is a limit")?;
-    let map: Store<MapCatalogue> = Store::new(alloc, limit)?;
-    copied(&rt, alloc, map)?;
-    let tree: Store<TreeCatalogue> = Store::new(alloc, limit)?;
-    copied(&rt, alloc, tree)?;
     Ok(())
 }

@@ -1,43 +1,14 @@
 //! How many branches are left when messages go.
 
-use super::alike::{is_alike, put};
-use super::{origin, set_at};
-use rs_message::Entry;
-use rs_store::{Catalogue, MapCatalogue, Store, TopicLimit};
-use rs_topic::TopicName;
+use super::alike::{Case, LATE, all_alike, check, put_both};
+use rs_store::{Catalogue, MapCatalogue, Store};
 use rs_tree::TreeCatalogue;
 use std::alloc::Global;
 use std::process::Abort;
 use std::test::Fail;
 
-/// Sets or clears one topic in both.
-fn put_both(
-    alloc: Global,
-    map: &mut Store<MapCatalogue>,
-    tree: &mut Store<TreeCatalogue>,
-    name: &[u8],
-    kind: u64,
-) -> Result<(), Fail> {
-    let serial = map.catalogue().last_serial(1).saturating_add(1);
-    put(alloc, map, serial, name, kind)??;
-    put(alloc, tree, serial, name, kind)??;
-    Ok(())
-}
-
-/// Filters of levels that many topics share are answered alike.
-fn all_alike(
-    rt: &impl Abort,
-    alloc: Global,
-    map: &MapCatalogue,
-    tree: &TreeCatalogue,
-) -> Result<(), Fail> {
-    let filters: [&[u8]; 5] = [b"#", b"a/#", b"+/a/#", b"a/a/+", b"+/+"];
-    for filter in filters {
-        is_alike(rt, alloc, map, tree, filter)?;
-    }
-    assert!(rt; map.count() == tree.count());
-    Ok(())
-}
+/// Filters of levels that many topics share.
+const FILTERS: &[&[u8]] = &[b"#", b"a/#", b"+/a/#", b"a/a/+", b"+/+"];
 
 /// A topic that ends, or differs, behind so many levels that are the same in all.
 fn below(alloc: Global, levels: u64, last: &[u8]) -> Result<Vec<u8>, Fail> {
@@ -62,14 +33,14 @@ fn at_each_level(
         let name = below(alloc, i * 37 % 127, last)?;
         put_both(alloc, map, tree, name.as_slice(), kind)?;
         if i % 16 == 0 {
-            all_alike(rt, alloc, map.catalogue(), tree.catalogue())?;
+            all_alike(rt, alloc, map.catalogue(), tree.catalogue(), FILTERS)?;
         }
     }
     Ok(())
 }
 
 /// There are branches while levels are shared, and then no more. A copy keeps its own.
-fn deep(
+pub fn deep(
     rt: &impl Abort,
     alloc: Global,
     map: &mut Store<MapCatalogue>,
@@ -83,19 +54,14 @@ fn deep(
     let (old_map, old_tree) = (map.catalogue().copy()?, tree.catalogue().copy()?);
     at_each_level(rt, alloc, map, tree, 4)?;
     assert!(rt; (tree.catalogue().count(), tree.catalogue().branches()) == (2, 1));
-    all_alike(rt, alloc, map.catalogue(), tree.catalogue())?;
+    all_alike(rt, alloc, map.catalogue(), tree.catalogue(), FILTERS)?;
     assert!(rt; 100 < old_tree.branches());
-    all_alike(rt, alloc, &old_map, &old_tree)
+    all_alike(rt, alloc, &old_map, &old_tree, FILTERS)
 }
 
 #[test]
 fn shared_levels(rt: HostRuntime) -> Result<(), Fail> {
-    let alloc = rt.alloc();
-    let limit = TopicLimit::new(300).ok_or("300 is a limit")?;
-    let mut map: Store<MapCatalogue> = Store::new(alloc, limit)?;
-    let mut tree: Store<TreeCatalogue> = Store::new(alloc, limit)?;
-    deep(&rt, alloc, &mut map, &mut tree)?;
-    Ok(())
+    check(&rt, rt.alloc(), 300, Case::Deep)
 }
 
 /// Sets a topic and eight below it, which are then cleared.
@@ -121,25 +87,31 @@ fn left_alone(
             )?;
         }
         assert!(rt; kind == 4 || 1 < tree.catalogue().branches());
-        all_alike(rt, alloc, map.catalogue(), tree.catalogue())?;
+        all_alike(rt, alloc, map.catalogue(), tree.catalogue(), FILTERS)?;
     }
     Ok(())
 }
 
-#[test]
-fn lone_messages(rt: HostRuntime) -> Result<(), Fail> {
-    let alloc = rt.alloc();
-    let limit = TopicLimit::new(300).ok_or("300 is a limit")?;
-    let mut map: Store<MapCatalogue> = Store::new(alloc, limit)?;
-    let mut tree: Store<TreeCatalogue> = Store::new(alloc, limit)?;
+/// A topic that is alone again below its branch takes the branch's place.
+pub fn lone_messages(
+    rt: &impl Abort,
+    alloc: Global,
+    map: &mut Store<MapCatalogue>,
+    tree: &mut Store<TreeCatalogue>,
+) -> Result<(), Fail> {
     let names: [&[u8]; 5] = [b"a/a", b"a/b", b"b/a", b"b/b", b"c"];
     for name in names {
-        left_alone(&rt, alloc, &mut map, &mut tree, name)?;
+        left_alone(rt, alloc, map, tree, name)?;
     }
     // The root, and those of `a` and `b`, which have two children.
     let tree = tree.catalogue();
-    assert!(rt; (tree.count(), tree.branches()) == (5, 3));
+    assert!(rt; tree.count() == 5 && tree.branches() == 3);
     Ok(())
+}
+
+#[test]
+fn lone_messages_are_joined(rt: HostRuntime) -> Result<(), Fail> {
+    check(&rt, rt.alloc(), 300, Case::LoneMessages)
 }
 
 /// Sets or clears many topics at each of three places, of which one stays at each.
@@ -160,44 +132,44 @@ fn put_many(
     Ok(())
 }
 
-/// Adds a Set that came at 200.
-fn set_late<C: Catalogue>(alloc: Global, store: &mut Store<C>, serial: u64) -> Result<(), Fail> {
-    let origin = origin(1, serial)?;
-    let topic = TopicName::read(alloc, b"late")?;
-    let operation = set_at(alloc, topic, b"l", 200, None)?;
-    store.add(Entry { origin, operation })?;
+/// Many messages are cleared. No row is left, and no branch beside the root.
+pub fn cleared_rows(
+    rt: &impl Abort,
+    alloc: Global,
+    map: &mut Store<MapCatalogue>,
+    tree: &mut Store<TreeCatalogue>,
+) -> Result<(), Fail> {
+    put_many(alloc, map, tree, 1)?;
+    assert!(rt; 10 < tree.catalogue().branches());
+    put_many(alloc, map, tree, 4)?;
+    all_alike(rt, alloc, map.catalogue(), tree.catalogue(), FILTERS)?;
+    let tree = tree.catalogue();
+    assert!(rt; tree.count() == 3 && tree.branches() == 1);
     Ok(())
 }
 
-/// Many messages are cleared. No row is left, and no branch beside the root.
 #[test]
-fn cleared_rows(rt: HostRuntime) -> Result<(), Fail> {
-    let alloc = rt.alloc();
-    let limit = TopicLimit::new(600).ok_or("600 is a limit")?;
-    let mut map: Store<MapCatalogue> = Store::new(alloc, limit)?;
-    let mut tree: Store<TreeCatalogue> = Store::new(alloc, limit)?;
-    put_many(alloc, &mut map, &mut tree, 1)?;
-    assert!(rt; 10 < tree.catalogue().branches());
-    put_many(alloc, &mut map, &mut tree, 4)?;
-    all_alike(&rt, alloc, map.catalogue(), tree.catalogue())?;
-    let tree = tree.catalogue();
-    assert!(rt; (tree.count(), tree.branches()) == (3, 1));
-    Ok(())
+fn cleared_rows_are_joined(rt: HostRuntime) -> Result<(), Fail> {
+    check(&rt, rt.alloc(), 600, Case::ClearedRows)
 }
 
 /// Many messages expire, and the store makes room. No row is left, and no branch beside the root.
-#[test]
-fn swept_rows(rt: HostRuntime) -> Result<(), Fail> {
-    let alloc = rt.alloc();
-    let limit = TopicLimit::new(600).ok_or("600 is a limit")?;
-    let mut map: Store<MapCatalogue> = Store::new(alloc, limit)?;
-    let mut tree: Store<TreeCatalogue> = Store::new(alloc, limit)?;
-    put_many(alloc, &mut map, &mut tree, 0)?;
+pub fn swept_rows(
+    rt: &impl Abort,
+    alloc: Global,
+    map: &mut Store<MapCatalogue>,
+    tree: &mut Store<TreeCatalogue>,
+) -> Result<(), Fail> {
+    put_many(alloc, map, tree, 0)?;
     assert!(rt; 10 < tree.catalogue().branches());
-    set_late(alloc, &mut map, 1001)?;
-    set_late(alloc, &mut tree, 1001)?;
-    all_alike(&rt, alloc, map.catalogue(), tree.catalogue())?;
+    put_both(alloc, map, tree, b"late", LATE)?;
+    all_alike(rt, alloc, map.catalogue(), tree.catalogue(), FILTERS)?;
     let tree = tree.catalogue();
-    assert!(rt; (tree.count(), tree.branches()) == (4, 1));
+    assert!(rt; tree.count() == 4 && tree.branches() == 1);
     Ok(())
+}
+
+#[test]
+fn swept_rows_are_joined(rt: HostRuntime) -> Result<(), Fail> {
+    check(&rt, rt.alloc(), 600, Case::SweptRows)
 }

@@ -1,9 +1,10 @@
 //! Sweeps in both catalogues, and what is expired before and after them.
 
 use super::alike::{Draw, is_alike, name_of};
+use super::examples::take;
 use super::{origin, set_at};
 use rs_message::{Entry, Operation, Origin};
-use rs_store::{Catalogue, MapCatalogue, Refusal, Store, TopicLimit};
+use rs_store::{Catalogue, MapCatalogue, TopicLimit};
 use rs_topic::TopicName;
 use rs_tree::TreeCatalogue;
 use std::alloc::{AllocError, Global};
@@ -15,28 +16,6 @@ fn sweep_of(serial: u64, moment: u64) -> Result<Entry, Fail> {
     let origin = Origin::of_writer(serial).ok_or("no serial")?;
     let operation = Operation::Sweep(moment);
     Ok(Entry { origin, operation })
-}
-
-/// Applies an entry that is accepted, or says why it is not.
-fn take<C: Catalogue>(catalogue: &mut C, entry: &Entry) -> Result<Result<(), Refusal>, Fail> {
-    let entry = entry.copy()?;
-    match catalogue.accepts(&entry) {
-        Ok(()) => {
-            catalogue.apply(entry)?;
-            Ok(Ok(()))
-        }
-        Err(refusal) => Ok(Err(refusal)),
-    }
-}
-
-/// Applies the writer's Sweep of a moment.
-fn take_sweep<C: Catalogue>(
-    catalogue: &mut C,
-    serial: u64,
-    moment: u64,
-) -> Result<Result<(), Refusal>, Fail> {
-    let entry = sweep_of(serial, moment)?;
-    take(catalogue, &entry)
 }
 
 /// The version, the writer's last serial, and how many messages are expired at a moment and how many are not.
@@ -55,7 +34,7 @@ fn numbers<C: Catalogue>(catalogue: &C, moment: u64) -> (u64, u64, u32, u32) {
 fn sweep<C: Catalogue>(rt: &impl Abort, catalogue: &mut C, moment: u64) -> Result<(), Fail> {
     let (version, serial, _, others) = numbers(catalogue, moment);
     let (version, serial) = (version.saturating_add(1), serial.saturating_add(1));
-    take_sweep(catalogue, serial, moment)??;
+    assert!(rt; take(catalogue, sweep_of(serial, moment)?)?.is_none());
     assert!(rt; numbers(catalogue, moment) == (version, serial, 0, others));
     assert!(rt; catalogue.earliest() > moment);
     Ok(())
@@ -114,8 +93,8 @@ fn take_alike<C: Catalogue, D: Catalogue>(
     second: &mut D,
     entry: &Entry,
 ) -> Result<(), Fail> {
-    let wanted = take(first, entry)?;
-    assert!(rt; take(second, entry)? == wanted);
+    let wanted = take(first, entry.copy()?)?;
+    assert!(rt; take(second, entry.copy()?)? == wanted);
     Ok(())
 }
 
@@ -181,197 +160,5 @@ fn sweeps_alike(rt: HostRuntime) -> Result<(), Fail> {
     let mut tree = TreeCatalogue::new(alloc, limit)?;
     changes(&rt, alloc, &mut map, &mut tree)?;
     assert!(rt; 20 < tree.count());
-    Ok(())
-}
-
-/// What a Sweep is answered.
-fn sweeps<C: Catalogue>(
-    rt: &impl Abort,
-    catalogue: &mut C,
-    serial: u64,
-    moment: u64,
-    wanted: Result<(), Refusal>,
-) -> Result<(), Fail> {
-    assert!(rt; take_sweep(catalogue, serial, moment)? == wanted);
-    Ok(())
-}
-
-/// One message, which expires at 110.
-fn has_one<C: Catalogue>(rt: &impl Abort, catalogue: &C) {
-    assert!(rt; catalogue.count() == 1);
-    assert!(rt; catalogue.expired(109) == 0);
-    assert!(rt; catalogue.expired(110) == 1);
-}
-
-/// No message, after three entries.
-fn has_none<C: Catalogue>(rt: &impl Abort, catalogue: &C) {
-    assert!(rt; catalogue.count() == 0);
-    assert!(rt; catalogue.version() == 3);
-    assert!(rt; catalogue.last_serial(0) == 4);
-    assert!(rt; catalogue.last_serial(1) == 1);
-}
-
-/// A Sweep is stale with a serial of before, and else accepted, also by a full store.
-fn judged<C: Catalogue>(rt: &impl Abort, alloc: Global, catalogue: &mut C) -> Result<(), Fail> {
-    set_until(alloc, catalogue, b"a", Some(10))?;
-    sweeps(rt, catalogue, 3, 109, Ok(()))?;
-    has_one(rt, catalogue);
-    sweeps(rt, catalogue, 3, 110, Err(Refusal::Stale))?;
-    sweeps(rt, catalogue, 2, 110, Err(Refusal::Stale))?;
-    sweeps(rt, catalogue, 4, 110, Ok(()))?;
-    has_none(rt, catalogue);
-    Ok(())
-}
-
-#[test]
-fn sweeps_judged(rt: HostRuntime) -> Result<(), Fail> {
-    let alloc = rt.alloc();
-    let limit = TopicLimit::new(1).ok_or("1 is a limit")?;
-    let mut map = MapCatalogue::new(alloc, limit)?;
-    judged(&rt, alloc, &mut map)?;
-    let mut tree = TreeCatalogue::new(alloc, limit)?;
-    judged(&rt, alloc, &mut tree)?;
-    Ok(())
-}
-
-/// A Set of a message that came at 100.
-fn set_of(alloc: Global, serial: u64, topic: &[u8], expiry: Option<u32>) -> Result<Entry, Fail> {
-    let first = origin(1, serial)?;
-    let topic = TopicName::read(alloc, topic)?;
-    let operation = set_at(alloc, topic, b"x", 100, expiry)?;
-    Ok(Entry {
-        origin: first,
-        operation,
-    })
-}
-
-/// Sets one topic to a message that came at 100.
-fn set_until<C: Catalogue>(
-    alloc: Global,
-    catalogue: &mut C,
-    topic: &[u8],
-    expiry: Option<u32>,
-) -> Result<(), Fail> {
-    let serial = catalogue.last_serial(1).saturating_add(1);
-    let entry = set_of(alloc, serial, topic, expiry)?;
-    take(catalogue, &entry)??;
-    Ok(())
-}
-
-/// Something is expired from the moment on, and not just before it.
-fn expires_from<C: Catalogue>(rt: &impl Abort, catalogue: &C, moment: u64) {
-    assert!(rt; catalogue.earliest() == moment);
-    assert!(rt; catalogue.expired(moment.saturating_sub(1)) == 0);
-    assert!(rt; catalogue.expired(moment) > 0);
-}
-
-/// No message ever expires.
-fn never_expires<C: Catalogue>(rt: &impl Abort, catalogue: &C) {
-    assert!(rt; catalogue.earliest() == u64::MAX);
-    assert!(rt; catalogue.expired(u64::MAX) == 0);
-}
-
-/// Clears one topic, at another place than the one that sets.
-fn clear_one<C: Catalogue>(alloc: Global, catalogue: &mut C, topic: &[u8]) -> Result<(), Fail> {
-    let first = origin(2, 1)?;
-    let operation = Operation::Clear(TopicName::read(alloc, topic)?);
-    let entry = Entry {
-        origin: first,
-        operation,
-    };
-    take(catalogue, &entry)??;
-    Ok(())
-}
-
-/// Sweeps at a moment, after which no message ever expires.
-fn sweep_all<C: Catalogue>(rt: &impl Abort, catalogue: &mut C, moment: u64) -> Result<(), Fail> {
-    sweep(rt, catalogue, moment)?;
-    never_expires(rt, catalogue);
-    Ok(())
-}
-
-/// Sets topics one after the other: from which moment on something is expired.
-fn set_expiring<C: Catalogue>(
-    rt: &impl Abort,
-    alloc: Global,
-    catalogue: &mut C,
-) -> Result<(), Fail> {
-    let rows: [(&[u8], u32, u64); 3] = [(b"a", 20, 120), (b"a/c", 10, 110), (b"a/c", 30, 120)];
-    for (topic, expiry, moment) in rows {
-        set_until(alloc, catalogue, topic, Some(expiry))?;
-        expires_from(rt, catalogue, moment);
-    }
-    Ok(())
-}
-
-/// What is first expired, while messages are set, replaced, cleared and swept.
-fn told_first<C: Catalogue>(rt: &impl Abort, alloc: Global, catalogue: &mut C) -> Result<(), Fail> {
-    never_expires(rt, catalogue);
-    set_until(alloc, catalogue, b"a/b", None)?;
-    never_expires(rt, catalogue);
-    set_expiring(rt, alloc, catalogue)?;
-    clear_one(alloc, catalogue, b"a")?;
-    expires_from(rt, catalogue, 130);
-    sweep_all(rt, catalogue, 130)?;
-    set_until(alloc, catalogue, b"b", Some(0))?;
-    assert!(rt; catalogue.earliest() == 0);
-    sweep_all(rt, catalogue, 0)?;
-    assert!(rt; catalogue.count() == 1);
-    Ok(())
-}
-
-#[test]
-fn first_to_expire(rt: HostRuntime) -> Result<(), Fail> {
-    let alloc = rt.alloc();
-    let limit = TopicLimit::new(10).ok_or("10 is a limit")?;
-    told_first(&rt, alloc, &mut MapCatalogue::new(alloc, limit)?)?;
-    told_first(&rt, alloc, &mut TreeCatalogue::new(alloc, limit)?)?;
-    Ok(())
-}
-
-/// A full store takes a new topic from the moment on at which one has expired, by a Sweep of its own, and not before.
-fn makes_room<C: Catalogue>(
-    rt: &impl Abort,
-    alloc: Global,
-    store: &mut Store<C>,
-) -> Result<(), Fail> {
-    let rows: [(&[u8], u64, Result<(), Refusal>, u64); 6] = [
-        (b"a", 100, Ok(()), 1),
-        (b"b", 100, Err(Refusal::Full), 1),
-        (b"b", 109, Err(Refusal::Full), 1),
-        (b"b", 110, Ok(()), 3),
-        (b"c", 119, Err(Refusal::Full), 3),
-        (b"c", 120, Ok(()), 5),
-    ];
-    for (topic, received, wanted, version) in rows {
-        let serial = store.catalogue().last_serial(1).saturating_add(1);
-        assert!(rt; set_at_moment(alloc, store, serial, topic, received)? == wanted);
-        assert!(rt; store.catalogue().version() == version);
-    }
-    Ok(())
-}
-
-/// Adds a Set of a message that came at a moment, with an interval of 10 seconds.
-fn set_at_moment<C: Catalogue>(
-    alloc: Global,
-    store: &mut Store<C>,
-    serial: u64,
-    topic: &[u8],
-    received: u64,
-) -> Result<Result<(), Refusal>, Fail> {
-    let origin = origin(1, serial)?;
-    let topic = TopicName::read(alloc, topic)?;
-    let operation = set_at(alloc, topic, b"x", received, Some(10))?;
-    Ok(store.add(Entry { origin, operation }))
-}
-
-#[test]
-fn room_made(rt: HostRuntime) -> Result<(), Fail> {
-    let alloc = rt.alloc();
-    let limit = TopicLimit::new(1).ok_or("1 is a limit")?;
-    let mut map: Store<MapCatalogue> = Store::new(alloc, limit)?;
-    makes_room(&rt, alloc, &mut map)?;
-    let mut tree: Store<TreeCatalogue> = Store::new(alloc, limit)?;
-    makes_room(&rt, alloc, &mut tree)?;
     Ok(())
 }

@@ -1,10 +1,7 @@
 //! Many levels side by side, so that rows are divided, and copies that never change.
 
-use super::alike::{is_alike, put};
-use super::{origin, set_at};
-use rs_message::Entry;
-use rs_store::{Catalogue, MapCatalogue, Store, TopicLimit};
-use rs_topic::TopicName;
+use super::alike::{Case, LATE, all_alike, check, put_both};
+use rs_store::{Catalogue, MapCatalogue, Store};
 use rs_tree::TreeCatalogue;
 use std::alloc::Global;
 use std::process::Abort;
@@ -27,39 +24,22 @@ fn name_of(alloc: Global, number: u64) -> Result<Vec<u8>, Fail> {
 }
 
 /// Sets or clears the topic of a number in both.
-fn put_both(
+fn put_number(
     alloc: Global,
     map: &mut Store<MapCatalogue>,
     tree: &mut Store<TreeCatalogue>,
     number: u64,
     kind: u64,
 ) -> Result<(), Fail> {
-    let serial = map.catalogue().last_serial(1).saturating_add(1);
     let name = name_of(alloc, number)?;
-    put(alloc, map, serial, name.as_slice(), kind)??;
-    put(alloc, tree, serial, name.as_slice(), kind)??;
-    Ok(())
+    put_both(alloc, map, tree, name.as_slice(), kind)
 }
 
-/// Some filters are answered alike.
-fn all_alike(
-    rt: &impl Abort,
-    alloc: Global,
-    map: &MapCatalogue,
-    tree: &TreeCatalogue,
-) -> Result<(), Fail> {
-    let filters: [&[u8]; 6] = [b"#", b"+", b"+/deep", b"0010", b"7000/#", b"9999"];
-    for filter in filters {
-        is_alike(rt, alloc, map, tree, filter)?;
-    }
-    assert!(rt; map.count() == tree.count());
-    assert!(rt; map.expired(115) == tree.expired(115));
-    assert!(rt; map.earliest() == tree.earliest());
-    Ok(())
-}
+/// Filters of some topics and of all.
+const FILTERS: &[&[u8]] = &[b"#", b"+", b"+/deep", b"0010", b"7000/#", b"9999"];
 
 /// Sets many topics in a mixed order. Copies stay as they are.
-fn grown(
+pub fn grown(
     rt: &impl Abort,
     alloc: Global,
     map: &mut Store<MapCatalogue>,
@@ -67,65 +47,51 @@ fn grown(
     step: u64,
 ) -> Result<(), Fail> {
     for i in 0..MANY / 2 {
-        put_both(alloc, map, tree, i.wrapping_mul(step) % MANY, i % 3)?;
+        put_number(alloc, map, tree, i.wrapping_mul(step) % MANY, i % 3)?;
     }
     let (old_map, old_tree) = (map.catalogue().copy()?, tree.catalogue().copy()?);
     for i in MANY / 2..MANY {
-        put_both(alloc, map, tree, i.wrapping_mul(step) % MANY, i % 3)?;
+        put_number(alloc, map, tree, i.wrapping_mul(step) % MANY, i % 3)?;
     }
-    all_alike(rt, alloc, map.catalogue(), tree.catalogue())?;
-    all_alike(rt, alloc, &old_map, &old_tree)?;
+    all_alike(rt, alloc, map.catalogue(), tree.catalogue(), FILTERS)?;
+    all_alike(rt, alloc, &old_map, &old_tree, FILTERS)?;
     let (old_map, old_tree) = (map.catalogue().copy()?, tree.catalogue().copy()?);
     for i in 0..MANY {
         if i % 3 > 0 {
-            put_both(alloc, map, tree, i.wrapping_mul(step) % MANY, 4)?;
+            put_number(alloc, map, tree, i.wrapping_mul(step) % MANY, 4)?;
         }
     }
-    all_alike(rt, alloc, map.catalogue(), tree.catalogue())?;
-    all_alike(rt, alloc, &old_map, &old_tree)
+    all_alike(rt, alloc, map.catalogue(), tree.catalogue(), FILTERS)?;
+    all_alike(rt, alloc, &old_map, &old_tree, FILTERS)
 }
 
 #[test]
 fn rows(rt: HostRuntime) -> Result<(), Fail> {
-    let alloc = rt.alloc();
-    let limit = TopicLimit::new(2000).ok_or("2000 is a limit")?;
     for step in [1, 1499, 701] {
-        let mut map: Store<MapCatalogue> = Store::new(alloc, limit)?;
-        let mut tree: Store<TreeCatalogue> = Store::new(alloc, limit)?;
-        grown(&rt, alloc, &mut map, &mut tree, step)?;
+        check(&rt, rt.alloc(), 2000, Case::Grown(step))?;
     }
     Ok(())
 }
 
-/// Adds a Set that came at 200.
-fn set_late<C: Catalogue>(alloc: Global, store: &mut Store<C>, serial: u64) -> Result<(), Fail> {
-    let origin = origin(1, serial)?;
-    let topic = TopicName::read(alloc, b"late")?;
-    let operation = set_at(alloc, topic, b"l", 200, None)?;
-    store.add(Entry { origin, operation })?;
-    Ok(())
+/// Sets as many topics as there may be, and then one more when all but a quarter have expired. Copies stay as they are.
+pub fn swept_grown(
+    rt: &impl Abort,
+    alloc: Global,
+    map: &mut Store<MapCatalogue>,
+    tree: &mut Store<TreeCatalogue>,
+) -> Result<(), Fail> {
+    for i in 0..1000 {
+        let kind = if i % 4 == 0 { 1 } else { 0 };
+        put_number(alloc, map, tree, i, kind)?;
+    }
+    let (old_map, old_tree) = (map.catalogue().copy()?, tree.catalogue().copy()?);
+    put_both(alloc, map, tree, b"late", LATE)?;
+    assert!(rt; map.catalogue().count() == 251);
+    all_alike(rt, alloc, map.catalogue(), tree.catalogue(), FILTERS)?;
+    all_alike(rt, alloc, &old_map, &old_tree, FILTERS)
 }
 
 #[test]
 fn sweeps(rt: HostRuntime) -> Result<(), Fail> {
-    let alloc = rt.alloc();
-    let limit = TopicLimit::new(1000).ok_or("1000 is a limit")?;
-    let mut map: Store<MapCatalogue> = Store::new(alloc, limit)?;
-    let mut tree: Store<TreeCatalogue> = Store::new(alloc, limit)?;
-    for i in 0..1000 {
-        put_both(
-            alloc,
-            &mut map,
-            &mut tree,
-            i,
-            if i % 4 == 0 { 1 } else { 0 },
-        )?;
-    }
-    let (old_map, old_tree) = (map.catalogue().copy()?, tree.catalogue().copy()?);
-    set_late(alloc, &mut map, 1001)?;
-    set_late(alloc, &mut tree, 1001)?;
-    assert!(rt; map.catalogue().count() == 251);
-    all_alike(&rt, alloc, map.catalogue(), tree.catalogue())?;
-    all_alike(&rt, alloc, &old_map, &old_tree)?;
-    Ok(())
+    check(&rt, rt.alloc(), 1000, Case::SweptGrown)
 }

@@ -41,16 +41,6 @@ impl Write for StepWriter {
     }
 }
 
-fn writer(alloc: Global, step: usize, fails_at: usize) -> HexWriter<StepWriter> {
-    HexWriter::new(StepWriter {
-        text: Vec::new(alloc),
-        step,
-        calls: 0,
-        fails_at,
-        flushes: 0,
-    })
-}
-
 // Writes all of the bytes, and each call that failed again.
 fn write_line(writer: &mut HexWriter<StepWriter>, bytes: &[u8]) -> Result<(), Fail> {
     let mut done = 0;
@@ -66,27 +56,38 @@ fn write_line(writer: &mut HexWriter<StepWriter>, bytes: &[u8]) -> Result<(), Fa
     Err(Fail::from("no end"))
 }
 
-fn written(writer: HexWriter<StepWriter>) -> (Vec<u8>, usize) {
-    let StepWriter {
-        text,
-        step: _,
-        calls: _,
-        fails_at: _,
-        flushes,
-    } = writer.into_inner();
-    (text, flushes)
+// Whether the lines are written as this text by an output that takes `step` bytes a call, of which the one with this number fails. Each
+// line is flushed once.
+fn are_written(
+    alloc: Global,
+    step: usize,
+    fails_at: usize,
+    lines: &[&[u8]],
+    text: &[u8],
+) -> Result<bool, Fail> {
+    let mut writer = HexWriter::new(StepWriter {
+        text: Vec::new(alloc),
+        step,
+        calls: 0,
+        fails_at,
+        flushes: 0,
+    });
+    for line in lines {
+        write_line(&mut writer, line)?;
+    }
+    let output = writer.into_inner();
+    Ok(output.text.as_slice() == text && output.flushes == lines.len())
 }
 
-// However few digits the output takes at once. Each line is flushed.
+// However few digits the output takes at once.
 #[test]
 fn all_bytes_are_written(rt: HostRuntime) -> Result<(), Fail> {
+    let lines: [&[u8]; 2] = [b"\x00\x0A\x1f\xF0\xff", b"\x12"];
     for step in 1..=7 {
-        let mut lines = writer(rt.alloc(), step, 0);
-        write_line(&mut lines, b"\x00\x0A\x1f\xF0\xff")?;
-        write_line(&mut lines, b"\x12")?;
-        let (text, flushes) = written(lines);
-        assert_eq!(rt; text.as_slice(), b"000a1ff0ff\n12\n".as_slice(), "{step}");
-        assert!(rt; flushes == 2, "{step}");
+        assert!(rt;
+            are_written(rt.alloc(), step, 0, &lines, b"000a1ff0ff\n12\n")?,
+            "{step}"
+        );
     }
     Ok(())
 }
@@ -94,12 +95,12 @@ fn all_bytes_are_written(rt: HostRuntime) -> Result<(), Fail> {
 // A call that failed and is made again leaves no digit out, and writes none twice.
 #[test]
 fn a_failed_write_goes_on(rt: HostRuntime) -> Result<(), Fail> {
+    let lines: [&[u8]; 1] = [b"\x01\x23\x45\x67\x89"];
     for fails_at in 1..=11 {
-        let mut lines = writer(rt.alloc(), 1, fails_at);
-        write_line(&mut lines, b"\x01\x23\x45\x67\x89")?;
-        let (text, flushes) = written(lines);
-        assert_eq!(rt; text.as_slice(), b"0123456789\n".as_slice(), "{fails_at}");
-        assert!(rt; flushes == 1, "{fails_at}");
+        assert!(rt;
+            are_written(rt.alloc(), 1, fails_at, &lines, b"0123456789\n")?,
+            "{fails_at}"
+        );
     }
     Ok(())
 }
@@ -107,7 +108,13 @@ fn a_failed_write_goes_on(rt: HostRuntime) -> Result<(), Fail> {
 // Nothing is written if the output takes nothing.
 #[test]
 fn an_output_that_takes_nothing(rt: HostRuntime) {
-    let mut lines = writer(rt.alloc(), 0, 0);
+    let mut lines = HexWriter::new(StepWriter {
+        text: Vec::new(rt.alloc()),
+        step: 0,
+        calls: 0,
+        fails_at: 0,
+        flushes: 0,
+    });
     assert!(rt; lines.write(b"\x01").ok() == Some(0));
     assert!(rt; lines.flush().is_err());
 }

@@ -1,328 +1,458 @@
 //! Large and rare arguments of each function that may answer that memory is out: with memory left none does.
 
-ghost use Rattle.std.specs.Prelude.{◌≤◌};
-
-use super::{is_encoded, sent_on, size_of};
+use super::sending::is_sent_as;
+use super::{Kept, NOTHING, Shape, is_more, is_shaped, waits};
 use bytes::Bytes;
 use rs_field::put_varint;
-use rs_packet::*;
-use rs_topic::Text;
+use rs_packet::Qos;
 use std::alloc::{AllocError, Global};
 use std::test::Fail;
 
-// A packet with this first byte and body; no byte if the body is longer than any here.
-fn packet(alloc: Global, first: u8, body: &[u8]) -> Result<Bytes, AllocError> {
-    let mut bytes = vec![in alloc; first]?;
-    if body.len() < 1_000_000 {
-        put_varint(&mut bytes, body.len())?;
-        bytes.extend_from_slice(body)?;
+/// A part of the body of a packet.
+#[derive(Clone, Copy)]
+enum Part {
+    Bytes(&'static [u8]),
+    /// So many bytes `a`.
+    Filled(u32),
+    /// A string or binary data of so many bytes `a`, after its length.
+    Long(u16),
+    /// So many times these bytes.
+    Repeated(&'static [u8], u16),
+    /// A length, in one to four bytes.
+    Length(u32),
+    /// So many User Properties, after their length.
+    Users(u16),
+}
+
+// `k` is `v`.
+const USER: &[u8] = &[0x26, 0, 1, 0x6B, 0, 1, 0x76];
+
+fn put_filled(alloc: Global, body: &mut Vec<u8>, count: usize) -> Result<(), AllocError> {
+    let filled = vec![in alloc; b'a'; count]?;
+    body.extend_from_slice(&filled)
+}
+
+fn put_repeated(body: &mut Vec<u8>, bytes: &[u8], count: u16) -> Result<(), AllocError> {
+    for _ in 0..count {
+        body.extend_from_slice(bytes)?;
     }
+    Ok(())
+}
+
+// A length that is longer than any here is left out.
+fn put_length(body: &mut Vec<u8>, length: usize) -> Result<(), AllocError> {
+    if length < 1_000_000 {
+        put_varint(body, length)?;
+    }
+    Ok(())
+}
+
+fn put(alloc: Global, body: &mut Vec<u8>, part: Part) -> Result<(), AllocError> {
+    match part {
+        Part::Bytes(bytes) => body.extend_from_slice(bytes),
+        Part::Filled(count) => put_filled(alloc, body, count as usize),
+        Part::Long(count) => {
+            body.extend_from_slice(&count.to_be_bytes())?;
+            put_filled(alloc, body, usize::from(count))
+        }
+        Part::Repeated(bytes, count) => put_repeated(body, bytes, count),
+        Part::Length(length) => put_length(body, length as usize),
+        Part::Users(count) => {
+            put_length(body, USER.len() * usize::from(count))?;
+            put_repeated(body, USER, count)
+        }
+    }
+}
+
+// A packet with this first byte, and a body of these parts.
+fn packet(alloc: Global, first: u8, parts: &[Part]) -> Result<Bytes, AllocError> {
+    let mut body = Vec::new(alloc);
+    for part in parts {
+        put(alloc, &mut body, *part)?;
+    }
+    let mut bytes = vec![in alloc; first]?;
+    put_length(&mut bytes, body.len())?;
+    bytes.extend_from_slice(&body)?;
     Ok(Bytes::from_vec(bytes)?)
 }
 
-// A CONNECT with these properties, after their length, and a client identifier of `client` bytes.
-fn connect_with(alloc: Global, properties: &[u8], client: u16) -> Result<Bytes, AllocError> {
-    let mut body = b"\x00\x04MQTT\x05\x02\x00\x3C".to_vec(alloc)?;
-    body.extend_from_slice(properties)?;
-    body.extend_from_slice(&client.to_be_bytes())?;
-    let text = vec![in alloc; 0x61; usize::from(client)]?;
-    body.extend_from_slice(&text)?;
-    packet(alloc, 0x10, &body)
-}
+/// The first byte of a packet, its body, and what it says.
+type Row = (u8, &'static [Part], Shape);
 
-// The length of the client identifier and the Receive Maximum, or zeros if the bytes are no CONNECT.
-fn connected(rt: &HostRuntime, bytes: &Bytes) -> (usize, u16) {
-    match decode(rt.alloc(), bytes) {
-        Ok(Decoded::Whole(Packet::Connect(c), _)) => match &c.client {
-            Some(client) => (client.as_bytes().len(), c.receive_maximum.unwrap_or(0)),
-            None => (0, 0),
-        },
-        _ => (0, 0),
-    }
-}
-
-#[test]
-fn long_client_identifiers_are_read(rt: HostRuntime) -> Result<(), Fail> {
-    for client in [24_u16, 65, 1_025, 65_535] {
-        let bytes = connect_with(rt.alloc(), &[0], client)?;
-        assert!(rt; connected(&rt, &bytes) == (usize::from(client), 0));
-    }
-    Ok(())
-}
-
-#[test]
-fn large_receive_maxima_are_read(rt: HostRuntime) -> Result<(), Fail> {
-    for receive in [1_024_u16, 1_025, 10_000, 65_534, 65_535] {
-        let [high, low] = receive.to_be_bytes();
-        let bytes = connect_with(rt.alloc(), &[3, 0x21, high, low], 1)?;
-        assert!(rt; connected(&rt, &bytes) == (1, receive));
-    }
-    Ok(())
-}
-
-// A PUBLISH of QoS 0, retained, with `users` User Properties and a payload of `payload` bytes.
-fn publish_with(alloc: Global, users: u16, payload: usize) -> Result<Bytes, AllocError> {
-    let mut body = vec![in alloc; 0, 1, 0x61]?;
-    put_varint(&mut body, 7 * usize::from(users))?;
-    for _ in 0..users {
-        body.extend_from_slice(&[0x26, 0, 1, 0x6B, 0, 1, 0x76])?;
-    }
-    let payload = vec![in alloc; 0x78; payload]?;
-    body.extend_from_slice(&payload)?;
-    packet(alloc, 0x31, &body)
-}
-
-fn published(rt: &HostRuntime, bytes: &Bytes) -> Option<Publish> {
-    match decode(rt.alloc(), bytes) {
-        Ok(Decoded::Whole(Packet::Publish(publish), _)) => Some(publish),
-        _ => None,
-    }
-}
-
-// The number of User Properties, of their copies, and of the bytes of the payload.
-fn sizes(publish: &Publish) -> (usize, usize, usize) {
-    let users = match publish.properties.fields() {
-        Some(fields) => fields.user.len(),
-        None => 0,
+// Whether it is read, and waits for its last byte.
+fn is_read(rt: &HostRuntime, row: &Row) -> Result<bool, AllocError> {
+    let bytes = packet(rt.alloc(), row.0, row.1)?;
+    let waits = match bytes.as_slice() {
+        [front @ .., _] => is_more(rt, front),
+        [] => false,
     };
-    let copied = match publish.properties.copy() {
-        Ok(copied) if copied == publish.properties => users,
-        _ => 0,
-    };
-    (users, copied, publish.payload.len())
+    Ok(waits && is_shaped(rt, &bytes, row.2))
 }
 
-// Whether it is encoded just so when it is sent on.
-fn is_encoded_again(rt: &HostRuntime, publish: Publish, want: &[u8]) -> bool {
-    match sent_on(rt.alloc(), publish, Qos::AtMostOnce, None, None) {
-        Some(reply) => is_encoded(rt, &reply, want),
-        None => false,
-    }
+// Whether it is sent on at QoS 0 as it came.
+fn is_sent_on(rt: &HostRuntime, row: &Row) -> Result<bool, AllocError> {
+    let bytes = packet(rt.alloc(), row.0, row.1)?;
+    Ok(is_sent_as(rt, &bytes, Qos::AtMostOnce, 0, bytes.as_slice()))
 }
 
-// Whether it is read with this many User Properties and bytes of payload, and encoded again just as it came.
-fn is_sent_on(rt: &HostRuntime, users: u16, payload: usize) -> Result<bool, AllocError> {
-    let bytes = publish_with(rt.alloc(), users, payload)?;
-    let Some(publish) = published(rt, &bytes) else {
-        return Ok(false);
-    };
-    let all = usize::from(users);
-    if sizes(&publish) != (all, all, payload) {
-        return Ok(false);
-    }
-    Ok(is_encoded_again(rt, publish, bytes.as_slice()))
-}
+// A CONNECT up to the length of its properties.
+const CONNECT: Part = Part::Bytes(b"\x00\x04MQTT\x05\x02\x00\x3C");
+// The same, with a user name, a password, and no properties.
+const WITH_PASSWORD: Part = Part::Bytes(b"\x00\x04MQTT\x05\xC2\x00\x3C\x00");
+
+const NO_PROPERTIES: Part = Part::Bytes(&[0]);
+// The packet identifier 1.
+const ID: Part = Part::Bytes(&[0, 1]);
+// The topic `a`.
+const TOPIC: Part = Part::Bytes(&[0, 1, 0x61]);
+// The filter `a` with the options 00, and without options.
+const SUBSCRIBED: &[u8] = &[0, 1, 0x61, 0];
+
+const UNSUBSCRIBED: &[u8] = &[0, 1, 0x61];
+
+// CONNECT packets: long client identifiers, large Receive Maxima, and a long user name and password, which are passed over.
+const CONNECTS: &[Row] = &[
+    (
+        0x10,
+        &[CONNECT, NO_PROPERTIES, Part::Long(24)],
+        Shape::Connect(true, 60, 0, 0, 24),
+    ),
+    (
+        0x10,
+        &[CONNECT, NO_PROPERTIES, Part::Long(65)],
+        Shape::Connect(true, 60, 0, 0, 65),
+    ),
+    (
+        0x10,
+        &[CONNECT, NO_PROPERTIES, Part::Long(1_025)],
+        Shape::Connect(true, 60, 0, 0, 1_025),
+    ),
+    (
+        0x10,
+        &[CONNECT, NO_PROPERTIES, Part::Long(65_535)],
+        Shape::Connect(true, 60, 0, 0, 65_535),
+    ),
+    (
+        0x10,
+        &[CONNECT, Part::Bytes(&[3, 0x21, 4, 0]), Part::Long(1)],
+        Shape::Connect(true, 60, 1_024, 0, 1),
+    ),
+    (
+        0x10,
+        &[CONNECT, Part::Bytes(&[3, 0x21, 4, 1]), Part::Long(1)],
+        Shape::Connect(true, 60, 1_025, 0, 1),
+    ),
+    (
+        0x10,
+        &[CONNECT, Part::Bytes(&[3, 0x21, 0x27, 0x10]), Part::Long(1)],
+        Shape::Connect(true, 60, 10_000, 0, 1),
+    ),
+    (
+        0x10,
+        &[CONNECT, Part::Bytes(&[3, 0x21, 0xFF, 0xFE]), Part::Long(1)],
+        Shape::Connect(true, 60, 65_534, 0, 1),
+    ),
+    (
+        0x10,
+        &[CONNECT, Part::Bytes(&[3, 0x21, 0xFF, 0xFF]), Part::Long(1)],
+        Shape::Connect(true, 60, 65_535, 0, 1),
+    ),
+    (
+        0x10,
+        &[
+            WITH_PASSWORD,
+            Part::Long(24),
+            Part::Long(24),
+            Part::Long(24),
+        ],
+        Shape::Connect(true, 60, 0, 0, 24),
+    ),
+    (
+        0x10,
+        &[
+            WITH_PASSWORD,
+            Part::Long(65_535),
+            Part::Long(65_535),
+            Part::Long(65_535),
+        ],
+        Shape::Connect(true, 60, 0, 0, 65_535),
+    ),
+];
+
+// Packets with many User Properties, many filters, and long Reason Strings.
+const OTHERS: &[Row] = &[
+    (
+        0x40,
+        &[Part::Bytes(&[0, 1, 0x97]), Part::Users(65)],
+        Shape::Acknowledgement(4, 1, 0x97),
+    ),
+    (
+        0x50,
+        &[Part::Bytes(&[0, 1, 0x97]), Part::Users(65)],
+        Shape::Acknowledgement(5, 1, 0x97),
+    ),
+    (
+        0x62,
+        &[Part::Bytes(&[0, 1, 0x97]), Part::Users(65)],
+        Shape::Acknowledgement(6, 1, 0x97),
+    ),
+    (
+        0x70,
+        &[Part::Bytes(&[0, 1, 0x97]), Part::Users(65)],
+        Shape::Acknowledgement(7, 1, 0x97),
+    ),
+    (
+        0x82,
+        &[ID, Part::Users(65), Part::Bytes(SUBSCRIBED)],
+        Shape::Subscribe(1, 0, 1, false),
+    ),
+    (
+        0xA2,
+        &[ID, Part::Users(65), Part::Bytes(UNSUBSCRIBED)],
+        Shape::Unsubscribe(1, 1),
+    ),
+    (
+        0xE0,
+        &[Part::Bytes(&[4]), Part::Users(65)],
+        Shape::Disconnect(4),
+    ),
+    (
+        0x40,
+        &[Part::Bytes(&[0, 1, 0x97]), Part::Users(1_000)],
+        Shape::Acknowledgement(4, 1, 0x97),
+    ),
+    (
+        0x50,
+        &[Part::Bytes(&[0, 1, 0x97]), Part::Users(1_000)],
+        Shape::Acknowledgement(5, 1, 0x97),
+    ),
+    (
+        0x62,
+        &[Part::Bytes(&[0, 1, 0x97]), Part::Users(1_000)],
+        Shape::Acknowledgement(6, 1, 0x97),
+    ),
+    (
+        0x70,
+        &[Part::Bytes(&[0, 1, 0x97]), Part::Users(1_000)],
+        Shape::Acknowledgement(7, 1, 0x97),
+    ),
+    (
+        0x82,
+        &[ID, Part::Users(1_000), Part::Bytes(SUBSCRIBED)],
+        Shape::Subscribe(1, 0, 1, false),
+    ),
+    (
+        0xA2,
+        &[ID, Part::Users(1_000), Part::Bytes(UNSUBSCRIBED)],
+        Shape::Unsubscribe(1, 1),
+    ),
+    (
+        0xE0,
+        &[Part::Bytes(&[4]), Part::Users(1_000)],
+        Shape::Disconnect(4),
+    ),
+    (
+        0x82,
+        &[ID, NO_PROPERTIES, Part::Repeated(SUBSCRIBED, 9)],
+        Shape::Subscribe(1, 0, 9, false),
+    ),
+    (
+        0xA2,
+        &[ID, NO_PROPERTIES, Part::Repeated(UNSUBSCRIBED, 9)],
+        Shape::Unsubscribe(1, 9),
+    ),
+    (
+        0x82,
+        &[ID, NO_PROPERTIES, Part::Repeated(SUBSCRIBED, 257)],
+        Shape::Subscribe(1, 0, 257, false),
+    ),
+    (
+        0xA2,
+        &[ID, NO_PROPERTIES, Part::Repeated(UNSUBSCRIBED, 257)],
+        Shape::Unsubscribe(1, 257),
+    ),
+    (
+        0x82,
+        &[ID, NO_PROPERTIES, Part::Repeated(SUBSCRIBED, 17_000)],
+        Shape::Subscribe(1, 0, 17_000, false),
+    ),
+    (
+        0xA2,
+        &[ID, NO_PROPERTIES, Part::Repeated(UNSUBSCRIBED, 17_000)],
+        Shape::Unsubscribe(1, 17_000),
+    ),
+    (
+        0xE0,
+        &[
+            Part::Bytes(&[4]),
+            Part::Length(27),
+            Part::Bytes(&[0x1F]),
+            Part::Long(24),
+        ],
+        Shape::Disconnect(4),
+    ),
+    (
+        0xE0,
+        &[
+            Part::Bytes(&[4]),
+            Part::Length(65_538),
+            Part::Bytes(&[0x1F]),
+            Part::Long(65_535),
+        ],
+        Shape::Disconnect(4),
+    ),
+];
+
+// PUBLISH packets: many User Properties, long payloads, and a long topic, Content Type, Response Topic and Correlation Data.
+const PUBLISHES: &[Row] = &[
+    (
+        0x31,
+        &[TOPIC, Part::Users(64), Part::Filled(1)],
+        Shape::Publish(true, 0, 0, 0, 0, 1, Kept(0, 0, 0, 0, 64)),
+    ),
+    (
+        0x31,
+        &[TOPIC, Part::Users(65), Part::Filled(1)],
+        Shape::Publish(true, 0, 0, 0, 0, 1, Kept(0, 0, 0, 0, 65)),
+    ),
+    (
+        0x31,
+        &[TOPIC, Part::Users(1_000), Part::Filled(1)],
+        Shape::Publish(true, 0, 0, 0, 0, 1, Kept(0, 0, 0, 0, 1_000)),
+    ),
+    (
+        0x31,
+        &[TOPIC, Part::Users(10_000), Part::Filled(1)],
+        Shape::Publish(true, 0, 0, 0, 0, 1, Kept(0, 0, 0, 0, 10_000)),
+    ),
+    (
+        0x31,
+        &[TOPIC, NO_PROPERTIES, Part::Filled(65_535)],
+        Shape::Publish(true, 0, 0, 0, 0, 65_535, NOTHING),
+    ),
+    (
+        0x31,
+        &[TOPIC, NO_PROPERTIES, Part::Filled(65_536)],
+        Shape::Publish(true, 0, 0, 0, 0, 65_536, NOTHING),
+    ),
+    (
+        0x31,
+        &[TOPIC, NO_PROPERTIES, Part::Filled(65_537)],
+        Shape::Publish(true, 0, 0, 0, 0, 65_537, NOTHING),
+    ),
+    (
+        0x31,
+        &[TOPIC, NO_PROPERTIES, Part::Filled(262_136)],
+        Shape::Publish(true, 0, 0, 0, 0, 262_136, NOTHING),
+    ),
+    (
+        0x31,
+        &[
+            Part::Long(24),
+            Part::Length(81),
+            Part::Bytes(&[3]),
+            Part::Long(24),
+            Part::Bytes(&[8]),
+            Part::Long(24),
+            Part::Bytes(&[9]),
+            Part::Long(24),
+        ],
+        Shape::Publish(true, 0, 0, 0, 0, 0, Kept(0, b'a', b'a', b'a', 0)),
+    ),
+    (
+        0x31,
+        &[
+            Part::Long(257),
+            Part::Length(780),
+            Part::Bytes(&[3]),
+            Part::Long(257),
+            Part::Bytes(&[8]),
+            Part::Long(257),
+            Part::Bytes(&[9]),
+            Part::Long(257),
+        ],
+        Shape::Publish(true, 0, 0, 0, 0, 0, Kept(0, b'a', b'a', b'a', 0)),
+    ),
+    (
+        0x31,
+        &[
+            Part::Long(40_000),
+            Part::Length(120_009),
+            Part::Bytes(&[3]),
+            Part::Long(40_000),
+            Part::Bytes(&[8]),
+            Part::Long(40_000),
+            Part::Bytes(&[9]),
+            Part::Long(40_000),
+        ],
+        Shape::Publish(true, 0, 0, 0, 0, 0, Kept(0, b'a', b'a', b'a', 0)),
+    ),
+    (
+        0x31,
+        &[
+            Part::Long(65_531),
+            Part::Length(196_602),
+            Part::Bytes(&[3]),
+            Part::Long(65_531),
+            Part::Bytes(&[8]),
+            Part::Long(65_531),
+            Part::Bytes(&[9]),
+            Part::Long(65_531),
+        ],
+        Shape::Publish(true, 0, 0, 0, 0, 0, Kept(0, b'a', b'a', b'a', 0)),
+    ),
+];
+
+// Topics of 127 slashes, which have 128 levels, and of one level more.
+const LEVELS: &[Row] = &[
+    (
+        0x31,
+        &[
+            Part::Bytes(&[0, 127]),
+            Part::Repeated(b"/", 127),
+            NO_PROPERTIES,
+        ],
+        Shape::Publish(true, 0, 0, 0, 0, 0, NOTHING),
+    ),
+    (
+        0x31,
+        &[
+            Part::Bytes(&[0, 128]),
+            Part::Repeated(b"/", 128),
+            NO_PROPERTIES,
+        ],
+        Shape::Publish(true, 0, 0, 7, 0, 0, NOTHING),
+    ),
+];
 
 #[test]
-fn many_user_properties_are_sent_on(rt: HostRuntime) -> Result<(), Fail> {
-    for users in [64_u16, 65, 1_000, 10_000] {
-        assert!(rt; is_sent_on(&rt, users, 1)?);
-    }
-    Ok(())
-}
-
-#[test]
-fn long_payloads_are_sent_on(rt: HostRuntime) -> Result<(), Fail> {
-    for payload in [65_535_usize, 65_536, 65_537, 262_136] {
-        assert!(rt; is_sent_on(&rt, 0, payload)?);
-    }
-    Ok(())
-}
-
-// Appends a string or binary data of `len` bytes.
-fn put_long(alloc: Global, body: &mut Vec<u8>, len: u16) -> Result<(), AllocError> {
-    body.extend_from_slice(&len.to_be_bytes())?;
-    let text = vec![in alloc; 0x61; usize::from(len)]?;
-    body.extend_from_slice(&text)?;
-    Ok(())
-}
-
-// A retained PUBLISH of QoS 0 whose topic, Content Type, Response Topic and Correlation Data have `len` bytes each.
-fn publish_of_long(alloc: Global, len: u16) -> Result<Bytes, AllocError> {
-    let mut body = Vec::new(alloc);
-    put_long(alloc, &mut body, len)?;
-    put_varint(&mut body, 3 * (3 + usize::from(len)))?;
-    for property in [0x03_u8, 0x08, 0x09] {
-        body.push(property)?;
-        put_long(alloc, &mut body, len)?;
-    }
-    packet(alloc, 0x31, &body)
-}
-
-fn long_is_sent_on(rt: &HostRuntime, len: u16) -> Result<bool, AllocError> {
-    let bytes = publish_of_long(rt.alloc(), len)?;
-    let Some(publish) = published(rt, &bytes) else {
-        return Ok(false);
-    };
-    Ok(is_encoded_again(rt, publish, bytes.as_slice()))
-}
-
-#[test]
-fn long_strings_are_sent_on(rt: HostRuntime) -> Result<(), Fail> {
-    for len in [24_u16, 257, 40_000, 65_531] {
-        assert!(rt; long_is_sent_on(&rt, len)?);
-    }
-    Ok(())
-}
-
-// A CONNECT with a client identifier, a user name and a password of `len` bytes each.
-fn connect_of_long(alloc: Global, len: u16) -> Result<Bytes, AllocError> {
-    let mut body = b"\x00\x04MQTT\x05\xC2\x00\x3C\x00".to_vec(alloc)?;
-    put_long(alloc, &mut body, len)?;
-    put_long(alloc, &mut body, len)?;
-    put_long(alloc, &mut body, len)?;
-    packet(alloc, 0x10, &body)
-}
-
-#[test]
-fn long_passwords_are_passed_over(rt: HostRuntime) -> Result<(), Fail> {
-    for len in [24_u16, 65_535] {
-        let bytes = connect_of_long(rt.alloc(), len)?;
-        assert!(rt; connected(&rt, &bytes) == (usize::from(len), 0));
-    }
-    Ok(())
-}
-
-// A packet of this kind with the identifier 1, a reason code if it has one, and `users` User Properties.
-fn with_users(
-    alloc: Global,
-    first: u8,
-    head: &[u8],
-    users: u16,
-    tail: &[u8],
-) -> Result<Bytes, AllocError> {
-    let mut body = head.to_vec(alloc)?;
-    put_varint(&mut body, 7 * usize::from(users))?;
-    for _ in 0..users {
-        body.extend_from_slice(&[0x26, 0, 1, 0x6B, 0, 1, 0x76])?;
-    }
-    body.extend_from_slice(tail)?;
-    packet(alloc, first, &body)
-}
-
-fn is_read_with(rt: &HostRuntime, first: u8, head: &[u8], users: u16) -> Result<bool, AllocError> {
-    let bytes = with_users(rt.alloc(), first, head, users, &[])?;
-    Ok(size_of(rt, &bytes) == bytes.len())
-}
-
-// The number of filters, of which there is one in `tail`.
-fn filters_with(rt: &HostRuntime, first: u8, users: u16, tail: &[u8]) -> Result<usize, AllocError> {
-    let bytes = with_users(rt.alloc(), first, &[0, 1], users, tail)?;
-    Ok(filter_count(rt, &bytes))
-}
-
-#[test]
-fn user_properties_are_passed_over(rt: HostRuntime) -> Result<(), Fail> {
-    for users in [65_u16, 1_000] {
-        for first in [0x40_u8, 0x50, 0x62, 0x70] {
-            assert!(rt; is_read_with(&rt, first, &[0, 1, 0x97], users)?);
+fn large_packets_are_read(rt: HostRuntime) -> Result<(), Fail> {
+    for rows in [CONNECTS, OTHERS, PUBLISHES, LEVELS] {
+        for row in rows {
+            assert!(rt; is_read(&rt, row)?);
         }
-        assert!(rt; filters_with(&rt, 0x82, users, &[0, 1, 0x61, 0])? == 1);
-        assert!(rt; filters_with(&rt, 0xA2, users, &[0, 1, 0x61])? == 1);
-        assert!(rt; is_read_with(&rt, 0xE0, &[4], users)?);
     }
     Ok(())
 }
 
-// A SUBSCRIBE or an UNSUBSCRIBE with `count` times this item.
-fn filters(alloc: Global, first: u8, entry: &[u8], count: u16) -> Result<Bytes, AllocError> {
-    let mut body = vec![in alloc; 0, 1, 0]?;
-    for _ in 0..count {
-        body.extend_from_slice(entry)?;
-    }
-    packet(alloc, first, &body)
-}
-
-fn filter_count(rt: &HostRuntime, bytes: &Bytes) -> usize {
-    match decode(rt.alloc(), bytes) {
-        Ok(Decoded::Whole(Packet::Subscribe(s), _)) => s.filters.len(),
-        Ok(Decoded::Whole(Packet::Unsubscribe(u), _)) => u.filters.len(),
-        _ => 0,
-    }
-}
-
 #[test]
-fn many_filters_are_read(rt: HostRuntime) -> Result<(), Fail> {
-    for count in [9_u16, 257, 17_000] {
-        let subscribe = filters(rt.alloc(), 0x82, &[0, 1, 0x61, 0], count)?;
-        assert!(rt; filter_count(&rt, &subscribe) == usize::from(count));
-        let unsubscribe = filters(rt.alloc(), 0xA2, &[0, 1, 0x61], count)?;
-        assert!(rt; filter_count(&rt, &unsubscribe) == usize::from(count));
+fn large_messages_are_sent_on(rt: HostRuntime) -> Result<(), Fail> {
+    for row in PUBLISHES {
+        assert!(rt; is_sent_on(&rt, row)?);
     }
     Ok(())
 }
 
-// A DISCONNECT with a Reason String of `reason` bytes.
-fn disconnect(alloc: Global, reason: u16) -> Result<Bytes, AllocError> {
-    let mut body = vec![in alloc; 4]?;
-    put_varint(&mut body, 3 + usize::from(reason))?;
-    body.push(0x1F)?;
-    body.extend_from_slice(&reason.to_be_bytes())?;
-    let text = vec![in alloc; 0x61; usize::from(reason)]?;
-    body.extend_from_slice(&text)?;
-    packet(alloc, 0xE0, &body)
+// Whether more is wanted of each proper front.
+fn is_waited_for(rt: &HostRuntime, row: &Row) -> Result<bool, AllocError> {
+    let bytes = packet(rt.alloc(), row.0, row.1)?;
+    Ok(waits(rt, bytes.as_slice()))
 }
 
 #[test]
-fn long_reason_strings_are_read(rt: HostRuntime) -> Result<(), Fail> {
-    for reason in [24_u16, 65_535] {
-        let bytes = disconnect(rt.alloc(), reason)?;
-        let answer = decode(rt.alloc(), &bytes);
-        assert!(rt; matches!(answer, Ok(Decoded::Whole(Packet::Disconnect(4), _))));
-    }
-    Ok(())
-}
-
-// The size of the encoding, or 0 if there is none of the size that is told before.
-fn encoded_size(rt: &HostRuntime, reply: &Reply) -> usize {
-    match encode(rt.alloc(), reply) {
-        Ok(bytes) if bytes.len() == encoded_len(reply) => bytes.len(),
-        _ => 0,
-    }
-}
-
-// Whether the SUBACK with `count` codes takes `want` bytes.
-fn suback_takes(
-    rt: &HostRuntime,
-    id: PacketId,
-    count: usize,
-    want: usize,
-) -> Result<bool, AllocError>
-    requires { count ≤ 262144 }
-{
-    let codes = vec![in rt.alloc(); 0x8F; count]?;
-    let reply = Reply::Suback(Codes::new(id, codes));
-    Ok(encoded_size(rt, &reply) == want)
-}
-
-#[test]
-fn many_codes_are_encoded(rt: HostRuntime) -> Result<(), Fail> {
-    let Some(id) = PacketId::new(65_535) else {
-        assert!(rt; false);
-        return Ok(());
-    };
-    assert!(rt; suback_takes(&rt, id, 257, 263)?);
-    assert!(rt; suback_takes(&rt, id, 65_536, 65_543)?);
-    assert!(rt; suback_takes(&rt, id, 262_144, 262_151)?);
-    Ok(())
-}
-
-// Whether a CONNACK that assigns an identifier of `client` bytes is encoded.
-fn is_assigned(rt: &HostRuntime, client: u16) -> Result<bool, AllocError> {
-    let client = vec![in rt.alloc(); 0x61; usize::from(client)]?;
-    let want = 18 + client.len();
-    let assigned_client = Text::of(Bytes::from_vec(client)?);
-    let reply = Reply::Accepted(Accepted {
-        session_expiry_zero: true,
-        assigned_client,
-    });
-    Ok(encoded_size(rt, &reply) > want)
-}
-
-#[test]
-fn long_assigned_identifiers_are_encoded(rt: HostRuntime) -> Result<(), Fail> {
-    for client in [24_u16, 1_000, 65_535] {
-        assert!(rt; is_assigned(&rt, client)?);
+fn packets_of_many_levels_are_waited_for(rt: HostRuntime) -> Result<(), Fail> {
+    for row in LEVELS {
+        assert!(rt; is_waited_for(&rt, row)?);
     }
     Ok(())
 }

@@ -1,0 +1,161 @@
+//! Messages that are read from a PUBLISH and sent on.
+
+ghost use Rattle.std.specs.Prelude.{◌≤◌};
+ghost use Rattle.rs_packet.specs.Grammar.{IdFits};
+ghost use Rattle.rs_packet.specs.Replies.{message_len};
+
+use super::replies::is_encoded;
+use super::{KEPT, PUBLISH};
+use bytes::Bytes;
+use rs_packet::*;
+use rs_topic::TopicName;
+use std::alloc::Global;
+
+fn publish_of(rt: &HostRuntime, bytes: &Bytes) -> Option<Publish> {
+    match decode(rt.alloc(), bytes) {
+        Ok(Decoded::Whole(Packet::Publish(publish), _)) => Some(publish),
+        _ => None,
+    }
+}
+
+// `publish_len`, for a message that fits a packet.
+fn told_len(
+    topic: &TopicName,
+    payload: usize,
+    properties: &Properties,
+    qos: Qos,
+    expiry: Option<u32>,
+    subscription: Option<SubscriptionId>,
+) -> usize
+    requires { message_len expiry properties.now payload ≤ MAX_PACKET_SIZE }
+{
+    let _topic = topic.as_bytes();
+    publish_len(topic, payload, properties, qos, expiry, subscription)
+}
+
+// How long its PUBLISH gets, or 0 if its topic has a fault.
+fn length_of(publish: &Publish, qos: Qos, subscription: Option<SubscriptionId>) -> usize {
+    match &publish.topic {
+        Ok(topic) => told_len(
+            topic,
+            publish.payload.len(),
+            &publish.properties,
+            qos,
+            publish.expiry,
+            subscription,
+        ),
+        Err(_) => 0,
+    }
+}
+
+fn is_copied(properties: &Properties) -> bool {
+    match properties.copy() {
+        Ok(copied) => copied == *properties,
+        Err(_) => false,
+    }
+}
+
+// Whether this length is told before, and a copy of the properties equals them.
+fn is_told(publish: &Publish, qos: Qos, subscription: u32, length: usize) -> bool {
+    length_of(publish, qos, SubscriptionId::new(subscription)) == length
+        && is_copied(&publish.properties)
+}
+
+// The identifier 1, at QoS 1 and 2.
+fn id_at(qos: Qos) -> Option<PacketId>
+    ensures { IdFits qos result }
+{
+    match qos {
+        Qos::AtMostOnce => None,
+        Qos::AtLeastOnce | Qos::ExactlyOnce => PacketId::new(1),
+    }
+}
+
+fn reply_of(
+    alloc: Global,
+    publish: Publish,
+    qos: Qos,
+    subscription: Option<SubscriptionId>,
+) -> Option<Reply> {
+    let Publish {
+        topic,
+        expiry,
+        properties,
+        payload,
+        ..
+    } = publish;
+    let topic = topic.ok()?;
+    let content = MessageContent::new(alloc, payload, properties).ok()?;
+    let sent = Publication::new(topic, qos, id_at(qos), expiry, subscription, content);
+    Some(Reply::Publish(sent))
+}
+
+fn is_replied(
+    rt: &HostRuntime,
+    publish: Publish,
+    qos: Qos,
+    subscription: u32,
+    want: &[u8],
+) -> bool {
+    match reply_of(rt.alloc(), publish, qos, SubscriptionId::new(subscription)) {
+        Some(reply) => is_encoded(rt, &reply, want),
+        None => false,
+    }
+}
+
+// Whether the message of this PUBLISH is sent on as the bytes `want`, of the length that is told before. The Subscription Identifier is
+// none if it is 0.
+pub fn is_sent_as(
+    rt: &HostRuntime,
+    bytes: &Bytes,
+    qos: Qos,
+    subscription: u32,
+    want: &[u8],
+) -> bool {
+    let Some(publish) = publish_of(rt, bytes) else {
+        return false;
+    };
+    if !is_told(&publish, qos, subscription, want.len()) {
+        return false;
+    }
+    is_replied(rt, publish, qos, subscription, want)
+}
+
+// A PUBLISH, and at which QoS and with which Subscription Identifier, 0 for none, it is sent on as these bytes.
+const SENT: &[(&[u8], Qos, u32, &[u8])] = &[
+    // Properties are sent on in rising order.
+    (KEPT, Qos::AtMostOnce, 0, KEPT),
+    (
+        PUBLISH,
+        Qos::ExactlyOnce,
+        0,
+        &[0x35, 9, 0, 3, 0x61, 0x2F, 0x62, 0, 1, 0, 0x78],
+    ),
+    // The Subscription Identifier comes after 0x09 and before 0x26.
+    (
+        KEPT,
+        Qos::ExactlyOnce,
+        7,
+        &[
+            0x35, 0x23, 0, 1, 0x61, 0, 1, 0x1C, 1, 1, 2, 0, 0, 0, 10, 3, 0, 1, 0x74, 8, 0, 1, 0x72,
+            9, 0, 1, 0x63, 0x0B, 7, 0x26, 0, 1, 0x6B, 0, 1, 0x76, 0x78,
+        ],
+    ),
+    (
+        KEPT,
+        Qos::AtLeastOnce,
+        268_435_455,
+        &[
+            0x33, 0x26, 0, 1, 0x61, 0, 1, 0x1F, 1, 1, 2, 0, 0, 0, 10, 3, 0, 1, 0x74, 8, 0, 1, 0x72,
+            9, 0, 1, 0x63, 0x0B, 0xFF, 0xFF, 0xFF, 0x7F, 0x26, 0, 1, 0x6B, 0, 1, 0x76, 0x78,
+        ],
+    ),
+];
+
+#[test]
+fn messages_are_sent_on(rt: HostRuntime) {
+    for (bytes, qos, subscription, want) in SENT {
+        let bytes = Bytes::from_static(bytes);
+        assert!(rt; is_sent_as(&rt, &bytes, *qos, *subscription, want));
+    }
+}
