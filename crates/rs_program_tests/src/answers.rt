@@ -1,6 +1,6 @@
 //! What a gate answers to a filter, with and without a limit.
 
-ghost use Rattle.std.specs.Prelude.{◌≡◌, false, IfOk};
+ghost use Rattle.std.specs.Prelude.{◌≡◌, false, IfSome};
 ghost use Rattle.rs_message.specs.Messages.{is_sweep};
 
 use bytes::Bytes;
@@ -12,18 +12,17 @@ use rs_store::{Catalogue, MapCatalogue, TopicLimit};
 use rs_topic::{TopicFilter, TopicName};
 use rs_tree::TreeCatalogue;
 use std::alloc::Global;
-use std::process::Abort;
 use std::test::Fail;
 
 // Sets a/b to x.
-fn change(alloc: Global) -> Result<Operation, Fail>
-    ensures { IfOk result (λ o. is_sweep o ≡ false) }
+fn change(alloc: Global) -> Option<Operation>
+    ensures { IfSome result (λ o. is_sweep o ≡ false) }
 {
-    let topic = TopicName::read(alloc, b"a/b")?;
+    let topic = TopicName::read(alloc, b"a/b").ok()?;
     let payload = Bytes::from_static(b"x");
     let properties = Properties::none();
-    let message = Message::new(alloc, payload, Qos::AtMostOnce, 0, None, properties)?;
-    Ok(Operation::Set(topic, message))
+    let message = Message::new(alloc, payload, Qos::AtMostOnce, 0, None, properties).ok()?;
+    Some(Operation::Set(topic, message))
 }
 
 // Whether a/b is all that was found, and has x.
@@ -36,16 +35,36 @@ fn is_x(found: &[Found]) -> bool {
     }
 }
 
-// The message that is kept is answered, and with a limit only if there is room for it.
-fn check<H: Abort, G: Gate>(rt: &H, alloc: Global, gate: &mut G) -> Result<(), Fail> {
-    let all = TopicFilter::read(alloc, b"#")?;
-    assert!(rt; gate.submit(change(alloc)?).is_ok());
-    let found = gate.answer(&all, 0)?;
-    assert!(rt; is_x(found.as_slice()));
-    assert!(rt; gate.answer_within(&all, 0, 0)?.is_none());
-    let found = gate.answer_within(&all, 0, 1)?.ok_or("there is room")?;
-    assert!(rt; is_x(found.as_slice()));
-    Ok(())
+fn sets<G: Gate>(alloc: Global, gate: &mut G) -> bool {
+    match change(alloc) {
+        Some(change) => gate.submit(change).is_ok(),
+        None => false,
+    }
+}
+
+fn answers<G: Gate>(gate: &mut G, all: &TopicFilter) -> bool {
+    match gate.answer(all, 0) {
+        Ok(found) => is_x(found.as_slice()),
+        Err(_) => false,
+    }
+}
+
+// Whether it is answered with a limit if there is room for it, and only then.
+fn answers_within<G: Gate>(gate: &mut G, all: &TopicFilter) -> bool {
+    let is_refused = match gate.answer_within(all, 0, 0) {
+        Ok(found) => found.is_none(),
+        Err(_) => false,
+    };
+    match gate.answer_within(all, 0, 1) {
+        Ok(Some(found)) => is_refused && is_x(found.as_slice()),
+        _ => false,
+    }
+}
+
+// Whether a message is taken, and answered.
+fn is_kept<G: Gate + Drop>(alloc: Global, gate: G, all: &TopicFilter) -> bool {
+    let mut gate = gate;
+    sets(alloc, &mut gate) && answers(&mut gate, all) && answers_within(&mut gate, all)
 }
 
 fn local<C: Catalogue>(alloc: Global) -> Result<LocalGate<C>, Fail> {
@@ -56,7 +75,9 @@ fn local<C: Catalogue>(alloc: Global) -> Result<LocalGate<C>, Fail> {
 #[test]
 fn gates_answer(rt: HostRuntime) -> Result<(), Fail> {
     let alloc = rt.alloc();
-    check(&rt, alloc, &mut local::<MapCatalogue>(alloc)?)?;
-    check(&rt, alloc, &mut local::<TreeCatalogue>(alloc)?)?;
-    check(&rt, alloc, &mut OwnGate::new(alloc)?)
+    let all = TopicFilter::read(alloc, b"#")?;
+    assert!(rt; is_kept(alloc, local::<MapCatalogue>(alloc)?, &all));
+    assert!(rt; is_kept(alloc, local::<TreeCatalogue>(alloc)?, &all));
+    assert!(rt; is_kept(alloc, OwnGate::new(alloc)?, &all));
+    Ok(())
 }

@@ -59,41 +59,45 @@ const WRITES: [Row; 6] = [
     (Call::Flush, 3, 3, CLOSED, 19, true),
 ];
 
-fn outcome<H: Wait, G: Gate>(
+// Whether the connection ends so and is written this. The gate is that of the next one.
+fn is_served<H: Wait, G: Gate>(
     rt: &H,
     alloc: Global,
     gate: G,
-    input: &'static [u8],
-    step: usize,
-    failing: Failing,
-) -> (Result<Served, ServeFault>, Vec<u8>, G) {
+    streams: (&'static [u8], usize, Failing),
+    ends: Result<Served, ServeFault>,
+    written: &[u8],
+) -> (bool, G) {
+    let (input, step, failing) = streams;
     let mut reader = Counted::new(StepReader::new(input, step, failing));
     let mut writer = Counted::new(ByteWriter::new(alloc, failing));
     let mut clock = Moments::new(0, Vec::new(alloc));
-    let (served, gate) = serve(rt, alloc, &mut reader, &mut writer, gate, ID, &mut clock);
-    (served, writer.into_inner().into_bytes(), gate)
+    let (end, gate) = serve(rt, alloc, &mut reader, &mut writer, gate, ID, &mut clock);
+    let bytes = writer.into_inner().into_bytes();
+    (end == ends && bytes.as_slice() == written, gate)
 }
 
-// How the first connection ends and what is written to it, and what the second one gets.
-fn check<H: Abort + Wait, G: Gate + Drop>(
+// How the first connection ends, what is written to it, and what the second one gets.
+type Outcome = (Result<Served, ServeFault>, &'static [u8], &'static [u8]);
+
+// Whether the two connections go so.
+fn both_are_served<H: Wait, G: Gate + Drop>(
     rt: &H,
     alloc: Global,
     gate: G,
     step: usize,
     failing: Failing,
-    ends: Result<Served, ServeFault>,
-    written: &[u8],
-    got: &[u8],
-) -> Result<(), Fail> {
-    let Failing { call, at } = failing;
-    let (end, bytes, gate) = outcome(rt, alloc, gate, FIRST, step, failing);
-    assert!(rt; end == ends, "{call:?} {at}");
-    assert!(rt; bytes.as_slice() == written, "{call:?} {at}");
-    let none = Failing { call, at: 0 };
-    let (end, bytes, _gate) = outcome(rt, alloc, gate, SECOND, step, none);
-    assert!(rt; end == Ok(Served::EndOfInput), "after {call:?} {at}");
-    assert!(rt; bytes.as_slice() == got, "after {call:?} {at}");
-    Ok(())
+    outcome: Outcome,
+) -> bool {
+    let (ends, written, got) = outcome;
+    let (first, gate) = is_served(rt, alloc, gate, (FIRST, step, failing), ends, written);
+    let none = Failing {
+        call: failing.call,
+        at: 0,
+    };
+    let end = Ok(Served::EndOfInput);
+    let (second, _gate) = is_served(rt, alloc, gate, (SECOND, step, none), end, got);
+    first && second
 }
 
 fn local_gate(alloc: Global) -> Result<LocalGate<MapCatalogue>, Fail> {
@@ -112,12 +116,11 @@ fn check_row<H: Abort + Wait>(rt: &H, alloc: Global, step: usize, row: Row) -> R
         let written = written.saturating_add(more).min(19);
         let got = if kept { 30 } else { 21 };
         let failing = Failing { call, at };
-        let written = &FIRST_REPLIES[..written];
-        let got = &SECOND_REPLIES[..got];
-        let gate = OwnGate::new(alloc)?;
-        check(rt, alloc, gate, step, failing, ends, written, got)?;
-        let local = local_gate(alloc)?;
-        check(rt, alloc, local, step, failing, ends, written, got)?;
+        let outcome = (ends, &FIRST_REPLIES[..written], &SECOND_REPLIES[..got]);
+        let own = both_are_served(rt, alloc, OwnGate::new(alloc)?, step, failing, outcome);
+        assert!(rt; own, "{call:?} {at}");
+        let bare = both_are_served(rt, alloc, local_gate(alloc)?, step, failing, outcome);
+        assert!(rt; bare, "bare {call:?} {at}");
     }
     Ok(())
 }

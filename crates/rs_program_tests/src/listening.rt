@@ -80,7 +80,28 @@ fn is_served<H: Net<Listener = TcpListener, Stream = TcpStream>>(
     exchange(rt, address, exchanges.as_slice()).is_ok_and(|went| went)
 }
 
-/// A client that publishes, and another at the same time. Then one that subscribes, whatever the order of the two was.
+/// Two clients that publish at the same time. Then one that subscribes, whatever the order of the two was.
+fn are_served<
+    H: Net<Listener = TcpListener, Stream = TcpStream>
+        + Threads
+        + Wait
+        + Copy
+        + Send
+        + Sync
+        + 'static,
+>(rt: H, address: &str, first_address: String) -> io::Result<bool> {
+    let [first, second] = PUBLISHES;
+    let publishing = spawn(
+        &rt,
+        move || is_served(&rt, first_address.as_str(), first, PUBACK),
+    )?;
+    let second_went = is_served(&rt, address, second, PUBACK);
+    let first_went = publishing.join(&rt);
+    let read = is_served(&rt, address, SUBSCRIBE, REPLAY);
+    Ok(first_went && second_went && read)
+}
+
+/// Serves the three clients. Whether they went as they should, and what the server tells at its end.
 fn publish_and_read<
     H: Clock
         + Log
@@ -97,21 +118,9 @@ fn publish_and_read<
     let limit = TopicLimit::new(10).ok_or("10 topics")?;
     let server = Server::bind(&rt, alloc, "127.0.0.1:0", 3, limit, places, None)?;
     let address = server.address()?;
+    let again = address.clone()?;
     let serving = spawn(&rt, move || server.run(rt).ok())?;
-    let mut publishing = Vec::new(alloc);
-    for publish in PUBLISHES {
-        let address = address.clone()?;
-        let client = spawn(
-            &rt,
-            move || is_served(&rt, address.as_str(), publish, PUBACK),
-        )?;
-        publishing.push(client)?;
-    }
-    let mut went = true;
-    for client in publishing {
-        went = client.join(&rt) && went;
-    }
-    went = is_served(&rt, address.as_str(), SUBSCRIBE, REPLAY) && went;
+    let went = are_served(rt, address.as_str(), again)?;
     Ok((went, serving.join(&rt)))
 }
 

@@ -15,6 +15,14 @@ fn read(alloc: Global, line: &str) -> Result<Result<Run, WordsFault>, AllocError
     Ok(read_words(alloc, words.as_slice()))
 }
 
+// Whether the words of the line ask for this run.
+fn asks(alloc: Global, line: &str, wanted: &Run) -> Result<bool, AllocError> {
+    match read(alloc, line)? {
+        Ok(run) => Ok(run == *wanted),
+        Err(_) => Ok(false),
+    }
+}
+
 #[test]
 fn words_ask_for_a_pipe(rt: HostRuntime) -> Result<(), Fail> {
     let pipes = [
@@ -24,8 +32,7 @@ fn words_ask_for_a_pipe(rt: HostRuntime) -> Result<(), Fail> {
         ("pipe --at=0", false, 0),
     ];
     for (line, hex, at) in pipes {
-        let found = read(rt.alloc(), line)?.ok();
-        assert!(rt; found == Some(Run::Pipe { hex, at }), "{line}");
+        assert!(rt; asks(rt.alloc(), line, &Run::Pipe { hex, at })?, "{line}");
     }
     Ok(())
 }
@@ -91,8 +98,7 @@ fn words_ask_to_listen(rt: HostRuntime) -> Result<(), Fail> {
             idle,
             log,
         };
-        let found = read(alloc, line)?.ok();
-        assert!(rt; found == Some(wanted), "{line}");
+        assert!(rt; asks(alloc, line, &wanted)?, "{line}");
     }
     Ok(())
 }

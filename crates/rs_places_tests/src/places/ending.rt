@@ -1,17 +1,16 @@
-//! A queue that has ended: each change is refused, and what was published before is still read.
+//! A queue that ends: each change is refused then, and what was published before is still read.
 
 ghost use Rattle.std.specs.Prelude.{◌≡◌};
 
-use super::peers::written;
-use super::runs::{exchange, script};
+use super::play::{ending, later, plain_row, put_rows, scripts};
 use super::script::{Counts, Script, comes};
 use super::{CLOSED, PUBLISHES, SUBSCRIBED, SUBSCRIBES, blank_store};
 use rs_intake::{BlankQueue, LineName, Queue, blank_queue};
-use rs_places::{PlaceEnd, open_gates, run_places};
-use rs_version::Blank;
+use rs_places::{PlaceEnd, Turn, open_gates, run_places};
+use rs_server::Served;
+use rs_version::{Blank, VersionWriter};
 use std::alloc::Global;
 use std::marker::Brand;
-use std::process::Abort;
 use std::sync::atomic::Ordering;
 use std::sync::{Arc, Wait};
 use std::test::Fail;
@@ -21,45 +20,29 @@ use std::thread::{Threads, spawn};
 const UNCERTAIN: &[u8] =
     b"\x20\x0D\x00\x00\x0A\x21\x00\x10\x27\x00\x04\x00\x00\x2A\x00\xE0\x01\x97";
 
-fn before_named<N: LineName, R: Wait + Abort + Copy>(
-    rt: R,
-    alloc: Global,
-    blank: Blank,
-    queue: BlankQueue,
-) -> Result<(), Fail>
-    requires store { (blank.history ≡ N.history) × (blank.limit ≡ N.limit) }
-    requires queue { (queue.name ≡ N.queue) × (queue.places ≡ N.places) }
-{
-    let (_writer, seats) = blank.open::<N, R>(rt)?;
-    let (intake, lines, queue) = queue.open::<N>()?;
+/// How many places publish before the queue ends. One more waits until it has ended.
+const EARLY: u8 = 63;
+
+/// How many connections there are: three of each early place, and two of the last.
+const CONNECTIONS: u64 = 191;
+
+/// Ends the queue once each early place has come to its PUBLISH, and waits until all connections have ended. The version then, if
+/// all came so far.
+fn end_queue<N: LineName, R: Wait + Copy>(
+    counts: Arc<Counts>,
+    queue: Queue<N>,
+    writer: VersionWriter<N, R>,
+) -> Option<u64> {
+    let came = comes(&counts.reached, u64::from(EARLY));
     drop(queue);
-    let mut gates = open_gates(rt, alloc, intake, seats, lines)?;
-    let gate = gates.pop().ok_or("there is a place")?;
-    let (refused, gate) = written(&rt, alloc, gate, PUBLISHES);
-    let (read, gate) = written(&rt, alloc, gate, SUBSCRIBES);
-    assert!(rt; refused.as_slice() == CLOSED);
-    assert!(rt; read.as_slice() == SUBSCRIBED);
-    assert!(rt; gate.close().sent() == 0);
-    Ok(())
+    if comes(&counts.ended, CONNECTIONS) && came {
+        return Some(writer.tell().version());
+    }
+    None
 }
 
-/// A queue that ended before a place published.
-#[test]
-fn before(rt: HostRuntime) -> Result<(), Fail> {
-    let alloc = rt.alloc();
-    let blank = blank_store(alloc, 10, 1)?;
-    before_named::<Brand, _>(rt, alloc, blank, blank_queue(alloc, 1)?)
-}
-
-/// Ends the queue once each place has come to its PUBLISH. Whether all came.
-fn end_queue<N: LineName>(counts: Arc<Counts>, queue: Queue<N>) -> bool {
-    let came = comes(&counts.reached, 64);
-    drop(queue);
-    came
-}
-
-/// How many jobs the queue took.
-fn sent_by<N: LineName>(ends: Vec<PlaceEnd<N, Script>>) -> u64 {
+/// How many jobs of these places the queue took.
+fn sent_by<N: LineName, T>(ends: &[PlaceEnd<N, T>]) -> u64 {
     let mut sent = 0u64;
     for end in ends {
         sent = sent.saturating_add(end.line.sent());
@@ -67,41 +50,83 @@ fn sent_by<N: LineName>(ends: Vec<PlaceEnd<N, Script>>) -> u64 {
     sent
 }
 
-fn meanwhile_named<
+/// What is left of places whose queue ended: how many there were, how many jobs the queue took, and the version.
+type Cut = (usize, u64, Option<u64>);
+
+fn cut_off_named<
     N: LineName + Send + Sync + 'static,
-    R: Threads + Wait + Abort + Copy + Send + Sync + 'static,
->(rt: R, alloc: Global, blank: Blank, queue: BlankQueue) -> Result<(), Fail>
+    R: Threads + Wait + Copy + Send + Sync + 'static,
+    T: Turn + Send + Drop + 'static,
+>(
+    rt: R,
+    alloc: Global,
+    blank: Blank,
+    queue: BlankQueue,
+    turns: Vec<T>,
+    counts: Arc<Counts>,
+) -> Result<Cut, Fail>
     requires store { (blank.history ≡ N.history) × (blank.limit ≡ N.limit) }
     requires queue { (queue.name ≡ N.queue) × (queue.places ≡ N.places) }
 {
     let (writer, seats) = blank.open::<N, R>(rt)?;
     let (intake, lines, queue) = queue.open::<N>()?;
+    let thread = spawn(&rt, move || end_queue(counts, queue, writer))?;
     let gates = open_gates(rt, alloc, intake, seats, lines)?;
-    let counts = Arc::new(alloc, Counts::new())?;
-    let mut turns = Vec::new(alloc);
-    for _ in 0..64u8 {
-        let next = exchange(alloc, SUBSCRIBES, SUBSCRIBED)?;
-        let exchanges = vec![in alloc; next, exchange(alloc, PUBLISHES, UNCERTAIN)?]?;
-        turns.push(script(alloc, &counts, exchanges, 0, 0)?)?;
-    }
-    let seen = Arc::try_clone(&counts)?;
-    let thread = spawn(&rt, move || end_queue(seen, queue))?;
     let served = run_places(rt, alloc, turns, gates)?;
-    let ends = served.ends;
-    assert!(rt; thread.join(&rt));
-    assert!(rt; (ends.len(), writer.tell().version()) == (64, 0));
-    let right = counts.right.load(Ordering::SeqCst);
-    let closed = counts.closed.load(Ordering::SeqCst);
-    assert!(rt; right.saturating_add(closed) == 128);
-    // The change may be made if the queue took it, and only then.
-    assert!(rt; right == sent_by(ends).saturating_add(64));
+    let version = thread.join(&rt);
+    let sent = sent_by(served.ends.as_slice());
+    Ok((served.ends.len(), sent, version))
+}
+
+/// Serves these turns, and ends the queue meanwhile.
+fn cut_off<R: Threads + Wait + Copy + Send + Sync + 'static, T: Turn + Send + Drop + 'static>(
+    rt: R,
+    alloc: Global,
+    turns: Vec<T>,
+    counts: Arc<Counts>,
+) -> Result<Cut, Fail> {
+    let blank = blank_store(alloc, 10, 64)?;
+    let queue = blank_queue(alloc, 64)?;
+    cut_off_named::<Brand, R, T>(rt, alloc, blank, queue, turns, counts)
+}
+
+/// An early place publishes while the queue ends, publishes again, and reads. The last place publishes and reads once one has ended.
+fn put_exchanges(alloc: Global, scripts: &mut [Script]) -> Result<(), Fail> {
+    let closed = ending(later(EARLY + 1, 1), Ok(Served::ServerClosed(0x83)));
+    let reads = later(EARLY + 1, 1);
+    let last = [
+        plain_row(closed, PUBLISHES, CLOSED),
+        plain_row(reads, SUBSCRIBES, SUBSCRIBED),
+    ];
+    put_rows(alloc, scripts, &last)?;
+    for before in 0..EARLY {
+        let reads = later(before + 1, 0);
+        let uncertain = ending(reads, Ok(Served::ServerClosed(0x97)));
+        let closed = ending(reads, Ok(Served::ServerClosed(0x83)));
+        let rows = [
+            plain_row(uncertain, PUBLISHES, UNCERTAIN),
+            plain_row(closed, PUBLISHES, CLOSED),
+            plain_row(reads, SUBSCRIBES, SUBSCRIBED),
+        ];
+        put_rows(alloc, scripts, &rows)?;
+    }
     Ok(())
 }
 
-/// A queue that ends while all places publish. Each is answered, and its next connection reads.
+/// A queue that ends while all places publish but one, which publishes for the first time after that. Each publication is answered,
+/// 0x97 if the queue took it, and else 0x83, as those are which come later. The next connection of each place reads.
 #[test]
-fn meanwhile(rt: HostRuntime) -> Result<(), Fail> {
+fn each_place_is_answered(rt: HostRuntime) -> Result<(), Fail> {
     let alloc = rt.alloc();
-    let blank = blank_store(alloc, 10, 64)?;
-    meanwhile_named::<Brand, _>(rt, alloc, blank, blank_queue(alloc, 64)?)
+    let counts = Arc::new(alloc, Counts::new())?;
+    let mut turns = scripts(alloc, &counts, EARLY + 1)?;
+    put_exchanges(alloc, turns.as_mut_slice())?;
+    let cut = cut_off(rt, alloc, turns, Arc::try_clone(&counts)?)?;
+    let right = counts.right.load(Ordering::SeqCst);
+    let closed = counts.closed.load(Ordering::SeqCst);
+    // 64 connections are right and closed, 64 are right, and each of 63 is one or the other.
+    assert!(rt; right.saturating_add(closed) == 255);
+    // The change may be made if the queue took it, and only then.
+    assert!(rt; cut == (64, right.saturating_sub(128), Some(0)));
+    Ok(())
 }

@@ -4,22 +4,12 @@
 //! of 128 and of 129 levels, sixteen identifiers of QoS 2 with a seventeenth or one of them again, acknowledgements of the wrong
 //! kind, and three filters that match 40,000 messages each.
 
-ghost use Rattle.std.specs.Prelude.{◌≡◌};
-
-use super::{
-    CONNECT, CONNECTED, PUBLISHES, REPLAYED, SUBSCRIBES, Store, blank_store, joined, opened,
-    settled,
-};
-use rs_intake::{BlankQueue, LineName, blank_queue};
-use rs_places::{SharedGate, serve_place};
-use rs_server::{Counted, Moments, ServeFault, Served};
-use rs_version::Blank;
+use super::play::{NONE, PLAIN, Row, as_wanted, ending, plain_row, play};
+use super::script::End;
+use super::{CONNECT, CONNECTED, PUBLISHES, REPLAYED, SUBSCRIBES};
+use rs_server::Served;
 use std::alloc::{AllocError, Global};
-use std::marker::Brand;
-use std::process::Abort;
-use std::sync::Wait;
 use std::test::Fail;
-use std::thread::Threads;
 
 /// What a client sends after its CONNECT, and what it is sent after the CONNACK.
 const PEERS: [(&[u8], &[u8]); 15] = [
@@ -50,103 +40,39 @@ const PEERS: [(&[u8], &[u8]); 15] = [
     ),
 ];
 
-/// How the connection ends, and what it is written.
-fn served<N: LineName, R: Wait + Copy>(
-    rt: &R,
-    alloc: Global,
-    gate: SharedGate<N, R>,
-    input: &[u8],
-) -> (Result<Served, ServeFault>, Vec<u8>, SharedGate<N, R>) {
-    let mut reader = Counted::new(input);
-    let mut writer = Counted::new(Vec::new(alloc));
-    let mut clock = Moments::new(0, Vec::new(alloc));
-    let (end, gate) = serve_place(rt, alloc, &mut reader, &mut writer, gate, 1, &mut clock);
-    (end, writer.into_inner(), gate)
-}
-
-/// What the connection is written.
-pub fn written<N: LineName, R: Wait + Copy>(
-    rt: &R,
-    alloc: Global,
-    gate: SharedGate<N, R>,
-    input: &[u8],
-) -> (Vec<u8>, SharedGate<N, R>) {
-    let (_end, bytes, gate) = served(rt, alloc, gate, input);
-    (bytes, gate)
-}
-
 /// How a connection ends that is written this after its CONNACK: by the DISCONNECT, or if there is none, inside a packet.
-fn end_of(output: &[u8]) -> Result<Served, ServeFault> {
+fn end_of(output: &[u8]) -> End {
     match output.last() {
         Some(code) => Ok(Served::ServerClosed(*code)),
         None => Ok(Served::CutInput),
     }
 }
 
-/// Whether this stands after the CONNACK, and nothing else.
-fn ends_with(bytes: &[u8], output: &[u8]) -> bool {
-    match bytes.strip_prefix(CONNECTED) {
-        Some(rest) => rest == output,
-        None => false,
+/// The peer of this row of the table.
+fn peer(sent: &'static [u8], told: &'static [u8]) -> Row<'static> {
+    Row {
+        course: ending(PLAIN, end_of(told)),
+        sent: [CONNECT, sent, NONE, NONE],
+        told: [CONNECTED, told, NONE],
     }
 }
 
-/// Whether a client that sends this after its CONNECT is written this after the CONNACK, and its connection ends so.
-fn is_answered<N: LineName, R: Wait + Copy>(
-    rt: &R,
-    alloc: Global,
-    gate: SharedGate<N, R>,
-    input: &[u8],
-    output: &[u8],
-) -> Result<(bool, SharedGate<N, R>), AllocError> {
-    let input = joined(alloc, CONNECT, input)?;
-    let (end, bytes, gate) = served(rt, alloc, gate, &input);
-    Ok((end == end_of(output) && ends_with(&bytes, output), gate))
-}
-
-/// Each of these clients is written what it should be.
-fn serves_peers<N: LineName, R: Wait + Abort + Copy>(
-    rt: &R,
-    alloc: Global,
-    gate: SharedGate<N, R>,
-) -> Result<SharedGate<N, R>, Fail> {
-    let mut gate = gate;
-    for (input, output) in PEERS {
-        let (answered, left) = is_answered(rt, alloc, gate, input, output)?;
-        assert!(rt; answered);
-        gate = left;
+/// The peers, between two publications and before a client that reads. The second publication has a serial of its own, so both are
+/// kept.
+fn rows(alloc: Global) -> Result<Vec<Row<'static>>, AllocError> {
+    let mut rows = Vec::new(alloc);
+    rows.push(plain_row(PLAIN, PUBLISHES, CONNECTED))?;
+    for (sent, told) in PEERS {
+        rows.push(peer(sent, told))?;
     }
-    Ok(gate)
-}
-
-fn malicious_named<
-    N: LineName + Send + Sync + 'static,
-    R: Threads + Wait + Abort + Copy + Send + Sync + 'static,
->(rt: R, alloc: Global, blank: Blank, queue: BlankQueue) -> Result<(), Fail>
-    requires store { (blank.history ≡ N.history) × (blank.limit ≡ N.limit) }
-    requires queue { (queue.name ≡ N.queue) × (queue.places ≡ N.places) }
-{
-    let Store { writer, mut gates } = opened::<N, R>(rt, alloc, blank, queue)?;
-    let gate = gates.pop().ok_or("there is a place")?;
-    let (_connected, gate) = written(&rt, alloc, gate, PUBLISHES);
-    let gate = serves_peers(&rt, alloc, gate)?;
-    // This publication has a serial of its own, so both are kept.
-    let (published, gate) = written(&rt, alloc, gate, PUBLISHES);
-    let (replayed, gate) = written(&rt, alloc, gate, SUBSCRIBES);
-    assert!(rt; published.as_slice() == CONNECTED && replayed.as_slice() == REPLAYED);
-    let (taken, version) = settled(&rt, writer, vec![in alloc; gate.close()]?);
-    assert!(rt; taken == Some(2));
-    assert!(rt; version == 2);
-    Ok(())
+    rows.push(plain_row(PLAIN, PUBLISHES, CONNECTED))?;
+    rows.push(plain_row(PLAIN, SUBSCRIBES, REPLAYED))?;
+    Ok(rows)
 }
 
 #[test]
 fn malicious(rt: HostRuntime) -> Result<(), Fail> {
     let alloc = rt.alloc();
-    malicious_named::<Brand, _>(
-        rt,
-        alloc,
-        blank_store(alloc, 10, 1)?,
-        blank_queue(alloc, 1)?,
-    )
+    assert!(rt; play(rt, alloc, 10, 1, &rows(alloc)?)? == as_wanted(1, 18, 2, 2));
+    Ok(())
 }

@@ -5,10 +5,10 @@ ghost use Rattle.rs_places.specs.Turns.{TakesBack, unknown};
 use super::CLOSED;
 use rs_places::{Connection, Turn};
 use rs_server::{Clock, ServeFault, Served};
-use std::alloc::Global;
+use std::alloc::{AllocError, Global};
 use std::collections::VecDeque;
 use std::io;
-use std::io::{Read, Write};
+use std::io::{ErrorKind, Read, Write};
 use std::sync::Arc;
 use std::sync::atomic::{AtomicU64, Ordering};
 use std::thread::yield_now;
@@ -16,40 +16,63 @@ use std::thread::yield_now;
 /// How often a turn looks whether another one came so far.
 const LOOKS: u32 = 10_000_000;
 
-/// What a client sends.
-#[derive(Drop)]
-pub struct Input {
-    pub bytes: VecDeque<u8>,
+/// How a connection ends.
+pub type End = Result<Served, ServeFault>;
+
+#[derive(Clone, Copy, Debug, PartialEq, Eq)]
+pub enum Call {
+    Read,
+    Write,
+    Flush,
 }
 
-impl Read for Input {
-    fn read(&mut self, buf: &mut [u8]) -> io::Result<usize> {
-        self.bytes.read(buf)
-    }
+/// How the streams of a connection behave.
+#[derive(Clone, Copy)]
+pub struct Pace {
+    /// At most so many bytes go by one call.
+    pub step: usize,
+    /// The call that fails is of this kind.
+    pub call: Call,
+    /// Its number among those of its kind, from 1 on. None fails at 0.
+    pub at: usize,
 }
 
-/// What is written to it.
-#[derive(Drop)]
-pub struct Output {
-    pub bytes: Vec<u8>,
-}
-
-impl Write for Output {
-    fn write(&mut self, buf: &[u8]) -> io::Result<usize> {
-        self.bytes.extend_from_slice(buf)?;
-        Ok(buf.len())
-    }
-
-    fn flush(&mut self) -> io::Result<()> {
+impl Pace {
+    /// Counts a call. Whether it goes well.
+    fn meets(&mut self, call: Call) -> io::Result<()> {
+        if self.call != call || self.at == 0 {
+            return Ok(());
+        }
+        self.at -= 1;
+        if self.at == 0 {
+            return Err(io::Error::from(ErrorKind::Interrupted));
+        }
         Ok(())
     }
 }
 
-/// What a client sends, and what it has to be sent.
+/// How a connection goes.
+#[derive(Clone, Copy)]
+pub struct Course {
+    /// The place that serves it, from 1 on.
+    pub place: u8,
+    /// It begins once so many have ended.
+    pub after: u64,
+    /// Its second packet is handled once so many came to theirs.
+    pub together: u64,
+    /// The times of its packets. The last one stands for all that follow.
+    pub moments: &'static [u64],
+    pub pace: Pace,
+    /// How it has to end.
+    pub ends: End,
+}
+
+/// A connection: how it goes, what its client sends, and what it has to be sent.
 #[derive(Drop)]
-pub struct Exchange {
-    pub input: Vec<u8>,
-    pub output: Vec<u8>,
+struct Exchange {
+    course: Course,
+    input: Vec<u8>,
+    output: Vec<u8>,
 }
 
 /// What the turns of a test count together.
@@ -57,14 +80,12 @@ pub struct Exchange {
 pub struct Counts {
     /// Connections that ended.
     pub ended: AtomicU64,
-    /// Connections that ended without a fault, and were sent what they had to be.
+    /// Connections that went as they had to.
     pub right: AtomicU64,
     /// Connections that were told that the store takes no more changes.
     pub closed: AtomicU64,
     /// Connections that came to their second packet.
     pub reached: AtomicU64,
-    /// Connections that found the others there.
-    pub met: AtomicU64,
 }
 
 impl Counts {
@@ -74,7 +95,6 @@ impl Counts {
             right: AtomicU64::new(0),
             closed: AtomicU64::new(0),
             reached: AtomicU64::new(0),
-            met: AtomicU64::new(0),
         }
     }
 }
@@ -90,43 +110,115 @@ pub fn comes(count: &AtomicU64, least: u64) -> bool {
     false
 }
 
-/// The clock of a connection, which always tells its moment.
+/// What a client sends.
+#[derive(Drop)]
+pub struct Input {
+    bytes: VecDeque<u8>,
+    pace: Pace,
+}
+
+impl Read for Input {
+    fn read(&mut self, buf: &mut [u8]) -> io::Result<usize> {
+        self.pace.meets(Call::Read)?;
+        let n = buf.len().min(self.pace.step);
+        self.bytes.read(&mut buf[..n])
+    }
+}
+
+/// What is written to it.
+#[derive(Drop)]
+pub struct Output {
+    bytes: Vec<u8>,
+    pace: Pace,
+    wanted: Vec<u8>,
+    ends: End,
+}
+
+impl Write for Output {
+    fn write(&mut self, buf: &[u8]) -> io::Result<usize> {
+        self.pace.meets(Call::Write)?;
+        let n = buf.len().min(self.pace.step);
+        self.bytes.extend_from_slice(&buf[..n])?;
+        Ok(n)
+    }
+
+    fn flush(&mut self) -> io::Result<()> {
+        self.pace.meets(Call::Flush)
+    }
+}
+
+impl Output {
+    fn is_right(&self, end: End) -> bool {
+        end == self.ends && self.bytes.as_slice() == self.wanted.as_slice()
+    }
+
+    fn is_closed(&self, end: End) -> bool {
+        end == Ok(Served::ServerClosed(0x83)) && self.bytes.as_slice() == CLOSED
+    }
+}
+
+/// The clock of a connection.
 #[derive(Drop)]
 pub struct ScriptClock {
     counts: Arc<Counts>,
     together: u64,
-    moment: u64,
+    moments: &'static [u64],
     /// How many packets have come.
-    packets: u64,
+    packets: usize,
+    /// Whether it waited for others in vain.
+    is_alone: bool,
 }
 
 impl Clock for ScriptClock {
     fn now(&mut self) -> u64 {
+        let last = self.moments.len().saturating_sub(1);
+        let at = self.packets.min(last);
         self.packets = self.packets.saturating_add(1);
         if self.packets == 2 {
             self.counts.reached.fetch_add(1, Ordering::SeqCst);
-            if comes(&self.counts.reached, self.together) {
-                self.counts.met.fetch_add(1, Ordering::SeqCst);
-            }
+            self.is_alone = !comes(&self.counts.reached, self.together);
         }
-        self.moment
+        match self.moments.get(at) {
+            Some(moment) => *moment,
+            None => 0,
+        }
     }
 }
 
-/// Plays these connections, the last of the list first.
+/// Plays these connections, one after the other.
 #[derive(Drop)]
 pub struct Script {
-    pub alloc: Global,
-    pub exchanges: Vec<Exchange>,
-    pub counts: Arc<Counts>,
-    /// A connection begins once so many have ended.
-    pub after: u64,
-    /// The second packet of a connection is handled once so many came to theirs.
-    pub together: u64,
-    /// The time of the next connection.
-    pub moment: u64,
-    /// What the connection has to be sent.
-    pub wanted: Vec<u8>,
+    alloc: Global,
+    counts: Arc<Counts>,
+    waiting: VecDeque<Exchange>,
+}
+
+impl Script {
+    pub fn new(alloc: Global, counts: Arc<Counts>) -> Script {
+        Script {
+            alloc,
+            counts,
+            waiting: VecDeque::new(alloc),
+        }
+    }
+
+    /// Appends a connection to those that wait.
+    pub fn put(
+        &mut self,
+        course: Course,
+        input: Vec<u8>,
+        output: Vec<u8>,
+    ) -> Result<(), AllocError> {
+        let exchange = Exchange {
+            course,
+            input,
+            output,
+        };
+        match self.waiting.push_back(exchange) {
+            Ok(()) => Ok(()),
+            Err(_) => Err(AllocError),
+        }
+    }
 }
 
 impl Turn for Script {
@@ -137,22 +229,33 @@ impl Turn for Script {
     type Time = ScriptClock;
 
     fn next(&mut self) -> Option<Connection<Input, Output, ScriptClock>> {
-        if !comes(&self.counts.ended, self.after) {
+        let counts = Arc::try_clone(&self.counts).ok()?;
+        let exchange = self.waiting.pop_front()?;
+        let Exchange {
+            course,
+            input,
+            output,
+        } = exchange;
+        if !comes(&self.counts.ended, course.after) {
             return None;
         }
-        let counts = Arc::try_clone(&self.counts).ok()?;
-        let Exchange { input, output } = self.exchanges.pop()?;
-        self.wanted = output;
-        let bytes = VecDeque::from_vec(input);
-        let empty = Vec::new(self.alloc);
         Some(Connection {
-            input: Input { bytes },
-            output: Output { bytes: empty },
+            input: Input {
+                bytes: VecDeque::from_vec(input),
+                pace: course.pace,
+            },
+            output: Output {
+                bytes: Vec::new(self.alloc),
+                pace: course.pace,
+                wanted: output,
+                ends: course.ends,
+            },
             clock: ScriptClock {
                 counts,
-                together: self.together,
-                moment: self.moment,
+                together: course.together,
+                moments: course.moments,
                 packets: 0,
+                is_alone: false,
             },
         })
     }
@@ -164,11 +267,10 @@ impl Turn for Script {
     )
         ensures { TakesBack unknown (record { streams = record { unread = ⟦<Input as Read>⟧.remaining connection.input; written = ⟦<Output as Write>⟧.contents connection.output; moments = ⟦<ScriptClock as Clock>⟧.moments connection.clock }; result = served }) unknown }
     {
-        let output = connection.output;
-        if served.is_ok() && output.bytes.as_slice() == self.wanted.as_slice() {
+        if connection.output.is_right(served) && !connection.clock.is_alone {
             self.counts.right.fetch_add(1, Ordering::SeqCst);
         }
-        if output.bytes.as_slice() == CLOSED {
+        if connection.output.is_closed(served) {
             self.counts.closed.fetch_add(1, Ordering::SeqCst);
         }
         self.counts.ended.fetch_add(1, Ordering::SeqCst);

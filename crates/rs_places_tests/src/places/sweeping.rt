@@ -1,29 +1,17 @@
 //! Expired messages make room for new topics.
 
-ghost use Rattle.std.specs.Prelude.{◌≡◌};
-ghost use Rattle.rs_places.specs.Turns.{TakesBack, unknown};
-
-use super::runs::{exchange, ran, script};
-use super::script::{Counts, Exchange, Input, Output, Script, ScriptClock};
-use super::{CONNECT, CONNECTED, Store, blank_store, close_both, joined, opened};
-use rs_intake::{BlankQueue, LineName, blank_queue};
-use rs_places::{Connection, SharedGate, Turn, serve_place};
-use rs_server::{Clock, Counted, Moments, ServeFault, Served};
-use rs_version::Blank;
+use super::play::{NONE, Row, as_wanted, ending, later, play};
+use super::{CONNECT, CONNECTED};
+use rs_server::Served;
 use std::alloc::{AllocError, Global};
-use std::io::{Read, Write};
-use std::marker::Brand;
-use std::process::Abort;
-use std::sync::{Arc, Wait};
 use std::test::Fail;
-use std::thread::Threads;
 
 /// Of QoS 1 a with a Message Expiry Interval of 10, b, c, and c again; a SUBSCRIBE of #.
 const SENT: &[u8] =
     b"\x33\x0C\x00\x01a\x00\x01\x05\x02\x00\x00\x00\x0A1\x33\x07\x00\x01b\x00\x02\x002\x33\x07\x00\x01c\x00\x03\x003\x33\x07\x00\x01c\x00\x04\x003\x82\x07\x00\x05\x00\x00\x01#\x00";
 
-/// The moments of these packets.
-const MOMENTS: [u64; 5] = [100, 100, 109, 110, 110];
+/// The moments of its CONNECT and of these packets.
+const MOMENTS: &[u64] = &[0, 100, 100, 109, 110, 110];
 
 /// A PUBACK for each, the third with 0x97 (Quota exceeded), and the SUBACK.
 const REPLIES: &[u8] =
@@ -38,155 +26,105 @@ const SUBSCRIBE: &[u8] = b"\x82\x07\x00\x01\x00\x00\x01#\x00";
 /// SUBACK.
 const GRANTED: &[u8] = b"\x90\x04\x00\x01\x00\x00";
 
-/// What the connection is written after the CONNACK. The CONNECT comes at 0, the other packets at these moments.
-fn answered<N: LineName, R: Wait + Copy>(
-    rt: &R,
-    alloc: Global,
-    gate: SharedGate<N, R>,
-    input: &[u8],
-    moments: &[u64],
-) -> Result<(Vec<u8>, SharedGate<N, R>), AllocError> {
-    let input = joined(alloc, CONNECT, input)?;
-    let mut reader = Counted::new(input.as_slice());
-    let mut writer = Counted::new(Vec::new(alloc));
-    let mut clock = Moments::new(0, moments.to_vec(alloc)?);
-    let (_served, gate) = serve_place(rt, alloc, &mut reader, &mut writer, gate, 1, &mut clock);
-    Ok((writer.into_inner(), gate))
-}
-
-/// The CONNACK, these replies, and these messages.
-fn written(alloc: Global, replies: &[u8], messages: &[u8]) -> Result<Vec<u8>, AllocError> {
-    let replies = joined(alloc, CONNECTED, replies)?;
-    joined(alloc, &replies, messages)
-}
-
-/// The first connection is answered so, and then a second, at 110.
-fn publish_and_read<N: LineName, R: Wait + Abort + Copy>(
-    rt: &R,
-    alloc: Global,
-    first: SharedGate<N, R>,
-    second: SharedGate<N, R>,
-) -> Result<(SharedGate<N, R>, SharedGate<N, R>), Fail> {
-    let (replies, first) = answered(rt, alloc, first, SENT, &MOMENTS)?;
-    assert!(rt; replies.as_slice() == written(alloc, REPLIES, LEFT)?.as_slice());
-    let (read, second) = answered(rt, alloc, second, SUBSCRIBE, &[110])?;
-    assert!(rt; read.as_slice() == written(alloc, GRANTED, LEFT)?.as_slice());
-    Ok((first, second))
-}
-
-fn room_for_a_third_named<
-    N: LineName + Send + Sync + 'static,
-    R: Threads + Wait + Abort + Copy + Send + Sync + 'static,
->(rt: R, alloc: Global, blank: Blank, queue: BlankQueue) -> Result<(), Fail>
-    requires store { (blank.history ≡ N.history) × (blank.limit ≡ N.limit) }
-    requires queue { (queue.name ≡ N.queue) × (queue.places ≡ N.places) }
-{
-    let Store { writer, mut gates } = opened::<N, R>(rt, alloc, blank, queue)?;
-    let (Some(second), Some(first)) = (gates.pop(), gates.pop()) else {
-        return Err(Fail::from("there are two places"));
-    };
-    let (first, second) = publish_and_read(&rt, alloc, first, second)?;
-    assert!(rt; first.version() == 4 && second.version() == 4);
-    // Four jobs, of which one was refused, and four entries: of a, of b, the Sweep, and of c.
-    close_both(&rt, alloc, writer, (first, second), 4)
+/// A connection of this place that begins once so many have ended, at these moments, until its input ends.
+fn row_of<'a>(
+    place: u8,
+    after: u64,
+    moments: &'static [u64],
+    sent: [&'a [u8]; 3],
+    told: [&'a [u8]; 2],
+) -> Row<'a> {
+    let mut course = ending(later(place, after), Ok(Served::EndOfInput));
+    course.moments = moments;
+    let [first, second, third] = sent;
+    let [reply, messages] = told;
+    Row {
+        course,
+        sent: [CONNECT, first, second, third],
+        told: [CONNECTED, reply, messages],
+    }
 }
 
 /// In a store of two topics, a third finds no room while one has a second left, and takes its place when it has expired. Another
-/// place reads the same.
+/// place reads the same. Four jobs, of which one was refused, and four entries: of a, of b, the Sweep, and of c.
 #[test]
 fn room_for_a_third(rt: HostRuntime) -> Result<(), Fail> {
-    let alloc = rt.alloc();
-    let blank = blank_store(alloc, 2, 2)?;
-    room_for_a_third_named::<Brand, _>(rt, alloc, blank, blank_queue(alloc, 2)?)
+    let rows = [
+        row_of(1, 0, MOMENTS, [SENT, NONE, NONE], [REPLIES, LEFT]),
+        row_of(2, 1, AT_110, [SUBSCRIBE, NONE, NONE], [GRANTED, LEFT]),
+    ];
+    assert!(rt; play(rt, rt.alloc(), 2, 2, &rows)? == as_wanted(2, 2, 4, 4));
+    Ok(())
 }
 
 /// How many places there are, and topics.
 const PLACES: u8 = 64;
 
-/// The moments of the rounds.
-const ROUNDS: [u64; 4] = [100, 109, 110, 110];
+const AT_100: &[u64] = &[100];
 
-/// A script whose connections each begin once those before them have ended at all places, at the moments of the rounds.
-#[derive(Drop)]
-struct Rounds {
-    script: Script,
-    /// How many of its connections began.
-    begun: u8,
+const AT_109: &[u64] = &[109];
+
+const AT_110: &[u64] = &[110];
+
+/// The topics of the places.
+const TOPICS: &[u8] = b"0123456789:;<=>?@ABCDEFGHIJKLMNOPQRSTUVWXYZ[\\]^_`abcdefghijklmno";
+
+/// PUBACK.
+const TAKEN: &[u8] = b"\x40\x02\x00\x01";
+
+/// PUBACK with 0x97 (Quota exceeded).
+const REFUSED: &[u8] = b"\x40\x03\x00\x01\x97";
+
+/// The rounds of a place. A connection begins once those of the round before have ended at all places. In the first round the place
+/// publishes a topic that lasts 10 seconds, in the second and the third another one, which is refused and then taken. In the fourth
+/// it reads.
+fn rounds<'a>(place: u8, topic: &'a [u8], messages: &'a [u8]) -> [Row<'a>; 4] {
+    let first = [
+        b"\x33\x0C\x00\x01".as_slice(),
+        topic,
+        b"\x00\x01\x05\x02\x00\x00\x00\x0Ax".as_slice(),
+    ];
+    let later = [
+        b"\x33\x08\x00\x02n".as_slice(),
+        topic,
+        b"\x00\x01\x00x".as_slice(),
+    ];
+    let reads = [SUBSCRIBE, NONE, NONE];
+    [
+        row_of(place, 0, AT_100, first, [TAKEN, NONE]),
+        row_of(place, 64, AT_109, later, [REFUSED, NONE]),
+        row_of(place, 128, AT_110, later, [TAKEN, NONE]),
+        row_of(place, 192, AT_110, reads, [GRANTED, messages]),
+    ]
 }
 
-impl Turn for Rounds {
-    type In = Input;
-
-    type Out = Output;
-
-    type Time = ScriptClock;
-
-    fn next(&mut self) -> Option<Connection<Input, Output, ScriptClock>> {
-        self.script.after = u64::from(PLACES) * u64::from(self.begun);
-        self.script.moment = ROUNDS.get(usize::from(self.begun)).copied().unwrap_or(0);
-        self.begun = self.begun.saturating_add(1);
-        self.script.next()
-    }
-
-    fn end(
-        &mut self,
-        connection: Connection<Input, Output, ScriptClock>,
-        served: Result<Served, ServeFault>,
-    )
-        ensures { TakesBack unknown (record { streams = record { unread = ⟦<Input as Read>⟧.remaining connection.input; written = ⟦<Output as Write>⟧.contents connection.output; moments = ⟦<ScriptClock as Clock>⟧.moments connection.clock }; result = served }) unknown }
-    {
-        self.script.end(connection, served)
-    }
-}
-
-/// A connection that sends this packet, and is sent this reply and these messages.
-fn connection(
-    alloc: Global,
-    packet: &[u8],
-    reply: &[u8],
-    messages: &[u8],
-) -> Result<Exchange, AllocError> {
-    let input = joined(alloc, CONNECT, packet)?;
-    exchange(alloc, &input, &written(alloc, reply, messages)?)
-}
-
-/// In the first round the place publishes a topic that lasts 10 seconds, in the second and the third another one, which is refused
-/// and then taken. In the fourth it reads. The last connection stands first.
-fn own_rounds(alloc: Global, place: u8, messages: &[u8]) -> Result<Vec<Exchange>, AllocError> {
-    let topic = place.saturating_add(b'/');
-    let first = [0x33, 12, 0, 1, topic, 0, 1, 5, 2, 0, 0, 0, 10, b'x'];
-    let later = [0x33, 8, 0, 2, b'n', topic, 0, 1, 0, b'x'];
-    let mut exchanges = Vec::new(alloc);
-    exchanges.push(connection(alloc, SUBSCRIBE, GRANTED, messages)?)?;
-    exchanges.push(connection(alloc, &later, b"\x40\x02\x00\x01", b"")?)?;
-    exchanges.push(connection(alloc, &later, b"\x40\x03\x00\x01\x97", b"")?)?;
-    exchanges.push(connection(alloc, &first, b"\x40\x02\x00\x01", b"")?)?;
-    Ok(exchanges)
-}
-
-/// The later topics of all places.
+/// The later topics of all places, as they are read.
 fn later_messages(alloc: Global) -> Result<Vec<u8>, AllocError> {
     let mut messages = Vec::new(alloc);
-    for before in 0..PLACES {
-        messages.extend_from_slice(&[0x31, 6, 0, 2, b'n', b'0' + before, 0, b'x'])?;
+    for topic in TOPICS {
+        messages.extend_from_slice(&[0x31, 6, 0, 2, b'n', *topic, 0, b'x'])?;
     }
     Ok(messages)
 }
 
+fn all_rounds<'a>(alloc: Global, messages: &'a [u8]) -> Result<Vec<Row<'a>>, AllocError> {
+    let mut rows = Vec::new(alloc);
+    for before in 0..PLACES {
+        let at = usize::from(before);
+        for row in rounds(before + 1, &TOPICS[at..at + 1], messages) {
+            rows.push(row)?;
+        }
+    }
+    Ok(rows)
+}
+
 /// 64 places fill the store, find no room for as many other topics while their messages last, and fill it again when they have
-/// expired. Each then reads the new ones alone.
+/// expired. Each then reads the new ones alone. Three changes of each place, of which one is refused, and one Sweep for all.
 #[test]
 fn filled_again(rt: HostRuntime) -> Result<(), Fail> {
     let alloc = rt.alloc();
-    let counts = Arc::new(alloc, Counts::new())?;
     let messages = later_messages(alloc)?;
-    let mut turns = Vec::new(alloc);
-    for before in 0..PLACES {
-        let exchanges = own_rounds(alloc, before + 1, &messages)?;
-        let script = script(alloc, &counts, exchanges, 0, 0)?;
-        turns.push(Rounds { script, begun: 0 })?;
-    }
-    // Three changes of each place, of which one is refused, and one Sweep for all.
-    assert!(rt; ran(rt, alloc, turns, &counts, 64)? == (64, 256, Some(192), 129));
+    let rows = all_rounds(alloc, &messages)?;
+    assert!(rt; play(rt, alloc, 64, PLACES, &rows)? == as_wanted(64, 256, 192, 129));
     Ok(())
 }

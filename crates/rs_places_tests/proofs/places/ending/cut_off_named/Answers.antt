@@ -1,0 +1,11 @@
+use denote.Param.{param, copied}
+use Rattle.std.proofs.Crossing.{Arc-send}
+use Rattle.rs_intake.proofs.writer.Queue.TheSendSync as queue
+use Rattle.rs_version.proofs.Sent.{parts_send-3, writer_send}
+use Rattle.rs_places_tests.proofs.places.script.Counts.TheSendSync as counts
+use Rattle.rs_places_tests.specs.contracts.places.script.Counts as Counts
+use Rattle.rs_places_tests.proofs.places.ending.cut_off_named.Goals as goal
+
+pub spawn-requires-send-F : goal.spawn-requires-send-F
+spawn-requires-send-F g c κs within =
+    parts_send-3 _ (Arc-send Counts.the_row counts.the_send counts.the_sync) (queue.the_send (param 0 g.row.N) g.N.LineName g.N.StoreName) (writer_send (param 0 g.row.N) g.N.StoreName (copied 1 g.row.R) c.type_bounds.send-R)
