@@ -1,20 +1,22 @@
 //! Lines, a writer and seats over threads, and each refusal.
 
+ghost use Rattle.std.specs.Prelude.{◌≡◌};
+ghost use Rattle.rs_message.specs.declared.entry.TheConstants.{MAX_PLACES};
+
 mod log;
 mod places;
+mod replies;
 mod schedules;
 mod script;
-mod strange;
 
 use crate::samples::is_shown;
-use log::{Log, Outcome, Reading, Totals, totals_of};
+use log::{Log, Outcome, Reading, has_totals, is_settled};
 use places::{Plan, Writing, run};
 use rs_intake::SettleFault;
 use rs_message::{Found, MAX_PLACES, Operation};
 use rs_store::MAX_TOPICS;
 use script::{SETS, Script, largest, last_of_hundred};
 use std::alloc::Global;
-use std::process::Abort;
 use std::test::Fail;
 
 /// How often a queue is dropped after a job was sent. A thread that is held up may send it too late.
@@ -23,12 +25,23 @@ const TRIES: u32 = 100;
 /// How many jobs a writer takes: fewer than the places have to submit, more than one round of them.
 const JOBS: u64 = 1000;
 
-fn totals(outcome: &Outcome) -> Result<Totals, Fail> {
-    Ok(totals_of(outcome).ok_or("each place took all its turns, and the writer jobs")?)
+fn plan(alloc: Global, limit: u32, script: Script, writing: Writing) -> Plan
+    ensures { result.places ≡ MAX_PLACES }
+{
+    Plan {
+        alloc,
+        limit,
+        places: MAX_PLACES,
+        script,
+        writing,
+    }
 }
 
-/// Whether these were the answers to the place, by their numbers and codes.
-fn has_answers(log: &Log, wanted: &[(u64, u8)]) -> bool {
+/// Whether these were the answers to the only place, by their numbers and codes.
+fn has_answers(outcome: &Outcome, wanted: &[(u64, u8)]) -> bool {
+    let [log] = outcome.logs.as_slice() else {
+        return false;
+    };
     if log.answers.len() != wanted.len() {
         return false;
     }
@@ -40,21 +53,10 @@ fn has_answers(log: &Log, wanted: &[(u64, u8)]) -> bool {
         }
         index = index.saturating_add(1);
     }
-    true
+    log.place == 1 && log.serial == wanted.len() as u64
 }
 
-/// One change finds the store full, and has no entry.
-fn check_full(rt: &impl Abort, outcome: &Outcome) -> Result<(), Fail> {
-    let totals = totals(outcome)?;
-    let log = outcome.logs.first().ok_or("one place")?;
-    assert!(rt; has_answers(log, &[(1, 0), (2, 0), (0, 40), (3, 0), (4, 0)]));
-    assert!(rt; log.serial == 5 && log.place == 1 && log.sent == 5);
-    assert!(rt; totals.taken == 5 && totals.refused == 1 && totals.version == 4);
-    assert!(rt; !totals.without_lines);
-    assert!(rt; totals.settled == Some(5));
-    Ok(())
-}
-
+/// One of five changes finds the store full, and has no entry.
 #[test]
 fn full_store(rt: HostRuntime) -> Result<(), Fail> {
     let plan = Plan {
@@ -64,22 +66,10 @@ fn full_store(rt: HostRuntime) -> Result<(), Fail> {
         script: Script::Changes,
         writing: Writing::All,
     };
-    check_full(&rt, &run(rt, plan)?)
-}
-
-/// Whether the queue held the first submit when it was dropped. `None` if the answers are others than they may be.
-fn was_sent(outcome: &Outcome) -> Option<bool> {
-    let log = outcome.logs.first()?;
-    if log.serial != 2 {
-        return None;
-    }
-    if has_answers(log, &[(0, 42), (0, 44)]) {
-        return Some(true);
-    }
-    if has_answers(log, &[(0, 44), (0, 44)]) {
-        return Some(false);
-    }
-    None
+    let outcome = run(rt, plan)?;
+    assert!(rt; has_answers(&outcome, &[(1, 0), (2, 0), (0, 40), (3, 0), (4, 0)]));
+    assert!(rt; has_totals(&outcome, 5, 1, 4) && is_settled(&outcome, 5));
+    Ok(())
 }
 
 /// A submit that the queue holds when it is dropped is told that its entry may come, and one that finds no queue that it was not sent.
@@ -93,9 +83,11 @@ fn dropped_queue(rt: HostRuntime) -> Result<(), Fail> {
         writing: Writing::Never,
     };
     for _ in 0..TRIES {
-        if was_sent(&run(rt, plan)?).ok_or("the answers of a dropped queue")? {
+        let outcome = run(rt, plan)?;
+        if has_answers(&outcome, &[(0, 42), (0, 44)]) {
             return Ok(());
         }
+        assert!(rt; has_answers(&outcome, &[(0, 44), (0, 44)]));
     }
     Err(Fail::from("no job was sent before the queue was dropped"))
 }
@@ -115,31 +107,25 @@ fn kept_of(log: &Log) -> Option<u64> {
     Some(kept)
 }
 
-/// As many were kept as the writer took.
-fn check_answered(rt: &impl Abort, outcome: &Outcome) -> Result<(), Fail> {
-    let totals = totals(outcome)?;
+/// How many entries of all places were kept. `None` if a submit was not answered as it may be.
+fn kept_of_all(outcome: &Outcome) -> Option<u64> {
     let mut sum = 0u64;
     for log in &outcome.logs {
-        assert!(rt; log.answers.len() == SETS as usize);
-        let kept = kept_of(log).ok_or("an answer that may not be")?;
-        sum = sum.saturating_add(kept);
+        if log.answers.len() != SETS as usize {
+            return None;
+        }
+        sum = sum.saturating_add(kept_of(log)?);
     }
-    assert!(rt; sum == JOBS && totals.taken == JOBS && totals.refused == 0);
-    assert!(rt; totals.version == JOBS);
-    Ok(())
+    Some(sum)
 }
 
 /// A writer that ends while all places submit: each submit is answered, and none waits for ever.
 #[test]
 fn each_is_answered(rt: HostRuntime) -> Result<(), Fail> {
-    let plan = Plan {
-        alloc: rt.alloc(),
-        limit: 100,
-        places: MAX_PLACES,
-        script: Script::Hundred,
-        writing: Writing::Most(JOBS),
-    };
-    check_answered(&rt, &run(rt, plan)?)
+    let plan = plan(rt.alloc(), 100, Script::Hundred, Writing::Most(JOBS));
+    let outcome = run(rt, plan)?;
+    assert!(rt; has_totals(&outcome, JOBS, 0, JOBS) && kept_of_all(&outcome) == Some(JOBS));
+    Ok(())
 }
 
 /// Whether this is the message that was sent.
@@ -150,67 +136,74 @@ fn is_largest(alloc: Global, found: &Found) -> bool {
     }
 }
 
-/// The last place reads what it sent, whole.
-fn check_largest(rt: &impl Abort, alloc: Global, outcome: &Outcome) -> Result<(), Fail> {
-    let totals = totals(outcome)?;
-    assert!(rt; totals.taken == 1 && totals.refused == 0);
-    let log = outcome.logs.last().ok_or("places")?;
-    let answer = log.answers.first().ok_or("an answer")?;
-    let origin = answer.entry.as_ref().ok_or("a receipt")?.origin;
-    assert!(rt; answer.number == 1 && origin.place() == MAX_PLACES && origin.serial() == 1);
-    let reading = log.readings.first().ok_or("a reading")?;
-    let [found] = reading.found.as_slice() else {
-        return Err(Fail::from("one message"));
+/// Whether the last place made the first entry, and reads it as it was sent.
+fn reads_largest(alloc: Global, outcome: &Outcome) -> Option<bool> {
+    let log = outcome.logs.first()?;
+    let answer = log.answers.first()?;
+    let Some(entry) = &answer.entry else {
+        return None;
     };
-    assert!(rt; is_largest(alloc, found));
-    Ok(())
+    let [found] = log.readings.first()?.found.as_slice() else {
+        return None;
+    };
+    if answer.number != 1 || entry.origin.serial() != 1 || entry.origin.place() != MAX_PLACES {
+        return None;
+    }
+    Some(is_largest(alloc, found))
 }
 
 /// The largest entry by one submit, from the last place. Its seat reads it as it was sent.
 #[test]
 fn largest_submit(rt: HostRuntime) -> Result<(), Fail> {
-    let plan = Plan {
-        alloc: rt.alloc(),
-        limit: MAX_TOPICS,
-        places: MAX_PLACES,
-        script: Script::Largest,
-        writing: Writing::All,
-    };
-    check_largest(&rt, rt.alloc(), &run(rt, plan)?)
+    let plan = plan(rt.alloc(), MAX_TOPICS, Script::Largest, Writing::All);
+    let outcome = run(rt, plan)?;
+    assert!(rt; has_totals(&outcome, 1, 0, 1) && reads_largest(rt.alloc(), &outcome) == Some(true));
+    Ok(())
 }
 
-/// Whether the place read this version, and the last Set of each of the places.
-fn reads_last_sets(reading: &Reading, version: u64) -> bool {
+/// Whether the place read the last Set of each place.
+fn has_last_sets(reading: &Reading) -> bool {
     for found in &reading.found {
         if found.message.payload().as_slice() != last_of_hundred().as_slice() {
             return false;
         }
     }
-    reading.version == version && reading.found.len() == usize::from(MAX_PLACES)
+    true
 }
 
-/// Each place reads the last Set of all.
-fn check_all(rt: &impl Abort, outcome: &Outcome) -> Result<(), Fail> {
-    let totals = totals(outcome)?;
+/// Whether all places read this version at the end, of so many messages. No version fell before.
+fn read_at_last(outcome: &Outcome, version: u64, count: usize) -> Option<bool> {
     for log in &outcome.logs {
-        assert!(rt; reads_last_sets(log.readings.first().ok_or("a reading")?, 6400));
+        for reading in &log.readings {
+            if reading.version < reading.least {
+                return None;
+            }
+        }
+        let last = log.readings.last()?;
+        if last.version != version || last.found.len() != count {
+            return None;
+        }
     }
-    assert!(rt; totals.taken == 6400 && totals.refused == 0 && totals.holds_none);
-    assert!(rt; totals.settled == Some(6400));
-    Ok(())
+    Some(true)
+}
+
+/// Whether all places read the last Set of each place.
+fn read_last_sets(outcome: &Outcome) -> Option<bool> {
+    for log in &outcome.logs {
+        if !has_last_sets(log.readings.last()?) {
+            return None;
+        }
+    }
+    read_at_last(outcome, 6400, 64)
 }
 
 /// All places at once: what the writer took of each place is what was sent from there.
 #[test]
 fn per_place_order(rt: HostRuntime) -> Result<(), Fail> {
-    let plan = Plan {
-        alloc: rt.alloc(),
-        limit: 100,
-        places: MAX_PLACES,
-        script: Script::Hundred,
-        writing: Writing::All,
-    };
-    check_all(&rt, &run(rt, plan)?)
+    let outcome = run(rt, plan(rt.alloc(), 100, Script::Hundred, Writing::All))?;
+    assert!(rt; has_totals(&outcome, 6400, 0, 6400) && is_settled(&outcome, 6400));
+    assert!(rt; read_last_sets(&outcome) == Some(true));
+    Ok(())
 }
 
 /// The sum of the numbers that all places were answered in a round.
@@ -222,57 +215,25 @@ fn sum_of_round(logs: &Vec<Log>, round: usize) -> Option<u64> {
     Some(sum)
 }
 
-/// The numbers of each round, and what is read at the end.
-fn check_rounds(rt: &impl Abort, outcome: &Outcome) -> Result<(), Fail> {
-    let totals = totals(outcome)?;
-    // 1 to 64, 66 to 129, and 131 to 194: before each of the later rounds one Sweep makes room for all.
-    assert!(rt; sum_of_round(&outcome.logs, 0) == Some(2_080));
-    assert!(rt; sum_of_round(&outcome.logs, 1) == Some(6_240));
-    assert!(rt; sum_of_round(&outcome.logs, 2) == Some(10_400));
-    assert!(rt; totals.taken == 192 && totals.refused == 0 && totals.version == 194);
-    for log in &outcome.logs {
-        let reading = log.readings.first().ok_or("a reading")?;
-        assert!(rt; reading.version == 194 && reading.found.len() == 64);
-    }
-    assert!(rt; totals.settled == Some(192));
-    Ok(())
+/// 1 to 64, 66 to 129, and 131 to 194: before each of the later rounds one Sweep makes room for all.
+fn has_rounds(outcome: &Outcome) -> Option<bool> {
+    let first = sum_of_round(&outcome.logs, 0)?;
+    let second = sum_of_round(&outcome.logs, 1)?;
+    let third = sum_of_round(&outcome.logs, 2)?;
+    Some(first == 2_080 && second == 6_240 && third == 10_400)
 }
 
 /// A store that all places fill, whose messages expire, and that is filled again.
 #[test]
 fn filled_again(rt: HostRuntime) -> Result<(), Fail> {
-    let plan = Plan {
-        alloc: rt.alloc(),
-        limit: 64,
-        places: MAX_PLACES,
-        script: Script::Rounds,
-        writing: Writing::All,
-    };
-    check_rounds(&rt, &run(rt, plan)?)
-}
-
-/// Whether no version fell, and the last one is this.
-fn rises_to(log: &Log, version: u64) -> bool {
-    let mut last = 0;
-    for reading in &log.readings {
-        if reading.version < reading.least {
-            return false;
-        }
-        last = reading.version;
-    }
-    last == version
-}
-
-/// The versions of all places.
-fn check_risen(rt: &impl Abort, outcome: &Outcome) -> Result<(), Fail> {
-    assert!(rt; totals(outcome)?.version == 100);
-    for log in &outcome.logs {
-        assert!(rt; rises_to(log, 100));
-    }
+    let outcome = run(rt, plan(rt.alloc(), 64, Script::Rounds, Writing::All))?;
+    assert!(rt; has_totals(&outcome, 192, 0, 194) && is_settled(&outcome, 192));
+    assert!(rt; has_rounds(&outcome) == Some(true));
+    assert!(rt; read_at_last(&outcome, 194, 64) == Some(true));
     Ok(())
 }
 
-/// Three places read while one submits. Their versions never fall, and each reads the last one at the end.
+/// The other places read while one submits. Their versions never fall, and each reads the last one at the end.
 #[test]
 fn readers_beside_a_writer(rt: HostRuntime) -> Result<(), Fail> {
     let plan = Plan {
@@ -282,7 +243,9 @@ fn readers_beside_a_writer(rt: HostRuntime) -> Result<(), Fail> {
         script: Script::Beside,
         writing: Writing::All,
     };
-    check_risen(&rt, &run(rt, plan)?)
+    let outcome = run(rt, plan)?;
+    assert!(rt; has_totals(&outcome, 100, 0, 100) && read_at_last(&outcome, 100, 1) == Some(true));
+    Ok(())
 }
 
 #[test]

@@ -2,7 +2,7 @@
 
 use rs_message::{Entry, Found};
 use rs_version::Snapshot;
-use std::alloc::{AllocError, Global};
+use std::alloc::Global;
 
 /// What a submit was answered.
 #[derive(Drop)]
@@ -52,12 +52,14 @@ impl Log {
         }
     }
 
-    pub(crate) fn add_answer(&mut self, answer: Answer) -> Result<(), AllocError> {
+    /// `None` if memory is refused.
+    pub(crate) fn add_answer(&mut self, answer: Answer) -> Option<()> {
         self.known = self.known.max(answer.number);
-        self.answers.push(answer).map_err(|_| AllocError)
+        self.answers.push(answer).ok()
     }
 
-    pub(crate) fn add_reading(&mut self, snapshot: Snapshot) -> Result<(), AllocError> {
+    /// `None` if memory is refused.
+    pub(crate) fn add_reading(&mut self, snapshot: Snapshot) -> Option<()> {
         let Snapshot { version, found } = snapshot;
         let reading = Reading {
             least: self.known,
@@ -65,7 +67,7 @@ impl Log {
             found,
         };
         self.known = version;
-        self.readings.push(reading).map_err(|_| AllocError)
+        self.readings.push(reading).ok()
     }
 }
 
@@ -85,18 +87,44 @@ pub(crate) struct Totals {
 /// What a run came to.
 #[derive(Drop)]
 pub(crate) struct Outcome {
-    /// In the order of the places.
+    /// From the last place to the first.
     pub(crate) logs: Vec<Log>,
     /// `None` if the writer took no job.
     pub(crate) totals: Option<Totals>,
 }
 
-/// What the writer did, if each place took all its turns.
+/// What the writer did, if each place took all its turns, no entry is held, and nothing is settled without the lines.
 pub(crate) fn totals_of(outcome: &Outcome) -> Option<Totals> {
     for log in &outcome.logs {
         if !log.is_whole {
             return None;
         }
     }
-    outcome.totals
+    let totals = outcome.totals?;
+    if !totals.holds_none || totals.without_lines {
+        return None;
+    }
+    Some(totals)
+}
+
+/// Whether the writer took so many jobs, refused so many of them, and published this version.
+pub(crate) fn has_totals(outcome: &Outcome, taken: u64, refused: u64, version: u64) -> bool {
+    match totals_of(outcome) {
+        Some(totals) => {
+            totals.taken == taken && totals.refused == refused && totals.version == version
+        }
+        None => false,
+    }
+}
+
+/// Whether so many jobs are settled, and the queue took them from the lines.
+pub(crate) fn is_settled(outcome: &Outcome, jobs: u64) -> bool {
+    let mut sent = 0u64;
+    for log in &outcome.logs {
+        sent = sent.saturating_add(log.sent);
+    }
+    match outcome.totals {
+        Some(totals) => totals.settled == Some(jobs) && sent == jobs,
+        None => false,
+    }
 }

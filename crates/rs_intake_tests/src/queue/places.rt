@@ -14,7 +14,7 @@ use rs_intake::{
 };
 use rs_message::Operation;
 use rs_version::{Blank, Receipt, Seat, VersionWriter};
-use std::alloc::{AllocError, Global};
+use std::alloc::Global;
 use std::marker::Brand;
 use std::process::Abort;
 use std::sync::atomic::{AtomicU64, Ordering};
@@ -139,7 +139,7 @@ fn take_turn<N: LineName, R: Wait + Clock + Abort>(
         Act::Nothing => Some(()),
         Act::Read(now) => {
             let snapshot = read_all(task.alloc, seat, now).ok()?;
-            log.add_reading(snapshot).ok()
+            log.add_reading(snapshot)
         }
         Act::Meet(number) => {
             task.counts.met.fetch_add(1, Ordering::SeqCst);
@@ -150,7 +150,7 @@ fn take_turn<N: LineName, R: Wait + Clock + Abort>(
         change => {
             let operation = operation_of(task.alloc, change)?;
             let answer = submit(rt, line, seat, operation)?;
-            log.add_answer(answer).ok()
+            log.add_answer(answer)
         }
     }
 }
@@ -219,13 +219,8 @@ fn write<N: LineName, R: Wait + Clock + Copy>(
 fn start_one<
     N: LineName + Send + Sync + 'static,
     R: Threads + Wait + Clock + Abort + Copy + Send + Sync + 'static,
->(
-    rt: R,
-    task: Task,
-    line: SeatLine<N>,
-    seat: Seat<N>,
-) -> Result<JoinHandle<(Log, LineEnd<N>)>, Fail> {
-    Ok(spawn(&rt, move || serve(rt, task, line, seat))?)
+>(rt: R, task: Task, line: SeatLine<N>, seat: Seat<N>) -> Option<JoinHandle<(Log, LineEnd<N>)>> {
+    spawn(&rt, move || serve(rt, task, line, seat)).ok()
 }
 
 fn task_of(plan: Plan, counts: &Arc<Counts>) -> Option<Task> {
@@ -238,7 +233,27 @@ fn task_of(plan: Plan, counts: &Arc<Counts>) -> Option<Task> {
     })
 }
 
-/// A thread for each place.
+/// A thread for each place, from the last to the first. `None` if memory or a thread is refused.
+fn start_all<
+    N: LineName + Send + Sync + 'static,
+    R: Threads + Wait + Clock + Abort + Copy + Send + Sync + 'static,
+>(
+    rt: R,
+    plan: Plan,
+    counts: &Arc<Counts>,
+    lines: &mut Vec<SeatLine<N>>,
+    seats: &mut Vec<Seat<N>>,
+    handles: &mut Vec<JoinHandle<(Log, LineEnd<N>)>>,
+) -> Option<()> {
+    for _ in 0..plan.places {
+        let task = task_of(plan, counts)?;
+        let line = lines.pop()?;
+        let seat = seats.pop()?;
+        handles.push(start_one(rt, task, line, seat)?).ok()?;
+    }
+    Some(())
+}
+
 fn start<
     N: LineName + Send + Sync + 'static,
     R: Threads + Wait + Clock + Abort + Copy + Send + Sync + 'static,
@@ -248,16 +263,13 @@ fn start<
     counts: &Arc<Counts>,
     lines: Vec<SeatLine<N>>,
     seats: Vec<Seat<N>>,
-) -> Result<Vec<JoinHandle<(Log, LineEnd<N>)>>, Fail> {
-    let mut seats = seats;
+) -> Option<Vec<JoinHandle<(Log, LineEnd<N>)>>> {
+    let (mut lines, mut seats) = (lines, seats);
     let mut handles = Vec::new(plan.alloc);
-    for line in lines {
-        match (seats.pop(), task_of(plan, counts)) {
-            (Some(seat), Some(task)) => handles.push(start_one(rt, task, line, seat)?)?,
-            _ => return Err(Fail::from("a seat and memory for each place")),
-        }
+    match start_all(rt, plan, counts, &mut lines, &mut seats, &mut handles) {
+        Some(()) => Some(handles),
+        None => None,
     }
-    Ok(handles)
 }
 
 fn totals_of<N: LineName, R: Wait + Drop>(
@@ -277,19 +289,19 @@ fn totals_of<N: LineName, R: Wait + Drop>(
     }
 }
 
-/// The logs and the ends of all lines.
-fn join<N: LineName, R: Threads>(
+/// Waits for the threads of all places. `None` if memory is refused.
+fn join_all<N: LineName, R: Threads>(
     rt: &R,
-    alloc: Global,
     handles: Vec<JoinHandle<(Log, LineEnd<N>)>>,
-) -> Result<(Vec<Log>, Vec<LineEnd<N>>), AllocError> {
-    let (mut logs, mut ends) = (Vec::new(alloc), Vec::new(alloc));
+    logs: &mut Vec<Log>,
+    ends: &mut Vec<LineEnd<N>>,
+) -> Option<()> {
     for handle in handles {
         let (log, end) = handle.join(rt);
-        logs.push(log).map_err(|_| AllocError)?;
-        ends.push(end).map_err(|_| AllocError)?;
+        logs.push(log).ok()?;
+        ends.push(end).ok()?;
     }
-    Ok((logs, ends))
+    Some(())
 }
 
 fn finish<N: LineName, R: Threads + Wait + Copy>(
@@ -297,32 +309,33 @@ fn finish<N: LineName, R: Threads + Wait + Copy>(
     alloc: Global,
     writer: JoinHandle<Option<Ended<N, R>>>,
     handles: Vec<JoinHandle<(Log, LineEnd<N>)>>,
-) -> Result<Outcome, Fail> {
-    let (logs, ends) = join(rt, alloc, handles)?;
-    let totals = match writer.join(rt) {
-        Some(ended) => Some(totals_of(alloc, ended, ends)),
-        None => None,
+) -> Outcome {
+    let (mut logs, mut ends) = (Vec::new(alloc), Vec::new(alloc));
+    let joined = join_all(rt, handles, &mut logs, &mut ends);
+    let totals = match (joined, writer.join(rt)) {
+        (Some(()), Some(ended)) => Some(totals_of(alloc, ended, ends)),
+        _ => None,
     };
-    Ok(Outcome { logs, totals })
+    Outcome { logs, totals }
 }
 
 fn run_named<
     N: LineName + Send + Sync + 'static,
     R: Threads + Wait + Clock + Abort + Copy + Send + Sync + 'static,
->(rt: R, blank: Blank, queue: BlankQueue, plan: Plan, counts: &Arc<Counts>) -> Result<Outcome, Fail>
+>(rt: R, blank: Blank, queue: BlankQueue, plan: Plan, counts: &Arc<Counts>) -> Option<Outcome>
     requires store { (blank.history ≡ N.history) × (blank.limit ≡ N.limit) }
     requires queue { (queue.name ≡ N.queue) × (queue.places ≡ N.places) }
 {
-    let (_intake, lines, queue) = queue.open::<N>()?;
-    let (writer, seats) = blank.open::<N, R>(rt)?;
+    let (_intake, lines, queue) = queue.open::<N>().ok()?;
+    let (writer, seats) = blank.open::<N, R>(rt).ok()?;
     let handles = start(rt, plan, counts, lines, seats)?;
     let writing = plan.writing;
-    let writer = spawn(&rt, move || write(rt, queue, writer, writing))?;
+    let writer = spawn(&rt, move || write(rt, queue, writer, writing)).ok()?;
     watch(&rt, &counts.ended, u64::from(plan.places));
-    finish(&rt, plan.alloc, writer, handles)
+    Some(finish(&rt, plan.alloc, writer, handles))
 }
 
-/// Runs all threads to their end. Each place has to take all turns.
+/// Runs all threads to their end.
 pub(crate) fn run<R: Threads + Wait + Clock + Abort + Copy + Send + Sync + 'static>(
     rt: R,
     plan: Plan,
@@ -338,5 +351,6 @@ pub(crate) fn run<R: Threads + Wait + Clock + Abort + Copy + Send + Sync + 'stat
     )?;
     let blank = blank_store(plan.alloc, plan.limit, plan.places)?;
     let queue = blank_queue(plan.alloc, plan.places)?;
-    run_named::<Brand, R>(rt, blank, queue, plan, &counts)
+    let outcome = run_named::<Brand, R>(rt, blank, queue, plan, &counts);
+    Ok(outcome.ok_or("memory or a thread was refused")?)
 }

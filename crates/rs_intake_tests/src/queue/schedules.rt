@@ -28,19 +28,19 @@ fn text_of(alloc: Global, found: &Vec<Found>) -> Option<Vec<u8>> {
 }
 
 /// The entry of the receipt of this number. `None` if there is none, or more than one.
-fn entry_at(logs: &Vec<Log>, number: u64) -> Option<Entry> {
-    let mut entry = None;
+fn entry_at(logs: &Vec<Log>, number: u64) -> Option<&Entry> {
+    let mut found = None;
     for log in logs {
         for answer in &log.answers {
             if answer.number == number {
-                if entry.is_some() {
+                if found.is_some() {
                     return None;
                 }
-                entry = Some(answer.entry.as_ref()?.copy().ok()?);
+                found = answer.entry.as_ref();
             }
         }
     }
-    entry
+    found
 }
 
 /// Appends what the store reads.
@@ -50,12 +50,12 @@ fn add_text(alloc: Global, catalogue: &MapCatalogue, texts: &mut Vec<Vec<u8>>) -
     texts.push(text_of(alloc, &found)?).ok()
 }
 
-/// Adds the entry, which is no Sweep.
-fn add(store: &mut Store<MapCatalogue>, entry: Entry) -> Option<()> {
+/// Adds a copy of the entry, which is no Sweep.
+fn add(store: &mut Store<MapCatalogue>, entry: &Entry) -> Option<()> {
     if entry.operation.is_sweep() {
         return None;
     }
-    store.add(entry).ok()
+    store.add(entry.copy().ok()?).ok()
 }
 
 /// What a store of one thread reads after each of the entries, from none to this many, in the order of their numbers.

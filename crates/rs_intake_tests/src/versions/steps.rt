@@ -4,8 +4,8 @@ ghost use Rattle.std.specs.Prelude.{◌≡◌, false, IfSome};
 ghost use Rattle.rs_message.specs.Messages.{is_sweep};
 
 use crate::samples::{clear, read_all, set_at};
-use rs_message::{Entry, Operation, Origin};
-use rs_version::{Blank, Seat, StoreName, Told, VersionWriter};
+use rs_message::{Entry, Found, Operation, Origin};
+use rs_version::{Blank, Receipt, Seat, Snapshot, StoreName, Told, VersionWriter};
 use std::alloc::Global;
 use std::marker::Brand;
 use std::process::Abort;
@@ -71,126 +71,138 @@ fn entry_of(alloc: Global, change: Change) -> Option<Entry>
     Some(Entry { origin, operation })
 }
 
-/// What a put answers. A receipt has to be for this entry, with the token of the version of its number.
+/// Whether the receipt is for the entry of this origin, with the token of the version of its number.
+fn is_for<N: StoreName>(receipt: &Receipt<N>, origin: Origin) -> bool {
+    receipt.entry().origin == origin && receipt.told().version() == receipt.number()
+}
+
+/// What a put answers.
 fn put<N: StoreName, R: Wait + Drop>(
     writer: &mut VersionWriter<N, R>,
     tokens: &mut Vec<Told<N>>,
     entry: Entry,
-) -> Result<Answer, Fail>
+) -> Option<Answer>
     requires { is_sweep entry.operation ≡ false }
 {
     let origin = entry.origin;
     match writer.put(entry) {
-        Ok(receipt) => {
-            let number = receipt.number();
-            if receipt.entry().origin != origin || receipt.told().version() != number {
-                return Err(Fail::from("the receipt is for another entry"));
-            }
-            tokens.push(receipt.told())?;
-            Ok((number, 0))
+        Ok(receipt) if is_for(&receipt, origin) => {
+            tokens.push(receipt.told()).ok()?;
+            Some((receipt.number(), 0))
         }
-        Err(fault) => Ok((0, fault.code())),
+        Ok(_) => None,
+        Err(fault) => Some((0, fault.code())),
     }
 }
 
-/// The version and the topics that the seat reads.
-fn read<N: StoreName>(alloc: Global, seat: &mut Seat<N>, now: u64) -> Result<(u64, Vec<u8>), Fail> {
-    let snapshot = read_all(alloc, seat, now)?;
+fn holds_nothing<N: StoreName, R: Wait + Drop>(writer: &mut VersionWriter<N, R>) -> bool {
+    match writer.retry() {
+        Ok(None) => writer.held().is_none(),
+        _ => false,
+    }
+}
+
+/// The topics that were found, each with a space behind it.
+fn topics_of(alloc: Global, found: &Vec<Found>) -> Option<Vec<u8>> {
     let mut topics = Vec::new(alloc);
-    for found in &snapshot.found {
-        topics.extend_from_slice(found.topic.as_bytes())?;
-        topics.push(b' ')?;
+    for found in found {
+        topics.extend_from_slice(found.topic.as_bytes()).ok()?;
+        topics.push(b' ').ok()?;
     }
-    Ok((snapshot.version, topics))
+    Some(topics)
 }
 
-/// Whether the seat does what it has to.
+/// Whether the snapshot is of this version, with these topics.
+fn is_of(alloc: Global, snapshot: &Snapshot, version: u64, topics: &[u8]) -> bool {
+    match topics_of(alloc, &snapshot.found) {
+        Some(found) => snapshot.version == version && found.as_slice() == topics,
+        None => false,
+    }
+}
+
+/// Whether the seat does what it has to. `None` if there is no such token, or memory is refused.
 fn is_seen<N: StoreName>(
     alloc: Global,
     seat: &mut Seat<N>,
     tokens: &Vec<Told<N>>,
     look: Look,
-) -> Result<bool, Fail> {
+) -> Option<bool> {
     match look {
         Look::Learns(token) => {
-            seat.learn(tokens.get(token).ok_or("a token")?.again());
-            Ok(true)
+            seat.learn(tokens.get(token)?.again());
+            Some(true)
         }
-        Look::Knows(version) => Ok(seat.told().version() == version),
+        Look::Knows(version) => Some(seat.told().version() == version),
         Look::Compares(token, wanted) => {
-            let token = tokens.get(token).ok_or("a token")?;
+            let token = tokens.get(token)?;
             let own = seat.told();
-            Ok(own.reaches(token) == wanted.0 && token.reaches(&own) == wanted.1)
+            Some(own.reaches(token) == wanted.0 && token.reaches(&own) == wanted.1)
         }
         Look::Reads(now, version, topics) => {
-            let (read, found) = read(alloc, seat, now)?;
-            Ok(read == version && found.as_slice() == topics)
+            let snapshot = read_all(alloc, seat, now).ok()?;
+            Some(is_of(alloc, &snapshot, version, topics))
         }
     }
 }
 
-/// Whether the call answers what it has to.
+/// Whether the call answers what it has to. `None` if there is no such seat or token, or memory is refused.
 fn is_answered<N: StoreName, R: Wait + Drop>(
     alloc: Global,
     writer: &mut VersionWriter<N, R>,
     seats: &mut Vec<Seat<N>>,
     tokens: &mut Vec<Told<N>>,
     step: Step,
-) -> Result<bool, Fail> {
+) -> Option<bool> {
     match step {
         Step::Put(change, wanted) => {
-            let entry = entry_of(alloc, change).ok_or("an entry")?;
-            let answer = put(writer, tokens, entry)?;
-            Ok(answer.0 == wanted.0 && answer.1 == wanted.1)
+            let answer = put(writer, tokens, entry_of(alloc, change)?)?;
+            Some(answer.0 == wanted.0 && answer.1 == wanted.1)
         }
         Step::Tells(version) => {
-            tokens.push(writer.tell())?;
-            Ok(writer.tell().version() == version)
+            tokens.push(writer.tell()).ok()?;
+            Some(writer.tell().version() == version)
         }
-        Step::HoldsNothing => Ok(writer.held().is_none() && writer.retry()?.is_none()),
-        Step::At(seat, look) => {
-            let seat = seats.get_mut(seat).ok_or("a seat")?;
-            is_seen(alloc, seat, tokens, look)
-        }
+        Step::HoldsNothing => Some(holds_nothing(writer)),
+        Step::At(seat, look) => is_seen(alloc, seats.get_mut(seat)?, tokens, look),
     }
 }
 
-/// How many calls answer what they have to.
+/// How many calls answer what they have to, up to the first that does not.
 fn answered<N: StoreName, R: Wait + Drop>(
     alloc: Global,
     writer: &mut VersionWriter<N, R>,
     seats: &mut Vec<Seat<N>>,
     steps: &[Step],
-) -> Result<usize, Fail> {
+) -> usize {
     let mut tokens = Vec::new(alloc);
     let mut count = 0usize;
     for step in steps {
-        if !is_answered(alloc, writer, seats, &mut tokens, *step)? {
+        if is_answered(alloc, writer, seats, &mut tokens, *step) != Some(true) {
             break;
         }
         count = count.saturating_add(1);
     }
-    Ok(count)
+    count
 }
 
-/// The same for a new store. Then the writer ends, and no seat reads any more.
+/// The same for a new store. Then the writer ends: `None` if a seat reads thereafter.
 fn answered_by<N: StoreName, R: Wait>(
     rt: &R,
     alloc: Global,
     blank: Blank,
     steps: &[Step],
-) -> Result<usize, Fail>
+) -> Option<usize>
     requires { (blank.history ≡ N.history) × (blank.limit ≡ N.limit) }
 {
-    let (mut writer, mut seats) = blank.open::<N, &R>(rt)?;
-    let count = answered(alloc, &mut writer, &mut seats, steps)?;
+    let (mut writer, mut seats) = blank.open::<N, &R>(rt).ok()?;
+    let count = answered(alloc, &mut writer, &mut seats, steps);
     drop(writer);
     for seat in &mut seats {
         if read_all(alloc, seat, 0).is_ok() {
-            return Err(Fail::from("a seat reads though the writer has ended"));
+            return None;
         }
     }
-    Ok(count)
+    Some(count)
 }
 
 /// Makes the calls, one after the other. Each has to answer what it says.
@@ -200,7 +212,8 @@ pub(crate) fn check<R: Wait + Abort>(
     blank: Blank,
     steps: &[Step],
 ) -> Result<(), Fail> {
-    let count = answered_by::<Brand, R>(rt, alloc, blank, steps)?;
+    let answered = answered_by::<Brand, R>(rt, alloc, blank, steps);
+    let count = answered.ok_or("a store whose seats read nothing at its end")?;
     assert!(rt; count == steps.len(), "at step {count}");
     Ok(())
 }

@@ -1,0 +1,5 @@
+use Rattle.rs_intake_tests.proofs.queue.replies.strange.Given as goal
+
+-- the store that was just made
+abbrev pub ghosts-code_of_other-N-StoreName : goal.ghosts-code_of_other-N-StoreName
+ghosts-code_of_other-N-StoreName g a = record { history = a.blank.history; limit = a.blank.limit }
