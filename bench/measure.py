@@ -47,7 +47,8 @@ def trial(names, task, *numbers):
 def peak_memory(task, topics):
     """The most kilobytes that rs_trials holds while it keeps so many messages. It lets them go one
     by one, so that it is seen then."""
-    running = subprocess.Popen([program("rs_trials"), task, str(topics)])
+    words = [program("rs_trials"), task, str(topics)]
+    running = subprocess.Popen(words, stdout=subprocess.DEVNULL)
     most = 0
     while running.poll() is None:
         # It may have ended since.
