@@ -37,17 +37,18 @@ def grows_slowly(name, measure, few, many, limit=15):
     return grown < limit
 
 
-def trial(task, *numbers):
-    """By name, the numbers that a task of rs_trials prints."""
+def trial(names, task, *numbers):
+    """By these names, the numbers that a task of rs_trials prints."""
     words = [program("rs_trials"), task, *map(str, numbers)]
     out = subprocess.run(words, capture_output=True, text=True, check=True).stdout
-    return {name: int(number) for name, number in (line.split() for line in out.splitlines())}
+    return dict(zip(names, map(int, out.split()), strict=True))
 
 
 def peak_memory(task, topics):
     """The most kilobytes that rs_trials holds while it keeps so many messages. It lets them go one
     by one, so that it is seen then."""
-    running = subprocess.Popen([program("rs_trials"), task, str(topics)])
+    words = [program("rs_trials"), task, str(topics)]
+    running = subprocess.Popen(words, stdout=subprocess.DEVNULL)
     most = 0
     while running.poll() is None:
         # It may have ended since.

@@ -2,6 +2,20 @@
 
 from bench.measure import least, peak_memory, trial, with_rounds
 
+# What the tasks on a tree time, in the order in which rs_trials prints it.
+TIMED = {
+    "tree": (
+        "set",
+        "replace",
+        "answer_all",
+        "answer_one",
+        "answer_below",
+        "answer_last",
+        "clear",
+    ),
+    "full": ("room", "full", "sweep"),
+}
+
 # With how many topics a tree is timed.
 TREES = (1_000, 10_000, 65_536)
 
@@ -35,10 +49,10 @@ DEEP_LIMIT = 1_000 + 3 * DEEP_BYTES
 
 
 def tree_times(task, topics, tries=5):
-    """By name, the nanoseconds that the calls of a task on a tree take with so many topics: Set,
-    replace, Clear and `#`, and one answer to each other filter, or the adds to a full tree. The
+    """By name, the nanoseconds that the calls of a task on a tree take with so many topics: all
+    Sets, replacements and Clears, and one answer to each filter, or the adds to a full tree. The
     least of some runs."""
-    return least(tries, trial, task, topics)
+    return least(tries, trial, TIMED[task], task, topics)
 
 
 def tree_grows_slowly(name, times):

@@ -29,15 +29,16 @@ EACH_LIMIT = 900
 
 
 def run(topics, readers, millis=MILLIS):
-    """By name, the microseconds that were taken in a run of so many milliseconds, the number of
+    """By name, the nanoseconds that were taken in a run of so many milliseconds, the number of
     rounds and that of answers."""
-    return trial("versions", topics, readers, millis)
+    names = ("rounds", "new", "replace", "sweep", "all", "answers")
+    return trial(names, "versions", topics, readers, millis)
 
 
 def put_micros(topics, readers):
     """By name, the microseconds of a put in a run."""
     made = run(topics, readers)
-    return {name: made[name] / made["rounds"] for name in ("new", "replace")}
+    return {name: made[name] / made["rounds"] / 1_000 for name in ("new", "replace")}
 
 
 def put_times(topics, readers, tries=3):
@@ -51,7 +52,7 @@ def put_times(topics, readers, tries=3):
 def sweeps_are_short(tries=3):
     """Whether a put that sweeps half of the topics keeps no other waiting for long."""
     topics, readers = SWEEP_LOAD
-    took = least(tries, run, topics, readers)["sweep"] / 1_000
+    took = least(tries, run, topics, readers)["sweep"] / 1_000_000
     name = f"put that sweeps half of {topics:,} topics beside {readers} seats that read"
     print(f"{name}: {took:.1f} ms (less than {SWEEP_LIMIT} wanted)")
     return took < SWEEP_LIMIT
@@ -61,7 +62,7 @@ def answers_a_second(readers, tries=3):
     """How many answers all seats together are given in a second, beside a writer that puts; the
     most of some runs."""
     runs = [run(TOPICS[0], readers) for _ in range(tries)]
-    return max(made["answers"] * 1_000_000 / made["all"] for made in runs)
+    return max(made["answers"] * 1_000_000_000 / made["all"] for made in runs)
 
 
 @with_rounds

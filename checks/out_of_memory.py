@@ -8,7 +8,6 @@ a window, of a store of versions and of the queue to its writer.
 """
 
 import os
-import re
 import subprocess
 import sys
 import tempfile
@@ -105,7 +104,7 @@ def sessions(name, steps, least, is_hex, library):
 
 def calls(task, least, library, count=1, untold=0):
     """Runs a task of rs_trials, in which so many allocations in a row fail. It prints how often
-    each kind of call was refused.
+    each kind of call was refused, a number a line.
 
     At least so many runs as `untold` says must have been refused memory in a call that does not
     tell it. If the task cannot go on, it says so, and in the first runs that the words were not
@@ -115,9 +114,9 @@ def calls(task, least, library, count=1, untold=0):
     not_read = b"rs_trials: the clock, the words, the input or the output failed\n"
     words = [program("rs_trials"), "refuse", task]
     for at, run, was_refused in in_turn(words, b"", library, count):
-        printed = re.fullmatch(r"refused((?: \d+)+)\n", run.stdout.decode())
-        counts = dict(zip(least, map(int, printed[1].split()))) if printed else {}
-        is_whole = run.returncode == 0 and len(counts) == len(least)
+        printed = [int(line) for line in run.stdout.split()]
+        counts = dict(zip(least, printed))
+        is_whole = run.returncode == 0 and len(printed) == len(least)
         if is_whole and (was_refused or not any(counts.values())):
             refused.update(counts)
             refused[UNTOLD] += was_refused and not any(counts.values())

@@ -5,26 +5,32 @@ use rs_topic::TopicFault;
 use rs_window::WindowFault;
 use std::alloc::{AllocError, AllocFailed};
 use std::io;
-use thiserror::Error;
 
-#[derive(Clone, Copy, Debug, Error)]
+#[derive(Clone, Copy)]
 pub enum Failure {
-    #[error("give a task and its numbers, as bench/run and checks/out_of_memory do")]
     Words,
-    #[error("standard input has to be one PUBLISH or SUBSCRIBE")]
     Input,
-    #[error("out of memory")]
     NoMemory,
-    #[error("a call gave a wrong answer")]
     Wrong,
-    #[error("the clock, the words, the input or the output failed")]
     Io,
 }
 
 impl Failure {
+    /// What is said on standard error.
+    pub fn text(self) -> &'static str {
+        match self {
+            Failure::Words =>
+                "give a task and its numbers, as bench/run and checks/out_of_memory do",
+            Failure::Input => "standard input has to be one PUBLISH or SUBSCRIBE",
+            Failure::NoMemory => "out of memory",
+            Failure::Wrong => "a call gave a wrong answer",
+            Failure::Io => "the clock, the words, the input or the output failed",
+        }
+    }
+
     /// The exit status: 1 if memory, the clock, the words, the input or the output failed, 2 for words or an input that are refused,
     /// 3 for a wrong answer.
-    pub fn status(&self) -> u8 {
+    pub fn status(self) -> u8 {
         match self {
             Failure::NoMemory | Failure::Io => 1,
             Failure::Words | Failure::Input => 2,

@@ -1,7 +1,7 @@
-//! Works single calls of the crates, for the checks and the benchmark.
+//! Works single calls of the crates, for the checks and the benchmark, and prints numbers, one a line.
 //!
-//! `refuse tree`, `refuse window`, `refuse versions` and `refuse queue` look at what is shown after memory was refused.
-//! The other tasks are timed:
+//! `refuse tree`, `refuse window`, `refuse versions` and `refuse queue` look at what is shown after memory was refused, and count how
+//! often it was. The other tasks are timed, in nanoseconds:
 //!
 //! - `tree TOPICS`: the calls of a tree in which so many topics, 1 to 65,536, hold a message;
 //! - `full TOPICS`: the adds to a full tree of so many topics, and one that sweeps half of it;
@@ -16,12 +16,16 @@
 #![tactic(auto)]
 
 mod failure;
+mod keeper;
 mod refusals;
-mod running;
 mod samples;
 mod times;
 
 use crate::failure::Failure;
+use crate::samples::Naming;
+use crate::times::tree::Task;
+use rs_store::TopicLimit;
+use std::alloc::Global;
 use std::env;
 use std::env::Env;
 use std::io::Read;
@@ -30,26 +34,97 @@ use std::rt::Clock;
 use std::sync::Wait;
 use std::thread::Threads;
 
+/// The number that a word is.
+fn number(word: &String) -> Result<u32, Failure> {
+    match word.as_str().parse::<u32>() {
+        Ok(number) => Ok(number),
+        Err(_) => Err(Failure::Words),
+    }
+}
+
+/// The number of topics that a word is.
+fn topics(word: &String) -> Result<TopicLimit, Failure> {
+    match TopicLimit::new(number(word)?) {
+        Some(limit) => Ok(limit),
+        None => Err(Failure::Words),
+    }
+}
+
+/// Looks at what is shown after memory was refused.
+fn refused<H: Wait + Threads + Copy + Send + Sync + 'static>(
+    rt: &H,
+    alloc: Global,
+    word: &str,
+) -> Result<Vec<u64>, Failure> {
+    match word {
+        "tree" => refusals::tree::work(alloc),
+        "queue" => refusals::queue::work(rt, alloc),
+        "window" => refusals::window::work(alloc),
+        "versions" => refusals::versions::work(rt, alloc),
+        _ => Err(Failure::Words),
+    }
+}
+
+/// Does a task of a tree.
+fn tree<C: Clock>(
+    clock: &C,
+    alloc: Global,
+    name: &str,
+    word: &String,
+) -> Result<Vec<u64>, Failure> {
+    let task = match name {
+        "tree" => Task::Calls,
+        "full" => Task::Full,
+        "keep" => Task::Keep(Naming::Even),
+        "keep_deep" => Task::Keep(Naming::Deep),
+        _ => return Err(Failure::Words),
+    };
+    times::tree::work(clock, alloc, task, topics(word)?)
+}
+
+/// Does the task of this name with these words.
+fn work<H: Clock + Wait + Threads + Copy + Send + Sync + 'static, R: Read>(
+    rt: &H,
+    alloc: Global,
+    input: &mut R,
+    words: &[String],
+) -> Result<Vec<u64>, Failure> {
+    let [_program, name, rest @ ..] = words else {
+        return Err(Failure::Words);
+    };
+    match (name.as_str(), rest) {
+        ("refuse", [word]) => refused(rt, alloc, word.as_str()),
+        ("decode", [rounds]) => times::codec::decoding(rt, alloc, input, number(rounds)?),
+        ("encode", [rounds]) => times::codec::encoding(rt, alloc, input, number(rounds)?),
+        ("keep_versions", [limit]) => times::versions::keep(rt, alloc, topics(limit)?),
+        ("window", [count, rounds]) => {
+            times::window::work(alloc, number(count)?, number(rounds)?)
+        }
+        ("versions", [limit, seats, millis]) => {
+            times::versions::puts(rt, alloc, topics(limit)?, number(seats)?, number(millis)?)
+        }
+        (name, [word]) => tree(rt, alloc, name, word),
+        _ => Err(Failure::Words),
+    }
+}
+
+/// Does the task that the words name, and prints its numbers.
 fn run<
     H: Env + AllocGlobal + Print + Clock + Wait + Threads + Copy + Send + Sync + 'static,
     R: Read,
 >(rt: &H, input: &mut R) -> Result<(), Failure> {
-    let alloc = rt.alloc();
     let words = env::args(rt)?.collect::<Vec<String>>(rt.alloc())?;
-    let [_program, name, rest @ ..] = words.as_slice() else {
-        return Err(Failure::Words);
-    };
-    match (name.as_str(), rest) {
-        ("refuse", [word]) => refusals::work(rt, alloc, word.as_str()),
-        (name, rest) => times::work(rt, alloc, input, name, rest),
+    for number in work(rt, rt.alloc(), input, words.as_slice())? {
+        println!(rt; "{number}")?;
     }
+    Ok(())
 }
 
 fn main(rt: HostRuntime) -> ExitCode {
     match run(&rt, &mut rt.stdin()) {
         Ok(()) => ExitCode::SUCCESS,
         Err(failure) => {
-            let _ = eprintln!(rt; "rs_trials: {failure}");
+            let _ = eprintln!(rt; "rs_trials: {}", failure.text());
             ExitCode::from(failure.status())
         }
     }

@@ -1,15 +1,13 @@
 //! What a tree and its copies show after memory was refused to `add`. To copy a tree takes none.
 
-ghost use Rattle.std.specs.Prelude.{◌≡◌, ◌<◌, false, IfOk};
-ghost use Rattle.rs_message.specs.Messages.{is_sweep};
-
 use crate::failure::{Failure, expect};
-use crate::samples::{HOUSE, clear, set_at, topic};
+use crate::keeper::{Answer, Keeper};
+use crate::samples::{Change, HOUSE, Naming, entry, topic};
 use rs_message::{Entry, Found, Remaining};
-use rs_store::{Catalogue, Refusal, Store, TopicLimit};
+use rs_store::{Catalogue, Store, TopicLimit};
 use rs_topic::{TopicFilter, TopicName};
 use rs_tree::TreeCatalogue;
-use std::alloc::{AllocError, Global};
+use std::alloc::Global;
 
 /// How many topics the tree takes: so many that it has to grow more than once.
 const TOPICS: u32 = 64;
@@ -27,31 +25,17 @@ const ROW: u32 = 3;
 /// The interval of all messages: when the tree is full, those of one row are expired.
 const INTERVAL: u32 = TOPICS / ROW;
 
-/// What a tree shows: the last is its answers to some filters.
+/// All topics, those of one house, and some whose levels lie on both sides of a branch that a Clear joins to its only child.
+const FILTERS: [&[u8]; 4] = [b"#", b"000002/#", b"+/door/main/+", b"+/+/side3"];
+
+/// What a tree shows: the last is what each of the filters finds.
 #[derive(Drop)]
 struct Shown {
     version: u64,
-    count: usize,
+    count: u64,
     serial: u64,
     sweeps: u64,
-    answers: Vec<Vec<Found>>,
-}
-
-/// How often memory was refused: to a topic of each kind of place, which `samples::topic` has in turn, to one behind a Sweep, and to
-/// a Clear.
-#[derive(Clone, Copy)]
-struct Refused {
-    adds: [u32; 4],
-    swept: u32,
-    clears: u32,
-}
-
-/// One more for the kind of place that the topic of this number has.
-fn counted(adds: [u32; 4], number: u32) -> [u32; 4] {
-    let mut adds = adds;
-    let place = (number % 4) as usize;
-    adds[place] = adds[place].saturating_add(1);
-    adds
+    found: Vec<(usize, Found)>,
 }
 
 /// A copy of a tree, and what it showed when it was made.
@@ -64,29 +48,21 @@ struct Copied {
 /// A tree, and the filters that it is asked for.
 #[derive(Drop)]
 struct Run {
+    alloc: Global,
     store: Store<TreeCatalogue>,
     filters: Vec<TopicFilter>,
-    refused: Refused,
+    // How often memory was refused: to a topic of each kind of place, which `Naming::Houses` has in turn, to one behind a Sweep, and
+    // to a Clear.
+    refused: Vec<u64>,
 }
 
-fn is_same_answer(a: &[Found], b: &[Found]) -> bool {
+fn is_same_answer(a: &[(usize, Found)], b: &[(usize, Found)]) -> bool {
     if a.len() != b.len() {
         return false;
     }
-    for (x, y) in a.iter().zip(b.iter()) {
-        if x.topic != y.topic || x.message != y.message {
-            return false;
-        }
-    }
-    true
-}
-
-fn are_same_answers(a: &[Vec<Found>], b: &[Vec<Found>]) -> bool {
-    if a.len() != b.len() {
-        return false;
-    }
-    for (x, y) in a.iter().zip(b.iter()) {
-        if !is_same_answer(x.as_slice(), y.as_slice()) {
+    for i in 0..a.len() {
+        let ((of_a, x), (of_b, y)) = (&a[i], &b[i]);
+        if of_a != of_b || x.topic != y.topic || x.message != y.message {
             return false;
         }
     }
@@ -98,25 +74,38 @@ fn is_same(a: &Shown, b: &Shown) -> bool {
         && a.count == b.count
         && a.serial == b.serial
         && a.sweeps == b.sweeps
-        && are_same_answers(a.answers.as_slice(), b.answers.as_slice())
+        && is_same_answer(a.found.as_slice(), b.found.as_slice())
 }
 
 fn shown_by(
     alloc: Global,
     tree: &TreeCatalogue,
     filters: &[TopicFilter],
-) -> Result<Shown, AllocError> {
-    let mut answers = Vec::new(alloc);
-    for filter in filters {
-        answers.push(tree.answer(filter, 0)?)?;
+) -> Result<Shown, Failure> {
+    let mut found = Vec::with_capacity(alloc, FILTERS.len() * TOPICS as usize)?;
+    for i in 0..filters.len() {
+        for one in tree.answer(&filters[i], 0)? {
+            found.push((i, one))?;
+        }
     }
     Ok(Shown {
         version: tree.version(),
-        count: tree.count() as usize,
+        count: u64::from(tree.count()),
         serial: tree.last_serial(1),
         sweeps: tree.last_serial(0),
-        answers,
+        found,
     })
+}
+
+/// What a change makes of a tree.
+#[derive(Clone, Copy)]
+enum Kind {
+    /// One more topic.
+    New,
+    /// One more topic, behind a Sweep.
+    Swept,
+    /// One topic less.
+    Clear,
 }
 
 /// The moment at which the message of the topic of this number comes.
@@ -124,210 +113,187 @@ fn moment(number: u32) -> u64 {
     u64::from(number / ROW)
 }
 
-/// What a Sweep of this moment makes of it. The first of the answers has all topics.
+/// What a Sweep of this moment makes of it.
 fn swept(shown: Shown, moment: u64) -> Shown {
     let mut shown = shown;
-    for answer in &mut shown.answers {
-        answer.retain(|one| one.message.remaining(moment) != Remaining::Expired);
+    let mut count = 0u64;
+    shown.found.retain(|(_, one)| one.message.remaining(moment) != Remaining::Expired);
+    for (of, _) in &shown.found {
+        // The first filter finds all topics.
+        count = count.wrapping_add(u64::from(*of == 0));
     }
+    shown.count = count;
     shown.version = shown.version.saturating_add(1);
-    shown.count = match shown.answers.first() {
-        Some(all) => all.len(),
-        None => 0,
-    };
     shown.sweeps = shown.sweeps.saturating_add(1);
     shown
 }
 
-/// What one more entry makes of it, by which no other topic changes.
-fn added(shown: Shown, serial: u64) -> Shown {
+/// The same with nothing of this topic in the answers.
+fn without(shown: Shown, topic: &TopicName) -> Shown {
     let mut shown = shown;
-    shown.version = shown.version.saturating_add(1);
-    shown.count = shown.count.saturating_add(1);
-    shown.serial = serial;
+    shown.found.retain(|(_, one)| one.topic != *topic);
     shown
 }
 
-/// The same without a topic in the answers.
-fn without(shown: Shown, topic: &TopicName) -> Shown {
+/// What one more entry makes of it but for its topic.
+fn changed(shown: Shown, kind: Kind, serial: u64) -> Shown {
     let mut shown = shown;
-    for answer in &mut shown.answers {
-        answer.retain(|one| one.topic != *topic);
-    }
+    shown.version = shown.version.saturating_add(1);
+    shown.serial = serial;
+    shown.count = match kind {
+        Kind::New | Kind::Swept => shown.count.saturating_add(1),
+        Kind::Clear => shown.count.saturating_sub(1),
+    };
     shown
 }
 
 impl Run {
-    fn shown(&self, alloc: Global) -> Result<Shown, AllocError> {
-        shown_by(alloc, self.store.catalogue(), self.filters.as_slice())
+    fn shown(&self) -> Result<Shown, Failure> {
+        shown_by(self.alloc, self.store.catalogue(), self.filters.as_slice())
     }
 
     /// Whether it shows this.
-    fn shows(&self, alloc: Global, wanted: &Shown) -> Result<bool, AllocError> {
-        Ok(is_same(wanted, &self.shown(alloc)?))
-    }
-
-    /// Whether it shows this without the topic of this number.
-    fn shows_without(&self, alloc: Global, number: u32, wanted: &Shown) -> Result<bool, Failure> {
-        let topic = topic(alloc, u64::from(number))?;
-        Ok(is_same(wanted, &without(self.shown(alloc)?, &topic)))
-    }
-
-    fn next_serial(&self) -> u64 {
-        self.store.catalogue().last_serial(1).saturating_add(1)
-    }
-
-    /// A Set of the topic of this number.
-    fn set(&self, alloc: Global, number: u32) -> Result<Entry, Failure>
-        ensures { IfOk result (λ e. is_sweep e.operation ≡ false) }
-    {
-        let received = moment(number);
-        set_at(
-            alloc,
-            self.next_serial(),
-            u64::from(number),
-            received,
-            INTERVAL,
-        )
+    fn shows(&self, wanted: &Shown) -> Result<bool, Failure> {
+        Ok(is_same(wanted, &self.shown()?))
     }
 
     /// Adds the entry. `false` if memory is refused for it.
-    fn adds(&mut self, entry: Entry) -> Result<bool, Failure>
-        requires { is_sweep entry.operation ≡ false }
-    {
-        match self.store.add(entry) {
-            Ok(()) => Ok(true),
-            Err(Refusal::NoMemory) => Ok(false),
-            Err(_) => Err(Failure::Wrong),
+    fn adds(&mut self, entry: Entry) -> Result<bool, Failure> {
+        if entry.operation.is_sweep() {
+            return Err(Failure::Wrong);
+        }
+        match Keeper::add(&mut self.store, entry) {
+            Answer::Kept => Ok(true),
+            Answer::NoMemory => Ok(false),
+            _ => Err(Failure::Wrong),
         }
     }
 
-    /// Adds a Set of a new topic. If memory is refused for it, the tree must show the same as before, and take the same Set.
-    fn add_new(&mut self, alloc: Global, number: u32) -> Result<(), Failure> {
-        let entry = self.set(alloc, number)?;
-        let again = entry.copy()?;
-        let before = self.shown(alloc)?;
-        if self.adds(entry)? {
-            return Ok(());
+    /// Takes note that memory was refused to this kind of change.
+    fn count(&mut self, kind: Kind, number: u32) {
+        let at = match kind {
+            Kind::New => (number % 4) as usize,
+            Kind::Swept => 4,
+            Kind::Clear => 5,
+        };
+        if let Some(count) = self.refused.get_mut(at) {
+            *count = count.saturating_add(1);
         }
-        expect(self.shows(alloc, &before)?)?;
-        expect(self.adds(again)?)?;
-        self.refused.adds = counted(self.refused.adds, number);
+    }
+
+    /// An entry that makes this change to the topic of this number.
+    fn entry(&self, kind: Kind, number: u32) -> Result<Entry, Failure> {
+        let change = match kind {
+            Kind::New | Kind::Swept => Change::Set(moment(number), Some(INTERVAL)),
+            Kind::Clear => Change::Clear,
+        };
+        let serial = self.store.catalogue().last_serial(1).saturating_add(1);
+        entry(
+            self.alloc,
+            Naming::Houses,
+            serial,
+            u64::from(number),
+            change,
+        )
+    }
+
+    /// Adds the entry. If memory is refused for it, the tree must show the same as before, but for the Sweep before it, and take the
+    /// same entry then.
+    fn add(&mut self, entry: Entry, kind: Kind, number: u32, room: &Shown) -> Result<(), Failure> {
+        let again = entry.copy()?;
+        let before = self.shown()?;
+        if !self.adds(entry)? {
+            expect(self.shows(&before)? || self.shows(room)?)?;
+            expect(self.adds(again)?)?;
+            self.count(kind, number);
+        }
         Ok(())
     }
 
-    /// Adds a Set of a new topic to the full tree, of which a Sweep makes room. If memory is refused for it, the tree must
-    /// show the same as before, but for the Sweep, and take the same Set.
-    fn add_swept(&mut self, alloc: Global, number: u32) -> Result<(), Failure> {
-        let entry = self.set(alloc, number)?;
-        let again = entry.copy()?;
+    /// Makes the change. Then all answers must be as before but for the topic: they do not tell whether memory was refused for joining
+    /// a branch to its only child.
+    fn change(&mut self, kind: Kind, number: u32) -> Result<(), Failure> {
+        let entry = self.entry(kind, number)?;
         let serial = entry.origin.serial();
-        let before = self.shown(alloc)?;
-        let room = swept(self.shown(alloc)?, moment(number));
-        if !self.adds(entry)? {
-            expect(self.shows(alloc, &before)? || self.shows(alloc, &room)?)?;
-            expect(self.adds(again)?)?;
-            self.refused.swept = self.refused.swept.saturating_add(1);
+        let topic = topic(self.alloc, Naming::Houses, u64::from(number))?;
+        let mut room = self.shown()?;
+        if let Kind::Swept = kind {
+            room = swept(room, moment(number));
         }
-        expect(self.shows_without(alloc, number, &added(room, serial))?)
-    }
-
-    /// What it shows once an entry of this serial has cleared the topic of this number.
-    fn cleared(&self, alloc: Global, number: u64, serial: u64) -> Result<Shown, Failure> {
-        let gone = topic(alloc, number)?;
-        let mut wanted = without(self.shown(alloc)?, &gone);
-        wanted.version = wanted.version.saturating_add(1);
-        wanted.count = wanted.count.saturating_sub(1);
-        wanted.serial = serial;
-        Ok(wanted)
-    }
-
-    /// Clears a topic. If memory is refused for it, the tree must show the same as before, and take the same Clear. Then all answers
-    /// must be as before without it: they do not tell whether memory was refused for joining a branch to its only child.
-    fn clear(&mut self, alloc: Global, number: u32) -> Result<(), Failure> {
-        let number = u64::from(number);
-        let entry = clear(alloc, self.next_serial(), number)?;
-        let again = entry.copy()?;
-        let before = self.shown(alloc)?;
-        let wanted = self.cleared(alloc, number, entry.origin.serial())?;
-        if !self.adds(entry)? {
-            expect(self.shows(alloc, &before)?)?;
-            expect(self.adds(again)?)?;
-            self.refused.clears = self.refused.clears.saturating_add(1);
+        self.add(entry, kind, number, &room)?;
+        let mut after = self.shown()?;
+        match kind {
+            Kind::Clear => room = without(room, &topic),
+            Kind::New | Kind::Swept => after = without(after, &topic),
         }
-        expect(self.shows(alloc, &wanted)?)
+        expect(is_same(&changed(room, kind, serial), &after))
     }
 
     /// A copy of the tree, and what it shows.
-    fn copied(&self, alloc: Global) -> Result<Copied, Failure> {
+    fn copied(&self) -> Result<Copied, Failure> {
         let Ok(tree) = self.store.catalogue().copy() else {
             return Err(Failure::Wrong);
         };
         Ok(Copied {
             tree,
-            shown: self.shown(alloc)?,
+            shown: self.shown()?,
         })
     }
 
     /// The copy must show what it showed when it was made.
-    fn is_kept(&self, alloc: Global, copied: &Copied) -> Result<(), Failure> {
-        let shown = shown_by(alloc, &copied.tree, self.filters.as_slice())?;
+    fn is_kept(&self, copied: &Copied) -> Result<(), Failure> {
+        let shown = shown_by(self.alloc, &copied.tree, self.filters.as_slice())?;
         expect(is_same(&copied.shown, &shown))
     }
 
     /// Clears the last topic and adds it again. Then the answers must be as before, and the copies must show what they did.
-    fn clear_last(&mut self, alloc: Global, number: u32) -> Result<(), Failure> {
-        let before = self.shown(alloc)?;
-        let full = self.copied(alloc)?;
-        self.clear(alloc, number)?;
-        let cleared = self.copied(alloc)?;
-        self.add_new(alloc, number)?;
-        self.is_kept(alloc, &full)?;
-        self.is_kept(alloc, &cleared)?;
-        let after = self.shown(alloc)?;
-        expect(are_same_answers(before.answers.as_slice(), after.answers.as_slice()))
+    fn clear_last(&mut self, number: u32) -> Result<(), Failure> {
+        let full = self.copied()?;
+        self.change(Kind::Clear, number)?;
+        let cleared = self.copied()?;
+        self.change(Kind::New, number)?;
+        self.is_kept(&full)?;
+        self.is_kept(&cleared)?;
+        let after = self.shown()?;
+        expect(is_same_answer(full.shown.found.as_slice(), after.found.as_slice()))
     }
-}
 
-/// All topics, those of one house, and some whose levels lie on both sides of a branch that a Clear joins to its only child.
-fn filters(alloc: Global) -> Result<Vec<TopicFilter>, Failure> {
-    let texts: [&[u8]; 4] = [b"#", b"000002/#", b"+/door/main/+", b"+/+/side"];
-    let mut filters = Vec::new(alloc);
-    for text in texts {
-        filters.push(TopicFilter::read(alloc, text)?)?;
-    }
-    Ok(filters)
-}
-
-/// Adds new topics one after the other, clears and copies now and then, and prints how often memory was refused for a topic of each
-/// kind of place, for one behind a Sweep, and for a Clear.
-pub fn work(rt: &impl Print, alloc: Global) -> Result<(), Failure> {
-    let limit = TopicLimit::new(TOPICS).ok_or(Failure::Wrong)?;
-    let mut run = Run {
-        store: Store::new(alloc, limit)?,
-        filters: filters(alloc)?,
-        refused: Refused {
-            adds: [0; 4],
-            swept: 0,
-            clears: 0,
-        },
-    };
-    for number in 0..ADDED {
-        if run.store.catalogue().count() == TOPICS {
-            run.add_swept(alloc, number)?;
+    /// Adds the topic of this number, and sometimes clears and copies.
+    fn round(&mut self, number: u32) -> Result<(), Failure> {
+        if self.store.catalogue().count() == TOPICS {
+            self.change(Kind::Swept, number)?;
         } else {
-            run.add_new(alloc, number)?;
+            self.change(Kind::New, number)?;
         }
         if number % ROUND == ROUND - 1 {
-            run.clear_last(alloc, number)?;
+            self.clear_last(number)?;
         }
+        Ok(())
+    }
+}
+
+/// A tree that has no topic.
+fn new(alloc: Global) -> Result<Run, Failure> {
+    let mut filters = Vec::new(alloc);
+    for text in FILTERS {
+        filters.push(TopicFilter::read(alloc, text)?)?;
+    }
+    let limit = TopicLimit::new(TOPICS).ok_or(Failure::Wrong)?;
+    Ok(Run {
+        alloc,
+        store: Store::new(alloc, limit)?,
+        filters,
+        refused: vec![in alloc; 0u64, 0, 0, 0, 0, 0]?,
+    })
+}
+
+/// Adds new topics one after the other, clears and copies now and then, and returns how often memory was refused for a topic of each
+/// kind of place, for one behind a Sweep, and for a Clear.
+pub fn work(alloc: Global) -> Result<Vec<u64>, Failure> {
+    let mut run = new(alloc)?;
+    for number in 0..ADDED {
+        run.round(number)?;
     }
     expect(run.store.catalogue().last_serial(0) == u64::from(ROUND.div_ceil(ROW)))?;
-    let Refused {
-        adds: [root, middle, leaf, above],
-        swept,
-        clears,
-    } = run.refused;
-    println!(rt; "refused {root} {middle} {leaf} {above} {swept} {clears}")?;
-    Ok(())
+    Ok(run.refused)
 }

@@ -1,8 +1,7 @@
 //! What a window gives after memory was refused to `queue`.
 
 use crate::failure::{Failure, expect};
-use crate::samples::found;
-use rs_message::Found;
+use crate::samples::messages;
 use rs_packet::Qos;
 use rs_topic::TopicName;
 use rs_window::{Window, WindowFault};
@@ -11,23 +10,13 @@ use std::alloc::Global;
 /// How many messages are queued behind one that waits, each time: so many that the queue has to grow.
 const LENGTHS: [u32; 3] = [9, 40, 200];
 
-fn messages(alloc: Global, topic: &TopicName, count: u32) -> Result<Vec<Found>, Failure> {
-    let mut all = Vec::with_capacity(alloc, count as usize)?;
-    for _ in 0..count {
-        all.push(found(alloc, topic, Qos::AtMostOnce)?)?;
+/// The next message that the window gives is of this topic, or there is none.
+fn gives(window: &mut Window, topic: Option<&TopicName>) -> bool {
+    match (window.next(0), topic) {
+        (Some(publish), Some(topic)) => publish.topic == *topic,
+        (None, None) => true,
+        _ => false,
     }
-    Ok(all)
-}
-
-/// Whether the next so many messages that the window gives are of this topic.
-fn gives(window: &mut Window, topic: &TopicName, count: u32) -> bool {
-    for _ in 0..count {
-        match window.next(0) {
-            Some(publish) if publish.topic == *topic => {}
-            _ => return false,
-        }
-    }
-    true
 }
 
 /// Queues so many messages of this topic, and returns whether memory was refused for them.
@@ -37,7 +26,7 @@ fn is_refused(
     topic: &TopicName,
     count: u32,
 ) -> Result<bool, Failure> {
-    let messages = messages(alloc, topic, count)?;
+    let messages = messages(alloc, topic, count, [Qos::AtMostOnce; 2])?;
     match window.queue(messages, Qos::AtMostOnce, None) {
         Ok(()) => Ok(false),
         Err(WindowFault::NoMemory) => Ok(true),
@@ -45,51 +34,41 @@ fn is_refused(
     }
 }
 
-/// The topics of the message that waits and of those that are queued behind it.
-#[derive(Drop)]
-struct Topics {
-    waiting: TopicName,
-    later: TopicName,
-}
-
 /// In a window in which nothing waits, queues so many messages behind one, and returns whether memory was refused for them. Then the
 /// one is given and nothing else, and the same messages must be taken.
 fn queue_later(
     alloc: Global,
     window: &mut Window,
-    topics: &Topics,
+    waiting: &TopicName,
+    later: &TopicName,
     count: u32,
 ) -> Result<bool, Failure> {
-    window.queue(messages(alloc, &topics.waiting, 1)?, Qos::AtMostOnce, None)?;
-    let refused = is_refused(alloc, window, &topics.later, count)?;
-    expect(gives(window, &topics.waiting, 1))?;
-    if refused {
-        expect(window.next(0).is_none())?;
-        expect(!is_refused(alloc, window, &topics.later, count)?)?;
+    if is_refused(alloc, window, waiting, 1)? {
+        return Err(Failure::NoMemory);
     }
-    expect(gives(window, &topics.later, count))?;
-    expect(window.next(0).is_none())?;
+    let refused = is_refused(alloc, window, later, count)?;
+    expect(gives(window, Some(waiting)))?;
+    if refused {
+        expect(gives(window, None))?;
+        expect(!is_refused(alloc, window, later, count)?)?;
+    }
+    for _ in 0..count {
+        expect(gives(window, Some(later)))?;
+    }
+    expect(gives(window, None))?;
     Ok(refused)
 }
 
-/// Queues messages behind one that waits, more each time. How often memory was refused for them.
-fn refusals(alloc: Global) -> Result<u32, Failure> {
+/// Queues messages behind one that waits, more each time. Returns how often memory was refused for them.
+pub fn work(alloc: Global) -> Result<Vec<u64>, Failure> {
+    let mut refused = vec![in alloc; 0u64]?;
+    let waiting = TopicName::read(alloc, b"a")?;
+    let later = TopicName::read(alloc, b"b")?;
     let mut window = Window::new(alloc, 1, u32::MAX)?;
-    let topics = Topics {
-        waiting: TopicName::read(alloc, b"a")?,
-        later: TopicName::read(alloc, b"b")?,
-    };
-    let mut refused = 0u32;
     for count in LENGTHS {
-        if queue_later(alloc, &mut window, &topics, count)? {
-            refused = refused.saturating_add(1);
+        if queue_later(alloc, &mut window, &waiting, &later, count)? {
+            refused[0] = refused[0].saturating_add(1);
         }
     }
     Ok(refused)
-}
-
-/// Prints how often memory was refused for messages that were queued behind one that waits.
-pub fn work(rt: &impl Print, alloc: Global) -> Result<(), Failure> {
-    println!(rt; "refused {}", refusals(alloc)?)?;
-    Ok(())
 }

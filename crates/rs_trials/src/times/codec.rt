@@ -1,5 +1,6 @@
 //! How long one packet takes to be decoded, and one reply to be encoded.
 
+use super::row::nanos;
 use crate::failure::Failure;
 use bytes::Bytes;
 use rs_packet::{
@@ -11,18 +12,18 @@ use std::io::Read;
 use std::rt::Clock;
 use std::time::Instant;
 
+/// What is done again and again.
+#[derive(Drop)]
+enum Work {
+    Decode(Bytes),
+    Encode(Reply),
+}
+
 /// All bytes of the input, in a buffer that packets share.
 fn read_input<R: Read>(alloc: Global, input: &mut R) -> Result<Bytes, Failure> {
     let mut bytes = Vec::new(alloc);
     input.read_to_end(&mut bytes)?;
     Ok(Bytes::copy_from_slice(alloc, bytes.as_slice())?)
-}
-
-fn decode_whole(alloc: Global, bytes: &Bytes) -> Result<Packet, Failure> {
-    match decode(alloc, bytes)? {
-        Decoded::Whole(packet, size) if size == bytes.len() => Ok(packet),
-        _ => Err(Failure::Input),
-    }
 }
 
 /// The bytes of the payload and the number of user properties, or the number of filters.
@@ -35,16 +36,6 @@ fn parts_of(decoded: &Decoded) -> usize {
         Decoded::Whole(Packet::Subscribe(subscribe), _) => subscribe.filters.len(),
         _ => 0,
     }
-}
-
-/// Decodes the packet so often, and sums up its parts.
-fn decode_often(alloc: Global, bytes: &Bytes, rounds: u32) -> Result<u64, Failure> {
-    let mut total = 0u64;
-    for _ in 0..rounds {
-        let decoded = decode(alloc, bytes)?;
-        total = total.wrapping_add(parts_of(&decoded) as u64);
-    }
-    Ok(total)
 }
 
 /// The PUBLISH that the server would send of this one.
@@ -76,66 +67,61 @@ fn suback(alloc: Global, subscribe: &Subscribe) -> Result<Reply, Failure> {
     Ok(Reply::Suback(Codes::new(subscribe.id, codes)))
 }
 
-/// What is encoded for this packet.
-fn reply_to(alloc: Global, packet: Packet) -> Result<Reply, Failure> {
-    match packet {
-        Packet::Publish(publish) => publication(alloc, publish),
-        Packet::Subscribe(subscribe) => suback(alloc, &subscribe),
+/// What is encoded for the one packet of these bytes.
+fn reply_to(alloc: Global, bytes: &Bytes) -> Result<Reply, Failure> {
+    match decode(alloc, bytes)? {
+        Decoded::Whole(Packet::Publish(publish), _) => publication(alloc, publish),
+        Decoded::Whole(Packet::Subscribe(subscribe), _) => suback(alloc, &subscribe),
         _ => Err(Failure::Input),
     }
 }
 
-/// Encodes the reply so often, and sums up its lengths and last bytes.
-fn encode_often(alloc: Global, reply: &Reply, rounds: u32) -> Result<u64, Failure> {
-    let mut total = 0u64;
-    for _ in 0..rounds {
-        let bytes = encode(alloc, reply)?;
-        let last = bytes.last().copied().unwrap_or(0);
-        total = total
-            .wrapping_add(bytes.len() as u64)
-            .wrapping_add(u64::from(last));
+/// Does it once. The sum of what was decoded, or of the length and the last byte.
+fn once(alloc: Global, work: &Work) -> Result<u64, Failure> {
+    match work {
+        Work::Decode(bytes) => Ok(parts_of(&decode(alloc, bytes)?) as u64),
+        Work::Encode(reply) => {
+            let bytes = encode(alloc, reply)?;
+            let last = bytes.last().copied().unwrap_or(0);
+            Ok((bytes.len() as u64).wrapping_add(u64::from(last)))
+        }
     }
-    Ok(total)
 }
 
-/// Prints how long it takes to decode the packet so often, and the sum of its parts.
-pub fn measure_decode<H: Print + Clock, R: Read>(
-    rt: &H,
+/// How many microseconds it takes to do it so often, and the sum over all.
+fn often<C: Clock>(
+    clock: &C,
+    alloc: Global,
+    work: &Work,
+    rounds: u32,
+) -> Result<Vec<u64>, Failure> {
+    let mut total = 0u64;
+    let start = Instant::now(clock)?;
+    for _ in 0..rounds {
+        total = total.wrapping_add(once(alloc, work)?);
+    }
+    let took = nanos(start.elapsed(clock)?) / 1_000;
+    Ok(vec![in alloc; took, total]?)
+}
+
+/// Times the decoding of the packet that is the input.
+pub fn decoding<C: Clock, R: Read>(
+    clock: &C,
     alloc: Global,
     input: &mut R,
     rounds: u32,
-) -> Result<(), Failure> {
-    let bytes = read_input(alloc, input)?;
-    let _packet = decode_whole(alloc, &bytes)?;
-    let start = Instant::now(rt)?;
-    let total = decode_often(alloc, &bytes, rounds)?;
-    let took = start.elapsed(rt)?.as_micros();
-    println!(rt; "{took} {total}")?;
-    Ok(())
+) -> Result<Vec<u64>, Failure> {
+    let work = Work::Decode(read_input(alloc, input)?);
+    often(clock, alloc, &work, rounds)
 }
 
-/// How many microseconds it takes to encode the reply so often, and the sum of its lengths and last bytes.
-fn encoding<K: Clock>(
-    rt: &K,
-    alloc: Global,
-    reply: &Reply,
-    rounds: u32,
-) -> Result<(u128, u64), Failure> {
-    let start = Instant::now(rt)?;
-    let total = encode_often(alloc, reply, rounds)?;
-    Ok((start.elapsed(rt)?.as_micros(), total))
-}
-
-/// Prints how long it takes to encode so often what answers the packet, and the sum of its lengths and last bytes.
-pub fn measure_encode<H: Print + Clock, R: Read>(
-    rt: &H,
+/// Times the encoding of what answers it.
+pub fn encoding<C: Clock, R: Read>(
+    clock: &C,
     alloc: Global,
     input: &mut R,
     rounds: u32,
-) -> Result<(), Failure> {
-    let bytes = read_input(alloc, input)?;
-    let reply = reply_to(alloc, decode_whole(alloc, &bytes)?)?;
-    let (took, total) = encoding(rt, alloc, &reply, rounds)?;
-    println!(rt; "{took} {total}")?;
-    Ok(())
+) -> Result<Vec<u64>, Failure> {
+    let work = Work::Encode(reply_to(alloc, &read_input(alloc, input)?)?);
+    often(clock, alloc, &work, rounds)
 }

@@ -1,11 +1,12 @@
 //! How long a put takes while seats read, and how many answers they get meanwhile.
 
-ghost use Rattle.std.specs.Prelude.{◌≡◌, ◌<◌, ◌≤◌, ◌^◌, false, IfOk};
-ghost use Rattle.rs_message.specs.Messages.{is_sweep};
+ghost use Rattle.std.specs.Prelude.{◌≡◌};
 
+use super::row::{EARLY, Row, expiring, fill, in_order, nanos, timed};
 use crate::failure::{Failure, expect};
-use crate::samples::{clear, set_at, set_even};
-use rs_message::{Entry, MAX_PLACES};
+use crate::keeper::Keeper;
+use crate::samples::{Change, Naming};
+use rs_message::MAX_PLACES;
 use rs_store::TopicLimit;
 use rs_topic::TopicFilter;
 use rs_version::{Blank, Seat, StoreName, VersionWriter};
@@ -18,28 +19,22 @@ use std::thread;
 use std::thread::{Threads, yield_now};
 use std::time::{Duration, Instant};
 
-/// How many topics there may be, how many seats read, and how long rounds are made.
+/// What the store has at first, how many seats read, and how long rounds are made, none if that is 0.
 #[derive(Clone, Copy)]
 struct Load {
-    limit: TopicLimit,
+    filled: Row,
     readers: u32,
     time: Duration,
 }
-
-/// All messages come at 0, and those of the topics of even numbers are expired at this moment.
-const EARLY: u32 = 1;
-
-/// The interval of the others.
-const LATE: u32 = 2;
 
 /// How many rounds were made, and how long the puts of new topics took, those of replacements, the one that swept, and all.
 #[derive(Clone, Copy)]
 struct Times {
     rounds: u32,
-    new: Duration,
-    replace: Duration,
-    sweep: Duration,
-    all: Duration,
+    new: u64,
+    replace: u64,
+    sweep: u64,
+    all: u64,
 }
 
 /// What the seats share with the writer.
@@ -66,93 +61,65 @@ impl Shared {
     }
 }
 
-/// A Set of the topic of this number, whose message came at this moment.
-fn set(alloc: Global, serial: u64, number: u64, received: u32) -> Result<Entry, Failure>
-    ensures { IfOk result (λ e. is_sweep e.operation ≡ false) }
-{
-    let interval = if number % 2 == 0 { EARLY } else { LATE };
-    set_at(alloc, serial, number, u64::from(received), interval)
-}
-
-/// How long the put took.
-fn put<C: Clock, N: StoreName, W: Wait + Drop>(
-    rt: &C,
-    writer: &mut VersionWriter<N, W>,
-    entry: Entry,
-) -> Result<Duration, Failure>
-    requires { is_sweep entry.operation ≡ false }
-{
-    let start = Instant::now(rt)?;
-    let put = writer.put(entry);
-    let took = start.elapsed(rt)?;
-    expect(put.is_ok())?;
-    Ok(took)
-}
-
-/// Puts all topics but the one of number 0.
-fn fill<N: StoreName, W: Wait + Drop>(
-    alloc: Global,
-    writer: &mut VersionWriter<N, W>,
-    topics: u32,
-) -> Result<(), Failure> {
-    for number in 1..topics {
-        let number = u64::from(number);
-        expect(writer.put(set(alloc, number, number, 0)?).is_ok())?;
+/// One entry, by its serial and the place of its topic in the row that was filled.
+fn one(filled: &Row, serial: u64, at: u32, changes: (Change, Change)) -> Row {
+    Row {
+        serial: serial.wrapping_sub(u64::from(at)),
+        from: at,
+        to: at.saturating_add(1),
+        changes,
+        ..*filled
     }
-    Ok(())
 }
 
-/// How long a put takes by which half of the topics are swept, once the one of number 0 is put, by which all hold a message.
-fn sweep<C: Clock, N: StoreName, W: Wait + Drop>(
-    rt: &C,
+/// As long as it is time, puts the topic of number 0, which is new, replaces a topic, and clears the new one. Then it puts it once
+/// more, by which all topics hold a message, and another one, for which half of them are swept.
+fn rounds<C: Clock, K: Keeper>(
+    clock: &C,
     alloc: Global,
-    writer: &mut VersionWriter<N, W>,
-    serial: u64,
-    topics: u32,
-) -> Result<Duration, Failure> {
-    put(rt, writer, set(alloc, serial, 0, 0)?)?;
-    let version = writer.tell().version();
-    let took = put(
-        rt,
-        writer,
-        set(alloc, serial.saturating_add(1), u64::from(topics), EARLY)?,
-    )?;
-    expect(writer.tell().version() == version.saturating_add(2))?;
-    Ok(took)
-}
-
-/// As long as it is time, puts the topic of number 0, which is new, replaces a topic, and clears the new one. Then sweeps.
-fn rounds<C: Clock, N: StoreName, W: Wait + Drop>(
-    rt: &C,
-    alloc: Global,
-    writer: &mut VersionWriter<N, W>,
-    load: Load,
+    writer: &mut K,
+    load: &Load,
 ) -> Result<Times, Failure> {
-    let topics = load.limit.get();
-    let (mut new, mut replace) = (Duration::ZERO, Duration::ZERO);
-    let start = Instant::now(rt)?;
-    let mut count = 0;
+    let Load { filled, time, .. } = load;
+    let mut times = Times {
+        rounds: 0,
+        new: 0,
+        replace: 0,
+        sweep: 0,
+        all: 0,
+    };
+    let start = Instant::now(clock)?;
+    let mut serial = u64::from(filled.to);
     for round in 0..u32::MAX {
-        if start.elapsed(rt)? >= load.time {
+        if start.elapsed(clock)? >= *time {
             break;
         }
-        count = round + 1;
-        let serial = u64::from(topics) + 3 * u64::from(round);
-        let other = u64::from(round % topics);
-        new = new.saturating_add(put(rt, writer, set(alloc, serial, 0, 0)?)?);
-        replace = replace.saturating_add(put(rt, writer, set(alloc, serial + 1, other, 0)?)?);
-        put(rt, writer, clear(alloc, serial + 2, 0)?)?;
+        let other = round % filled.to.max(1);
+        let new = one(filled, serial, 0, expiring(0));
+        let replace = one(filled, serial.wrapping_add(1), other, expiring(0));
+        let clear = one(
+            filled,
+            serial.wrapping_add(2),
+            0,
+            (Change::Clear, Change::Clear),
+        );
+        times.new = times.new.wrapping_add(timed(clock, alloc, writer, &new)?);
+        times.replace = times
+            .replace
+            .wrapping_add(timed(clock, alloc, writer, &replace)?);
+        timed(clock, alloc, writer, &clear)?;
+        serial = serial.wrapping_add(3);
+        times.rounds = round + 1;
     }
-    let serial = u64::from(topics).saturating_add(u64::from(count).saturating_mul(3));
-    let sweep = sweep(rt, alloc, writer, serial, topics)?;
-    let all = start.elapsed(rt)?;
-    Ok(Times {
-        rounds: count,
-        new,
-        replace,
-        sweep,
-        all,
-    })
+    if times.rounds > 0 {
+        timed(clock, alloc, writer, &one(filled, serial, 0, expiring(0)))?;
+        let version = writer.count();
+        let last = one(filled, serial.wrapping_add(1), filled.to, expiring(EARLY));
+        times.sweep = timed(clock, alloc, writer, &last)?;
+        expect(writer.count() == version.wrapping_add(2))?;
+    }
+    times.all = nanos(start.elapsed(clock)?);
+    Ok(times)
 }
 
 /// Answers the filter once, and from the start on until it is told to stop. Adds how often it found one message from then on.
@@ -173,14 +140,59 @@ fn read<N: StoreName>(seat: Seat<N>, shared: &Shared) {
     shared.answers.fetch_add(count, Ordering::SeqCst);
 }
 
-/// Puts while each seat reads on a thread of its own. Returns how long the puts took, and the number of answers.
-fn beside<H: Clock + Threads + Wait + Sync, N: StoreName + Send + Sync, W: Wait + Drop>(
+/// Puts while each seat reads on a thread of its own.
+fn beside<H: Clock + Threads + Wait + Sync, N: StoreName + Send + Sync>(
     rt: &H,
     alloc: Global,
-    writer: &mut VersionWriter<N, W>,
+    writer: &mut VersionWriter<N, &H>,
     seats: Vec<Seat<N>>,
-    load: Load,
-) -> Result<(Times, u64), Failure> {
+    load: &Load,
+    shared: &Shared,
+) -> Result<Times, Failure> {
+    thread::scope(thread::scope_env(), rt, |scope| {
+        let mut good = true;
+        for seat in seats {
+            if scope.spawn(move || read(seat, shared)).is_err() {
+                // No other waits for a thread that there is not.
+                shared.started.fetch_add(1, Ordering::SeqCst);
+                good = false;
+            }
+        }
+        shared.start();
+        let times = rounds(rt, alloc, writer, load);
+        shared.stop.store(true, Ordering::SeqCst);
+        expect(good)?;
+        times
+    })
+}
+
+/// The same in a store that was just made, once it is filled.
+fn timed_puts<H: Clock + Threads + Wait + Sync, N: StoreName + Send + Sync>(
+    rt: &H,
+    alloc: Global,
+    blank: Blank,
+    load: &Load,
+    shared: &Shared,
+) -> Result<Times, Failure>
+    requires { (blank.history ≡ N.history) × (blank.limit ≡ N.limit) }
+{
+    let (mut writer, mut seats) = blank.open::<N, &H>(rt)?;
+    fill(alloc, &mut writer, &load.filled)?;
+    seats.truncate(load.readers as usize);
+    beside(rt, alloc, &mut writer, seats, load, shared)
+}
+
+/// How many rounds were made in so many milliseconds, how long the puts of new topics took, those of replacements, the one that swept,
+/// and all, and how often the seats were answered meanwhile, each of which reads one topic all the time.
+fn measured<H: Clock + Threads + Wait + Sync>(
+    rt: &H,
+    alloc: Global,
+    limit: TopicLimit,
+    load: &Load,
+) -> Result<Vec<u64>, Failure> {
+    if load.readers > u32::from(MAX_PLACES) {
+        return Err(Failure::Words);
+    }
     let shared = Shared {
         filter: TopicFilter::read(alloc, b"000000/door/main/0/state")?,
         threads: load.readers.saturating_add(1),
@@ -188,86 +200,51 @@ fn beside<H: Clock + Threads + Wait + Sync, N: StoreName + Send + Sync, W: Wait 
         stop: AtomicBool::new(false),
         answers: AtomicU64::new(0),
     };
-    let all = &shared;
-    let times = thread::scope(thread::scope_env(), rt, |scope| {
-        let mut good = true;
-        for seat in seats {
-            if scope.spawn(move || read(seat, all)).is_err() {
-                // No other waits for a thread that there is not.
-                all.started.fetch_add(1, Ordering::SeqCst);
-                good = false;
-            }
-        }
-        all.start();
-        let times = rounds(rt, alloc, writer, load);
-        all.stop.store(true, Ordering::SeqCst);
-        expect(good)?;
-        times
-    })?;
-    Ok((times, shared.answers.load(Ordering::SeqCst)))
+    let blank = Blank::new(alloc, limit, load.readers.max(1) as u8)?;
+    let times = timed_puts::<H, Brand>(rt, alloc, blank, load, &shared)?;
+    let answers = shared.answers.load(Ordering::SeqCst);
+    Ok(vec![in alloc;
+        u64::from(times.rounds),
+        times.new,
+        times.replace,
+        times.sweep,
+        times.all,
+        answers,
+    ]?)
 }
 
-/// The same in a store that was just made, once it has all topics but one.
-fn timed<H: Clock + Threads + Wait + Sync, N: StoreName + Send + Sync>(
-    rt: &H,
-    alloc: Global,
-    blank: Blank,
-    load: Load,
-) -> Result<(Times, u64), Failure>
-    requires { (blank.history ≡ N.history) × (blank.limit ≡ N.limit) }
-{
-    let (mut writer, mut seats) = blank.open::<N, &H>(rt)?;
-    fill(alloc, &mut writer, load.limit.get())?;
-    seats.truncate(load.readers as usize);
-    beside(rt, alloc, &mut writer, seats, load)
-}
-
-/// Prints, a line each, how many rounds were made in so many milliseconds, how long the puts of new topics took, those of replacements,
-/// the one that swept, and all, and how often the seats were answered meanwhile, each of which reads one topic all the time.
-pub fn measure<H: Print + Clock + Threads + Wait + Sync>(
+/// Times puts among all topics but the one of number 0, beside so many seats.
+pub fn puts<H: Clock + Threads + Wait + Sync>(
     rt: &H,
     alloc: Global,
     limit: TopicLimit,
     readers: u32,
     millis: u32,
-) -> Result<(), Failure> {
-    if readers > u32::from(MAX_PLACES) {
-        return Err(Failure::Words);
-    }
+) -> Result<Vec<u64>, Failure> {
+    let filled = Row {
+        serial: 0,
+        from: 1,
+        changes: expiring(0),
+        ..in_order(Naming::Houses, limit.get())
+    };
     let load = Load {
-        limit,
+        filled,
         readers,
         time: Duration::from_millis(u64::from(millis)),
     };
-    let blank = Blank::new(alloc, limit, readers.max(1) as u8)?;
-    let (times, answers) = timed::<H, Brand>(rt, alloc, blank, load)?;
-    println!(rt; "rounds {}", times.rounds)?;
-    println!(rt; "new {}", times.new.as_micros())?;
-    println!(rt; "replace {}", times.replace.as_micros())?;
-    println!(rt; "sweep {}", times.sweep.as_micros())?;
-    println!(rt; "all {}", times.all.as_micros())?;
-    println!(rt; "answers {answers}")?;
-    Ok(())
-}
-
-/// Keeps all messages in a store that was just made.
-fn kept<H: Wait, N: StoreName>(
-    rt: &H,
-    alloc: Global,
-    blank: Blank,
-    topics: u32,
-) -> Result<(), Failure>
-    requires { (blank.history ≡ N.history) × (blank.limit ≡ N.limit) }
-{
-    let (mut writer, _seats) = blank.open::<N, &H>(rt)?;
-    for number in 0..topics {
-        let number = u64::from(number);
-        expect(writer.put(set_even(alloc, number + 1, number)?).is_ok())?;
-    }
-    Ok(())
+    measured(rt, alloc, limit, &load)
 }
 
 /// Keeps so many messages in a store of versions, at topics of 64 bytes.
-pub fn keep<H: Wait>(rt: &H, alloc: Global, limit: TopicLimit) -> Result<(), Failure> {
-    kept::<H, Brand>(rt, alloc, Blank::new(alloc, limit, 1)?, limit.get())
+pub fn keep<H: Clock + Threads + Wait + Sync>(
+    rt: &H,
+    alloc: Global,
+    limit: TopicLimit,
+) -> Result<Vec<u64>, Failure> {
+    let load = Load {
+        filled: in_order(Naming::Even, limit.get()),
+        readers: 0,
+        time: Duration::ZERO,
+    };
+    measured(rt, alloc, limit, &load)
 }

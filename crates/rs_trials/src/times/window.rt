@@ -1,27 +1,12 @@
 //! Rounds of a window: a message is given, acknowledged, and queued again behind the others.
 
 use crate::failure::Failure;
-use crate::samples::found;
+use crate::samples::messages;
 use rs_message::Found;
 use rs_packet::{PacketId, Qos};
 use rs_topic::TopicName;
 use rs_window::{Publish, Window};
 use std::alloc::Global;
-
-/// So many messages, of QoS 1 and 2 in turn, as one answer of the store.
-fn messages(alloc: Global, count: u32) -> Result<Vec<Found>, Failure> {
-    let topic = TopicName::read(alloc, b"a/b")?;
-    let mut all = Vec::with_capacity(alloc, count as usize)?;
-    for n in 0..count {
-        let qos = if n % 2 == 0 {
-            Qos::AtLeastOnce
-        } else {
-            Qos::ExactlyOnce
-        };
-        all.push(found(alloc, &topic, qos)?)?;
-    }
-    Ok(all)
-}
 
 /// Acknowledges a PUBLISH as its quality asks.
 fn acknowledge(window: &mut Window, qos: Qos, id: PacketId) -> Result<(), Failure> {
@@ -50,16 +35,18 @@ fn round(alloc: Global, window: &mut Window) -> Result<(), Failure> {
     Ok(())
 }
 
-/// Makes so many rounds in a window in which so many messages wait, 1 to 100,000, and prints their number. It is timed from outside.
-pub fn work(rt: &impl Print, alloc: Global, count: u32, rounds: u32) -> Result<(), Failure> {
+/// Makes so many rounds in a window in which so many messages wait, 1 to 100,000, and returns their number. It is timed from outside.
+pub fn work(alloc: Global, count: u32, rounds: u32) -> Result<Vec<u64>, Failure> {
     if count == 0 || count > 100_000 {
         return Err(Failure::Words);
     }
+    let topic = TopicName::read(alloc, b"a/b")?;
+    let qualities = [Qos::AtLeastOnce, Qos::ExactlyOnce];
+    let messages = messages(alloc, &topic, count, qualities)?;
     let mut window = Window::new(alloc, 65535, u32::MAX)?;
-    window.queue(messages(alloc, count)?, Qos::ExactlyOnce, None)?;
+    window.queue(messages, Qos::ExactlyOnce, None)?;
     for _ in 0..rounds {
         round(alloc, &mut window)?;
     }
-    println!(rt; "{rounds}")?;
-    Ok(())
+    Ok(vec![in alloc; u64::from(rounds)]?)
 }

@@ -1,0 +1,66 @@
+//! What keeps entries: a tree in its store, or the writer of a store of versions.
+
+ghost use Rattle.std.specs.Prelude.{◌≡◌, false};
+
+use rs_message::Entry;
+use rs_store::{Catalogue, Refusal, Store};
+use rs_tree::TreeCatalogue;
+use rs_version::{PutFault, StoreName, VersionWriter};
+use std::sync::Wait;
+
+/// What became of an entry.
+#[derive(Clone, Copy)]
+pub enum Answer {
+    Kept,
+    Full,
+    NoMemory,
+    Other,
+}
+
+impl Answer {
+    /// Whether it is the other one.
+    pub fn is(self, other: Answer) -> bool {
+        self as u8 == other as u8
+    }
+}
+
+pub trait Keeper {
+    ghost use Rattle.std.specs.Prelude.{◌≡◌, false};
+    ghost use Rattle.rs_message.specs.Messages.{is_sweep};
+
+    fn add(&mut self, entry: Entry) -> Answer
+        requires { is_sweep entry.operation ≡ false };
+
+    /// How many topics a tree holds, and how many entries a writer has published.
+    fn count(&self) -> u64;
+}
+
+impl Keeper for Store<TreeCatalogue> {
+    fn add(&mut self, entry: Entry) -> Answer {
+        match Store::add(self, entry) {
+            Ok(()) => Answer::Kept,
+            Err(Refusal::Full) => Answer::Full,
+            Err(Refusal::NoMemory) => Answer::NoMemory,
+            Err(Refusal::Stale) => Answer::Other,
+        }
+    }
+
+    fn count(&self) -> u64 {
+        u64::from(self.catalogue().count())
+    }
+}
+
+impl<N: StoreName, R: Wait + Drop> Keeper for VersionWriter<N, R> {
+    fn add(&mut self, entry: Entry) -> Answer {
+        match self.put(entry) {
+            Ok(_) => Answer::Kept,
+            Err(PutFault::Full) => Answer::Full,
+            Err(PutFault::NoMemory) => Answer::NoMemory,
+            Err(_) => Answer::Other,
+        }
+    }
+
+    fn count(&self) -> u64 {
+        self.tell().version()
+    }
+}
