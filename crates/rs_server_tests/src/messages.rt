@@ -152,24 +152,24 @@ fn entry_of_set(alloc: Global) -> Result<Entry, Fail> {
     Ok(Entry { origin, operation })
 }
 
-/// Whether a copy of an entry equals it, and the entry differs from a Clear of a/b at place 1 with the serial 2.
-fn is_copied(alloc: Global, entry: &Entry) -> Result<bool, Fail> {
+/// Whether a copy of an entry equals it, and the entry differs from a Clear of a/b at place 1 with this serial.
+fn is_copied(alloc: Global, entry: &Entry, serial: u64) -> Result<bool, Fail> {
     let copy = entry.copy()?;
-    let other = cleared(alloc, 1, 2)?;
+    let other = cleared(alloc, 1, serial)?;
     Ok(copy == *entry && *entry != other)
 }
 
 #[test]
 fn a_clear_is_copied(rt: HostRuntime) -> Result<(), Fail> {
     let entry = cleared(rt.alloc(), 1, 1)?;
-    assert!(rt; is_copied(rt.alloc(), &entry)?);
+    assert!(rt; is_copied(rt.alloc(), &entry, 2)?);
     Ok(())
 }
 
 #[test]
 fn a_set_is_copied(rt: HostRuntime) -> Result<(), Fail> {
     let entry = entry_of_set(rt.alloc())?;
-    assert!(rt; is_copied(rt.alloc(), &entry)?);
+    assert!(rt; is_copied(rt.alloc(), &entry, 1)?);
     Ok(())
 }
 
@@ -245,7 +245,7 @@ fn an_entry_of_a_large_message_is_copied(rt: HostRuntime) -> Result<(), Fail> {
     let topic = TopicName::read(rt.alloc(), b"a/b")?;
     let operation = Operation::Set(topic, large_message(rt.alloc())?);
     let entry = Entry { origin, operation };
-    assert!(rt; is_copied(rt.alloc(), &entry)?);
+    assert!(rt; is_copied(rt.alloc(), &entry, 1)?);
     Ok(())
 }
 
