@@ -73,7 +73,7 @@ fn one(filled: &Row, serial: u64, at: u32, changes: (Change, Change)) -> Row {
 }
 
 /// As long as it is time, puts the topic of number 0, which is new, replaces a topic, and clears the new one. Then it puts it once
-/// more, by which all topics hold a message, and another one, for which half of them are swept.
+/// more, by which all topics hold a message, and another one, for which half of them are swept. If the time is 0 it does nothing.
 fn rounds<C: Clock, K: Keeper>(
     clock: &C,
     alloc: Global,
@@ -111,7 +111,7 @@ fn rounds<C: Clock, K: Keeper>(
         serial = serial.wrapping_add(3);
         times.rounds = round + 1;
     }
-    if times.rounds > 0 {
+    if *time > Duration::ZERO {
         timed(clock, alloc, writer, &one(filled, serial, 0, expiring(0)))?;
         let version = writer.count();
         let last = one(filled, serial.wrapping_add(1), filled.to, expiring(EARLY));
