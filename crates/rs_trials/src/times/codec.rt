@@ -19,11 +19,19 @@ enum Work {
     Encode(Reply),
 }
 
-/// All bytes of the input, in a buffer that packets share.
+/// All bytes of the input, which are one whole packet, in a buffer that packets share.
 fn read_input<R: Read>(alloc: Global, input: &mut R) -> Result<Bytes, Failure> {
     let mut bytes = Vec::new(alloc);
     input.read_to_end(&mut bytes)?;
-    Ok(Bytes::copy_from_slice(alloc, bytes.as_slice())?)
+    let bytes = Bytes::copy_from_slice(alloc, bytes.as_slice())?;
+    let is_whole = match decode(alloc, &bytes)? {
+        Decoded::Whole(_, size) => size == bytes.len(),
+        Decoded::More => false,
+    };
+    if !is_whole {
+        return Err(Failure::Input);
+    }
+    Ok(bytes)
 }
 
 /// The bytes of the payload and the number of user properties, or the number of filters.
