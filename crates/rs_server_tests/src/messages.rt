@@ -92,7 +92,7 @@ fn is_x(message: &Message) -> bool {
         && message.properties().fields().is_none()
 }
 
-/// What a PUBLISH does: nothing, or it clears its topic, or it sets it to a message with the payload `x`. `None` if it does otherwise.
+/// What a PUBLISH does: nothing, or it clears `a/b`, or it sets it to a message with the payload `x`.
 #[derive(Clone, Copy, PartialEq, Eq)]
 enum Done {
     Nothing,
@@ -100,6 +100,7 @@ enum Done {
     Sets,
 }
 
+/// `None` if it does anything else.
 fn what_is_done(operation: &Option<Operation>) -> Option<Done> {
     match operation {
         Some(Operation::Clear(topic)) if topic.as_bytes() == b"a/b".as_slice() => Some(

@@ -1,4 +1,4 @@
-//! The timed work of the benchmark. All times are in nanoseconds.
+//! The timed work of the benchmark. Times are in nanoseconds, those of packets in microseconds, which `bench/plain.rs` prints too.
 
 pub mod codec;
 mod row;

@@ -1,4 +1,4 @@
-//! A queue that ends: each change is refused then, and what was published before is still read.
+//! A queue that ends: each change is refused then, and filters are still answered.
 
 ghost use Rattle.std.specs.Prelude.{◌≡◌};
 

@@ -267,7 +267,8 @@ fn refused<H: Wait + Threads + Copy + Send + Sync + 'static>(
     Ok([book.submit, book.held, u64::from(is_last)])
 }
 
-/// Submits new topics, all of them, and none after one whose entry is held.
+/// Submits new topics to two stores: to the first none after one whose entry is held, to the second all of them. Returns how often
+/// memory was refused in both, in the order of [`refused`].
 pub fn work<H: Wait + Threads + Copy + Send + Sync + 'static>(
     rt: &H,
     alloc: Global,

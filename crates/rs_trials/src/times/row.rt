@@ -26,11 +26,11 @@ pub fn expiring(received: u64) -> (Change, Change) {
     )
 }
 
-/// The entries from one on, and before another one.
+/// Entries, each at a place: from the place `from` on, and before the place `to`.
 #[derive(Clone, Copy)]
 pub struct Row {
     pub naming: Naming,
-    /// The serial of the first topic, had all been added before it.
+    /// The serial at place 0, whether the row has it or not.
     pub serial: u64,
     pub from: u32,
     pub to: u32,
@@ -38,7 +38,7 @@ pub struct Row {
     pub among: u32,
     /// What each does whose place is even, and what each other one.
     pub changes: (Change, Change),
-    /// How each must be answered, and how many the keeper must count then.
+    /// How each must be answered.
     pub wanted: Answer,
 }
 

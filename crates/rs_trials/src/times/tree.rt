@@ -162,9 +162,10 @@ fn all_done<C: Clock>(
 /// What a tree is timed with, or looked at from outside.
 #[derive(Clone, Copy)]
 pub enum Task {
-    /// Times a Set, a replacement, answers to `#`, to one topic, to ten below two levels, and to one in each last level, and a Clear.
+    /// Times Sets, replacements, answers to `#`, to one topic, to the ten below two levels and to one that is found among all, and
+    /// Clears.
     Calls,
-    /// Times an add that finds room, one that finds the tree full, and one that sweeps half of it.
+    /// Times adds that find room, as many that find the tree full, and one that sweeps half of it.
     Full,
     /// Keeps a message at each topic.
     Keep(Naming),
