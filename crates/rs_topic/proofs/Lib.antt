@@ -4,4 +4,5 @@ pub mod LevelLemmas
 pub mod Matched
 pub mod Ordered
 pub mod Readings
+pub mod Rests
 pub mod TextLemmas

@@ -43,7 +43,7 @@ fn filter_fault(text: &[u8]) -> Option<TopicFault>
     if text.starts_with(b"$share/") {
         return Some(TopicFault::Shared);
     }
-    if !wildcards_fit(Levels::of(text)) {
+    if !wildcards_fit(Levels::new(text)) {
         return Some(TopicFault::BadWildcard);
     }
     if level_count(text) > MAX_LEVELS {
@@ -142,7 +142,7 @@ impl TopicFilter {
     pub fn levels(&self) -> Levels<'_>
         ensures { result ≡ levels self.now }
     {
-        Levels::of(self.text.as_bytes())
+        Levels::new(self.text.as_bytes())
     }
 }
 

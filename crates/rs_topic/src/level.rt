@@ -1,17 +1,19 @@
-//! The levels of topic names and topic filters (4.7.1.1): the texts between the slashes.
+//! The levels of topic names and topic filters (4.7.1.1): the texts between the slashes. A walk along them goes from the byte at
+//! which a level begins to the byte at which the next one begins. Past the end of the text no level is left.
 
-ghost use Rattle.std.specs.Prelude.{◌≡◌, ◌==◌, ◌∷◌, ◌<◌, length, IfSome, option_copied};
+ghost use Rattle.std.specs.Prelude.{◌≡◌, ◌==◌, ◌∷◌, [], ◌+◌, ◌<◌, ◌≤◌, length, IfSome, IfNone, IsTrue};
 ghost use Rattle.std.specs.List.{position_or_len};
 ghost use Rattle.std.specs.Iterator.{YieldsFirstRef, item_count};
 ghost use Rattle.rs_topic.specs.Topics.{slash, levels, is_end};
-ghost use Rattle.rs_topic.specs.Places.{levels_behind};
+ghost use Rattle.rs_topic.specs.Rests.{levels_from};
 
 use std::marker::Model;
 
 /// The index of the first slash, or the length of a text without one.
 #[tactic(auto, using(crate::proofs::LevelLemmas::ends_here, crate::proofs::LevelLemmas::ends_nowhere))]
 fn end_of_level(text: &[u8]) -> usize
-    ensures { result ≡ position_or_len (λ c. c == slash) text.now }
+    ensures value { result ≡ position_or_len (λ c. c == slash) text.now }
+    ensures within { result ≤ length text.now }
 {
     for i in 0..text.len() {
         if text[i] == b'/' {
@@ -21,51 +23,69 @@ fn end_of_level(text: &[u8]) -> usize
     text.len()
 }
 
-/// The first level of a text, and the text after its slash if it has one.
-#[tactic(auto, using(crate::proofs::LevelLemmas::one_level, crate::proofs::LevelLemmas::first_of_more))]
-fn first_level(text: &[u8]) -> (&[u8], Option<&[u8]>)
-    ensures parts { levels text.now ≡ result.0.now ∷ levels_behind (option_copied result.1) }
-    ensures shorter { IfSome result.1 (λ rest. length rest.now < length text.now) }
+/// The level that begins at a byte of the text, and the byte at which the next one begins. None past the end of the text.
+#[tactic(auto, using(crate::proofs::Rests::one_more, crate::proofs::Rests::no_more, crate::proofs::Rests::is_level))]
+pub fn level_at(text: &[u8], at: usize) -> Option<(&[u8], usize)>
+    ensures more { IfSome result (λ r. levels_from at text.now ≡ r.0.now ∷ levels_from r.1 text.now) }
+    ensures further { IfSome result (λ r. (at < r.1) × (r.1 ≤ length text.now + 1)) }
+    ensures single { IfSome result (λ r. levels r.0.now ≡ r.0.now ∷ []) }
+    ensures ended { IfNone result (levels_from at text.now ≡ []) }
 {
-    let at = end_of_level(text);
-    if at < text.len() {
-        let (level, _) = text.split_at(at);
-        let (_, rest) = text.split_at(at + 1);
-        (level, Some(rest))
-    } else {
-        (text, None)
+    if at > text.len() {
+        return None;
     }
+    let (_, rest) = text.split_at(at);
+    let end = end_of_level(rest);
+    let (level, _) = rest.split_at(end);
+    Some((level, at + end + 1))
+}
+
+/// The text is one level. (False says nothing.)
+#[tactic(auto, using(crate::proofs::LevelLemmas::one_level))]
+pub fn is_level(text: &[u8]) -> bool
+    ensures { IsTrue result → levels text.now ≡ text.now ∷ [] }
+{
+    end_of_level(text) == text.len()
 }
 
 /// The levels of a topic name or a topic filter, in order (4.7.1.1).
 #[derive(Drop)]
 pub struct Levels<'a> {
-    // None after the last level.
-    rest: Option<&'a [u8]>,
+    text: &'a [u8],
+    // The byte at which the next level begins.
+    at: usize,
 }
 
 impl<'a> Model for Levels<'a> {
-    ghost use Rattle.std.specs.Prelude.{List, ℕ, option_copied};
-    ghost use Rattle.rs_topic.specs.Places.{levels_behind};
+    ghost use Rattle.std.specs.Prelude.{List, ℕ};
+    ghost use Rattle.rs_topic.specs.Rests.{levels_from};
 
     ghost Value = { List (List ℕ) };
 
-    ghost view = { λ it. levels_behind (option_copied it.rest) };
+    ghost view = { λ it. levels_from it.at it.text.now };
 }
 
 impl<'a> Levels<'a> {
-    pub(crate) fn of(text: &'a [u8]) -> Levels<'a>
+    /// The levels of a text.
+    pub(crate) fn new(text: &'a [u8]) -> Levels<'a>
         ensures { result ≡ levels text.now }
     {
-        Levels { rest: Some(text) }
+        Levels::starting_at(text, 0)
+    }
+
+    /// The levels of a text from a byte on.
+    pub(crate) fn starting_at(text: &'a [u8], at: usize) -> Levels<'a>
+        ensures { result ≡ levels_from at text.now }
+    {
+        Levels { text, at }
     }
 
     /// Whether no level is left.
-    #[tactic(auto, using(crate::proofs::LevelLemmas::some_level))]
+    #[tactic(auto, using(crate::proofs::Rests::last_from))]
     pub fn is_empty(&self) -> bool
         ensures { result ≡ is_end self.now }
     {
-        self.rest.is_none()
+        self.at > self.text.len()
     }
 }
 
@@ -77,9 +97,8 @@ impl<'a> Iterator for Levels<'a> {
     ghost remaining = { item_count (λ rest. rest) };
 
     fn next(&mut self) -> Option<&'a [u8]> {
-        let rest = self.rest?;
-        let (level, more) = first_level(rest);
-        self.rest = more;
+        let (level, next) = level_at(self.text, self.at)?;
+        self.at = next;
         Some(level)
     }
 }
@@ -89,5 +108,5 @@ impl<'a> Iterator for Levels<'a> {
 pub(crate) fn level_count(text: &[u8]) -> usize
     ensures { result ≡ length (levels text.now) }
 {
-    Levels::of(text).count()
+    Levels::new(text).count()
 }

@@ -22,7 +22,9 @@ mod text;
 
 pub use filter::TopicFilter;
 pub use law::{level_law, match_law, order_law, reading_law};
-pub use level::Levels;
+pub use level::{Levels, is_level, level_at};
 pub use limits::{MAX_LEVELS, MAX_TEXT_SIZE};
+pub use matching::{begins_with_dollar, is_all_below, is_plus, levels_fit};
 pub use name::TopicName;
+pub use order::compare_rests;
 pub use text::{Text, TopicFault};

@@ -106,7 +106,7 @@ impl TopicName {
     pub fn levels(&self) -> Levels<'_>
         ensures { result ≡ levels self.now }
     {
-        Levels::of(self.text.as_bytes())
+        Levels::new(self.text.as_bytes())
     }
 }
 

@@ -21,7 +21,8 @@ use Rattle.rs_tree.specs.Chains.{behind, under_all}
 use Rattle.rs_tree.specs.Chosen.{chosen}
 use Rattle.rs_tree.specs.Room.{IsStop}
 use Rattle.rs_tree.specs.declared.answer.Stop.{Stop}
-use Rattle.rs_tree.specs.Spots.{is_nothing, is_there, levels_from, spot_of, under}
+use Rattle.rs_topic.specs.Rests.{levels_from}
+use Rattle.rs_tree.specs.Spots.{is_nothing, is_there, spot_of, under}
 use Rattle.rs_store.proofs.Entries.{sorted_cons, sorted_none, sorted_insert, sorted_remove}
 use Rattle.rs_tree.proofs.Under.{Held, Path}
 use Rattle.rs_tree.proofs.Chosen.{chosen-append}

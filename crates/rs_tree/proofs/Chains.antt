@@ -8,8 +8,8 @@ use Rattle.std.specs.Str.{bytes_eq}
 use Rattle.std.specs.Cmp.Lexicographic.{bytes_decides}
 use Rattle.rs_topic.specs.Topics.{levels, slash, is_end}
 use Rattle.rs_topic.proofs.LevelLemmas.{some_level}
-use Rattle.rs_tree.specs.Spots.{levels_from}
-use Rattle.rs_tree.proofs.Places.{from_within, no_more}
+use Rattle.rs_topic.specs.Rests.{levels_from}
+use Rattle.rs_topic.proofs.Rests.{from_within, no_more}
 
 put_first : (c : ℕ) (xs ys : List (List ℕ)) → is_end xs ≡ false → onto_first c (xs ++ ys) ≡ onto_first c xs ++ ys
 put_first c [] ys h = absurd (cc (h))

@@ -8,7 +8,7 @@ use Rattle.rs_topic.specs.Matching.{fits, is_wild, begins_with_dollar}
 use Rattle.rs_message.specs.Messages.{is_expired}
 use Rattle.rs_tree.specs.Spots.{under, own}
 use Rattle.rs_tree.specs.Chosen.{chosen_by, chosen, chosen_at_root, is_matched, is_plain_below, own_chosen}
-use Rattle.rs_tree.proofs.Places.{fits_here}
+use Rattle.rs_topic.proofs.Rests.{fits_here}
 use Rattle.std.specs.Cmp.Lexicographic.{bytes_decides}
 
 abbrev pub Test : Type 0

@@ -2,7 +2,8 @@
 use Rattle.std.proofs.Common.{◌≡◌, ℕ, [], ◌∷◌, ◌++◌, refl, sym, ap, ◌∙◌, Some, append-nil}
 use Rattle.rs_tree.specs.Chains.{under_all, behind}
 use Rattle.rs_message.specs.declared.entry.Found.{Found}
-use Rattle.rs_tree.specs.Spots.{levels_from, spot_of, under}
+use Rattle.rs_topic.specs.Rests.{levels_from}
+use Rattle.rs_tree.specs.Spots.{spot_of, under}
 use Rattle.rs_tree.proofs.Under.{Held, Path}
 use Rattle.rs_tree.proofs.Stems.{behind_is}
 

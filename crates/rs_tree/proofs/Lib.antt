@@ -9,7 +9,6 @@ pub mod Expiring
 pub mod Growing
 pub mod Joining
 pub mod Leaving
-pub mod Places
 pub mod Rows
 pub mod Sent
 pub mod Stems

@@ -18,7 +18,7 @@ use Rattle.rs_topic.specs.Matching.{fits}
 use Rattle.rs_tree.specs.Chains.{under_all, behind, past}
 use Rattle.rs_tree.specs.Chosen.{chosen}
 use Rattle.rs_tree.specs.Spots.{under, is_there, IsFull}
-use Rattle.rs_tree.proofs.Places.{fits_on, fits_not}
+use Rattle.rs_topic.proofs.Rests.{fits_on, fits_not}
 
 -- ---- whether there is anything
 

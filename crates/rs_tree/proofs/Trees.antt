@@ -21,8 +21,9 @@ use Rattle.rs_store.specs.Contents.{after, found_of, is_answered, is_gone, stays
 use Rattle.rs_tree.specs.Sweeping.{is_expired_spot, spot_stays}
 use Rattle.rs_tree.specs.Trees.{IsTree}
 use Rattle.rs_tree.specs.Chosen.{chosen_at_root, is_matched, is_dollar}
-use Rattle.rs_tree.proofs.Places.{from_start}
-use Rattle.rs_tree.specs.Spots.{Spot, ArePlaced, levels_from, pair_of, pairs, is_there}
+use Rattle.rs_topic.proofs.Rests.{from_start}
+use Rattle.rs_topic.specs.Rests.{levels_from}
+use Rattle.rs_tree.specs.Spots.{Spot, ArePlaced, pair_of, pairs, is_there}
 use Rattle.std.specs.Prelude.{nat_le}
 use Rattle.rs_store.proofs.Entries.{sorted_none, sorted_insert, sorted_remove, sorted_filter}
 use Rattle.rs_store.proofs.Maps.{insert_old, insert_new, remove_there, remove_absent, room_if_few, room_after_clear, room_after_sweep}

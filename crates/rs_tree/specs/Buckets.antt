@@ -3,7 +3,8 @@ use Rattle.std.specs.Prelude.{◌≡◌, ℕ, zero, suc, List, [], ◌∷◌}
 use Rattle.std.specs.declared.cmp.Ordering.TheVariants.{Less, Equal, Greater}
 use Rattle.rs_topic.specs.Order.{path_cmp}
 use Rattle.rs_tree.specs.declared.leaf.Leaf.{Leaf}
-use Rattle.rs_tree.specs.Spots.{Spot, levels_from, spot_of}
+use Rattle.rs_topic.specs.Rests.{levels_from}
+use Rattle.rs_tree.specs.Spots.{Spot, spot_of}
 
 abbrev pub spots_in : List Leaf → List Spot
 spots_in [] = []

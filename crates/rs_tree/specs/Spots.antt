@@ -1,16 +1,13 @@
 -- What a branch of the tree holds: the messages with their paths, in the order of replay. A path is a list of levels.
-use Rattle.std.specs.Prelude.{◌≡◌, ℕ, Bool, true, false, nat_le, if◌then◌else◌, List, [], ◌∷◌, length, drop, Option, Some, None, map}
+use Rattle.std.specs.Prelude.{◌≡◌, ℕ, Bool, true, false, List, [], ◌∷◌, Option, Some, None, map}
 use Rattle.std.specs.Map.{lookup}
 use Rattle.std.specs.BTreeMap.{is_at}
 use Rattle.std.specs.Option.{is_some}
 use Rattle.rs_topic.specs.Topics.{levels}
 use Rattle.rs_topic.specs.Order.{path_cmp}
+use Rattle.rs_topic.specs.Rests.{levels_from}
 use Rattle.rs_message.specs.Values.{MessageValue}
 use Rattle.rs_message.specs.declared.entry.Found.{Found}
-
--- the levels of a text from a byte on; none past its end
-abbrev pub levels_from : ℕ → List ℕ → List (List ℕ)
-levels_from at text = if nat_le at (length text) then levels (drop at text) else []
 
 abbrev pub Spot : Type 0
 Spot = List (List ℕ) × Found

@@ -4,9 +4,9 @@ ghost use Rattle.std.specs.Prelude.{◌≡◌, ◌∷◌, [], ◌++◌, ◌≤�
 ghost use Rattle.std.specs.Option.{option_map};
 ghost use Rattle.rs_topic.specs.Topics.{levels};
 ghost use Rattle.rs_tree.specs.Chains.{behind, past};
-ghost use Rattle.rs_tree.specs.Spots.{levels_from};
+ghost use Rattle.rs_topic.specs.Rests.{levels_from};
 
-use crate::level::{is_all_below, is_plus, level_at};
+use rs_topic::{is_all_below, is_plus, level_at};
 use std::alloc::{AllocError, Global};
 
 /// The byte behind the levels of a chain, if the rest of a topic begins with them.

@@ -12,7 +12,8 @@ ghost use Rattle.rs_tree.specs.Chosen.{chosen};
 ghost use Rattle.rs_tree.specs.Expiring.{earliest};
 ghost use Rattle.rs_tree.specs.Clearing.{ClearsAs};
 ghost use Rattle.rs_tree.specs.Room.{IsStop};
-ghost use Rattle.rs_tree.specs.Spots.{is_nothing, is_there, levels_from, spot_of, under};
+ghost use Rattle.rs_topic.specs.Rests.{levels_from};
+ghost use Rattle.rs_tree.specs.Spots.{is_nothing, is_there, spot_of, under};
 ghost use Rattle.rs_tree.specs.Sweeping.{is_expired_spot, spot_stays};
 ghost use Rattle.rs_store.specs.declared.limit.TheConstants.{MAX_TOPICS};
 

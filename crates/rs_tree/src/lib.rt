@@ -12,7 +12,6 @@ mod held;
 mod label;
 mod leaf;
 mod leaves;
-mod level;
 mod root;
 mod shared;
 mod tree;

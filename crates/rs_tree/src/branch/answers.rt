@@ -2,7 +2,7 @@
 
 ghost use Rattle.std.specs.Prelude.{◌≡◌};
 ghost use Rattle.rs_tree.specs.Chosen.{chosen, chosen_at_root, chosen_by, is_plain_below};
-ghost use Rattle.rs_tree.specs.Spots.{levels_from};
+ghost use Rattle.rs_topic.specs.Rests.{levels_from};
 ghost use Rattle.rs_tree.specs.Answers.{Enters, Gives, Steps};
 ghost use Rattle.rs_tree.specs.Nodes.{stem_spots};
 ghost use Rattle.rs_tree.specs.Rows.{parts};
@@ -11,7 +11,7 @@ use super::{Below, Branch, Child, Stem, place_of};
 use crate::answer::{Answer, Stop};
 use crate::chain::past;
 use crate::held::answer_held;
-use crate::level::{begins_with_dollar, is_all_below, is_plus, level_at};
+use rs_topic::{begins_with_dollar, is_all_below, is_plus, level_at};
 
 /// Appends what the filter fits below each child, of which the first level ends before `next` in the filter.
 #[cycle(answer)]

@@ -3,7 +3,7 @@
 ghost use Rattle.std.specs.Prelude.{◌≡◌, ◌<◌, false, [], length, is_some, IsTrue};
 ghost use Rattle.std.specs.List.{remove};
 ghost use Rattle.std.specs.Arc.{arc_value};
-ghost use Rattle.rs_tree.specs.Spots.{levels_from};
+ghost use Rattle.rs_topic.specs.Rests.{levels_from};
 ghost use Rattle.rs_tree.specs.Clearing.{Clears, ClearsAs};
 ghost use Rattle.rs_tree.specs.Nodes.{stem_spots};
 ghost use Rattle.rs_tree.specs.Rows.{Leads};
@@ -11,8 +11,8 @@ ghost use Rattle.rs_tree.specs.Rows.{Leads};
 use super::{Below, Branch, Child, Stem, place_of};
 use crate::chain::behind;
 use crate::cleared::Cleared;
-use crate::level::level_at;
 use crate::shared::Shared;
+use rs_topic::level_at;
 use std::alloc::{AllocError, Global};
 use std::sync::Arc;
 

@@ -1,13 +1,14 @@
 //! Whether there is a message at a topic.
 
 ghost use Rattle.std.specs.Prelude.{◌≡◌};
-ghost use Rattle.rs_tree.specs.Spots.{is_there, levels_from};
+ghost use Rattle.rs_topic.specs.Rests.{levels_from};
+ghost use Rattle.rs_tree.specs.Spots.{is_there};
 ghost use Rattle.rs_tree.specs.Nodes.{stem_spots};
 ghost use Rattle.rs_tree.specs.Rows.{Leads};
 
 use super::{Below, Branch, Child, Stem, place_of};
 use crate::chain::behind;
-use crate::level::level_at;
+use rs_topic::level_at;
 
 impl Stem {
     /// There is a message at this rest of a topic.

@@ -4,7 +4,8 @@ ghost use Rattle.std.specs.Prelude.{◌≡◌, ◌∷◌, ◌++◌, [], ◌≤�
 ghost use Rattle.std.specs.Arc.{arc_value};
 ghost use Rattle.std.specs.BTreeMap.{insert_entry};
 ghost use Rattle.rs_topic.specs.Order.{path_cmp};
-ghost use Rattle.rs_tree.specs.Spots.{IsFull, is_there, levels_from};
+ghost use Rattle.rs_topic.specs.Rests.{levels_from};
+ghost use Rattle.rs_tree.specs.Spots.{IsFull, is_there};
 ghost use Rattle.rs_tree.specs.Nodes.{stem_spots};
 ghost use Rattle.rs_tree.specs.Rows.{Leads};
 
@@ -13,8 +14,8 @@ use super::{Below, Branch, Child, Stem, place_of};
 use crate::bucket::Bucket;
 use crate::chain::{behind, shared_levels};
 use crate::label::Label;
-use crate::level::level_at;
 use crate::shared::Shared;
+use rs_topic::level_at;
 use std::alloc::{AllocError, Global};
 use std::sync::Arc;
 

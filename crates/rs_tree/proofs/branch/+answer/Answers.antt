@@ -2,7 +2,7 @@ use Rattle.std.proofs.Common.{◌≡◌, ℕ, List, ◌+◌, ◌≤◌, subst, E
 use Rattle.rs_topic.specs.Matching.{fits}
 use Rattle.rs_tree.specs.Chains.{past}
 use Rattle.rs_tree.specs.Chosen.{chosen, own_chosen}
-use Rattle.rs_tree.specs.Spots.{levels_from}
+use Rattle.rs_topic.specs.Rests.{levels_from}
 use Rattle.rs_tree.proofs.Stems.{chosen_past, none_past}
 use Rattle.rs_tree.specs.Nodes.{stem_spots}
 use Rattle.rs_tree.specs.Rows.{IsGap, IsIn, Takes, depth, parts}

@@ -1,6 +1,6 @@
 use Rattle.std.proofs.Common.{◌≡◌, ◌+◌, ◌≤◌, true, false, refl, sym, ap, ◌∙◌, arith}
 use Rattle.rs_tree.specs.Chosen.{chosen, is_plain_below}
-use Rattle.rs_tree.specs.Spots.{levels_from}
+use Rattle.rs_topic.specs.Rests.{levels_from}
 use Rattle.rs_tree.specs.Rows.{depth}
 use Rattle.rs_tree.specs.Values.{BranchValue}
 use Rattle.rs_topic.specs.Matching.{begins_with_dollar}

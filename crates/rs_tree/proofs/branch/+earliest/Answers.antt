@@ -1,6 +1,7 @@
 use Rattle.std.proofs.Common.{◌≡◌, ℕ, ◌+◌, ◌≤◌, ◌∷◌, [], refl, ap, sym, ◌∙◌, arith}
 use Rattle.rs_tree.specs.Expiring.{earliest}
-use Rattle.rs_tree.specs.Spots.{levels_from, own}
+use Rattle.rs_topic.specs.Rests.{levels_from}
+use Rattle.rs_tree.specs.Spots.{own}
 use Rattle.rs_tree.proofs.Ends.{earliest_both, earliest_chain}
 use Rattle.rs_tree.specs.Rows.{depth, parts}
 use Rattle.rs_tree.specs.Values.{BranchValue}

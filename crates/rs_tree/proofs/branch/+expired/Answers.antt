@@ -1,6 +1,7 @@
 use Rattle.std.proofs.Common.{◌≡◌, List, ◌+◌, ◌≤◌, ◌∷◌, [], refl, ap, sym, ◌∙◌, arith, length, length-append}
 use Rattle.std.specs.List.{filter}
-use Rattle.rs_tree.specs.Spots.{levels_from, own}
+use Rattle.rs_topic.specs.Rests.{levels_from}
+use Rattle.rs_tree.specs.Spots.{own}
 use Rattle.rs_tree.specs.Sweeping.{is_expired_spot}
 use Rattle.rs_tree.proofs.Ends.{gone_both, gone_chain, gone_few, many_chain}
 use Rattle.rs_tree.specs.Rows.{depth, parts}

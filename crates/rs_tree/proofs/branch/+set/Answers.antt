@@ -1,6 +1,7 @@
 use Rattle.std.proofs.Common.{◌≡◌, ◌+◌, ◌<◌, ◌≤◌, ◌∷◌, [], List, arith, length, refl, sym, ap, ◌∙◌, Some}
 use Rattle.std.proofs.lemmas.Result.{on_ok_weaker, on_err_weaker}
-use Rattle.rs_tree.specs.Spots.{IsFull, levels_from, spot_of, under}
+use Rattle.rs_topic.specs.Rests.{levels_from}
+use Rattle.rs_tree.specs.Spots.{IsFull, spot_of, under}
 use Rattle.rs_tree.proofs.Under.{told_by}
 use Rattle.rs_tree.specs.Rows.{IsGap, IsIn, depth}
 use Rattle.rs_tree.specs.Chains.{behind, under_all}

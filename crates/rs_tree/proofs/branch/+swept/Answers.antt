@@ -1,7 +1,8 @@
 use Rattle.std.proofs.Common.{◌≡◌, ◌+◌, ◌≤◌, ◌∷◌, [], ℕ, List, false, subst, arith, refl, sym, ap, ◌∙◌}
 use Rattle.std.specs.List.{filter}
 use Rattle.rs_tree.specs.Sweeping.{spot_stays}
-use Rattle.rs_tree.specs.Spots.{IsFull, levels_from, own, under}
+use Rattle.rs_topic.specs.Rests.{levels_from}
+use Rattle.rs_tree.specs.Spots.{IsFull, own, under}
 use Rattle.rs_tree.specs.Nodes.{stem_spots}
 use Rattle.rs_tree.specs.Rows.{Notes, depth, parts}
 use Rattle.rs_tree.specs.Values.{BranchValue, ChildValue}

@@ -1,5 +1,5 @@
 use Rattle.std.proofs.Common.{◌≡◌, ◌+◌, ◌-◌, ◌≤◌, ◌++◌, length}
-use Rattle.rs_tree.specs.Spots.{levels_from}
+use Rattle.rs_topic.specs.Rests.{levels_from}
 use Rattle.rs_tree.proofs.chain.shared_levels.Given as goal
 
 abbrev pub invariant-loop-level : goal.invariant-loop-level

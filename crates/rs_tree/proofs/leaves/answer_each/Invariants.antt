@@ -1,7 +1,7 @@
 use Rattle.std.proofs.Common.{◌≡◌, ◌++◌, drop}
 use Rattle.rs_tree.specs.Buckets.{spots_in}
 use Rattle.rs_tree.specs.Chosen.{chosen}
-use Rattle.rs_tree.specs.Spots.{levels_from}
+use Rattle.rs_topic.specs.Rests.{levels_from}
 use Rattle.rs_tree.proofs.leaves.answer_each.Given as goal
 
 abbrev pub invariant-loop-leaf : goal.invariant-loop-leaf

@@ -1,5 +1,5 @@
 use Rattle.std.proofs.Common.{arith}
-use Rattle.rs_tree.specs.Spots.{levels_from}
+use Rattle.rs_topic.specs.Rests.{levels_from}
 use Rattle.rs_tree.proofs.Buckets.{is_behind, is_gap, is_here, is_past}
 use Rattle.rs_tree.proofs.leaves.place_of.Goals as goal
 

@@ -1,5 +1,5 @@
 use Rattle.rs_tree.specs.Buckets.{IsPast}
-use Rattle.rs_tree.specs.Spots.{levels_from}
+use Rattle.rs_topic.specs.Rests.{levels_from}
 use Rattle.rs_tree.proofs.leaves.place_of.Given as goal
 
 abbrev pub invariant-loop-i : goal.invariant-loop-i

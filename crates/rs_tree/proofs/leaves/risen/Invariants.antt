@@ -1,7 +1,8 @@
 use Rattle.std.proofs.Common.{◌≡◌, ◌++◌, drop}
 use Rattle.rs_tree.specs.Buckets.{spots_in}
 use Rattle.rs_tree.specs.Chains.{under_all}
-use Rattle.rs_tree.specs.Spots.{levels_from, under}
+use Rattle.rs_topic.specs.Rests.{levels_from}
+use Rattle.rs_tree.specs.Spots.{under}
 use Rattle.rs_tree.proofs.leaves.risen.Given as goal
 
 abbrev pub invariant-loop-leaf : goal.invariant-loop-leaf

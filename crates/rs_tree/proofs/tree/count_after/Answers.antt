@@ -1,5 +1,6 @@
 use Rattle.std.proofs.Common.{◌≡◌, arith}
-use Rattle.rs_tree.specs.Spots.{is_there, levels_from, pairs}
+use Rattle.rs_topic.specs.Rests.{levels_from}
+use Rattle.rs_tree.specs.Spots.{is_there, pairs}
 use Rattle.rs_store.proofs.Expiring.{all_counted}
 use Rattle.rs_tree.proofs.Trees.{set_old, set_new, clear_old, clear_none}
 use Rattle.rs_tree.proofs.tree.count_after.Goals as goal

@@ -1,6 +1,7 @@
 use Rattle.std.proofs.Common.{◌≡◌, ◌<◌, ◌≤◌, ◌∷◌, [], List, length, sym, ap, ◌∙◌}
 use Rattle.std.proofs.lemmas.Result.{on_ok_weaker, on_err_weaker}
-use Rattle.rs_tree.specs.Spots.{levels_from, spot_of, under}
+use Rattle.rs_topic.specs.Rests.{levels_from}
+use Rattle.rs_tree.specs.Spots.{spot_of, under}
 use Rattle.rs_tree.proofs.Under.{told_by}
 use Rattle.rs_tree.specs.Rows.{IsGap, IsIn}
 use Rattle.rs_tree.proofs.Growing.{grown_gap, grown_in, own_first, row_new, row_put, same_in}

@@ -1,6 +1,7 @@
 use Rattle.std.proofs.Common.{◌≡◌, ◌∷◌, ap}
 use Rattle.std.proofs.lemmas.Result.{on_err_weaker, on_ok_weaker}
-use Rattle.rs_tree.specs.Spots.{levels_from, under}
+use Rattle.rs_topic.specs.Rests.{levels_from}
+use Rattle.rs_tree.specs.Spots.{under}
 use Rattle.rs_tree.proofs.Growing.{grown_under, told_under}
 use Rattle.rs_tree.proofs.branch.Child.hold.Goals as goal
 

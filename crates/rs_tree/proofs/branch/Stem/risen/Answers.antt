@@ -1,6 +1,6 @@
 use Rattle.std.proofs.Common.{◌≡◌, ◌∷◌, ◌++◌, ap, ◌∙◌}
 use Rattle.rs_tree.specs.Chains.{under_all}
-use Rattle.rs_tree.specs.Spots.{levels_from}
+use Rattle.rs_topic.specs.Rests.{levels_from}
 use Rattle.rs_tree.proofs.Stems.{joined}
 use Rattle.rs_tree.specs.Values.{BranchValue}
 use Rattle.rs_tree.proofs.branch.Stem.risen.Goals as goal

@@ -1,5 +1,5 @@
 use Rattle.std.proofs.Common.{arith}
-use Rattle.rs_tree.specs.Spots.{levels_from}
+use Rattle.rs_topic.specs.Rests.{levels_from}
 use Rattle.rs_tree.proofs.Buckets.{parted_none, parted_step, sorted_at}
 use Rattle.rs_tree.proofs.branch.set.parted.Goals as goal
 

@@ -1,7 +1,7 @@
 use Rattle.std.proofs.Common.{◌≡◌, ◌++◌, drop}
 use Rattle.rs_tree.specs.Buckets.{spots_in}
 use Rattle.rs_tree.specs.Chains.{under_all}
-use Rattle.rs_tree.specs.Spots.{levels_from}
+use Rattle.rs_topic.specs.Rests.{levels_from}
 use Rattle.rs_tree.proofs.Buckets.{Sorted}
 use Rattle.rs_tree.proofs.branch.set.parted.Given as goal
 

@@ -1,6 +1,6 @@
 use Rattle.std.proofs.Common.{◌≡◌, ◌∷◌, ◌++◌, refl, sym, Some}
 use Rattle.rs_tree.specs.Chains.{behind}
-use Rattle.rs_tree.specs.Spots.{levels_from}
+use Rattle.rs_topic.specs.Rests.{levels_from}
 use Rattle.rs_tree.proofs.Chains.{told_same}
 use Rattle.rs_tree.proofs.Stems.{behind_is}
 use Rattle.rs_tree.proofs.leaf.Leaf.rise.Goals as goal

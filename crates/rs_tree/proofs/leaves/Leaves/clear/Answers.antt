@@ -3,7 +3,7 @@ use Rattle.std.specs.BTreeMap.{is_at}
 use Rattle.std.specs.Map.{remove_entry}
 use Rattle.rs_topic.specs.Order.{path_cmp}
 use Rattle.rs_tree.specs.Buckets.{spots_in}
-use Rattle.rs_tree.specs.Spots.{levels_from}
+use Rattle.rs_topic.specs.Rests.{levels_from}
 use Rattle.rs_tree.proofs.Buckets.{gone_is, kept_is, none_is, sorted_clear, there_is}
 use Rattle.rs_tree.proofs.Under.{Held}
 use Rattle.rs_tree.proofs.leaves.Leaves.clear.Goals as goal

@@ -1,5 +1,6 @@
 use Rattle.std.proofs.Common.{◌≡◌, ◌≢◌, true, length, ◌∙◌, sym, refl, subst}
-use Rattle.rs_tree.specs.Spots.{IsFull, is_there, levels_from}
+use Rattle.rs_topic.specs.Rests.{levels_from}
+use Rattle.rs_tree.specs.Spots.{IsFull, is_there}
 use Rattle.rs_tree.proofs.Clearing.{more_cleared, single_cleared}
 use Rattle.rs_tree.proofs.Under.{Held}
 use Rattle.rs_tree.proofs.leaves.Leaves.clear_more.Goals as goal

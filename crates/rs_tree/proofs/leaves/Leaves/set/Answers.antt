@@ -2,7 +2,8 @@ use Rattle.std.proofs.Common.{◌≡◌, ◌∙◌, true, false, ap}
 use Rattle.std.specs.BTreeMap.{insert_entry}
 use Rattle.rs_topic.specs.Order.{path_cmp}
 use Rattle.rs_tree.specs.Buckets.{spots_in}
-use Rattle.rs_tree.specs.Spots.{is_there, levels_from}
+use Rattle.rs_topic.specs.Rests.{levels_from}
+use Rattle.rs_tree.specs.Spots.{is_there}
 use Rattle.rs_tree.proofs.Buckets.{new_is, none_is, put_is, sorted_set, there_is}
 use Rattle.rs_tree.proofs.Under.{Held}
 use Rattle.rs_tree.proofs.leaves.Leaves.set.Goals as goal

@@ -1,5 +1,5 @@
 use Rattle.std.proofs.Common.{sym, ◌∙◌}
-use Rattle.rs_tree.specs.Spots.{levels_from}
+use Rattle.rs_topic.specs.Rests.{levels_from}
 use Rattle.rs_tree.specs.Clearing.{ClearsAs}
 use Rattle.rs_tree.specs.declared.cleared.Cleared.TheVariants.{Missing}
 use Rattle.rs_tree.proofs.Clearing.{none_removed}

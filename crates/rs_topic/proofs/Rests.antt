@@ -15,7 +15,7 @@ use Rattle.rs_topic.proofs.LevelLemmas.{one_level, first_of_more, some_level}
 use Rattle.std.specs.declared.cmp.Ordering.TheVariants.{Less, Equal, Greater}
 use Rattle.rs_topic.specs.Order.{path_cmp, topic_cmp}
 use Rattle.rs_topic.specs.Matching.{fits}
-use Rattle.rs_tree.specs.Spots.{levels_from}
+use Rattle.rs_topic.specs.Rests.{levels_from}
 
 pub from_within : (text : List ℕ) (at : ℕ) → at ≤ length text → levels_from at text ≡ levels (drop at text)
 from_within text at h = rw (le-leb at (length text) h) refl
@@ -49,7 +49,7 @@ is_level text end is =
     let free : All (λ c. (c == slash) ≡ false) (take end text) = rw is (λ k e m. let k' = fails_before_first (λ c. c == slash) text k e (grind (arith, common_steps)) in grind (arith, common_steps)) in
     slice_split_none (λ c. c == slash) (take end text) free
 
-last_from : (text : List ℕ) (at : ℕ) → is_end (levels_from at text) ≡ not (nat_le at (length text))
+pub last_from : (text : List ℕ) (at : ℕ) → is_end (levels_from at text) ≡ not (nat_le at (length text))
 last_from text at = by (nat_le at (length text)) refl
   where
     some : (parts : List (List ℕ)) → is_end parts ≡ false → is_end parts ≡ false
