@@ -1,5 +1,5 @@
 -- Identifiers of properties by their numbers, and which of them stood before.
-use Rattle.std.proofs.Common.{◌≡◌, ℕ, ◌<◌, Bool, true, false, not, eqb, ◌||◌, List, [], ◌∷◌, length, slice_index_or, slice_set, Option, Some, refl, sym, ap, subst, ◌∙◌, arith, inl, inr}
+use Rattle.std.proofs.Common.{◌≡◌, ℕ, ◌<◌, ◌≤◌, Bool, true, false, not, eqb, ◌||◌, List, [], ◌∷◌, length, slice_index_or, slice_set, Option, Some, None, refl, sym, ap, subst, ◌∙◌, arith, inl, inr}
 use Rattle.std.specs.Prelude.{◌⊎◌}
 use Rattle.std.specs.List.{find}
 use Rattle.std.proofs.lemmas.Bool.{eqb-true, eqb-false}
@@ -29,17 +29,17 @@ identifier_of_is n i e = eqb-true _ _ (find_passes (λ j. eqb (number j) n) iden
 
 pub identifier_again : (i : Identifier) → identifier_of (number i) ≡ Some i
 unfolding identifier_of
-identifier_again id.PayloadFormat = refl
-identifier_again id.MessageExpiry = refl
+identifier_again id.PayloadFormatIndicator = refl
+identifier_again id.MessageExpiryInterval = refl
 identifier_again id.ContentType = refl
 identifier_again id.ResponseTopic = refl
 identifier_again id.CorrelationData = refl
 identifier_again id.SubscriptionIdentifier = refl
-identifier_again id.SessionExpiry = refl
+identifier_again id.SessionExpiryInterval = refl
 identifier_again id.AuthenticationMethod = refl
 identifier_again id.AuthenticationData = refl
-identifier_again id.ProblemInformation = refl
-identifier_again id.ResponseInformation = refl
+identifier_again id.RequestProblemInformation = refl
+identifier_again id.RequestResponseInformation = refl
 identifier_again id.ServerReference = refl
 identifier_again id.ReasonString = refl
 identifier_again id.ReceiveMaximum = refl
@@ -51,17 +51,17 @@ identifier_again id.MaximumPacketSize = refl
 -- an identifier takes one byte
 pub one_byte : (i : Identifier) → varint (number i) ≡ number i ∷ []
 unfolding low_first
-one_byte id.PayloadFormat = refl
-one_byte id.MessageExpiry = refl
+one_byte id.PayloadFormatIndicator = refl
+one_byte id.MessageExpiryInterval = refl
 one_byte id.ContentType = refl
 one_byte id.ResponseTopic = refl
 one_byte id.CorrelationData = refl
 one_byte id.SubscriptionIdentifier = refl
-one_byte id.SessionExpiry = refl
+one_byte id.SessionExpiryInterval = refl
 one_byte id.AuthenticationMethod = refl
 one_byte id.AuthenticationData = refl
-one_byte id.ProblemInformation = refl
-one_byte id.ResponseInformation = refl
+one_byte id.RequestProblemInformation = refl
+one_byte id.RequestResponseInformation = refl
 one_byte id.ServerReference = refl
 one_byte id.ReasonString = refl
 one_byte id.ReceiveMaximum = refl
@@ -71,17 +71,17 @@ one_byte id.UserProperty = refl
 one_byte id.MaximumPacketSize = refl
 
 pub number_small : (i : Identifier) → number i < varint_end
-number_small id.PayloadFormat = omega arith
-number_small id.MessageExpiry = omega arith
+number_small id.PayloadFormatIndicator = omega arith
+number_small id.MessageExpiryInterval = omega arith
 number_small id.ContentType = omega arith
 number_small id.ResponseTopic = omega arith
 number_small id.CorrelationData = omega arith
 number_small id.SubscriptionIdentifier = omega arith
-number_small id.SessionExpiry = omega arith
+number_small id.SessionExpiryInterval = omega arith
 number_small id.AuthenticationMethod = omega arith
 number_small id.AuthenticationData = omega arith
-number_small id.ProblemInformation = omega arith
-number_small id.ResponseInformation = omega arith
+number_small id.RequestProblemInformation = omega arith
+number_small id.RequestResponseInformation = omega arith
 number_small id.ServerReference = omega arith
 number_small id.ReasonString = omega arith
 number_small id.ReceiveMaximum = omega arith
@@ -91,17 +91,17 @@ number_small id.UserProperty = omega arith
 number_small id.MaximumPacketSize = omega arith
 
 pub number_below : (i : Identifier) → number i < IDENTIFIERS
-number_below id.PayloadFormat = omega arith
-number_below id.MessageExpiry = omega arith
+number_below id.PayloadFormatIndicator = omega arith
+number_below id.MessageExpiryInterval = omega arith
 number_below id.ContentType = omega arith
 number_below id.ResponseTopic = omega arith
 number_below id.CorrelationData = omega arith
 number_below id.SubscriptionIdentifier = omega arith
-number_below id.SessionExpiry = omega arith
+number_below id.SessionExpiryInterval = omega arith
 number_below id.AuthenticationMethod = omega arith
 number_below id.AuthenticationData = omega arith
-number_below id.ProblemInformation = omega arith
-number_below id.ResponseInformation = omega arith
+number_below id.RequestProblemInformation = omega arith
+number_below id.RequestResponseInformation = omega arith
 number_below id.ServerReference = omega arith
 number_below id.ReasonString = omega arith
 number_below id.ReceiveMaximum = omega arith
@@ -109,6 +109,14 @@ number_below id.TopicAliasMaximum = omega arith
 number_below id.TopicAlias = omega arith
 number_below id.UserProperty = omega arith
 number_below id.MaximumPacketSize = omega arith
+
+-- no identifier has a number of more than one byte
+pub none_above : (n : ℕ) → 256 ≤ n → identifier_of n ≡ None
+none_above n large = by (identifier_of n) refl
+  where
+    by : (o : Option Identifier) → identifier_of n ≡ o → o ≡ None
+    by None e = refl
+    by (Some i) e = absurd (omega (arith, number_below i, identifier_of_is n i e))
 
 number_same : (i j : Identifier) → number i ≡ number j → i ≡ j
 number_same i j e = some_is i j (sym (identifier_again i) ∙ ap identifier_of e ∙ identifier_again j)
@@ -147,17 +155,17 @@ or_from false true (inl e) = absurd cc
 or_from false true (inr e) = absurd cc
 
 repeats_is_user : (i : Identifier) → may_repeat i ≡ true → i ≡ id.UserProperty
-repeats_is_user id.PayloadFormat e = absurd cc
-repeats_is_user id.MessageExpiry e = absurd cc
+repeats_is_user id.PayloadFormatIndicator e = absurd cc
+repeats_is_user id.MessageExpiryInterval e = absurd cc
 repeats_is_user id.ContentType e = absurd cc
 repeats_is_user id.ResponseTopic e = absurd cc
 repeats_is_user id.CorrelationData e = absurd cc
 repeats_is_user id.SubscriptionIdentifier e = absurd cc
-repeats_is_user id.SessionExpiry e = absurd cc
+repeats_is_user id.SessionExpiryInterval e = absurd cc
 repeats_is_user id.AuthenticationMethod e = absurd cc
 repeats_is_user id.AuthenticationData e = absurd cc
-repeats_is_user id.ProblemInformation e = absurd cc
-repeats_is_user id.ResponseInformation e = absurd cc
+repeats_is_user id.RequestProblemInformation e = absurd cc
+repeats_is_user id.RequestResponseInformation e = absurd cc
 repeats_is_user id.ServerReference e = absurd cc
 repeats_is_user id.ReasonString e = absurd cc
 repeats_is_user id.ReceiveMaximum e = absurd cc
@@ -215,17 +223,17 @@ new_after before [] h one = tt
 new_after before (p ∷ ps) h one = (h.0, new_after (marked before p) ps (all_beside before p ps h.1 one.0) one.1)
 
 none_stood : (i : Identifier) → (may_repeat i || not (slice_index_or none_yet (number i) false)) ≡ true
-none_stood id.PayloadFormat = refl
-none_stood id.MessageExpiry = refl
+none_stood id.PayloadFormatIndicator = refl
+none_stood id.MessageExpiryInterval = refl
 none_stood id.ContentType = refl
 none_stood id.ResponseTopic = refl
 none_stood id.CorrelationData = refl
 none_stood id.SubscriptionIdentifier = refl
-none_stood id.SessionExpiry = refl
+none_stood id.SessionExpiryInterval = refl
 none_stood id.AuthenticationMethod = refl
 none_stood id.AuthenticationData = refl
-none_stood id.ProblemInformation = refl
-none_stood id.ResponseInformation = refl
+none_stood id.RequestProblemInformation = refl
+none_stood id.RequestResponseInformation = refl
 none_stood id.ServerReference = refl
 none_stood id.ReasonString = refl
 none_stood id.ReceiveMaximum = refl

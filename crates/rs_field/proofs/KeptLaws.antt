@@ -7,7 +7,7 @@ use Rattle.std.proofs.lemmas.List.{append-nil}
 use Rattle.rs_field.specs.declared.fault.PacketFault.{PacketFault}
 use Rattle.rs_field.specs.declared.property.Property.{Property}
 use Rattle.rs_field.specs.declared.property.Property.TheVariants as property
-use Rattle.rs_field.specs.Values.{FoundValue, PropertiesValue}
+use Rattle.rs_field.specs.Values.{PacketProperties, PropertiesValue}
 use Rattle.rs_field.specs.Properties.{varint_end, number, identifier, value, property_bytes, counted, nothing, gathered, IsShort, IsSubscriptionId}
 use Rattle.rs_field.specs.Reading.{◌>>=◌, byte_at, number_at, binary_at, varint_at}
 use Rattle.rs_field.specs.Kept.{optional, user_property, replayed}
@@ -16,23 +16,23 @@ use Rattle.rs_field.specs.Bounds.{SectionFits}
 
 -- a property of a message whose value has its form
 abbrev pub HasForm : Property → Type 0
-HasForm (property.Format n) = Unit {0}
-HasForm (property.Expiry n) = n < 2 ^ 32
-HasForm (property.ContentTypeIs t) = IsShort t
-HasForm (property.ResponseTopicIs t) = IsShort t
-HasForm (property.Correlation b) = IsShort b
-HasForm (property.Subscription n) = n < varint_end
-HasForm (property.SessionExpiryIs n) = ⊥
-HasForm (property.Method t) = ⊥
-HasForm (property.Authentication b) = ⊥
-HasForm (property.WantsProblem n) = ⊥
-HasForm (property.WantsResponse n) = ⊥
-HasForm (property.Reason t) = ⊥
-HasForm (property.ReceiveMaximumIs n) = ⊥
-HasForm (property.AliasMaximumIs n) = ⊥
-HasForm (property.Alias n) = ⊥
-HasForm (property.User k v) = IsShort k × IsShort v
-HasForm (property.PacketMaximum n) = ⊥
+HasForm (property.PayloadFormatIndicator n) = Unit {0}
+HasForm (property.MessageExpiryInterval n) = n < 2 ^ 32
+HasForm (property.ContentType t) = IsShort t
+HasForm (property.ResponseTopic t) = IsShort t
+HasForm (property.CorrelationData b) = IsShort b
+HasForm (property.SubscriptionIdentifier n) = n < varint_end
+HasForm (property.SessionExpiryInterval n) = ⊥
+HasForm (property.AuthenticationMethod t) = ⊥
+HasForm (property.AuthenticationData b) = ⊥
+HasForm (property.RequestProblemInformation n) = ⊥
+HasForm (property.RequestResponseInformation n) = ⊥
+HasForm (property.ReasonString t) = ⊥
+HasForm (property.ReceiveMaximum n) = ⊥
+HasForm (property.TopicAliasMaximum n) = ⊥
+HasForm (property.TopicAlias n) = ⊥
+HasForm (property.UserProperty k v) = IsShort k × IsShort v
+HasForm (property.MaximumPacketSize n) = ⊥
 
 abbrev pub HaveForms : List Property → Type 0
 HaveForms [] = Unit {0}
@@ -41,32 +41,32 @@ HaveForms (p ∷ ps) = HasForm p × HaveForms ps
 -- the property with this number whose value is at the front
 abbrev value_back : ℕ → List ℕ → Result (Property × List ℕ) PacketFault
 value_back n bytes =
-    cond (eqb n 0x01) (byte_at bytes >>= λ x. Ok (property.Format x.0, x.1))
-    (cond (eqb n 0x02) (number_at w32 bytes >>= λ x. Ok (property.Expiry x.0, x.1))
-    (cond (eqb n 0x03) (binary_at bytes >>= λ x. Ok (property.ContentTypeIs x.0, x.1))
-    (cond (eqb n 0x08) (binary_at bytes >>= λ x. Ok (property.ResponseTopicIs x.0, x.1))
-    (cond (eqb n 0x09) (binary_at bytes >>= λ x. Ok (property.Correlation x.0, x.1))
-    (cond (eqb n 0x0B) (varint_at bytes >>= λ x. Ok (property.Subscription x.0, x.1))
-    (binary_at bytes >>= λ k. binary_at k.1 >>= λ v. Ok (property.User k.0 v.0, v.1)))))))
+    cond (eqb n 0x01) (byte_at bytes >>= λ x. Ok (property.PayloadFormatIndicator x.0, x.1))
+    (cond (eqb n 0x02) (number_at w32 bytes >>= λ x. Ok (property.MessageExpiryInterval x.0, x.1))
+    (cond (eqb n 0x03) (binary_at bytes >>= λ x. Ok (property.ContentType x.0, x.1))
+    (cond (eqb n 0x08) (binary_at bytes >>= λ x. Ok (property.ResponseTopic x.0, x.1))
+    (cond (eqb n 0x09) (binary_at bytes >>= λ x. Ok (property.CorrelationData x.0, x.1))
+    (cond (eqb n 0x0B) (varint_at bytes >>= λ x. Ok (property.SubscriptionIdentifier x.0, x.1))
+    (binary_at bytes >>= λ k. binary_at k.1 >>= λ v. Ok (property.UserProperty k.0 v.0, v.1)))))))
 
 back_again : (p : Property) (rest : List ℕ) → HasForm p → value_back (number (identifier p)) (value p ++ rest) ≡ Ok (p, rest)
-back_again (property.Format n) rest h = refl
-back_again (property.Expiry n) rest h = rw (number_again w32 (2 ^ 32) wide32 n rest h) refl
-back_again (property.ContentTypeIs t) rest h = rw (binary_again t rest h) refl
-back_again (property.ResponseTopicIs t) rest h = rw (binary_again t rest h) refl
-back_again (property.Correlation b) rest h = rw (binary_again b rest h) refl
-back_again (property.Subscription n) rest h = rw (varint_again n rest h) refl
-back_again (property.SessionExpiryIs n) rest h = absurd h
-back_again (property.Method t) rest h = absurd h
-back_again (property.Authentication b) rest h = absurd h
-back_again (property.WantsProblem n) rest h = absurd h
-back_again (property.WantsResponse n) rest h = absurd h
-back_again (property.Reason t) rest h = absurd h
-back_again (property.ReceiveMaximumIs n) rest h = absurd h
-back_again (property.AliasMaximumIs n) rest h = absurd h
-back_again (property.Alias n) rest h = absurd h
-back_again (property.User k v) rest h = ap (value_back 0x26) (append_assoc (counted k) (counted v) rest) ∙ rw (binary_again k (counted v ++ rest) h.0, binary_again v rest h.1) refl
-back_again (property.PacketMaximum n) rest h = absurd h
+back_again (property.PayloadFormatIndicator n) rest h = refl
+back_again (property.MessageExpiryInterval n) rest h = rw (number_again w32 (2 ^ 32) wide32 n rest h) refl
+back_again (property.ContentType t) rest h = rw (binary_again t rest h) refl
+back_again (property.ResponseTopic t) rest h = rw (binary_again t rest h) refl
+back_again (property.CorrelationData b) rest h = rw (binary_again b rest h) refl
+back_again (property.SubscriptionIdentifier n) rest h = rw (varint_again n rest h) refl
+back_again (property.SessionExpiryInterval n) rest h = absurd h
+back_again (property.AuthenticationMethod t) rest h = absurd h
+back_again (property.AuthenticationData b) rest h = absurd h
+back_again (property.RequestProblemInformation n) rest h = absurd h
+back_again (property.RequestResponseInformation n) rest h = absurd h
+back_again (property.ReasonString t) rest h = absurd h
+back_again (property.ReceiveMaximum n) rest h = absurd h
+back_again (property.TopicAliasMaximum n) rest h = absurd h
+back_again (property.TopicAlias n) rest h = absurd h
+back_again (property.UserProperty k v) rest h = ap (value_back 0x26) (append_assoc (counted k) (counted v) rest) ∙ rw (binary_again k (counted v ++ rest) h.0, binary_again v rest h.1) refl
+back_again (property.MaximumPacketSize n) rest h = absurd h
 
 abbrev with_more : (List ℕ → List Property) → Result (Property × List ℕ) PacketFault → List Property
 with_more more (Ok x) = x.0 ∷ more x.1
@@ -102,11 +102,11 @@ optional_has : {A : Type 0} (make : A → Property) (o : Option A) → IfSome o 
 optional_has make None h = tt
 optional_has make (Some x) h = (h, tt)
 
-any_format : (o : Option ℕ) → IfSome o (λ n. HasForm (property.Format n))
+any_format : (o : Option ℕ) → IfSome o (λ n. HasForm (property.PayloadFormatIndicator n))
 any_format None = tt
 any_format (Some n) = tt
 
-in_range : (o : Option ℕ) → IfSome o IsSubscriptionId → IfSome o (λ n. HasForm (property.Subscription n))
+in_range : (o : Option ℕ) → IfSome o IsSubscriptionId → IfSome o (λ n. HasForm (property.SubscriptionIdentifier n))
 in_range None h = tt
 in_range (Some n) h = h.1
 
@@ -116,17 +116,17 @@ users_have (u ∷ us) h = (h 0 u (omega arith), users_have us (λ k d lt. h (suc
 
 replayed_has : (expiry subscription : Option ℕ) (p : PropertiesValue) → SectionFits expiry subscription p → HaveForms (replayed expiry subscription p)
 replayed_has expiry subscription p h =
-    both_have (optional property.Format p.format) _ (optional_has property.Format p.format (any_format p.format))
-    (both_have (optional property.Expiry expiry) _ (optional_has property.Expiry expiry h.expiry_fits)
-    (both_have (optional property.ContentTypeIs p.content_type) _ (optional_has property.ContentTypeIs p.content_type h.content_type_fits)
-    (both_have (optional property.ResponseTopicIs p.response_topic) _ (optional_has property.ResponseTopicIs p.response_topic h.response_topic_fits)
-    (both_have (optional property.Correlation p.correlation) _ (optional_has property.Correlation p.correlation h.correlation_fits)
-    (both_have (optional property.Subscription subscription) _ (optional_has property.Subscription subscription (in_range subscription h.subscription_fits))
+    both_have (optional property.PayloadFormatIndicator p.format) _ (optional_has property.PayloadFormatIndicator p.format (any_format p.format))
+    (both_have (optional property.MessageExpiryInterval expiry) _ (optional_has property.MessageExpiryInterval expiry h.expiry_fits)
+    (both_have (optional property.ContentType p.content_type) _ (optional_has property.ContentType p.content_type h.content_type_fits)
+    (both_have (optional property.ResponseTopic p.response_topic) _ (optional_has property.ResponseTopic p.response_topic h.response_topic_fits)
+    (both_have (optional property.CorrelationData p.correlation) _ (optional_has property.CorrelationData p.correlation h.correlation_fits)
+    (both_have (optional property.SubscriptionIdentifier subscription) _ (optional_has property.SubscriptionIdentifier subscription (in_range subscription h.subscription_fits))
     (users_have p.user h.user_fits))))))
 
 -- ---- and say what the message has
 
-abbrev said : Option ℕ → Option ℕ → Option (List ℕ) → Option (List ℕ) → Option (List ℕ) → Option ℕ → List (List ℕ × List ℕ) → FoundValue
+abbrev said : Option ℕ → Option ℕ → Option (List ℕ) → Option (List ℕ) → Option (List ℕ) → Option ℕ → List (List ℕ × List ℕ) → PacketProperties
 said format expiry content_type response_topic correlation subscription user = record {
   format = format;
   expiry = expiry;
@@ -143,37 +143,37 @@ said format expiry content_type response_topic correlation subscription user = r
   packet_maximum = None;
 }
 
-format_said : (o : Option ℕ) (ps : List Property) → gathered nothing (optional property.Format o ++ ps) ≡ gathered (said o None None None None None []) ps
+format_said : (o : Option ℕ) (ps : List Property) → gathered nothing (optional property.PayloadFormatIndicator o ++ ps) ≡ gathered (said o None None None None None []) ps
 unfolding gathered
 format_said None ps = refl
 format_said (Some n) ps = refl
 
 module _ (f : Option ℕ) where
-  expiry_said : (o : Option ℕ) (ps : List Property) → gathered (said f None None None None None []) (optional property.Expiry o ++ ps) ≡ gathered (said f o None None None None []) ps
+  expiry_said : (o : Option ℕ) (ps : List Property) → gathered (said f None None None None None []) (optional property.MessageExpiryInterval o ++ ps) ≡ gathered (said f o None None None None []) ps
   unfolding gathered
   expiry_said None ps = refl
   expiry_said (Some n) ps = refl
 
 module _ (f e : Option ℕ) where
-  content_type_said : (o : Option (List ℕ)) (ps : List Property) → gathered (said f e None None None None []) (optional property.ContentTypeIs o ++ ps) ≡ gathered (said f e o None None None []) ps
+  content_type_said : (o : Option (List ℕ)) (ps : List Property) → gathered (said f e None None None None []) (optional property.ContentType o ++ ps) ≡ gathered (said f e o None None None []) ps
   unfolding gathered
   content_type_said None ps = refl
   content_type_said (Some t) ps = refl
 
 module _ (f e : Option ℕ) (c : Option (List ℕ)) where
-  response_topic_said : (o : Option (List ℕ)) (ps : List Property) → gathered (said f e c None None None []) (optional property.ResponseTopicIs o ++ ps) ≡ gathered (said f e c o None None []) ps
+  response_topic_said : (o : Option (List ℕ)) (ps : List Property) → gathered (said f e c None None None []) (optional property.ResponseTopic o ++ ps) ≡ gathered (said f e c o None None []) ps
   unfolding gathered
   response_topic_said None ps = refl
   response_topic_said (Some t) ps = refl
 
 module _ (f e : Option ℕ) (c r : Option (List ℕ)) where
-  correlation_said : (o : Option (List ℕ)) (ps : List Property) → gathered (said f e c r None None []) (optional property.Correlation o ++ ps) ≡ gathered (said f e c r o None []) ps
+  correlation_said : (o : Option (List ℕ)) (ps : List Property) → gathered (said f e c r None None []) (optional property.CorrelationData o ++ ps) ≡ gathered (said f e c r o None []) ps
   unfolding gathered
   correlation_said None ps = refl
   correlation_said (Some b) ps = refl
 
 module _ (f e : Option ℕ) (c r b : Option (List ℕ)) where
-  subscription_said : (o : Option ℕ) (ps : List Property) → gathered (said f e c r b None []) (optional property.Subscription o ++ ps) ≡ gathered (said f e c r b o []) ps
+  subscription_said : (o : Option ℕ) (ps : List Property) → gathered (said f e c r b None []) (optional property.SubscriptionIdentifier o ++ ps) ≡ gathered (said f e c r b o []) ps
   unfolding gathered
   subscription_said None ps = refl
   subscription_said (Some n) ps = refl
@@ -203,7 +203,7 @@ pub section_is : (e s : Option ℕ) (p : PropertiesValue) (f t : Option ℕ) (q 
 section_is e s p f t q h k same =
     let list : replayed e s p ≡ replayed f t q = encoded_is (replayed e s p) (replayed f t q) (replayed_has e s p h) (replayed_has f t q k) same in
     let found : said p.format e p.content_type p.response_topic p.correlation s p.user ≡ said q.format f q.content_type q.response_topic q.correlation t q.user = sym (all_said e s p) ∙ ap (gathered nothing) list ∙ all_said f t q in (
-      ap (λ (v : FoundValue). v.expiry) found,
-      ap (λ (v : FoundValue). v.subscription) found,
-      properties_is p q (ap (λ (v : FoundValue). v.format) found) (ap (λ (v : FoundValue). v.content_type) found) (ap (λ (v : FoundValue). v.response_topic) found) (ap (λ (v : FoundValue). v.correlation) found) (ap (λ (v : FoundValue). v.user) found),
+      ap (λ (v : PacketProperties). v.expiry) found,
+      ap (λ (v : PacketProperties). v.subscription) found,
+      properties_is p q (ap (λ (v : PacketProperties). v.format) found) (ap (λ (v : PacketProperties). v.content_type) found) (ap (λ (v : PacketProperties). v.response_topic) found) (ap (λ (v : PacketProperties). v.correlation) found) (ap (λ (v : PacketProperties). v.user) found),
     )

@@ -13,8 +13,8 @@ use Rattle.rs_field.specs.declared.property.Property.TheVariants as property
 use Rattle.rs_field.specs.declared.property.PropertyOwner.{PropertyOwner}
 use Rattle.rs_topic.specs.Topics.{is_plain}
 use Rattle.rs_field.specs.Properties.{varint, varint_end, number, identifier, value, property_bytes, may_stand, may_repeat, IsInRange, AreAllowed, AreProperties, properties, none_yet, counted, nothing, gathered}
-use Rattle.rs_field.specs.Values.{FoundValue}
-use Rattle.rs_field.specs.Reading.{◌>>=◌, varint_at, byte_at, number_at, part_at, binary_at, text_at, wanting, identifier_of, misplaced, judged, value_at, property_at, properties_in, properties_at, found_at}
+use Rattle.rs_field.specs.Values.{PacketProperties}
+use Rattle.rs_field.specs.Reading.{◌>>=◌, varint_at, byte_at, number_at, part_at, binary_at, text_at, wanting, identifier_of, misplaced, judged, value_at, property_at, properties_in, properties_at, values_at}
 use Rattle.rs_field.proofs.Numbers.{bind_ok, ok_is}
 use Rattle.rs_field.proofs.Identifiers.{identifier_of_is, identifier_again, one_byte, number_small, AreNew, once_when_new, new_when_once}
 use Rattle.rs_field.proofs.Fields.{IsBytes, IsBytes-rest, Takes, Takes-then, wide16, wide32, number_takes, number_again, part_takes, part_again, binary_takes, binary_again, text_takes, text_again, varint_takes, varint_again}
@@ -48,49 +48,49 @@ module _ (i : Identifier) (bytes : List ℕ) (x : Property × List ℕ) (fits : 
 
 pub value_takes : (i : Identifier) (bytes : List ℕ) (x : Property × List ℕ) → IsBytes bytes → value_at i bytes ≡ Ok x → IsTaken i bytes x
 unfolding value_at
-value_takes id.PayloadFormat bytes x fits e = tested_takes _ bytes x fits (byte_at bytes) (λ n. ltb n 2) property.Format (λ y h t. let g = byte_takes bytes y fits h in (refl, g.0, ltb-true _ _ t)) e
-value_takes id.MessageExpiry bytes x fits e = plain_takes _ bytes x fits (number_at w32 bytes) property.Expiry (λ y h. let g = number_takes w32 (2 ^ 32) wide32 bytes y fits h in (refl, g.0, g.1)) e
-value_takes id.ContentType bytes x fits e = plain_takes _ bytes x fits (text_at bytes) property.ContentTypeIs (λ y h. let g = text_takes bytes y fits h in (refl, g.0, g.1)) e
-value_takes id.ResponseTopic bytes x fits e = tested_takes _ bytes x fits (text_at bytes) (λ n. is_plain n) property.ResponseTopicIs (λ y h t. let g = text_takes bytes y fits h in (refl, g.0, (g.1, t))) e
-value_takes id.CorrelationData bytes x fits e = plain_takes _ bytes x fits (binary_at bytes) property.Correlation (λ y h. let g = binary_takes bytes y fits h in (refl, g.0, g.1)) e
-value_takes id.SubscriptionIdentifier bytes x fits e = tested_takes _ bytes x fits (varint_at bytes) (λ n. ltb 0 n) property.Subscription (λ y h t. let g = varint_takes bytes y fits h in (refl, g.0, (ltb-true _ _ t, g.1))) e
-value_takes id.SessionExpiry bytes x fits e = plain_takes _ bytes x fits (number_at w32 bytes) property.SessionExpiryIs (λ y h. let g = number_takes w32 (2 ^ 32) wide32 bytes y fits h in (refl, g.0, g.1)) e
-value_takes id.AuthenticationMethod bytes x fits e = plain_takes _ bytes x fits (text_at bytes) property.Method (λ y h. let g = text_takes bytes y fits h in (refl, g.0, g.1)) e
-value_takes id.AuthenticationData bytes x fits e = plain_takes _ bytes x fits (binary_at bytes) property.Authentication (λ y h. let g = binary_takes bytes y fits h in (refl, g.0, g.1)) e
-value_takes id.ProblemInformation bytes x fits e = tested_takes _ bytes x fits (byte_at bytes) (λ n. ltb n 2) property.WantsProblem (λ y h t. let g = byte_takes bytes y fits h in (refl, g.0, ltb-true _ _ t)) e
-value_takes id.ResponseInformation bytes x fits e = tested_takes _ bytes x fits (byte_at bytes) (λ n. ltb n 2) property.WantsResponse (λ y h t. let g = byte_takes bytes y fits h in (refl, g.0, ltb-true _ _ t)) e
+value_takes id.PayloadFormatIndicator bytes x fits e = tested_takes _ bytes x fits (byte_at bytes) (λ n. ltb n 2) property.PayloadFormatIndicator (λ y h t. let g = byte_takes bytes y fits h in (refl, g.0, ltb-true _ _ t)) e
+value_takes id.MessageExpiryInterval bytes x fits e = plain_takes _ bytes x fits (number_at w32 bytes) property.MessageExpiryInterval (λ y h. let g = number_takes w32 (2 ^ 32) wide32 bytes y fits h in (refl, g.0, g.1)) e
+value_takes id.ContentType bytes x fits e = plain_takes _ bytes x fits (text_at bytes) property.ContentType (λ y h. let g = text_takes bytes y fits h in (refl, g.0, g.1)) e
+value_takes id.ResponseTopic bytes x fits e = tested_takes _ bytes x fits (text_at bytes) (λ n. is_plain n) property.ResponseTopic (λ y h t. let g = text_takes bytes y fits h in (refl, g.0, (g.1, t))) e
+value_takes id.CorrelationData bytes x fits e = plain_takes _ bytes x fits (binary_at bytes) property.CorrelationData (λ y h. let g = binary_takes bytes y fits h in (refl, g.0, g.1)) e
+value_takes id.SubscriptionIdentifier bytes x fits e = tested_takes _ bytes x fits (varint_at bytes) (λ n. ltb 0 n) property.SubscriptionIdentifier (λ y h t. let g = varint_takes bytes y fits h in (refl, g.0, (ltb-true _ _ t, g.1))) e
+value_takes id.SessionExpiryInterval bytes x fits e = plain_takes _ bytes x fits (number_at w32 bytes) property.SessionExpiryInterval (λ y h. let g = number_takes w32 (2 ^ 32) wide32 bytes y fits h in (refl, g.0, g.1)) e
+value_takes id.AuthenticationMethod bytes x fits e = plain_takes _ bytes x fits (text_at bytes) property.AuthenticationMethod (λ y h. let g = text_takes bytes y fits h in (refl, g.0, g.1)) e
+value_takes id.AuthenticationData bytes x fits e = plain_takes _ bytes x fits (binary_at bytes) property.AuthenticationData (λ y h. let g = binary_takes bytes y fits h in (refl, g.0, g.1)) e
+value_takes id.RequestProblemInformation bytes x fits e = tested_takes _ bytes x fits (byte_at bytes) (λ n. ltb n 2) property.RequestProblemInformation (λ y h t. let g = byte_takes bytes y fits h in (refl, g.0, ltb-true _ _ t)) e
+value_takes id.RequestResponseInformation bytes x fits e = tested_takes _ bytes x fits (byte_at bytes) (λ n. ltb n 2) property.RequestResponseInformation (λ y h t. let g = byte_takes bytes y fits h in (refl, g.0, ltb-true _ _ t)) e
 value_takes id.ServerReference bytes x fits e = absurd cc
-value_takes id.ReasonString bytes x fits e = plain_takes _ bytes x fits (text_at bytes) property.Reason (λ y h. let g = text_takes bytes y fits h in (refl, g.0, g.1)) e
-value_takes id.ReceiveMaximum bytes x fits e = tested_takes _ bytes x fits (number_at w16 bytes) (λ n. ltb 0 n) property.ReceiveMaximumIs (λ y h t. let g = number_takes w16 (2 ^ 16) wide16 bytes y fits h in (refl, g.0, (ltb-true _ _ t, g.1))) e
-value_takes id.TopicAliasMaximum bytes x fits e = plain_takes _ bytes x fits (number_at w16 bytes) property.AliasMaximumIs (λ y h. let g = number_takes w16 (2 ^ 16) wide16 bytes y fits h in (refl, g.0, g.1)) e
-value_takes id.TopicAlias bytes x fits e = plain_takes _ bytes x fits (number_at w16 bytes) property.Alias (λ y h. let g = number_takes w16 (2 ^ 16) wide16 bytes y fits h in (refl, g.0, g.1)) e
+value_takes id.ReasonString bytes x fits e = plain_takes _ bytes x fits (text_at bytes) property.ReasonString (λ y h. let g = text_takes bytes y fits h in (refl, g.0, g.1)) e
+value_takes id.ReceiveMaximum bytes x fits e = tested_takes _ bytes x fits (number_at w16 bytes) (λ n. ltb 0 n) property.ReceiveMaximum (λ y h t. let g = number_takes w16 (2 ^ 16) wide16 bytes y fits h in (refl, g.0, (ltb-true _ _ t, g.1))) e
+value_takes id.TopicAliasMaximum bytes x fits e = plain_takes _ bytes x fits (number_at w16 bytes) property.TopicAliasMaximum (λ y h. let g = number_takes w16 (2 ^ 16) wide16 bytes y fits h in (refl, g.0, g.1)) e
+value_takes id.TopicAlias bytes x fits e = plain_takes _ bytes x fits (number_at w16 bytes) property.TopicAlias (λ y h. let g = number_takes w16 (2 ^ 16) wide16 bytes y fits h in (refl, g.0, g.1)) e
 value_takes id.UserProperty bytes x fits e =
-    let k = bind_ok (text_at bytes) (λ k. text_at k.1 >>= λ v. Ok (property.User k.0 v.0, v.1)) x e in
-    let v = bind_ok (text_at k.0.1) (λ v. Ok (property.User k.0.0 v.0, v.1)) x k.2 in
+    let k = bind_ok (text_at bytes) (λ k. text_at k.1 >>= λ v. Ok (property.UserProperty k.0 v.0, v.1)) x e in
+    let v = bind_ok (text_at k.0.1) (λ v. Ok (property.UserProperty k.0.0 v.0, v.1)) x k.2 in
     let g = text_takes bytes k.0 fits k.1 in
     let h = text_takes k.0.1 v.0 g.0.rest_fits v.1 in
-    subst (IsTaken id.UserProperty bytes) (ok_is (property.User k.0.0 v.0.0, v.0.1) x v.2) (refl, Takes-then bytes (counted k.0.0) k.0.1 (counted v.0.0) v.0.1 g.0 h.0, (g.1, h.1))
-value_takes id.MaximumPacketSize bytes x fits e = tested_takes _ bytes x fits (number_at w32 bytes) (λ n. ltb 0 n) property.PacketMaximum (λ y h t. let g = number_takes w32 (2 ^ 32) wide32 bytes y fits h in (refl, g.0, (ltb-true _ _ t, g.1))) e
+    subst (IsTaken id.UserProperty bytes) (ok_is (property.UserProperty k.0.0 v.0.0, v.0.1) x v.2) (refl, Takes-then bytes (counted k.0.0) k.0.1 (counted v.0.0) v.0.1 g.0 h.0, (g.1, h.1))
+value_takes id.MaximumPacketSize bytes x fits e = tested_takes _ bytes x fits (number_at w32 bytes) (λ n. ltb 0 n) property.MaximumPacketSize (λ y h t. let g = number_takes w32 (2 ^ 32) wide32 bytes y fits h in (refl, g.0, (ltb-true _ _ t, g.1))) e
 
 pub value_again : (p : Property) (rest : List ℕ) → IsInRange p → value_at (identifier p) (value p ++ rest) ≡ Ok (p, rest)
 unfolding value_at
-value_again (property.Format n) rest h = rw (lt-ltb n 2 h) refl
-value_again (property.Expiry n) rest h = rw (number_again w32 (2 ^ 32) wide32 n rest h) refl
-value_again (property.ContentTypeIs t) rest h = rw (text_again t rest h) refl
-value_again (property.ResponseTopicIs t) rest h = rw (text_again t rest h.0, h.1) refl
-value_again (property.Correlation b) rest h = rw (binary_again b rest h) refl
-value_again (property.Subscription n) rest h = rw (varint_again n rest h.1, lt-ltb 0 n h.0) refl
-value_again (property.SessionExpiryIs n) rest h = rw (number_again w32 (2 ^ 32) wide32 n rest h) refl
-value_again (property.Method t) rest h = rw (text_again t rest h) refl
-value_again (property.Authentication b) rest h = rw (binary_again b rest h) refl
-value_again (property.WantsProblem n) rest h = rw (lt-ltb n 2 h) refl
-value_again (property.WantsResponse n) rest h = rw (lt-ltb n 2 h) refl
-value_again (property.Reason t) rest h = rw (text_again t rest h) refl
-value_again (property.ReceiveMaximumIs n) rest h = rw (number_again w16 (2 ^ 16) wide16 n rest h.1, lt-ltb 0 n h.0) refl
-value_again (property.AliasMaximumIs n) rest h = rw (number_again w16 (2 ^ 16) wide16 n rest h) refl
-value_again (property.Alias n) rest h = rw (number_again w16 (2 ^ 16) wide16 n rest h) refl
-value_again (property.User k v) rest h = ap (value_at id.UserProperty) (append_assoc (counted k) (counted v) rest) ∙ rw (text_again k (counted v ++ rest) h.0, text_again v rest h.1) refl
-value_again (property.PacketMaximum n) rest h = rw (number_again w32 (2 ^ 32) wide32 n rest h.1, lt-ltb 0 n h.0) refl
+value_again (property.PayloadFormatIndicator n) rest h = rw (lt-ltb n 2 h) refl
+value_again (property.MessageExpiryInterval n) rest h = rw (number_again w32 (2 ^ 32) wide32 n rest h) refl
+value_again (property.ContentType t) rest h = rw (text_again t rest h) refl
+value_again (property.ResponseTopic t) rest h = rw (text_again t rest h.0, h.1) refl
+value_again (property.CorrelationData b) rest h = rw (binary_again b rest h) refl
+value_again (property.SubscriptionIdentifier n) rest h = rw (varint_again n rest h.1, lt-ltb 0 n h.0) refl
+value_again (property.SessionExpiryInterval n) rest h = rw (number_again w32 (2 ^ 32) wide32 n rest h) refl
+value_again (property.AuthenticationMethod t) rest h = rw (text_again t rest h) refl
+value_again (property.AuthenticationData b) rest h = rw (binary_again b rest h) refl
+value_again (property.RequestProblemInformation n) rest h = rw (lt-ltb n 2 h) refl
+value_again (property.RequestResponseInformation n) rest h = rw (lt-ltb n 2 h) refl
+value_again (property.ReasonString t) rest h = rw (text_again t rest h) refl
+value_again (property.ReceiveMaximum n) rest h = rw (number_again w16 (2 ^ 16) wide16 n rest h.1, lt-ltb 0 n h.0) refl
+value_again (property.TopicAliasMaximum n) rest h = rw (number_again w16 (2 ^ 16) wide16 n rest h) refl
+value_again (property.TopicAlias n) rest h = rw (number_again w16 (2 ^ 16) wide16 n rest h) refl
+value_again (property.UserProperty k v) rest h = ap (value_at id.UserProperty) (append_assoc (counted k) (counted v) rest) ∙ rw (text_again k (counted v ++ rest) h.0, text_again v rest h.1) refl
+value_again (property.MaximumPacketSize n) rest h = rw (number_again w32 (2 ^ 32) wide32 n rest h.1, lt-ltb 0 n h.0) refl
 
 -- ---- identifiers
 
@@ -191,25 +191,25 @@ all_again where_ ps rest h =
 
 -- ---- the properties, by what they say
 
-pub record FoundIn (where_ : PropertyOwner) (bytes : List ℕ) (x : FoundValue × List ℕ) : Type 0 where
+pub record FoundIn (where_ : PropertyOwner) (bytes : List ℕ) (x : PacketProperties × List ℕ) : Type 0 where
   pub ps : List Property
   pub takes : Takes bytes (properties ps) x.1
   pub are : AreProperties where_ ps
   pub says : x.0 ≡ gathered nothing ps
 
-pub found_takes : (where_ : PropertyOwner) (bytes : List ℕ) (x : FoundValue × List ℕ) → IsBytes bytes → found_at where_ bytes ≡ Ok x → FoundIn where_ bytes x
-unfolding found_at
+pub found_takes : (where_ : PropertyOwner) (bytes : List ℕ) (x : PacketProperties × List ℕ) → IsBytes bytes → values_at where_ bytes ≡ Ok x → FoundIn where_ bytes x
+unfolding values_at
 found_takes where_ bytes x fits e =
     let b = bind_ok (properties_at where_ bytes) (λ ps. Ok (gathered nothing ps.0, ps.1)) x e in
     let t = all_take where_ bytes b.0 fits b.1 in
-    let made : FoundValue × List ℕ = (gathered nothing b.0.0, b.0.1) in
+    let made : PacketProperties × List ℕ = (gathered nothing b.0.0, b.0.1) in
     subst (FoundIn where_ bytes) (ok_is made x b.2) (record { ps = b.0.0; takes = t.0; are = t.1; says = refl })
 
-pub found_again : (where_ : PropertyOwner) (ps : List Property) (rest : List ℕ) → AreProperties where_ ps → found_at where_ (properties ps ++ rest) ≡ Ok (gathered nothing ps, rest)
-unfolding found_at
+pub found_again : (where_ : PropertyOwner) (ps : List Property) (rest : List ℕ) → AreProperties where_ ps → values_at where_ (properties ps ++ rest) ≡ Ok (gathered nothing ps, rest)
+unfolding values_at
 found_again where_ ps rest h = rw (all_again where_ ps rest h) refl
 
 -- a section of length 0 is taken at once
-pub found_none : (where_ : PropertyOwner) (bytes rest : List ℕ) → varint_at bytes ≡ Ok (0, rest) → found_at where_ bytes ≡ Ok (nothing, rest)
-unfolding found_at properties_at properties_in gathered
+pub found_none : (where_ : PropertyOwner) (bytes rest : List ℕ) → varint_at bytes ≡ Ok (0, rest) → values_at where_ bytes ≡ Ok (nothing, rest)
+unfolding values_at properties_at properties_in gathered
 found_none where_ bytes rest h = rw (h, le-ltb (length rest) 0 (omega arith)) refl

@@ -5,17 +5,17 @@ use Rattle.rs_field.specs.declared.fault.PacketFault.{PacketFault}
 use Rattle.rs_field.specs.declared.fault.PacketFault.TheVariants.{Malformed, Protocol, TooLarge, Version, NoMemory}
 use Rattle.rs_field.specs.declared.property.PropertyOwner.{PropertyOwner}
 use Rattle.rs_field.specs.declared.property.Property.{Property}
-use Rattle.rs_field.specs.Values.{FoundValue}
+use Rattle.rs_field.specs.Values.{PacketProperties}
 use Rattle.rs_field.specs.Properties.{gathered, put, number, identifier}
 use Rattle.rs_field.specs.Reading.{◌>>=◌, Fails, gather_on, properties_in, property_at}
 
 -- what was found, and what the rest adds, is the total
-pub record IsOnTheWay (where_ : PropertyOwner) (found : FoundValue) (seen : List Bool) (rest : List ℕ) (total : Result FoundValue PacketFault) : Type 0 where
+pub record IsOnTheWay (where_ : PropertyOwner) (found : PacketProperties) (seen : List Bool) (rest : List ℕ) (total : Result PacketProperties PacketFault) : Type 0 where
   pub fuel : ℕ
   pub enough : length rest ≤ fuel
   pub same : gather_on found (properties_in fuel where_ seen rest) ≡ total
 
-pub more : (where_ : PropertyOwner) (found : FoundValue) (seen : List Bool) (rest : List ℕ) (total : Result FoundValue PacketFault) (p : Property) (after : List ℕ)
+pub more : (where_ : PropertyOwner) (found : PacketProperties) (seen : List Bool) (rest : List ℕ) (total : Result PacketProperties PacketFault) (p : Property) (after : List ℕ)
     → IsOnTheWay where_ found seen rest total → 0 < length rest → property_at where_ seen rest ≡ Ok (p, after) → length after < length rest
     → IsOnTheWay where_ (put found p) (slice_set seen (number (identifier p)) true) after total
 unfolding gathered properties_in
@@ -32,7 +32,7 @@ more where_ found seen (b ∷ bytes) total p after h some read shorter = go h.fu
         let one : gather_on found (properties_in (suc n) where_ seen (b ∷ bytes)) ≡ gather_on (put found p) (properties_in n where_ (slice_set seen (number (identifier p)) true) after) = rw read (regroup (properties_in n where_ (slice_set seen (number (identifier p)) true) after)) in
         record { fuel = n; enough = omega (arith, le, shorter); same = sym one ∙ same }
 
-pub fails : (where_ : PropertyOwner) (found : FoundValue) (seen : List Bool) (rest : List ℕ) (total : Result FoundValue PacketFault) (e : PacketFault)
+pub fails : (where_ : PropertyOwner) (found : PacketProperties) (seen : List Bool) (rest : List ℕ) (total : Result PacketProperties PacketFault) (e : PacketFault)
     → IsOnTheWay where_ found seen rest total → 0 < length rest → Fails e (property_at where_ seen rest) → Fails e total
 unfolding properties_in
 fails where_ found seen [] total e h some read = absurd (omega arith)
@@ -52,7 +52,7 @@ fails where_ found seen (b ∷ bytes) total e h some read = go h.fuel h.enough h
         by TooLarge read = sym same ∙ at TooLarge fuel le read
         by Version read = sym same ∙ at Version fuel le read
 
-pub done : (where_ : PropertyOwner) (found : FoundValue) (seen : List Bool) (rest : List ℕ) (total : Result FoundValue PacketFault) → IsOnTheWay where_ found seen rest total → length rest ≡ 0 → total ≡ Ok found
+pub done : (where_ : PropertyOwner) (found : PacketProperties) (seen : List Bool) (rest : List ℕ) (total : Result PacketProperties PacketFault) → IsOnTheWay where_ found seen rest total → length rest ≡ 0 → total ≡ Ok found
 unfolding gathered properties_in
 done where_ found seen (b ∷ bytes) total h none = absurd (omega arith)
 done where_ found seen [] total h none = go h.fuel h.same
@@ -62,7 +62,7 @@ done where_ found seen [] total h none = go h.fuel h.same
     go (suc n) same = sym same
 
 -- a step, with the new values named
-pub stepped : (where_ : PropertyOwner) (found : FoundValue) (seen : List Bool) (rest : List ℕ) (total : Result FoundValue PacketFault) (p : Property) (after : List ℕ) (next : FoundValue) (n : ℕ)
+pub stepped : (where_ : PropertyOwner) (found : PacketProperties) (seen : List Bool) (rest : List ℕ) (total : Result PacketProperties PacketFault) (p : Property) (after : List ℕ) (next : PacketProperties) (n : ℕ)
     → IsOnTheWay where_ found seen rest total → 0 < length rest → property_at where_ seen rest ≡ Ok (p, after) → length after < length rest → next ≡ put found p → n ≡ number (identifier p)
     → IsOnTheWay where_ next (slice_set seen n true) after total
 stepped where_ found seen rest total p after next n h some read shorter is-next is-n = rw (is-next, is-n) (more where_ found seen rest total p after h some read shorter)

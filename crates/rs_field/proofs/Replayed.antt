@@ -10,37 +10,37 @@ use Rattle.rs_field.specs.Properties.{property_bytes}
 
 -- the parts of the properties, one after the other
 pub replayed_parts : (old : List ℕ) (expiry subscription : Option ℕ) (p : PropertiesValue) →
-    ((((((old ++ flat_map property_bytes (optional property.Format p.format)) ++ flat_map property_bytes (optional property.Expiry expiry)) ++ flat_map property_bytes (optional property.ContentTypeIs p.content_type))
-    ++ flat_map property_bytes (optional property.ResponseTopicIs p.response_topic)) ++ flat_map property_bytes (optional property.Correlation p.correlation)) ++ flat_map property_bytes (optional property.Subscription subscription))
+    ((((((old ++ flat_map property_bytes (optional property.PayloadFormatIndicator p.format)) ++ flat_map property_bytes (optional property.MessageExpiryInterval expiry)) ++ flat_map property_bytes (optional property.ContentType p.content_type))
+    ++ flat_map property_bytes (optional property.ResponseTopic p.response_topic)) ++ flat_map property_bytes (optional property.CorrelationData p.correlation)) ++ flat_map property_bytes (optional property.SubscriptionIdentifier subscription))
     ++ flat_map property_bytes (map user_property p.user)
     ≡ old ++ flat_map property_bytes (replayed expiry subscription p)
 replayed_parts old expiry subscription p = simp (flat_map-append, append_assoc) refl
 
 -- if there is no other property
 pub replayed_bare : (old : List ℕ) (expiry subscription : Option ℕ) →
-    (old ++ flat_map property_bytes (optional property.Expiry expiry)) ++ flat_map property_bytes (optional property.Subscription subscription)
+    (old ++ flat_map property_bytes (optional property.MessageExpiryInterval expiry)) ++ flat_map property_bytes (optional property.SubscriptionIdentifier subscription)
     ≡ old ++ flat_map property_bytes (replayed expiry subscription no_properties)
 replayed_bare old expiry subscription = simp (flat_map-append, append_assoc, append-nil) refl
 
-format_len : (o : Option ℕ) → length (flat_map property_bytes (optional property.Format o)) ≡ cond (is_some o) 2 0
+format_len : (o : Option ℕ) → length (flat_map property_bytes (optional property.PayloadFormatIndicator o)) ≡ cond (is_some o) 2 0
 format_len None = refl
 format_len (Some n) = refl
 
-expiry_len : (o : Option ℕ) → length (flat_map property_bytes (optional property.Expiry o)) ≡ cond (is_some o) 5 0
+expiry_len : (o : Option ℕ) → length (flat_map property_bytes (optional property.MessageExpiryInterval o)) ≡ cond (is_some o) 5 0
 expiry_len None = refl
 expiry_len (Some n) = refl
 
 -- the length of the properties, by their parts
 pub length_replayed : (expiry subscription : Option ℕ) (p : PropertiesValue) → length (flat_map property_bytes (replayed expiry subscription p))
-    ≡ cond (is_some p.format) 2 0 + cond (is_some expiry) 5 0 + (length (flat_map property_bytes (optional property.ContentTypeIs p.content_type)) + length (flat_map property_bytes (optional property.ResponseTopicIs p.response_topic)))
-    + (length (flat_map property_bytes (optional property.Correlation p.correlation)) + length (flat_map property_bytes (optional property.Subscription subscription))) + length (flat_map property_bytes (map user_property p.user))
+    ≡ cond (is_some p.format) 2 0 + cond (is_some expiry) 5 0 + (length (flat_map property_bytes (optional property.ContentType p.content_type)) + length (flat_map property_bytes (optional property.ResponseTopic p.response_topic)))
+    + (length (flat_map property_bytes (optional property.CorrelationData p.correlation)) + length (flat_map property_bytes (optional property.SubscriptionIdentifier subscription))) + length (flat_map property_bytes (map user_property p.user))
 length_replayed expiry subscription p =
-    let a = flat_map property_bytes (optional property.Format p.format) in
-    let b = flat_map property_bytes (optional property.Expiry expiry) in
-    let c = flat_map property_bytes (optional property.ContentTypeIs p.content_type) in
-    let d = flat_map property_bytes (optional property.ResponseTopicIs p.response_topic) in
-    let e = flat_map property_bytes (optional property.Correlation p.correlation) in
-    let f = flat_map property_bytes (optional property.Subscription subscription) in
+    let a = flat_map property_bytes (optional property.PayloadFormatIndicator p.format) in
+    let b = flat_map property_bytes (optional property.MessageExpiryInterval expiry) in
+    let c = flat_map property_bytes (optional property.ContentType p.content_type) in
+    let d = flat_map property_bytes (optional property.ResponseTopic p.response_topic) in
+    let e = flat_map property_bytes (optional property.CorrelationData p.correlation) in
+    let f = flat_map property_bytes (optional property.SubscriptionIdentifier subscription) in
     let g = flat_map property_bytes (map user_property p.user) in
     let parts : flat_map property_bytes (replayed expiry subscription p) ≡ (((((a ++ b) ++ c) ++ d) ++ e) ++ f) ++ g = sym (replayed_parts [] expiry subscription p) in
     omega (arith, ap length parts, length-append (((((a ++ b) ++ c) ++ d) ++ e) ++ f) g, length-append ((((a ++ b) ++ c) ++ d) ++ e) f, length-append (((a ++ b) ++ c) ++ d) e, length-append ((a ++ b) ++ c) d, length-append (a ++ b) c, length-append a b, format_len p.format, expiry_len expiry)

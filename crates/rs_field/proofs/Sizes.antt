@@ -9,30 +9,30 @@ use Rattle.rs_field.specs.declared.fault.PacketFault.{PacketFault}
 use Rattle.rs_field.specs.declared.property.Property.{Property}
 use Rattle.rs_field.specs.declared.property.Property.TheVariants as property
 use Rattle.rs_field.specs.declared.property.PropertyOwner.{PropertyOwner}
-use Rattle.rs_field.specs.Values.{FoundValue}
+use Rattle.rs_field.specs.Values.{PacketProperties}
 use Rattle.rs_field.specs.Properties.{low_first, varint, property_bytes, value, IsInRange, AreAllowed, properties, nothing, put, gathered}
 use Rattle.rs_field.specs.Kept.{kept, optional, user_property, replayed}
-use Rattle.rs_field.specs.Bounds.{IsFound}
-use Rattle.rs_field.specs.Reading.{Gives, found_at}
+use Rattle.rs_field.specs.Bounds.{AreInRange}
+use Rattle.rs_field.specs.Reading.{Gives, values_at}
 use Rattle.rs_field.proofs.Fields.{IsBytes}
 use Rattle.rs_field.proofs.PropertyLaws.{found_takes}
 use Rattle.rs_field.proofs.Replayed.{length_replayed}
 
 -- how many bytes the properties that a message keeps take
-abbrev pub size : FoundValue → ℕ
+abbrev pub size : PacketProperties → ℕ
 size f = length (flat_map property_bytes (replayed f.expiry None (kept f)))
 
-sizes : (f : FoundValue) → size f
-    ≡ cond (is_some f.format) 2 0 + cond (is_some f.expiry) 5 0 + (length (flat_map property_bytes (optional property.ContentTypeIs f.content_type)) + length (flat_map property_bytes (optional property.ResponseTopicIs f.response_topic)))
-    + length (flat_map property_bytes (optional property.Correlation f.correlation)) + length (flat_map property_bytes (map user_property f.user))
+sizes : (f : PacketProperties) → size f
+    ≡ cond (is_some f.format) 2 0 + cond (is_some f.expiry) 5 0 + (length (flat_map property_bytes (optional property.ContentType f.content_type)) + length (flat_map property_bytes (optional property.ResponseTopic f.response_topic)))
+    + length (flat_map property_bytes (optional property.CorrelationData f.correlation)) + length (flat_map property_bytes (map user_property f.user))
 sizes f = omega (arith, length_replayed f.expiry None (kept f))
 
 one_len : (p : Property) → length (flat_map property_bytes (p ∷ [])) ≡ length (property_bytes p)
 one_len p = omega (arith, length-append (value p) [])
 
-users_len : (us : List (List ℕ × List ℕ)) (k v : List ℕ) → length (flat_map property_bytes (map user_property (us ++ (k, v) ∷ []))) ≡ length (flat_map property_bytes (map user_property us)) + length (property_bytes (property.User k v))
+users_len : (us : List (List ℕ × List ℕ)) (k v : List ℕ) → length (flat_map property_bytes (map user_property (us ++ (k, v) ∷ []))) ≡ length (flat_map property_bytes (map user_property us)) + length (property_bytes (property.UserProperty k v))
 users_len us k v =
-    let one : Property = property.User k v in
+    let one : Property = property.UserProperty k v in
     ap (λ (ps : List Property). length (flat_map property_bytes ps)) (map-append user_property us ((k, v) ∷ []))
     ∙ ap length (flat_map-append property_bytes (map user_property us) (one ∷ []))
     ∙ length-append (flat_map property_bytes (map user_property us)) (flat_map property_bytes (one ∷ []))
@@ -42,26 +42,26 @@ few : (b : Bool) (n : ℕ) → cond b n 0 ≤ n
 few true n = omega arith
 few false n = omega arith
 
-pub put_size : (f : FoundValue) (p : Property) → size (put f p) ≤ size f + length (property_bytes p)
-put_size f (property.Format n) = omega (arith, sizes f, sizes (put f (property.Format n)))
-put_size f (property.Expiry n) = omega (arith, sizes f, sizes (put f (property.Expiry n)))
-put_size f (property.ContentTypeIs t) = omega (arith, sizes f, sizes (put f (property.ContentTypeIs t)), one_len (property.ContentTypeIs t))
-put_size f (property.ResponseTopicIs t) = omega (arith, sizes f, sizes (put f (property.ResponseTopicIs t)), one_len (property.ResponseTopicIs t))
-put_size f (property.Correlation b) = omega (arith, sizes f, sizes (put f (property.Correlation b)), one_len (property.Correlation b))
-put_size f (property.Subscription n) = omega arith
-put_size f (property.SessionExpiryIs n) = omega arith
-put_size f (property.Method t) = omega arith
-put_size f (property.Authentication b) = omega arith
-put_size f (property.WantsProblem n) = omega arith
-put_size f (property.WantsResponse n) = omega arith
-put_size f (property.Reason t) = omega arith
-put_size f (property.ReceiveMaximumIs n) = omega arith
-put_size f (property.AliasMaximumIs n) = omega arith
-put_size f (property.Alias n) = omega arith
-put_size f (property.User k v) = omega (arith, sizes f, sizes (put f (property.User k v)), users_len f.user k v)
-put_size f (property.PacketMaximum n) = omega arith
+pub put_size : (f : PacketProperties) (p : Property) → size (put f p) ≤ size f + length (property_bytes p)
+put_size f (property.PayloadFormatIndicator n) = omega (arith, sizes f, sizes (put f (property.PayloadFormatIndicator n)))
+put_size f (property.MessageExpiryInterval n) = omega (arith, sizes f, sizes (put f (property.MessageExpiryInterval n)))
+put_size f (property.ContentType t) = omega (arith, sizes f, sizes (put f (property.ContentType t)), one_len (property.ContentType t))
+put_size f (property.ResponseTopic t) = omega (arith, sizes f, sizes (put f (property.ResponseTopic t)), one_len (property.ResponseTopic t))
+put_size f (property.CorrelationData b) = omega (arith, sizes f, sizes (put f (property.CorrelationData b)), one_len (property.CorrelationData b))
+put_size f (property.SubscriptionIdentifier n) = omega arith
+put_size f (property.SessionExpiryInterval n) = omega arith
+put_size f (property.AuthenticationMethod t) = omega arith
+put_size f (property.AuthenticationData b) = omega arith
+put_size f (property.RequestProblemInformation n) = omega arith
+put_size f (property.RequestResponseInformation n) = omega arith
+put_size f (property.ReasonString t) = omega arith
+put_size f (property.ReceiveMaximum n) = omega arith
+put_size f (property.TopicAliasMaximum n) = omega arith
+put_size f (property.TopicAlias n) = omega arith
+put_size f (property.UserProperty k v) = omega (arith, sizes f, sizes (put f (property.UserProperty k v)), users_len f.user k v)
+put_size f (property.MaximumPacketSize n) = omega arith
 
-pub gathered_size : (f : FoundValue) (ps : List Property) → size (gathered f ps) ≤ size f + length (flat_map property_bytes ps)
+pub gathered_size : (f : PacketProperties) (ps : List Property) → size (gathered f ps) ≤ size f + length (flat_map property_bytes ps)
 unfolding gathered
 gathered_size f [] = omega arith
 gathered_size f (p ∷ ps) = omega (arith, gathered_size (put f p) ps, put_size f p, length-append (value p) (flat_map property_bytes ps))
@@ -95,40 +95,40 @@ properties_le ps qs le =
 
 -- ---- the ranges
 
-put_found : (f : FoundValue) (p : Property) → IsFound f → IsInRange p → IsFound (put f p)
-put_found f (property.Format n) h r = record { short = h.short; maxima = h.maxima }
-put_found f (property.Expiry n) h r = record { short = h.short; maxima = h.maxima }
-put_found f (property.ContentTypeIs t) h r = record { short = h.short; maxima = h.maxima }
-put_found f (property.ResponseTopicIs t) h r = record { short = h.short; maxima = h.maxima }
-put_found f (property.Correlation b) h r = record { short = r; maxima = h.maxima }
-put_found f (property.Subscription n) h r = record { short = h.short; maxima = h.maxima }
-put_found f (property.SessionExpiryIs n) h r = record { short = h.short; maxima = h.maxima }
-put_found f (property.Method t) h r = record { short = h.short; maxima = h.maxima }
-put_found f (property.Authentication b) h r = record { short = h.short; maxima = h.maxima }
-put_found f (property.WantsProblem n) h r = h
-put_found f (property.WantsResponse n) h r = h
-put_found f (property.Reason t) h r = h
-put_found f (property.ReceiveMaximumIs n) h r = record { short = h.short; maxima = record { receive_fits = r.0; packet_fits = h.maxima.packet_fits } }
-put_found f (property.AliasMaximumIs n) h r = h
-put_found f (property.Alias n) h r = record { short = h.short; maxima = h.maxima }
-put_found f (property.User k v) h r = record { short = h.short; maxima = h.maxima }
-put_found f (property.PacketMaximum n) h r = record { short = h.short; maxima = record { receive_fits = h.maxima.receive_fits; packet_fits = r.0 } }
+put_found : (f : PacketProperties) (p : Property) → AreInRange f → IsInRange p → AreInRange (put f p)
+put_found f (property.PayloadFormatIndicator n) h r = record { short = h.short; maxima = h.maxima }
+put_found f (property.MessageExpiryInterval n) h r = record { short = h.short; maxima = h.maxima }
+put_found f (property.ContentType t) h r = record { short = h.short; maxima = h.maxima }
+put_found f (property.ResponseTopic t) h r = record { short = h.short; maxima = h.maxima }
+put_found f (property.CorrelationData b) h r = record { short = r; maxima = h.maxima }
+put_found f (property.SubscriptionIdentifier n) h r = record { short = h.short; maxima = h.maxima }
+put_found f (property.SessionExpiryInterval n) h r = record { short = h.short; maxima = h.maxima }
+put_found f (property.AuthenticationMethod t) h r = record { short = h.short; maxima = h.maxima }
+put_found f (property.AuthenticationData b) h r = record { short = h.short; maxima = h.maxima }
+put_found f (property.RequestProblemInformation n) h r = h
+put_found f (property.RequestResponseInformation n) h r = h
+put_found f (property.ReasonString t) h r = h
+put_found f (property.ReceiveMaximum n) h r = record { short = h.short; maxima = record { receive_fits = r.0; packet_fits = h.maxima.packet_fits } }
+put_found f (property.TopicAliasMaximum n) h r = h
+put_found f (property.TopicAlias n) h r = record { short = h.short; maxima = h.maxima }
+put_found f (property.UserProperty k v) h r = record { short = h.short; maxima = h.maxima }
+put_found f (property.MaximumPacketSize n) h r = record { short = h.short; maxima = record { receive_fits = h.maxima.receive_fits; packet_fits = r.0 } }
 
-gathered_found : (where_ : PropertyOwner) (f : FoundValue) (ps : List Property) → IsFound f → AreAllowed where_ ps → IsFound (gathered f ps)
+gathered_found : (where_ : PropertyOwner) (f : PacketProperties) (ps : List Property) → AreInRange f → AreAllowed where_ ps → AreInRange (gathered f ps)
 unfolding gathered
 gathered_found where_ f [] h a = h
 gathered_found where_ f (p ∷ ps) h a = gathered_found where_ (put f p) ps (put_found f p h a.1) a.2
 
-nothing_found : IsFound nothing
+nothing_found : AreInRange nothing
 nothing_found = record { short = tt; maxima = record { receive_fits = tt; packet_fits = tt } }
 
 -- ---- what a reader of properties learns
 
-pub record FoundFits (bytes : List ℕ) (f : FoundValue) (rest : List ℕ) : Type 0 where
-  pub fits : IsFound f
+pub record FoundFits (bytes : List ℕ) (f : PacketProperties) (rest : List ℕ) : Type 0 where
+  pub fits : AreInRange f
   pub size_fits : length (properties (replayed f.expiry None (kept f))) + length rest ≤ length bytes
 
-pub found_fits : (where_ : PropertyOwner) (bytes : List ℕ) (f : FoundValue) (rest : List ℕ) → IsBytes bytes → found_at where_ bytes ≡ Ok (f, rest) → FoundFits bytes f rest
+pub found_fits : (where_ : PropertyOwner) (bytes : List ℕ) (f : PacketProperties) (rest : List ℕ) → IsBytes bytes → values_at where_ bytes ≡ Ok (f, rest) → FoundFits bytes f rest
 found_fits where_ bytes f rest fits e =
     let g = found_takes where_ bytes (f, rest) fits e in
     let made : FoundFits bytes (gathered nothing g.ps) rest = record {
@@ -137,13 +137,13 @@ found_fits where_ bytes f rest fits e =
           let inner : size (gathered nothing g.ps) ≤ length (flat_map property_bytes g.ps) = all_size g.ps in
           omega (arith, properties_le (replayed (gathered nothing g.ps).expiry None (kept (gathered nothing g.ps))) g.ps inner, ap length g.takes.parts, length-append (properties g.ps) rest);
     } in
-    subst (λ (v : FoundValue). FoundFits bytes v rest) (sym g.says) made
+    subst (λ (v : PacketProperties). FoundFits bytes v rest) (sym g.says) made
 
-pub found_is : (where_ : PropertyOwner) (bytes rest : List ℕ) (r : Result FoundValue PacketFault) → IsBytes bytes → Gives (λ f. (f, rest)) r (found_at where_ bytes) → IfOk r (λ f. IsFound f)
+pub found_is : (where_ : PropertyOwner) (bytes rest : List ℕ) (r : Result PacketProperties PacketFault) → IsBytes bytes → Gives (λ f. (f, rest)) r (values_at where_ bytes) → IfOk r (λ f. AreInRange f)
 found_is where_ bytes rest (Ok f) fits e = (found_fits where_ bytes f rest fits e).fits
 found_is where_ bytes rest (Err d) fits e = tt
 
-pub found_size : (where_ : PropertyOwner) (bytes rest : List ℕ) (r : Result FoundValue PacketFault) → IsBytes bytes → Gives (λ f. (f, rest)) r (found_at where_ bytes)
+pub found_size : (where_ : PropertyOwner) (bytes rest : List ℕ) (r : Result PacketProperties PacketFault) → IsBytes bytes → Gives (λ f. (f, rest)) r (values_at where_ bytes)
     → IfOk r (λ f. length (properties (replayed f.expiry None (kept f))) + length rest ≤ length bytes)
 found_size where_ bytes rest (Ok f) fits e = (found_fits where_ bytes f rest fits e).size_fits
 found_size where_ bytes rest (Err d) fits e = tt

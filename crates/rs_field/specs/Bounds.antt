@@ -1,12 +1,12 @@
 -- What the types of properties keep, and what is known of properties that were read.
 use Rattle.std.specs.Prelude.{ℕ, ◌<◌, ◌^◌, Option, IfSome}
 use Rattle.std.specs.List.{All}
-use Rattle.rs_field.specs.Values.{PropertiesValue, FoundValue}
+use Rattle.rs_field.specs.Values.{PropertiesValue, PacketProperties}
 use Rattle.rs_field.specs.Forms.{IsShort, IsSubscriptionId}
 
 -- 3.3.2.3.6: correlation data are binary data
 abbrev pub AreKept : PropertiesValue → Type 0
-AreKept p = IfSome p.correlation IsShort
+AreKept properties = IfSome properties.correlation IsShort
 
 abbrev pub IsSome : ℕ → Type 0
 IsSome n = 0 < n
@@ -17,15 +17,15 @@ pub record MaximaFit (receive packet : Option ℕ) : Type 0 where
   pub packet_fits : IfSome packet IsSome
 
 -- the values of the properties of a packet, each in its range
-pub record IsFound (f : FoundValue) : Type 0 where
-  pub short : IfSome f.correlation IsShort
-  pub maxima : MaximaFit f.receive_maximum f.packet_maximum
+pub record AreInRange (values : PacketProperties) : Type 0 where
+  pub short : IfSome values.correlation IsShort
+  pub maxima : MaximaFit values.receive_maximum values.packet_maximum
 
 -- the properties of a PUBLISH have their forms (1.5.3, 1.5.4, 1.5.6, 3.8.2.1.2)
-pub record SectionFits (expiry subscription : Option ℕ) (p : PropertiesValue) : Type 0 where
+pub record SectionFits (expiry subscription : Option ℕ) (properties : PropertiesValue) : Type 0 where
   pub expiry_fits : IfSome expiry (λ n. n < 2 ^ 32)
-  pub content_type_fits : IfSome p.content_type IsShort
-  pub response_topic_fits : IfSome p.response_topic IsShort
-  pub correlation_fits : IfSome p.correlation IsShort
+  pub content_type_fits : IfSome properties.content_type IsShort
+  pub response_topic_fits : IfSome properties.response_topic IsShort
+  pub correlation_fits : IfSome properties.correlation IsShort
   pub subscription_fits : IfSome subscription IsSubscriptionId
-  pub user_fits : All (λ pair. IsShort pair.0 × IsShort pair.1) p.user
+  pub user_fits : All (λ pair. IsShort pair.0 × IsShort pair.1) properties.user

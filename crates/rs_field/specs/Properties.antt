@@ -10,7 +10,7 @@ use Rattle.rs_field.specs.declared.property.PropertyOwner.{PropertyOwner}
 use Rattle.rs_field.specs.declared.property.PropertyOwner.TheVariants as owner
 use Rattle.rs_topic.specs.Texts.{IsText}
 use Rattle.rs_topic.specs.Topics.{is_plain}
-use Rattle.rs_field.specs.Values.{FoundValue}
+use Rattle.rs_field.specs.Values.{PacketProperties}
 unfoldable pub use Rattle.rs_field.specs.Forms.{low_first}
 pub use Rattle.rs_field.specs.Forms.{varint, varint_end, two, four, counted, IsShort, IsSubscriptionId}
 
@@ -18,17 +18,17 @@ pub use Rattle.rs_field.specs.Forms.{varint, varint_end, two, four, counted, IsS
 
 -- table 2-4
 abbrev pub number : Identifier → ℕ
-number id.PayloadFormat = 0x01
-number id.MessageExpiry = 0x02
+number id.PayloadFormatIndicator = 0x01
+number id.MessageExpiryInterval = 0x02
 number id.ContentType = 0x03
 number id.ResponseTopic = 0x08
 number id.CorrelationData = 0x09
 number id.SubscriptionIdentifier = 0x0B
-number id.SessionExpiry = 0x11
+number id.SessionExpiryInterval = 0x11
 number id.AuthenticationMethod = 0x15
 number id.AuthenticationData = 0x16
-number id.ProblemInformation = 0x17
-number id.ResponseInformation = 0x19
+number id.RequestProblemInformation = 0x17
+number id.RequestResponseInformation = 0x19
 number id.ServerReference = 0x1C
 number id.ReasonString = 0x1F
 number id.ReceiveMaximum = 0x21
@@ -38,63 +38,63 @@ number id.UserProperty = 0x26
 number id.MaximumPacketSize = 0x27
 
 abbrev pub identifier : Property → Identifier
-identifier (property.Format n) = id.PayloadFormat
-identifier (property.Expiry n) = id.MessageExpiry
-identifier (property.ContentTypeIs t) = id.ContentType
-identifier (property.ResponseTopicIs t) = id.ResponseTopic
-identifier (property.Correlation b) = id.CorrelationData
-identifier (property.Subscription n) = id.SubscriptionIdentifier
-identifier (property.SessionExpiryIs n) = id.SessionExpiry
-identifier (property.Method t) = id.AuthenticationMethod
-identifier (property.Authentication b) = id.AuthenticationData
-identifier (property.WantsProblem n) = id.ProblemInformation
-identifier (property.WantsResponse n) = id.ResponseInformation
-identifier (property.Reason t) = id.ReasonString
-identifier (property.ReceiveMaximumIs n) = id.ReceiveMaximum
-identifier (property.AliasMaximumIs n) = id.TopicAliasMaximum
-identifier (property.Alias n) = id.TopicAlias
-identifier (property.User k v) = id.UserProperty
-identifier (property.PacketMaximum n) = id.MaximumPacketSize
+identifier (property.PayloadFormatIndicator n) = id.PayloadFormatIndicator
+identifier (property.MessageExpiryInterval n) = id.MessageExpiryInterval
+identifier (property.ContentType t) = id.ContentType
+identifier (property.ResponseTopic t) = id.ResponseTopic
+identifier (property.CorrelationData b) = id.CorrelationData
+identifier (property.SubscriptionIdentifier n) = id.SubscriptionIdentifier
+identifier (property.SessionExpiryInterval n) = id.SessionExpiryInterval
+identifier (property.AuthenticationMethod t) = id.AuthenticationMethod
+identifier (property.AuthenticationData b) = id.AuthenticationData
+identifier (property.RequestProblemInformation n) = id.RequestProblemInformation
+identifier (property.RequestResponseInformation n) = id.RequestResponseInformation
+identifier (property.ReasonString t) = id.ReasonString
+identifier (property.ReceiveMaximum n) = id.ReceiveMaximum
+identifier (property.TopicAliasMaximum n) = id.TopicAliasMaximum
+identifier (property.TopicAlias n) = id.TopicAlias
+identifier (property.UserProperty k v) = id.UserProperty
+identifier (property.MaximumPacketSize n) = id.MaximumPacketSize
 
 -- the bytes of its value
 abbrev pub value : Property → List ℕ
-value (property.Format n) = n ∷ []
-value (property.Expiry n) = four n
-value (property.ContentTypeIs t) = counted t
-value (property.ResponseTopicIs t) = counted t
-value (property.Correlation b) = counted b
-value (property.Subscription n) = varint n
-value (property.SessionExpiryIs n) = four n
-value (property.Method t) = counted t
-value (property.Authentication b) = counted b
-value (property.WantsProblem n) = n ∷ []
-value (property.WantsResponse n) = n ∷ []
-value (property.Reason t) = counted t
-value (property.ReceiveMaximumIs n) = two n
-value (property.AliasMaximumIs n) = two n
-value (property.Alias n) = two n
-value (property.User k v) = counted k ++ counted v
-value (property.PacketMaximum n) = four n
+value (property.PayloadFormatIndicator n) = n ∷ []
+value (property.MessageExpiryInterval n) = four n
+value (property.ContentType t) = counted t
+value (property.ResponseTopic t) = counted t
+value (property.CorrelationData b) = counted b
+value (property.SubscriptionIdentifier n) = varint n
+value (property.SessionExpiryInterval n) = four n
+value (property.AuthenticationMethod t) = counted t
+value (property.AuthenticationData b) = counted b
+value (property.RequestProblemInformation n) = n ∷ []
+value (property.RequestResponseInformation n) = n ∷ []
+value (property.ReasonString t) = counted t
+value (property.ReceiveMaximum n) = two n
+value (property.TopicAliasMaximum n) = two n
+value (property.TopicAlias n) = two n
+value (property.UserProperty k v) = counted k ++ counted v
+value (property.MaximumPacketSize n) = four n
 
 -- the values that it may have: 3.3.2.3.2, 3.3.2.3.5, 3.8.2.1.2, 3.1.2.11.3, 3.1.2.11.4, 3.1.2.11.6, 3.1.2.11.7
 abbrev pub IsInRange : Property → Type 0
-IsInRange (property.Format n) = n < 2
-IsInRange (property.Expiry n) = n < 2 ^ 32
-IsInRange (property.ContentTypeIs t) = IsText t
-IsInRange (property.ResponseTopicIs t) = IsText t × (is_plain t ≡ true)
-IsInRange (property.Correlation b) = IsShort b
-IsInRange (property.Subscription n) = IsSubscriptionId n
-IsInRange (property.SessionExpiryIs n) = n < 2 ^ 32
-IsInRange (property.Method t) = IsText t
-IsInRange (property.Authentication b) = IsShort b
-IsInRange (property.WantsProblem n) = n < 2
-IsInRange (property.WantsResponse n) = n < 2
-IsInRange (property.Reason t) = IsText t
-IsInRange (property.ReceiveMaximumIs n) = (0 < n) × (n < 2 ^ 16)
-IsInRange (property.AliasMaximumIs n) = n < 2 ^ 16
-IsInRange (property.Alias n) = n < 2 ^ 16
-IsInRange (property.User k v) = IsText k × IsText v
-IsInRange (property.PacketMaximum n) = (0 < n) × (n < 2 ^ 32)
+IsInRange (property.PayloadFormatIndicator n) = n < 2
+IsInRange (property.MessageExpiryInterval n) = n < 2 ^ 32
+IsInRange (property.ContentType t) = IsText t
+IsInRange (property.ResponseTopic t) = IsText t × (is_plain t ≡ true)
+IsInRange (property.CorrelationData b) = IsShort b
+IsInRange (property.SubscriptionIdentifier n) = IsSubscriptionId n
+IsInRange (property.SessionExpiryInterval n) = n < 2 ^ 32
+IsInRange (property.AuthenticationMethod t) = IsText t
+IsInRange (property.AuthenticationData b) = IsShort b
+IsInRange (property.RequestProblemInformation n) = n < 2
+IsInRange (property.RequestResponseInformation n) = n < 2
+IsInRange (property.ReasonString t) = IsText t
+IsInRange (property.ReceiveMaximum n) = (0 < n) × (n < 2 ^ 16)
+IsInRange (property.TopicAliasMaximum n) = n < 2 ^ 16
+IsInRange (property.TopicAlias n) = n < 2 ^ 16
+IsInRange (property.UserProperty k v) = IsText k × IsText v
+IsInRange (property.MaximumPacketSize n) = (0 < n) × (n < 2 ^ 32)
 
 -- 2.2.2: the identifier, and the value
 abbrev pub property_bytes : Property → List ℕ
@@ -102,17 +102,17 @@ property_bytes p = number (identifier p) ∷ value p
 
 -- table 2-4: which packet may have which property of a client
 abbrev pub may_stand : PropertyOwner → Identifier → Bool
-may_stand owner.Connect id.SessionExpiry = true
+may_stand owner.Connect id.SessionExpiryInterval = true
 may_stand owner.Connect id.AuthenticationMethod = true
 may_stand owner.Connect id.AuthenticationData = true
-may_stand owner.Connect id.ProblemInformation = true
-may_stand owner.Connect id.ResponseInformation = true
+may_stand owner.Connect id.RequestProblemInformation = true
+may_stand owner.Connect id.RequestResponseInformation = true
 may_stand owner.Connect id.ReceiveMaximum = true
 may_stand owner.Connect id.TopicAliasMaximum = true
 may_stand owner.Connect id.MaximumPacketSize = true
 may_stand owner.Connect id.UserProperty = true
-may_stand owner.Publish id.PayloadFormat = true
-may_stand owner.Publish id.MessageExpiry = true
+may_stand owner.Publish id.PayloadFormatIndicator = true
+may_stand owner.Publish id.MessageExpiryInterval = true
 may_stand owner.Publish id.ContentType = true
 may_stand owner.Publish id.ResponseTopic = true
 may_stand owner.Publish id.CorrelationData = true
@@ -123,7 +123,7 @@ may_stand owner.Acknowledgement id.UserProperty = true
 may_stand owner.Subscribe id.SubscriptionIdentifier = true
 may_stand owner.Subscribe id.UserProperty = true
 may_stand owner.Unsubscribe id.UserProperty = true
-may_stand owner.Disconnect id.SessionExpiry = true
+may_stand owner.Disconnect id.SessionExpiryInterval = true
 may_stand owner.Disconnect id.ReasonString = true
 may_stand owner.Disconnect id.UserProperty = true
 may_stand _ _ = false
@@ -165,7 +165,7 @@ properties ps = varint (length (flat_map property_bytes ps)) ++ flat_map propert
 
 -- ---- their values
 
-abbrev pub nothing : FoundValue
+abbrev pub nothing : PacketProperties
 nothing = record {
   format = None;
   expiry = None;
@@ -182,25 +182,25 @@ nothing = record {
   packet_maximum = None;
 }
 
-abbrev pub put : FoundValue → Property → FoundValue
-put f (property.Format n) = record f { format = Some n }
-put f (property.Expiry n) = record f { expiry = Some n }
-put f (property.ContentTypeIs t) = record f { content_type = Some t }
-put f (property.ResponseTopicIs t) = record f { response_topic = Some t }
-put f (property.Correlation b) = record f { correlation = Some b }
-put f (property.Subscription n) = record f { subscription = Some n }
-put f (property.SessionExpiryIs n) = record f { session_expiry = Some n }
-put f (property.Method t) = record f { method = Some t }
-put f (property.Authentication b) = record f { authentication = true }
-put f (property.WantsProblem n) = f
-put f (property.WantsResponse n) = f
-put f (property.Reason t) = f
-put f (property.ReceiveMaximumIs n) = record f { receive_maximum = Some n }
-put f (property.AliasMaximumIs n) = f
-put f (property.Alias n) = record f { alias = Some n }
-put f (property.User k v) = record f { user = f.user ++ (k, v) ∷ [] }
-put f (property.PacketMaximum n) = record f { packet_maximum = Some n }
+abbrev pub put : PacketProperties → Property → PacketProperties
+put values (property.PayloadFormatIndicator n) = record values { format = Some n }
+put values (property.MessageExpiryInterval n) = record values { expiry = Some n }
+put values (property.ContentType t) = record values { content_type = Some t }
+put values (property.ResponseTopic t) = record values { response_topic = Some t }
+put values (property.CorrelationData b) = record values { correlation = Some b }
+put values (property.SubscriptionIdentifier n) = record values { subscription = Some n }
+put values (property.SessionExpiryInterval n) = record values { session_expiry = Some n }
+put values (property.AuthenticationMethod t) = record values { method = Some t }
+put values (property.AuthenticationData b) = record values { authentication = true }
+put values (property.RequestProblemInformation n) = values
+put values (property.RequestResponseInformation n) = values
+put values (property.ReasonString t) = values
+put values (property.ReceiveMaximum n) = record values { receive_maximum = Some n }
+put values (property.TopicAliasMaximum n) = values
+put values (property.TopicAlias n) = record values { alias = Some n }
+put values (property.UserProperty k v) = record values { user = values.user ++ (k, v) ∷ [] }
+put values (property.MaximumPacketSize n) = record values { packet_maximum = Some n }
 
-unfoldable pub gathered : FoundValue → List Property → FoundValue
-gathered f [] = f
-gathered f (p ∷ ps) = gathered (put f p) ps
+unfoldable pub gathered : PacketProperties → List Property → PacketProperties
+gathered values [] = values
+gathered values (p ∷ ps) = gathered (put values p) ps

@@ -15,7 +15,7 @@ use Rattle.rs_field.specs.declared.property.PropertyOwner.TheVariants as owner
 use Rattle.rs_topic.specs.Texts.{reads_as_text}
 use Rattle.rs_topic.specs.Topics.{is_plain}
 use Rattle.rs_field.specs.Properties.{number, identifier, may_stand, may_repeat, none_yet, nothing, gathered}
-use Rattle.rs_field.specs.Values.{FoundValue}
+use Rattle.rs_field.specs.Values.{PacketProperties}
 
 infixl 10 ◌>>=◌
 abbrev pub ◌>>=◌ : {A B E : Type 0} → Result A E → (A → Result B E) → Result B E
@@ -90,8 +90,8 @@ wanting false x = Err Protocol
 
 abbrev pub identifiers : List Identifier
 identifiers =
-    id.PayloadFormat ∷ id.MessageExpiry ∷ id.ContentType ∷ id.ResponseTopic ∷ id.CorrelationData ∷ id.SubscriptionIdentifier
-    ∷ id.SessionExpiry ∷ id.AuthenticationMethod ∷ id.AuthenticationData ∷ id.ProblemInformation ∷ id.ResponseInformation
+    id.PayloadFormatIndicator ∷ id.MessageExpiryInterval ∷ id.ContentType ∷ id.ResponseTopic ∷ id.CorrelationData ∷ id.SubscriptionIdentifier
+    ∷ id.SessionExpiryInterval ∷ id.AuthenticationMethod ∷ id.AuthenticationData ∷ id.RequestProblemInformation ∷ id.RequestResponseInformation
     ∷ id.ServerReference ∷ id.ReasonString ∷ id.ReceiveMaximum ∷ id.TopicAliasMaximum ∷ id.TopicAlias ∷ id.UserProperty
     ∷ id.MaximumPacketSize ∷ []
 
@@ -114,24 +114,24 @@ judged where_ before (Some i) =
     else Err Protocol)
 
 unfoldable pub value_at : Identifier → List ℕ → Result (Property × List ℕ) PacketFault
-value_at id.PayloadFormat bytes = byte_at bytes >>= λ n. wanting (nat_lt n.0 2) (property.Format n.0, n.1)
-value_at id.MessageExpiry bytes = number_at w32 bytes >>= λ n. Ok (property.Expiry n.0, n.1)
-value_at id.ContentType bytes = text_at bytes >>= λ t. Ok (property.ContentTypeIs t.0, t.1)
-value_at id.ResponseTopic bytes = text_at bytes >>= λ t. wanting (is_plain t.0) (property.ResponseTopicIs t.0, t.1)
-value_at id.CorrelationData bytes = binary_at bytes >>= λ t. Ok (property.Correlation t.0, t.1)
-value_at id.SubscriptionIdentifier bytes = varint_at bytes >>= λ n. wanting (nat_lt 0 n.0) (property.Subscription n.0, n.1)
-value_at id.SessionExpiry bytes = number_at w32 bytes >>= λ n. Ok (property.SessionExpiryIs n.0, n.1)
-value_at id.AuthenticationMethod bytes = text_at bytes >>= λ t. Ok (property.Method t.0, t.1)
-value_at id.AuthenticationData bytes = binary_at bytes >>= λ t. Ok (property.Authentication t.0, t.1)
-value_at id.ProblemInformation bytes = byte_at bytes >>= λ n. wanting (nat_lt n.0 2) (property.WantsProblem n.0, n.1)
-value_at id.ResponseInformation bytes = byte_at bytes >>= λ n. wanting (nat_lt n.0 2) (property.WantsResponse n.0, n.1)
+value_at id.PayloadFormatIndicator bytes = byte_at bytes >>= λ n. wanting (nat_lt n.0 2) (property.PayloadFormatIndicator n.0, n.1)
+value_at id.MessageExpiryInterval bytes = number_at w32 bytes >>= λ n. Ok (property.MessageExpiryInterval n.0, n.1)
+value_at id.ContentType bytes = text_at bytes >>= λ t. Ok (property.ContentType t.0, t.1)
+value_at id.ResponseTopic bytes = text_at bytes >>= λ t. wanting (is_plain t.0) (property.ResponseTopic t.0, t.1)
+value_at id.CorrelationData bytes = binary_at bytes >>= λ t. Ok (property.CorrelationData t.0, t.1)
+value_at id.SubscriptionIdentifier bytes = varint_at bytes >>= λ n. wanting (nat_lt 0 n.0) (property.SubscriptionIdentifier n.0, n.1)
+value_at id.SessionExpiryInterval bytes = number_at w32 bytes >>= λ n. Ok (property.SessionExpiryInterval n.0, n.1)
+value_at id.AuthenticationMethod bytes = text_at bytes >>= λ t. Ok (property.AuthenticationMethod t.0, t.1)
+value_at id.AuthenticationData bytes = binary_at bytes >>= λ t. Ok (property.AuthenticationData t.0, t.1)
+value_at id.RequestProblemInformation bytes = byte_at bytes >>= λ n. wanting (nat_lt n.0 2) (property.RequestProblemInformation n.0, n.1)
+value_at id.RequestResponseInformation bytes = byte_at bytes >>= λ n. wanting (nat_lt n.0 2) (property.RequestResponseInformation n.0, n.1)
 value_at id.ServerReference bytes = Err Malformed
-value_at id.ReasonString bytes = text_at bytes >>= λ t. Ok (property.Reason t.0, t.1)
-value_at id.ReceiveMaximum bytes = number_at w16 bytes >>= λ n. wanting (nat_lt 0 n.0) (property.ReceiveMaximumIs n.0, n.1)
-value_at id.TopicAliasMaximum bytes = number_at w16 bytes >>= λ n. Ok (property.AliasMaximumIs n.0, n.1)
-value_at id.TopicAlias bytes = number_at w16 bytes >>= λ n. Ok (property.Alias n.0, n.1)
-value_at id.UserProperty bytes = text_at bytes >>= λ k. text_at k.1 >>= λ v. Ok (property.User k.0 v.0, v.1)
-value_at id.MaximumPacketSize bytes = number_at w32 bytes >>= λ n. wanting (nat_lt 0 n.0) (property.PacketMaximum n.0, n.1)
+value_at id.ReasonString bytes = text_at bytes >>= λ t. Ok (property.ReasonString t.0, t.1)
+value_at id.ReceiveMaximum bytes = number_at w16 bytes >>= λ n. wanting (nat_lt 0 n.0) (property.ReceiveMaximum n.0, n.1)
+value_at id.TopicAliasMaximum bytes = number_at w16 bytes >>= λ n. Ok (property.TopicAliasMaximum n.0, n.1)
+value_at id.TopicAlias bytes = number_at w16 bytes >>= λ n. Ok (property.TopicAlias n.0, n.1)
+value_at id.UserProperty bytes = text_at bytes >>= λ k. text_at k.1 >>= λ v. Ok (property.UserProperty k.0 v.0, v.1)
+value_at id.MaximumPacketSize bytes = number_at w32 bytes >>= λ n. wanting (nat_lt 0 n.0) (property.MaximumPacketSize n.0, n.1)
 
 unfoldable pub property_at : PropertyOwner → List Bool → List ℕ → Result (Property × List ℕ) PacketFault
 property_at where_ before bytes = do
@@ -156,10 +156,10 @@ properties_at where_ bytes = do
   Ok (ps, section.1)
 
 -- the values of the properties
-abbrev pub gather_on : FoundValue → Result (List Property) PacketFault → Result FoundValue PacketFault
-gather_on f read = read >>= λ ps. Ok (gathered f ps)
+abbrev pub gather_on : PacketProperties → Result (List Property) PacketFault → Result PacketProperties PacketFault
+gather_on values read = read >>= λ ps. Ok (gathered values ps)
 
-unfoldable pub found_at : PropertyOwner → List ℕ → Result (FoundValue × List ℕ) PacketFault
-found_at where_ bytes = do
+unfoldable pub values_at : PropertyOwner → List ℕ → Result (PacketProperties × List ℕ) PacketFault
+values_at where_ bytes = do
   ps ← properties_at where_ bytes
   Ok (gathered nothing ps.0, ps.1)

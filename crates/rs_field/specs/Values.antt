@@ -1,7 +1,7 @@
 -- What contracts see of the types that hold vectors or keep a bound: the same fields, with lists.
 use Rattle.std.specs.Prelude.{ℕ, List, [], Bool, Option, None}
 
-pub record FoundValue : Type 0 where
+pub record PacketProperties : Type 0 where
   pub format : Option ℕ
   pub expiry : Option ℕ
   pub content_type : Option (List ℕ)

@@ -42,7 +42,7 @@ pub fn read_string(rest: &mut Bytes) -> Result<Text, PacketFault>
     ensures less { OnOk result (length rest.new < length rest.old) }
 {
     let bytes = read_binary(rest)?;
-    match Text::of(bytes) {
+    match Text::from_bytes(bytes) {
         Some(text) => Ok(text),
         None => Err(PacketFault::Malformed),
     }

@@ -10,7 +10,7 @@ use std::sync::Arc;
 
 /// The values of the properties that a message keeps, one by one (3.3.2.3). The correlation data have at most as many bytes as
 /// two bytes of length can say, and the user properties stand in the order received.
-#[derive(Drop)]
+#[derive(Debug, Drop)]
 pub struct PropertyFields {
     /// The Payload Format Indicator (3.3.2.3.2): 0 for bytes, 1 for UTF-8.
     pub format: Option<u8>,
@@ -82,7 +82,7 @@ impl PartialEq for PropertyFields {
 }
 
 /// The properties that a message keeps (3.3.2.3). Copies share their values. Without any property it takes no memory.
-#[derive(Drop)]
+#[derive(Debug, Drop)]
 pub struct Properties {
     fields: Option<Arc<PropertyFields>>,
 }

@@ -6,14 +6,18 @@ ghost use Rattle.rs_field.specs.Forms.{varint_end, IsShort, IsSubscriptionId};
 ghost use Rattle.rs_field.specs.Properties.{nothing, none_yet, properties, property_bytes};
 ghost use Rattle.rs_field.specs.Kept.{kept, replayed, optional, user_property};
 ghost use Rattle.rs_field.specs.Values.{no_properties};
-ghost use Rattle.rs_field.specs.Bounds.{IsFound, SectionFits};
-ghost use Rattle.rs_field.specs.Reading.{Gives, judged, value_at, property_at, properties_in, gather_on, found_at};
+ghost use Rattle.rs_field.specs.Bounds.{AreInRange, SectionFits};
+ghost use Rattle.rs_field.specs.Reading.{Gives, judged, value_at, property_at, properties_in, gather_on, values_at};
 
 use crate::binary::{put_binary, put_string, read_binary, read_part, read_string};
 use crate::fault::PacketFault;
 use crate::kept::{Properties, PropertyFields};
 use crate::number::{put_u32, read_u8, read_u16, read_u32};
-use crate::property::{Found, IDENTIFIERS, Identifier, Property, PropertyOwner};
+use crate::property::{
+    CONTENT_TYPE, CORRELATION_DATA, IDENTIFIERS, Identifier, MESSAGE_EXPIRY_INTERVAL,
+    PAYLOAD_FORMAT_INDICATOR, Property, PropertyOwner, PropertyValues, RESPONSE_TOPIC,
+    SUBSCRIPTION_IDENTIFIER, USER_PROPERTY,
+};
 use crate::subscription::SubscriptionId;
 use crate::varint::{put_varint, read_varint, varint_len};
 use bytes::Bytes;
@@ -53,69 +57,69 @@ fn read_value(rest: &mut Bytes, id: Identifier) -> Result<Property, PacketFault>
     ensures shorter { length rest.new ≤ length rest.old }
 {
     let property = match id {
-        Identifier::PayloadFormat => {
+        Identifier::PayloadFormatIndicator => {
             let n = read_u8(rest)?;
             if n > 1 {
                 return Err(PacketFault::Protocol);
             }
-            Property::Format(n)
+            Property::PayloadFormatIndicator(n)
         }
-        Identifier::MessageExpiry => Property::Expiry(read_u32(rest)?),
-        Identifier::ContentType => Property::ContentTypeIs(read_string(rest)?),
+        Identifier::MessageExpiryInterval => Property::MessageExpiryInterval(read_u32(rest)?),
+        Identifier::ContentType => Property::ContentType(read_string(rest)?),
         Identifier::ResponseTopic => {
             let t = read_string(rest)?;
             if !t.is_plain() {
                 return Err(PacketFault::Protocol);
             }
-            Property::ResponseTopicIs(t)
+            Property::ResponseTopic(t)
         }
-        Identifier::CorrelationData => Property::Correlation(read_binary(rest)?),
+        Identifier::CorrelationData => Property::CorrelationData(read_binary(rest)?),
         Identifier::SubscriptionIdentifier => {
             let n = read_varint(rest)?;
             match SubscriptionId::new(n) {
-                Some(id) => Property::Subscription(id),
+                Some(id) => Property::SubscriptionIdentifier(id),
                 None => return Err(PacketFault::Protocol),
             }
         }
-        Identifier::SessionExpiry => Property::SessionExpiryIs(read_u32(rest)?),
-        Identifier::AuthenticationMethod => Property::Method(read_string(rest)?),
-        Identifier::AuthenticationData => Property::Authentication(read_binary(rest)?),
-        Identifier::ProblemInformation => {
+        Identifier::SessionExpiryInterval => Property::SessionExpiryInterval(read_u32(rest)?),
+        Identifier::AuthenticationMethod => Property::AuthenticationMethod(read_string(rest)?),
+        Identifier::AuthenticationData => Property::AuthenticationData(read_binary(rest)?),
+        Identifier::RequestProblemInformation => {
             let n = read_u8(rest)?;
             if n > 1 {
                 return Err(PacketFault::Protocol);
             }
-            Property::WantsProblem(n)
+            Property::RequestProblemInformation(n)
         }
-        Identifier::ResponseInformation => {
+        Identifier::RequestResponseInformation => {
             let n = read_u8(rest)?;
             if n > 1 {
                 return Err(PacketFault::Protocol);
             }
-            Property::WantsResponse(n)
+            Property::RequestResponseInformation(n)
         }
         Identifier::ServerReference => return Err(PacketFault::Malformed),
-        Identifier::ReasonString => Property::Reason(read_string(rest)?),
+        Identifier::ReasonString => Property::ReasonString(read_string(rest)?),
         Identifier::ReceiveMaximum => {
             let n = read_u16(rest)?;
             if n == 0 {
                 return Err(PacketFault::Protocol);
             }
-            Property::ReceiveMaximumIs(n)
+            Property::ReceiveMaximum(n)
         }
-        Identifier::TopicAliasMaximum => Property::AliasMaximumIs(read_u16(rest)?),
-        Identifier::TopicAlias => Property::Alias(read_u16(rest)?),
+        Identifier::TopicAliasMaximum => Property::TopicAliasMaximum(read_u16(rest)?),
+        Identifier::TopicAlias => Property::TopicAlias(read_u16(rest)?),
         Identifier::UserProperty => {
             let k = read_string(rest)?;
             let v = read_string(rest)?;
-            Property::User(k, v)
+            Property::UserProperty(k, v)
         }
         Identifier::MaximumPacketSize => {
             let n = read_u32(rest)?;
             if n == 0 {
                 return Err(PacketFault::Protocol);
             }
-            Property::PacketMaximum(n)
+            Property::MaximumPacketSize(n)
         }
     };
     Ok(property)
@@ -131,14 +135,18 @@ fn read_property(
     ensures shorter { OnOk result (length rest.new < length rest.old) }
 {
     let number = read_varint(rest)?;
-    let id = judge(Identifier::of(number), owner, seen)?;
+    let id = judge(Identifier::from_number(number), owner, seen)?;
     read_value(rest, id)
 }
 
-fn found_in(alloc: Global, section: Bytes, owner: PropertyOwner) -> Result<Found, PacketFault>
+fn values_in(
+    alloc: Global,
+    section: Bytes,
+    owner: PropertyOwner,
+) -> Result<PropertyValues, PacketFault>
     ensures { Gives (λ f. f) result (gather_on nothing (properties_in (length section) owner none_yet section)) }
 {
-    let mut found = Found::new(alloc);
+    let mut found = PropertyValues::new(alloc);
     let mut seen = [false; IDENTIFIERS];
     let mut rest = section;
     'next: while !rest.is_empty() {
@@ -154,16 +162,20 @@ fn note_octets(bytes: &[u8])
     ensures { (i : ℕ) → slice_index bytes.now i < 256 }
 {}
 
-#[tactic(auto, unfolding(crate::specs::Reading::found_at, crate::specs::Reading::properties_at))]
-fn read_section(alloc: Global, rest: &mut Bytes, owner: PropertyOwner) -> Result<Found, PacketFault>
-    ensures { Gives (λ f. (f, rest.new)) result (found_at owner rest.old) }
+#[tactic(auto, unfolding(crate::specs::Reading::values_at, crate::specs::Reading::properties_at))]
+fn read_section(
+    alloc: Global,
+    rest: &mut Bytes,
+    owner: PropertyOwner,
+) -> Result<PropertyValues, PacketFault>
+    ensures { Gives (λ f. (f, rest.new)) result (values_at owner rest.old) }
 {
     let len = read_varint(rest)?;
     if len == 0 {
-        return Ok(Found::new(alloc));
+        return Ok(PropertyValues::new(alloc));
     }
     let section = read_part(rest, len as usize)?;
-    found_in(alloc, section, owner)
+    values_in(alloc, section, owner)
 }
 
 /// Reads the properties of a packet of this kind (2.2.2): their length, and each of them.
@@ -175,9 +187,9 @@ pub fn read_properties(
     alloc: Global,
     rest: &mut Bytes,
     owner: PropertyOwner,
-) -> Result<Found, PacketFault>
-    ensures read { Gives (λ f. (f, rest.new)) result (found_at owner rest.old) }
-    ensures fits { IfOk result (λ f. IsFound f) }
+) -> Result<PropertyValues, PacketFault>
+    ensures read { Gives (λ f. (f, rest.new)) result (values_at owner rest.old) }
+    ensures fits { IfOk result (λ f. AreInRange f) }
     // What a message keeps of them takes no more bytes than they do.
     ensures size { IfOk result (λ f. length (properties (replayed f.expiry None (kept f))) + length rest.new ≤ length rest.old) }
 {
@@ -186,39 +198,39 @@ pub fn read_properties(
 }
 
 fn put_format(out: &mut Vec<u8>, format: Option<u8>) -> Result<(), AllocError>
-    ensures { OnOk result (out.new.items ≡ out.old.items ++ flat_map property_bytes (optional Property.Format format)) }
+    ensures { OnOk result (out.new.items ≡ out.old.items ++ flat_map property_bytes (optional Property.PayloadFormatIndicator format)) }
 {
     if let Some(n) = format {
-        out.extend_from_slice(&[0x01, n])?;
+        out.extend_from_slice(&[PAYLOAD_FORMAT_INDICATOR, n])?;
     }
     Ok(())
 }
 
 fn put_expiry(out: &mut Vec<u8>, expiry: Option<u32>) -> Result<(), AllocError>
-    ensures { OnOk result (out.new.items ≡ out.old.items ++ flat_map property_bytes (optional Property.Expiry expiry)) }
+    ensures { OnOk result (out.new.items ≡ out.old.items ++ flat_map property_bytes (optional Property.MessageExpiryInterval expiry)) }
 {
     if let Some(n) = expiry {
-        out.push(0x02)?;
+        out.push(MESSAGE_EXPIRY_INTERVAL)?;
         put_u32(out, n)?;
     }
     Ok(())
 }
 
 fn put_content_type(out: &mut Vec<u8>, content_type: &Option<Text>) -> Result<(), AllocError>
-    ensures { OnOk result (out.new.items ≡ out.old.items ++ flat_map property_bytes (optional Property.ContentTypeIs content_type.now)) }
+    ensures { OnOk result (out.new.items ≡ out.old.items ++ flat_map property_bytes (optional Property.ContentType content_type.now)) }
 {
     if let Some(t) = content_type {
-        out.push(0x03)?;
+        out.push(CONTENT_TYPE)?;
         put_string(out, t)?;
     }
     Ok(())
 }
 
 fn put_response_topic(out: &mut Vec<u8>, topic: &Option<Text>) -> Result<(), AllocError>
-    ensures { OnOk result (out.new.items ≡ out.old.items ++ flat_map property_bytes (optional Property.ResponseTopicIs topic.now)) }
+    ensures { OnOk result (out.new.items ≡ out.old.items ++ flat_map property_bytes (optional Property.ResponseTopic topic.now)) }
 {
     if let Some(t) = topic {
-        out.push(0x08)?;
+        out.push(RESPONSE_TOPIC)?;
         put_string(out, t)?;
     }
     Ok(())
@@ -226,10 +238,10 @@ fn put_response_topic(out: &mut Vec<u8>, topic: &Option<Text>) -> Result<(), All
 
 fn put_correlation(out: &mut Vec<u8>, correlation: &Option<Bytes>) -> Result<(), AllocError>
     requires { IfSome correlation.now (λ b. length b < 2 ^ 16) }
-    ensures { OnOk result (out.new.items ≡ out.old.items ++ flat_map property_bytes (optional Property.Correlation correlation.now)) }
+    ensures { OnOk result (out.new.items ≡ out.old.items ++ flat_map property_bytes (optional Property.CorrelationData correlation.now)) }
 {
     if let Some(b) = correlation {
-        out.push(0x09)?;
+        out.push(CORRELATION_DATA)?;
         put_binary(out, b.as_slice())?;
     }
     Ok(())
@@ -238,7 +250,7 @@ fn put_correlation(out: &mut Vec<u8>, correlation: &Option<Bytes>) -> Result<(),
 fn put_pair(out: &mut Vec<u8>, pair: &(Text, Text)) -> Result<(), AllocError>
     ensures { OnOk result (out.new.items ≡ out.old.items ++ property_bytes (user_property pair.now)) }
 {
-    out.push(0x26)?;
+    out.push(USER_PROPERTY)?;
     put_string(out, &pair.0)?;
     put_string(out, &pair.1)?;
     Ok(())
@@ -257,10 +269,10 @@ fn put_subscription(
     out: &mut Vec<u8>,
     subscription: Option<SubscriptionId>,
 ) -> Result<(), AllocError>
-    ensures { OnOk result (out.new.items ≡ out.old.items ++ flat_map property_bytes (optional Property.Subscription subscription)) }
+    ensures { OnOk result (out.new.items ≡ out.old.items ++ flat_map property_bytes (optional Property.SubscriptionIdentifier subscription)) }
 {
     if let Some(id) = subscription {
-        out.push(0x0B)?;
+        out.push(SUBSCRIPTION_IDENTIFIER)?;
         put_varint(out, id.get() as usize)?;
     }
     Ok(())
@@ -338,8 +350,8 @@ fn user_len(user: &[(Text, Text)]) -> usize
 
 /// The number of bytes of a property whose value is a string.
 fn text_len(text: &Option<Text>) -> usize
-    ensures content_type { result ≡ length (flat_map property_bytes (optional Property.ContentTypeIs text.now)) }
-    ensures response_topic { result ≡ length (flat_map property_bytes (optional Property.ResponseTopicIs text.now)) }
+    ensures content_type { result ≡ length (flat_map property_bytes (optional Property.ContentType text.now)) }
+    ensures response_topic { result ≡ length (flat_map property_bytes (optional Property.ResponseTopic text.now)) }
     ensures small { result < 2 ^ 17 }
     ensures fits { IfSome text.now IsShort }
 {
@@ -350,7 +362,7 @@ fn text_len(text: &Option<Text>) -> usize
 }
 
 fn expiry_len(expiry: Option<u32>) -> usize
-    ensures value { result ≡ length (flat_map property_bytes (optional Property.Expiry expiry)) }
+    ensures value { result ≡ length (flat_map property_bytes (optional Property.MessageExpiryInterval expiry)) }
     ensures small { result ≤ 5 }
     ensures fits { IfSome expiry (λ n. n < 2 ^ 32) }
 {
@@ -361,7 +373,7 @@ fn expiry_len(expiry: Option<u32>) -> usize
 }
 
 fn subscription_len(subscription: Option<SubscriptionId>) -> usize
-    ensures value { result ≡ length (flat_map property_bytes (optional Property.Subscription subscription)) }
+    ensures value { result ≡ length (flat_map property_bytes (optional Property.SubscriptionIdentifier subscription)) }
     ensures small { result ≤ 5 }
     ensures fits { IfSome subscription IsSubscriptionId }
 {
@@ -373,7 +385,7 @@ fn subscription_len(subscription: Option<SubscriptionId>) -> usize
 
 fn correlation_len(correlation: &Option<Bytes>) -> usize
     requires { IfSome correlation.now (λ b. length b < 2 ^ 16) }
-    ensures value { result ≡ length (flat_map property_bytes (optional Property.Correlation correlation.now)) }
+    ensures value { result ≡ length (flat_map property_bytes (optional Property.CorrelationData correlation.now)) }
     ensures small { result < 2 ^ 17 }
 {
     match correlation {

@@ -12,20 +12,57 @@ use std::marker::Model;
 /// How many numbers an identifier may have: they are less than this (2.2.2.2).
 pub(crate) const IDENTIFIERS: usize = 40;
 
+// The numbers of the properties that a client may send, and of a Server Reference (2.2.2.2).
+pub(crate) const PAYLOAD_FORMAT_INDICATOR: u8 = 0x01;
+
+pub(crate) const MESSAGE_EXPIRY_INTERVAL: u8 = 0x02;
+
+pub(crate) const CONTENT_TYPE: u8 = 0x03;
+
+pub(crate) const RESPONSE_TOPIC: u8 = 0x08;
+
+pub(crate) const CORRELATION_DATA: u8 = 0x09;
+
+pub(crate) const SUBSCRIPTION_IDENTIFIER: u8 = 0x0B;
+
+pub(crate) const SESSION_EXPIRY_INTERVAL: u8 = 0x11;
+
+pub(crate) const AUTHENTICATION_METHOD: u8 = 0x15;
+
+pub(crate) const AUTHENTICATION_DATA: u8 = 0x16;
+
+pub(crate) const REQUEST_PROBLEM_INFORMATION: u8 = 0x17;
+
+pub(crate) const REQUEST_RESPONSE_INFORMATION: u8 = 0x19;
+
+pub(crate) const SERVER_REFERENCE: u8 = 0x1C;
+
+pub(crate) const REASON_STRING: u8 = 0x1F;
+
+pub(crate) const RECEIVE_MAXIMUM: u8 = 0x21;
+
+pub(crate) const TOPIC_ALIAS_MAXIMUM: u8 = 0x22;
+
+pub(crate) const TOPIC_ALIAS: u8 = 0x23;
+
+pub(crate) const USER_PROPERTY: u8 = 0x26;
+
+pub(crate) const MAXIMUM_PACKET_SIZE: u8 = 0x27;
+
 /// Which property it is (2.2.2.2).
-#[derive(Clone, Copy)]
+#[derive(Clone, Copy, Debug)]
 pub enum Identifier {
-    PayloadFormat,
-    MessageExpiry,
+    PayloadFormatIndicator,
+    MessageExpiryInterval,
     ContentType,
     ResponseTopic,
     CorrelationData,
     SubscriptionIdentifier,
-    SessionExpiry,
+    SessionExpiryInterval,
     AuthenticationMethod,
     AuthenticationData,
-    ProblemInformation,
-    ResponseInformation,
+    RequestProblemInformation,
+    RequestResponseInformation,
     ServerReference,
     ReasonString,
     ReceiveMaximum,
@@ -38,27 +75,27 @@ pub enum Identifier {
 /// A property that a client may send, with its value.
 #[derive(Drop)]
 pub enum Property {
-    Format(u8),
-    Expiry(u32),
-    ContentTypeIs(Text),
-    ResponseTopicIs(Text),
-    Correlation(Bytes),
-    Subscription(SubscriptionId),
-    SessionExpiryIs(u32),
-    Method(Text),
-    Authentication(Bytes),
-    WantsProblem(u8),
-    WantsResponse(u8),
-    Reason(Text),
-    ReceiveMaximumIs(u16),
-    AliasMaximumIs(u16),
-    Alias(u16),
-    User(Text, Text),
-    PacketMaximum(u32),
+    PayloadFormatIndicator(u8),
+    MessageExpiryInterval(u32),
+    ContentType(Text),
+    ResponseTopic(Text),
+    CorrelationData(Bytes),
+    SubscriptionIdentifier(SubscriptionId),
+    SessionExpiryInterval(u32),
+    AuthenticationMethod(Text),
+    AuthenticationData(Bytes),
+    RequestProblemInformation(u8),
+    RequestResponseInformation(u8),
+    ReasonString(Text),
+    ReceiveMaximum(u16),
+    TopicAliasMaximum(u16),
+    TopicAlias(u16),
+    UserProperty(Text, Text),
+    MaximumPacketSize(u32),
 }
 
 /// The packet that properties belong to.
-#[derive(Clone, Copy)]
+#[derive(Clone, Copy, Debug)]
 pub enum PropertyOwner {
     /// A CONNECT (3.1.2.11).
     Connect,
@@ -76,8 +113,8 @@ pub enum PropertyOwner {
 
 /// The property values of one packet; None if absent. What [`read_properties`](crate::read_properties) gives is in the
 /// ranges below.
-#[derive(Drop)]
-pub struct Found {
+#[derive(Debug, Drop)]
+pub struct PropertyValues {
     /// The Payload Format Indicator, 0 or 1 (3.3.2.3.2).
     pub format: Option<u8>,
     /// The Message Expiry Interval, in seconds (3.3.2.3.3).
@@ -106,10 +143,10 @@ pub struct Found {
     pub packet_maximum: Option<u32>,
 }
 
-impl Model for Found {
-    ghost use Rattle.rs_field.specs.Values.{FoundValue};
+impl Model for PropertyValues {
+    ghost use Rattle.rs_field.specs.Values.{PacketProperties};
 
-    ghost Value = { FoundValue };
+    ghost Value = { PacketProperties };
 
     ghost view = { λ f. record {
       format = f.format;
@@ -133,29 +170,32 @@ impl Identifier {
     ghost use Rattle.rs_field.specs.Reading.{identifier_of};
 
     /// The identifier with this number (2.2.2.2).
-    #[tactic(auto, unfolding(crate::specs::Reading::identifier_of))]
-    pub fn of(number: u32) -> Option<Identifier>
+    #[tactic(auto, unfolding(crate::specs::Reading::identifier_of), using(crate::proofs::Identifiers::none_above))]
+    pub fn from_number(number: u32) -> Option<Identifier>
         ensures { result ≡ identifier_of number }
     {
+        let Ok(number) = u8::try_from(number) else {
+            return None;
+        };
         match number {
-            0x01 => Some(Identifier::PayloadFormat),
-            0x02 => Some(Identifier::MessageExpiry),
-            0x03 => Some(Identifier::ContentType),
-            0x08 => Some(Identifier::ResponseTopic),
-            0x09 => Some(Identifier::CorrelationData),
-            0x0B => Some(Identifier::SubscriptionIdentifier),
-            0x11 => Some(Identifier::SessionExpiry),
-            0x15 => Some(Identifier::AuthenticationMethod),
-            0x16 => Some(Identifier::AuthenticationData),
-            0x17 => Some(Identifier::ProblemInformation),
-            0x19 => Some(Identifier::ResponseInformation),
-            0x1C => Some(Identifier::ServerReference),
-            0x1F => Some(Identifier::ReasonString),
-            0x21 => Some(Identifier::ReceiveMaximum),
-            0x22 => Some(Identifier::TopicAliasMaximum),
-            0x23 => Some(Identifier::TopicAlias),
-            0x26 => Some(Identifier::UserProperty),
-            0x27 => Some(Identifier::MaximumPacketSize),
+            PAYLOAD_FORMAT_INDICATOR => Some(Identifier::PayloadFormatIndicator),
+            MESSAGE_EXPIRY_INTERVAL => Some(Identifier::MessageExpiryInterval),
+            CONTENT_TYPE => Some(Identifier::ContentType),
+            RESPONSE_TOPIC => Some(Identifier::ResponseTopic),
+            CORRELATION_DATA => Some(Identifier::CorrelationData),
+            SUBSCRIPTION_IDENTIFIER => Some(Identifier::SubscriptionIdentifier),
+            SESSION_EXPIRY_INTERVAL => Some(Identifier::SessionExpiryInterval),
+            AUTHENTICATION_METHOD => Some(Identifier::AuthenticationMethod),
+            AUTHENTICATION_DATA => Some(Identifier::AuthenticationData),
+            REQUEST_PROBLEM_INFORMATION => Some(Identifier::RequestProblemInformation),
+            REQUEST_RESPONSE_INFORMATION => Some(Identifier::RequestResponseInformation),
+            SERVER_REFERENCE => Some(Identifier::ServerReference),
+            REASON_STRING => Some(Identifier::ReasonString),
+            RECEIVE_MAXIMUM => Some(Identifier::ReceiveMaximum),
+            TOPIC_ALIAS_MAXIMUM => Some(Identifier::TopicAliasMaximum),
+            TOPIC_ALIAS => Some(Identifier::TopicAlias),
+            USER_PROPERTY => Some(Identifier::UserProperty),
+            MAXIMUM_PACKET_SIZE => Some(Identifier::MaximumPacketSize),
             _ => None,
         }
     }
@@ -166,24 +206,24 @@ impl Identifier {
         ensures small { result < IDENTIFIERS }
     {
         match self {
-            Identifier::PayloadFormat => 0x01,
-            Identifier::MessageExpiry => 0x02,
-            Identifier::ContentType => 0x03,
-            Identifier::ResponseTopic => 0x08,
-            Identifier::CorrelationData => 0x09,
-            Identifier::SubscriptionIdentifier => 0x0B,
-            Identifier::SessionExpiry => 0x11,
-            Identifier::AuthenticationMethod => 0x15,
-            Identifier::AuthenticationData => 0x16,
-            Identifier::ProblemInformation => 0x17,
-            Identifier::ResponseInformation => 0x19,
-            Identifier::ServerReference => 0x1C,
-            Identifier::ReasonString => 0x1F,
-            Identifier::ReceiveMaximum => 0x21,
-            Identifier::TopicAliasMaximum => 0x22,
-            Identifier::TopicAlias => 0x23,
-            Identifier::UserProperty => 0x26,
-            Identifier::MaximumPacketSize => 0x27,
+            Identifier::PayloadFormatIndicator => PAYLOAD_FORMAT_INDICATOR,
+            Identifier::MessageExpiryInterval => MESSAGE_EXPIRY_INTERVAL,
+            Identifier::ContentType => CONTENT_TYPE,
+            Identifier::ResponseTopic => RESPONSE_TOPIC,
+            Identifier::CorrelationData => CORRELATION_DATA,
+            Identifier::SubscriptionIdentifier => SUBSCRIPTION_IDENTIFIER,
+            Identifier::SessionExpiryInterval => SESSION_EXPIRY_INTERVAL,
+            Identifier::AuthenticationMethod => AUTHENTICATION_METHOD,
+            Identifier::AuthenticationData => AUTHENTICATION_DATA,
+            Identifier::RequestProblemInformation => REQUEST_PROBLEM_INFORMATION,
+            Identifier::RequestResponseInformation => REQUEST_RESPONSE_INFORMATION,
+            Identifier::ServerReference => SERVER_REFERENCE,
+            Identifier::ReasonString => REASON_STRING,
+            Identifier::ReceiveMaximum => RECEIVE_MAXIMUM,
+            Identifier::TopicAliasMaximum => TOPIC_ALIAS_MAXIMUM,
+            Identifier::TopicAlias => TOPIC_ALIAS,
+            Identifier::UserProperty => USER_PROPERTY,
+            Identifier::MaximumPacketSize => MAXIMUM_PACKET_SIZE,
         }
     }
 
@@ -201,11 +241,11 @@ impl Identifier {
         match owner {
             PropertyOwner::Connect => matches!(
                 self,
-                Identifier::SessionExpiry
+                Identifier::SessionExpiryInterval
                     | Identifier::AuthenticationMethod
                     | Identifier::AuthenticationData
-                    | Identifier::ProblemInformation
-                    | Identifier::ResponseInformation
+                    | Identifier::RequestProblemInformation
+                    | Identifier::RequestResponseInformation
                     | Identifier::ReceiveMaximum
                     | Identifier::TopicAliasMaximum
                     | Identifier::MaximumPacketSize
@@ -213,8 +253,8 @@ impl Identifier {
             ),
             PropertyOwner::Publish => matches!(
                 self,
-                Identifier::PayloadFormat
-                    | Identifier::MessageExpiry
+                Identifier::PayloadFormatIndicator
+                    | Identifier::MessageExpiryInterval
                     | Identifier::ContentType
                     | Identifier::ResponseTopic
                     | Identifier::CorrelationData
@@ -232,7 +272,9 @@ impl Identifier {
             PropertyOwner::Unsubscribe => matches!(self, Identifier::UserProperty),
             PropertyOwner::Disconnect => matches!(
                 self,
-                Identifier::SessionExpiry | Identifier::ReasonString | Identifier::UserProperty
+                Identifier::SessionExpiryInterval
+                    | Identifier::ReasonString
+                    | Identifier::UserProperty
             ),
         }
     }
@@ -246,35 +288,35 @@ impl Property {
         ensures { result ≡ identifier self.now }
     {
         match self {
-            Property::Format(_) => Identifier::PayloadFormat,
-            Property::Expiry(_) => Identifier::MessageExpiry,
-            Property::ContentTypeIs(_) => Identifier::ContentType,
-            Property::ResponseTopicIs(_) => Identifier::ResponseTopic,
-            Property::Correlation(_) => Identifier::CorrelationData,
-            Property::Subscription(_) => Identifier::SubscriptionIdentifier,
-            Property::SessionExpiryIs(_) => Identifier::SessionExpiry,
-            Property::Method(_) => Identifier::AuthenticationMethod,
-            Property::Authentication(_) => Identifier::AuthenticationData,
-            Property::WantsProblem(_) => Identifier::ProblemInformation,
-            Property::WantsResponse(_) => Identifier::ResponseInformation,
-            Property::Reason(_) => Identifier::ReasonString,
-            Property::ReceiveMaximumIs(_) => Identifier::ReceiveMaximum,
-            Property::AliasMaximumIs(_) => Identifier::TopicAliasMaximum,
-            Property::Alias(_) => Identifier::TopicAlias,
-            Property::PacketMaximum(_) => Identifier::MaximumPacketSize,
-            Property::User(_, _) => Identifier::UserProperty,
+            Property::PayloadFormatIndicator(_) => Identifier::PayloadFormatIndicator,
+            Property::MessageExpiryInterval(_) => Identifier::MessageExpiryInterval,
+            Property::ContentType(_) => Identifier::ContentType,
+            Property::ResponseTopic(_) => Identifier::ResponseTopic,
+            Property::CorrelationData(_) => Identifier::CorrelationData,
+            Property::SubscriptionIdentifier(_) => Identifier::SubscriptionIdentifier,
+            Property::SessionExpiryInterval(_) => Identifier::SessionExpiryInterval,
+            Property::AuthenticationMethod(_) => Identifier::AuthenticationMethod,
+            Property::AuthenticationData(_) => Identifier::AuthenticationData,
+            Property::RequestProblemInformation(_) => Identifier::RequestProblemInformation,
+            Property::RequestResponseInformation(_) => Identifier::RequestResponseInformation,
+            Property::ReasonString(_) => Identifier::ReasonString,
+            Property::ReceiveMaximum(_) => Identifier::ReceiveMaximum,
+            Property::TopicAliasMaximum(_) => Identifier::TopicAliasMaximum,
+            Property::TopicAlias(_) => Identifier::TopicAlias,
+            Property::MaximumPacketSize(_) => Identifier::MaximumPacketSize,
+            Property::UserProperty(_, _) => Identifier::UserProperty,
         }
     }
 }
 
-impl Found {
+impl PropertyValues {
     ghost use Rattle.rs_field.specs.Properties.{put, nothing};
 
     /// Creates the values of a packet without properties.
-    pub fn new(alloc: Global) -> Found
+    pub fn new(alloc: Global) -> PropertyValues
         ensures { result ≡ nothing }
     {
-        Found {
+        PropertyValues {
             format: None,
             expiry: None,
             content_type: None,
@@ -300,23 +342,23 @@ impl Found {
         ensures { OnOk result (self.new ≡ put self.old property) }
     {
         match property {
-            Property::Format(n) => self.format = Some(n),
-            Property::Expiry(n) => self.expiry = Some(n),
-            Property::ContentTypeIs(t) => self.content_type = Some(t),
-            Property::ResponseTopicIs(t) => self.response_topic = Some(t),
-            Property::Correlation(b) => self.correlation = Some(b),
-            Property::Subscription(n) => self.subscription = Some(n),
-            Property::SessionExpiryIs(n) => self.session_expiry = Some(n),
-            Property::Method(t) => self.method = Some(t),
-            Property::Authentication(_b) => self.authentication = true,
-            Property::ReceiveMaximumIs(n) => self.receive_maximum = Some(n),
-            Property::Alias(n) => self.alias = Some(n),
-            Property::User(k, v) => self.user.push((k, v))?,
-            Property::PacketMaximum(n) => self.packet_maximum = Some(n),
-            Property::WantsProblem(_n) => {}
-            Property::WantsResponse(_n) => {}
-            Property::Reason(_t) => {}
-            Property::AliasMaximumIs(_n) => {}
+            Property::PayloadFormatIndicator(n) => self.format = Some(n),
+            Property::MessageExpiryInterval(n) => self.expiry = Some(n),
+            Property::ContentType(t) => self.content_type = Some(t),
+            Property::ResponseTopic(t) => self.response_topic = Some(t),
+            Property::CorrelationData(b) => self.correlation = Some(b),
+            Property::SubscriptionIdentifier(n) => self.subscription = Some(n),
+            Property::SessionExpiryInterval(n) => self.session_expiry = Some(n),
+            Property::AuthenticationMethod(t) => self.method = Some(t),
+            Property::AuthenticationData(_b) => self.authentication = true,
+            Property::ReceiveMaximum(n) => self.receive_maximum = Some(n),
+            Property::TopicAlias(n) => self.alias = Some(n),
+            Property::UserProperty(k, v) => self.user.push((k, v))?,
+            Property::MaximumPacketSize(n) => self.packet_maximum = Some(n),
+            Property::RequestProblemInformation(_n) => {}
+            Property::RequestResponseInformation(_n) => {}
+            Property::ReasonString(_t) => {}
+            Property::TopicAliasMaximum(_n) => {}
         }
         Ok(())
     }

@@ -4,7 +4,7 @@ use crate::limits::MAX_REMAINING_LENGTH;
 use std::marker::Model;
 
 /// A Subscription Identifier, from 1 to `MAX_REMAINING_LENGTH` (3.8.2.1.2).
-#[derive(Clone, Copy)]
+#[derive(Clone, Copy, Debug)]
 pub struct SubscriptionId {
     number: u32,
 }

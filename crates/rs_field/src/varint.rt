@@ -9,7 +9,7 @@ use bytes::{Buf, Bytes};
 use std::alloc::AllocError;
 
 /// Why bytes do not begin with a variable byte integer (1.5.5).
-#[derive(Clone, Copy)]
+#[derive(Clone, Copy, Debug)]
 pub enum VarintFault {
     /// They end before it does.
     Short,

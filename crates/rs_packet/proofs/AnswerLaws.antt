@@ -14,8 +14,8 @@ use Rattle.rs_packet.specs.declared.packet.Decoded.{Decoded}
 use Rattle.rs_packet.specs.declared.packet.Decoded.TheVariants.{Whole, More}
 use Rattle.rs_packet.proofs.PacketLaws.{connect_takes, connect_again, publish_takes, publish_again, acknowledgement_takes, acknowledgement_again, code_takes, code_again, subscribe_takes, subscribe_again, unsubscribe_takes, unsubscribe_again}
 use Rattle.rs_packet.specs.declared.packet.Qos.TheVariants.{AtMostOnce, AtLeastOnce, ExactlyOnce}
-use Rattle.rs_packet.specs.declared.packet.Kind.{Kind}
-use Rattle.rs_packet.specs.declared.packet.Kind.TheVariants as kind
+use Rattle.rs_packet.specs.declared.packet.PacketKind.{PacketKind}
+use Rattle.rs_packet.specs.declared.packet.PacketKind.TheVariants as kind
 use Rattle.rs_packet.specs.declared.packet.Packet.{Packet}
 use Rattle.rs_packet.specs.declared.reply.Reply.{Reply}
 use Rattle.rs_packet.specs.Replies.{EncodesReply, first_byte, reply_body}
@@ -81,7 +81,7 @@ encoded_once a b x y p q h k e =
 -- ---- the first byte
 
 -- 3.3.1.1
-abbrev pub IsKind : Kind → Type 0
+abbrev pub IsKind : PacketKind → Type 0
 IsKind (kind.Publish duplicate qos retain) = qos ≡ AtMostOnce → duplicate ≡ false
 IsKind kind.Connect = Unit {0}
 IsKind kind.Puback = Unit {0}
@@ -93,7 +93,7 @@ IsKind kind.Unsubscribe = Unit {0}
 IsKind kind.Pingreq = Unit {0}
 IsKind kind.Disconnect = Unit {0}
 
-abbrev AreKinds : List Kind → Type 0
+abbrev AreKinds : List PacketKind → Type 0
 AreKinds [] = Unit {0}
 AreKinds (k ∷ ks) = IsKind k × AreKinds ks
 
@@ -103,7 +103,7 @@ are_kinds = (tt, (λ e. refl, (λ e. refl, (λ e. refl, (λ e. refl, (λ e. refl
 some_is : {A : Type 0} (x y : A) → ◌≡◌ {A = Option A} (Some x) (Some y) → x ≡ y
 some_is x y e = cc
 
-found_kind : (test : Kind → Bool) (ks : List Kind) (k : Kind) → AreKinds ks → find test ks ≡ Some k → IsKind k
+found_kind : (test : PacketKind → Bool) (ks : List PacketKind) (k : PacketKind) → AreKinds ks → find test ks ≡ Some k → IsKind k
 found_kind test [] k h e = absurd cc
 found_kind test (j ∷ ks) k h e =
     elim (chosen (test j) (Some j) (find test ks) (Some k) e) [
@@ -111,21 +111,21 @@ found_kind test (j ∷ ks) k h e =
       | inr t ↦ found_kind test ks k h.1 t.1
     ]
 
-kind_found : (o : Option Kind) (first : ℕ) (k : Kind) → kind_or o first ≡ Ok k → o ≡ Some k
-kind_found (Some j) first k e = ap (λ (x : Kind). Some x) (ok_is j k e)
+kind_found : (o : Option PacketKind) (first : ℕ) (k : PacketKind) → kind_or o first ≡ Ok k → o ≡ Some k
+kind_found (Some j) first k e = ap (λ (x : PacketKind). Some x) (ok_is j k e)
 kind_found None first k e = none (list_any (nat_eq first) others) e
   where
     none : (b : Bool) → cond b (Err Protocol) (Err Malformed) ≡ Ok k → None ≡ Some k
     none true e = absurd cc
     none false e = absurd cc
 
-pub kind_is : (first : ℕ) (k : Kind) → kind_of first ≡ Ok k → (head k ≡ first) × IsKind k
+pub kind_is : (first : ℕ) (k : PacketKind) → kind_of first ≡ Ok k → (head k ≡ first) × IsKind k
 unfolding kind_of
 kind_is first k e =
     let f = kind_found (find (λ k. eqb (head k) first) kinds) first k e in
     (eqb-true _ _ (find_passes (λ k. eqb (head k) first) kinds k f), found_kind (λ k. eqb (head k) first) kinds k are_kinds f)
 
-pub kind_again : (k : Kind) → IsKind k → kind_of (head k) ≡ Ok k
+pub kind_again : (k : PacketKind) → IsKind k → kind_of (head k) ≡ Ok k
 unfolding kind_of
 kind_again kind.Connect h = refl
 kind_again (kind.Publish true AtMostOnce retain) h = absurd (let e : ◌≡◌ {A = Bool} true false = h refl in cc)
@@ -150,10 +150,10 @@ kind_again kind.Disconnect h = refl
 
 -- ---- the bodies
 
-made : {A : Type 0} (k : Kind) (body : List ℕ) (read : Result A PacketFault) (make : A → Packet) (p : Packet) → (read >>= λ a. Ok (make a)) ≡ Ok p → ((a : A) → read ≡ Ok a → EncodesBody k body (make a)) → EncodesBody k body p
+made : {A : Type 0} (k : PacketKind) (body : List ℕ) (read : Result A PacketFault) (make : A → Packet) (p : Packet) → (read >>= λ a. Ok (make a)) ≡ Ok p → ((a : A) → read ≡ Ok a → EncodesBody k body (make a)) → EncodesBody k body p
 made k body read make p e f = let b = bind_ok read (λ a. Ok (make a)) p e in subst (EncodesBody k body) (ok_is (make b.0) p b.2) (f b.0 b.1)
 
-pub packet_takes : (k : Kind) (body : List ℕ) (p : Packet) → IsBytes body → IsKind k → packet_at k body ≡ Ok p → EncodesBody k body p
+pub packet_takes : (k : PacketKind) (body : List ℕ) (p : Packet) → IsBytes body → IsKind k → packet_at k body ≡ Ok p → EncodesBody k body p
 unfolding packet_at
 packet_takes kind.Connect body p fits h e = made kind.Connect body (connect_at body) packet.Connect p e (λ a r. EncodesBody.connect (connect_takes body a fits r))
 packet_takes (kind.Publish duplicate qos retain) body p fits h e = made (kind.Publish duplicate qos retain) body (publish_at duplicate qos retain body) packet.Publish p e (λ a r. EncodesBody.publish h (publish_takes duplicate qos retain body a fits r))
@@ -167,7 +167,7 @@ packet_takes kind.Pingreq [] p fits h e = subst (EncodesBody kind.Pingreq []) (o
 packet_takes kind.Pingreq (b ∷ body) p fits h e = absurd cc
 packet_takes kind.Disconnect body p fits h e = made kind.Disconnect body (code_at owner.Disconnect body) packet.Disconnect p e (λ a r. EncodesBody.disconnect (code_takes owner.Disconnect body a fits r))
 
-pub packet_again : (k : Kind) (body : List ℕ) (p : Packet) → EncodesBody k body p → (packet_at k body ≡ Ok p) × IsKind k
+pub packet_again : (k : PacketKind) (body : List ℕ) (p : Packet) → EncodesBody k body p → (packet_at k body ≡ Ok p) × IsKind k
 unfolding packet_at
 packet_again _ body _ (EncodesBody.connect {c = c} h) = (rw (connect_again body c h) refl, tt)
 packet_again _ body _ (EncodesBody.publish {duplicate = d} {retain = t} {qos = q} {p = p} one h) = (rw (publish_again d q t body p h) refl, one)
@@ -182,7 +182,7 @@ packet_again _ body _ (EncodesBody.disconnect {code = c} h) = (rw (code_again ow
 
 -- ---- the whole
 
-body_is_whole : (k : Kind) (bytes body rest : List ℕ) (d : Decoded) → IsKind k → IsBytes rest → (n : ℕ) → n < varint_end → bytes ≡ head k ∷ varint n ++ rest
+body_is_whole : (k : PacketKind) (bytes body rest : List ℕ) (d : Decoded) → IsKind k → IsBytes rest → (n : ℕ) → n < varint_end → bytes ≡ head k ∷ varint n ++ rest
     → body_at k (length bytes - length rest) n rest ≡ Ok d → HasPrefix bytes d
 body_is_whole k bytes body rest d h fits n lt e r =
     let large = tested (ltb MAX_PACKET_SIZE (length bytes - length rest + n)) TooLarge (cond (ltb (length rest) n) (Ok More) (packet_at k (take n rest) >>= λ p. Ok (Whole p (length bytes - length rest + n)))) d r in
@@ -215,7 +215,7 @@ answer_takes (first ∷ bytes) p n fits e =
     let is = kind_is first k.0 k.1 in
     by k.0 is (digits_at 4 bytes) refl k.2
   where
-    by : (k : Kind) → (head k ≡ first) × IsKind k → (r : Result (ℕ × List ℕ) VarintFault) → digits_at 4 bytes ≡ r → sized k bytes r ≡ Ok (Whole p n) → (n ≤ length (first ∷ bytes)) × Encodes (take n (first ∷ bytes)) p
+    by : (k : PacketKind) → (head k ≡ first) × IsKind k → (r : Result (ℕ × List ℕ) VarintFault) → digits_at 4 bytes ≡ r → sized k bytes r ≡ Ok (Whole p n) → (n ≤ length (first ∷ bytes)) × Encodes (take n (first ∷ bytes)) p
     by k is (Err Short) d e = absurd cc
     by k is (Err Bad) d e = absurd cc
     by k is (Ok x) d e =

@@ -9,13 +9,13 @@ use Rattle.rs_field.specs.declared.property.Property.TheVariants as property
 use Rattle.rs_field.specs.Values.{PropertiesValue}
 use Rattle.rs_packet.specs.declared.packet.Qos.{Qos}
 use Rattle.rs_packet.specs.declared.packet.Qos.TheVariants.{AtMostOnce, AtLeastOnce, ExactlyOnce}
-use Rattle.rs_packet.specs.declared.reply.Accepted.{Accepted}
+use Rattle.rs_packet.specs.declared.reply.ConnackAccepted.{ConnackAccepted}
 use Rattle.rs_packet.specs.declared.reply.Publication.{Publication}
 use Rattle.rs_packet.specs.declared.reply.Reply.TheVariants as reply
 use Rattle.rs_packet.specs.Grammar.{IdFits, id_bytes, frame, level}
 use Rattle.rs_field.specs.Kept.{optional, replayed}
 use Rattle.rs_packet.specs.declared.limits.TheConstants.{MAX_PACKET_SIZE}
-use Rattle.rs_packet.specs.Replies.{message_len, publish_remaining, publication_body, reply_bytes, expiry_told, client_told, limits_told, accepting, accepted_body}
+use Rattle.rs_packet.specs.Replies.{message_len, publish_remaining, publication_body, reply_bytes, session_expiry_bytes, assigned_client_bytes, limit_bytes, accepting, accepted_body}
 use Rattle.rs_field.proofs.Replayed.{length_replayed}
 use Rattle.rs_field.proofs.Written.{varint_short}
 use Rattle.rs_field.specs.Properties.{varint, varint_end, property_bytes, counted}
@@ -41,7 +41,7 @@ length_body p =
       length-append (varint (length section)) section,
     )
 
-subscription_short : (o : Option ℕ) → length (flat_map property_bytes (optional property.Subscription o)) ≤ 5
+subscription_short : (o : Option ℕ) → length (flat_map property_bytes (optional property.SubscriptionIdentifier o)) ≤ 5
 subscription_short None = omega arith
 subscription_short (Some n) = omega (arith, varint_short n, ap length (append-nil (varint n)))
 
@@ -124,14 +124,14 @@ length_publish topic qos id subscription expiry kept bytes section quality paylo
 
 -- ---- an accepting CONNACK, by its parts
 
-expiry_told_len : (told : Bool) → length (expiry_told told) ≡ cond told 5 0
-expiry_told_len true = refl
-expiry_told_len false = refl
+session_expiry_length : (told : Bool) → length (session_expiry_bytes told) ≡ cond told 5 0
+session_expiry_length true = refl
+session_expiry_length false = refl
 
-pub length_accepting : (a : Accepted) → length (accepting a) ≡ cond a.session_expiry_zero 5 0 + length (client_told a.assigned_client) + 10
+pub length_accepting : (a : ConnackAccepted) → length (accepting a) ≡ cond a.session_expiry_zero 5 0 + length (assigned_client_bytes a.assigned_client) + 10
 length_accepting a =
-    let limits : length limits_told ≡ 10 = refl in
-    omega (arith, limits, expiry_told_len a.session_expiry_zero, length-append (expiry_told a.session_expiry_zero) (client_told a.assigned_client ++ limits_told), length-append (client_told a.assigned_client) limits_told)
+    let limits : length limit_bytes ≡ 10 = refl in
+    omega (arith, limits, session_expiry_length a.session_expiry_zero, length-append (session_expiry_bytes a.session_expiry_zero) (assigned_client_bytes a.assigned_client ++ limit_bytes), length-append (assigned_client_bytes a.assigned_client) limit_bytes)
 
-pub length_accepted : (a : Accepted) → length (accepted_body a) ≡ 2 + length (varint (length (accepting a))) + length (accepting a)
+pub length_accepted : (a : ConnackAccepted) → length (accepted_body a) ≡ 2 + length (varint (length (accepting a))) + length (accepting a)
 length_accepted a = omega (arith, length-append (varint (length (accepting a))) (accepting a))

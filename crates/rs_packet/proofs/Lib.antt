@@ -1,3 +1,4 @@
+pub mod Quotients
 pub mod ItemLoop
 pub mod PacketLaws
 pub mod AnswerLaws

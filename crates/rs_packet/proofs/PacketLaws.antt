@@ -6,7 +6,7 @@ use Rattle.std.specs.Str.{bytes_eq, is_utf8, chars}
 use lib.Utf8.{encode}
 use Rattle.std.specs.Bool.{Decides}
 use Rattle.std.proofs.lemmas.Slice.Eq.{bytes_eq-Decides}
-use Rattle.rs_packet.specs.declared.packet.Flags.{Flags}
+use Rattle.rs_packet.specs.declared.packet.ConnectFlags.{ConnectFlags}
 use Rattle.rs_packet.specs.declared.packet.Connect.{Connect}
 use Rattle.std.specs.Int.{w16}
 use Rattle.std.proofs.lemmas.Bool.{ltb-true, lt-ltb, eqb-false, eqb-true, ne_eqb}
@@ -24,10 +24,10 @@ use Rattle.rs_packet.specs.declared.packet.Publish.{Publish}
 use Rattle.rs_packet.specs.declared.packet.Acknowledgement.{Acknowledgement}
 use Rattle.rs_topic.specs.Texts.{IsText}
 use Rattle.rs_topic.specs.Topics.{filter_of}
-use Rattle.rs_field.specs.Values.{FoundValue}
+use Rattle.rs_field.specs.Values.{PacketProperties}
 use Rattle.rs_packet.specs.Values.{SubscribeValue, UnsubscribeValue, Asked, Filter}
 use Rattle.rs_field.specs.Properties.{two, counted, IsShort, properties, gathered, nothing, low_first, property_bytes}
-use Rattle.rs_field.specs.Reading.{◌>>=◌, number_at, byte_at, binary_at, text_at, wanting, found_at}
+use Rattle.rs_field.specs.Reading.{◌>>=◌, number_at, byte_at, binary_at, text_at, wanting, values_at}
 use Rattle.rs_packet.specs.Grammar.{bit, level, handling, IsId, IdFits, id_bytes, publication, EncodesPublish, EncodesCode, EncodesAcknowledgement, options_byte, AreTexts, text_of, filter_bytes, asked_of, EncodesSubscribe, EncodesUnsubscribe, protocol, flags_byte, FlagsFit, EncodesIf, EncodesPayload, MethodFits, EncodesConnect}
 use Rattle.rs_packet.specs.PacketReading.{id_at, id_for, publish_at, ended, code_at, acknowledgement_at, qos_of, handling_of, options_of, asked_at, all_in, some_of, subscribe_at, filter_at, unsubscribe_at, mqtt, flags_of, past_text, past_binary, client_at, version_at, connect_at}
 use Rattle.rs_field.proofs.Numbers.{bind_ok, ok_is}
@@ -75,16 +75,16 @@ id_for_again ExactlyOnce (Some n) rest h = rw (id_again n rest h) refl
 pub publish_takes : (duplicate : Bool) (qos : Qos) (retain : Bool) (body : List ℕ) (p : Publish) → IsBytes body → publish_at duplicate qos retain body ≡ Ok p → EncodesPublish duplicate qos retain body p
 unfolding publish_at
 publish_takes duplicate qos retain body p fits e =
-    let topic = bind_ok (text_at body) (λ topic. id_for qos topic.1 >>= λ id. found_at owner.Publish id.1 >>= λ f. Ok (publication duplicate qos retain topic.0 id.0 f.0 f.1)) p e in
-    let id = bind_ok (id_for qos topic.0.1) (λ id. found_at owner.Publish id.1 >>= λ f. Ok (publication duplicate qos retain topic.0.0 id.0 f.0 f.1)) p topic.2 in
-    let f = bind_ok (found_at owner.Publish id.0.1) (λ f. Ok (publication duplicate qos retain topic.0.0 id.0.0 f.0 f.1)) p id.2 in
+    let topic = bind_ok (text_at body) (λ topic. id_for qos topic.1 >>= λ id. values_at owner.Publish id.1 >>= λ f. Ok (publication duplicate qos retain topic.0 id.0 f.0 f.1)) p e in
+    let id = bind_ok (id_for qos topic.0.1) (λ id. values_at owner.Publish id.1 >>= λ f. Ok (publication duplicate qos retain topic.0.0 id.0 f.0 f.1)) p topic.2 in
+    let f = bind_ok (values_at owner.Publish id.0.1) (λ f. Ok (publication duplicate qos retain topic.0.0 id.0.0 f.0 f.1)) p id.2 in
     let t = text_takes body topic.0 fits topic.1 in
     let i = id_for_takes qos topic.0.1 id.0 t.0.rest_fits id.1 in
     let g = found_takes owner.Publish id.0.1 f.0 i.0.rest_fits f.1 in
     let fields : body ≡ counted topic.0.0 ++ (id_bytes id.0.0 ++ (properties g.ps ++ f.0.1)) =
     t.0.parts ∙ ap (λ (r : List ℕ). counted topic.0.0 ++ r) (i.0.parts ∙ ap (λ (r : List ℕ). id_bytes id.0.0 ++ r) g.takes.parts) in
     let made : publication duplicate qos retain topic.0.0 id.0.0 f.0.0 f.0.1 ≡ publication duplicate qos retain topic.0.0 id.0.0 (gathered nothing g.ps) f.0.1 =
-    ap (λ (v : FoundValue). publication duplicate qos retain topic.0.0 id.0.0 v f.0.1) g.says in
+    ap (λ (v : PacketProperties). publication duplicate qos retain topic.0.0 id.0.0 v f.0.1) g.says in
     record {
       topic = topic.0.0;
       id = id.0.0;
@@ -115,7 +115,7 @@ unfolding code_at
 code_takes where_ [] code fits e = subst (EncodesCode where_ []) (ok_is 0 code e) EncodesCode.no_code
 code_takes where_ (c ∷ []) code fits e = subst (EncodesCode where_ (c ∷ [])) (ok_is c code e) (EncodesCode.no_properties (fits 0))
 code_takes where_ (c ∷ b ∷ bytes) code fits e =
-    let f = bind_ok (found_at where_ (b ∷ bytes)) (λ f. ended c f.1) code e in
+    let f = bind_ok (values_at where_ (b ∷ bytes)) (λ f. ended c f.1) code e in
     let end = ended_is c code f.0.1 f.2 in
     let g = found_takes where_ (b ∷ bytes) f.0 (IsBytes-rest c (b ∷ bytes) fits) f.1 in
     let whole : properties g.ps ≡ b ∷ bytes = sym (g.takes.parts ∙ ap (λ (r : List ℕ). properties g.ps ++ r) end.0 ∙ append-nil (properties g.ps)) in
@@ -137,7 +137,7 @@ code_again where_ _ _ (EncodesCode.no_properties h) = refl
 code_again where_ _ _ (EncodesCode.with_properties {code = code} {ps = ps} h are) =
     let v = varint_some 3 (length (flat_map property_bytes ps)) in
     let shape : properties ps ≡ v.0 ∷ (v.1 ++ flat_map property_bytes ps) = ap (λ (r : List ℕ). r ++ flat_map property_bytes ps) v.2 in
-    let read : found_at where_ (v.0 ∷ (v.1 ++ flat_map property_bytes ps)) ≡ Ok (gathered nothing ps, []) = ap (found_at where_) (sym shape ∙ sym (append-nil (properties ps))) ∙ found_again where_ ps [] are in
+    let read : values_at where_ (v.0 ∷ (v.1 ++ flat_map property_bytes ps)) ≡ Ok (gathered nothing ps, []) = ap (values_at where_) (sym shape ∙ sym (append-nil (properties ps))) ∙ found_again where_ ps [] are in
     ap (λ (r : List ℕ). code_at where_ (code ∷ r)) shape ∙ rw read refl
 
 pub acknowledgement_takes : (body : List ℕ) (a : Acknowledgement) → IsBytes body → acknowledgement_at body ≡ Ok a → EncodesAcknowledgement body a
@@ -295,8 +295,8 @@ all_asked_again (suc n) (f ∷ fs) le h =
 pub subscribe_takes : (body : List ℕ) (s : SubscribeValue) → IsBytes body → subscribe_at body ≡ Ok s → EncodesSubscribe body s
 unfolding subscribe_at
 subscribe_takes body s fits e =
-    let id = bind_ok (id_at body) (λ id. found_at owner.Subscribe id.1 >>= λ f. some_of asked_at f.1 >>= λ filters. Ok (record { id = id.0; subscription = f.0.subscription; filters = filters })) s e in
-    let f = bind_ok (found_at owner.Subscribe id.0.1) (λ f. some_of asked_at f.1 >>= λ filters. Ok (record { id = id.0.0; subscription = f.0.subscription; filters = filters })) s id.2 in
+    let id = bind_ok (id_at body) (λ id. values_at owner.Subscribe id.1 >>= λ f. some_of asked_at f.1 >>= λ filters. Ok (record { id = id.0; subscription = f.0.subscription; filters = filters })) s e in
+    let f = bind_ok (values_at owner.Subscribe id.0.1) (λ f. some_of asked_at f.1 >>= λ filters. Ok (record { id = id.0.0; subscription = f.0.subscription; filters = filters })) s id.2 in
     let l = bind_ok (some_of asked_at f.0.1) (λ filters. Ok (record { id = id.0.0; subscription = f.0.0.subscription; filters = filters })) s f.2 in
     let t = id_takes body id.0 fits id.1 in
     let g = found_takes owner.Subscribe id.0.1 f.0 t.0.rest_fits f.1 in
@@ -318,7 +318,7 @@ subscribe_takes body s fits e =
     not_none [] bytes e h = absurd (omega (arith, h, ap length e))
     not_none (f ∷ fs) bytes e h = omega arith
 
-    same : (id : ℕ) (f g : FoundValue) (xs ys : List Asked) → f ≡ g → xs ≡ ys → ◌≡◌ {A = SubscribeValue} (record { id = id; subscription = f.subscription; filters = xs }) (record { id = id; subscription = g.subscription; filters = ys })
+    same : (id : ℕ) (f g : PacketProperties) (xs ys : List Asked) → f ≡ g → xs ≡ ys → ◌≡◌ {A = SubscribeValue} (record { id = id; subscription = f.subscription; filters = xs }) (record { id = id; subscription = g.subscription; filters = ys })
     same id f g xs ys p q = rw (p, q) refl
 
 pub subscribe_again : (body : List ℕ) (s : SubscribeValue) → EncodesSubscribe body s → subscribe_at body ≡ Ok s
@@ -376,8 +376,8 @@ filters_again (suc n) (t ∷ ts) le h =
 pub unsubscribe_takes : (body : List ℕ) (u : UnsubscribeValue) → IsBytes body → unsubscribe_at body ≡ Ok u → EncodesUnsubscribe body u
 unfolding unsubscribe_at
 unsubscribe_takes body u fits e =
-    let id = bind_ok (id_at body) (λ id. found_at owner.Unsubscribe id.1 >>= λ f. some_of filter_at f.1 >>= λ filters. Ok (record { id = id.0; filters = filters })) u e in
-    let f = bind_ok (found_at owner.Unsubscribe id.0.1) (λ f. some_of filter_at f.1 >>= λ filters. Ok (record { id = id.0.0; filters = filters })) u id.2 in
+    let id = bind_ok (id_at body) (λ id. values_at owner.Unsubscribe id.1 >>= λ f. some_of filter_at f.1 >>= λ filters. Ok (record { id = id.0; filters = filters })) u e in
+    let f = bind_ok (values_at owner.Unsubscribe id.0.1) (λ f. some_of filter_at f.1 >>= λ filters. Ok (record { id = id.0.0; filters = filters })) u id.2 in
     let l = bind_ok (some_of filter_at f.0.1) (λ filters. Ok (record { id = id.0.0; filters = filters })) u f.2 in
     let t = id_takes body id.0 fits id.1 in
     let g = found_takes owner.Unsubscribe id.0.1 f.0 t.0.rest_fits f.1 in
@@ -438,10 +438,10 @@ version_takes body rest fits e =
     same : (name : List ℕ) (v : ℕ) → name ≡ mqtt → v ≡ 5 → counted name ++ v ∷ [] ≡ protocol
     same name v p q = rw (p, q) refl
 
-flags_takes : (b : ℕ) (f : Flags) → b < 256 → flags_of b ≡ Ok f → (flags_byte f ≡ b) × FlagsFit f
+flags_takes : (b : ℕ) (f : ConnectFlags) → b < 256 → flags_of b ≡ Ok f → (flags_byte f ≡ b) × FlagsFit f
 unfolding flags_of
 flags_takes b f lt e =
-    let made : Flags = record {
+    let made : ConnectFlags = record {
       user_name = eqb (b / 128) 1;
       password = eqb (b / 64 % 2) 1;
       will_retain = eqb (b / 32 % 2) 1;
@@ -467,7 +467,7 @@ flags_takes b f lt e =
     let r0 : b / 32 % 2 ≡ 0 = omega arith in
     let q0 : b / 8 % 4 ≡ 0 = omega arith in
     (rw r0 refl, rw q0 refl) in
-    subst (λ (g : Flags). (flags_byte g ≡ b) × FlagsFit g) (ok_is made f will.1) (is, fit)
+    subst (λ (g : ConnectFlags). (flags_byte g ≡ b) × FlagsFit g) (ok_is made f will.1) (is, fit)
   where
     tested : {A : Type 0} (t : Bool) (d : PacketFault) (x : Result A PacketFault) (y : A) → cond t (Err d) x ≡ Ok y → (t ≡ false) × (x ≡ Ok y)
     tested true d x y e = absurd cc
@@ -491,7 +491,7 @@ past_binary_takes true bytes rest fits e =
     let g = binary_takes bytes t.0 fits t.1 in
     subst (λ (r : List ℕ). (field : List ℕ) × Takes bytes field r × EncodesIf IsShort true field) (ok_is t.0.1 rest t.2) (counted t.0.0, g.0, EncodesIf.present g.1)
 
-client_takes : (f : Flags) (bytes : List ℕ) (client : Option (List ℕ)) → IsBytes bytes → client_at f bytes ≡ Ok client → EncodesPayload f bytes client
+client_takes : (f : ConnectFlags) (bytes : List ℕ) (client : Option (List ℕ)) → IsBytes bytes → client_at f bytes ≡ Ok client → EncodesPayload f bytes client
 unfolding client_at
 client_takes f bytes client fits e = by f.will refl e
   where
@@ -514,8 +514,8 @@ connect_takes body c fits e =
     let v = bind_ok (version_at body) (λ rest. byte_at rest >>= λ b. flags_of b.0 >>= λ flags. after flags b.1) c e in
     let b = bind_ok (byte_at v.0) (λ b. flags_of b.0 >>= λ flags. after flags b.1) c v.2 in
     let fl = bind_ok (flags_of b.0.0) (λ flags. after flags b.0.1) c b.2 in
-    let k = bind_ok (number_at w16 b.0.1) (λ keep. found_at owner.Connect keep.1 >>= λ f. checked f.0 >>= λ found. client_at fl.0 f.1 >>= λ client. Ok (made fl.0 keep.0 found client)) c fl.2 in
-    let f = bind_ok (found_at owner.Connect k.0.1) (λ f. checked f.0 >>= λ found. client_at fl.0 f.1 >>= λ client. Ok (made fl.0 k.0.0 found client)) c k.2 in
+    let k = bind_ok (number_at w16 b.0.1) (λ keep. values_at owner.Connect keep.1 >>= λ f. checked f.0 >>= λ found. client_at fl.0 f.1 >>= λ client. Ok (made fl.0 keep.0 found client)) c fl.2 in
+    let f = bind_ok (values_at owner.Connect k.0.1) (λ f. checked f.0 >>= λ found. client_at fl.0 f.1 >>= λ client. Ok (made fl.0 k.0.0 found client)) c k.2 in
     let ch = bind_ok (checked f.0.0) (λ found. client_at fl.0 f.0.1 >>= λ client. Ok (made fl.0 k.0.0 found client)) c f.2 in
     let cl = bind_ok (client_at fl.0 f.0.1) (λ client. Ok (made fl.0 k.0.0 ch.0 client)) c ch.2 in
     let tv = version_takes body v.0 fits v.1 in
@@ -529,11 +529,11 @@ connect_takes body c fits e =
     let fields : body ≡ protocol ++ (flags_byte fl.0 ∷ (two k.0.0 ++ (properties g.ps ++ f.0.1))) =
     tv.parts ∙ ap (λ (r : List ℕ). protocol ++ r) (tb.0.parts ∙ ap (λ (x : List ℕ). x ++ b.0.1) byte ∙ ap (λ (r : List ℕ). flags_byte fl.0 ∷ r) (tk.0.parts ∙ ap (λ (r : List ℕ). two k.0.0 ++ r) g.takes.parts)) in
     let is : ch.0 ≡ gathered nothing g.ps = sym m.1 ∙ g.says in
-    let value : made fl.0 k.0.0 ch.0 cl.0 ≡ made fl.0 k.0.0 (gathered nothing g.ps) cl.0 = ap (λ (x : FoundValue). made fl.0 k.0.0 x cl.0) is in
+    let value : made fl.0 k.0.0 ch.0 cl.0 ≡ made fl.0 k.0.0 (gathered nothing g.ps) cl.0 = ap (λ (x : PacketProperties). made fl.0 k.0.0 x cl.0) is in
     subst (EncodesConnect body) (ok_is (made fl.0 k.0.0 ch.0 cl.0) c cl.2)
     (record { flags = fl.0; ps = g.ps; payload = f.0.1; flags_fit = tf.1; keep_alive = tk.1; are_properties = g.are; method = subst MethodFits g.says m.0; has_payload = pay; fields = fields; value = value })
   where
-    made : Flags → ℕ → FoundValue → Option (List ℕ) → Connect
+    made : ConnectFlags → ℕ → PacketProperties → Option (List ℕ) → Connect
     made flags keep found client = record {
       clean_start = flags.clean_start;
       will = flags.will;
@@ -545,13 +545,13 @@ connect_takes body c fits e =
       client = client;
     }
 
-    checked : FoundValue → Result FoundValue PacketFault
+    checked : PacketProperties → Result PacketProperties PacketFault
     checked f = cond (f.authentication && is_none f.method) (Err Protocol) (Ok f)
 
-    after : Flags → List ℕ → Result Connect PacketFault
-    after flags bytes = number_at w16 bytes >>= λ keep. found_at owner.Connect keep.1 >>= λ f. checked f.0 >>= λ found. client_at flags f.1 >>= λ client. Ok (made flags keep.0 found client)
+    after : ConnectFlags → List ℕ → Result Connect PacketFault
+    after flags bytes = number_at w16 bytes >>= λ keep. values_at owner.Connect keep.1 >>= λ f. checked f.0 >>= λ found. client_at flags f.1 >>= λ client. Ok (made flags keep.0 found client)
 
-    method_fits : (f g : FoundValue) → checked f ≡ Ok g → MethodFits f × (f ≡ g)
+    method_fits : (f g : PacketProperties) → checked f ≡ Ok g → MethodFits f × (f ≡ g)
     method_fits f g e = by f.authentication f.method e
       where
         by : (a : Bool) (m : Option (List ℕ)) → cond (a && is_none m) (Err Protocol) (Ok f) ≡ Ok g → (a ≡ true → (t : List ℕ) × (m ≡ Some t)) × (f ≡ g)
@@ -559,7 +559,7 @@ connect_takes body c fits e =
         by true (Some t) e = (λ h. (t, refl), ok_is f g e)
         by false m e = (λ h. absurd cc, ok_is f g e)
 
-abbrev chosen_flags : Bool → Bool → Bool → Qos → Bool → Bool → Flags
+abbrev chosen_flags : Bool → Bool → Bool → Qos → Bool → Bool → ConnectFlags
 chosen_flags u p r q w c = record { user_name = u; password = p; will_retain = r; will_qos = q; will = w; clean_start = c }
 
 flags_back : (u p r : Bool) (q : Qos) (w c : Bool) → FlagsFit (chosen_flags u p r q w c) → flags_of (flags_byte (chosen_flags u p r q w c)) ≡ Ok (chosen_flags u p r q w c)
@@ -624,7 +624,7 @@ flags_back u p true q false c h = absurd (let t : ◌≡◌ {A = Bool} true fals
 flags_back u p false AtLeastOnce false c h = absurd (let t : AtLeastOnce ≡ AtMostOnce = (h refl).1 in cc)
 flags_back u p false ExactlyOnce false c h = absurd (let t : ExactlyOnce ≡ AtMostOnce = (h refl).1 in cc)
 
-flags_again : (f : Flags) → FlagsFit f → flags_of (flags_byte f) ≡ Ok f
+flags_again : (f : ConnectFlags) → FlagsFit f → flags_of (flags_byte f) ≡ Ok f
 flags_again f h = flags_back f.user_name f.password f.will_retain f.will_qos f.will f.clean_start h
 
 mqtt_is_text : IsText mqtt
@@ -643,14 +643,14 @@ past_binary_again : (present : Bool) (field rest : List ℕ) → EncodesIf IsSho
 past_binary_again _ _ rest EncodesIf.absent = refl
 past_binary_again _ _ rest (EncodesIf.present {field = t} h) = rw (binary_again t rest h) refl
 
-client_again : (f : Flags) (bytes : List ℕ) (client : Option (List ℕ)) → EncodesPayload f bytes client → client_at f bytes ≡ Ok client
+client_again : (f : ConnectFlags) (bytes : List ℕ) (client : Option (List ℕ)) → EncodesPayload f bytes client → client_at f bytes ≡ Ok client
 unfolding client_at
 client_again f _ _ (EncodesPayload.with_will is) = rw is refl
 client_again f _ _ (EncodesPayload.with_client {client = c} {name = n} {password = p} is text name password) =
     let pp : past_binary f.password p ≡ Ok [] = ap (past_binary f.password) (sym (append-nil p)) ∙ past_binary_again f.password p [] password in
     rw (is, text_again c (n ++ p) text, past_text_again f.user_name n p name, pp) refl
 
-method_again : (f : FoundValue) → MethodFits f → (f.authentication && is_none f.method) ≡ false
+method_again : (f : PacketProperties) → MethodFits f → (f.authentication && is_none f.method) ≡ false
 method_again f h = by f.authentication f.method h
   where
     by : (a : Bool) (m : Option (List ℕ)) → (a ≡ true → (t : List ℕ) × (m ≡ Some t)) → (a && is_none m) ≡ false

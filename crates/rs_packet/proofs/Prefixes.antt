@@ -8,7 +8,7 @@ use Rattle.rs_field.specs.declared.varint.VarintFault.{VarintFault}
 use Rattle.rs_field.specs.declared.varint.VarintFault.TheVariants.{Short, Bad}
 use Rattle.rs_packet.specs.declared.packet.Decoded.{Decoded}
 use Rattle.rs_packet.specs.declared.packet.Decoded.TheVariants.{Whole, More}
-use Rattle.rs_packet.specs.declared.packet.Kind.{Kind}
+use Rattle.rs_packet.specs.declared.packet.PacketKind.{PacketKind}
 use Rattle.rs_packet.specs.declared.packet.Packet.{Packet}
 use Rattle.rs_field.specs.Reading.{◌>>=◌, digits_at, IsEnd}
 use Rattle.rs_packet.specs.declared.limits.TheConstants.{MAX_PACKET_SIZE}
@@ -86,7 +86,7 @@ tested : {A : Type 0} (t : Bool) (x y z : Result A PacketFault) → ((t ≡ true
 tested true x y z f g = f refl
 tested false x y z f g = g refl
 
-body_stays : (k : Kind) (before n : ℕ) (rest more : List ℕ) (f : PacketFault) → body_at k before n rest ≡ Err f → body_at k before n (rest ++ more) ≡ Err f
+body_stays : (k : PacketKind) (before n : ℕ) (rest more : List ℕ) (f : PacketFault) → body_at k before n rest ≡ Err f → body_at k before n (rest ++ more) ≡ Err f
 body_stays k before n rest more f e = size (ltb MAX_PACKET_SIZE (before + n)) refl e
   where
     read : List ℕ → Result Decoded PacketFault
@@ -104,7 +104,7 @@ body_stays k before n rest more f e = size (ltb MAX_PACKET_SIZE (before + n)) re
     size true is e = rw is e
     size false is e = rw is (long (ltb (length rest) n) refl e)
 
-sized_stays : (k : Kind) (bytes more : List ℕ) (f : PacketFault) (r : Result (ℕ × List ℕ) VarintFault) → digits_at 4 bytes ≡ r → sized k bytes r ≡ Err f → sized k (bytes ++ more) (digits_at 4 (bytes ++ more)) ≡ Err f
+sized_stays : (k : PacketKind) (bytes more : List ℕ) (f : PacketFault) (r : Result (ℕ × List ℕ) VarintFault) → digits_at 4 bytes ≡ r → sized k bytes r ≡ Err f → sized k (bytes ++ more) (digits_at 4 (bytes ++ more)) ≡ Err f
 sized_stays k bytes more f (Err Short) is e = absurd cc
 sized_stays k bytes more f (Err Bad) is e = rw (digits_stay bytes more (Err Bad) is (λ s. absurd cc)) e
 sized_stays k bytes more f (Ok x) is e =
@@ -118,7 +118,7 @@ unfolding answer
 err_stays [] more f e = absurd cc
 err_stays (first ∷ bytes) more f e = by (kind_of first) e
   where
-    by : (r : Result Kind PacketFault) → (r >>= λ k. sized k bytes (digits_at 4 bytes)) ≡ Err f → (r >>= λ k. sized k (bytes ++ more) (digits_at 4 (bytes ++ more))) ≡ Err f
+    by : (r : Result PacketKind PacketFault) → (r >>= λ k. sized k bytes (digits_at 4 bytes)) ≡ Err f → (r >>= λ k. sized k (bytes ++ more) (digits_at 4 (bytes ++ more))) ≡ Err f
     by (Err d) e = e
     by (Ok k) e = sized_stays k bytes more f (digits_at 4 bytes) refl e
 
@@ -167,11 +167,11 @@ pub faulty_kind : (first : ℕ) (bytes : List ℕ) (f : PacketFault) → kind_of
 unfolding answer
 faulty_kind first bytes f e = faulty (first ∷ bytes) f (rw e refl)
 
-pub faulty_length : (first : ℕ) (bytes : List ℕ) (k : Kind) → kind_of first ≡ Ok k → digits_at 4 bytes ≡ Err Bad → IsNeededLen (first ∷ bytes) (suc (length bytes))
+pub faulty_length : (first : ℕ) (bytes : List ℕ) (k : PacketKind) → kind_of first ≡ Ok k → digits_at 4 bytes ≡ Err Bad → IsNeededLen (first ∷ bytes) (suc (length bytes))
 unfolding answer
 faulty_length first bytes k e d = faulty (first ∷ bytes) Malformed (rw (e, d) refl)
 
-pub too_large : (first : ℕ) (bytes rest : List ℕ) (k : Kind) (n : ℕ) → kind_of first ≡ Ok k → digits_at 4 bytes ≡ Ok (n, rest) → MAX_PACKET_SIZE < suc (length bytes) - length rest + n → IsNeededLen (first ∷ bytes) (suc (length bytes))
+pub too_large : (first : ℕ) (bytes rest : List ℕ) (k : PacketKind) (n : ℕ) → kind_of first ≡ Ok k → digits_at 4 bytes ≡ Ok (n, rest) → MAX_PACKET_SIZE < suc (length bytes) - length rest + n → IsNeededLen (first ∷ bytes) (suc (length bytes))
 unfolding answer
 too_large first bytes rest k n e d lt = faulty (first ∷ bytes) TooLarge (let t : ltb MAX_PACKET_SIZE (suc (length bytes) - length rest + n) ≡ true = lt-ltb _ _ lt in rw (e, d, t) refl)
 
@@ -193,11 +193,11 @@ digits_short (suc k) (b ∷ bytes) e = by (ltb b 128) (digits_at k bytes) (digit
     by false (Err Bad) again e = absurd cc
     by false (Err Short) again e = let lt : length bytes < k = again refl in omega (arith, lt)
 
-cut_length : (first : ℕ) (bytes : List ℕ) (k : Kind) → kind_of first ≡ Ok k → digits_at 4 bytes ≡ Err Short → answer (first ∷ bytes) ≡ Ok More
+cut_length : (first : ℕ) (bytes : List ℕ) (k : PacketKind) → kind_of first ≡ Ok k → digits_at 4 bytes ≡ Err Short → answer (first ∷ bytes) ≡ Ok More
 unfolding answer
 cut_length first bytes k e d = rw (e, d) refl
 
-pub in_length : (first : ℕ) (bytes : List ℕ) (k : Kind) → kind_of first ≡ Ok k → digits_at 4 bytes ≡ Err Short → IsNeededLen (first ∷ bytes) (suc (suc (length bytes)))
+pub in_length : (first : ℕ) (bytes : List ℕ) (k : PacketKind) → kind_of first ≡ Ok k → digits_at 4 bytes ≡ Err Short → IsNeededLen (first ∷ bytes) (suc (suc (length bytes)))
 in_length first bytes k e d =
     let is = cut_length first bytes k e d in
     record {
@@ -210,22 +210,22 @@ in_length first bytes k e d =
     }
 
 -- a good length
-answer_is : (first : ℕ) (bytes : List ℕ) (k : Kind) (x : ℕ × List ℕ) → kind_of first ≡ Ok k → digits_at 4 bytes ≡ Ok x → answer (first ∷ bytes) ≡ body_at k (suc (length bytes) - length x.1) x.0 x.1
+answer_is : (first : ℕ) (bytes : List ℕ) (k : PacketKind) (x : ℕ × List ℕ) → kind_of first ≡ Ok k → digits_at 4 bytes ≡ Ok x → answer (first ∷ bytes) ≡ body_at k (suc (length bytes) - length x.1) x.0 x.1
 unfolding answer
 answer_is first bytes k x e d = rw (e, d) refl
 
-framed : (first n : ℕ) (k : Kind) (rest : List ℕ) → kind_of first ≡ Ok k → n < varint_end → answer (first ∷ (varint n ++ rest)) ≡ body_at k (suc (length (varint n))) n rest
+framed : (first n : ℕ) (k : PacketKind) (rest : List ℕ) → kind_of first ≡ Ok k → n < varint_end → answer (first ∷ (varint n ++ rest)) ≡ body_at k (suc (length (varint n))) n rest
 framed first n k rest e lt =
     let before : suc (length (varint n ++ rest)) - length rest ≡ suc (length (varint n)) = omega (arith, length-append (varint n) rest) in
     answer_is first (varint n ++ rest) k (n, rest) e (digits_again 4 n rest lt (omega arith)) ∙ ap (λ (b : ℕ). body_at k b n rest) before
 
-body_waits : (k : Kind) (before n : ℕ) (rest : List ℕ) → before + n ≤ MAX_PACKET_SIZE → length rest < n → body_at k before n rest ≡ Ok More
+body_waits : (k : PacketKind) (before n : ℕ) (rest : List ℕ) → before + n ≤ MAX_PACKET_SIZE → length rest < n → body_at k before n rest ≡ Ok More
 body_waits k before n rest small lt =
     let a : ltb MAX_PACKET_SIZE (before + n) ≡ false = le-ltb _ _ small in
     let b : ltb (length rest) n ≡ true = lt-ltb _ _ lt in
     rw (a, b) refl
 
-body_reads : (k : Kind) (before n : ℕ) (rest : List ℕ) → before + n ≤ MAX_PACKET_SIZE → n ≤ length rest → body_at k before n rest ≡ (packet_at k (take n rest) >>= λ p. Ok (Whole p (before + n)))
+body_reads : (k : PacketKind) (before n : ℕ) (rest : List ℕ) → before + n ≤ MAX_PACKET_SIZE → n ≤ length rest → body_at k before n rest ≡ (packet_at k (take n rest) >>= λ p. Ok (Whole p (before + n)))
 body_reads k before n rest small le =
     let a : ltb MAX_PACKET_SIZE (before + n) ≡ false = le-ltb _ _ small in
     let b : ltb (length rest) n ≡ false = le-ltb _ _ le in
@@ -242,7 +242,7 @@ read_size : (r : Result Packet PacketFault) (m : ℕ) (p : Packet) (n : ℕ) →
 read_size (Ok q) m p n e = size_is q p m n e
 read_size (Err f) m p n e = absurd cc
 
-in_frame : (first n : ℕ) (k : Kind) (rest : List ℕ) → kind_of first ≡ Ok k → n < varint_end → suc (length (varint n)) + n ≤ MAX_PACKET_SIZE → IsNeededLen (first ∷ (varint n ++ rest)) (suc (length (varint n)) + n)
+in_frame : (first n : ℕ) (k : PacketKind) (rest : List ℕ) → kind_of first ≡ Ok k → n < varint_end → suc (length (varint n)) + n ≤ MAX_PACKET_SIZE → IsNeededLen (first ∷ (varint n ++ rest)) (suc (length (varint n)) + n)
 in_frame first n k rest e lt small =
     let before : ℕ = suc (length (varint n)) in
     let len : length (varint n ++ rest) ≡ length (varint n) + length rest = length-append (varint n) rest in
@@ -277,7 +277,7 @@ in_frame first n k rest e lt small =
           ];
     }
 
-pub in_body : (first : ℕ) (bytes rest : List ℕ) (k : Kind) (n : ℕ) → IsBytes bytes → kind_of first ≡ Ok k → digits_at 4 bytes ≡ Ok (n, rest) → suc (length bytes) - length rest + n ≤ MAX_PACKET_SIZE → IsNeededLen (first ∷ bytes) (suc (length bytes) - length rest + n)
+pub in_body : (first : ℕ) (bytes rest : List ℕ) (k : PacketKind) (n : ℕ) → IsBytes bytes → kind_of first ≡ Ok k → digits_at 4 bytes ≡ Ok (n, rest) → suc (length bytes) - length rest + n ≤ MAX_PACKET_SIZE → IsNeededLen (first ∷ bytes) (suc (length bytes) - length rest + n)
 in_body first bytes rest k n fits e d small =
     let t = digits_takes 4 bytes (n, rest) fits d in
     let size : suc (length (varint n)) + n ≡ suc (length bytes) - length rest + n = omega (arith, ap length t.0.parts, length-append (varint n) rest) in
@@ -292,7 +292,7 @@ needed bytes (Err f) = length bytes
 needed bytes (Ok None) = length bytes + 1
 needed bytes (Ok (Some h)) = h.size
 
-in_header : (first : ℕ) (bytes : List ℕ) (k : Kind) (d : Result (ℕ × List ℕ) VarintFault) → IsBytes bytes → kind_of first ≡ Ok k → digits_at 4 bytes ≡ d → IsNeededLen (first ∷ bytes) (needed (first ∷ bytes) (header_in k bytes d))
+in_header : (first : ℕ) (bytes : List ℕ) (k : PacketKind) (d : Result (ℕ × List ℕ) VarintFault) → IsBytes bytes → kind_of first ≡ Ok k → digits_at 4 bytes ≡ d → IsNeededLen (first ∷ bytes) (needed (first ∷ bytes) (header_in k bytes d))
 in_header first bytes k (Err Short) fits e is =
     let more : suc (suc (length bytes)) ≡ suc (length bytes) + 1 = omega arith in
     subst (λ (n : ℕ). IsNeededLen (first ∷ bytes) n) more (in_length first bytes k e is)
@@ -311,7 +311,7 @@ unfolding header_at
 by_header [] fits = no_byte
 by_header (first ∷ bytes) fits = by (kind_of first) refl
   where
-    by : (r : Result Kind PacketFault) → kind_of first ≡ r → IsNeededLen (first ∷ bytes) (needed (first ∷ bytes) (r >>= λ k. header_in k bytes (digits_at 4 bytes)))
+    by : (r : Result PacketKind PacketFault) → kind_of first ≡ r → IsNeededLen (first ∷ bytes) (needed (first ∷ bytes) (r >>= λ k. header_in k bytes (digits_at 4 bytes)))
     by (Err f) e = faulty_kind first bytes f e
     by (Ok k) e = in_header first bytes k (digits_at 4 bytes) (IsBytes-rest first bytes fits) e refl
 
@@ -320,7 +320,7 @@ abbrev pub by_size : List ℕ → Option Header → Result Decoded PacketFault
 by_size bytes None = Ok More
 by_size bytes (Some h) = packet_in bytes h
 
-sized_in : (first : ℕ) (bytes : List ℕ) (k : Kind) (d : Result (ℕ × List ℕ) VarintFault) → digits_at 4 bytes ≡ d → (header_in k bytes d >>= by_size (first ∷ bytes)) ≡ sized k bytes d
+sized_in : (first : ℕ) (bytes : List ℕ) (k : PacketKind) (d : Result (ℕ × List ℕ) VarintFault) → digits_at 4 bytes ≡ d → (header_in k bytes d >>= by_size (first ∷ bytes)) ≡ sized k bytes d
 sized_in first bytes k (Err Short) is = refl
 sized_in first bytes k (Err Bad) is = refl
 sized_in first bytes k (Ok n) is = by (ltb MAX_PACKET_SIZE (suc (length bytes) - length n.1 + n.0))
@@ -351,7 +351,7 @@ unfolding header_at answer
 answer_by_header [] = refl
 answer_by_header (first ∷ bytes) = by (kind_of first)
   where
-    by : (r : Result Kind PacketFault) → ((r >>= λ k. header_in k bytes (digits_at 4 bytes)) >>= by_size (first ∷ bytes)) ≡ (r >>= λ k. sized k bytes (digits_at 4 bytes))
+    by : (r : Result PacketKind PacketFault) → ((r >>= λ k. header_in k bytes (digits_at 4 bytes)) >>= by_size (first ∷ bytes)) ≡ (r >>= λ k. sized k bytes (digits_at 4 bytes))
     by (Err f) = refl
     by (Ok k) = sized_in first bytes k (digits_at 4 bytes) refl
 
@@ -360,7 +360,7 @@ pub record HasBody (bytes : List ℕ) (h : Header) : Type 0 where
   pub start_fits : h.start ≤ h.size
   pub body_fits : h.size - h.start ≤ MAX_PACKET_SIZE
 
-body_of : (bytes : List ℕ) (k : Kind) (d : Result (ℕ × List ℕ) VarintFault) (h : Header) → header_in k bytes d ≡ Ok (Some h) → HasBody bytes h
+body_of : (bytes : List ℕ) (k : PacketKind) (d : Result (ℕ × List ℕ) VarintFault) (h : Header) → header_in k bytes d ≡ Ok (Some h) → HasBody bytes h
 body_of bytes k (Err Short) h e = absurd cc
 body_of bytes k (Err Bad) h e = absurd cc
 body_of bytes k (Ok n) h e = by (ltb MAX_PACKET_SIZE (suc (length bytes) - length n.1 + n.0)) refl e
@@ -380,7 +380,7 @@ unfolding header_at
 header_body [] h e = absurd cc
 header_body (first ∷ bytes) h e = by (kind_of first) e
   where
-    by : (r : Result Kind PacketFault) → (r >>= λ k. header_in k bytes (digits_at 4 bytes)) ≡ Ok (Some h) → HasBody (first ∷ bytes) h
+    by : (r : Result PacketKind PacketFault) → (r >>= λ k. header_in k bytes (digits_at 4 bytes)) ≡ Ok (Some h) → HasBody (first ∷ bytes) h
     by (Err f) e = absurd cc
     by (Ok k) e = let b = body_of bytes k (digits_at 4 bytes) h e in record { start_fits = b.start_fits; body_fits = b.body_fits }
 

@@ -12,13 +12,13 @@ use Rattle.rs_field.specs.Kept.{replayed}
 use Rattle.rs_field.proofs.Fields.{wide16, number_again, binary_again, varint_again}
 use Rattle.rs_packet.specs.declared.packet.Qos.{Qos}
 use Rattle.rs_packet.specs.declared.packet.Qos.TheVariants.{AtMostOnce, AtLeastOnce, ExactlyOnce}
-use Rattle.rs_packet.specs.declared.reply.Accepted.{Accepted}
+use Rattle.rs_packet.specs.declared.reply.ConnackAccepted.{ConnackAccepted}
 use Rattle.rs_packet.specs.declared.reply.Publication.{Publication}
 use Rattle.rs_packet.specs.declared.reply.Reply.{Reply}
 use Rattle.rs_packet.specs.declared.reply.Reply.TheVariants as reply
 use Rattle.rs_packet.specs.Values.{CodesValue}
 use Rattle.rs_packet.specs.Grammar.{IdFits, id_bytes, level}
-use Rattle.rs_packet.specs.Replies.{limits_told, accepting, accepted_body, acknowledging, codes_body, publication_body, first_byte, reply_body, HasEncoding, PublishFits, ReplyFits, EncodesReply}
+use Rattle.rs_packet.specs.Replies.{limit_bytes, accepting, accepted_body, acknowledging, codes_body, publication_body, first_byte, reply_body, HasEncoding, PublishFits, ReplyFits, EncodesReply}
 use Rattle.rs_packet.proofs.Lengths.{length_accepting, length_accepted, section_small}
 use Rattle.rs_packet.proofs.AnswerLaws.{pair_is, same_prefix, frame_parts}
 use Rattle.rs_field.proofs.KeptLaws.{section_is}
@@ -102,28 +102,28 @@ client_in (Err f) = None
 abbrev client_of : List ℕ → Option (List ℕ)
 client_of bytes = cond (eqb (slice_index_or bytes 0 0) 0x12) (client_in (binary_at (drop 1 bytes))) None
 
-abbrev accepted_of : List ℕ → Accepted
+abbrev accepted_of : List ℕ → ConnackAccepted
 accepted_of bytes = let told = eqb (slice_index_or bytes 0 0) 0x11 in record { session_expiry_zero = told; assigned_client = client_of (cond told (drop 5 bytes) bytes) }
 
-accepted_is : (told : Bool) (client : Option (List ℕ)) → IfSome client IsShort → let a : Accepted = record { session_expiry_zero = told; assigned_client = client } in accepted_of (accepting a) ≡ a
+accepted_is : (told : Bool) (client : Option (List ℕ)) → IfSome client IsShort → let a : ConnackAccepted = record { session_expiry_zero = told; assigned_client = client } in accepted_of (accepting a) ≡ a
 accepted_is true None h = refl
 accepted_is false None h = refl
-accepted_is true (Some c) h = ap (λ (r : Result (List ℕ × List ℕ) PacketFault). let a : Accepted = record { session_expiry_zero = true; assigned_client = client_in r } in a) (binary_again c limits_told h)
-accepted_is false (Some c) h = ap (λ (r : Result (List ℕ × List ℕ) PacketFault). let a : Accepted = record { session_expiry_zero = false; assigned_client = client_in r } in a) (binary_again c limits_told h)
+accepted_is true (Some c) h = ap (λ (r : Result (List ℕ × List ℕ) PacketFault). let a : ConnackAccepted = record { session_expiry_zero = true; assigned_client = client_in r } in a) (binary_again c limit_bytes h)
+accepted_is false (Some c) h = ap (λ (r : Result (List ℕ × List ℕ) PacketFault). let a : ConnackAccepted = record { session_expiry_zero = false; assigned_client = client_in r } in a) (binary_again c limit_bytes h)
 
 abbrev with_section : Result (ℕ × List ℕ) PacketFault → Reply
-with_section (Ok x) = reply.Accepted (accepted_of x.1)
+with_section (Ok x) = reply.ConnackAccepted (accepted_of x.1)
 with_section (Err f) = reply.Pingresp
 
 -- a CONNACK that refuses has three bytes after its length
 abbrev connack : List ℕ → Reply
-connack body = cond (eqb (length body) 3) (reply.Refused (slice_index_or body 1 0)) (with_section (varint_at (drop 2 body)))
+connack body = cond (eqb (length body) 3) (reply.ConnackRefused (slice_index_or body 1 0)) (with_section (varint_at (drop 2 body)))
 
-connack_is : (a : Accepted) → IfSome a.assigned_client IsShort → length (accepted_body a) < varint_end → connack (accepted_body a) ≡ reply.Accepted a
+connack_is : (a : ConnackAccepted) → IfSome a.assigned_client IsShort → length (accepted_body a) < varint_end → connack (accepted_body a) ≡ reply.ConnackAccepted a
 connack_is a h lt =
     let long : eqb (length (accepted_body a)) 3 ≡ false = ne_eqb _ _ (λ z. omega (arith, z, length_accepted a, length_accepting a)) in
     let small : length (accepting a) < varint_end = omega (arith, lt, length_accepted a) in
-    rw (long, varint_again (length (accepting a)) (accepting a) small) (ap (λ (b : Accepted). reply.Accepted b) (accepted_is a.session_expiry_zero a.assigned_client h))
+    rw (long, varint_again (length (accepting a)) (accepting a) small) (ap (λ (b : ConnackAccepted). reply.ConnackAccepted b) (accepted_is a.session_expiry_zero a.assigned_client h))
 
 -- any reply but a PUBLISH
 abbrev plain_at : ℕ → List ℕ → Option Reply
@@ -139,8 +139,8 @@ plain_at first body =
     (cond (eqb first 0xE0) (Some (reply.Disconnect (slice_index_or body 0 0))) None))))))))
 
 abbrev plain : Reply → Option Reply
-plain (reply.Accepted a) = Some (reply.Accepted a)
-plain (reply.Refused code) = Some (reply.Refused code)
+plain (reply.ConnackAccepted a) = Some (reply.ConnackAccepted a)
+plain (reply.ConnackRefused code) = Some (reply.ConnackRefused code)
 plain (reply.Publish p) = None
 plain (reply.Puback id code) = Some (reply.Puback id code)
 plain (reply.Pubrec id code) = Some (reply.Pubrec id code)
@@ -155,8 +155,8 @@ some : (r s : Reply) → r ≡ s → ◌≡◌ {A = Option Reply} (Some r) (Some
 some r s e = ap (λ (x : Reply). Some x) e
 
 plain_is : (r : Reply) → ReplyFits r → HasEncoding r → plain_at (first_byte r) (reply_body r) ≡ plain r
-plain_is (reply.Accepted a) h lt = some _ _ (connack_is a h lt)
-plain_is (reply.Refused code) h lt = refl
+plain_is (reply.ConnackAccepted a) h lt = some _ _ (connack_is a h lt)
+plain_is (reply.ConnackRefused code) h lt = refl
 plain_is (reply.Publish p) h lt = none p.qos
   where
     none : (q : Qos) → plain_at (0x31 + 2 * level q) (publication_body p) ≡ None
@@ -176,8 +176,8 @@ some_is : (r s : Reply) → ◌≡◌ {A = Option Reply} (Some r) (Some s) → r
 some_is r s e = cc
 
 plain_some : (r s : Reply) → plain r ≡ Some s → r ≡ s
-plain_some (reply.Accepted a) s e = some_is _ s e
-plain_some (reply.Refused code) s e = some_is _ s e
+plain_some (reply.ConnackAccepted a) s e = some_is _ s e
+plain_some (reply.ConnackRefused code) s e = some_is _ s e
 plain_some (reply.Publish p) s e = absurd cc
 plain_some (reply.Puback id code) s e = some_is _ s e
 plain_some (reply.Pubrec id code) s e = some_is _ s e
@@ -189,8 +189,8 @@ plain_some reply.Pingresp s e = some_is _ s e
 plain_some (reply.Disconnect code) s e = some_is _ s e
 
 plain_none : (r : Reply) → plain r ≡ None → (p : Publication) × (r ≡ reply.Publish p)
-plain_none (reply.Accepted a) e = absurd cc
-plain_none (reply.Refused code) e = absurd cc
+plain_none (reply.ConnackAccepted a) e = absurd cc
+plain_none (reply.ConnackRefused code) e = absurd cc
 plain_none (reply.Publish p) e = (p, refl)
 plain_none (reply.Puback id code) e = absurd cc
 plain_none (reply.Pubrec id code) e = absurd cc

@@ -8,12 +8,12 @@ use Rattle.rs_packet.specs.Grammar.{IdFits}
 use Rattle.rs_packet.specs.Replies.{message_size, publication_body, codes_body}
 
 abbrev pub IsConnect : ConnectValue → Type 0
-IsConnect c = MaximaFit c.receive_maximum c.packet_maximum
+IsConnect connect = MaximaFit connect.receive_maximum connect.packet_maximum
 
 -- 3.3.2.2: there is an identifier if QoS is 1 or 2; the payload and the properties that a message keeps are no longer than a packet
-pub record IsPublish (p : PublishValue) : Type 0 where
-  pub id_fits : IdFits p.qos p.id
-  pub message_fits : message_size p.expiry p.properties p.payload ≤ MAX_PACKET_SIZE
+pub record IsPublish (publish : PublishValue) : Type 0 where
+  pub id_fits : IdFits publish.qos publish.id
+  pub message_fits : message_size publish.expiry publish.properties publish.payload ≤ MAX_PACKET_SIZE
 
 -- 3.8.3: one filter at least, and no more than a packet has bytes
 pub record FewFilters (n : ℕ) : Type 0 where
@@ -21,19 +21,19 @@ pub record FewFilters (n : ℕ) : Type 0 where
   pub few : n ≤ MAX_PACKET_SIZE
 
 -- 3.8.2.1.2, 3.8.3
-pub record IsSubscribe (s : SubscribeValue) : Type 0 where
-  pub subscription_fits : IfSome s.subscription IsSubscriptionId
-  pub filters_fit : FewFilters (length s.filters)
+pub record IsSubscribe (subscribe : SubscribeValue) : Type 0 where
+  pub subscription_fits : IfSome subscribe.subscription IsSubscriptionId
+  pub filters_fit : FewFilters (length subscribe.filters)
 
 abbrev pub IsUnsubscribe : UnsubscribeValue → Type 0
-IsUnsubscribe u = FewFilters (length u.filters)
+IsUnsubscribe unsubscribe = FewFilters (length unsubscribe.filters)
 
 -- 3.3.2.2, 3.3.2.3.8, 2.1.4: a PUBLISH whose length has a form
-pub record IsPublication (p : PublicationValue) : Type 0 where
-  pub id_fits : IdFits p.qos p.id
-  pub subscription_fits : IfSome p.subscription IsSubscriptionId
-  pub small : length (publication_body p) < varint_end
+pub record IsPublication (publication : PublicationValue) : Type 0 where
+  pub id_fits : IdFits publication.qos publication.id
+  pub subscription_fits : IfSome publication.subscription IsSubscriptionId
+  pub small : length (publication_body publication) < varint_end
 
 -- 2.1.4
 abbrev pub AreCodes : CodesValue → Type 0
-AreCodes c = length (codes_body c) < varint_end
+AreCodes codes = length (codes_body codes) < varint_end

@@ -10,19 +10,19 @@ use Rattle.rs_packet.specs.declared.packet.Qos.TheVariants.{AtMostOnce, AtLeastO
 use Rattle.rs_packet.specs.declared.packet.RetainHandling.{RetainHandling}
 use Rattle.rs_packet.specs.declared.packet.RetainHandling.TheVariants.{Always, IfNew, Never}
 use Rattle.rs_packet.specs.declared.packet.Options.{Options}
-use Rattle.rs_packet.specs.declared.packet.Kind.{Kind}
-use Rattle.rs_packet.specs.declared.packet.Kind.TheVariants as kind
+use Rattle.rs_packet.specs.declared.packet.PacketKind.{PacketKind}
+use Rattle.rs_packet.specs.declared.packet.PacketKind.TheVariants as kind
 use Rattle.rs_packet.specs.declared.packet.Publish.{Publish}
 use Rattle.rs_packet.specs.declared.packet.Acknowledgement.{Acknowledgement}
 use Rattle.rs_packet.specs.declared.packet.Connect.{Connect}
-use Rattle.rs_packet.specs.declared.packet.Flags.{Flags}
+use Rattle.rs_packet.specs.declared.packet.ConnectFlags.{ConnectFlags}
 use Rattle.rs_packet.specs.declared.packet.Packet.{Packet}
 use Rattle.rs_packet.specs.declared.packet.Packet.TheVariants as packet
 use Rattle.rs_packet.specs.declared.packet.Decoded.{Decoded}
 use Rattle.rs_packet.specs.declared.packet.Decoded.TheVariants.{Whole, More}
 use Rattle.rs_topic.specs.Texts.{IsText}
 use Rattle.rs_topic.specs.Topics.{name_of, filter_of}
-use Rattle.rs_field.specs.Values.{FoundValue}
+use Rattle.rs_field.specs.Values.{PacketProperties}
 use Rattle.rs_field.specs.Kept.{kept}
 use Rattle.rs_packet.specs.Values.{SubscribeValue, UnsubscribeValue, Asked}
 use Rattle.rs_field.specs.Properties.{varint, two, counted, IsShort, AreProperties, properties, gathered, nothing}
@@ -40,7 +40,7 @@ level ExactlyOnce = 2
 -- ---- 2.1.1: a packet is its type and flags, its length, and its body
 
 -- tables 2-1 and 2-2, and 3.3.1 for the flags of PUBLISH
-abbrev pub head : Kind → ℕ
+abbrev pub head : PacketKind → ℕ
 head kind.Connect = 0x10
 head (kind.Publish duplicate qos retain) = 0x30 + 8 * bit duplicate + 2 * level qos + bit retain
 head kind.Puback = 0x40
@@ -74,20 +74,20 @@ abbrev pub id_bytes : Option ℕ → List ℕ
 id_bytes None = []
 id_bytes (Some n) = two n
 
-abbrev pub publication : Bool → Qos → Bool → List ℕ → Option ℕ → FoundValue → List ℕ → Publish
-publication duplicate qos retain topic id f payload = record {
+abbrev pub publication : Bool → Qos → Bool → List ℕ → Option ℕ → PacketProperties → List ℕ → Publish
+publication duplicate qos retain topic id values payload = record {
   duplicate = duplicate;
   qos = qos;
   retain = retain;
   topic = name_of topic;
   id = id;
-  expiry = f.expiry;
-  alias = f.alias;
-  properties = kept f;
+  expiry = values.expiry;
+  alias = values.alias;
+  properties = kept values;
   payload = payload;
 }
 
-pub record EncodesPublish (duplicate : Bool) (qos : Qos) (retain : Bool) (body : List ℕ) (p : Publish) : Type 0 where
+pub record EncodesPublish (duplicate : Bool) (qos : Qos) (retain : Bool) (body : List ℕ) (publish : Publish) : Type 0 where
   pub topic : List ℕ
   pub id : Option ℕ
   pub ps : List Property
@@ -96,7 +96,7 @@ pub record EncodesPublish (duplicate : Bool) (qos : Qos) (retain : Bool) (body :
   pub has_id : IdFits qos id
   pub are_properties : AreProperties owner.Publish ps
   pub fields : body ≡ counted topic ++ (id_bytes id ++ (properties ps ++ payload))
-  pub value : p ≡ publication duplicate qos retain topic id (gathered nothing ps) payload
+  pub value : publish ≡ publication duplicate qos retain topic id (gathered nothing ps) payload
 
 -- ---- 3.4 to 3.7: PUBACK, PUBREC, PUBREL, PUBCOMP
 
@@ -106,11 +106,11 @@ pub data EncodesCode (where_ : PropertyOwner) : List ℕ → ℕ → Type 0 wher
   no_properties : {code : ℕ} → code < 256 → EncodesCode where_ (code ∷ []) code
   with_properties : {code : ℕ} {ps : List Property} → code < 256 → AreProperties where_ ps → EncodesCode where_ (code ∷ properties ps) code
 
-pub record EncodesAcknowledgement (body : List ℕ) (a : Acknowledgement) : Type 0 where
+pub record EncodesAcknowledgement (body : List ℕ) (acknowledgement : Acknowledgement) : Type 0 where
   pub rest : List ℕ
-  pub is_id : IsId a.id
-  pub fields : body ≡ two a.id ++ rest
-  pub code : EncodesCode owner.Acknowledgement rest a.code
+  pub is_id : IsId acknowledgement.id
+  pub fields : body ≡ two acknowledgement.id ++ rest
+  pub code : EncodesCode owner.Acknowledgement rest acknowledgement.code
 
 -- ---- 3.8: SUBSCRIBE
 
@@ -121,7 +121,7 @@ handling Never = 2
 
 -- 3.8.3.1
 abbrev pub options_byte : Options → ℕ
-options_byte o = level o.qos + 4 * bit o.no_local + 8 * bit o.retain_as_published + 16 * handling o.retain_handling
+options_byte options = level options.qos + 4 * bit options.no_local + 8 * bit options.retain_as_published + 16 * handling options.retain_handling
 
 -- 3.8.3, 3.10.3: each filter is a UTF-8 encoded string
 abbrev pub AreTexts : List (List ℕ) → Type 0
@@ -129,35 +129,35 @@ AreTexts [] = Unit {0}
 AreTexts (t ∷ ts) = IsText t × AreTexts ts
 
 abbrev pub text_of : List ℕ × Options → List ℕ
-text_of f = f.0
+text_of item = item.0
 
 abbrev pub filter_bytes : List ℕ × Options → List ℕ
-filter_bytes f = counted f.0 ++ options_byte f.1 ∷ []
+filter_bytes item = counted item.0 ++ options_byte item.1 ∷ []
 
 abbrev pub asked_of : List ℕ × Options → Asked
-asked_of f = (filter_of f.0, f.1)
+asked_of item = (filter_of item.0, item.1)
 
-pub record EncodesSubscribe (body : List ℕ) (s : SubscribeValue) : Type 0 where
+pub record EncodesSubscribe (body : List ℕ) (subscribe : SubscribeValue) : Type 0 where
   pub ps : List Property
   pub filters : List (List ℕ × Options)
-  pub is_id : IsId s.id
+  pub is_id : IsId subscribe.id
   pub are_properties : AreProperties owner.Subscribe ps
   pub are_texts : AreTexts (map text_of filters)
   pub some : 0 < length filters
-  pub fields : body ≡ two s.id ++ (properties ps ++ flat_map filter_bytes filters)
-  pub value : s ≡ record { id = s.id; subscription = (gathered nothing ps).subscription; filters = map asked_of filters }
+  pub fields : body ≡ two subscribe.id ++ (properties ps ++ flat_map filter_bytes filters)
+  pub value : subscribe ≡ record { id = subscribe.id; subscription = (gathered nothing ps).subscription; filters = map asked_of filters }
 
 -- ---- 3.10: UNSUBSCRIBE
 
-pub record EncodesUnsubscribe (body : List ℕ) (u : UnsubscribeValue) : Type 0 where
+pub record EncodesUnsubscribe (body : List ℕ) (unsubscribe : UnsubscribeValue) : Type 0 where
   pub ps : List Property
   pub filters : List (List ℕ)
-  pub is_id : IsId u.id
+  pub is_id : IsId unsubscribe.id
   pub are_properties : AreProperties owner.Unsubscribe ps
   pub are_texts : AreTexts filters
   pub some : 0 < length filters
-  pub fields : body ≡ two u.id ++ (properties ps ++ flat_map counted filters)
-  pub value : u ≡ record { id = u.id; filters = map filter_of filters }
+  pub fields : body ≡ two unsubscribe.id ++ (properties ps ++ flat_map counted filters)
+  pub value : unsubscribe ≡ record { id = unsubscribe.id; filters = map filter_of filters }
 
 -- ---- 3.1: CONNECT
 
@@ -166,12 +166,12 @@ abbrev pub protocol : List ℕ
 protocol = 0 ∷ 4 ∷ 77 ∷ 81 ∷ 84 ∷ 84 ∷ 5 ∷ []
 
 -- 3.1.2.3
-abbrev pub flags_byte : Flags → ℕ
-flags_byte f = 128 * bit f.user_name + 64 * bit f.password + 32 * bit f.will_retain + 8 * level f.will_qos + 4 * bit f.will + 2 * bit f.clean_start
+abbrev pub flags_byte : ConnectFlags → ℕ
+flags_byte flags = 128 * bit flags.user_name + 64 * bit flags.password + 32 * bit flags.will_retain + 8 * level flags.will_qos + 4 * bit flags.will + 2 * bit flags.clean_start
 
 -- 3.1.2.6, 3.1.2.7: without a will its flags are 0
-abbrev pub FlagsFit : Flags → Type 0
-FlagsFit f = f.will ≡ false → (f.will_retain ≡ false) × (f.will_qos ≡ AtMostOnce)
+abbrev pub FlagsFit : ConnectFlags → Type 0
+FlagsFit flags = flags.will ≡ false → (flags.will_retain ≡ false) × (flags.will_qos ≡ AtMostOnce)
 
 -- 3.1.3.5, 3.1.3.6: a field that a flag announces
 pub data EncodesIf (P : List ℕ → Type 0) : Bool → List ℕ → Type 0 where
@@ -179,39 +179,39 @@ pub data EncodesIf (P : List ℕ → Type 0) : Bool → List ℕ → Type 0 wher
   present : {field : List ℕ} → P field → EncodesIf P true (counted field)
 
 -- 3.1.3: the client identifier, the user name and the password. If there is a will, nothing of it is read
-pub data EncodesPayload : Flags → List ℕ → Option (List ℕ) → Type 0 where
-  with_will : {f : Flags} {payload : List ℕ} → f.will ≡ true → EncodesPayload f payload None
-  with_client : {f : Flags} {client name password : List ℕ} → f.will ≡ false → IsText client → EncodesIf IsText f.user_name name → EncodesIf IsShort f.password password
+pub data EncodesPayload : ConnectFlags → List ℕ → Option (List ℕ) → Type 0 where
+  with_will : {f : ConnectFlags} {payload : List ℕ} → f.will ≡ true → EncodesPayload f payload None
+  with_client : {f : ConnectFlags} {client name password : List ℕ} → f.will ≡ false → IsText client → EncodesIf IsText f.user_name name → EncodesIf IsShort f.password password
       → EncodesPayload f (counted client ++ (name ++ password)) (Some client)
 
 -- 3.1.2.11.10: authentication data need a method
-abbrev pub MethodFits : FoundValue → Type 0
-MethodFits f = f.authentication ≡ true → (t : List ℕ) × (f.method ≡ Some t)
+abbrev pub MethodFits : PacketProperties → Type 0
+MethodFits values = values.authentication ≡ true → (t : List ℕ) × (values.method ≡ Some t)
 
-pub record EncodesConnect (body : List ℕ) (c : Connect) : Type 0 where
-  pub flags : Flags
+pub record EncodesConnect (body : List ℕ) (connect : Connect) : Type 0 where
+  pub flags : ConnectFlags
   pub ps : List Property
   pub payload : List ℕ
   pub flags_fit : FlagsFit flags
-  pub keep_alive : c.keep_alive < 2 ^ 16
+  pub keep_alive : connect.keep_alive < 2 ^ 16
   pub are_properties : AreProperties owner.Connect ps
   pub method : MethodFits (gathered nothing ps)
-  pub has_payload : EncodesPayload flags payload c.client
-  pub fields : body ≡ protocol ++ (flags_byte flags ∷ (two c.keep_alive ++ (properties ps ++ payload)))
-  pub value : let f = gathered nothing ps in c ≡ record {
+  pub has_payload : EncodesPayload flags payload connect.client
+  pub fields : body ≡ protocol ++ (flags_byte flags ∷ (two connect.keep_alive ++ (properties ps ++ payload)))
+  pub value : let values = gathered nothing ps in connect ≡ record {
     clean_start = flags.clean_start;
     will = flags.will;
-    keep_alive = c.keep_alive;
-    session_expiry = f.session_expiry;
-    method = f.method;
-    receive_maximum = f.receive_maximum;
-    packet_maximum = f.packet_maximum;
-    client = c.client;
+    keep_alive = connect.keep_alive;
+    session_expiry = values.session_expiry;
+    method = values.method;
+    receive_maximum = values.receive_maximum;
+    packet_maximum = values.packet_maximum;
+    client = connect.client;
   }
 
 -- ---- all of them
 
-pub data EncodesBody : Kind → List ℕ → Packet → Type 0 where
+pub data EncodesBody : PacketKind → List ℕ → Packet → Type 0 where
   connect : {body : List ℕ} {c : Connect} → EncodesConnect body c → EncodesBody kind.Connect body (packet.Connect c)
   -- 3.3.1.1: a packet of QoS 0 is not a duplicate
   publish : {duplicate retain : Bool} {qos : Qos} {body : List ℕ} {p : Publish} → (qos ≡ AtMostOnce → duplicate ≡ false) → EncodesPublish duplicate qos retain body p
@@ -226,7 +226,7 @@ pub data EncodesBody : Kind → List ℕ → Packet → Type 0 where
   disconnect : {body : List ℕ} {code : ℕ} → EncodesCode owner.Disconnect body code → EncodesBody kind.Disconnect body (packet.Disconnect code)
 
 pub record Encodes (bytes : List ℕ) (p : Packet) : Type 0 where
-  pub first : Kind
+  pub first : PacketKind
   pub body : List ℕ
   pub fields : bytes ≡ frame (head first) body
   pub small : length bytes ≤ MAX_PACKET_SIZE

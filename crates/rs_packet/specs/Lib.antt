@@ -1,3 +1,4 @@
+pub mod OneBit
 pub mod Faults
 pub mod Fields
 pub mod Values

@@ -15,12 +15,12 @@ use Rattle.rs_packet.specs.declared.packet.RetainHandling.{RetainHandling}
 use Rattle.rs_packet.specs.declared.packet.RetainHandling.TheVariants.{Always, IfNew, Never}
 use Rattle.rs_packet.specs.declared.packet.Options.{Options}
 use Rattle.rs_packet.specs.declared.header.Header.{Header}
-use Rattle.rs_packet.specs.declared.packet.Kind.{Kind}
-use Rattle.rs_packet.specs.declared.packet.Kind.TheVariants as kind
+use Rattle.rs_packet.specs.declared.packet.PacketKind.{PacketKind}
+use Rattle.rs_packet.specs.declared.packet.PacketKind.TheVariants as kind
 use Rattle.rs_packet.specs.declared.packet.Publish.{Publish}
 use Rattle.rs_packet.specs.declared.packet.Acknowledgement.{Acknowledgement}
 use Rattle.rs_packet.specs.declared.packet.Connect.{Connect}
-use Rattle.rs_packet.specs.declared.packet.Flags.{Flags}
+use Rattle.rs_packet.specs.declared.packet.ConnectFlags.{ConnectFlags}
 use Rattle.rs_packet.specs.declared.packet.Packet.{Packet}
 use Rattle.rs_packet.specs.declared.packet.Packet.TheVariants as packet
 use Rattle.rs_packet.specs.declared.packet.Decoded.{Decoded}
@@ -30,11 +30,11 @@ use Rattle.rs_packet.specs.Values.{SubscribeValue, UnsubscribeValue, Asked, Filt
 use Rattle.rs_packet.specs.declared.limits.TheConstants.{MAX_PACKET_SIZE}
 use Rattle.rs_packet.specs.Grammar.{head, publication}
 pub use Rattle.rs_field.specs.Reading.{◌>>=◌, Fails, Gives, GivesNumber}
-use Rattle.rs_field.specs.Reading.{digits_at, byte_at, number_at, binary_at, text_at, wanting, found_at}
+use Rattle.rs_field.specs.Reading.{digits_at, byte_at, number_at, binary_at, text_at, wanting, values_at}
 
 -- ---- the first byte
 
-abbrev pub kinds : List Kind
+abbrev pub kinds : List PacketKind
 kinds =
     kind.Connect
     ∷ kind.Publish false AtMostOnce false ∷ kind.Publish false AtMostOnce true
@@ -48,11 +48,11 @@ kinds =
 abbrev pub others : List ℕ
 others = 0x20 ∷ 0x90 ∷ 0xB0 ∷ 0xD0 ∷ 0xF0 ∷ []
 
-abbrev pub kind_or : Option Kind → ℕ → Result Kind PacketFault
+abbrev pub kind_or : Option PacketKind → ℕ → Result PacketKind PacketFault
 kind_or (Some k) first = Ok k
 kind_or None first = if list_any (nat_eq first) others then Err Protocol else Err Malformed
 
-unfoldable pub kind_of : ℕ → Result Kind PacketFault
+unfoldable pub kind_of : ℕ → Result PacketKind PacketFault
 kind_of first = kind_or (find (λ k. head k == first) kinds) first
 
 -- ---- the bodies
@@ -69,7 +69,7 @@ unfoldable pub publish_at : Bool → Qos → Bool → List ℕ → Result Publis
 publish_at duplicate qos retain body = do
   topic ← text_at body
   id ← id_for qos topic.1
-  f ← found_at owner.Publish id.1
+  f ← values_at owner.Publish id.1
   Ok (publication duplicate qos retain topic.0 id.0 f.0 f.1)
 
 -- nothing may be left
@@ -81,7 +81,7 @@ unfoldable pub code_at : PropertyOwner → List ℕ → Result ℕ PacketFault
 code_at where_ [] = Ok 0
 code_at where_ (code ∷ []) = Ok code
 code_at where_ (code ∷ b ∷ bytes) = do
-  f ← found_at where_ (b ∷ bytes)
+  f ← values_at where_ (b ∷ bytes)
   ended code f.1
 
 unfoldable pub acknowledgement_at : List ℕ → Result Acknowledgement PacketFault
@@ -126,7 +126,7 @@ some_of read bytes = if length bytes == 0 then Err Protocol else all_in read (le
 unfoldable pub subscribe_at : List ℕ → Result SubscribeValue PacketFault
 subscribe_at body = do
   id ← id_at body
-  f ← found_at owner.Subscribe id.1
+  f ← values_at owner.Subscribe id.1
   filters ← some_of asked_at f.1
   Ok (record { id = id.0; subscription = f.0.subscription; filters = filters })
 
@@ -136,7 +136,7 @@ filter_at bytes = text_at bytes >>= λ t. Ok (filter_of t.0, t.1)
 unfoldable pub unsubscribe_at : List ℕ → Result UnsubscribeValue PacketFault
 unsubscribe_at body = do
   id ← id_at body
-  f ← found_at owner.Unsubscribe id.1
+  f ← values_at owner.Unsubscribe id.1
   filters ← some_of filter_at f.1
   Ok (record { id = id.0; filters = filters })
 
@@ -144,7 +144,7 @@ unsubscribe_at body = do
 abbrev pub mqtt : List ℕ
 mqtt = 77 ∷ 81 ∷ 84 ∷ 84 ∷ []
 
-unfoldable pub flags_of : ℕ → Result Flags PacketFault
+unfoldable pub flags_of : ℕ → Result ConnectFlags PacketFault
 flags_of b =
     if b % 2 == 1 then Err Malformed
     else (if b / 8 % 4 == 3 then Err Malformed
@@ -168,7 +168,7 @@ past_binary false bytes = Ok bytes
 past_binary true bytes = binary_at bytes >>= λ t. Ok t.1
 
 -- the client identifier, unless a will ends the reading
-unfoldable pub client_at : Flags → List ℕ → Result (Option (List ℕ)) PacketFault
+unfoldable pub client_at : ConnectFlags → List ℕ → Result (Option (List ℕ)) PacketFault
 client_at f bytes =
     if f.will then Ok None
     else (text_at bytes >>= λ client. past_text f.user_name client.1 >>= λ name. past_binary f.password name >>= λ rest. ended (Some client.0) rest)
@@ -186,7 +186,7 @@ connect_at body = do
   b ← byte_at rest
   flags ← flags_of b.0
   keep_alive ← number_at w16 b.1
-  f ← found_at owner.Connect keep_alive.1
+  f ← values_at owner.Connect keep_alive.1
   found ← (if f.0.authentication && is_none f.0.method then Err Protocol else Ok f.0)
   client ← client_at flags f.1
   Ok (record {
@@ -200,7 +200,7 @@ connect_at body = do
     client = client;
   })
 
-unfoldable pub packet_at : Kind → List ℕ → Result Packet PacketFault
+unfoldable pub packet_at : PacketKind → List ℕ → Result Packet PacketFault
 packet_at kind.Connect body = connect_at body >>= λ c. Ok (packet.Connect c)
 packet_at (kind.Publish duplicate qos retain) body = publish_at duplicate qos retain body >>= λ p. Ok (packet.Publish p)
 packet_at kind.Puback body = acknowledgement_at body >>= λ a. Ok (packet.Puback a)
@@ -215,14 +215,14 @@ packet_at kind.Disconnect body = code_at owner.Disconnect body >>= λ code. Ok (
 -- ---- the whole
 
 -- a packet whose header takes `before` bytes and says the length n; `rest` is what follows
-abbrev pub body_at : Kind → ℕ → ℕ → List ℕ → Result Decoded PacketFault
+abbrev pub body_at : PacketKind → ℕ → ℕ → List ℕ → Result Decoded PacketFault
 body_at k before n rest =
     if nat_lt MAX_PACKET_SIZE (before + n) then Err TooLarge
     else (if nat_lt (length rest) n then Ok More
     else (packet_at k (take n rest) >>= λ p. Ok (Whole p (before + n))))
 
 -- 2.1: the header, by the kind of the packet, the bytes after the first one, and the length that they begin with
-abbrev pub header_in : Kind → List ℕ → Result (ℕ × List ℕ) VarintFault → Result (Option Header) PacketFault
+abbrev pub header_in : PacketKind → List ℕ → Result (ℕ × List ℕ) VarintFault → Result (Option Header) PacketFault
 header_in k bytes (Err Short) = Ok None
 header_in k bytes (Err Bad) = Err Malformed
 header_in k bytes (Ok n) = let start = suc (length bytes) - length n.1 in
@@ -239,7 +239,7 @@ header_at (first ∷ bytes) = do
 abbrev pub packet_in : List ℕ → Header → Result Decoded PacketFault
 packet_in bytes h = if nat_lt (length bytes) h.size then Ok More else (packet_at h.kind (slice_range bytes h.start h.size) >>= λ p. Ok (Whole p h.size))
 
-abbrev pub sized : Kind → List ℕ → Result (ℕ × List ℕ) VarintFault → Result Decoded PacketFault
+abbrev pub sized : PacketKind → List ℕ → Result (ℕ × List ℕ) VarintFault → Result Decoded PacketFault
 sized k bytes (Err Short) = Ok More
 sized k bytes (Err Bad) = Err Malformed
 sized k bytes (Ok n) = body_at k (suc (length bytes) - length n.1) n.0 n.1

@@ -1,7 +1,7 @@
 -- The replies of the server: one encoding each. Sections 3.2 to 3.14.
 use Rattle.std.specs.Prelude.{◌≡◌, ℕ, ◌+◌, ◌*◌, ◌<◌, ◌^◌, List, [], ◌∷◌, ◌++◌, length, Option, Some, None, IfSome, Bool, true, false, nat_lt, ◌==◌, if◌then◌else◌}
 use Rattle.rs_packet.specs.declared.packet.Qos.{Qos}
-use Rattle.rs_packet.specs.declared.reply.Accepted.{Accepted}
+use Rattle.rs_packet.specs.declared.reply.ConnackAccepted.{ConnackAccepted}
 use Rattle.rs_packet.specs.declared.reply.Publication.{Publication}
 use Rattle.rs_packet.specs.declared.reply.Reply.{Reply}
 use Rattle.rs_packet.specs.declared.reply.Reply.TheVariants as reply
@@ -21,34 +21,34 @@ abbrev pub message_size : Option ℕ → PropertiesValue → List ℕ → ℕ
 message_size expiry kept payload = message_len expiry kept (length payload)
 
 -- 3.2.2.3.2: an interval of 0, sent if the client asked for another
-abbrev pub expiry_told : Bool → List ℕ
-expiry_told false = []
-expiry_told true = 0x11 ∷ four 0
+abbrev pub session_expiry_bytes : Bool → List ℕ
+session_expiry_bytes false = []
+session_expiry_bytes true = 0x11 ∷ four 0
 
 -- 3.2.2.3.7
-abbrev pub client_told : Option (List ℕ) → List ℕ
-client_told None = []
-client_told (Some client) = 0x12 ∷ counted client
+abbrev pub assigned_client_bytes : Option (List ℕ) → List ℕ
+assigned_client_bytes None = []
+assigned_client_bytes (Some client) = 0x12 ∷ counted client
 
 -- 3.2.2.3.3, 3.2.2.3.6, 3.2.2.3.13: the two maxima; no shared subscriptions
-abbrev pub limits_told : List ℕ
-limits_told = 0x21 ∷ two RECEIVE_MAXIMUM ++ (0x27 ∷ four MAX_PACKET_SIZE ++ (0x2A ∷ 0 ∷ []))
+abbrev pub limit_bytes : List ℕ
+limit_bytes = 0x21 ∷ two RECEIVE_MAXIMUM ++ (0x27 ∷ four MAX_PACKET_SIZE ++ (0x2A ∷ 0 ∷ []))
 
 -- 3.2.2.3: the properties of an accepting CONNACK, in rising order of identifier
-abbrev pub accepting : Accepted → List ℕ
-accepting a = expiry_told a.session_expiry_zero ++ (client_told a.assigned_client ++ limits_told)
+abbrev pub accepting : ConnackAccepted → List ℕ
+accepting connack = session_expiry_bytes connack.session_expiry_zero ++ (assigned_client_bytes connack.assigned_client ++ limit_bytes)
 
 -- 3.2.2: no session is present, and the code is 0
-abbrev pub accepted_body : Accepted → List ℕ
-accepted_body a = 0 ∷ 0 ∷ (varint (length (accepting a)) ++ accepting a)
+abbrev pub accepted_body : ConnackAccepted → List ℕ
+accepted_body connack = 0 ∷ 0 ∷ (varint (length (accepting connack)) ++ accepting connack)
 
 -- 3.4.2.1: a code of 0 is left out
 abbrev pub acknowledging : ℕ → ℕ → List ℕ
 acknowledging id code = if code == 0 then two id else two id ++ code ∷ []
 
 abbrev pub first_byte : Reply → ℕ
-first_byte (reply.Accepted a) = 0x20
-first_byte (reply.Refused code) = 0x20
+first_byte (reply.ConnackAccepted a) = 0x20
+first_byte (reply.ConnackRefused code) = 0x20
 first_byte (reply.Publish p) = 0x31 + 2 * level p.qos
 first_byte (reply.Puback id code) = 0x40
 first_byte (reply.Pubrec id code) = 0x50
@@ -60,7 +60,7 @@ first_byte reply.Pingresp = 0xD0
 first_byte (reply.Disconnect code) = 0xE0
 
 abbrev pub publication_body : Publication → List ℕ
-publication_body p = counted p.topic ++ (id_bytes p.id ++ (properties (replayed p.expiry p.subscription p.properties) ++ p.payload))
+publication_body publication = counted publication.topic ++ (id_bytes publication.id ++ (properties (replayed publication.expiry publication.subscription publication.properties) ++ publication.payload))
 
 -- 2.1.4: the Remaining Length of a PUBLISH whose payload has this length; there is an identifier if QoS is 1 or 2 (3.3.2.2)
 unfoldable pub publish_remaining : List ℕ → Qos → Option ℕ → Option ℕ → PropertiesValue → ℕ → ℕ
@@ -68,11 +68,11 @@ publish_remaining topic qos expiry subscription kept payload =
     length (counted topic) + (if nat_lt 0 (level qos) then 2 else 0) + length (properties (replayed expiry subscription kept)) + payload
 
 abbrev pub codes_body : CodesValue → List ℕ
-codes_body c = two c.id ++ 0 ∷ c.codes
+codes_body codes = two codes.id ++ 0 ∷ codes.codes
 
 abbrev pub reply_body : Reply → List ℕ
-reply_body (reply.Accepted a) = accepted_body a
-reply_body (reply.Refused code) = 0 ∷ code ∷ 0 ∷ []
+reply_body (reply.ConnackAccepted a) = accepted_body a
+reply_body (reply.ConnackRefused code) = 0 ∷ code ∷ 0 ∷ []
 reply_body (reply.Publish p) = publication_body p
 reply_body (reply.Puback id code) = acknowledging id code
 reply_body (reply.Pubrec id code) = acknowledging id code
@@ -90,15 +90,15 @@ reply_bytes r = frame (first_byte r) (reply_body r)
 -- ---- what the types keep
 
 -- 3.3.2: the topic, the identifier and the properties of a PUBLISH have their forms
-pub record PublishFits (p : Publication) : Type 0 where
-  pub topic_fits : IsShort p.topic
-  pub id_fits : IdFits p.qos p.id
-  pub section_fits : SectionFits p.expiry p.subscription p.properties
+pub record PublishFits (publication : Publication) : Type 0 where
+  pub topic_fits : IsShort publication.topic
+  pub id_fits : IdFits publication.qos publication.id
+  pub section_fits : SectionFits publication.expiry publication.subscription publication.properties
 
 -- the fields of a reply have their forms
 abbrev pub ReplyFits : Reply → Type 0
-ReplyFits (reply.Accepted a) = IfSome a.assigned_client IsShort
-ReplyFits (reply.Refused code) = Unit {0}
+ReplyFits (reply.ConnackAccepted a) = IfSome a.assigned_client IsShort
+ReplyFits (reply.ConnackRefused code) = Unit {0}
 ReplyFits (reply.Publish p) = PublishFits p
 ReplyFits (reply.Puback id code) = id < 2 ^ 16
 ReplyFits (reply.Pubrec id code) = id < 2 ^ 16

@@ -8,14 +8,14 @@ use std::alloc::{AllocError, Global};
 use std::marker::Model;
 use std::sync::Arc;
 
-#[derive(Drop)]
+#[derive(Debug, Drop)]
 struct Parts {
     payload: Bytes,
     properties: Properties,
 }
 
 /// The payload of a message (3.3.3) and the properties that it keeps (3.3.2.3), without its interval. Copies share both.
-#[derive(Drop)]
+#[derive(Debug, Drop)]
 pub struct MessageContent {
     parts: Arc<Parts>,
 }

@@ -1,6 +1,6 @@
 //! Reading the packets of a client.
 
-ghost use Rattle.std.specs.Prelude.{◌≡◌, ◌<◌, ◌≤◌, ◌-◌, ◌++◌, length, take, slice_index, List, ℕ, Ok, IfOk};
+ghost use Rattle.std.specs.Prelude.{◌≡◌, ◌==◌, ◌<◌, ◌≤◌, ◌-◌, ◌/◌, ◌%◌, ◌++◌, not, length, take, slice_index, List, ℕ, Ok, IfOk};
 ghost use Rattle.rs_packet.specs.declared.packet.Packet.{Packet};
 ghost use Rattle.rs_packet.specs.declared.reply.Reply.{Reply};
 ghost use Rattle.rs_packet.specs.Replies.{EncodesReply};
@@ -14,14 +14,15 @@ ghost use Rattle.std.specs.Str.{bytes_eq};
 
 use crate::filters::all_items;
 use crate::header::{Header, parse_header};
+use crate::masks::is_set;
 use crate::packet::{
-    Acknowledgement, Connect, Decoded, Flags, Kind, Packet, PacketId, Publish, Qos, Subscribe,
-    Unsubscribe,
+    Acknowledgement, Connect, ConnectFlags, Decoded, Packet, PacketId, PacketKind, Publish, Qos,
+    Subscribe, Unsubscribe,
 };
 use bytes::Bytes;
 use rs_field::{
-    Found, PacketFault, Properties, PropertyFields, PropertyOwner, read_binary, read_properties,
-    read_string, read_u8, read_u16,
+    PacketFault, Properties, PropertyFields, PropertyOwner, PropertyValues, read_binary,
+    read_properties, read_string, read_u8, read_u16,
 };
 use rs_topic::{Text, TopicName};
 use std::alloc::Global;
@@ -65,7 +66,7 @@ fn publish_of(
     let topic = read_string(&mut rest)?;
     let id = id_if(&mut rest, qos)?;
     let found = read_properties(alloc, &mut rest, PropertyOwner::Publish)?;
-    let Found {
+    let PropertyValues {
         format,
         expiry,
         content_type,
@@ -86,7 +87,7 @@ fn publish_of(
         duplicate,
         qos,
         retain,
-        topic: TopicName::of(topic),
+        topic: TopicName::try_from(topic),
         id,
         expiry,
         alias,
@@ -159,46 +160,62 @@ fn unsubscribe_of(alloc: Global, body: Bytes) -> Result<Unsubscribe, PacketFault
     Ok(Unsubscribe { id, filters })
 }
 
-// The bits of the Connect Flags (3.1.2.3): the value of each, of the lower one for the Will QoS.
-const CLEAN_START: u8 = 2;
+// The bits of the Connect Flags (3.1.2.3).
+const RESERVED: u8 = 0b0000_0001;
 
-const WILL: u8 = 4;
+const CLEAN_START: u8 = 0b0000_0010;
 
-const WILL_QOS: u8 = 8;
+const WILL: u8 = 0b0000_0100;
 
-const WILL_RETAIN: u8 = 32;
+const WILL_QOS: u8 = 0b0001_1000;
 
-const PASSWORD: u8 = 64;
+const WILL_RETAIN: u8 = 0b0010_0000;
 
-const USER_NAME: u8 = 128;
+const PASSWORD: u8 = 0b0100_0000;
+
+const USER_NAME: u8 = 0b1000_0000;
+
+/// The number of the Will QoS.
+#[tactic(auto, using(crate::proofs::Quotients::will_qos_is))]
+fn will_qos_of(byte: u8) -> u8
+    ensures { result ≡ byte / 8 % 4 }
+{
+    (byte & WILL_QOS) >> 3
+}
+
+/// Whether Will QoS or Will Retain is set.
+#[tactic(auto, using(crate::proofs::Quotients::will_options_is))]
+fn has_will_options(byte: u8) -> bool
+    ensures { result ≡ not (byte / 8 % 8 == 0) }
+{
+    byte & (WILL_QOS | WILL_RETAIN) != 0
+}
 
 /// The Connect Flags. Malformed if the reserved bit is set, if Will QoS is 3, or if Will QoS or Will Retain is set without
 /// the Will Flag.
 #[tactic(auto, unfolding(crate::specs::PacketReading::flags_of))]
-fn read_flags(byte: u8) -> Result<Flags, PacketFault>
+fn read_flags(byte: u8) -> Result<ConnectFlags, PacketFault>
     ensures { Gives (λ f. f) result (flags_of byte) }
 {
-    if byte % 2 == 1 {
+    if is_set(byte, RESERVED) {
         return Err(PacketFault::Malformed);
     }
-    if byte / WILL_QOS % 4 == 3 {
-        return Err(PacketFault::Malformed);
-    }
-    if byte / WILL % 2 == 0 && byte / WILL_QOS % 8 != 0 {
-        return Err(PacketFault::Malformed);
-    }
-    let will_qos = match byte / WILL_QOS % 4 {
+    let will_qos = match will_qos_of(byte) {
         0 => Qos::AtMostOnce,
         1 => Qos::AtLeastOnce,
-        _ => Qos::ExactlyOnce,
+        2 => Qos::ExactlyOnce,
+        _ => return Err(PacketFault::Malformed),
     };
-    Ok(Flags {
-        user_name: byte / USER_NAME == 1,
-        password: byte / PASSWORD % 2 == 1,
-        will_retain: byte / WILL_RETAIN % 2 == 1,
+    if !is_set(byte, WILL) && has_will_options(byte) {
+        return Err(PacketFault::Malformed);
+    }
+    Ok(ConnectFlags {
+        user_name: is_set(byte, USER_NAME),
+        password: is_set(byte, PASSWORD),
+        will_retain: is_set(byte, WILL_RETAIN),
         will_qos,
-        will: byte / WILL % 2 == 1,
-        clean_start: byte / CLEAN_START % 2 == 1,
+        will: is_set(byte, WILL),
+        clean_start: is_set(byte, CLEAN_START),
     })
 }
 
@@ -243,7 +260,7 @@ fn pass_binary(rest: &mut Bytes, present: bool) -> Result<(), PacketFault>
 }
 
 #[tactic(auto, unfolding(crate::specs::PacketReading::client_at))]
-fn client_of(body: Bytes, flags: Flags) -> Result<Option<Text>, PacketFault>
+fn client_of(body: Bytes, flags: ConnectFlags) -> Result<Option<Text>, PacketFault>
     ensures { Gives (λ c. c) result (client_at flags body) }
 {
     let mut rest = body;
@@ -269,7 +286,7 @@ fn connect_of(alloc: Global, body: Bytes) -> Result<Connect, PacketFault>
     let flags = read_flags(byte)?;
     let keep_alive = read_u16(&mut rest)?;
     let found = read_properties(alloc, &mut rest, PropertyOwner::Connect)?;
-    let Found {
+    let PropertyValues {
         session_expiry,
         method,
         authentication,
@@ -294,29 +311,29 @@ fn connect_of(alloc: Global, body: Bytes) -> Result<Connect, PacketFault>
 }
 
 #[tactic(auto, unfolding(crate::specs::PacketReading::packet_at))]
-fn packet_of(alloc: Global, kind: Kind, body: Bytes) -> Result<Packet, PacketFault>
+fn packet_of(alloc: Global, kind: PacketKind, body: Bytes) -> Result<Packet, PacketFault>
     requires { length body ≤ MAX_PACKET_SIZE }
     ensures { Gives (λ p. p) result (packet_at kind body) }
 {
     match kind {
-        Kind::Connect => Ok(Packet::Connect(connect_of(alloc, body)?)),
-        Kind::Publish(duplicate, qos, retain) => Ok(Packet::Publish(publish_of(
+        PacketKind::Connect => Ok(Packet::Connect(connect_of(alloc, body)?)),
+        PacketKind::Publish(duplicate, qos, retain) => Ok(Packet::Publish(publish_of(
             alloc, body, duplicate, qos, retain,
         )?)),
-        Kind::Puback => Ok(Packet::Puback(acknowledgement_of(alloc, body)?)),
-        Kind::Pubrec => Ok(Packet::Pubrec(acknowledgement_of(alloc, body)?)),
-        Kind::Pubrel => Ok(Packet::Pubrel(acknowledgement_of(alloc, body)?)),
-        Kind::Pubcomp => Ok(Packet::Pubcomp(acknowledgement_of(alloc, body)?)),
-        Kind::Subscribe => Ok(Packet::Subscribe(subscribe_of(alloc, body)?)),
-        Kind::Unsubscribe => Ok(Packet::Unsubscribe(unsubscribe_of(alloc, body)?)),
-        Kind::Pingreq => {
+        PacketKind::Puback => Ok(Packet::Puback(acknowledgement_of(alloc, body)?)),
+        PacketKind::Pubrec => Ok(Packet::Pubrec(acknowledgement_of(alloc, body)?)),
+        PacketKind::Pubrel => Ok(Packet::Pubrel(acknowledgement_of(alloc, body)?)),
+        PacketKind::Pubcomp => Ok(Packet::Pubcomp(acknowledgement_of(alloc, body)?)),
+        PacketKind::Subscribe => Ok(Packet::Subscribe(subscribe_of(alloc, body)?)),
+        PacketKind::Unsubscribe => Ok(Packet::Unsubscribe(unsubscribe_of(alloc, body)?)),
+        PacketKind::Pingreq => {
             if body.is_empty() {
                 Ok(Packet::Pingreq)
             } else {
                 Err(PacketFault::Malformed)
             }
         }
-        Kind::Disconnect => Ok(Packet::Disconnect(code_of(
+        PacketKind::Disconnect => Ok(Packet::Disconnect(code_of(
             alloc,
             body,
             PropertyOwner::Disconnect,

@@ -37,8 +37,8 @@ fn put(out: &mut Vec<u8>, reply: &Reply) -> Result<(), AllocError>
     ensures { OnOk result (out.new.items ≡ out.old.items ++ reply_bytes reply.now) }
 {
     match reply {
-        Reply::Accepted(a) => put_accepted(out, a)?,
-        Reply::Refused(code) => put_small(out, 0x20, &[0, *code, 0])?,
+        Reply::ConnackAccepted(a) => put_accepted(out, a)?,
+        Reply::ConnackRefused(code) => put_small(out, 0x20, &[0, *code, 0])?,
         Reply::Publish(p) => put_publication(out, p)?,
         Reply::Puback(id, code) => put_acknowledgement(out, 0x40, *id, *code)?,
         Reply::Pubrec(id, code) => put_acknowledgement(out, 0x50, *id, *code)?,
@@ -59,8 +59,8 @@ fn reply_len(reply: &Reply) -> usize
     ensures fits { ReplyFits reply.now }
 {
     match reply {
-        Reply::Accepted(a) => accepted_len(a),
-        Reply::Refused(_code) => 3,
+        Reply::ConnackAccepted(a) => accepted_len(a),
+        Reply::ConnackRefused(_code) => 3,
         Reply::Publish(p) => body_len(p).0,
         Reply::Puback(id, code) => acknowledgement_len(*id, *code),
         Reply::Pubrec(id, code) => acknowledgement_len(*id, *code),

@@ -7,14 +7,14 @@ ghost use Rattle.rs_packet.specs.PacketReading.{header_at, answer};
 ghost use Rattle.rs_packet.specs.Prefixes.{IsMore};
 
 use crate::limits::MAX_PACKET_SIZE;
-use crate::packet::Kind;
+use crate::packet::PacketKind;
 use rs_field::{PacketFault, VarintFault, parse_varint};
 
 /// What the first bytes of a packet say.
 #[derive(Clone, Copy)]
 pub(crate) struct Header {
     /// The kind of the packet, by its first byte.
-    pub(crate) kind: Kind,
+    pub(crate) kind: PacketKind,
     /// The number of bytes before the body.
     pub(crate) start: usize,
     /// The number of bytes of the whole packet, at most `MAX_PACKET_SIZE`.
@@ -30,7 +30,7 @@ pub(crate) fn parse_header(bytes: &[u8]) -> Result<Option<Header>, PacketFault>
     let [first, behind @ ..] = bytes else {
         return Ok(None);
     };
-    let kind = Kind::of(*first)?;
+    let kind = PacketKind::try_from(*first)?;
     match parse_varint(behind) {
         Ok((len, rest)) => {
             let start = bytes.len() - rest.len();

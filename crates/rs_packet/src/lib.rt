@@ -17,6 +17,7 @@ mod encoding;
 mod filters;
 mod header;
 mod limits;
+mod masks;
 mod packet;
 mod reply;
 
@@ -29,5 +30,5 @@ pub use packet::{
     Acknowledgement, Connect, Decoded, Options, Packet, PacketId, Publish, Qos, RetainHandling,
     Subscribe, Unsubscribe,
 };
-pub use reply::{Accepted, Codes, Publication, Reply};
+pub use reply::{Codes, ConnackAccepted, Publication, Reply};
 pub use rs_field::{MAX_REMAINING_LENGTH, PacketFault, Properties, PropertyFields, SubscriptionId};

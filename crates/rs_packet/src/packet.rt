@@ -6,7 +6,7 @@ use rs_topic::{Text, TopicFault, TopicFilter, TopicName};
 use std::marker::Model;
 
 /// A packet identifier, from 1 to 65,535 (2.2.1).
-#[derive(Clone, Copy)]
+#[derive(Clone, Copy, Debug)]
 pub struct PacketId {
     number: u16,
 }
@@ -86,7 +86,7 @@ pub enum RetainHandling {
 }
 
 /// The options of a filter (3.8.3.1).
-#[derive(Clone, Copy)]
+#[derive(Clone, Copy, Debug)]
 pub struct Options {
     /// The Maximum QoS, bits 0 and 1: the highest QoS with which messages are sent.
     pub qos: Qos,
@@ -99,8 +99,8 @@ pub struct Options {
 }
 
 /// What the first byte of a packet says (2.1.2, 2.1.3); a PUBLISH has DUP, QoS and RETAIN in it.
-#[derive(Clone, Copy)]
-pub enum Kind {
+#[derive(Clone, Copy, Debug)]
+pub enum PacketKind {
     Connect,
     Publish(bool, Qos, bool),
     Puback,
@@ -113,35 +113,37 @@ pub enum Kind {
     Disconnect,
 }
 
-impl Kind {
+impl TryFrom<u8> for PacketKind {
     ghost use Rattle.std.specs.Prelude.{◌≡◌};
-    ghost use Rattle.rs_packet.specs.PacketReading.{Gives, kind_of};
+    ghost use Rattle.rs_packet.specs.PacketReading.{kind_of};
+
+    type Error = PacketFault;
+
+    ghost try_from_gives = { λ head r. r ≡ kind_of head };
 
     /// The kind of packet that begins with this byte. Protocol if only a server sends it, Malformed if no packet begins with it.
     #[tactic(auto, unfolding(crate::specs::PacketReading::kind_of))]
-    pub fn of(head: u8) -> Result<Kind, PacketFault>
-        ensures { result ≡ kind_of head }
-    {
+    fn try_from(head: u8) -> Result<PacketKind, PacketFault> {
         match head {
-            0x10 => Ok(Kind::Connect),
-            0x30 => Ok(Kind::Publish(false, Qos::AtMostOnce, false)),
-            0x31 => Ok(Kind::Publish(false, Qos::AtMostOnce, true)),
-            0x32 => Ok(Kind::Publish(false, Qos::AtLeastOnce, false)),
-            0x33 => Ok(Kind::Publish(false, Qos::AtLeastOnce, true)),
-            0x34 => Ok(Kind::Publish(false, Qos::ExactlyOnce, false)),
-            0x35 => Ok(Kind::Publish(false, Qos::ExactlyOnce, true)),
-            0x3A => Ok(Kind::Publish(true, Qos::AtLeastOnce, false)),
-            0x3B => Ok(Kind::Publish(true, Qos::AtLeastOnce, true)),
-            0x3C => Ok(Kind::Publish(true, Qos::ExactlyOnce, false)),
-            0x3D => Ok(Kind::Publish(true, Qos::ExactlyOnce, true)),
-            0x40 => Ok(Kind::Puback),
-            0x50 => Ok(Kind::Pubrec),
-            0x62 => Ok(Kind::Pubrel),
-            0x70 => Ok(Kind::Pubcomp),
-            0x82 => Ok(Kind::Subscribe),
-            0xA2 => Ok(Kind::Unsubscribe),
-            0xC0 => Ok(Kind::Pingreq),
-            0xE0 => Ok(Kind::Disconnect),
+            0x10 => Ok(PacketKind::Connect),
+            0x30 => Ok(PacketKind::Publish(false, Qos::AtMostOnce, false)),
+            0x31 => Ok(PacketKind::Publish(false, Qos::AtMostOnce, true)),
+            0x32 => Ok(PacketKind::Publish(false, Qos::AtLeastOnce, false)),
+            0x33 => Ok(PacketKind::Publish(false, Qos::AtLeastOnce, true)),
+            0x34 => Ok(PacketKind::Publish(false, Qos::ExactlyOnce, false)),
+            0x35 => Ok(PacketKind::Publish(false, Qos::ExactlyOnce, true)),
+            0x3A => Ok(PacketKind::Publish(true, Qos::AtLeastOnce, false)),
+            0x3B => Ok(PacketKind::Publish(true, Qos::AtLeastOnce, true)),
+            0x3C => Ok(PacketKind::Publish(true, Qos::ExactlyOnce, false)),
+            0x3D => Ok(PacketKind::Publish(true, Qos::ExactlyOnce, true)),
+            0x40 => Ok(PacketKind::Puback),
+            0x50 => Ok(PacketKind::Pubrec),
+            0x62 => Ok(PacketKind::Pubrel),
+            0x70 => Ok(PacketKind::Pubcomp),
+            0x82 => Ok(PacketKind::Subscribe),
+            0xA2 => Ok(PacketKind::Unsubscribe),
+            0xC0 => Ok(PacketKind::Pingreq),
+            0xE0 => Ok(PacketKind::Disconnect),
             0x20 | 0x90 | 0xB0 | 0xD0 | 0xF0 => Err(PacketFault::Protocol),
             _ => Err(PacketFault::Malformed),
         }
@@ -150,7 +152,7 @@ impl Kind {
 
 /// A PUBLISH (3.3). It has an identifier if QoS is 1 or 2, and the payload and the properties that a message keeps,
 /// encoded as in a PUBLISH, take at most `MAX_PACKET_SIZE` bytes; callers know both once they take it apart.
-#[derive(Drop)]
+#[derive(Debug, Drop)]
 pub struct Publish {
     /// DUP: it is sent again (3.3.1.1).
     pub duplicate: bool,
@@ -205,7 +207,7 @@ impl Model for Publish {
 }
 
 /// A PUBACK, PUBREC, PUBREL or PUBCOMP (3.4 to 3.7); an absent code is 0.
-#[derive(Clone, Copy)]
+#[derive(Clone, Copy, Debug)]
 pub struct Acknowledgement {
     /// The packet identifier of the PUBLISH that is acknowledged (2.2.1).
     pub id: PacketId,
@@ -214,7 +216,7 @@ pub struct Acknowledgement {
 }
 
 /// A SUBSCRIBE (3.8) with 1 to `MAX_PACKET_SIZE` filters, in order.
-#[derive(Drop)]
+#[derive(Debug, Drop)]
 pub struct Subscribe {
     /// The packet identifier (3.8.2), which the SUBACK repeats.
     pub id: PacketId,
@@ -237,7 +239,7 @@ impl Model for Subscribe {
 }
 
 /// An UNSUBSCRIBE (3.10) with 1 to `MAX_PACKET_SIZE` filters, in order.
-#[derive(Drop)]
+#[derive(Debug, Drop)]
 pub struct Unsubscribe {
     /// The packet identifier (3.10.2), which the UNSUBACK repeats.
     pub id: PacketId,
@@ -258,8 +260,8 @@ impl Model for Unsubscribe {
 }
 
 /// The flags of a CONNECT (3.1.2.3).
-#[derive(Clone, Copy)]
-pub struct Flags {
+#[derive(Clone, Copy, Debug)]
+pub struct ConnectFlags {
     pub user_name: bool,
     pub password: bool,
     pub will_retain: bool,
@@ -269,7 +271,7 @@ pub struct Flags {
 }
 
 /// A CONNECT (3.1), the first packet of a client. Neither maximum is 0.
-#[derive(Drop)]
+#[derive(Debug, Drop)]
 pub struct Connect {
     /// Clean Start: no earlier session is continued (3.1.2.4).
     pub clean_start: bool,
@@ -320,7 +322,7 @@ impl Model for Connect {
 }
 
 /// What a client sends (2.1.2).
-#[derive(Drop)]
+#[derive(Debug, Drop)]
 pub enum Packet {
     /// A CONNECT (3.1).
     Connect(Connect),
@@ -345,7 +347,7 @@ pub enum Packet {
 }
 
 /// What `decode` finds in some bytes.
-#[derive(Drop)]
+#[derive(Debug, Drop)]
 pub enum Decoded {
     /// A packet, and how many bytes it takes.
     Whole(Packet, usize),

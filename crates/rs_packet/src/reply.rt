@@ -11,8 +11,8 @@ use rs_topic::{Text, TopicName};
 use std::marker::Model;
 
 /// A CONNACK that accepts (3.2). Session Present is 0, since no session outlives its connection.
-#[derive(Drop)]
-pub struct Accepted {
+#[derive(Debug, Drop)]
+pub struct ConnackAccepted {
     /// The client asked for a Session Expiry Interval that is not 0, and is told 0 (3.2.2.3.2).
     pub session_expiry_zero: bool,
     /// The identifier for a client that sent an empty one (3.2.2.3.7).
@@ -21,7 +21,7 @@ pub struct Accepted {
 
 /// A PUBLISH (3.3) with a retained message for a subscriber. It has an identifier if QoS is 1 or 2, and
 /// its Remaining Length (2.1.4) is at most `MAX_REMAINING_LENGTH`.
-#[derive(Drop)]
+#[derive(Debug, Drop)]
 pub struct Publication {
     /// The name under which the message is retained (3.3.2.1).
     pub topic: TopicName,
@@ -113,7 +113,7 @@ fn in_range(subscription: Option<SubscriptionId>) -> Option<SubscriptionId>
 }
 
 /// A SUBACK (3.9) or an UNSUBACK (3.11): one reason code for each filter, in order.
-#[derive(Drop)]
+#[derive(Debug, Drop)]
 pub struct Codes {
     /// The packet identifier of the SUBSCRIBE or UNSUBSCRIBE that is answered (2.2.1).
     pub id: PacketId,
@@ -147,13 +147,13 @@ impl Codes {
 }
 
 /// What the server sends. Each reply has one encoding.
-#[derive(Drop)]
+#[derive(Debug, Drop)]
 pub enum Reply {
     /// A CONNACK with the reason code 0x00 (3.2).
-    Accepted(Accepted),
+    ConnackAccepted(ConnackAccepted),
     /// A CONNACK with this reason code and no properties (3.2.2.2). The caller gives a code of 0x80 or
     /// more.
-    Refused(u8),
+    ConnackRefused(u8),
     /// A PUBLISH with RETAIN set (3.3).
     Publish(Publication),
     /// A PUBACK with its reason code (3.4).

@@ -14,7 +14,7 @@ pub(crate) fn assigned_client(alloc: Global, id: ConnectionId) -> Result<Text, A
     ensures { IfOk result (λ text. text ≡ assigned_of id.place id.number) }
 {
     let bytes = Bytes::from_vec(assigned_text(alloc, id)?.into_bytes())?;
-    match Text::of(bytes) {
+    match Text::from_bytes(bytes) {
         Some(text) => Ok(text),
         None => unreachable!(),
     }

@@ -81,7 +81,7 @@ pub unexpected_fault : (f is : PacketFault) (old new : State) (due : Option Repl
 unexpected_fault f is old new due e greets before none end = λ now mark list.
     (Unexpected, (refl, (subst (λ (x : PacketFault). IsNeitherConnectNorVersion (Broken x)) (sym e) greets, before, refl, none, end)))
 
-pub other_version : (f : PacketFault) (old new : State) (due : Option Reply) → f ≡ fault.Version → old.phase ≡ phase.Before → due ≡ Some (reply.Refused (code_of UnsupportedProtocolVersion)) → new ≡ ended old (ByServer (code_of UnsupportedProtocolVersion))
+pub other_version : (f : PacketFault) (old new : State) (due : Option Reply) → f ≡ fault.Version → old.phase ≡ phase.Before → due ≡ Some (reply.ConnackRefused (code_of UnsupportedProtocolVersion)) → new ≡ ended old (ByServer (code_of UnsupportedProtocolVersion))
     → AnswersWithoutGate (Broken f) old due new
 other_version f old new due e before is end = λ now mark list.
     (Other_version, (refl, (ap Broken e, before, refl, is, end)))
@@ -99,18 +99,18 @@ accepted c false false old new due m w none before (inl (a, b, d)) = λ now mark
 accepted c false false old new due m w none before (inr (a, b, d)) = λ now mark list. (Connack_too_long, (refl, (c, refl, before, m, w, a, refl, b, d)))
 
 pub connect_refused : (c : Connect) (method will : Bool) (code : ReasonCode) (old new : State) (due : Option Reply) → is_some c.method ≡ method → c.will ≡ will → connect_refusal method will ≡ Some code → old.phase ≡ phase.Before
-    → due ≡ within (packet_maximum c.packet_maximum) (reply.Refused (code_of code)) → new ≡ ended old (ByServer (code_of code))
+    → due ≡ within (packet_maximum c.packet_maximum) (reply.ConnackRefused (code_of code)) → new ≡ ended old (ByServer (code_of code))
     → AnswersWithoutGate (Whole (packet.Connect c)) old due new
 connect_refused c true will code old new due m w is before d s = λ now mark list.
     let e : code ≡ BadAuthenticationMethod = cc in
-    (With_method, (refl, (c, refl, before, m, record { none_used = refl; reply = d ∙ ap (λ (n : ReasonCode). within (packet_maximum c.packet_maximum) (reply.Refused (code_of n))) e; end = s ∙ ap (λ (n : ReasonCode). ended old (ByServer (code_of n))) e })))
+    (With_method, (refl, (c, refl, before, m, record { none_used = refl; reply = d ∙ ap (λ (n : ReasonCode). within (packet_maximum c.packet_maximum) (reply.ConnackRefused (code_of n))) e; end = s ∙ ap (λ (n : ReasonCode). ended old (ByServer (code_of n))) e })))
 connect_refused c false true code old new due m w is before d s = λ now mark list.
     let e : code ≡ ImplementationSpecificError = cc in
-    (With_will, (refl, (c, refl, before, m, w, record { none_used = refl; reply = d ∙ ap (λ (n : ReasonCode). within (packet_maximum c.packet_maximum) (reply.Refused (code_of n))) e; end = s ∙ ap (λ (n : ReasonCode). ended old (ByServer (code_of n))) e })))
+    (With_will, (refl, (c, refl, before, m, w, record { none_used = refl; reply = d ∙ ap (λ (n : ReasonCode). within (packet_maximum c.packet_maximum) (reply.ConnackRefused (code_of n))) e; end = s ∙ ap (λ (n : ReasonCode). ended old (ByServer (code_of n))) e })))
 connect_refused c false false code old new due m w is before d s = absurd (cc)
 
 pub connect_without_memory : (c : Connect) (method will : Bool) (old new : State) (due : Option Reply) → is_some c.method ≡ method → c.will ≡ will → connect_refusal method will ≡ None → old.phase ≡ phase.Before
-    → due ≡ within (packet_maximum c.packet_maximum) (reply.Refused (code_of QuotaExceeded)) → new ≡ ended old (ByServer (code_of QuotaExceeded))
+    → due ≡ within (packet_maximum c.packet_maximum) (reply.ConnackRefused (code_of QuotaExceeded)) → new ≡ ended old (ByServer (code_of QuotaExceeded))
     → AnswersWithoutGate (Whole (packet.Connect c)) old due new
 connect_without_memory c true will old new due m w none before d s = absurd (cc)
 connect_without_memory c false true old new due m w none before d s = absurd (cc)

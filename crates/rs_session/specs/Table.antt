@@ -71,7 +71,7 @@ assigned_for None assigned = None
 assigned_for (Some client) assigned = if length client == 0 then Some assigned else None
 
 abbrev pub connack : Connect → State → Reply
-connack c old = reply.Accepted (record { session_expiry_zero = is_longer c.session_expiry; assigned_client = assigned_for c.client old.assigned })
+connack c old = reply.ConnackAccepted (record { session_expiry_zero = is_longer c.session_expiry; assigned_client = assigned_for c.client old.assigned })
 
 -- a session that was just opened
 abbrev pub open_for : Connect → Open
@@ -404,7 +404,7 @@ pub data Case : Type 0 where
 -- 3.2: a CONNACK that refuses, and the end. It is not sent if it is longer than the client takes
 pub record IsRefused (code : ReasonCode) (c : Connect) (from : Point State) (due : Option Reply) (to : Point State) : Type 0 where
   pub none_used : to.mark ≡ from.mark
-  pub reply : due ≡ within (packet_maximum c.packet_maximum) (reply.Refused (code_of code))
+  pub reply : due ≡ within (packet_maximum c.packet_maximum) (reply.ConnackRefused (code_of code))
   pub end : to.state ≡ ended from.state (ByServer (code_of code))
 
 -- what a row does with what is given, from the point before to the point after, with the reply that is then due
@@ -426,7 +426,7 @@ SessionRow Connack_too_long given from answered due to =
     × (packet_maximum c.packet_maximum < length (reply_bytes (connack c from.state))) × (to.mark ≡ from.mark) × (due ≡ None) × (to.state ≡ ended from.state (ByServer (code_of Success)))
 -- 3.1.2.2
 SessionRow Other_version given from answered due to =
-    (given.input ≡ Broken Version) × (from.state.phase ≡ phase.Before) × (to.mark ≡ from.mark) × (due ≡ Some (reply.Refused (code_of UnsupportedProtocolVersion)))
+    (given.input ≡ Broken Version) × (from.state.phase ≡ phase.Before) × (to.mark ≡ from.mark) × (due ≡ Some (reply.ConnackRefused (code_of UnsupportedProtocolVersion)))
     × (to.state ≡ ended from.state (ByServer (code_of UnsupportedProtocolVersion)))
 -- 3.1: the first packet is a CONNECT
 SessionRow Unexpected given from answered due to =

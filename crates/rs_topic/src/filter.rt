@@ -82,18 +82,6 @@ impl Model for TopicFilter {
 }
 
 impl TopicFilter {
-    /// The text as a topic filter. Its bytes are not copied. The error is the first of `Empty`, `Shared`, `BadWildcard`,
-    /// `TooManyLevels`.
-    #[tactic(auto, using(crate::proofs::Readings::filter_of_none, crate::proofs::Readings::filter_is))]
-    pub fn of(text: Text) -> Result<TopicFilter, TopicFault>
-        ensures { result ≡ filter_of text }
-    {
-        match filter_fault(text.as_bytes()) {
-            Some(fault) => Err(fault),
-            None => Ok(TopicFilter { text }),
-        }
-    }
-
     /// A copy of these bytes as a topic filter. The error is the first of `Empty`, `TooLong`, `NotUtf8`, `HasNul`, `Shared`,
     /// `BadWildcard`, `TooManyLevels`, `NoMemory`; only the copy takes memory.
     #[tactic(auto, using(crate::proofs::Readings::filter_found, crate::proofs::Readings::filter_found_for, crate::proofs::Readings::filter_denied, crate::proofs::Readings::filter_denied_for, crate::proofs::Readings::filter_read_is))]
@@ -143,6 +131,22 @@ impl TopicFilter {
         ensures { result ≡ levels self.now }
     {
         Levels::new(self.text.as_bytes())
+    }
+}
+
+impl TryFrom<Text> for TopicFilter {
+    type Error = TopicFault;
+
+    ghost try_from_gives = { λ text r. r ≡ filter_of text };
+
+    /// The text as a topic filter. Its bytes are not copied. The error is the first of `Empty`, `Shared`, `BadWildcard`,
+    /// `TooManyLevels`.
+    #[tactic(auto, using(crate::proofs::Readings::filter_of_none, crate::proofs::Readings::filter_is))]
+    fn try_from(text: Text) -> Result<TopicFilter, TopicFault> {
+        match filter_fault(text.as_bytes()) {
+            Some(fault) => Err(fault),
+            None => Ok(TopicFilter { text }),
+        }
     }
 }
 

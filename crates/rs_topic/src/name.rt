@@ -58,17 +58,6 @@ impl Model for TopicName {
 }
 
 impl TopicName {
-    /// The text as a topic name. Its bytes are not copied. The error is the first of `Empty`, `HasWildcard`, `TooManyLevels`.
-    #[tactic(auto, using(crate::proofs::Readings::name_of_none, crate::proofs::Readings::name_is))]
-    pub fn of(text: Text) -> Result<TopicName, TopicFault>
-        ensures { result ≡ name_of text }
-    {
-        match name_fault(text.as_bytes()) {
-            Some(fault) => Err(fault),
-            None => Ok(TopicName { text }),
-        }
-    }
-
     /// A copy of these bytes as a topic name. The error is the first of `Empty`, `TooLong`, `NotUtf8`, `HasNul`, `HasWildcard`,
     /// `TooManyLevels`, `NoMemory`; only the copy takes memory.
     #[tactic(auto, using(crate::proofs::Readings::name_found, crate::proofs::Readings::name_found_for, crate::proofs::Readings::name_denied, crate::proofs::Readings::name_denied_for, crate::proofs::Readings::name_read_is))]
@@ -107,6 +96,21 @@ impl TopicName {
         ensures { result ≡ levels self.now }
     {
         Levels::new(self.text.as_bytes())
+    }
+}
+
+impl TryFrom<Text> for TopicName {
+    type Error = TopicFault;
+
+    ghost try_from_gives = { λ text r. r ≡ name_of text };
+
+    /// The text as a topic name. Its bytes are not copied. The error is the first of `Empty`, `HasWildcard`, `TooManyLevels`.
+    #[tactic(auto, using(crate::proofs::Readings::name_of_none, crate::proofs::Readings::name_is))]
+    fn try_from(text: Text) -> Result<TopicName, TopicFault> {
+        match name_fault(text.as_bytes()) {
+            Some(fault) => Err(fault),
+            None => Ok(TopicName { text }),
+        }
     }
 }
 

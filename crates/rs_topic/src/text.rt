@@ -109,7 +109,7 @@ impl Text {
     /// The text of these bytes, which are not copied, and which the caller keeps to [`MAX_TEXT_SIZE`](crate::MAX_TEXT_SIZE). None if
     /// they are not UTF-8, or contain U+0000. It takes no memory.
     #[tactic(auto, using(crate::proofs::TextLemmas::is_text_when_read))]
-    pub fn of(bytes: Bytes) -> Option<Text>
+    pub fn from_bytes(bytes: Bytes) -> Option<Text>
         requires { length bytes < 2 ^ 16 }
         ensures { result ≡ (if reads_as_text bytes then Some bytes else None) }
     {

@@ -258,13 +258,13 @@ fn is_text_copied(alloc: Global, bytes: &[u8], is_plain: bool) -> Result<bool, F
 }
 
 fn is_name_copied(alloc: Global, bytes: &[u8]) -> Result<bool, Fail> {
-    let name = TopicName::of(Text::read(alloc, bytes)?)?;
+    let name = TopicName::try_from(Text::read(alloc, bytes)?)?;
     let copy = name.copy()?;
     Ok(copy == name && copy.as_bytes() == bytes)
 }
 
 fn is_filter_copied(alloc: Global, bytes: &[u8]) -> Result<bool, Fail> {
-    let filter = TopicFilter::of(Text::read(alloc, bytes)?)?;
+    let filter = TopicFilter::try_from(Text::read(alloc, bytes)?)?;
     let copy = filter.copy()?;
     Ok(copy == filter && copy.as_bytes() == bytes)
 }
@@ -408,7 +408,7 @@ fn levels_come_in_order(rt: HostRuntime) -> Result<(), Fail> {
 /// Whether the filters of these bytes are equal.
 fn are_equal(alloc: Global, first: &[u8], second: &[u8]) -> Result<bool, Fail> {
     let first = TopicFilter::read(alloc, first)?;
-    let second = TopicFilter::of(Text::read(alloc, second)?)?;
+    let second = TopicFilter::try_from(Text::read(alloc, second)?)?;
     Ok(first == second)
 }
 

@@ -3,30 +3,36 @@
 ghost use Rattle.std.specs.Prelude.{◌≡◌, ◌+◌, ◌<◌, ◌^◌, ◌++◌, length, OnOk, IfSome};
 ghost use Rattle.rs_field.specs.Forms.{varint_end, IsShort};
 ghost use Rattle.rs_packet.specs.Grammar.{frame};
-ghost use Rattle.rs_packet.specs.Replies.{expiry_told, client_told, limits_told, accepting, accepted_body};
+ghost use Rattle.rs_packet.specs.Replies.{session_expiry_bytes, assigned_client_bytes, limit_bytes, accepting, accepted_body};
 
 use crate::limits::{MAX_PACKET_SIZE, RECEIVE_MAXIMUM};
-use crate::reply::Accepted;
-use rs_field::{put_string, put_u16, put_u32, put_varint, varint_len};
+use crate::reply::ConnackAccepted;
+use rs_field::{Identifier, put_string, put_u16, put_u32, put_varint, varint_len};
 use rs_topic::Text;
 use std::alloc::AllocError;
 
+// The numbers of the properties that only a server sends (2.2.2.2).
+const ASSIGNED_CLIENT_IDENTIFIER: u8 = 0x12;
+
+const SHARED_SUBSCRIPTION_AVAILABLE: u8 = 0x2A;
+
 /// Appends a Session Expiry Interval of 0 (3.2.2.3.2), if the client is told one.
-fn put_expiry_told(out: &mut Vec<u8>, told: bool) -> Result<(), AllocError>
-    ensures { OnOk result (out.new.items ≡ out.old.items ++ expiry_told told) }
+fn put_session_expiry(out: &mut Vec<u8>, told: bool) -> Result<(), AllocError>
+    ensures { OnOk result (out.new.items ≡ out.old.items ++ session_expiry_bytes told) }
 {
     if told {
-        out.extend_from_slice(&[0x11, 0, 0, 0, 0])?;
+        out.push(Identifier::SessionExpiryInterval.number())?;
+        put_u32(out, 0)?;
     }
     Ok(())
 }
 
 /// Appends the Assigned Client Identifier (3.2.2.3.7), if there is one.
-fn put_client_told(out: &mut Vec<u8>, client: &Option<Text>) -> Result<(), AllocError>
-    ensures { OnOk result (out.new.items ≡ out.old.items ++ client_told client.now) }
+fn put_assigned_client(out: &mut Vec<u8>, client: &Option<Text>) -> Result<(), AllocError>
+    ensures { OnOk result (out.new.items ≡ out.old.items ++ assigned_client_bytes client.now) }
 {
     if let Some(client) = client {
-        out.push(0x12)?;
+        out.push(ASSIGNED_CLIENT_IDENTIFIER)?;
         put_string(out, client)?;
     }
     Ok(())
@@ -34,20 +40,20 @@ fn put_client_told(out: &mut Vec<u8>, client: &Option<Text>) -> Result<(), Alloc
 
 /// Appends what every CONNACK that accepts says: the two maxima (3.2.2.3.3, 3.2.2.3.6), and that there are no shared
 /// subscriptions (3.2.2.3.13).
-fn put_limits_told(out: &mut Vec<u8>) -> Result<(), AllocError>
-    ensures { OnOk result (out.new.items ≡ out.old.items ++ limits_told) }
+fn put_limits(out: &mut Vec<u8>) -> Result<(), AllocError>
+    ensures { OnOk result (out.new.items ≡ out.old.items ++ limit_bytes) }
 {
-    out.push(0x21)?;
+    out.push(Identifier::ReceiveMaximum.number())?;
     put_u16(out, RECEIVE_MAXIMUM)?;
-    out.push(0x27)?;
+    out.push(Identifier::MaximumPacketSize.number())?;
     put_u32(out, MAX_PACKET_SIZE)?;
-    out.extend_from_slice(&[0x2A, 0])?;
+    out.extend_from_slice(&[SHARED_SUBSCRIPTION_AVAILABLE, 0])?;
     Ok(())
 }
 
 /// The number of bytes of the Assigned Client Identifier (3.2.2.3.7).
 fn client_len(client: &Option<Text>) -> usize
-    ensures value { result ≡ length (client_told client.now) }
+    ensures value { result ≡ length (assigned_client_bytes client.now) }
     ensures small { result < 2 ^ 17 }
     ensures fits { IfSome client.now IsShort }
 {
@@ -59,7 +65,7 @@ fn client_len(client: &Option<Text>) -> usize
 
 /// The number of bytes of the properties of a CONNACK that accepts.
 #[tactic(auto, using(crate::proofs::Lengths::length_accepting))]
-fn accepting_len(a: &Accepted) -> usize
+fn accepting_len(a: &ConnackAccepted) -> usize
     ensures value { result ≡ length (accepting a.now) }
     ensures small { result < 2 ^ 18 }
     ensures fits { IfSome a.now.assigned_client IsShort }
@@ -70,7 +76,7 @@ fn accepting_len(a: &Accepted) -> usize
 
 /// The number of bytes of the body of a CONNACK that accepts.
 #[tactic(auto, using(crate::proofs::Lengths::length_accepted))]
-pub(crate) fn accepted_len(a: &Accepted) -> usize
+pub(crate) fn accepted_len(a: &ConnackAccepted) -> usize
     ensures value { result ≡ length (accepted_body a.now) }
     ensures small { result < varint_end }
     ensures fits { IfSome a.now.assigned_client IsShort }
@@ -80,14 +86,14 @@ pub(crate) fn accepted_len(a: &Accepted) -> usize
 }
 
 /// Appends a CONNACK that accepts.
-pub(crate) fn put_accepted(out: &mut Vec<u8>, a: &Accepted) -> Result<(), AllocError>
+pub(crate) fn put_accepted(out: &mut Vec<u8>, a: &ConnackAccepted) -> Result<(), AllocError>
     ensures { OnOk result (out.new.items ≡ out.old.items ++ frame 0x20 (accepted_body a.now)) }
 {
     out.push(0x20)?;
     put_varint(out, accepted_len(a))?;
     out.extend_from_slice(&[0, 0])?;
     put_varint(out, accepting_len(a))?;
-    put_expiry_told(out, a.session_expiry_zero)?;
-    put_client_told(out, &a.assigned_client)?;
-    put_limits_told(out)
+    put_session_expiry(out, a.session_expiry_zero)?;
+    put_assigned_client(out, &a.assigned_client)?;
+    put_limits(out)
 }

@@ -15,7 +15,7 @@ use crate::phase::{Closing, Input, Phase};
 use crate::reason::ReasonCode;
 use crate::session::within;
 use crate::subscriptions::Subscriptions;
-use rs_packet::{Accepted, Connect, Packet, PacketFault, Reply, encoded_len};
+use rs_packet::{ConnackAccepted, Connect, Packet, PacketFault, Reply, encoded_len};
 use rs_topic::Text;
 use rs_window::{Inbound, Window};
 use std::alloc::AllocError;
@@ -52,7 +52,7 @@ impl<G: Gate> Session<G> {
         match fault {
             PacketFault::Version => {
                 let code = ReasonCode::UnsupportedProtocolVersion.code();
-                self.due = Some(Reply::Refused(code));
+                self.due = Some(Reply::ConnackRefused(code));
                 self.end(Closing::ByServer(code));
             }
             PacketFault::Malformed => self.end(Closing::Dropped),
@@ -103,11 +103,11 @@ impl<G: Gate> Session<G> {
     /// A CONNACK that refuses, to a client that takes it, and the end.
     fn refuse(&mut self, reason: ReasonCode, maximum: u32)
         ensures state { state_of self.new ≡ ended (state_of self.old) (Closing.ByServer (code_of reason)) }
-        ensures due { self.new.due ≡ within maximum (Reply.Refused (code_of reason)) }
+        ensures due { self.new.due ≡ within maximum (Reply.ConnackRefused (code_of reason)) }
         ensures gate { self.new.gate ≡ self.old.gate }
     {
         let code = reason.code();
-        self.due = within(maximum, Reply::Refused(code));
+        self.due = within(maximum, Reply::ConnackRefused(code));
         self.end(Closing::ByServer(code));
     }
 
@@ -115,7 +115,7 @@ impl<G: Gate> Session<G> {
     fn connack(&self, c: &Connect) -> Result<Reply, AllocError>
         ensures { IfOk result (λ r. r ≡ connack c.now (state_of self.now)) }
     {
-        Ok(Reply::Accepted(Accepted {
+        Ok(Reply::ConnackAccepted(ConnackAccepted {
             session_expiry_zero: is_longer(c.session_expiry),
             assigned_client: self.assigned_for(&c.client)?,
         }))

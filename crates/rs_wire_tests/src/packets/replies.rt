@@ -33,7 +33,7 @@ fn accepted(alloc: Global, session_expiry_zero: bool, client: &[u8]) -> Option<R
     } else {
         Some(Text::read(alloc, client).ok()?)
     };
-    Some(Reply::Accepted(Accepted {
+    Some(Reply::ConnackAccepted(ConnackAccepted {
         session_expiry_zero,
         assigned_client,
     }))
@@ -60,7 +60,7 @@ fn codes(alloc: Global, id: PacketId, codes: &[u8]) -> Option<Codes> {
 fn reply_of(alloc: Global, plain: Plain) -> Option<Reply> {
     match plain {
         Plain::Accepted(zero, client) => accepted(alloc, zero, client),
-        Plain::Refused(code) => Some(Reply::Refused(code)),
+        Plain::Refused(code) => Some(Reply::ConnackRefused(code)),
         Plain::Acknowledgement(first, id, code) => acknowledgement(first, PacketId::new(id)?, code),
         Plain::Suback(id, all) => Some(Reply::Suback(codes(alloc, PacketId::new(id)?, all)?)),
         Plain::Unsuback(id, all) => Some(Reply::Unsuback(codes(alloc, PacketId::new(id)?, all)?)),

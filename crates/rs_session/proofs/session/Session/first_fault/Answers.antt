@@ -6,7 +6,7 @@ use Rattle.rs_session.proofs.Rows.{unexpected_fault, other_version}
 use Rattle.rs_session.proofs.session.Session.first_fault.Goals as goal
 
 pub returns-in-Version-clause-row : goal.returns-in-Version-clause-row
-returns-in-Version-clause-row g c = other_version c.args.fault _ _ _ c.in-Version.is c.requires.before (c.end.ensures.due ∙ ap (λ (n : ℕ). Some (reply.Refused n)) c.code-code.ensures)
+returns-in-Version-clause-row g c = other_version c.args.fault _ _ _ c.in-Version.is c.requires.before (c.end.ensures.due ∙ ap (λ (n : ℕ). Some (reply.ConnackRefused n)) c.code-code.ensures)
     (c.end.ensures.state ∙ ap (λ (n : ℕ). ended (state_of c.args.self.now) (ByServer n)) c.code-code.ensures)
 
 pub returns-in-Malformed-clause-row : goal.returns-in-Malformed-clause-row

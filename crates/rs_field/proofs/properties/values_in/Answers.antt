@@ -3,7 +3,7 @@ use Rattle.std.proofs.lemmas.Result.{err_from_is_err_and}
 use Rattle.rs_field.specs.Properties.{nothing, none_yet, number}
 use Rattle.rs_field.specs.Reading.{gather_on, properties_in}
 use Rattle.rs_field.proofs.PropertyLoop.{stepped, fails, done, some_left, none_left}
-use Rattle.rs_field.proofs.properties.found_in.Goals as goal
+use Rattle.rs_field.proofs.properties.values_in.Goals as goal
 
 pub next-smaller : goal.next-smaller
 next-smaller c = c.in_ok-property.ensures.shorter

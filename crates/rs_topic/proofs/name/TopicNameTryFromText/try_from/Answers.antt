@@ -1,7 +1,7 @@
 use Rattle.std.proofs.Common.{List, ℕ, sym, ap, ◌∙◌}
 use Rattle.rs_topic.specs.Topics.{first_fault, name_faults_of_text}
 use Rattle.rs_topic.proofs.Readings.{name_of_fault}
-use Rattle.rs_topic.proofs.name.TopicName.of.Goals as goal
+use Rattle.rs_topic.proofs.name.TopicNameTryFromText.try_from.Goals as goal
 
 pub returns-in-Some : goal.returns-in-Some
 returns-in-Some c =
