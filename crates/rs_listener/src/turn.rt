@@ -23,20 +23,20 @@ pub(crate) struct ListenClock<H: Clock> {
     clock: SystemClock,
     // How often the time was told: once for each packet.
     packets: u64,
-    id: ConnectionId,
+    id: LoggedConnection,
 }
 
-/// Which connection it is.
+/// Which connection it is, as the log says.
 #[derive(Clone, Copy)]
-pub(crate) struct ConnectionId {
+pub(crate) struct LoggedConnection {
     place: u8,
     number: u64,
     peer: SocketAddr,
 }
 
-impl Display for ConnectionId {
+impl Display for LoggedConnection {
     fn fmt<W: fmt::Write>(&self, f: &mut Formatter<W>) -> fmt::Result {
-        let ConnectionId {
+        let LoggedConnection {
             place,
             number,
             peer,
@@ -94,7 +94,7 @@ impl<H: Clock + Log + Copy + Send> Turn for ListenTurn<H> {
             peer,
         } = self.listener.accept(&self.rt, self.alloc)?;
         self.number = self.number.saturating_add(1);
-        let id = ConnectionId {
+        let id = LoggedConnection {
             place: self.place,
             number: self.number,
             peer,

@@ -5,7 +5,7 @@ ghost use Rattle.std.specs.Arc.{arc_value};
 ghost use Rattle.crossbeam_queue.specs.Passes.{view, IsPassOf};
 
 use crate::gathered::Gathered;
-use crate::sharing::{HalfPass, Put, PutWrittenOut, Shared, Take};
+use crate::sharing::{GiveBack, GiveBackWrittenOut, HalfPass, Take, WriterCell};
 use std::io;
 use std::io::{ErrorKind, Read, Write};
 use std::sync::Arc;
@@ -15,7 +15,7 @@ use std::sync::Arc;
 /// Its contents are those of the inner writer, and then what waits.
 #[derive(Drop)]
 pub struct WriteHalf<W: Write + Drop> {
-    pub(crate) shared: Arc<Shared<W>>,
+    pub(crate) shared: Arc<WriterCell<W>>,
     pub(crate) pass: HalfPass<W>,
     pub(crate) count: u64,
     ghost of_cell: { IsPassOf (arc_value shared) pass },
@@ -28,7 +28,7 @@ pub struct WriteHalf<W: Write + Drop> {
 #[derive(Drop)]
 pub struct ReadHalf<R, W: Write + Drop> {
     pub(crate) inner: R,
-    pub(crate) shared: Arc<Shared<W>>,
+    pub(crate) shared: Arc<WriterCell<W>>,
     pub(crate) pass: HalfPass<W>,
     pub(crate) count: u64,
     pub(crate) unwritten: bool,
@@ -59,7 +59,7 @@ impl<W: Write + Drop> Write for WriteHalf<W> {
         let written = gathered.write(buf);
         if self
             .shared
-            .try_push_as::<Put>(&mut self.pass, gathered)
+            .try_push_as::<GiveBack>(&mut self.pass, gathered)
             .is_err()
         {
             return Err(is_taken());
@@ -113,9 +113,11 @@ impl<R, W: Write + Drop> ReadHalf<R, W> {
         let put = match gathered.write_out() {
             Ok(()) => self
                 .shared
-                .try_push_as::<PutWrittenOut>(&mut self.pass, gathered),
+                .try_push_as::<GiveBackWrittenOut>(&mut self.pass, gathered),
             Err(error) => {
-                let _ = self.shared.try_push_as::<Put>(&mut self.pass, gathered);
+                let _ = self
+                    .shared
+                    .try_push_as::<GiveBack>(&mut self.pass, gathered);
                 return Err(error);
             }
         };

@@ -6,7 +6,7 @@ ghost use Rattle.rs_sockets.specs.Halves.{unread_of, written_of};
 
 use crate::gathered::Gathered;
 use crate::halves::{ReadHalf, WriteHalf, is_taken};
-use crate::sharing::{ForReading, Put, Take, empty_cell};
+use crate::sharing::{ForReading, GiveBack, Take, empty_cell};
 use std::alloc::Global;
 use std::io;
 use std::io::{Read, Write};
@@ -29,7 +29,7 @@ pub fn split<R: Read + Drop, W: Write + Drop>(
     let (shared, mut pass) = empty_cell::<W>(alloc)?;
     let shared_too = Arc::try_clone(&shared)?;
     let reading = shared.another::<ForReading>(&mut pass);
-    match shared.try_push_as::<Put>(&mut pass, gathered) {
+    match shared.try_push_as::<GiveBack>(&mut pass, gathered) {
         Ok(()) => Ok((
             ReadHalf {
                 inner: reader,
