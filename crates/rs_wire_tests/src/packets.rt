@@ -90,7 +90,7 @@ fn kept_by(properties: &Properties) -> Kept {
 }
 
 // The length of a client identifier whose bytes are all `a`.
-fn length_of_as(client: &Option<Text>) -> usize {
+fn length_if_all_a(client: &Option<Text>) -> usize {
     let Some(client) = client else {
         return 0;
     };
@@ -104,17 +104,17 @@ fn length_of_as(client: &Option<Text>) -> usize {
     length
 }
 
-fn of_connect(connect: &Connect) -> Shape {
+fn shape_of_connect(connect: &Connect) -> Shape {
     Shape::Connect(
         connect.clean_start,
         connect.keep_alive,
         connect.receive_maximum.unwrap_or(0),
         connect.packet_maximum.unwrap_or(0),
-        length_of_as(&connect.client),
+        length_if_all_a(&connect.client),
     )
 }
 
-fn of_publish(publish: &Publish) -> Shape {
+fn shape_of_publish(publish: &Publish) -> Shape {
     let fault = match &publish.topic {
         Ok(_) => 0,
         Err(fault) => fault.code(),
@@ -148,7 +148,7 @@ fn asks_for_all(options: &Options) -> bool {
         && options.retain_as_published
 }
 
-fn of_subscribe(subscribe: &Subscribe) -> Shape {
+fn shape_of_subscribe(subscribe: &Subscribe) -> Shape {
     let mut all = true;
     for filter in &subscribe.filters {
         all = all && asks_for_all(&filter.1);
@@ -163,13 +163,13 @@ fn of_subscribe(subscribe: &Subscribe) -> Shape {
 
 fn shape_of(packet: &Packet) -> Shape {
     match packet {
-        Packet::Connect(connect) => of_connect(connect),
-        Packet::Publish(publish) => of_publish(publish),
+        Packet::Connect(connect) => shape_of_connect(connect),
+        Packet::Publish(publish) => shape_of_publish(publish),
         Packet::Puback(a) => Shape::Acknowledgement(4, a.id.get(), a.code),
         Packet::Pubrec(a) => Shape::Acknowledgement(5, a.id.get(), a.code),
         Packet::Pubrel(a) => Shape::Acknowledgement(6, a.id.get(), a.code),
         Packet::Pubcomp(a) => Shape::Acknowledgement(7, a.id.get(), a.code),
-        Packet::Subscribe(subscribe) => of_subscribe(subscribe),
+        Packet::Subscribe(subscribe) => shape_of_subscribe(subscribe),
         Packet::Unsubscribe(u) => Shape::Unsubscribe(u.id.get(), u.filters.len()),
         Packet::Pingreq => Shape::Pingreq,
         Packet::Disconnect(code) => Shape::Disconnect(*code),
@@ -234,7 +234,7 @@ const READ: &[(&[u8], Shape)] = &[
 ];
 
 #[test]
-fn packets_are_read(rt: HostRuntime) {
+fn packets_are_decoded(rt: HostRuntime) {
     for (bytes, shape) in READ {
         assert!(rt; is_shaped(&rt, &Bytes::from_static(bytes), *shape));
     }
@@ -331,7 +331,7 @@ fn is_judged(rt: &HostRuntime, bytes: &'static [u8], wanted: u8) -> bool {
 }
 
 #[test]
-fn faults_are_judged(rt: HostRuntime) {
+fn the_first_fault_of_a_packet_is_answered(rt: HostRuntime) {
     for (bytes, wanted) in JUDGED {
         assert!(rt; is_judged(&rt, bytes, *wanted));
     }
@@ -411,7 +411,7 @@ fn is_waited_for(rt: &HostRuntime, bytes: &'static [u8]) -> bool {
 }
 
 #[test]
-fn packets_are_waited_for(rt: HostRuntime) {
+fn each_front_of_a_packet_waits_for_more(rt: HostRuntime) {
     for (bytes, _) in READ {
         assert!(rt; is_waited_for(&rt, bytes));
     }
@@ -422,14 +422,14 @@ fn packets_are_waited_for(rt: HostRuntime) {
 
 // A body is judged when it is all there; a first byte and a length at once.
 #[test]
-fn faults_are_waited_for(rt: HostRuntime) {
+fn each_front_of_a_faulty_packet_waits_for_more(rt: HostRuntime) {
     for (bytes, _) in JUDGED {
         assert!(rt; waits(&rt, bytes));
     }
 }
 
 #[test]
-fn fronts_tell_the_size(rt: HostRuntime) {
+fn the_first_bytes_tell_the_size_of_a_packet(rt: HostRuntime) {
     assert!(rt; needed_len(&[0x31, 7]) == 9);
     assert!(rt; needed_len(&[0x31, 7, 0, 3, 0x61, 0x2F, 0x62, 0, 0x78, 0xC0]) == 9);
     assert!(rt; needed_len(&[0x31, 0xFC, 0xFF, 0x0F]) == 262_144);
@@ -439,7 +439,7 @@ fn fronts_tell_the_size(rt: HostRuntime) {
 }
 
 #[test]
-fn subscription_identifiers_have_a_range(rt: HostRuntime) {
+fn subscription_identifiers_are_1_to_268_435_455(rt: HostRuntime) {
     assert!(rt; number_of(SubscriptionId::new(0)) == 0);
     assert!(rt; number_of(SubscriptionId::new(1)) == 1);
     assert!(rt; number_of(SubscriptionId::new(268_435_455)) == 268_435_455);

@@ -279,7 +279,7 @@ fn are_copied(alloc: Global, bytes: &[u8], is_plain: bool) -> Result<bool, Fail>
 }
 
 #[test]
-fn the_greatest_are_copied(rt: HostRuntime) -> Result<(), Fail> {
+fn copies_of_the_greatest_texts_are_equal(rt: HostRuntime) -> Result<(), Fail> {
     for (byte, count) in [(b'x', MAX_TEXT_SIZE), (b'/', MAX_LEVELS - 1)] {
         let bytes = vec![in rt.alloc(); byte; count]?;
         assert!(rt; are_copied(rt.alloc(), &bytes, true)?);
@@ -288,7 +288,7 @@ fn the_greatest_are_copied(rt: HostRuntime) -> Result<(), Fail> {
 }
 
 #[test]
-fn the_least_are_copied(rt: HostRuntime) -> Result<(), Fail> {
+fn copies_of_the_least_texts_are_equal(rt: HostRuntime) -> Result<(), Fail> {
     assert!(rt; is_text_copied(rt.alloc(), b"", true)?);
     assert!(rt; are_copied(rt.alloc(), b"$share", true)?);
     assert!(rt; are_copied(rt.alloc(), b"a/b", true)?);
@@ -413,7 +413,7 @@ fn are_equal(alloc: Global, first: &[u8], second: &[u8]) -> Result<bool, Fail> {
 }
 
 #[test]
-fn filters_are_compared(rt: HostRuntime) -> Result<(), Fail> {
+fn filters_are_equal_if_their_bytes_are(rt: HostRuntime) -> Result<(), Fail> {
     assert!(rt; are_equal(rt.alloc(), b"a/+", b"a/+")?);
     assert!(rt; !are_equal(rt.alloc(), b"a/+", b"a/#")?);
     Ok(())
@@ -421,7 +421,7 @@ fn filters_are_compared(rt: HostRuntime) -> Result<(), Fail> {
 
 /// If memory is refused the answer is NoMemory; a fault of the bytes comes first.
 #[test]
-fn out_of_memory_is_answered(rt: HostRuntime) {
+fn no_memory_is_answered_only_if_there_is_no_other_fault(rt: HostRuntime) {
     for fault in faults_of(rt.alloc(), b"a/b") {
         assert!(rt; fault.is_none() || fault == Some(TopicFault::NoMemory));
     }

@@ -171,7 +171,7 @@ fn goes_on(found: &Outcome, bytes: &[u8]) -> bool {
 }
 
 #[test]
-fn a_failed_read_goes_on(rt: HostRuntime) -> Result<(), Fail> {
+fn reading_goes_on_after_a_failed_read(rt: HostRuntime) -> Result<(), Fail> {
     for fails_at in 1..=TEXT.len() {
         let way = Way {
             step: 1,

@@ -94,7 +94,7 @@ fn all_bytes_are_written(rt: HostRuntime) -> Result<(), Fail> {
 
 // A call that failed and is made again leaves no digit out, and writes none twice.
 #[test]
-fn a_failed_write_goes_on(rt: HostRuntime) -> Result<(), Fail> {
+fn writing_goes_on_after_a_failed_write(rt: HostRuntime) -> Result<(), Fail> {
     let lines: [&[u8]; 1] = [b"\x01\x23\x45\x67\x89"];
     for fails_at in 1..=11 {
         assert!(rt;
@@ -107,7 +107,7 @@ fn a_failed_write_goes_on(rt: HostRuntime) -> Result<(), Fail> {
 
 // Nothing is written if the output takes nothing.
 #[test]
-fn an_output_that_takes_nothing(rt: HostRuntime) {
+fn nothing_is_written_if_the_output_takes_nothing(rt: HostRuntime) {
     let mut lines = HexWriter::new(StepWriter {
         text: Vec::new(rt.alloc()),
         step: 0,

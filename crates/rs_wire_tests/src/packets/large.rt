@@ -426,7 +426,7 @@ const LEVELS: &[Row] = &[
 ];
 
 #[test]
-fn large_packets_are_read(rt: HostRuntime) -> Result<(), Fail> {
+fn large_packets_are_decoded(rt: HostRuntime) -> Result<(), Fail> {
     for rows in [CONNECTS, OTHERS, PUBLISHES, LEVELS] {
         for row in rows {
             assert!(rt; is_read(&rt, row)?);
@@ -450,7 +450,7 @@ fn is_waited_for(rt: &HostRuntime, row: &Row) -> Result<bool, AllocError> {
 }
 
 #[test]
-fn packets_of_many_levels_are_waited_for(rt: HostRuntime) -> Result<(), Fail> {
+fn each_front_of_a_packet_of_many_levels_waits_for_more(rt: HostRuntime) -> Result<(), Fail> {
     for row in LEVELS {
         assert!(rt; is_waited_for(&rt, row)?);
     }

@@ -126,7 +126,7 @@ const WRITTEN: &[(Plain<'static>, &[u8])] = &[
 ];
 
 #[test]
-fn replies_are_written(rt: HostRuntime) {
+fn replies_are_encoded(rt: HostRuntime) {
     for (plain, bytes) in WRITTEN {
         assert!(rt; is_written(&rt, *plain, bytes, bytes.len()));
     }
@@ -145,7 +145,7 @@ fn suback_takes(rt: &HostRuntime, count: usize, size: usize) -> Result<bool, All
 }
 
 #[test]
-fn many_codes_are_written(rt: HostRuntime) -> Result<(), Fail> {
+fn a_suback_of_many_codes_has_its_length(rt: HostRuntime) -> Result<(), Fail> {
     for (count, size) in [(257, 263), (65_536, 65_543), (262_144, 262_151)] {
         assert!(rt; suback_takes(&rt, count, size)?);
     }
@@ -160,7 +160,7 @@ fn connack_takes(rt: &HostRuntime, count: usize, size: usize) -> Result<bool, Al
 }
 
 #[test]
-fn long_identifiers_are_assigned(rt: HostRuntime) -> Result<(), Fail> {
+fn a_connack_that_assigns_a_long_identifier_has_its_length(rt: HostRuntime) -> Result<(), Fail> {
     for (count, size) in [(24, 47), (1_000, 1_025), (65_535, 65_562)] {
         assert!(rt; connack_takes(&rt, count, size)?);
     }

@@ -153,7 +153,7 @@ const SENT: &[(&[u8], Qos, u32, &[u8])] = &[
 ];
 
 #[test]
-fn messages_are_sent_on(rt: HostRuntime) {
+fn messages_are_sent_on_with_qos_and_subscription_identifier(rt: HostRuntime) {
     for (bytes, qos, subscription, want) in SENT {
         let bytes = Bytes::from_static(bytes);
         assert!(rt; is_sent_as(&rt, &bytes, *qos, *subscription, want));
