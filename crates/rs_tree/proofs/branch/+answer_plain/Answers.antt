@@ -48,12 +48,12 @@ pub Child::answer_plain-returns : goal.Child::answer_plain-returns
 Child::answer_plain-returns t c =
     let pattern = levels_from c.args.at c.args.filter.now in
     let rest = levels_from c.args.next c.args.filter.now in
-    let plain : begins_with_dollar c.self.inside.level ≡ false = rw c.as_slice.ensures at (sym c.begins_with_dollar.ensures ∙ c.if-begins_with_dollar.false) in
+    let plain : begins_with_dollar c.self.inside.level ≡ false = rw c.as_slice.ensures at (sym c.begins_with_dollar.ensures.value ∙ c.if-begins_with_dollar.false) in
     let gives : Gives c.answer.result c.args.answer.now c.answer.new.answer (chosen pattern c.args.now (spots_of c.self.inside.level c.self.inside.below)) = rw (← c.self.view_is) at c.answer.ensures in
     rw (← c.self.view_is) (gives_same c.answer.result c.args.answer.now c.answer.new.answer _ _ (plain_below pattern rest c.args.now c.self.inside.level c.self.inside.below c.in_default.not-Row c.requires plain) gives)
 
 pub Child::answer_plain-returns-then-begins_with_dollar : goal.Child::answer_plain-returns-then-begins_with_dollar
 Child::answer_plain-returns-then-begins_with_dollar t c =
     let rest = levels_from c.args.next c.args.filter.now in
-    let dollar : begins_with_dollar c.self.inside.level ≡ true = rw c.as_slice.ensures at (sym c.begins_with_dollar.ensures ∙ c.if-begins_with_dollar.true) in
+    let dollar : begins_with_dollar c.self.inside.level ≡ true = rw c.as_slice.ensures at (sym c.begins_with_dollar.ensures.value ∙ c.if-begins_with_dollar.true) in
     rw (← c.self.view_is) (gives_none c.args.answer.now _ (dollar_below rest c.args.now c.self.inside.level c.self.inside.below c.in_default.not-Row dollar))
