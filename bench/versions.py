@@ -25,7 +25,7 @@ MESSAGES = 60_000
 
 # How many bytes a message of 64 bytes at a topic of 64 bytes may take in the two catalogues
 # together, its packet aside.
-EACH_LIMIT = 900
+EACH_LIMIT = 600
 
 
 def run(topics, readers, millis=MILLIS):

@@ -159,8 +159,7 @@ def main():
             }
             calls("versions", least, library, count)
         for count in (1, 2):
-            # A submit copies its operation, which takes no memory. So one is refused only behind
-            # an entry that is held.
+            # A submit takes room for its job, and the writer room for its replies.
             least = {
                 "a submit that makes no entry": count - 1,
                 "a submit whose entry is held": 2,

@@ -1,17 +1,20 @@
 -- What was done with the jobs that the writer took, one after the other.
-use Rattle.std.proofs.Common.{◌≡◌, ℕ, suc, ◌+◌, Bool, true, false, cond, All, List, [], ◌∷◌, ◌++◌, length, inl, inr, refl, sym, ap, subst, ◌∙◌, append_assoc, zero-add, Ok, Err, OnOk, IfOk, IfErr, arith}
-use Rattle.std.specs.List.{filter}
+use Rattle.std.proofs.Common.{◌≡◌, ℕ, zero, suc, ◌+◌, Bool, true, false, cond, All, ◌<◌, ◌≤◌, ◌||◌, List, [], ◌∷◌, ◌++◌, length, map, inl, inr, refl, sym, ap, subst, ◌∙◌, append_assoc, length-append, zero-add, Ok, Err, OnOk, IfOk, IfErr, arith}
+use Rattle.std.specs.List.{AllByRecursion, filter}
 use Rattle.std.proofs.lemmas.List.{append-nil}
+use Rattle.std.proofs.lemmas.List.Elements.{filter-append}
 use Rattle.rs_message.specs.Messages.{is_sweep}
 use Rattle.rs_message.specs.declared.entry.Entry.{Entry}
 use Rattle.rs_store.specs.Adding.{Adds}
 use Rattle.rs_store.specs.History.{SerialsRise, cleaned, extended}
 use Rattle.rs_version.specs.Writer.{Refuses, Written, kept_of, shows}
 use Rattle.rs_version.specs.declared.fault.PutFault.TheVariants.{Full, Held, NoMemory, Stale}
-use Rattle.rs_intake.specs.Done.{Answer, AreDone, IsDone, IsPut, IsWritten, accepted, is_refused, refused_in}
+use Rattle.rs_intake.specs.Changes.{AreChanges, AreOf, ArePlain, place_of_all}
+use Rattle.rs_intake.specs.Done.{Answer, AreAnswered, AreDone, AreRefusedBehind, AreReplied, IsAnswered, IsDone, IsPut, IsWritten, ReplyValue, accepted, is_held, is_refused, refused_reply, refused_in, replies_to}
 use Rattle.rs_intake.specs.Parts.{IsPart}
-use Rattle.rs_intake.specs.Sweeps.{AreForJobs, IsSweptAtMost, without_sweeps}
-use Rattle.rs_intake.proofs.Sweeps.{Serves, adds_kept, held_kept, no_memory_kept, serves_job, serves_refused, serves_start, settled_kept, without_cleaned, without_more}
+use Rattle.rs_intake.specs.Sweeps.{AreForJobs, IsSweptAtMost, Serves, without_sweeps}
+use Rattle.rs_intake.proofs.Parts.{part_front, part_rises}
+use Rattle.rs_intake.proofs.Sweeps.{job_rises, adds_kept, held_kept, no_memory_kept, serves_job, serves_refused, serves_start, settled_kept, without_cleaned, without_more}
 
 -- ---- a put
 
@@ -90,30 +93,52 @@ without_done limit kept job answer kept' plain is = go (is_refused answer) refl
     go false stays = without_added limit kept job kept' plain (adds_if_done limit kept job answer kept' is stays)
     go true goes = without_swept limit kept job kept' (swept_if_done limit kept job answer kept' is goes) ∙ sym (append-nil (without_sweeps kept))
 
-accepted_more : (limit : ℕ) (first jobs : List Entry) (told : List Answer) (kept : List Entry) (job : Entry) (answer : Answer) → AreDone limit first jobs told kept
-    → accepted (jobs ++ job ∷ []) (told ++ answer ∷ []) ≡ accepted jobs told ++ accepted (job ∷ []) (answer ∷ [])
-accepted_more limit first [] [] kept job answer are = refl
-accepted_more limit first [] (a ∷ told) kept job answer are = absurd are
-accepted_more limit first (j ∷ jobs) [] kept job answer are = absurd are
-accepted_more limit first (j ∷ jobs) (a ∷ told) kept job answer are = go (is_refused a) (accepted_more limit are.0 jobs told kept job answer are.2)
+-- more jobs
+done_append : (limit : ℕ) (first jobs : List Entry) (told : List Answer) (kept more : List Entry) (behind : List Answer) (kept' : List Entry)
+    → AreDone limit first jobs told kept → AreDone limit kept more behind kept' → AreDone limit first (jobs ++ more) (told ++ behind) kept'
+done_append limit first [] [] kept more behind kept' are rest = let P : List Entry → Type 0 = λ l. AreDone limit l more behind kept' in subst P are rest
+done_append limit first [] (a ∷ told) kept more behind kept' are rest = absurd are
+done_append limit first (j ∷ jobs) [] kept more behind kept' are rest = absurd are
+done_append limit first (j ∷ jobs) (a ∷ told) kept more behind kept' are rest = (are.0, are.1, done_append limit are.0 jobs told kept more behind kept' are.2 rest)
+
+accepted_append : (limit : ℕ) (first jobs : List Entry) (told : List Answer) (kept more : List Entry) (behind : List Answer) → AreDone limit first jobs told kept
+    → accepted (jobs ++ more) (told ++ behind) ≡ accepted jobs told ++ accepted more behind
+accepted_append limit first [] [] kept more behind are = refl
+accepted_append limit first [] (a ∷ told) kept more behind are = absurd are
+accepted_append limit first (j ∷ jobs) [] kept more behind are = absurd are
+accepted_append limit first (j ∷ jobs) (a ∷ told) kept more behind are = go (is_refused a) (accepted_append limit are.0 jobs told kept more behind are.2)
   where
-    go : (b : Bool) → accepted (jobs ++ job ∷ []) (told ++ answer ∷ []) ≡ accepted jobs told ++ accepted (job ∷ []) (answer ∷ [])
-        → cond b (accepted (jobs ++ job ∷ []) (told ++ answer ∷ [])) (j ∷ accepted (jobs ++ job ∷ []) (told ++ answer ∷ []))
-        ≡ cond b (accepted jobs told) (j ∷ accepted jobs told) ++ accepted (job ∷ []) (answer ∷ [])
+    go : (b : Bool) → accepted (jobs ++ more) (told ++ behind) ≡ accepted jobs told ++ accepted more behind
+        → cond b (accepted (jobs ++ more) (told ++ behind)) (j ∷ accepted (jobs ++ more) (told ++ behind))
+        ≡ cond b (accepted jobs told) (j ∷ accepted jobs told) ++ accepted more behind
     go true same = same
     go false same = ap (λ l. j ∷ l) same
 
--- one job more
-pub written_with : (limit : ℕ) (jobs jobs' kept : List Entry) (job : Entry) (answer : Answer) (kept' : List Entry) → jobs' ≡ jobs ++ job ∷ [] → is_sweep job.operation ≡ false
-    → IsWritten limit jobs kept → IsDone limit kept job answer kept' → IsWritten limit jobs' kept'
-written_with limit jobs jobs' kept job answer kept' more plain w is =
+without_all : (limit : ℕ) (kept jobs : List Entry) (told : List Answer) (kept' : List Entry) → ArePlain jobs → AreDone limit kept jobs told kept'
+    → without_sweeps kept' ≡ without_sweeps kept ++ accepted jobs told
+without_all limit kept [] [] kept' plain are = ap without_sweeps are ∙ sym (append-nil (without_sweeps kept))
+without_all limit kept [] (a ∷ told) kept' plain are = absurd are
+without_all limit kept (j ∷ jobs) [] kept' plain are = absurd are
+without_all limit kept (j ∷ jobs) (a ∷ told) kept' plain are =
+    let one = without_done limit kept j a are.0 plain.0 are.1 in
+    let rest = without_all limit are.0 jobs told kept' plain.1 are.2 in
+    rest ∙ (ap (λ l. l ++ accepted jobs told) one ∙ (append_assoc (without_sweeps kept) (accepted (j ∷ []) (a ∷ [])) (accepted jobs told) ∙ ap (λ l. without_sweeps kept ++ l) (go (is_refused a))))
+  where
+    go : (b : Bool) → cond b [] (j ∷ []) ++ accepted jobs told ≡ cond b (accepted jobs told) (j ∷ accepted jobs told)
+    go true = refl
+    go false = refl
+
+-- the jobs of one job more
+pub written_all : (limit : ℕ) (jobs jobs' kept more : List Entry) (told : List Answer) (kept' : List Entry) → jobs' ≡ jobs ++ more → ArePlain more
+    → IsWritten limit jobs kept → AreDone limit kept more told kept' → IsWritten limit jobs' kept'
+written_all limit jobs jobs' kept more told kept' all plain w are =
     let P : List Entry → Type 0 = λ l. IsWritten limit l kept' in
-    subst P (sym more) (
+    subst P (sym all) (
     record {
-      told = w.told ++ answer ∷ [];
-      done = done_more limit [] jobs w.told kept job answer kept' w.done is;
-      changes = without_done limit kept job answer kept' plain is
-          ∙ (ap (λ l. l ++ accepted (job ∷ []) (answer ∷ [])) w.changes ∙ sym (accepted_more limit [] jobs w.told kept job answer w.done));
+      told = w.told ++ told;
+      done = done_append limit [] jobs w.told kept more told kept' w.done are;
+      changes = without_all limit kept more told kept' plain are
+          ∙ (ap (λ l. l ++ accepted more told) w.changes ∙ sym (accepted_append limit [] jobs w.told kept more told w.done));
     }
     )
 
@@ -126,7 +151,7 @@ written_same limit jobs jobs' kept kept' same alike w =
 -- ---- what follows for the kept list
 
 -- the jobs are served, and what is kept of them and what is refused are all
-abbrev AreServed : ℕ → List Entry → ℕ → List Entry → ℕ → Type 0
+abbrev pub AreServed : ℕ → List Entry → ℕ → List Entry → ℕ → Type 0
 AreServed limit jobs refused kept all = Serves limit jobs kept × (length (without_sweeps kept) + refused ≡ all)
 
 one_served : (limit : ℕ) (jobs kept : List Entry) (job : Entry) (answer : Answer) (kept' : List Entry) → Serves limit jobs kept → is_sweep job.operation ≡ false → IsDone limit kept job answer kept'
@@ -144,7 +169,12 @@ refused_more answer told = go (is_refused answer)
     go true = omega arith
     go false = omega arith
 
-all_served : (limit : ℕ) (before jobs : List Entry) (told : List Answer) (kept kept' : List Entry) → Serves limit before kept → All (λ e. is_sweep e.operation ≡ false) jobs → AreDone limit kept jobs told kept'
+pub all_plain : (jobs : List Entry) → ArePlain jobs → All (λ e. is_sweep e.operation ≡ false) jobs
+all_plain [] plain k d lt = absurd (omega (arith, lt))
+all_plain (job ∷ jobs) plain zero d lt = plain.0
+all_plain (job ∷ jobs) plain (suc k) d lt = all_plain jobs plain.1 k d (omega (arith, lt))
+
+pub all_served : (limit : ℕ) (before jobs : List Entry) (told : List Answer) (kept kept' : List Entry) → Serves limit before kept → All (λ e. is_sweep e.operation ≡ false) jobs → AreDone limit kept jobs told kept'
     → AreServed limit (before ++ jobs) (refused_in told) kept' (length (without_sweeps kept) + length jobs)
 all_served limit before [] [] kept kept' s plain are =
     let P : List Entry → Type 0 = λ l. AreServed limit l 0 kept' (length (without_sweeps kept) + 0) in
@@ -166,3 +196,195 @@ pub kept_as_answered : (limit : ℕ) (jobs kept : List Entry) (told : List Answe
 kept_as_answered limit jobs kept told plain are =
     let all = all_served limit [] jobs told [] kept (serves_start limit [] [] refl refl) plain are in
     (all.0.part, all.1 ∙ zero-add (length jobs), all.0.sweeps)
+
+-- ---- the changes of one job
+
+-- whether one of them is held
+abbrev pub has_held : List Answer → Bool
+has_held [] = false
+has_held (answer ∷ told) = is_held answer || has_held told
+
+answered_snoc : (limit : ℕ) (first : Written) (jobs : List Entry) (told : List Answer) (w : Written) (job : Entry) (answer : Answer) (w' : Written)
+    → AreAnswered limit first jobs told w → IsAnswered limit w job answer w' → AreAnswered limit first (jobs ++ job ∷ []) (told ++ answer ∷ []) w'
+answered_snoc limit first [] [] w job answer w' are is = let P : Written → Type 0 = λ v. IsAnswered limit v job answer w' in (w', subst P are is, refl)
+answered_snoc limit first [] (a ∷ told) w job answer w' are is = absurd are
+answered_snoc limit first (j ∷ jobs) [] w job answer w' are is = absurd are
+answered_snoc limit first (j ∷ jobs) (a ∷ told) w job answer w' are is = (are.0, are.1, answered_snoc limit are.0 jobs told w job answer w' are.2 is)
+
+replies_snoc : (limit : ℕ) (first jobs : List Entry) (told : List Answer) (kept : List Entry) (job : Entry) (answer : Answer) → AreDone limit first jobs told kept
+    → replies_to (jobs ++ job ∷ []) (told ++ answer ∷ []) ≡ replies_to jobs told ++ record { origin = job.origin; answer = answer } ∷ []
+replies_snoc limit first [] [] kept job answer are = refl
+replies_snoc limit first [] (a ∷ told) kept job answer are = absurd are
+replies_snoc limit first (j ∷ jobs) [] kept job answer are = absurd are
+replies_snoc limit first (j ∷ jobs) (a ∷ told) kept job answer are = ap (λ l. record { origin = j.origin; answer = a } ∷ l) (replies_snoc limit are.0 jobs told kept job answer are.2)
+
+or_left : (a b : Bool) → a ≡ true → (a || b) ≡ true
+or_left true b is = refl
+or_left false b is = absurd (cc (is))
+
+or_right : (a b : Bool) → b ≡ true → (a || b) ≡ true
+or_right true b is = refl
+or_right false b is = is
+
+or_assoc : (a b c : Bool) → (a || (b || c)) ≡ ((a || b) || c)
+or_assoc true b c = refl
+or_assoc false b c = refl
+
+or_false : (a : Bool) → (a || false) ≡ a
+or_false true = refl
+or_false false = refl
+
+has_held_snoc : (told : List Answer) (answer : Answer) → has_held (told ++ answer ∷ []) ≡ (has_held told || is_held answer)
+has_held_snoc [] answer = or_false (is_held answer)
+has_held_snoc (a ∷ told) answer = ap (λ b. is_held a || b) (has_held_snoc told answer) ∙ or_assoc (is_held a) (has_held told) (is_held answer)
+
+all_snoc : {A : Type 0} (P : A → Type 0) (xs : List A) (x : A) → AllByRecursion P xs → P x → AllByRecursion P (xs ++ x ∷ [])
+all_snoc P [] x all here = (here, tt)
+all_snoc P (y ∷ xs) x all here = (all.0, all_snoc P xs x all.1 here)
+
+behind_snoc : (told : List Answer) (answer : Answer) → AreRefusedBehind told → (has_held told ≡ true → answer ≡ Err NoMemory) → AreRefusedBehind (told ++ answer ∷ [])
+behind_snoc [] answer are here = ((λ is. tt), tt)
+behind_snoc (a ∷ told) answer are here = (
+  (λ is. all_snoc (λ (b : Answer). b ≡ Err NoMemory) told answer (are.0 is) (here (or_left (is_held a) (has_held told) is))),
+  behind_snoc told answer are.1 (λ is. here (or_right (is_held a) (has_held told) is)),
+)
+
+refused_snoc : (told : List Answer) (answer : Answer) → refused_in (told ++ answer ∷ []) ≡ refused_in told + refused_in (answer ∷ [])
+refused_snoc told answer = ap length (filter-append is_refused told (answer ∷ [])) ∙ length-append (filter is_refused told) (filter is_refused (answer ∷ []))
+
+pub refused_one : (answer : Answer) → refused_in (answer ∷ []) ≤ 1
+refused_one answer = go (is_refused answer)
+  where
+    go : (b : Bool) → length (cond b (answer ∷ []) []) ≤ 1
+    go true = omega arith
+    go false = omega arith
+
+-- the replies to the first of the changes, and whether one of these is held
+pub record AreBegun (limit : ℕ) (w : Written) (jobs : List Entry) (replies : List ReplyValue) (refused : ℕ) (holds : Bool) (w' : Written) : Type 0 where
+  pub replied : AreReplied limit w jobs replies refused w'
+  pub holds_is : holds ≡ has_held replied.told
+
+pub begun_none : (limit : ℕ) (w : Written) (replies : List ReplyValue) → replies ≡ [] → AreBegun limit w [] replies 0 false w
+begun_none limit w replies none = record { replied = record { told = []; done = refl; answered = refl; behind = tt; replies_are = none; refused_are = refl }; holds_is = refl }
+
+pub begun_more : (limit : ℕ) (w : Written) (jobs : List Entry) (replies replies' : List ReplyValue) (refused count : ℕ) (holds holds' : Bool) (w' : Written) (job : Entry) (reply : ReplyValue) (w'' : Written)
+    → AreBegun limit w jobs replies refused holds w' → IsDone limit (kept_of w') job reply.answer (kept_of w'') → reply.origin ≡ job.origin → IsAnswered limit w' job reply.answer w''
+    → (holds ≡ true → reply.answer ≡ Err NoMemory) → holds' ≡ (holds || is_held reply.answer) → count ≡ refused_in (reply.answer ∷ []) → replies' ≡ replies ++ reply ∷ []
+    → AreBegun limit w (jobs ++ job ∷ []) replies' (refused + count) holds' w''
+begun_more limit w jobs replies replies' refused count holds holds' w' job reply w'' b done origin answered behind held number more =
+    let r = b.replied in
+    let answer = reply.answer in
+    let same : reply ≡ record { origin = job.origin; answer = answer } = ap (λ o. record { origin = o; answer = answer }) origin in
+    record {
+      replied = record {
+        told = r.told ++ answer ∷ [];
+        done = done_more limit (kept_of w) jobs r.told (kept_of w') job answer (kept_of w'') r.done done;
+        answered = answered_snoc limit w jobs r.told w' job answer w'' r.answered answered;
+        behind = behind_snoc r.told answer r.behind (λ is. behind (b.holds_is ∙ is));
+        replies_are = more ∙ (ap (λ l. l ++ reply ∷ []) r.replies_are ∙ (ap (λ (x : ReplyValue). replies_to jobs r.told ++ x ∷ []) same ∙ sym (replies_snoc limit (kept_of w) jobs r.told (kept_of w') job answer r.done)));
+        refused_are = ap (λ n. n + count) r.refused_are ∙ (ap (λ n. refused_in r.told + n) number ∙ sym (refused_snoc r.told answer));
+      };
+      holds_is = held ∙ (ap (λ h. h || is_held answer) b.holds_is ∙ sym (has_held_snoc r.told answer));
+    }
+
+-- the changes that are left rise behind what is kept
+pub record AreLeft (limit : ℕ) (kept rest : List Entry) : Type 0 where
+  pub jobs : List Entry
+  pub serves : Serves limit jobs kept
+  pub rise : SerialsRise (jobs ++ rest)
+  pub plain : ArePlain rest
+  pub above : AllByRecursion (λ (e : Entry). 0 < e.origin.place) rest
+
+above_all : (place : ℕ) (es : List Entry) → 0 < place → AreOf place es → AllByRecursion (λ (e : Entry). 0 < e.origin.place) es
+above_all place [] some of = tt
+above_all place (e ∷ es) some of = ((let same = of.0 in omega (arith, some, same)), above_all place es some of.1)
+
+pub left_all : (limit : ℕ) (kept jobs changes : List Entry) → Serves limit jobs kept → SerialsRise (jobs ++ changes) → AreChanges changes → AreLeft limit kept changes
+left_all limit kept jobs changes serves rise are =
+    record { jobs = jobs; serves = serves; rise = rise; plain = are.plain; above = above_all (place_of_all changes) changes are.above are.place }
+
+left_first : (limit : ℕ) (kept rest left : List Entry) (job : Entry) → rest ≡ job ∷ left → AreLeft limit kept rest → AreLeft limit kept (job ∷ left)
+left_first limit kept rest left job first l = let P : List Entry → Type 0 = λ r. AreLeft limit kept r in subst P first l
+
+pub left_plain : (limit : ℕ) (kept rest left : List Entry) (job : Entry) → rest ≡ job ∷ left → AreLeft limit kept rest → is_sweep job.operation ≡ false
+left_plain limit kept rest left job first l = (left_first limit kept rest left job first l).plain.0
+
+pub left_rises : (limit : ℕ) (kept rest left : List Entry) (job : Entry) → rest ≡ job ∷ left → 0 < job.origin.serial → AreLeft limit kept rest → SerialsRise (extended kept job)
+left_rises limit kept rest left job first serial l =
+    let f = left_first limit kept rest left job first l in
+    let P : List Entry → Type 0 = λ r. SerialsRise r in
+    let all : SerialsRise ((f.jobs ++ job ∷ []) ++ left) = subst P (sym (append_assoc f.jobs (job ∷ []) left)) f.rise in
+    job_rises limit f.jobs kept job f.serves f.above.0 serial (part_rises (f.jobs ++ job ∷ []) ((f.jobs ++ job ∷ []) ++ left) (part_front (f.jobs ++ job ∷ []) left) all)
+
+pub left_less : (limit : ℕ) (kept rest left : List Entry) (job : Entry) (answer : Answer) (kept' : List Entry) → rest ≡ job ∷ left → IsDone limit kept job answer kept' → AreLeft limit kept rest → AreLeft limit kept' left
+left_less limit kept rest left job answer kept' first is l =
+    let f = left_first limit kept rest left job first l in
+    let P : List Entry → Type 0 = λ r. SerialsRise r in
+    record {
+      jobs = f.jobs ++ job ∷ [];
+      serves = (one_served limit f.jobs kept job answer kept' f.serves f.plain.0 is).0;
+      rise = subst P (sym (append_assoc f.jobs (job ∷ []) left)) f.rise;
+      plain = f.plain.1;
+      above = f.above.1;
+    }
+
+-- the answers where nothing is put
+abbrev all_refused : List Entry → List Answer
+all_refused [] = []
+all_refused (job ∷ jobs) = Err NoMemory ∷ all_refused jobs
+
+refused_done : (limit : ℕ) (kept jobs : List Entry) → AreDone limit kept jobs (all_refused jobs) kept
+refused_done limit kept [] = refl
+refused_done limit kept (job ∷ jobs) = (kept, inl refl, refused_done limit kept jobs)
+
+refused_answered : (limit : ℕ) (w : Written) (jobs : List Entry) → AreAnswered limit w jobs (all_refused jobs) w
+refused_answered limit w [] = refl
+refused_answered limit w (job ∷ jobs) = (w, inr (refl, refl), refused_answered limit w jobs)
+
+refused_behind : (jobs : List Entry) → AreRefusedBehind (all_refused jobs)
+refused_behind [] = tt
+refused_behind (job ∷ jobs) = ((λ is. absurd (cc (is))), refused_behind jobs)
+
+refused_replies : (jobs : List Entry) → map refused_reply jobs ≡ replies_to jobs (all_refused jobs)
+refused_replies [] = refl
+refused_replies (job ∷ jobs) = ap (λ l. refused_reply job ∷ l) (refused_replies jobs)
+
+refused_count : (jobs : List Entry) → length jobs ≡ refused_in (all_refused jobs)
+refused_count [] = refl
+refused_count (job ∷ jobs) = ap suc (refused_count jobs)
+
+pub replied_refusing : (limit : ℕ) (w : Written) (jobs : List Entry) (replies : List ReplyValue) (refused : ℕ) → replies ≡ map refused_reply jobs → refused ≡ length jobs → AreReplied limit w jobs replies refused w
+replied_refusing limit w jobs replies refused are number = record {
+  told = all_refused jobs;
+  done = refused_done limit (kept_of w) jobs;
+  answered = refused_answered limit w jobs;
+  behind = refused_behind jobs;
+  replies_are = are ∙ refused_replies jobs;
+  refused_are = number ∙ refused_count jobs;
+}
+
+-- what the writer's loop knows of what it took, kept and refused
+pub record AreTold (limit : ℕ) (entries kept : List Entry) (taken refused : ℕ) : Type 0 where
+  pub serves : Serves limit entries kept
+  pub number : taken ≡ length entries
+  pub sum : length (without_sweeps kept) + refused ≡ taken
+  pub written : IsWritten limit entries kept
+
+-- the same once it has put the changes of one job more
+pub told_more : (limit : ℕ) (entries entries' changes : List Entry) (replies : List ReplyValue) (w w' : Written) (taken refused count : ℕ) → entries' ≡ entries ++ changes → ArePlain changes
+    → AreTold limit entries (kept_of w) taken refused → AreReplied limit w changes replies count w' → AreTold limit entries' (kept_of w') (taken + length changes) (refused + count)
+told_more limit entries entries' changes replies w w' taken refused count more plain t r =
+    let all = all_served limit entries changes r.told (kept_of w) (kept_of w') t.serves (all_plain changes plain) r.done in
+    let P : List Entry → Type 0 = λ l. Serves limit l (kept_of w') in
+    let n = length-append entries changes in
+    let m = ap length more in
+    let number = t.number in
+    let sum = t.sum in
+    let rest = all.1 in
+    let told = r.refused_are in
+    record {
+      serves = subst P (sym more) all.0;
+      number = omega (arith, n, m, number);
+      sum = omega (arith, sum, rest, told);
+      written = written_all limit entries entries' (kept_of w) changes r.told (kept_of w') more plain t.written r.done;
+    }

@@ -1,5 +1,8 @@
 -- Why the writer's loop ended. As many Ends as places are those of all places.
 use Rattle.std.proofs.Common.{◌≡◌, ◌==◌, ℕ, zero, suc, ◌+◌, ◌<◌, ◌≤◌, ⊎_elim, Bool, true, false, cond, List, [], ◌∷◌, length, sym, ap, subst, ◌∙◌, arith}
+use Rattle.std.specs.List.{AllByRecursion}
+use Rattle.rs_message.specs.declared.entry.Entry.{Entry}
+use Rattle.rs_intake.specs.Changes.{place_of_all}
 use Rattle.rs_intake.specs.Ending.{HaveEnded, IsCause}
 use Rattle.rs_intake.specs.Lines.{Received}
 use Rattle.rs_intake.specs.QueueRule.{AreEnds, IsOutside, at_place}
@@ -49,3 +52,8 @@ cause_same places most jobs jobs' cause cause' same alike is =
     let P : Received → Type 0 = λ j. IsCause places most j cause' in
     let Q : Cause → Type 0 = λ k. IsCause places most jobs k in
     subst P (sym same) (subst Q (sym alike) is)
+
+-- the place of changes that are of places which have a line
+pub placed_first : (places : ℕ) (es : List Entry) → AllByRecursion (λ (e : Entry). ¬ IsOutside places e.origin.place) es → place_of_all es ≤ places
+placed_first places [] there = omega arith
+placed_first places (e ∷ es) there = (inside places e.origin.place there.0).1

@@ -3,7 +3,8 @@ pub mod Ways
 pub mod Seats
 pub mod Parts
 pub mod Opening
-pub mod Sameness
+pub mod Ahead
+pub mod Faults
 pub mod Sums
 pub mod Sent
 pub mod Sweeps

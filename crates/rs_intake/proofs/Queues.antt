@@ -1,7 +1,9 @@
 -- Each step keeps the rule of the queue.
 use Rattle.std.proofs.Common.{◌≡◌, ◌≢◌, ℕ, zero, suc, ◌+◌, ◌<◌, ◌==◌, ◌⊎◌, Bool, true, false, cond, max, List, [], ◌∷◌, ◌++◌, length, map, set, fold, refl, inl, inr, sym, ap, subst, ◌∙◌, ⊎_elim, append_assoc, length-append, ◌≤◌, arith}
 use Rattle.std.proofs.lemmas.List.{append-nil}
+use Rattle.std.proofs.lemmas.Grind.{flat_map-append}
 use Rattle.std.proofs.lemmas.List.Elements.{filter-append, filter_map-append}
+use Rattle.std.specs.List.{AllByRecursion}
 use Rattle.std.proofs.lemmas.Bool.Decides.{nat_tests}
 use mathlib.Core.Option.{Option, some, none, some-injective, some-ne-none}
 use mathlib.Core.List.{IsPrefix}
@@ -16,7 +18,8 @@ use Rattle.rs_intake.specs.declared.rule.SentFrom.{SentFrom}
 use Rattle.rs_intake.specs.declared.job.Job.{Job}
 use Rattle.rs_intake.specs.declared.job.Job.TheVariants.{Put, End}
 use Rattle.rs_intake.proofs.Parts.{part_front, part_rises, rises_none}
-use Rattle.rs_intake.specs.QueueRule.{AreEnds, AreLast, AreWhole, Balances, Closes, ClosesLine, ClosesTaker, Delivers, FitsLine, FitsTaker, IsAbove, IsOutside, Keeps, Sends, SumsUp, Takes, at_place, end_of, ends_of, entries_of, entry_of, job_more, new_line, of_place, one_line_less, one_line_more, place_of, spent, taker}
+use Rattle.rs_intake.specs.Changes.{AreOf}
+use Rattle.rs_intake.specs.QueueRule.{AreAbove, AreEnds, AreLast, AreWhole, Balances, Closes, ClosesLine, ClosesTaker, Delivers, FitsLine, FitsTaker, IsAbove, IsOf, IsOutside, IsPlaced, Keeps, Sends, SumsUp, Takes, at_place, end_of, ends_of, entries_in, entries_of, job_more, new_line, of_place, one_line_less, one_line_more, spent, taker}
 
 pub clash : {b : Bool} → b ≡ false → b ≡ true → ⊥
 clash p q = cc (p, q)
@@ -37,6 +40,26 @@ of_place-here place e same = let is : (e.origin.place == place) ≡ true = grind
 
 pub of_place-other : (place : ℕ) (e : Entry) → e.origin.place ≢ place → of_place place (e ∷ []) ≡ []
 of_place-other place e other = let is : (e.origin.place == place) ≡ false = grind (arith, nat_tests) in else_is (e.origin.place == place) (e ∷ []) [] is
+
+-- all entries of a list that are of its place
+of_place_all : (place : ℕ) (es : List Entry) → AreOf place es → of_place place es ≡ es
+of_place_all place [] of = refl
+of_place_all place (e ∷ es) of =
+    let same = of.0 in
+    let is : (e.origin.place == place) ≡ true = grind (arith, nat_tests) in
+    then_is (e.origin.place == place) (e ∷ of_place place es) (of_place place es) is ∙ ap (λ l. e ∷ l) (of_place_all place es of.1)
+
+of_place_none : (place from : ℕ) (es : List Entry) → place ≢ from → AreOf from es → of_place place es ≡ []
+of_place_none place from [] other of = refl
+of_place_none place from (e ∷ es) other of =
+    let same = of.0 in
+    let apart : e.origin.place ≢ place = λ is. other (sym is ∙ same) in
+    let is : (e.origin.place == place) ≡ false = grind (arith, nat_tests) in
+    else_is (e.origin.place == place) (e ∷ of_place place es) (of_place place es) is ∙ of_place_none place from es other of.1
+
+-- the entries of one job more
+entries_more : (items : List Job) (x : Job) → entries_of (items ++ x ∷ []) ≡ entries_of items ++ entries_in x
+entries_more items x = flat_map-append entries_in items (x ∷ []) ∙ ap (λ l. entries_of items ++ l) (append-nil (entries_in x))
 
 of_place-twice : (place : ℕ) (xs : List Entry) → of_place place (of_place place xs) ≡ of_place place xs
 of_place-twice place [] = refl
@@ -64,18 +87,18 @@ whole_more line sent es from pass mine others (k ∷ ks) w = (
 )
 
 puts_with : (n pass : ℕ) (v : PassView) (x : Job) → v.sends ≡ true → v.takes ≡ false
-    → of_place v.from (entries_of (x ∷ [])) ≡ entries_of (x ∷ [])
-    → ((place : ℕ) → place ≢ v.from → of_place place (entries_of (x ∷ [])) ≡ [])
-    → ((entries : List Entry) → of_place v.from entries ≡ v.entries → SerialsRise entries → SerialsRise (entries ++ entries_of (x ∷ [])))
+    → of_place v.from (entries_in x) ≡ entries_in x
+    → ((place : ℕ) → place ≢ v.from → of_place place (entries_in x) ≡ [])
+    → ((entries : List Entry) → of_place v.from entries ≡ v.entries → SerialsRise entries → SerialsRise (entries ++ entries_in x))
     → Pushes Delivers n pass v x (Sends v x)
 puts_with n pass v x sends takes own others rising items views room h at =
-    let es = entries_of (x ∷ []) in
+    let es = entries_in x in
     let writer = h.0 in
     let line = h.1 in
     let sent = h.2 in
     let taken = h.3 in
     let mine = (h.5 pass v at).0 sends in
-    let joined : taken ++ entries_of (items ++ x ∷ []) ≡ (taken ++ entries_of items) ++ es = ap (λ l. taken ++ l) (filter_map-append entry_of items (x ∷ [])) ∙ sym (append_assoc taken (entries_of items) es) in
+    let joined : taken ++ entries_of (items ++ x ∷ []) ≡ (taken ++ entries_of items) ++ es = ap (λ l. taken ++ l) (entries_more items x) ∙ sym (append_assoc taken (entries_of items) es) in
     let all : (place : ℕ) → of_place place (taken ++ entries_of (items ++ x ∷ [])) ≡ sent_more sent es place = λ place. ap (of_place place) joined ∙ (of_place-append place (taken ++ entries_of items) es ∙ ap (λ l. l ++ of_place place es) (h.4 place)) in (
       job_more v x,
       (
@@ -107,14 +130,23 @@ puts_with n pass v x sends takes own others rising items views room h at =
       refl,
     )
 
-puts_delivers : (n pass : ℕ) (v : PassView) (x : Job) → v.sends ≡ true → v.takes ≡ false → v.from ≡ place_of x → IsAbove v.entries x → Pushes Delivers n pass v x (Sends v x)
-puts_delivers n pass v (Put e) sends takes from above = puts_with n pass v (Put e) sends takes
-    (of_place-here v.from e (sym from))
-    (λ place other. of_place-other place e (λ same. other (sym same ∙ sym from)))
-    (λ entries mine rises. serials_rise_more entries e rises (
-    let is : last_serial e.origin.place entries ≡ last_serial e.origin.place v.entries = sym (last_serial-of_place e.origin.place entries) ∙ ap (last_serial e.origin.place) (ap (λ p. of_place p entries) (sym from) ∙ mine) in
-    omega (arith, is, above)))
-puts_delivers n pass v (End place) sends takes from above = puts_with n pass v (End place) sends takes
+-- where the serials of a job are above those of its place, and one above the other, the serials of all rise
+rises_all : (from : ℕ) (es known entries : List Entry) → AreOf from es → AreAbove known es → of_place from entries ≡ known → SerialsRise entries → SerialsRise (entries ++ es)
+rises_all from [] known entries of above mine rises = let P : List Entry → Type 0 = λ l. SerialsRise l in subst P (sym (append-nil entries)) rises
+rises_all from (e ∷ es) known entries of above mine rises =
+    let is : last_serial e.origin.place entries ≡ last_serial e.origin.place known = sym (last_serial-of_place e.origin.place entries) ∙ ap (last_serial e.origin.place) (ap (λ p. of_place p entries) of.0 ∙ mine) in
+    let high = above.0 in
+    let one : SerialsRise (entries ++ e ∷ []) = serials_rise_more entries e rises (omega (arith, is, high)) in
+    let more : of_place from (entries ++ e ∷ []) ≡ known ++ e ∷ [] = of_place-append from entries (e ∷ []) ∙ (ap (λ l. l ++ of_place from (e ∷ [])) mine ∙ ap (λ l. known ++ l) (of_place-here from e of.0)) in
+    let P : List Entry → Type 0 = λ l. SerialsRise l in
+    subst P (append_assoc entries (e ∷ []) es) (rises_all from es (known ++ e ∷ []) (entries ++ e ∷ []) of.1 above.1 more one)
+
+puts_delivers : (n pass : ℕ) (v : PassView) (x : Job) → v.sends ≡ true → v.takes ≡ false → IsOf v.from x → IsAbove v.entries x → Pushes Delivers n pass v x (Sends v x)
+puts_delivers n pass v (Put es) sends takes of above = puts_with n pass v (Put es) sends takes
+    (of_place_all v.from es of)
+    (λ place other. of_place_none place v.from es other of)
+    (λ entries mine rises. rises_all v.from es v.entries entries of above mine rises)
+puts_delivers n pass v (End place) sends takes of above = puts_with n pass v (End place) sends takes
     refl
     (λ place other. refl)
     (λ entries mine rises. let P : List Entry → Type 0 = λ l. SerialsRise l in subst P (sym (append-nil entries)) rises)
@@ -125,13 +157,13 @@ TakesRising v job w = (w ≡ job_more v job) × SerialsRise w.entries
 
 takes_delivers : (pass : ℕ) (v : PassView) → v.takes ≡ true → v.sends ≡ false → Pops Delivers pass v (TakesRising v)
 takes_delivers pass v gets quiet x items views h at =
-    let es = entries_of (x ∷ []) in
+    let es = entries_in x in
     let writer = h.0 in
     let line = h.1 in
     let sent = h.2 in
     let taken = h.3 in
     let mine = (h.5 pass v at).1 gets in
-    let joined : (taken ++ es) ++ entries_of items ≡ taken ++ entries_of (x ∷ items) = append_assoc taken es (entries_of items) ∙ ap (λ l. taken ++ l) (sym (filter_map-append entry_of (x ∷ []) items)) in (
+    let joined : (taken ++ es) ++ entries_of items ≡ taken ++ entries_of (x ∷ items) = append_assoc taken es (entries_of items) in (
       job_more v x,
       (
         writer,
@@ -352,46 +384,46 @@ none_right : {A : Type 0} (xs ys : List A) → xs ++ ys ≡ [] → ys ≡ []
 none_right [] ys e = e
 none_right (x ∷ xs) ys e = absurd (cc (e))
 
-ends_here : (x : Job) → at_place (place_of x) (ends_of (x ∷ [])) ≡ ends_of (x ∷ [])
-ends_here (Put e) = refl
-ends_here (End q) = at_place-here q
+ends_here : (x : Job) (from : ℕ) → IsOf from x → at_place from (ends_of (x ∷ [])) ≡ ends_of (x ∷ [])
+ends_here (Put es) from of = refl
+ends_here (End q) from of = ap (λ p. at_place p (q ∷ [])) (sym of) ∙ at_place-here q
 
-ends_other : (x : Job) (place : ℕ) → place ≢ place_of x → at_place place (ends_of (x ∷ [])) ≡ []
-ends_other (Put e) place other = refl
-ends_other (End q) place other = at_place-other place q (λ same. other (sym same))
+ends_other : (x : Job) (from place : ℕ) → IsOf from x → place ≢ from → at_place place (ends_of (x ∷ [])) ≡ []
+ends_other (Put es) from place of other = refl
+ends_other (End q) from place of other = at_place-other place q (λ same. other (sym same ∙ of))
 
 one_end : (x : Job) → length (ends_of (x ∷ [])) ≤ 1
-one_end (Put e) = omega arith
+one_end (Put es) = omega arith
 one_end (End q) = omega arith
 
-entries_other : (x : Job) (place : ℕ) → place ≢ place_of x → of_place place (entries_of (x ∷ [])) ≡ []
-entries_other (Put e) place other = of_place-other place e (λ same. other (sym same))
-entries_other (End q) place other = refl
+entries_other : (x : Job) (from place : ℕ) → IsOf from x → place ≢ from → of_place place (entries_in x) ≡ []
+entries_other (Put es) from place of other = of_place_none place from es other of
+entries_other (End q) from place of other = refl
 
 -- another place's job behind the queue
-behind_other : (x : Job) (items : List Job) (place : ℕ) → place ≢ place_of x → of_place place (entries_of items) ≡ [] → of_place place (entries_of (items ++ x ∷ [])) ≡ []
-behind_other x items place other nothing =
-    ap (of_place place) (filter_map-append entry_of items (x ∷ [])) ∙ (of_place-append place (entries_of items) (entries_of (x ∷ [])) ∙ (ap (λ l. l ++ of_place place (entries_of (x ∷ []))) nothing ∙ entries_other x place other))
+behind_other : (x : Job) (from : ℕ) (items : List Job) (place : ℕ) → IsOf from x → place ≢ from → of_place place (entries_of items) ≡ [] → of_place place (entries_of (items ++ x ∷ [])) ≡ []
+behind_other x from items place of other nothing =
+    ap (of_place place) (entries_more items x) ∙ (of_place-append place (entries_of items) (entries_in x) ∙ (ap (λ l. l ++ of_place place (entries_in x)) nothing ∙ entries_other x from place of other))
 
 last_one : (x : Job) → AreLast (x ∷ [])
-last_one (Put e) = tt
+last_one (Put es) = tt
 last_one (End q) = (refl, tt)
 
 -- a job whose place has no End in the queue comes behind it
-last_more : (x : Job) (items : List Job) → at_place (place_of x) (ends_of items) ≡ [] → AreLast items → AreLast (items ++ x ∷ [])
-last_more x [] nothing last = last_one x
-last_more x (Put e ∷ items) nothing last = last_more x items nothing last
-last_more x (End q ∷ items) nothing last = (
-  behind_other x items q (λ same. at_place-head q (ends_of items) (ap (λ p. at_place p (q ∷ ends_of items)) same ∙ nothing)) last.0,
-  last_more x items (at_place-tail (place_of x) q (ends_of items) nothing) last.1,
+last_more : (x : Job) (from : ℕ) (items : List Job) → IsOf from x → at_place from (ends_of items) ≡ [] → AreLast items → AreLast (items ++ x ∷ [])
+last_more x from [] of nothing last = last_one x
+last_more x from (Put es ∷ items) of nothing last = last_more x from items of nothing last
+last_more x from (End q ∷ items) of nothing last = (
+  behind_other x from items q of (λ same. at_place-head q (ends_of items) (ap (λ p. at_place p (q ∷ ends_of items)) same ∙ nothing)) last.0,
+  last_more x from items of (at_place-tail from q (ends_of items) nothing) last.1,
 )
 
 last_less : (x : Job) (items : List Job) → AreLast (x ∷ items) → AreLast items
-last_less (Put e) items last = last
+last_less (Put es) items last = last
 last_less (End q) items last = last.1
 
 closes_more : (pass : ℕ) (v : PassView) (x : Job) (items : List Job) (views : List PassView)
-    → v.sends ≡ true → v.takes ≡ false → v.from ≡ place_of x → v.ends ≡ [] → get_elem? views pass ≡ some v
+    → v.sends ≡ true → v.takes ≡ false → IsOf v.from x → v.ends ≡ [] → get_elem? views pass ≡ some v
     → ((j : ℕ) (u : PassView) → j ≢ pass → get_elem? views j ≡ some u → (u.sends ≡ true → u.from ≢ v.from) × (u.takes ≡ true → ¬ IsOutside u.made v.from))
     → Closes items views → Closes (items ++ x ∷ []) (set views pass (job_more v x))
 closes_more pass v x items views sends takes from fresh at others c =
@@ -405,9 +437,9 @@ closes_more pass v x items views sends takes from fresh at others c =
     let both : at_place v.from ended ++ at_place v.from (ends_of items) ≡ [] = sym (at_place-append v.from ended (ends_of items)) ∙ none in
     let none_ended : at_place v.from ended ≡ [] = none_left (at_place v.from ended) (at_place v.from (ends_of items)) both in
     let none_there : at_place v.from (ends_of items) ≡ [] = none_right (at_place v.from ended) (at_place v.from (ends_of items)) both in
-    let own : at_place v.from es ≡ es = ap (λ p. at_place p es) from ∙ ends_here x in
+    let own : at_place v.from es ≡ es = ends_here x v.from from in
     let here : at_place v.from all' ≡ es = more v.from ∙ (ap (λ l. l ++ at_place v.from es) none ∙ own) in
-    let apart : (place : ℕ) → place ≢ v.from → at_place place all' ≡ at_place place all = λ place other. more place ∙ (ap (λ l. at_place place all ++ l) (ends_other x place (λ same. other (same ∙ sym from))) ∙ append-nil (at_place place all)) in (
+    let apart : (place : ℕ) → place ≢ v.from → at_place place all' ≡ at_place place all = λ place other. more place ∙ (ap (λ l. at_place place all ++ l) (ends_other x v.from place from other) ∙ append-nil (at_place place all)) in (
       ended,
       (λ place. ⊎_elim
           (λ (t : place ≡ v.from). let n : length (at_place place all') ≡ length es = ap length (ap (λ p. at_place p all') t ∙ here) in let one = one_end x in omega (arith, n, one))
@@ -424,17 +456,17 @@ closes_more pass v x items views sends takes from fresh at others c =
             (λ s. let g = f.1 s in (g.0, (λ place out. apart place (λ same. o.1 s (let O : ℕ → Type 0 = λ p. IsOutside u.made p in subst O same out)) ∙ g.1 place out))),
           ))
           (at_set views pass j (job_more v x) u e)),
-      last_more x items (ap (λ p. at_place p (ends_of items)) (sym from) ∙ none_there) c.3,
+      last_more x v.from items from none_there c.3,
       (λ place. ⊎_elim
           (λ (t : at_place place ended ≡ []). inl t)
           (λ (t : of_place place (entries_of items) ≡ []). ⊎_elim
           (λ (same : place ≡ v.from). inl (ap (λ p. at_place p ended) same ∙ none_ended))
-          (λ (other : place ≢ v.from). inr (behind_other x items place (λ same. other (same ∙ sym from)) t))
+          (λ (other : place ≢ v.from). inr (behind_other x v.from items place from other t))
           (same_or_not place v.from))
           (c.4 place)),
     )
 
-pub puts : (n pass : ℕ) (v : PassView) (x : Job) → v.sends ≡ true → v.takes ≡ false → v.from ≡ place_of x → IsAbove v.entries x → v.ends ≡ [] → Pushes Keeps n pass v x (Sends v x)
+pub puts : (n pass : ℕ) (v : PassView) (x : Job) → v.sends ≡ true → v.takes ≡ false → IsOf v.from x → IsAbove v.entries x → v.ends ≡ [] → Pushes Keeps n pass v x (Sends v x)
 puts n pass v x sends takes from above fresh items views room h at =
     let dl = h.0 in
     let d = puts_delivers n pass v x sends takes from above items views room dl at in
@@ -456,13 +488,15 @@ puts n pass v x sends takes from above fresh items views room h at =
 ends_joined : (ended : List ℕ) (x : Job) (items : List Job) → (ended ++ ends_of (x ∷ [])) ++ ends_of items ≡ ended ++ ends_of (x ∷ items)
 ends_joined ended x items = append_assoc ended (ends_of (x ∷ [])) (ends_of items) ∙ ap (λ l. ended ++ l) (sym (filter_map-append end_of (x ∷ []) items))
 
-behind_here : (x : Job) (items : List Job) (ended : List ℕ) → AreLast (x ∷ items) → at_place (place_of x) ended ≡ [] → (at_place (place_of x) (ended ++ ends_of (x ∷ [])) ≡ []) ⊎ (of_place (place_of x) (entries_of items) ≡ [])
-behind_here (Put e) items ended last nothing = inl (ap (at_place e.origin.place) (append-nil ended) ∙ nothing)
-behind_here (End q) items ended last nothing = inr last.0
+behind_taken : (x : Job) (items : List Job) (ended : List ℕ) (place : ℕ) → AreLast (x ∷ items) → at_place place ended ≡ [] → (at_place place (ended ++ ends_of (x ∷ [])) ≡ []) ⊎ (of_place place (entries_of items) ≡ [])
+behind_taken (Put es) items ended place last nothing = inl (ap (at_place place) (append-nil ended) ∙ nothing)
+behind_taken (End q) items ended place last nothing = ⊎_elim
+    (λ (same : place ≡ q). inr (ap (λ p. of_place p (entries_of items)) same ∙ last.0))
+    (λ (other : place ≢ q). inl (at_place-append place ended (q ∷ []) ∙ (ap (λ l. l ++ at_place place (q ∷ [])) nothing ∙ at_place-other place q (λ same. other (sym same)))))
+    (same_or_not place q)
 
 behind_less : (x : Job) (items : List Job) (place : ℕ) → of_place place (entries_of (x ∷ items)) ≡ [] → of_place place (entries_of items) ≡ []
-behind_less x items place nothing = none_right (of_place place (entries_of (x ∷ []))) (of_place place (entries_of items))
-    (sym (of_place-append place (entries_of (x ∷ [])) (entries_of items)) ∙ (ap (of_place place) (sym (filter_map-append entry_of (x ∷ []) items)) ∙ nothing))
+behind_less x items place nothing = none_right (of_place place (entries_in x)) (of_place place (entries_of items)) (sym (of_place-append place (entries_in x) (entries_of items)) ∙ nothing)
 
 closes_less : (pass : ℕ) (v : PassView) (x : Job) (items : List Job) (views : List PassView) → v.takes ≡ true → v.sends ≡ false → get_elem? views pass ≡ some v
     → ((j : ℕ) (u : PassView) → j ≢ pass → get_elem? views j ≡ some u → u.takes ≡ true → ⊥)
@@ -484,12 +518,7 @@ closes_less pass v x items views gets quiet at only c =
           (at_set views pass j (job_more v x) u e)),
       last_less x items c.3,
       (λ place. ⊎_elim
-          (λ (t : at_place place ended ≡ []). ⊎_elim
-          (λ (same : place ≡ place_of x).
-          let B : ℕ → Type 0 = λ p. (at_place p (ended ++ es) ≡ []) ⊎ (of_place p (entries_of items) ≡ []) in
-          subst B (sym same) (behind_here x items ended c.3 (ap (λ p. at_place p ended) (sym same) ∙ t)))
-          (λ (other : place ≢ place_of x). inl (at_place-append place ended es ∙ (ap (λ l. l ++ at_place place es) t ∙ ends_other x place other)))
-          (same_or_not place (place_of x)))
+          (λ (t : at_place place ended ≡ []). behind_taken x items ended place c.3 t)
           (λ (t : of_place place (entries_of (x ∷ items)) ≡ []). inr (behind_less x items place t))
           (c.4 place)),
     )
@@ -504,13 +533,19 @@ ends_front made front rest few outside place =
       (λ out. none_left (at_place place front) (at_place place rest) (sym is ∙ outside place out)),
     )
 
+-- no entry among those of places that have a line is of another place
+none_outside : (made : ℕ) (before es rest : List Entry) → ((place : ℕ) → IsOutside made place → of_place place (before ++ (es ++ rest)) ≡ []) → AllByRecursion (λ (e : Entry). ¬ IsOutside made e.origin.place) es
+none_outside made before [] rest nothing = tt
+none_outside made before (e ∷ es) rest nothing =
+    let place = e.origin.place in (
+      (λ out. of_place-head e (es ++ rest) (none_right (of_place place before) (of_place place (e ∷ (es ++ rest))) (sym (of_place-append place before (e ∷ (es ++ rest))) ∙ nothing place out))),
+      none_outside made (before ++ e ∷ []) es rest (λ place out. ap (of_place place) (append_assoc before (e ∷ []) (es ++ rest)) ∙ nothing place out),
+    )
+
 -- the oldest job is of a place that has a line
-placed : (pass : ℕ) (v : PassView) (x : Job) (items : List Job) (views : List PassView) → v.takes ≡ true → get_elem? views pass ≡ some v → Delivers (x ∷ items) views → Closes (x ∷ items) views → ¬ IsOutside v.made (place_of x)
-placed pass v (Put e) items views gets at d c out =
-    let place = e.origin.place in
-    let none : of_place place (d.3 ++ entries_of (Put e ∷ items)) ≡ [] = d.4 place ∙ (((d.5 pass v at).1 gets).2 place out).1 in
-    of_place-head e (entries_of items) (none_right (of_place place d.3) (of_place place (entries_of (Put e ∷ items))) (sym (of_place-append place d.3 (entries_of (Put e ∷ items))) ∙ none))
-placed pass v (End q) items views gets at d c out =
+placed : (pass : ℕ) (v : PassView) (x : Job) (items : List Job) (views : List PassView) → v.takes ≡ true → get_elem? views pass ≡ some v → Delivers (x ∷ items) views → Closes (x ∷ items) views → IsPlaced v.made x
+placed pass v (Put es) items views gets at d c = none_outside v.made d.3 es (entries_of items) (λ place out. d.4 place ∙ (((d.5 pass v at).1 gets).2 place out).1)
+placed pass v (End q) items views gets at d c = λ out.
     let none : at_place q (c.0 ++ ends_of (End q ∷ items)) ≡ [] = ((c.2 pass v at).1 gets).1 q out in
     at_place-head q (ends_of items) (none_right (at_place q c.0) (at_place q (ends_of (End q ∷ items))) (sym (at_place-append q c.0 (ends_of (End q ∷ items))) ∙ none))
 

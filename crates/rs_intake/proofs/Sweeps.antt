@@ -14,7 +14,7 @@ use Rattle.rs_store.proofs.Needed.{all_needed, needed_cleaned, needed_more, need
 use Rattle.rs_version.specs.Writer.{Refuses, Written, kept_of, settled, shows}
 use Rattle.rs_version.specs.declared.fault.PutFault.TheVariants.{Held, NoMemory}
 use Rattle.rs_intake.specs.Parts.{IsPart}
-use Rattle.rs_intake.specs.Sweeps.{AreForJobs, IsSweptAtMost, without_sweeps}
+use Rattle.rs_intake.specs.Sweeps.{AreForJobs, IsSweptAtMost, Serves, without_sweeps}
 use Rattle.rs_intake.proofs.Parts.{part_both, part_rises, part_skip, rises_none}
 
 -- ---- without the Sweeps
@@ -51,11 +51,6 @@ same_serials place some (e ∷ es) a = at (is_sweep e.operation) refl (same_seri
         rw (is, other) more
 
 -- ---- what is kept against the jobs that were taken
-
-pub record Serves (limit : ℕ) (jobs kept : List Entry) : Type 0 where
-  pub part : IsPart (without_sweeps kept) jobs
-  pub sweeps : AreForJobs limit jobs kept
-  pub rises : SerialsRise kept
 
 among_more : (jobs : List Entry) (job e : Entry) → Contains jobs e → Contains (jobs ++ job ∷ []) e
 among_more jobs job e there = Contains-append_left jobs (job ∷ []) e there

@@ -1,33 +1,39 @@
 -- Each step keeps the rule of a way back.
 use Rattle.std.proofs.Common.{◌≡◌, ◌≢◌, ℕ, zero, suc, true, false, List, [], ◌∷◌, ◌++◌, length, set, refl, sym, ap, subst, ◌∙◌, ⊎_elim, append_assoc}
+use Rattle.std.proofs.lemmas.Grind.{flat_map-append}
+use Rattle.std.proofs.lemmas.List.{append-nil}
 use mathlib.Core.Option.{some, some-injective, some-ne-none}
 use mathlib.Core.List.{IsPrefix}
 use lib.ListN.{get_elem?}
 use Rattle.crossbeam_channel.specs.Fifo.{Pushes, Pops, Forks}
 use Rattle.atomic_table.proofs.Lists.{at_set}
 use Rattle.rs_intake.specs.Done.{ReplyValue}
-use Rattle.rs_intake.specs.ReplyRule.{Counts, FitsWay, Replies, WayView, both_ends, receiving_end, reply_more, sending_end}
+use Rattle.rs_intake.specs.ReplyRule.{Counts, FitsWay, Replies, WayView, both_ends, joined, receiving_end, replies_more, sending_end}
 use Rattle.rs_intake.proofs.Queues.{clash, snoc_at}
 
-pub sends_reply : (n pass : ℕ) (v : WayView) (x : ReplyValue) → v.sends ≡ true → v.receives ≡ false → Pushes Replies n pass v x (Counts v x)
+-- the replies of one message more
+joined_more : (items : List (List ReplyValue)) (x : List ReplyValue) → joined (items ++ x ∷ []) ≡ joined items ++ x
+joined_more items x = flat_map-append (λ (l : List ReplyValue). l) items (x ∷ []) ∙ ap (λ l. joined items ++ l) (append-nil x)
+
+pub sends_reply : (n pass : ℕ) (v : WayView) (x : List ReplyValue) → v.sends ≡ true → v.receives ≡ false → Pushes Replies n pass v x (Counts v x)
 sends_reply n pass v x sends deaf items views room h at =
     let received = h.2 in
     let mine = (h.3 pass v at).0 sends in (
-      reply_more v x,
+      replies_more v x,
       (
         h.0,
         h.1,
         received,
         (λ j u e. ⊎_elim
-            (λ (t : (j ≡ pass) × (reply_more v x ≡ u)).
-            let P : WayView → Type 0 = λ u. FitsWay h.0 h.1 (received ++ (items ++ x ∷ [])) received j u in
+            (λ (t : (j ≡ pass) × (replies_more v x ≡ u)).
+            let P : WayView → Type 0 = λ u. FitsWay h.0 h.1 (received ++ joined (items ++ x ∷ [])) received j u in
             subst P t.1 (
-              (λ s. (t.0 ∙ mine.0, ap (λ l. l ++ x ∷ []) mine.1 ∙ append_assoc received items (x ∷ []))),
+              (λ s. (t.0 ∙ mine.0, ap (λ l. l ++ x) mine.1 ∙ (append_assoc received (joined items) x ∙ ap (λ l. received ++ l) (sym (joined_more items x))))),
               (λ s. absurd (clash deaf s)),
             ))
             (λ (t : (j ≢ pass) × (get_elem? views j ≡ some u)).
             let f = h.3 j u t.1 in ((λ s. absurd (t.0 ((f.0 s).0 ∙ sym mine.0))), f.1))
-            (at_set views pass j (reply_more v x) u e)),
+            (at_set views pass j (replies_more v x) u e)),
       ),
       refl,
     )
@@ -36,24 +42,24 @@ pub receives_reply : (pass : ℕ) (v : WayView) → v.receives ≡ true → v.se
 receives_reply pass v receives quiet x items views h at =
     let received = h.2 in
     let mine = (h.3 pass v at).1 receives in (
-      reply_more v x,
+      replies_more v x,
       (
         h.0,
         h.1,
-        received ++ x ∷ [],
+        received ++ x,
         (λ j u e. ⊎_elim
-            (λ (t : (j ≡ pass) × (reply_more v x ≡ u)).
-            let P : WayView → Type 0 = λ u. FitsWay h.0 h.1 ((received ++ x ∷ []) ++ items) (received ++ x ∷ []) j u in
+            (λ (t : (j ≡ pass) × (replies_more v x ≡ u)).
+            let P : WayView → Type 0 = λ u. FitsWay h.0 h.1 ((received ++ x) ++ joined items) (received ++ x) j u in
             subst P t.1 (
               (λ s. absurd (clash quiet s)),
-              (λ s. (t.0 ∙ mine.0, ap (λ l. l ++ x ∷ []) mine.1)),
+              (λ s. (t.0 ∙ mine.0, ap (λ l. l ++ x) mine.1)),
             ))
             (λ (t : (j ≢ pass) × (get_elem? views j ≡ some u)).
             let f = h.3 j u t.1 in (
-              (λ s. let g = f.0 s in (g.0, g.1 ∙ sym (append_assoc received (x ∷ []) items))),
+              (λ s. let g = f.0 s in (g.0, g.1 ∙ sym (append_assoc received x (joined items)))),
               (λ s. absurd (t.0 ((f.1 s).0 ∙ sym mine.0))),
             ))
-            (at_set views pass j (reply_more v x) u e)),
+            (at_set views pass j (replies_more v x) u e)),
       ),
       refl,
     )
@@ -67,7 +73,7 @@ cuts_way pass v sends receives items views h at =
       h.0,
       next,
       received,
-      (λ j u e. let P : WayView → Type 0 = λ u. FitsWay h.0 next (received ++ items) received j u in ⊎_elim
+      (λ j u e. let P : WayView → Type 0 = λ u. FitsWay h.0 next (received ++ joined items) received j u in ⊎_elim
           (λ (t : get_elem? (set views pass (sending_end v)) j ≡ some u). ⊎_elim
           (λ (t : (j ≡ pass) × (sending_end v ≡ u)). subst P t.1 ((λ s. (t.0 ∙ out.0, out.1)), (λ s. absurd (clash refl s))))
           (λ (t : (j ≢ pass) × (get_elem? views j ≡ some u)). let f = h.3 j u t.1 in ((λ s. f.0 s), (λ s. absurd (t.0 ((f.1 s).0 ∙ sym back.0)))))
@@ -90,8 +96,8 @@ starts_way = (
 )
 
 -- what a line received is a prefix of what the writer's end sent
-pub replies_in_order : (items : List ReplyValue) (views : List WayView) (i j : ℕ) (writer line : WayView) → Replies items views
+pub replies_in_order : (items : List (List ReplyValue)) (views : List WayView) (i j : ℕ) (writer line : WayView) → Replies items views
     → get_elem? views i ≡ some writer → writer.sends ≡ true → get_elem? views j ≡ some line → line.receives ≡ true
     → IsPrefix line.replies writer.replies
 replies_in_order items views i j writer line h at_writer sends at_line receives =
-    (items, ap (λ l. l ++ items) ((h.3 j line at_line).1 receives).1 ∙ sym ((h.3 i writer at_writer).0 sends).1)
+    (joined items, ap (λ l. l ++ joined items) ((h.3 j line at_line).1 receives).1 ∙ sym ((h.3 i writer at_writer).0 sends).1)

@@ -1,16 +1,18 @@
 -- Why the writer's loop ended.
-use Rattle.std.specs.Prelude.{ℕ, ◌≡◌, ◌<◌, ◌≤◌, List, length}
+use Rattle.std.specs.Prelude.{ℕ, ◌≡◌, ◌+◌, ◌<◌, ◌≤◌, ◌^◌, ◌⊎◌, List, length}
 use Rattle.rs_intake.specs.Lines.{Received}
 use Rattle.rs_intake.specs.QueueRule.{at_place}
 use Rattle.rs_intake.specs.declared.ending.Cause.{Cause}
+use Rattle.rs_intake.specs.declared.job.TheConstants.{MAX_CHANGES}
 use Rattle.rs_intake.specs.declared.ending.Cause.TheVariants.{AllEnded, MostTaken, QueueGone}
 
 -- of each place there is one End
 abbrev pub HaveEnded : ℕ → List ℕ → Type 0
 HaveEnded places ends = (place : ℕ) → 0 < place → place ≤ places → length (at_place place ends) ≡ 1
 
--- why the loop ended: one End of each place was taken; or as many jobs as may be; or a receive failed, of which no more is known
+-- Why the loop ended: one End of each place was taken; or as many entries as may be, or so many that one more job could have more
+-- than can be counted; or a receive failed, of which no more is known
 abbrev pub IsCause : ℕ → ℕ → Received → Cause → Type 0
 IsCause places most jobs AllEnded = HaveEnded places jobs.ends
-IsCause places most jobs MostTaken = most ≤ length jobs.entries
+IsCause places most jobs MostTaken = (most ≤ length jobs.entries) ⊎ (2 ^ 64 ≤ length jobs.entries + MAX_CHANGES)
 IsCause places most jobs (QueueGone gone) = Unit {0}

@@ -30,7 +30,7 @@ EndIsLast = (items : List Job) (views : List PassView) (i j : ℕ) (writer line 
 
 -- whatever a way back holds: what the line received is a prefix of what the writer's end sent
 abbrev pub HeardInOrder : Type 0
-HeardInOrder = (items : List ReplyValue) (views : List WayView) (i j : ℕ) (writer line : WayView) → Replies items views
+HeardInOrder = (items : List (List ReplyValue)) (views : List WayView) (i j : ℕ) (writer line : WayView) → Replies items views
     → get_elem? views i ≡ some writer → writer.sends ≡ true
     → get_elem? views j ≡ some line → line.receives ≡ true
     → IsPrefix line.replies writer.replies

@@ -1,3 +1,4 @@
+pub mod Changes
 pub mod Codes
 pub mod Done
 pub mod Ending

@@ -1,10 +1,12 @@
 -- The rule of the queue to the writer.
 use Rattle.std.specs.Prelude.{ℕ, ◌≡◌, ◌==◌, ◌+◌, ◌<◌, ◌≤◌, ◌⊎◌, true, false, List, [], ◌∷◌, ◌++◌, length, filter, filter_map}
+use Rattle.std.specs.List.{AllByRecursion, flat_map}
 use Rattle.std.specs.Prelude as std
 use mathlib.Core.Option.{Option, some, none}
 use lib.ListN.{get_elem?}
 use Rattle.rs_store.specs.History.{SerialsRise, last_serial}
 use Rattle.rs_message.specs.declared.entry.Entry.{Entry}
+use Rattle.rs_intake.specs.Changes.{AreOf}
 use Rattle.rs_intake.specs.declared.rule.PassView.{PassView}
 use Rattle.rs_intake.specs.declared.rule.SentFrom.{SentFrom}
 use Rattle.rs_intake.specs.declared.job.Job.{Job}
@@ -14,16 +16,17 @@ use Rattle.rs_intake.specs.declared.job.Job.TheVariants.{Put, End}
 abbrev pub of_place : ℕ → List Entry → List Entry
 of_place place entries = filter (λ e. e.origin.place == place) entries
 
-abbrev pub entry_of : Job → std.Option Entry
-entry_of (Put e) = std.Some e
-entry_of (End place) = std.None
+-- the entries that the job asks for. An End asks for none
+abbrev pub entries_in : Job → List Entry
+entries_in (Put es) = es
+entries_in (End place) = []
 
--- the entries that the jobs ask for
+-- the entries that the jobs ask for, in their order
 abbrev pub entries_of : List Job → List Entry
-entries_of jobs = filter_map entry_of jobs
+entries_of jobs = flat_map entries_in jobs
 
 abbrev pub end_of : Job → std.Option ℕ
-end_of (Put e) = std.None
+end_of (Put es) = std.None
 end_of (End place) = std.Some place
 
 -- the places of the Ends among the jobs
@@ -34,22 +37,28 @@ ends_of jobs = filter_map end_of jobs
 abbrev pub at_place : ℕ → List ℕ → List ℕ
 at_place place ends = filter (λ p. p == place) ends
 
-abbrev pub place_of : Job → ℕ
-place_of (Put e) = e.origin.place
-place_of (End place) = place
+-- the job is of this place, and so is each entry that it asks for
+abbrev pub IsOf : ℕ → Job → Type 0
+IsOf place (Put es) = AreOf place es
+IsOf place (End p) = p ≡ place
 
--- the job's serial is above those of its place before it
+-- each serial is above those of its place before it
+abbrev pub AreAbove : List Entry → List Entry → Type 0
+AreAbove entries [] = Unit {0}
+AreAbove entries (e ∷ es) = (last_serial e.origin.place entries < e.origin.serial) × AreAbove (entries ++ e ∷ []) es
+
+-- the job's serials are above those of its place before it, and so is each of them above those of the same job
 abbrev pub IsAbove : List Entry → Job → Type 0
-IsAbove entries (Put e) = last_serial e.origin.place entries < e.origin.serial
+IsAbove entries (Put es) = AreAbove entries es
 IsAbove entries (End place) = Unit {0}
 
 -- the writer has taken nothing
 abbrev pub taker : PassView
 taker = record { from = 0; sends = false; takes = true; made = 0; entries = []; ends = []; known = [] }
 
--- the pass with one more job. An End asks for no entry
+-- the pass with one more job
 abbrev pub job_more : PassView → Job → PassView
-job_more v job = record { from = v.from; sends = v.sends; takes = v.takes; made = v.made; entries = v.entries ++ entries_of (job ∷ []); ends = v.ends ++ ends_of (job ∷ []); known = v.known }
+job_more v job = record { from = v.from; sends = v.sends; takes = v.takes; made = v.made; entries = v.entries ++ entries_in job; ends = v.ends ++ ends_of (job ∷ []); known = v.known }
 
 abbrev pub Sends : PassView → Job → PassView → Type 0
 Sends v job w = w ≡ job_more v job
@@ -62,9 +71,14 @@ IsOutside made place = (place ≡ 0) ⊎ (made < place)
 abbrev pub AreEnds : ℕ → List ℕ → Type 0
 AreEnds made ends = (place : ℕ) → (length (at_place place ends) ≤ 1) × (IsOutside made place → at_place place ends ≡ [])
 
+-- the job, and each entry that it asks for, is of a place that has a line
+abbrev pub IsPlaced : ℕ → Job → Type 0
+IsPlaced made (Put es) = AllByRecursion (λ e. ¬ IsOutside made e.origin.place) es
+IsPlaced made (End place) = ¬ IsOutside made place
+
 -- the job is of a place that has a line. The serials of all that was taken rise, and each place has one End at most
 abbrev pub Takes : PassView → Job → PassView → Type 0
-Takes v job w = (w ≡ job_more v job) × SerialsRise w.entries × AreEnds w.made w.ends × ¬ IsOutside v.made (place_of job)
+Takes v job w = (w ≡ job_more v job) × SerialsRise w.entries × AreEnds w.made w.ends × IsPlaced v.made job
 
 -- of each of these places the whole of what was sent is known, and its line is gone
 abbrev pub AreWhole : (ℕ → Option ℕ) → (ℕ → List Entry) → List SentFrom → Type 0
@@ -93,7 +107,7 @@ Delivers items views =
 -- behind an End is no entry of its place
 abbrev pub AreLast : List Job → Type 0
 AreLast [] = Unit {0}
-AreLast (Put e ∷ jobs) = AreLast jobs
+AreLast (Put es ∷ jobs) = AreLast jobs
 AreLast (End place ∷ jobs) = (of_place place (entries_of jobs) ≡ []) × AreLast jobs
 
 -- a line knows which End it sent

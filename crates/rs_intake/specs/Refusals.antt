@@ -6,7 +6,7 @@ use Rattle.rs_message.specs.declared.fault.SubmitFault.TheVariants as submit
 use Rattle.rs_version.specs.declared.fault.PutFault.{PutFault}
 use Rattle.rs_version.specs.declared.fault.PutFault.TheVariants as put
 use Rattle.rs_intake.specs.Done.{Answer, ReplyValue}
-use Rattle.rs_intake.specs.Lines.{Line}
+use Rattle.rs_intake.specs.Lines.{IsOther, Line}
 
 -- the fault that a line answers for the writer's refusal. The queue keeps the serials of a place in order, so a stale one is strange
 abbrev pub fault_for : PutFault → SubmitFault
@@ -33,9 +33,15 @@ IsUnsent serial fault = ((fault ≡ submit.Full) × (serial + 1 ≡ 2 ^ 64)) ⊎
 abbrev pub IsSent : Line → Line → Entry → Type 0
 IsSent before after e = (after.serial ≡ before.serial + 1) × (after.sent ≡ before.sent ++ e ∷ [])
 
--- Why there is no receipt: nothing was sent; or the entry was sent, and no reply came; or one came that is no receipt for it
+-- another change than this one was sent ahead, so nothing was done, and no serial was used
+abbrev pub IsMistaken : Line → Line → Entry → SubmitFault → Type 0
+IsMistaken before after e fault = IsOther before.ahead e.operation × (after.serial ≡ before.serial) × (after.sent ≡ before.sent) × (after.heard ≡ before.heard) × (fault ≡ submit.Strange)
+
+-- Why there is no receipt: nothing was sent; or the entry was sent, and no reply came; or one came that is no receipt for it; or another
+-- change than this one was sent ahead
 abbrev pub IsRefused : Line → Line → Entry → SubmitFault → Type 0
 IsRefused before after e fault =
     ((after.sent ≡ before.sent) × (after.heard ≡ before.heard) × IsUnsent before.serial fault)
     ⊎ (IsSent before after e × (after.heard ≡ before.heard) × (fault ≡ submit.Open))
     ⊎ (IsSent before after e × (reply : ReplyValue) × (after.heard ≡ before.heard ++ reply ∷ []) × IsFaultOfReply e reply fault)
+    ⊎ IsMistaken before after e fault

@@ -3,8 +3,9 @@ use Rattle.std.specs.Prelude.{ℕ, ◌≡◌, ◌⊎◌, not, List, Contains}
 use Rattle.std.specs.List.{filter}
 use Rattle.rs_message.specs.Messages.{is_sweep}
 use Rattle.rs_message.specs.declared.entry.Entry.{Entry}
-use Rattle.rs_store.specs.History.{NeedsSweepAfter, cleaned}
+use Rattle.rs_store.specs.History.{NeedsSweepAfter, SerialsRise, cleaned}
 use Rattle.rs_store.specs.Needed.{AreNeeded}
+use Rattle.rs_intake.specs.Parts.{IsPart}
 
 -- the entries that are no Sweep
 abbrev pub without_sweeps : List Entry → List Entry
@@ -17,3 +18,9 @@ pub record AreForJobs (limit : ℕ) (jobs list : List Entry) : Type 0 where
 -- the list is the history, or has the Sweep that comes before the entry behind it
 abbrev pub IsSweptAtMost : ℕ → List Entry → Entry → List Entry → Type 0
 IsSweptAtMost limit history e list = (list ≡ history) ⊎ ((s : NeedsSweepAfter limit history e) × (list ≡ cleaned s.message.received history))
+
+-- what is kept against the jobs that were taken
+pub record Serves (limit : ℕ) (jobs kept : List Entry) : Type 0 where
+  pub part : IsPart (without_sweeps kept) jobs
+  pub sweeps : AreForJobs limit jobs kept
+  pub rises : SerialsRise kept

@@ -78,7 +78,7 @@ fn line<N: LineName>(
     requires queue { IsQueue N.queue (sends_on sender.now) × IsIn N.queue pass.old }
     requires pass { ((known_by pass.old).takes ≡ true) × ((known_by pass.old).sends ≡ false) × ((known_by pass.old).known ≡ []) × ((known_by pass.old).made + 1 ≡ place) }
     requires place { (place ≤ N.places) × (N.places ≤ MAX_PLACES) }
-    ensures line { IfOk result (λ r. r.0 ≡ record { place = place; serial = 0; sent = []; heard = [] }) }
+    ensures line { IfOk result (λ r. r.0 ≡ record { place = place; serial = 0; sent = []; heard = []; expected = []; ahead = [] }) }
     ensures told { IfOk result (λ r. r.1 ≡ []) }
     ensures seat { IfOk result (λ _. IsIn N.queue pass.new) }
     ensures pass { IfOk result (λ _. ((known_by pass.new).takes ≡ true) × ((known_by pass.new).sends ≡ false) × ((known_by pass.new).known ≡ []) × ((known_by pass.new).entries ≡ (known_by pass.old).entries) × ((known_by pass.new).ends ≡ (known_by pass.old).ends) × ((known_by pass.new).made ≡ place)) }
@@ -86,7 +86,7 @@ fn line<N: LineName>(
     let (to, from) = way_back(alloc)?;
     let own = sender.try_clone()?;
     let line = OpenLine::new(place, own, cut(sender, pass));
-    Ok((SeatLine::new(line, from), to))
+    Ok((SeatLine::new(alloc, line, from), to))
 }
 
 impl BlankQueue {
@@ -114,7 +114,11 @@ impl BlankQueue {
             lines.push(line).map_err(|_| AllocError)?;
             replies.push(to).map_err(|_| AllocError)?;
         }
-        let queue = Queue::new(receiver, Taken::new(places, pass), WaysBack::new(replies));
+        let queue = Queue::new(
+            receiver,
+            Taken::new(places, pass),
+            WaysBack::new(alloc, replies),
+        );
         Ok((Intake::new(), lines, queue))
     }
 }

@@ -7,7 +7,7 @@ use crate::waiting::Gone;
 pub enum Cause {
     /// The End of each place was taken.
     AllEnded,
-    /// As many jobs were taken as may be.
+    /// At least as many entries were taken as may be, or fewer than [`MAX_CHANGES`](crate::MAX_CHANGES) more can be counted.
     MostTaken,
     /// A receive failed: all lines and their ends were gone.
     QueueGone(Gone),

@@ -1,18 +1,17 @@
 //! Submitting to the writer.
 
-ghost use Rattle.std.specs.Prelude.{◌≡◌, ◌≢◌, ◌+◌, ◌++◌, ◌∷◌, [], false, IfErr, IfOk};
+ghost use Rattle.std.specs.Prelude.{◌≡◌, ◌≢◌, ◌+◌, ◌++◌, ◌∷◌, ◌⊎◌, [], false, Err, IfErr, IfOk};
 ghost use Rattle.rs_message.specs.Messages.{is_sweep};
-ghost use Rattle.rs_message.specs.declared.fault.SubmitFault.TheVariants.{Closed};
+ghost use Rattle.rs_message.specs.declared.fault.SubmitFault.TheVariants.{Closed, Strange};
 ghost use Rattle.rs_store.specs.History.{IsLegal};
 ghost use Rattle.rs_version.specs.Receipts.{StandsAt};
-ghost use Rattle.rs_intake.specs.Lines.{AddsAtMost, job, next_serial};
+ghost use Rattle.rs_intake.specs.Lines.{AddsAtMost, IsAheadAfter, IsOther, job, next_serial};
 ghost use Rattle.rs_intake.specs.Refusals.{IsFaultOfReply, IsRefused, fault_for};
 
 use crate::line::SeatLine;
 use crate::name::LineName;
 use crate::reply::Reply;
-use crate::same::is_same;
-use rs_message::{Entry, Operation, SubmitFault};
+use rs_message::{Entry, Operation, SubmitFault, is_same};
 use rs_version::{PutFault, Receipt};
 use std::marker::PhantomData;
 use std::sync::Wait;
@@ -72,11 +71,17 @@ impl<N: LineName> Intake<N> {
     /// used whatever is answered, unless there is no further one. The writer may make a Sweep first, so that there is room. The
     /// contract also says which reply came (`heard`), if one came.
     ///
+    /// If the line expects this operation first ([`expect`](SeatLine::expect)), all that it expects is sent, as one job; if memory for
+    /// that is refused, the operation goes by itself. If the operation was sent ahead, in a job with an earlier one, nothing is sent, and
+    /// the answer is the one to its entry. If something else was sent ahead, nothing is done, and no serial is used. Nothing is expected
+    /// any more.
+    ///
     /// # Errors
     ///
     /// - [`Full`](SubmitFault::Full), [`NoMemory`](SubmitFault::NoMemory): no entry of the operation was made. A Sweep may have been.
     /// - [`Open`](SubmitFault::Open): no receipt came. The operation may become an entry, at most once.
-    /// - [`Strange`](SubmitFault::Strange): what came back is not for this operation, or says that its serial is stale.
+    /// - [`Strange`](SubmitFault::Strange): what came back is not for this operation, or says that its serial is stale; or something else
+    ///   was sent ahead.
     /// - [`Closed`](SubmitFault::Closed): the writer takes no more; the queue did not take the operation. No entry of it was made.
     pub fn submit<R: Wait>(
         &self,
@@ -86,7 +91,8 @@ impl<N: LineName> Intake<N> {
     ) -> Result<Receipt<N>, SubmitFault>
         requires { is_sweep operation ≡ false }
         ensures place { line.new.place ≡ line.old.place }
-        ensures serial { line.new.serial ≡ next_serial line.old.serial }
+        ensures serial { (line.new.serial ≡ next_serial line.old.serial) ⊎ IsOther line.old.ahead operation }
+        ensures other { IsOther line.old.ahead operation → (result ≡ Err Strange) × (line.new.serial ≡ line.old.serial) × (line.new.sent ≡ line.old.sent) }
         ensures sent { AddsAtMost line.old.sent (job line.old.place line.new.serial operation) line.new.sent }
         ensures refused { IfErr result (λ f. IsRefused line.old line.new (job line.old.place line.new.serial operation) f) }
         ensures closed { IfErr result (λ f. f ≡ Closed → line.new.sent ≡ line.old.sent) }
@@ -96,6 +102,8 @@ impl<N: LineName> Intake<N> {
         ensures heard { IfOk result (λ r. line.new.heard ≡ line.old.heard ++ record { origin = r.entry.origin; answer = Ok r } ∷ []) }
         ensures stands { IfOk result (λ r. StandsAt r.entry r.number r.told) }
         ensures legal { IfOk result (λ r. IsLegal N.limit r.told) }
+        ensures expected { line.new.expected ≡ [] }
+        ensures ahead { IsAheadAfter line.old.place line.old.serial line.old.expected line.old.ahead operation line.new.ahead }
     {
         let entry = line.send(rt, operation)?;
         match line.receive(rt) {

@@ -1,53 +1,78 @@
 //! What a line sends to the writer.
 
-ghost use Rattle.std.specs.Prelude.{◌≡◌, ◌<◌, false};
-ghost use Rattle.rs_message.specs.Messages.{is_sweep};
+ghost use Rattle.std.specs.Prelude.{◌≡◌, ◌<◌, ◌≤◌, length};
+ghost use Rattle.rs_message.specs.declared.entry.TheConstants.{MAX_PLACES};
+ghost use Rattle.rs_intake.specs.Changes.{AreChanges, place_of_all};
 
 use rs_message::Entry;
 use std::marker::Model;
 
-/// An entry that a line asks for: no Sweep, and not of the writer's place. Contracts see it as the entry.
+/// The most changes of one job.
+pub const MAX_CHANGES: usize = 64;
+
+const _: () = prove!(MAX_CHANGES == 64);
+
+/// Entries that a line asks for in one job: 1 to [`MAX_CHANGES`], all of one place, which is not the writer's, and none a Sweep.
+/// Contracts see them as a list.
 #[derive(Drop)]
-pub struct Change {
-    entry: Entry,
+pub struct Changes {
+    entries: Vec<Entry>,
 }
 
-impl Model for Change {
-    ghost use Rattle.std.specs.Prelude.{◌≡◌, ◌<◌, false};
-    ghost use Rattle.rs_message.specs.Messages.{is_sweep};
+impl Model for Changes {
+    ghost use Rattle.std.specs.Prelude.{List};
     ghost use Rattle.rs_message.specs.declared.entry.Entry.{Entry};
+    ghost use Rattle.rs_intake.specs.Changes.{AreChanges};
 
-    ghost Value = { Entry };
+    ghost Value = { List Entry };
 
-    ghost view = { λ c. c.entry };
+    ghost view = { λ c. c.entries.items };
 
-    ghost invariant = { λ c. (is_sweep c.entry.operation ≡ false) × (0 < c.entry.origin.place) };
+    ghost invariant = { λ c. AreChanges c.entries.items };
 }
 
-impl Change {
-    pub(crate) fn new(entry: Entry) -> Change
-        requires no_sweep { is_sweep entry.operation ≡ false }
-        requires place { 0 < entry.origin.place }
-        ensures { result ≡ entry }
+impl Changes {
+    pub(crate) fn new(entries: Vec<Entry>) -> Changes
+        requires { AreChanges entries.items }
+        ensures { result ≡ entries.items }
     {
-        Change { entry }
+        Changes { entries }
     }
 
-    /// The entry.
-    pub fn into_entry(self) -> Entry
-        ensures entry { result ≡ self }
-        ensures no_sweep { is_sweep result.operation ≡ false }
-        ensures place { 0 < result.origin.place }
+    /// How many they are.
+    pub fn len(&self) -> usize
+        ensures len { result ≡ length self.now }
+        ensures changes { AreChanges self.now }
     {
-        self.entry
+        self.entries.len()
+    }
+
+    /// Their place.
+    pub fn place(&self) -> u8
+        ensures place { result ≡ place_of_all self.now }
+        ensures some { 0 < result }
+        ensures small { result ≤ MAX_PLACES }
+    {
+        let Some(first) = self.entries.first() else {
+            unreachable!()
+        };
+        first.origin.place()
+    }
+
+    /// The entries, in their order.
+    pub fn into_entries(self) -> Vec<Entry>
+        ensures entries { result.items ≡ self }
+        ensures changes { AreChanges result.items }
+    {
+        self.entries
     }
 }
 
 /// What a line sends to the writer.
 #[derive(Drop)]
 pub enum Job {
-    /// Makes this entry.
-    Put(Change),
+    /// Makes these entries, one after the other.
+    Put(Changes),
     /// The line of this place sends nothing more.
     End(u8),
 }

@@ -1,8 +1,9 @@
 //! The queue to the writer of the store, and receipts back.
 //!
 //! Each place has a line ([`SeatLine`]). [`Intake::submit`] sends an operation by the line, under the line's next serial, and
-//! waits for the receipt of just that entry. [`run_writer`] takes jobs from the [`Queue`], puts each into the store, and answers
-//! its line. What it takes of a place is at every moment a prefix of what the line sent ([`line_order_law`]), and what a line has
+//! waits for the receipt of just that entry. Changes that a line expects ([`SeatLine::expect`]) are sent together, as one job, and
+//! submitted one by one. [`run_writer`] takes jobs from the [`Queue`], puts each of their changes into the store, and answers
+//! their line. What it takes of a place is at every moment a prefix of what the line sent ([`line_order_law`]), and what a line has
 //! received of the replies is a prefix of those that were sent to it ([`reply_order_law`]).
 //!
 //! [`SeatLine::close`] ends a line. When all lines and the writer have ended, [`settle`] says whether all that was sent was taken.
@@ -21,7 +22,6 @@ mod line;
 mod name;
 mod reply;
 mod rule;
-mod same;
 mod settling;
 mod steps;
 mod taken;
@@ -33,11 +33,11 @@ pub use blank::{BlankQueue, blank_queue};
 pub use ending::Cause;
 pub use fault::SettleFault;
 pub use intake::{Intake, read_reply};
-pub use job::{Change, Job};
+pub use job::{Changes, Job, MAX_CHANGES};
 pub use law::{answered_law, line_order_law, reply_order_law};
 pub use line::{LineEnd, SeatLine};
 pub use name::LineName;
-pub use reply::Reply;
+pub use reply::{Replies, Reply};
 pub use settling::settle;
 pub use taken::Taken;
 pub use waiting::Gone;

@@ -1,24 +1,35 @@
 //! The lines of the places.
 
-ghost use Rattle.std.specs.Prelude.{◌≡◌, ◌+◌, ◌-◌, ◌<◌, ◌≤◌, ◌^◌, ◌∷◌, ◌++◌, [], length, true, false, IfErr, IfOk, MatchBool, MatchOption, MatchResult};
+ghost use Rattle.std.specs.Prelude.{◌≡◌, ◌+◌, ◌-◌, ◌<◌, ◌≤◌, ◌^◌, ◌∷◌, ◌++◌, ◌⊎◌, [], List, All, length, true, false, IfErr, IfOk, IfSome, Decides, MatchBool, MatchOption, MatchResult, Err};
+ghost use Rattle.std.specs.List.{AllByRecursion};
 ghost use Rattle.crossbeam_channel.specs.Claims.{view as known_by};
 ghost use Rattle.crossbeam_channel.specs.Ends.{sends_on};
 ghost use Rattle.rs_message.specs.Messages.{is_sweep};
+ghost use Rattle.rs_message.specs.declared.entry.Entry.{Entry};
+ghost use Rattle.rs_message.specs.declared.entry.Operation.{Operation};
 ghost use Rattle.rs_message.specs.declared.entry.TheConstants.{MAX_PLACES};
+ghost use Rattle.rs_message.specs.declared.fault.SubmitFault.TheVariants.{Strange};
 ghost use Rattle.rs_store.specs.History.{last_serial};
+ghost use Rattle.rs_intake.specs.Changes.{AreOf};
+ghost use Rattle.rs_intake.specs.Done.{ReplyValue};
 ghost use Rattle.rs_intake.specs.Names.{IsQueue, IsIn};
-ghost use Rattle.rs_intake.specs.Lines.{IsClosed, job, next_serial};
+ghost use Rattle.rs_intake.specs.Lines.{AreNext, IsAheadAfter, IsClosed, IsOther, announced, job, next_serial, numbered};
+ghost use Rattle.rs_intake.specs.QueueRule.{AreAbove};
 ghost use Rattle.rs_intake.specs.Refusals.{IsUnsent};
+ghost use Rattle.rs_intake.specs.declared.job.TheConstants.{MAX_CHANGES};
 
-use crate::job::{Change, Job};
+use crate::job::{Changes, Job, MAX_CHANGES};
 use crate::name::LineName;
 use crate::reply::{Reply, ReplyReceiver};
 use crate::rule::{JobSender, PassView};
 use crate::steps::send;
 use crate::waiting::Gone;
 use crossbeam_channel::Pass;
-use rs_message::{Entry, Operation, Origin, SubmitFault};
+use rs_message::{Entry, Operation, Origin, SubmitFault, is_same};
+use std::alloc::Global;
+use std::collections::VecDeque;
 use std::marker::{Model, PhantomData};
+use std::mem;
 use std::sync::Wait;
 
 /// The queue's end of a line that has not ended: its place, and what the queue took from it.
@@ -69,21 +80,18 @@ impl<N: LineName> OpenLine<N> {
         }
     }
 
-    /// Whether the queue took the job.
-    fn send_entry<R: Wait>(&mut self, rt: &R, entry: Entry) -> bool
-        requires no_sweep { is_sweep entry.operation ≡ false }
-        requires place { entry.origin.place ≡ self.old.place }
-        requires serial { last_serial self.old.place self.old.sent < entry.origin.serial }
-        requires room { length self.old.sent + 1 < 2 ^ 64 }
+    /// Whether the queue took the changes, as one job.
+    fn send_changes<R: Wait>(&mut self, rt: &R, changes: Changes) -> bool
+        requires place { AreOf self.old.place changes }
+        requires above { AreAbove self.old.sent changes }
+        requires room { length self.old.sent + length changes < 2 ^ 64 }
         ensures place { self.new.place ≡ self.old.place }
-        ensures sent { MatchBool result (self.new.sent ≡ self.old.sent ++ entry ∷ []) (self.new.sent ≡ self.old.sent) }
+        ensures sent { MatchBool result (self.new.sent ≡ self.old.sent ++ changes) (self.new.sent ≡ self.old.sent) }
     {
-        // For the proof: this call says that the place is not the writer's.
-        let _place = self.place();
-        let job = Job::Put(Change::new(entry));
-        match send(rt, &self.sender, &mut self.pass, job) {
+        let count = changes.len() as u64;
+        match send(rt, &self.sender, &mut self.pass, Job::Put(changes)) {
             Ok(()) => {
-                self.sent += 1;
+                self.sent += count;
                 true
             }
             Err(_) => false,
@@ -116,8 +124,8 @@ impl<N: LineName> OpenLine<N> {
     }
 }
 
-/// What is left of a line: its place, and what the queue took from it. Contracts see the entries of these jobs, and the End that the
-/// queue took behind them. If it took none, the send of the End has failed, and the line's end keeps its [`Gone`].
+/// What is left of a line: its place, and what the queue took from it. Contracts see these entries, and the End that the queue took
+/// behind them. If it took none, the send of the End has failed, and the line's end keeps its [`Gone`].
 #[derive(Drop)]
 pub struct LineEnd<N: LineName> {
     place: u8,
@@ -152,7 +160,7 @@ impl<N: LineName> LineEnd<N> {
         self.place
     }
 
-    /// How many jobs the queue took from the line.
+    /// How many entries the queue took from the line.
     pub fn sent(&self) -> u64
         ensures { result ≡ length self.now.sent }
     {
@@ -175,35 +183,104 @@ impl<N: LineName> LineEnd<N> {
     }
 }
 
-/// A place's way to the writer and back, with the last serial that it used. It is not shared: each place has its own.
+/// The entries of this place that do this one after the other, under the serials behind this one. `None` if there are no such serials,
+/// or memory is refused.
+fn numbered(
+    alloc: Global,
+    place: u8,
+    serial: u64,
+    operations: &Vec<Operation>,
+) -> Option<Vec<Entry>>
+    requires { (0 < place) × (place ≤ MAX_PLACES) }
+    ensures entries { IfSome result (λ es. es.items ≡ numbered place serial operations.now.items) }
+    ensures small { IfSome result (λ es. serial + length es.items < 2 ^ 64) }
+{
+    let mut entries = Vec::with_capacity(alloc, operations.len()).ok()?;
+    let mut last = serial;
+    for operation in operations.iter() {
+        last = last.checked_add(1)?;
+        let origin = Origin::new(place, last)?;
+        let operation = operation.copy().ok()?;
+        entries.push(Entry { origin, operation }).ok()?;
+    }
+    Some(entries)
+}
+
+/// What is expected, as one job, if this is the first entry of it; and a copy of its entries. `None` if it is not, or if memory is
+/// refused.
+fn prepared(
+    alloc: Global,
+    place: u8,
+    serial: u64,
+    expected: &Vec<Operation>,
+    first: &Entry,
+) -> Option<(Changes, VecDeque<Entry>)>
+    requires place { (0 < place) × (place ≤ MAX_PLACES) }
+    requires plain { AllByRecursion (λ o. is_sweep o ≡ false) expected.now.items }
+    requires few { length expected.now.items ≤ MAX_CHANGES }
+    ensures job { IfSome result (λ r. r.0 ≡ numbered place serial expected.now.items) }
+    ensures ahead { IfSome result (λ r. r.1.items ≡ numbered place serial expected.now.items) }
+    ensures first { IfSome result (λ r. (es : List Entry) × (r.1.items ≡ first.now ∷ es)) }
+    ensures small { IfSome result (λ r. serial + length r.1.items < 2 ^ 64) }
+{
+    let entries = numbered(alloc, place, serial, expected)?;
+    let job = numbered(alloc, place, serial, expected)?;
+    if !is_same(entries.first()?, first) {
+        return None;
+    }
+    Some((Changes::new(job), VecDeque::from_vec(entries)))
+}
+
+/// This entry alone, as a job. `None` if memory is refused.
+fn alone(alloc: Global, entry: Entry) -> Option<Changes>
+    requires plain { is_sweep entry.operation ≡ false }
+    requires place { 0 < entry.origin.place }
+    ensures { IfSome result (λ changes. changes ≡ entry ∷ []) }
+{
+    let mut entries = Vec::with_capacity(alloc, 1).ok()?;
+    entries.push(entry).ok()?;
+    Some(Changes::new(entries))
+}
+
+/// A place's way to the writer and back, with the last serial that was submitted. It is not shared: each place has its own.
+///
+/// Changes that are announced ([`expect`](SeatLine::expect)) go to the writer together, in one job with the first of them that is
+/// submitted. Those behind it are ahead then: they were sent, and are not submitted yet. The queue took what was sent and submitted, and
+/// then what is ahead.
 #[derive(Drop)]
 pub struct SeatLine<N: LineName> {
     line: OpenLine<N>,
     serial: u64,
     replies: ReplyReceiver<N>,
+    expected: Vec<Operation>,
+    ahead: VecDeque<Entry>,
+    alloc: Global,
 }
 
 impl<N: LineName> Model for SeatLine<N> {
-    ghost use Rattle.std.specs.Prelude.{◌≤◌, length};
-    ghost use Rattle.rs_store.specs.History.{last_serial};
-    ghost use Rattle.rs_intake.specs.Lines.{Line};
+    ghost use Rattle.rs_intake.specs.Lines.{IsSeatLine, Line};
+    ghost use Rattle.rs_intake.specs.Parts.{before};
 
     ghost Value = { Line };
 
-    ghost view = { λ l. record { place = l.line.place; serial = l.serial; sent = l.line.sent; heard = l.replies } };
+    ghost view = { λ l. record { place = l.line.place; serial = l.serial; sent = before l.line.sent l.ahead.items; heard = l.replies.heard; expected = l.expected.items; ahead = l.ahead.items } };
 
-    ghost invariant = { λ l. (last_serial l.line.place l.line.sent ≤ l.serial) × (length l.line.sent ≤ l.serial) };
+    ghost invariant = { λ l. IsSeatLine l.line.place l.serial l.line.sent l.expected.items l.ahead.items };
 }
 
 impl<N: LineName> SeatLine<N> {
-    pub(crate) fn new(line: OpenLine<N>, replies: ReplyReceiver<N>) -> SeatLine<N>
-        requires { (line.sent ≡ []) × (replies ≡ []) }
-        ensures { (result.place ≡ line.place) × (result.serial ≡ 0) × (result.sent ≡ []) × (result.heard ≡ []) }
+    pub(crate) fn new(alloc: Global, line: OpenLine<N>, replies: ReplyReceiver<N>) -> SeatLine<N>
+        requires { (line.sent ≡ []) × (replies.heard ≡ []) }
+        ensures line { (result.place ≡ line.place) × (result.serial ≡ 0) × (result.sent ≡ []) × (result.heard ≡ []) }
+        ensures ahead { (result.expected ≡ []) × (result.ahead ≡ []) }
     {
         SeatLine {
             line,
             serial: 0,
             replies,
+            expected: Vec::new(alloc),
+            ahead: VecDeque::new(alloc),
+            alloc,
         }
     }
 
@@ -217,15 +294,133 @@ impl<N: LineName> SeatLine<N> {
         self.line.place()
     }
 
-    /// The last serial that the line used, 0 at first.
+    /// The last serial that was submitted, 0 at first.
     pub fn serial(&self) -> u64
         ensures { result ≡ self.now.serial }
     {
         self.serial
     }
 
-    /// Uses the next serial, and sends the operation under it. The entry that was sent, or why nothing was: `Full` if there is no
-    /// further serial, `NoMemory` or `Closed`.
+    /// Says which changes come next, none a Sweep, in place of those that were announced before. It sends nothing and takes no memory. If
+    /// something is ahead, or the changes are more than [`MAX_CHANGES`], none are expected.
+    pub fn expect(&mut self, changes: Vec<Operation>)
+        requires { All (λ o. is_sweep o ≡ false) changes.items }
+        ensures expected { self.new.expected ≡ announced self.old.ahead changes.items }
+        ensures place { (self.new.place ≡ self.old.place) × (self.new.serial ≡ self.old.serial) }
+        ensures same { (self.new.sent ≡ self.old.sent) × (self.new.heard ≡ self.old.heard) × (self.new.ahead ≡ self.old.ahead) }
+    {
+        if self.ahead.is_empty() && changes.len() <= MAX_CHANGES {
+            self.expected = changes;
+        } else {
+            self.expected = Vec::new(self.alloc);
+        }
+    }
+
+    /// Whether some change that was announced may be left: it is expected, or ahead.
+    pub fn has_announced(&self) -> bool
+        ensures { result ≡ false → (self.now.expected ≡ []) × (self.now.ahead ≡ []) }
+    {
+        !self.expected.is_empty() || !self.ahead.is_empty()
+    }
+
+    /// The serial of the last that is ahead, or the last that was submitted.
+    fn last_serial(&self) -> u64
+        ensures { result ≡ self.now.serial + length self.now.ahead }
+    {
+        match self.ahead.back() {
+            Some(last) => last.origin.serial(),
+            None => self.serial,
+        }
+    }
+
+    /// For a line that is handed on. Nothing is expected any more, and what is ahead counts as submitted. The replies to it have come
+    /// with that to the first change of its job, if any did, and are dropped.
+    pub fn hand_on(&mut self)
+        ensures place { self.new.place ≡ self.old.place }
+        ensures serial { self.new.serial ≡ self.old.serial + length self.old.ahead }
+        ensures sent { self.new.sent ≡ self.old.sent ++ self.old.ahead }
+        ensures next { AreNext self.old.place self.old.serial self.old.ahead }
+        ensures heard { (more : List ReplyValue) × (self.new.heard ≡ self.old.heard ++ more) }
+        ensures none { (self.new.expected ≡ []) × (self.new.ahead ≡ []) }
+    {
+        self.serial = self.last_serial();
+        self.ahead = VecDeque::new(self.alloc);
+        self.expected = Vec::new(self.alloc);
+        self.replies.skip();
+    }
+
+    /// Sends what is expected, as one job, if this is the first entry of it and nothing is ahead. Then all of it is ahead. Whatever comes
+    /// of it, nothing is expected any more.
+    fn send_expected<R: Wait>(&mut self, rt: &R, first: &Entry)
+        ensures place { (self.new.place ≡ self.old.place) × (self.new.serial ≡ self.old.serial) }
+        ensures same { (self.new.sent ≡ self.old.sent) × (self.new.heard ≡ self.old.heard) × (self.new.expected ≡ []) }
+        ensures ahead { (self.new.ahead ≡ self.old.ahead)
+            ⊎ ((self.old.ahead ≡ []) × (self.new.ahead ≡ numbered self.old.place self.old.serial self.old.expected) × (es : List Entry) × (self.new.ahead ≡ first.now ∷ es)) }
+    {
+        let expected = mem::replace(&mut self.expected, Vec::new(self.alloc));
+        if !self.ahead.is_empty() || expected.len() < 2 {
+            return;
+        }
+        let place = self.line.place();
+        let Some((job, ahead)) = prepared(self.alloc, place, self.serial, &expected, first) else {
+            return;
+        };
+        if self.line.send_changes(rt, job) {
+            self.ahead = ahead;
+        }
+    }
+
+    /// Whether the first of what is ahead is this entry. `None` if nothing is ahead.
+    fn is_ahead(&self, entry: &Entry) -> Option<bool>
+        ensures { MatchOption result (self.now.ahead ≡ [])
+            (λ is. (first : Entry) × (rest : List Entry) × (self.now.ahead ≡ first ∷ rest) × (first.origin ≡ record { place = self.now.place; serial = self.now.serial + 1 }) × Decides is (first ≡ entry.now)) }
+    {
+        let first = self.ahead.front()?;
+        Some(is_same(first, entry))
+    }
+
+    /// The first of what is ahead, which is this entry, counts as submitted.
+    fn submit_ahead(&mut self, entry: &Entry)
+        requires { (rest : List Entry) × (self.old.ahead ≡ entry.now ∷ rest) }
+        ensures place { (self.new.place ≡ self.old.place) × (self.new.serial ≡ self.old.serial + 1) }
+        ensures sent { self.new.sent ≡ self.old.sent ++ entry.now ∷ [] }
+        ensures ahead { self.old.ahead ≡ entry.now ∷ self.new.ahead }
+        ensures same { (self.new.heard ≡ self.old.heard) × (self.new.expected ≡ self.old.expected) }
+    {
+        drop(self.ahead.pop_front());
+        self.serial = entry.origin.serial();
+    }
+
+    /// Uses the next serial, and sends the entry, which has it, by itself.
+    fn send_alone<R: Wait>(&mut self, rt: &R, entry: Entry) -> Result<Entry, SubmitFault>
+        requires plain { is_sweep entry.operation ≡ false }
+        requires origin { entry.origin ≡ record { place = self.old.place; serial = self.old.serial + 1 } }
+        requires none { self.old.ahead ≡ [] }
+        ensures place { (self.new.place ≡ self.old.place) × (self.new.serial ≡ self.old.serial + 1) }
+        ensures entry { IfOk result (λ e. e ≡ entry) }
+        ensures sent { MatchResult result (λ e. self.new.sent ≡ self.old.sent ++ e ∷ []) (λ _. self.new.sent ≡ self.old.sent) }
+        ensures same { (self.new.heard ≡ self.old.heard) × (self.new.expected ≡ self.old.expected) × (self.new.ahead ≡ []) }
+        ensures unsent { IfErr result (λ f. IsUnsent self.old.serial f) }
+    {
+        self.serial = entry.origin.serial();
+        // For the proof: this call says that the place is not the writer's.
+        let _place = self.line.place();
+        let Ok(copy) = entry.copy() else {
+            return Err(SubmitFault::NoMemory);
+        };
+        let Some(changes) = alone(self.alloc, copy) else {
+            return Err(SubmitFault::NoMemory);
+        };
+        if self.line.send_changes(rt, changes) {
+            Ok(entry)
+        } else {
+            Err(SubmitFault::Closed)
+        }
+    }
+
+    /// Uses the next serial, and sends the operation under it, with what is expected behind it; or it was sent ahead. Its entry, or why
+    /// nothing was sent: `Full` if there is no further serial, `NoMemory`, `Closed`, or `Strange` if something else was sent ahead, and
+    /// then no serial is used.
     pub(crate) fn send<R: Wait>(
         &mut self,
         rt: &R,
@@ -233,30 +428,31 @@ impl<N: LineName> SeatLine<N> {
     ) -> Result<Entry, SubmitFault>
         requires { is_sweep operation ≡ false }
         ensures place { self.new.place ≡ self.old.place }
-        ensures serial { self.new.serial ≡ next_serial self.old.serial }
+        ensures serial { (self.new.serial ≡ next_serial self.old.serial) ⊎ IsOther self.old.ahead operation }
+        ensures other { IsOther self.old.ahead operation → (result ≡ Err Strange) × (self.new.serial ≡ self.old.serial) × (self.new.sent ≡ self.old.sent) }
         ensures entry { IfOk result (λ e. (e ≡ job self.old.place self.new.serial operation) × (self.new.serial ≡ self.old.serial + 1)) }
         ensures sent { MatchResult result (λ e. self.new.sent ≡ self.old.sent ++ e ∷ []) (λ _. self.new.sent ≡ self.old.sent) }
         ensures heard { self.new.heard ≡ self.old.heard }
-        ensures unsent { IfErr result (λ f. IsUnsent self.old.serial f) }
+        ensures unsent { IfErr result (λ f. IsUnsent self.old.serial f ⊎ ((f ≡ Strange) × (self.new.serial ≡ self.old.serial) × IsOther self.old.ahead operation)) }
+        ensures expected { self.new.expected ≡ [] }
+        ensures ahead { IsAheadAfter self.old.place self.old.serial self.old.expected self.old.ahead operation self.new.ahead }
     {
         let Some(serial) = self.serial.checked_add(1) else {
+            self.expected = Vec::new(self.alloc);
             return Err(SubmitFault::Full);
         };
-        self.serial = serial;
         let Some(origin) = Origin::new(self.line.place(), serial) else {
             unreachable!()
         };
-        let Ok(copy) = operation.copy() else {
-            return Err(SubmitFault::NoMemory);
-        };
-        let entry = Entry {
-            origin,
-            operation: copy,
-        };
-        if self.line.send_entry(rt, Entry { origin, operation }) {
-            Ok(entry)
-        } else {
-            Err(SubmitFault::Closed)
+        let entry = Entry { origin, operation };
+        self.send_expected(rt, &entry);
+        match self.is_ahead(&entry) {
+            Some(true) => {
+                self.submit_ahead(&entry);
+                Ok(entry)
+            }
+            Some(false) => Err(SubmitFault::Strange),
+            None => self.send_alone(rt, entry),
         }
     }
 
@@ -264,21 +460,25 @@ impl<N: LineName> SeatLine<N> {
     pub(crate) fn receive<R: Wait>(&mut self, rt: &R) -> Option<Reply<N>>
         ensures same { (self.new.place ≡ self.old.place) × (self.new.serial ≡ self.old.serial) × (self.new.sent ≡ self.old.sent) }
         ensures heard { MatchOption result (self.new.heard ≡ self.old.heard) (λ reply. self.new.heard ≡ self.old.heard ++ reply ∷ []) }
+        ensures ahead { (self.new.expected ≡ self.old.expected) × (self.new.ahead ≡ self.old.ahead) }
     {
         self.replies.wait(rt)
     }
 
     /// Gives the line up: it sends one End, and nothing after it. If the queue is gone, it sends none. The line's end keeps what the
-    /// queue took from the line.
+    /// queue took from the line, what is ahead too.
     pub fn close<R: Wait>(self, rt: &R) -> LineEnd<N>
         ensures place { result.place ≡ self.place }
-        ensures sent { result.sent ≡ self.sent }
+        ensures sent { result.sent ≡ self.sent ++ self.ahead }
         ensures end { IsClosed result.place result.ends result.gone }
     {
         let SeatLine {
             line,
             serial: _,
             replies: _replies,
+            expected: _expected,
+            ahead: _ahead,
+            alloc: _,
         } = self;
         line.finish(rt)
     }

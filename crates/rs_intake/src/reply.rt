@@ -1,23 +1,23 @@
 //! The way back from the writer to a line.
 
-ghost use Rattle.std.specs.Prelude.{◌≡◌, ◌∷◌, ◌++◌, [], IfOk, MatchBool, MatchOption};
-ghost use Rattle.rs_intake.specs.Done.{is_refused};
+ghost use Rattle.std.specs.Prelude.{◌≡◌, ◌∷◌, ◌++◌, [], IfOk, MatchBool, MatchOption, map};
+ghost use Rattle.rs_intake.specs.Done.{is_held, is_refused, refused_reply, refused_in};
 
 use crate::waiting;
 use crate::waiting::{Patience, receive};
 use crossbeam_channel::protocol::{Lesson, Outcome, Protocol, Split};
 use crossbeam_channel::{Pass, RuledReceiver, RuledSender, bounded_with};
-use rs_message::Origin;
+use rs_message::{Entry, Origin};
 use rs_version::{PutFault, Receipt, StoreName};
 use std::alloc::{AllocError, Global};
-use std::collections::LinkedList;
+use std::collections::{LinkedList, VecDeque};
 use std::marker::Model;
 use std::sync::Wait;
 
-/// What the writer answers to a job.
+/// What the writer answers to a change.
 #[derive(Drop)]
 pub struct Reply<N: StoreName> {
-    /// The origin of the job.
+    /// The origin of the change.
     pub origin: Origin,
     /// The receipt, or why there is none.
     pub answer: Result<Receipt<N>, PutFault>,
@@ -32,13 +32,95 @@ impl<N: StoreName> Model for Reply<N> {
 }
 
 impl<N: StoreName> Reply<N> {
-    /// Whether the job is not kept. One that is held is kept.
+    /// Whether the change is not kept. One that is held is kept.
     pub fn is_refused(&self) -> bool
         ensures { result ≡ is_refused self.now.answer }
     {
         match &self.answer {
             Ok(_) | Err(PutFault::Held) => false,
             Err(PutFault::Full | PutFault::NoMemory | PutFault::Stale) => true,
+        }
+    }
+
+    /// 1 if the change is not kept, else 0.
+    pub(crate) fn refused(&self) -> u64
+        ensures { result ≡ refused_in (self.now.answer ∷ []) }
+    {
+        if self.is_refused() { 1 } else { 0 }
+    }
+
+    /// Whether the change is held: it is kept, and not published yet.
+    pub(crate) fn is_held(&self) -> bool
+        ensures { result ≡ is_held self.now.answer }
+    {
+        match &self.answer {
+            Err(PutFault::Held) => true,
+            Ok(_) | Err(PutFault::Full | PutFault::NoMemory | PutFault::Stale) => false,
+        }
+    }
+}
+
+/// What the writer answers to the changes of one job, in their order. Contracts see a list of replies.
+#[derive(Drop)]
+pub struct Replies<N: StoreName> {
+    made: VecDeque<Reply<N>>,
+    // Behind the others, those that say that memory was refused. For want of memory for any other reply they are the job's own entries.
+    refused: VecDeque<Entry>,
+}
+
+impl<N: StoreName> Model for Replies<N> {
+    ghost use Rattle.std.specs.Prelude.{List, ◌++◌, map};
+    ghost use Rattle.rs_intake.specs.Done.{ReplyValue, refused_reply};
+
+    ghost Value = { List ReplyValue };
+
+    ghost view = { λ r. r.made.items ++ map refused_reply r.refused.items };
+}
+
+impl<N: StoreName> Replies<N> {
+    /// No replies.
+    fn none(alloc: Global) -> Replies<N>
+        ensures { result ≡ [] }
+    {
+        Replies {
+            made: VecDeque::new(alloc),
+            refused: VecDeque::new(alloc),
+        }
+    }
+
+    /// These replies.
+    pub(crate) fn of(alloc: Global, replies: Vec<Reply<N>>) -> Replies<N>
+        ensures { result ≡ replies.items }
+    {
+        Replies {
+            made: VecDeque::from_vec(replies),
+            refused: VecDeque::new(alloc),
+        }
+    }
+
+    /// A reply to each of these changes, that memory was refused. Takes no memory.
+    pub(crate) fn refusing(alloc: Global, changes: Vec<Entry>) -> Replies<N>
+        ensures { result ≡ map refused_reply changes.items }
+    {
+        Replies {
+            made: VecDeque::new(alloc),
+            refused: VecDeque::from_vec(changes),
+        }
+    }
+
+    /// Takes the first reply.
+    fn next(&mut self) -> Option<Reply<N>>
+        ensures { MatchOption result ((self.old ≡ []) × (self.new ≡ [])) (λ reply. self.old ≡ reply ∷ self.new) }
+    {
+        if let Some(reply) = self.made.pop_front() {
+            return Some(reply);
+        }
+        match self.refused.pop_front() {
+            Some(change) => Some(Reply {
+                origin: change.origin,
+                answer: Err(PutFault::NoMemory),
+            }),
+            None => None,
         }
     }
 }
@@ -58,10 +140,11 @@ impl<N: StoreName> Model for WayPass<N> {
     ghost view = { λ p. record { sends = p.sends; receives = p.receives; replies = p.replies } };
 }
 
-/// The rule of a way back: what the line received, followed by what the way back holds, is what the writer's end sent.
+/// The rule of a way back: what the line received, followed by what the way back holds, is what the writer's end sent. A message has
+/// the replies to the changes of one job.
 pub struct ReplyRule;
 
-impl<N: StoreName> Protocol<Reply<N>, WayPass<N>> for ReplyRule {
+impl<N: StoreName> Protocol<Replies<N>, WayPass<N>> for ReplyRule {
     ghost use Rattle.rs_intake.specs.ReplyRule.{Replies, both_ends};
 
     ghost holds = { Replies };
@@ -69,16 +152,16 @@ impl<N: StoreName> Protocol<Reply<N>, WayPass<N>> for ReplyRule {
     ghost first = { both_ends };
 }
 
-/// A send or a receive: the reply joins those before it.
+/// A send or a receive: the replies join those before them.
 struct Counting;
 
-impl<N: StoreName> Outcome<Reply<N>, WayPass<N>> for Counting {
+impl<N: StoreName> Outcome<Replies<N>, WayPass<N>> for Counting {
     ghost use Rattle.rs_intake.specs.ReplyRule.{Counts};
 
     ghost then = { Counts };
 }
 
-impl<N: StoreName> Lesson<Reply<N>, WayPass<N>> for Counting {
+impl<N: StoreName> Lesson<Replies<N>, WayPass<N>> for Counting {
     ghost fact = { λ v items. Unit {0} };
 }
 
@@ -96,8 +179,8 @@ impl<N: StoreName> Split<WayPass<N>> for Ends {
 /// The writer's end. Contracts see the replies that were sent.
 #[derive(Drop)]
 pub struct ReplySender<N: StoreName> {
-    to: RuledSender<Reply<N>, WayPass<N>, ReplyRule>,
-    pass: Pass<Reply<N>, WayPass<N>>,
+    to: RuledSender<Replies<N>, WayPass<N>, ReplyRule>,
+    pass: Pass<Replies<N>, WayPass<N>>,
 }
 
 impl<N: StoreName> Model for ReplySender<N> {
@@ -113,35 +196,38 @@ impl<N: StoreName> Model for ReplySender<N> {
     ghost invariant = { λ s. IsSeatAt (sends_on s.to) s.pass × ((known_by s.pass).sends ≡ true) × ((known_by s.pass).receives ≡ false) };
 }
 
-/// The line's end. Contracts see the replies that came.
+/// The line's end. Contracts see the replies that were taken from it, and those that came and were not taken yet.
 #[derive(Drop)]
 pub struct ReplyReceiver<N: StoreName> {
-    from: RuledReceiver<Reply<N>, WayPass<N>, ReplyRule>,
-    pass: Pass<Reply<N>, WayPass<N>>,
+    from: RuledReceiver<Replies<N>, WayPass<N>, ReplyRule>,
+    pass: Pass<Replies<N>, WayPass<N>>,
     patience: Patience,
+    came: Replies<N>,
+    alloc: Global,
 }
 
 impl<N: StoreName> Model for ReplyReceiver<N> {
-    ghost use Rattle.std.specs.Prelude.{◌≡◌, List, true, false};
+    ghost use Rattle.std.specs.Prelude.{◌≡◌, ◌++◌, true, false};
     ghost use Rattle.crossbeam_channel.specs.Claims.{view as known_by, IsSeatAt};
     ghost use Rattle.crossbeam_channel.specs.Ends.{receives_on};
-    ghost use Rattle.rs_intake.specs.Done.{ReplyValue};
+    ghost use Rattle.rs_intake.specs.Parts.{before};
+    ghost use Rattle.rs_intake.specs.ReplyRule.{Heard};
 
-    ghost Value = { List ReplyValue };
+    ghost Value = { Heard };
 
-    ghost view = { λ r. (known_by r.pass).replies };
+    ghost view = { λ r. record { heard = before (known_by r.pass).replies r.came; came = r.came } };
 
-    ghost invariant = { λ r. IsSeatAt (receives_on r.from) r.pass × ((known_by r.pass).receives ≡ true) × ((known_by r.pass).sends ≡ false) };
+    ghost invariant = { λ r. IsSeatAt (receives_on r.from) r.pass × ((known_by r.pass).receives ≡ true) × ((known_by r.pass).sends ≡ false) × ((known_by r.pass).replies ≡ before (known_by r.pass).replies r.came ++ r.came) };
 }
 
-/// The two ends of the way back to one line, by which nothing was sent. It has room for one reply, since a line waits for one at
-/// most.
+/// The two ends of the way back to one line, by which nothing was sent. It has room for the replies to one job, since a line waits for
+/// those to one at most.
 pub fn way_back<N: StoreName>(
     alloc: Global,
 ) -> Result<(ReplySender<N>, ReplyReceiver<N>), AllocError>
-    ensures { IfOk result (λ r. (r.0 ≡ []) × (r.1 ≡ [])) }
+    ensures { IfOk result (λ r. (r.0 ≡ []) × (r.1.heard ≡ [])) }
 {
-    let (to, from, mut pass) = bounded_with::<Reply<N>, WayPass<N>, ReplyRule, Global>(alloc, 1)?;
+    let (to, from, mut pass) = bounded_with::<Replies<N>, WayPass<N>, ReplyRule, Global>(alloc, 1)?;
     let other = to.another::<Ends>(&mut pass);
     Ok((
         ReplySender { to, pass },
@@ -149,20 +235,22 @@ pub fn way_back<N: StoreName>(
             from,
             pass: other,
             patience: Patience::new(),
+            came: Replies::none(alloc),
+            alloc,
         },
     ))
 }
 
 impl<N: StoreName> ReplySender<N> {
-    /// Whether the reply was sent. If the line is gone, it is dropped. Takes no memory.
-    pub fn send<R: Wait>(&mut self, rt: &R, reply: Reply<N>) -> bool
-        ensures { MatchBool result (self.new ≡ self.old ++ reply ∷ []) (self.new ≡ self.old) }
+    /// Whether the replies were sent. If the line is gone, they are dropped. Takes no memory.
+    pub fn send<R: Wait>(&mut self, rt: &R, replies: Replies<N>) -> bool
+        ensures { MatchBool result (self.new ≡ self.old ++ replies) (self.new ≡ self.old) }
     {
-        match waiting::send::<Reply<N>, WayPass<N>, ReplyRule, Counting, R>(
+        match waiting::send::<Replies<N>, WayPass<N>, ReplyRule, Counting, R>(
             rt,
             &self.to,
             &mut self.pass,
-            reply,
+            replies,
         ) {
             Ok(()) => true,
             Err(_) => false,
@@ -171,15 +259,49 @@ impl<N: StoreName> ReplySender<N> {
 }
 
 impl<N: StoreName> ReplyReceiver<N> {
-    /// Waits for the next reply. `None` if the writer is gone.
-    pub fn wait<R: Wait>(&mut self, rt: &R) -> Option<Reply<N>>
-        ensures { MatchOption result (self.new ≡ self.old) (λ reply. self.new ≡ self.old ++ reply ∷ []) }
+    /// Takes the next reply that came.
+    fn take(&mut self) -> Option<Reply<N>>
+        ensures { MatchOption result ((self.old.came ≡ []) × (self.new.came ≡ []) × (self.new.heard ≡ self.old.heard)) (λ reply. (self.new.heard ≡ self.old.heard ++ reply ∷ []) × (self.old.came ≡ reply ∷ self.new.came)) }
     {
-        receive::<Reply<N>, WayPass<N>, ReplyRule, Counting, R>(
+        self.came.next()
+    }
+
+    /// Waits for the replies to a job, if none are there. Whether some came. They have not, if the writer is gone.
+    fn listen<R: Wait>(&mut self, rt: &R) -> bool
+        requires { self.old.came ≡ [] }
+        ensures { self.new.heard ≡ self.old.heard }
+    {
+        match receive::<Replies<N>, WayPass<N>, ReplyRule, Counting, R>(
             rt,
             &self.from,
             &mut self.pass,
             &mut self.patience,
-        ).ok()
+        ) {
+            Ok(replies) => {
+                self.came = replies;
+                true
+            }
+            Err(_) => false,
+        }
+    }
+
+    /// The next reply, for which it waits if none has come that was not taken. `None` if the writer is gone.
+    pub fn wait<R: Wait>(&mut self, rt: &R) -> Option<Reply<N>>
+        ensures { MatchOption result (self.new.heard ≡ self.old.heard) (λ reply. self.new.heard ≡ self.old.heard ++ reply ∷ []) }
+    {
+        if let Some(reply) = self.take() {
+            return Some(reply);
+        }
+        if !self.listen(rt) {
+            return None;
+        }
+        self.take()
+    }
+
+    /// Takes all replies that came, and drops them.
+    pub fn skip(&mut self)
+        ensures { self.new.heard ≡ self.old.heard ++ self.old.came }
+    {
+        self.came = Replies::none(self.alloc);
     }
 }

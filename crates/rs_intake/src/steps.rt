@@ -3,7 +3,7 @@
 ghost use Rattle.std.specs.Prelude.{◌≡◌, List, [], true, false, MatchResult};
 ghost use Rattle.crossbeam_channel.specs.Claims.{view, IsSeatAt};
 ghost use Rattle.crossbeam_channel.specs.Ends.{sends_on, receives_on};
-ghost use Rattle.rs_intake.specs.QueueRule.{job_more, place_of, IsAbove, Takes, one_line_more, new_line, one_line_less, Balances};
+ghost use Rattle.rs_intake.specs.QueueRule.{job_more, IsAbove, IsOf, Takes, one_line_more, new_line, one_line_less, Balances};
 ghost use Rattle.rs_intake.specs.declared.job.Job.{Job};
 
 use crate::job::Job;
@@ -21,7 +21,7 @@ pub fn send<R: Wait>(
     job: Job,
 ) -> Result<(), Gone>
     requires channel { IsSeatAt (sends_on to.now) pass.old }
-    requires sends { ((view pass.old).sends ≡ true) × ((view pass.old).takes ≡ false) × ((view pass.old).from ≡ place_of job) }
+    requires sends { ((view pass.old).sends ≡ true) × ((view pass.old).takes ≡ false) × IsOf (view pass.old).from job }
     requires above { IsAbove (view pass.old).entries job }
     requires open { (view pass.old).ends ≡ [] }
     ensures channel { IsSeatAt (sends_on to.now) pass.new }

@@ -4,7 +4,7 @@ ghost use Rattle.std.specs.Prelude.{◌≡◌, ◌<◌, ◌∷◌, ◌++◌, Lis
 ghost use Rattle.crossbeam_channel.specs.Claims.{view as known_by};
 ghost use Rattle.crossbeam_channel.specs.Ends.{sends_on, receives_on};
 ghost use Rattle.rs_store.specs.History.{SerialsRise};
-ghost use Rattle.rs_intake.specs.QueueRule.{AreEnds, IsOutside, ends_of, entries_of, place_of};
+ghost use Rattle.rs_intake.specs.QueueRule.{AreEnds, IsPlaced, ends_of, entries_in};
 ghost use Rattle.rs_intake.specs.Names.{IsQueue, IsIn};
 ghost use Rattle.rs_intake.specs.Lines.{IsTaker};
 ghost use Rattle.rs_intake.specs.Settling.{IsBalanced};
@@ -65,9 +65,9 @@ impl<N: LineName> Taken<N> {
         patience: &mut Patience,
     ) -> Result<Job, Gone>
         requires { IsQueue N.queue (receives_on from.now) }
-        ensures taken { MatchResult result (λ job. (self.new.entries ≡ self.old.entries ++ entries_of (job ∷ [])) × SerialsRise self.new.entries) (λ _. self.new ≡ self.old) }
+        ensures taken { MatchResult result (λ job. (self.new.entries ≡ self.old.entries ++ entries_in job) × SerialsRise self.new.entries) (λ _. self.new ≡ self.old) }
         ensures ended { IfOk result (λ job. (self.new.ends ≡ self.old.ends ++ ends_of (job ∷ [])) × AreEnds N.places self.new.ends) }
-        ensures placed { IfOk result (λ job. ¬ IsOutside N.places (place_of job)) }
+        ensures placed { IfOk result (λ job. IsPlaced N.places job) }
     {
         take(rt, from, &mut self.pass, patience)
     }

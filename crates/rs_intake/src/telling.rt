@@ -1,18 +1,24 @@
-//! Putting a job, and sending the writer's answer to its line.
+//! Putting a job, and sending the writer's answers to its line.
 
-ghost use Rattle.std.specs.Prelude.{◌≡◌, ◌<◌, ◌≤◌, false, length, MatchBool};
+ghost use Rattle.std.specs.Prelude.{◌≡◌, ◌<◌, ◌≤◌, ◌||◌, ◌++◌, [], List, true, false, length, vec_capacity, MatchBool};
 ghost use Rattle.rs_message.specs.Messages.{is_sweep};
+ghost use Rattle.rs_message.specs.declared.entry.Entry.{Entry};
 ghost use Rattle.rs_store.specs.History.{SerialsRise, extended};
 ghost use Rattle.rs_version.specs.Writer.{kept_of};
-ghost use Rattle.rs_intake.specs.Done.{Answer, IsDone, IsPut, is_refused, answered_more};
+ghost use Rattle.rs_version.specs.declared.fault.PutFault.TheVariants.{NoMemory};
+ghost use Rattle.rs_intake.specs.Changes.{AreChanges, place_of_all};
+ghost use Rattle.rs_intake.specs.Done.{AreReplied, IsAnswered, IsDone, IsPut, ReplyValue, answered_more, is_held};
+ghost use Rattle.rs_intake.specs.Sweeps.{Serves};
 
+use crate::job::Changes;
 use crate::name::LineName;
-use crate::reply::{Reply, ReplySender};
+use crate::reply::{Replies, Reply, ReplySender};
 use rs_message::Entry;
-use rs_version::VersionWriter;
+use rs_version::{PutFault, VersionWriter};
+use std::alloc::Global;
 use std::sync::Wait;
 
-/// Puts a job, and makes the reply to its line. A Sweep may have been appended before the job, or without it.
+/// Puts a change, and makes the reply to its line. A Sweep may have been appended before the change, or without it.
 fn reply_to<N: LineName, R: Wait + Drop>(writer: &mut VersionWriter<N, R>, job: Entry) -> Reply<N>
     requires no_sweep { is_sweep job.operation ≡ false }
     requires rises { SerialsRise (extended (kept_of writer.old) job) }
@@ -25,40 +31,109 @@ fn reply_to<N: LineName, R: Wait + Drop>(writer: &mut VersionWriter<N, R>, job: 
     Reply { origin, answer }
 }
 
+/// Puts the next change of a job, unless one before it is held: then nothing is done, and it is told that memory was refused. `has_held`
+/// is whether one is held.
+fn reply_to_next<N: LineName, R: Wait + Drop>(
+    writer: &mut VersionWriter<N, R>,
+    job: Entry,
+    has_held: &mut bool,
+) -> Reply<N>
+    requires no_sweep { is_sweep job.operation ≡ false }
+    requires rises { SerialsRise (extended (kept_of writer.old) job) }
+    ensures done { IsDone N.limit (kept_of writer.old) job result.answer (kept_of writer.new) }
+    ensures origin { result.origin ≡ job.origin }
+    ensures answered { IsAnswered N.limit writer.old job result.answer writer.new }
+    ensures behind { has_held.old ≡ true → result.answer ≡ Err NoMemory }
+    ensures held { has_held.new ≡ (has_held.old || is_held result.answer) }
+{
+    if *has_held {
+        return Reply {
+            origin: job.origin,
+            answer: Err(PutFault::NoMemory),
+        };
+    }
+    let reply = reply_to(writer, job);
+    *has_held = reply.is_held();
+    reply
+}
+
+/// Puts the changes of a job, one after the other, and makes a reply to each. What is passed has room for the replies. The result is
+/// also how many changes are refused.
+fn reply_to_each<N: LineName, R: Wait + Drop>(
+    writer: &mut VersionWriter<N, R>,
+    jobs: Vec<Entry>,
+    room: Vec<Reply<N>>,
+) -> (Vec<Reply<N>>, u64)
+    requires room { (room.items ≡ []) × (length jobs.items ≤ vec_capacity room) }
+    requires changes { AreChanges jobs.items }
+    requires rises { (before : List Entry) × Serves N.limit before (kept_of writer.old) × SerialsRise (before ++ jobs.items) }
+    ensures { AreReplied N.limit writer.old jobs.items result.0.items result.1 writer.new }
+{
+    let mut replies = room;
+    let mut refused = 0u64;
+    let mut has_held = false;
+    for job in jobs {
+        // For the proof: this call says that the serial is not 0.
+        let _serial = job.origin.serial();
+        let reply = reply_to_next(writer, job, &mut has_held);
+        refused += reply.refused();
+        let Ok(()) = replies.push(reply) else {
+            unreachable!()
+        };
+    }
+    (replies, refused)
+}
+
+/// Puts the changes of a job. If there is no memory for the replies, nothing is put, and each change is told that.
+fn replies_to<N: LineName, R: Wait + Drop>(
+    alloc: Global,
+    writer: &mut VersionWriter<N, R>,
+    jobs: Vec<Entry>,
+) -> (Replies<N>, u64)
+    requires changes { AreChanges jobs.items }
+    requires rises { (before : List Entry) × Serves N.limit before (kept_of writer.old) × SerialsRise (before ++ jobs.items) }
+    ensures { AreReplied N.limit writer.old jobs.items result.0 result.1 writer.new }
+{
+    let Ok(room) = Vec::with_capacity(alloc, jobs.len()) else {
+        let refused = jobs.len() as u64;
+        return (Replies::refusing(alloc, jobs), refused);
+    };
+    let (replies, refused) = reply_to_each(writer, jobs, room);
+    (Replies::of(alloc, replies), refused)
+}
+
 /// The writer's ends of the ways back to the lines, that of place 1 first. What a line is told is what is sent by its way back, and
 /// only [`WaysBack::put_job`] sends.
 #[derive(Drop)]
 pub struct WaysBack<N: LineName> {
+    alloc: Global,
     senders: Vec<ReplySender<N>>,
 }
 
 impl<N: LineName> WaysBack<N> {
-    pub(crate) fn new(senders: Vec<ReplySender<N>>) -> WaysBack<N>
+    pub(crate) fn new(alloc: Global, senders: Vec<ReplySender<N>>) -> WaysBack<N>
         ensures { result.senders ≡ senders }
     {
-        WaysBack { senders }
+        WaysBack { alloc, senders }
     }
 
-    /// Puts a job, tells its line the answer, and tells no line anything else. The result is whether the job is refused, and whether
-    /// the reply was sent. It is not, if the line is gone.
+    /// Puts the changes of a job, one after the other, tells their line the answers, and tells no line anything else. The result is how
+    /// many changes are refused, and whether the replies were sent. They are not, if the line is gone.
     pub(crate) fn put_job<R: Wait + Drop, W: Wait>(
         &mut self,
         rt: &W,
         writer: &mut VersionWriter<N, R>,
-        job: Entry,
-    ) -> (bool, bool)
-        requires no_sweep { is_sweep job.operation ≡ false }
-        requires place { (0 < job.origin.place) × (job.origin.place ≤ length self.old.senders.items) }
-        requires rises { SerialsRise (extended (kept_of writer.old) job) }
-        ensures done { (answer : Answer) × IsDone N.limit (kept_of writer.old) job answer (kept_of writer.new) × (result.0 ≡ is_refused answer)
-            × IsPut N.limit writer.old job answer writer.new
-            × MatchBool result.1 (self.new.senders.items ≡ answered_more self.old.senders.items job.origin answer) (self.new.senders.items ≡ self.old.senders.items) }
+        changes: Changes,
+    ) -> (u64, bool)
+        requires place { place_of_all changes ≤ length self.old.senders.items }
+        requires rises { (before : List Entry) × Serves N.limit before (kept_of writer.old) × SerialsRise (before ++ changes) }
+        ensures done { (replies : List ReplyValue) × AreReplied N.limit writer.old changes replies result.0 writer.new
+            × MatchBool result.1 (self.new.senders.items ≡ answered_more self.old.senders.items (place_of_all changes) replies) (self.new.senders.items ≡ self.old.senders.items) }
         ensures ways { length self.new.senders.items ≡ length self.old.senders.items }
     {
-        let reply = reply_to(writer, job);
-        let is_refused = reply.is_refused();
-        let index = reply.origin.place() as usize - 1;
-        let sent = self.senders[index].send(rt, reply);
-        (is_refused, sent)
+        let index = changes.place() as usize - 1;
+        let (replies, refused) = replies_to(self.alloc, writer, changes.into_entries());
+        let sent = self.senders[index].send(rt, replies);
+        (refused, sent)
     }
 }

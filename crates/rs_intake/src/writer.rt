@@ -1,6 +1,6 @@
 //! The writer's loop over the queue.
 
-ghost use Rattle.std.specs.Prelude.{◌≡◌, ◌+◌, [], length};
+ghost use Rattle.std.specs.Prelude.{◌≡◌, ◌+◌, ◌<◌, ◌≤◌, ◌^◌, ◌⊎◌, [], length, MatchBool};
 ghost use Rattle.std.specs.Option.{option_map};
 ghost use Rattle.crossbeam_channel.specs.Ends.{receives_on};
 ghost use Rattle.rs_version.specs.Writer.{kept_of};
@@ -9,9 +9,10 @@ ghost use Rattle.rs_intake.specs.Ending.{IsCause};
 ghost use Rattle.rs_intake.specs.Names.{IsQueue};
 ghost use Rattle.rs_intake.specs.Parts.{IsPart};
 ghost use Rattle.rs_intake.specs.Sweeps.{AreForJobs, without_sweeps};
+ghost use Rattle.rs_intake.specs.declared.job.TheConstants.{MAX_CHANGES};
 
 use crate::ending::Cause;
-use crate::job::Job;
+use crate::job::{Job, MAX_CHANGES};
 use crate::name::LineName;
 use crate::rule::JobReceiver;
 use crate::taken::Taken;
@@ -51,13 +52,13 @@ impl<N: LineName> Queue<N> {
 pub struct Ended<N: LineName, R: Wait + Drop> {
     /// The writer.
     pub writer: VersionWriter<N, R>,
-    /// How many jobs were taken.
+    /// How many entries were taken, with the jobs that asked for them.
     pub taken: u64,
     /// How many of them were not appended.
     pub refused: u64,
     /// The origin of the held entry, which is appended and not published.
     pub held: Option<Origin>,
-    /// The jobs that were taken.
+    /// What was taken.
     pub jobs: Taken<N>,
     /// Why the loop ended.
     pub cause: Cause,
@@ -89,15 +90,24 @@ impl<N: LineName, R: Wait + Drop> Ended<N, R> {
     }
 }
 
-/// Puts each job that it takes, and tells the job's line what the writer answers. It ends when ([`Cause`])
+/// Whether no further job may be taken: at least so many entries were, or one more job could have more than can be counted.
+fn has_most(taken: u64, most: u64) -> bool
+    ensures { MatchBool result ((most ≤ taken) ⊎ (2 ^ 64 ≤ taken + MAX_CHANGES)) (taken + MAX_CHANGES < 2 ^ 64) }
+{
+    taken >= most || taken > u64::MAX - MAX_CHANGES as u64
+}
+
+/// Puts the changes of each job that it takes, one after the other, and tells the job's line what the writer answers. Behind a change
+/// that is held the others of its job are refused. It ends when ([`Cause`])
 ///
 /// - each place has ended,
 /// - all lines and their ends are gone, or
-/// - it has taken `u64::MAX` jobs.
+/// - it has taken so many entries that one more job could have more than can be counted.
 ///
 /// Then it tries once more to publish a held entry.
 ///
-/// The contract says what became of each job (`done`). There is one answer for each job that was taken, in their order. After a
+/// The contract says what became of each entry that was asked for (`done`), here called a job, since it makes no difference which of them
+/// came together. There is one answer for each job that was taken, in their order. After a
 /// receipt, or an answer that the job is held, the kept list is the one before, then the Sweep that the job needs, if it needs one, then
 /// the job. After a full store the list is the same, and the job may not come. If memory was refused, the list is the same, or has the
 /// Sweep that the job needs. So what the writer keeps, without its Sweeps, is the jobs that were not refused, in their order
@@ -119,7 +129,8 @@ pub fn run_writer<N: LineName, R: Wait + Drop, W: Wait>(
     run_writer_for(rt, queue, writer, u64::MAX)
 }
 
-/// The same, for at most so many jobs. Then the queue is dropped, and with it the jobs that wait there.
+/// The same, until at least so many entries were taken, and with at most so many jobs. Then the queue is dropped, and with it the jobs
+/// that wait there.
 pub fn run_writer_for<N: LineName, R: Wait + Drop, W: Wait>(
     rt: &W,
     queue: Queue<N>,
@@ -147,19 +158,14 @@ pub fn run_writer_for<N: LineName, R: Wait + Drop, W: Wait>(
     let mut cause = Cause::MostTaken;
     let mut patience = Patience::new();
     for _ in rt.forever() {
-        if taken >= most {
+        if has_most(taken, most) {
             break;
         }
         match jobs.next(rt, &receiver, &mut patience) {
-            Ok(Job::Put(change)) => {
-                let job = change.into_entry();
-                // For the proof: this call says that the serial is not 0.
-                let _serial = job.origin.serial();
-                taken += 1;
-                let (is_refused, _sent) = ways.put_job(rt, &mut writer, job);
-                if is_refused {
-                    refused += 1;
-                }
+            Ok(Job::Put(changes)) => {
+                taken += changes.len() as u64;
+                let (count, _sent) = ways.put_job(rt, &mut writer, changes);
+                refused += count;
             }
             Ok(Job::End(_)) => {
                 open -= 1;

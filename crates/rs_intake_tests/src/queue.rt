@@ -37,8 +37,8 @@ fn plan(alloc: Global, limit: u32, script: Script, writing: Writing) -> Plan
     }
 }
 
-/// Whether these were the answers to the only place, by their numbers and codes.
-fn has_answers(outcome: &Outcome, wanted: &[(u64, u8)]) -> bool {
+/// Whether these were the answers to the only place, by their numbers and codes, and its last serial was this.
+fn has_answers(outcome: &Outcome, serial: u64, wanted: &[(u64, u8)]) -> bool {
     let [log] = outcome.logs.as_slice() else {
         return false;
     };
@@ -53,7 +53,7 @@ fn has_answers(outcome: &Outcome, wanted: &[(u64, u8)]) -> bool {
         }
         index = index.saturating_add(1);
     }
-    log.place == 1 && log.serial == wanted.len() as u64
+    log.place == 1 && log.serial == serial
 }
 
 /// One of five changes finds the store full, and has no entry.
@@ -67,8 +67,40 @@ fn full_store(rt: HostRuntime) -> Result<(), Fail> {
         writing: Writing::All,
     };
     let outcome = run(rt, plan)?;
-    assert!(rt; has_answers(&outcome, &[(1, 0), (2, 0), (0, 40), (3, 0), (4, 0)]));
+    assert!(rt; has_answers(&outcome, 5, &[(1, 0), (2, 0), (0, 40), (3, 0), (4, 0)]));
     assert!(rt; has_totals(&outcome, 5, 1, 4) && is_settled(&outcome, 5));
+    Ok(())
+}
+
+/// What the place of `Together` is answered.
+const TOGETHER: [(u64, u8); 11] = [
+    (1, 0),
+    (2, 0),
+    (4, 0),
+    (5, 0),
+    (0, 40),
+    (6, 0),
+    (7, 0),
+    (0, 43),
+    (10, 0),
+    (11, 0),
+    (12, 0),
+];
+
+/// Jobs of three changes: each change has its own answer. A change that is not the one that was sent ahead uses no serial. What is ahead
+/// of a line that is handed on was sent.
+#[test]
+fn together(rt: HostRuntime) -> Result<(), Fail> {
+    let plan = Plan {
+        alloc: rt.alloc(),
+        limit: 2,
+        places: 1,
+        script: Script::Together,
+        writing: Writing::All,
+    };
+    let outcome = run(rt, plan)?;
+    assert!(rt; has_answers(&outcome, 12, &TOGETHER));
+    assert!(rt; has_totals(&outcome, 12, 1, 12) && is_settled(&outcome, 12));
     Ok(())
 }
 
@@ -84,10 +116,10 @@ fn dropped_queue(rt: HostRuntime) -> Result<(), Fail> {
     };
     for _ in 0..TRIES {
         let outcome = run(rt, plan)?;
-        if has_answers(&outcome, &[(0, 42), (0, 44)]) {
+        if has_answers(&outcome, 2, &[(0, 42), (0, 44)]) {
             return Ok(());
         }
-        assert!(rt; has_answers(&outcome, &[(0, 44), (0, 44)]));
+        assert!(rt; has_answers(&outcome, 2, &[(0, 44), (0, 44)]));
     }
     Err(Fail::from("no job was sent before the queue was dropped"))
 }
@@ -131,7 +163,7 @@ fn each_is_answered(rt: HostRuntime) -> Result<(), Fail> {
 /// Whether this is the message that was sent.
 fn is_largest(alloc: Global, found: &Found) -> bool {
     match largest(alloc) {
-        Some(Operation::Set(topic, message)) => found.topic == topic && found.message == message,
+        Some(Operation::Set(sent)) => *found == sent,
         _ => false,
     }
 }
@@ -164,7 +196,7 @@ fn largest_submit(rt: HostRuntime) -> Result<(), Fail> {
 /// Whether the place read the last Set of each place.
 fn has_last_sets(reading: &Reading) -> bool {
     for found in &reading.found {
-        if found.message.payload().as_slice() != last_of_hundred().as_slice() {
+        if found.message().payload().as_slice() != last_of_hundred().as_slice() {
             return false;
         }
     }

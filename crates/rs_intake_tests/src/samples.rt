@@ -5,7 +5,7 @@ ghost use Rattle.rs_message.specs.Messages.{is_sweep};
 ghost use Rattle.rs_message.specs.declared.entry.TheConstants.{MAX_PLACES};
 
 use bytes::Bytes;
-use rs_message::{Message, Operation};
+use rs_message::{Found, Message, Operation};
 use rs_packet::{Properties, Qos};
 use rs_store::TopicLimit;
 use rs_topic::{TopicFilter, TopicName};
@@ -17,19 +17,17 @@ use std::test::Fail;
 /// The bytes of a payload that fits a packet beside its properties.
 pub(crate) const PAYLOAD: usize = 262_000;
 
-fn message_of(alloc: Global, payload: Bytes, received: u64, expiry: Option<u32>) -> Option<Message>
+fn message_of(payload: Bytes, received: u64, expiry: Option<u32>) -> Message
     requires some { payload ≢ [] }
     requires fits { length payload ≤ 262000 }
 {
     Message::new(
-        alloc,
         payload,
         Qos::ExactlyOnce,
         received,
         expiry,
         Properties::none(),
     )
-    .ok()
 }
 
 fn message(alloc: Global, payload: &[u8], received: u64, expiry: Option<u32>) -> Option<Message> {
@@ -37,7 +35,7 @@ fn message(alloc: Global, payload: &[u8], received: u64, expiry: Option<u32>) ->
         return None;
     }
     let payload = Bytes::copy_from_slice(alloc, payload).ok()?;
-    message_of(alloc, payload, received, expiry)
+    Some(message_of(payload, received, expiry))
 }
 
 /// A Set whose message came at this moment and lasts for so many seconds, or for ever.
@@ -51,7 +49,8 @@ pub(crate) fn set_at(
     ensures { IfSome result (λ o. is_sweep o ≡ false) }
 {
     let topic = TopicName::read(alloc, topic).ok()?;
-    Some(Operation::Set(topic, message(alloc, payload, received, expiry)?))
+    let message = message(alloc, payload, received, expiry)?;
+    Some(Operation::Set(Found::new(alloc, topic, message).ok()?))
 }
 
 pub(crate) fn set(alloc: Global, topic: &[u8], payload: &[u8]) -> Option<Operation>

@@ -3,4 +3,3 @@ pub mod Codes
 pub mod Equality
 pub mod Messages
 pub mod Values
-pub mod Views

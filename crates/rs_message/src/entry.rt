@@ -5,9 +5,8 @@ ghost use Rattle.rs_packet.specs.declared.limits.TheConstants.{MAX_PACKET_SIZE};
 ghost use Rattle.rs_packet.specs.Replies.{message_size};
 ghost use Rattle.rs_message.specs.Messages.{is_sweep, operation_of};
 
-use crate::message::Message;
 use bytes::Bytes;
-use rs_packet::{Properties, Qos};
+use rs_packet::{Message, Properties, Qos, Retained};
 use rs_topic::TopicName;
 use std::alloc::{AllocError, Global};
 use std::marker::Model;
@@ -77,11 +76,87 @@ impl Origin {
     }
 }
 
+/// A topic and its retained message. They lie in one block of memory, which all copies share, and a reply too that is made of one.
+/// Contracts see the topic and the message.
+#[derive(Drop)]
+pub struct Found {
+    retained: Retained,
+}
+
+impl Model for Found {
+    ghost use Rattle.rs_message.specs.Values.{RetainedValue};
+
+    ghost Value = { RetainedValue };
+
+    ghost view = { λ f. f.retained };
+}
+
+impl Found {
+    /// The topic and the message in a block of their own; none of their bytes is copied. The error says that memory for the block
+    /// was refused.
+    pub fn new(alloc: Global, topic: TopicName, message: Message) -> Result<Found, AllocError>
+        ensures { IfOk result (λ f. f ≡ record { topic = topic; message = message }) }
+    {
+        Ok(Found {
+            retained: Retained::new(alloc, topic, message)?,
+        })
+    }
+
+    /// The topic.
+    pub fn topic(&self) -> &TopicName
+        ensures { result.now ≡ self.now.topic }
+    {
+        self.retained.topic()
+    }
+
+    /// Its retained message.
+    pub fn message(&self) -> &Message
+        ensures { result.now ≡ self.now.message }
+    {
+        self.retained.message()
+    }
+
+    /// One more owner of the same topic and message. It takes no memory. The error says that the count of owners is full.
+    pub fn copy(&self) -> Result<Found, AllocError>
+        ensures { IfOk result (λ f. f ≡ self.now) }
+    {
+        Ok(Found {
+            retained: self.retained.copy()?,
+        })
+    }
+
+    /// The same topic and message, as a reply carries them. It takes no memory.
+    pub fn into_retained(self) -> Retained
+        ensures { result ≡ self }
+    {
+        self.retained
+    }
+}
+
+impl PartialEq for Found {
+    ghost use Rattle.std.specs.Cmp.{partial_equiv_from_equiv};
+    ghost use Rattle.rs_message.specs.Equality.{found_eq, found_eq_equiv};
+
+    ghost eq = { found_eq };
+
+    ghost laws = { partial_equiv_from_equiv found_eq_equiv };
+
+    fn eq(&self, other: &Found) -> bool {
+        self.topic().as_bytes() == other.topic().as_bytes() && *self.message() == *other.message()
+    }
+}
+
+impl Eq for Found {
+    ghost use Rattle.rs_message.specs.Equality.{found_eq_equiv};
+
+    ghost laws = { found_eq_equiv };
+}
+
 /// A change of a topic's retained message (3.3.1.3), or of all that are expired.
 #[derive(Drop, PartialEq, Eq)]
 pub enum Operation {
     /// The message becomes the topic's retained message, in place of any other.
-    Set(TopicName, Message),
+    Set(Found),
     /// The topic has no retained message from now on.
     Clear(TopicName),
     /// No topic keeps a message that is expired at this moment, in seconds. Only the writer does this.
@@ -89,12 +164,12 @@ pub enum Operation {
 }
 
 impl Operation {
-    /// An equal operation, which shares the bytes. The error says that the count of their owners is full.
+    /// An equal operation, which shares the bytes. It takes no memory. The error says that the count of their owners is full.
     pub fn copy(&self) -> Result<Operation, AllocError>
         ensures { IfOk result (λ o. o ≡ self.now) }
     {
         match self {
-            Operation::Set(topic, message) => Ok(Operation::Set(topic.copy()?, message.copy()?)),
+            Operation::Set(found) => Ok(Operation::Set(found.copy()?)),
             Operation::Clear(topic) => Ok(Operation::Clear(topic.copy()?)),
             Operation::Sweep(moment) => Ok(Operation::Sweep(*moment)),
         }
@@ -106,7 +181,7 @@ impl Operation {
     {
         match self {
             Operation::Sweep(_) => true,
-            Operation::Set(_, _) => false,
+            Operation::Set(_) => false,
             Operation::Clear(_) => false,
         }
     }
@@ -134,8 +209,8 @@ impl Operation {
         if payload.is_empty() {
             return Ok(Some(Operation::Clear(topic)));
         }
-        let message = Message::new(alloc, payload, qos, received, expiry, properties)?;
-        Ok(Some(Operation::Set(topic, message)))
+        let message = Message::new(payload, qos, received, expiry, properties);
+        Ok(Some(Operation::Set(Found::new(alloc, topic, message)?)))
     }
 }
 
@@ -149,7 +224,7 @@ pub struct Entry {
 }
 
 impl Entry {
-    /// An equal entry, which shares the bytes. The error says that the count of their owners is full.
+    /// An equal entry, which shares the bytes. It takes no memory. The error says that the count of their owners is full.
     pub fn copy(&self) -> Result<Entry, AllocError>
         ensures { IfOk result (λ e. e ≡ self.now) }
     {
@@ -158,13 +233,4 @@ impl Entry {
             operation: self.operation.copy()?,
         })
     }
-}
-
-/// A topic and its retained message.
-#[derive(Drop)]
-pub struct Found {
-    /// The topic.
-    pub topic: TopicName,
-    /// Its retained message.
-    pub message: Message,
 }

@@ -3,15 +3,17 @@
 //! A PUBLISH with RETAIN 1 sets its topic's message or clears it ([`Operation::of`]). [`Message::remaining`] says how much
 //! time a message has left. An [`Entry`] of the history is one operation and its [`Origin`].
 //!
-//! All copies of a message share its payload and its properties by one count. It owns no bytes: its payload and its texts are
-//! parts of the bytes that its packet was decoded from. So a message keeps the bytes of its packet in memory, and no others. A
-//! caller that decodes from a buffer with several packets copies the packet first.
+//! A topic and its message are one block ([`Found`]), made once for each PUBLISH. All that hold them share it by one count: the
+//! entry and its copies, a store, an answer, what waits to be sent, and the reply that carries it. A message owns no bytes: its
+//! payload and its texts are parts of the bytes that its packet was decoded from. So a message keeps the bytes of its packet in
+//! memory, and no others. A caller that decodes from a buffer with several packets copies the packet first.
 #![tactic(auto)]
 
 mod entry;
 mod fault;
-mod message;
+mod same;
 
 pub use entry::{Entry, Found, MAX_PLACES, Operation, Origin};
 pub use fault::SubmitFault;
-pub use message::{Message, Remaining};
+pub use rs_packet::{Message, Remaining};
+pub use same::is_same;

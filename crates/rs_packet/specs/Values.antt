@@ -26,10 +26,18 @@ pub record ConnectValue : Type 0 where
   pub packet_maximum : Option ℕ
   pub client : Option (List ℕ)
 
--- 3.3.2.3, 3.3.3: the payload of a message, and the properties that it keeps
-pub record ContentValue : Type 0 where
+-- 3.3.1.3: a retained message, with the properties that it keeps (3.3.2.3), and when it came
+pub record MessageValue : Type 0 where
   pub payload : List ℕ
+  pub qos : Qos
+  pub received : ℕ
+  pub expiry : Option ℕ
   pub properties : PropertiesValue
+
+-- 3.3.1.3: a topic and its retained message
+pub record RetainedValue : Type 0 where
+  pub topic : List ℕ
+  pub message : MessageValue
 
 pub record PublicationValue : Type 0 where
   pub topic : List ℕ

@@ -9,26 +9,31 @@
 //! bytes follow, and at most one prefix of some bytes encodes a packet (`one_reading`). `encode` gives the one encoding of a reply;
 //! the encodings are prefix-free, and none is of two replies (`wire_law`). `publish_len` says how long a PUBLISH is before it is
 //! made. docs/WIRE.md has the rules in words.
+//!
+//! A [`Message`] is what is retained of a PUBLISH, and a [`Retained`] is a topic with its message in one shared block, which a reply
+//! carries.
 #![tactic(auto)]
 
-mod content;
 mod decoding;
 mod encoding;
 mod filters;
 mod header;
 mod limits;
 mod masks;
+mod message;
 mod packet;
 mod reply;
+mod retained;
 
-pub use content::MessageContent;
 pub use decoding::{decode, one_reading, wire_law};
 pub use encoding::{encode, encoded_len, publish_len};
 pub use header::needed_len;
 pub use limits::{MAX_PACKET_SIZE, RECEIVE_MAXIMUM};
+pub use message::{Message, Remaining};
 pub use packet::{
     Acknowledgement, Connect, Decoded, Options, Packet, PacketId, Publish, Qos, RetainHandling,
     Subscribe, Unsubscribe,
 };
 pub use reply::{Codes, ConnackAccepted, Publication, Reply};
+pub use retained::Retained;
 pub use rs_field::{MAX_REMAINING_LENGTH, PacketFault, Properties, PropertyFields, SubscriptionId};

@@ -3,11 +3,11 @@
 ghost use Rattle.std.specs.Prelude.{◌≡◌, IfSome};
 ghost use Rattle.rs_field.specs.Forms.{IsSubscriptionId};
 
-use crate::content::MessageContent;
 use crate::limits::MAX_PACKET_SIZE;
 use crate::packet::{PacketId, Qos};
+use crate::retained::Retained;
 use rs_field::SubscriptionId;
-use rs_topic::{Text, TopicName};
+use rs_topic::Text;
 use std::marker::Model;
 
 /// A CONNACK that accepts (3.2). Session Present is 0, since no session outlives its connection.
@@ -23,8 +23,9 @@ pub struct ConnackAccepted {
 /// its Remaining Length (2.1.4) is at most `MAX_REMAINING_LENGTH`.
 #[derive(Debug, Drop)]
 pub struct Publication {
-    /// The name under which the message is retained (3.3.2.1).
-    pub topic: TopicName,
+    /// The topic (3.3.2.1) and its message: its payload (3.3.3), of any bytes, and the properties that it keeps (3.3.2.3), sent in
+    /// rising order of identifier.
+    pub retained: Retained,
     /// The QoS with which it is sent (3.3.1.2).
     pub qos: Qos,
     /// The packet identifier, if QoS is 1 or 2 (3.3.2.2).
@@ -33,8 +34,6 @@ pub struct Publication {
     pub subscription: Option<SubscriptionId>,
     /// The seconds left (3.3.2.3.3); None if the message does not expire.
     pub expiry: Option<u32>,
-    /// The payload (3.3.3), of any bytes, and the other properties of the message (3.3.2.3), sent in rising order of identifier.
-    pub content: MessageContent,
 }
 
 impl Model for Publication {
@@ -45,23 +44,23 @@ impl Model for Publication {
     ghost use Rattle.rs_packet.specs.Bounds.{IsPublication};
 
     ghost view = { λ p. record {
-      topic = p.topic;
+      topic = p.retained.topic;
       qos = p.qos;
       id = p.id;
       subscription = p.subscription;
       expiry = p.expiry;
-      properties = p.content.properties;
-      payload = p.content.payload;
+      properties = p.retained.message.properties;
+      payload = p.retained.message.payload;
     } };
 
     ghost invariant = { λ p. IsPublication (record {
-      topic = p.topic;
+      topic = p.retained.topic;
       qos = p.qos;
       id = p.id;
       subscription = p.subscription;
       expiry = p.expiry;
-      properties = p.content.properties;
-      payload = p.content.payload;
+      properties = p.retained.message.properties;
+      payload = p.retained.message.payload;
     }) };
 }
 
@@ -74,26 +73,25 @@ impl Publication {
     /// A PUBLISH (3.3) with an identifier if QoS is 1 or 2. Payload and properties, without the Subscription
     /// Identifier, take at most `MAX_PACKET_SIZE` bytes.
     pub fn new(
-        topic: TopicName,
+        retained: Retained,
         qos: Qos,
         id: Option<PacketId>,
         expiry: Option<u32>,
         subscription: Option<SubscriptionId>,
-        content: MessageContent,
     ) -> Publication
         requires id_fits { IdFits qos id }
-        requires message_fits { message_size expiry content.properties content.payload ≤ MAX_PACKET_SIZE }
-        ensures { result ≡ record { topic = topic; qos = qos; id = id; subscription = subscription; expiry = expiry; properties = content.properties; payload = content.payload } }
+        requires message_fits { message_size expiry retained.message.properties retained.message.payload ≤ MAX_PACKET_SIZE }
+        ensures { result ≡ record { topic = retained.topic; qos = qos; id = id; subscription = subscription; expiry = expiry; properties = retained.message.properties; payload = retained.message.payload } }
     {
         let subscription = in_range(subscription);
-        let _topic = topic.as_bytes();
+        // For the proof: this call says that the topic is short.
+        let _topic = retained.topic().as_bytes();
         Publication {
-            topic,
+            retained,
             qos,
             id,
             subscription,
             expiry,
-            content,
         }
     }
 }

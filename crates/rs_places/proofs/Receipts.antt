@@ -1,19 +1,21 @@
 -- What a receipt says of the list that its token names.
-use Rattle.std.proofs.Common.{◌≡◌, ◌⊎◌, ⊎_elim, ℕ, zero, suc, ◌+◌, List, [], ◌∷◌, ◌++◌, length, refl, inl, inr, sym, ap, subst, ◌∙◌, Some, append-nil, arith, length-append}
-use Rattle.std.specs.Prelude.{Contains, ◌<◌, Result, Ok, Err}
+use Rattle.std.proofs.Common.{◌≡◌, ◌⊎◌, ⊎_elim, Bool, true, false, cond, ℕ, zero, suc, ◌+◌, List, [], ◌∷◌, ◌++◌, length, refl, inl, inr, sym, ap, subst, ◌∙◌, Some, append-nil, arith, length-append}
+use Rattle.std.specs.Prelude.{Contains, ◌-◌, ◌<◌, ◌≤◌, ◌^◌, min, nat_le, Result, Ok, Err}
 use Rattle.std.specs.List.{All}
 use Rattle.std.proofs.lemmas.List.Elements.{All-weaker, All-contains_itself, Contains-append_left, Contains-append_right}
 use mathlib.Core.List.{IsPrefix}
 use Rattle.rs_message.specs.declared.entry.Entry.{Entry}
 use Rattle.rs_message.specs.declared.entry.Operation.{Operation}
 use Rattle.rs_message.specs.declared.fault.SubmitFault.{SubmitFault}
+use Rattle.rs_message.specs.declared.fault.SubmitFault.TheVariants.{Strange}
 use Rattle.rs_store.specs.History.{IsLegal}
 use Rattle.rs_store.proofs.Entries.{Among, among, contains}
 use Rattle.rs_version.specs.Receipts.{StandsAt}
 use Rattle.rs_version.proofs.Origins.{origins_differ}
-use Rattle.rs_session.specs.Gate.{Mark, IsHandedOver, Sends, SendsAtMost, Submits, entry_by, last_origin}
-use Rattle.rs_intake.specs.Lines.{AddsAtMost, Line, job}
-use Rattle.rs_places.specs.Shared.{SharedValue, mark_of}
+use Rattle.rs_session.specs.Gate.{Mark, IsHandedOver, Sends, SendsAtMost, Submits, TakesAhead, Uses, entry_by, last_origin}
+use Rattle.rs_intake.specs.Lines.{AddsAtMost, IsAheadAfter, IsOther, Line, announced, job, next_serial, numbered}
+use Rattle.rs_intake.specs.declared.job.TheConstants.{MAX_CHANGES}
+use Rattle.rs_places.specs.Shared.{IsOtherAhead, SharedValue, gate_of, handed_on, mark_of, operations_of}
 
 among_middle : (e : Entry) (before after : List Entry) → Among e (before ++ e ∷ after)
 among_middle e [] after = inl refl
@@ -100,3 +102,81 @@ sends_it operation before old new is place adds =
     let P : Mark → Type 0 = λ m. Sends m.sent (entry_by operation (mark_of new) ∷ []) (Some new.sent) in
     let Q : ℕ → Type 0 = λ p. new.sent ≡ old.sent ++ job p new.serial operation ∷ [] in
     subst P is (subst Q (sym place) adds)
+
+-- ---- what is ahead
+
+pub other_ahead : (ahead : List Entry) (expected : List Operation) (operation : Operation) → IsOther ahead operation → IsOtherAhead (operations_of ahead ++ expected) operation
+other_ahead [] expected operation other = absurd other
+other_ahead (e ∷ es) expected operation other = other
+
+operations_numbered : (place serial : ℕ) (os : List Operation) → operations_of (numbered place serial os) ++ [] ≡ os
+operations_numbered place serial [] = refl
+operations_numbered place serial (o ∷ os) = ap (λ l. o ∷ l) (operations_numbered place (serial + 1) os)
+
+-- what a submit leaves of what was ahead or expected. It was refused if something else was ahead
+pub takes_ahead : (place serial : ℕ) (expected after_expected : List Operation) (ahead after : List Entry) (operation : Operation) (old new : Mark) (answer : Result (Unit {0}) SubmitFault)
+    → (expected ≡ []) ⊎ (ahead ≡ []) → after_expected ≡ [] → IsAheadAfter place serial expected ahead operation after
+    → (IsOther ahead operation → (answer ≡ Err Strange) × (new ≡ old)) → TakesAhead operation old new answer (operations_of ahead ++ expected) (operations_of after ++ after_expected)
+takes_ahead place serial expected after_expected ahead after operation old new answer one none is other =
+    let P : List Operation → Type 0 = λ l. TakesAhead operation old new answer (operations_of ahead ++ expected) (operations_of after ++ l) in
+    subst P (sym none) (go ahead one is other)
+  where
+    go : (ahead : List Entry) → (expected ≡ []) ⊎ (ahead ≡ []) → IsAheadAfter place serial expected ahead operation after → (IsOther ahead operation → (answer ≡ Err Strange) × (new ≡ old))
+        → TakesAhead operation old new answer (operations_of ahead ++ expected) (operations_of after ++ [])
+    go [] one (inl nothing) other = inl (ap (λ l. operations_of l ++ []) nothing)
+    go [] one (inr (os, first, sent)) other =
+        let rest : operations_of after ++ [] ≡ os = ap (λ l. operations_of l ++ []) sent ∙ operations_numbered place (serial + 1) os in
+        inr (inl (first ∙ ap (λ l. operation ∷ l) (sym rest)))
+    go (e ∷ es) (inr nothing) is other = absurd (cc (nothing))
+    go (e ∷ es) (inl nothing) (inl (here, left)) other =
+        inr (inl (ap (λ l. e.operation ∷ (operations_of es ++ l)) nothing ∙ (ap (λ o. o ∷ (operations_of es ++ [])) here ∙ ap (λ l. operation ∷ (operations_of l ++ [])) (sym left))))
+    go (e ∷ es) (inl nothing) (inr (unlike, left)) other =
+        let (refused, same) = other unlike in
+        inr (inr (ap (λ l. operations_of l ++ []) left ∙ ap (λ l. e.operation ∷ (operations_of es ++ l)) (sym nothing), refused, same))
+
+-- what is left of what was ahead or expected, once these changes are announced
+pub announces : (expected changes after_expected : List Operation) (ahead after : List Entry) → (expected ≡ []) ⊎ (ahead ≡ []) → after ≡ ahead → after_expected ≡ announced ahead changes
+    → (operations_of after ++ after_expected ≡ changes) ⊎ ((operations_of after ++ after_expected ≡ []) ⊎ (operations_of after ++ after_expected ≡ operations_of ahead ++ expected))
+announces expected changes after_expected ahead after one same is =
+    let P : List Entry → Type 0 = λ l. (operations_of l ++ after_expected ≡ changes) ⊎ ((operations_of l ++ after_expected ≡ []) ⊎ (operations_of l ++ after_expected ≡ operations_of ahead ++ expected)) in
+    let Q : List Operation → Type 0 = λ l. (operations_of ahead ++ l ≡ changes) ⊎ ((operations_of ahead ++ l ≡ []) ⊎ (operations_of ahead ++ l ≡ operations_of ahead ++ expected)) in
+    subst P (sym same) (subst Q (sym is) (go ahead one))
+  where
+    few : (b : Bool) → (cond b changes [] ≡ changes) ⊎ ((cond b changes [] ≡ []) ⊎ (cond b changes [] ≡ expected))
+    few true = inl refl
+    few false = inr (inl refl)
+
+    go : (ahead : List Entry) → (expected ≡ []) ⊎ (ahead ≡ []) → (operations_of ahead ++ announced ahead changes ≡ changes) ⊎ ((operations_of ahead ++ announced ahead changes ≡ []) ⊎ (operations_of ahead ++ announced ahead changes ≡ operations_of ahead ++ expected))
+    go [] one = few (nat_le (length changes) MAX_CHANGES)
+    go (e ∷ es) (inr nothing) = absurd (cc (nothing))
+    go (e ∷ es) (inl nothing) = inr (inr (ap (λ l. e.operation ∷ (operations_of es ++ l)) (sym nothing)))
+
+-- ---- a line that is handed on
+
+pub handed_on_is : (known : List Entry) (old new : Line) → new.place ≡ old.place → new.serial ≡ old.serial + length old.ahead → new.sent ≡ old.sent ++ old.ahead → new.expected ≡ [] → new.ahead ≡ [] → gate_of known new ≡ handed_on known old
+handed_on_is known old new place serial sent none_expected none =
+    let G : ℕ → ℕ → List Entry → List Operation → SharedValue = λ p n l a. record { known = known; mark = record { place = p; serial = n; sent = Some l }; ahead = a } in
+    let ahead : operations_of new.ahead ++ new.expected ≡ [] = ap (λ l. operations_of l ++ new.expected) none ∙ none_expected in
+    ap (λ p. G p new.serial new.sent (operations_of new.ahead ++ new.expected)) place
+    ∙ (ap (λ n. G old.place n new.sent (operations_of new.ahead ++ new.expected)) serial
+    ∙ (ap (λ l. G old.place (old.serial + length old.ahead) l (operations_of new.ahead ++ new.expected)) sent
+    ∙ ap (λ a. G old.place (old.serial + length old.ahead) (old.sent ++ old.ahead) a) ahead))
+
+-- nothing of a line changed
+pub same_mark : (old new : Line) → new.place ≡ old.place → new.serial ≡ old.serial → new.sent ≡ old.sent → mark_of new ≡ mark_of old
+same_mark old new place serial sent =
+    let M : ℕ → ℕ → List Entry → Mark = λ p n l. record { place = p; serial = n; sent = Some l } in
+    ap (λ p. M p new.serial new.sent) place ∙ (ap (λ n. M old.place n new.sent) serial ∙ ap (λ l. M old.place old.serial l) sent)
+
+-- one serial is used at most
+pub uses_one : (old new : Line) (operation : Operation) → new.place ≡ old.place → old.serial < 2 ^ 64 → (new.serial ≡ next_serial old.serial) ⊎ IsOther old.ahead operation → (IsOther old.ahead operation → new.serial ≡ old.serial) → Uses (mark_of old) (mark_of new)
+uses_one old new operation place small (inl next) same =
+    record { place = place; no_lower = omega (arith, next, small); no_higher = omega (arith, next) }
+uses_one old new operation place small (inr other) same =
+    let is = same other in
+    record { place = place; no_lower = omega (arith, is); no_higher = omega (arith, is) }
+
+-- something is ahead, or expected, and not both
+pub announced_one : (changes after_expected : List Operation) (ahead after : List Entry) → after ≡ ahead → after_expected ≡ announced ahead changes → (after_expected ≡ []) ⊎ (after ≡ [])
+announced_one changes after_expected [] after same is = inr same
+announced_one changes after_expected (e ∷ es) after same is = inl is

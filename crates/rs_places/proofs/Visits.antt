@@ -5,15 +5,18 @@ use Rattle.std.specs.Prelude.{Result}
 use Rattle.std.specs.Io.KnownBytes.{Consumes, IsAtEnd}
 use Rattle.rs_intake.specs.Lines.{Closed, IsClosed}
 use Rattle.rs_message.specs.declared.entry.Entry.{Entry}
+use mathlib.Core.List.{IsPrefix}
+use Rattle.rs_session.specs.Gate.{Sends}
 use Rattle.rs_server.specs.Clock.{TellsInOrder}
 use Rattle.rs_server.specs.Conversation.{WritesTurns, assigned_of, start}
 use Rattle.rs_server.specs.declared.connection.Served.{Served}
 use Rattle.rs_server.specs.declared.writing.ServeFault.{ServeFault}
 use Rattle.rs_places.specs.Places.{AreConnectionsServed, IsPlaceServed, Left, Place, ServesOne, Visit, next_number, place_at}
 use Rattle.rs_places.specs.Serving.{IsServedAt}
-use Rattle.rs_places.specs.Shared.{SharedValue}
+use Rattle.rs_places.specs.Shared.{SharedValue, operations_of}
 use Rattle.rs_places.specs.Turns.{AreAll, Ending, Gave, GivesNext, Plan, Streams, TakesBack, TookBack}
 use Rattle.rs_places.proofs.Marks.{marks_through}
+use Rattle.rs_places.proofs.Tails.{no_tail}
 
 gave_none : (waiting : Option (List Streams)) → Gave waiting [] waiting
 gave_none None = tt
@@ -47,6 +50,7 @@ pub record ServedSoFar (limit : ℕ) (first : Place) (number : ℕ) (now : Place
   pub given : Gave first.plan.waiting (map (λ visit. visit.given) visits) now.plan.waiting
   pub ended : TookBack first.plan.ended (map (λ visit. visit.ending) visits) now.plan.ended
   pub place : now.gate.mark.place ≡ first.gate.mark.place
+  pub ahead : first.gate.ahead ≡ [] → now.gate.ahead ≡ []
 
 pub served_none : (limit : ℕ) (place : Place) → ServedSoFar limit place 1 place
 served_none limit place = record {
@@ -55,6 +59,7 @@ served_none limit place = record {
   given = gave_none place.plan.waiting;
   ended = took_none place.plan.ended;
   place = refl;
+  ahead = λ none. none;
 }
 
 pub served_more : (limit number : ℕ) (first now after : Place) (plan : Plan) (given : Streams) → ServedSoFar limit first number now → GivesNext now.plan (Some given) plan
@@ -80,12 +85,13 @@ served_more limit number first now after plan given so_far next one =
           (took_more first.plan.ended now.plan.ended after.plan.ended (map (λ (v : Visit). v.ending) so_far.visits) (visit.ending ∷ []) so_far.ended took);
       place =
           let moved = (marks_through _ _ _ one.served.connection.marks one.served.connection.run).place in
-          ap (λ (g : SharedValue). g.mark.place) (sym one.leaves) ∙ (moved ∙ so_far.place);
+          ap (λ (g : SharedValue). g.mark.place) (sym one.leaves) ∙ (one.served.connection.handed_on.place ∙ (moved ∙ so_far.place));
+      ahead = λ none. ap (λ (g : SharedValue). g.ahead) (sym one.leaves) ∙ one.served.connection.none_ahead;
     }
 
 -- the place, once its turn has no more connections and its line is closed
 pub place_served : (limit number : ℕ) (first now : Place) (plan : Plan) (told : List Entry) (line : Closed) → ServedSoFar limit first number now → GivesNext now.plan None plan
-    → told ≡ now.gate.known → line.place ≡ now.gate.mark.place → now.gate.mark.sent ≡ Some line.sent → IsClosed line.place line.ends line.gone → IsPlaceServed limit first (record { plan = plan; told = told; line = line })
+    → told ≡ now.gate.known → line.place ≡ now.gate.mark.place → ((tail : List Entry) × Sends now.gate.mark.sent tail (Some line.sent) × IsPrefix (operations_of tail) now.gate.ahead) → IsClosed line.place line.ends line.gone → IsPlaceServed limit first (record { plan = plan; told = told; line = line })
 place_served limit number first now plan told line so_far next told_is place sent closed =
     let P : List Visit → Type 0 = λ l. AreConnectionsServed limit 1 first.gate l now.gate in
     let Q : List Ending → Type 0 = λ l. TookBack first.plan.ended l plan.ended in
@@ -98,7 +104,7 @@ place_served limit number first now plan told line so_far next told_is place sen
           (took_more first.plan.ended now.plan.ended plan.ended (map (λ (v : Visit). v.ending) so_far.visits) [] so_far.ended next.ended);
       told = told_is;
       number = place ∙ so_far.place;
-      sent = sent;
+      sent = λ none. no_tail now.gate.mark.sent line.sent sent.0 now.gate.ahead sent.1 sent.2 (so_far.ahead none);
       closed = closed;
     }
 
@@ -106,7 +112,7 @@ place_served limit number first now plan told line so_far next told_is place sen
 pub one_served : {R W C : Type 0} (remaining : R → Option (List ℕ)) (contents : W → Option (List ℕ)) (moments : C → Option (ℕ → ℕ)) (limit number : ℕ) (old new : Plan) (gate after : SharedValue)
     (input read_from read_to input_back : R) (output write_from write_to output_back : W) (clock clock_back : C) (result : Result Served ServeFault)
     → read_from ≡ input → write_from ≡ output → input_back ≡ read_to → output_back ≡ write_to
-    → IsServedAt limit (start (assigned_of gate.mark.place number) gate.known gate.mark) (Consumes (remaining read_from) (remaining read_to)) (IsAtEnd (remaining read_to))
+    → IsServedAt limit (start (assigned_of gate.mark.place number) gate.known gate.mark) gate.ahead (Consumes (remaining read_from) (remaining read_to)) (IsAtEnd (remaining read_to))
     (TellsInOrder (moments clock) (moments clock_back)) (WritesTurns result (contents write_from) (contents write_to)) result after
     → TakesBack old (record { streams = record { unread = remaining input_back; written = contents output_back; moments = moments clock_back }; result = result }) new
     → ServesOne limit number (place_at old gate) (record { unread = remaining input; written = contents output; moments = moments clock }) (place_at new after)
@@ -116,8 +122,8 @@ one_served {R} {W} {C} remaining contents moments limit number old new gate afte
     let P : R → Type 0 = λ r. TakesBack old (E r output_back) new in
     let Q : W → Type 0 = λ w. TakesBack old (E read_to w) new in
     record {
-      visit = record { given = S read_from write_from clock; ending = E read_to write_to; turns = served.turns; gate = after };
-      served = record { connection = served; turns = refl };
+      visit = record { given = S read_from write_from clock; ending = E read_to write_to; turns = served.turns; planned = served.planned; gate = after };
+      served = record { connection = served; turns = refl; planned = refl };
       over = ap (λ (r : R). S r write_from clock) same_in ∙ ap (λ (w : W). S input w clock) same_out;
       leaves = refl;
       taken_back = subst Q back_out (subst P back_in taken);

@@ -20,13 +20,14 @@ use Rattle.rs_intake.specs.Settling.{AreTaken, AreTakenInOrder, sent_in_all}
 use Rattle.rs_intake.specs.Sweeps.{without_sweeps}
 use Rattle.rs_packet.specs.declared.packet.Publish.{Publish}
 use Rattle.rs_session.specs.Gate.{Extends, Mark, Sends}
+use Rattle.rs_session.specs.Points.{Given}
 use Rattle.rs_session.specs.Kept.{AreGrowing, IsKeptIn, StandsOnce, lists_of}
 use Rattle.rs_session.specs.Run.{Turn}
 use Rattle.rs_session.specs.Sent.{AreSentBy}
 use Rattle.rs_session.proofs.Sending.{both_sent, none_sent}
-use Rattle.rs_server.specs.Conversation.{assigned_of, start}
+use Rattle.rs_server.specs.Conversation.{AreLeft, assigned_of, start}
 use Rattle.rs_places.specs.Places.{AreConnectionsServed, AreEachServed, IsConnectionServed, IsPlaceServed, Left, Place, Visit, left_at, next_number, places_of}
-use Rattle.rs_places.specs.Shared.{SharedValue, mark_of}
+use Rattle.rs_places.specs.Shared.{SharedValue, handed_on, operations_of}
 use Rattle.rs_places.specs.Store.{ArePlacesOf, ArePublications, AreWithin, IsPlaceOf, IsSettled, IsStoreRun, IsWithin, gates_of, new_gates}
 use Rattle.rs_places.specs.Turns.{Plan}
 use Rattle.rs_places.proofs.Starting.{each_length, places_length}
@@ -155,28 +156,36 @@ part_of_front (x ∷ xs) (y ∷ ys) zs part = ⊎_elim (λ t. inl (t.0, part_of_
 
 -- ---- what the connections sent
 
-visits_send : (limit number : ℕ) (gate : SharedValue) (visits : List Visit) (last : SharedValue) → AreConnectionsServed limit number gate visits last
+visits_send : (limit number : ℕ) (gate : SharedValue) (visits : List Visit) (last : SharedValue) → gate.ahead ≡ [] → AreConnectionsServed limit number gate visits last
     → (entries : List Entry) × Sends gate.mark.sent entries last.mark.sent × ArePublications number gate visits entries
-visits_send limit number gate [] last served = ([], none_sent gate.mark last.mark (ap (λ (g : SharedValue). g.mark) served), refl)
-visits_send limit number gate (visit ∷ visits) last (one, rest) =
-    let own = one.connection.publications in
-    let (more, sends, later) = visits_send limit (next_number number) visit.gate visits last rest in
-    let P : List Turn → Type 0 = λ turns. AreSentBy (start (assigned_of gate.mark.place number) gate.known gate.mark) turns own.entries in
-    (own.entries ++ more, both_sent gate.mark.sent visit.gate.mark.sent last.mark.sent own.entries more own.sent sends, (own.entries, more, refl, subst P (sym one.turns) own.publications, later))
+visits_send limit number gate [] last none served = ([], none_sent gate.mark last.mark (ap (λ (g : SharedValue). g.mark) served), refl)
+visits_send limit number gate (visit ∷ visits) last none (one, rest) =
+    let c = one.connection in
+    let own = c.publications in
+    let from = start (assigned_of gate.mark.place number) gate.known gate.mark in
+    let (more, sends, later) = visits_send limit (next_number number) visit.gate visits last c.none_ahead rest in
+    let P : List Turn → Type 0 = λ turns. AreSentBy from turns own.entries in
+    let Q : List Turn → Type 0 = λ turns. AreLeft from turns visit.planned (operations_of c.tail) in
+    let R : List Given → Type 0 = λ planned. AreLeft from c.turns planned (operations_of c.tail) in
+    let behind = both_sent c.mark.sent visit.gate.mark.sent last.mark.sent c.tail more c.handed_on.sent sends in (
+      own.entries ++ (c.tail ++ more),
+      both_sent gate.mark.sent c.mark.sent last.mark.sent own.entries (c.tail ++ more) own.sent behind,
+      (own.entries, c.tail, more, refl, subst P (sym one.turns) own.publications, subst Q (sym one.turns) (subst R (sym one.planned) (c.tail_is none)), later),
+    )
 
-place_sends : (limit : ℕ) (place : Place) (left : Left) → place.gate.mark.sent ≡ Some [] → (served : IsPlaceServed limit place left) → ArePublications 1 place.gate served.visits left.line.sent
-place_sends limit place left fresh served =
-    let (entries, sends, are) = visits_send limit 1 place.gate served.visits served.last served.connections in
+place_sends : (limit : ℕ) (place : Place) (left : Left) → place.gate.mark.sent ≡ Some [] → place.gate.ahead ≡ [] → (served : IsPlaceServed limit place left) → ArePublications 1 place.gate served.visits left.line.sent
+place_sends limit place left fresh none served =
+    let (entries, sends, are) = visits_send limit 1 place.gate served.visits served.last none served.connections in
     let P : Option (List Entry) → Type 0 = λ o. Sends o entries served.last.mark.sent in
     let Q : Option (List Entry) → Type 0 = λ o. Sends (Some []) entries o in
-    let is : left.line.sent ≡ entries = subst Q served.sent (subst P fresh sends) in
+    let is : left.line.sent ≡ entries = subst Q (served.sent none) (subst P fresh sends) in
     let R : List Entry → Type 0 = λ l. ArePublications 1 place.gate served.visits l in
     subst R (sym is) are
 
 -- ---- the places
 
 each_of_store : (limit : ℕ) (history jobs : List Entry) (places : List Place) (left : List Left) → IsLegal limit history → ((place : ℕ) → IsPart (of_place place (without_sweeps history)) (of_place place jobs))
-    → AllByRecursion (λ place. place.gate.mark.sent ≡ Some []) places → AreEachServed limit places left
+    → AllByRecursion (λ place. (place.gate.mark.sent ≡ Some []) × (place.gate.ahead ≡ [])) places → AreEachServed limit places left
     → AllByRecursion (λ end. Extends history end.told) left → AllByRecursion (λ end. Extends end.line.sent (of_place end.line.place jobs)) left → ArePlacesOf limit history jobs places left
 each_of_store limit history jobs [] [] legal part fresh each told taken = tt
 each_of_store limit history jobs [] (end ∷ left) legal part fresh each told taken = absurd each
@@ -190,7 +199,7 @@ each_of_store limit history jobs (place ∷ places) (end ∷ left) legal part fr
         served = served;
         within = (visits_within limit 1 history place.gate served.visits served.last legal served.connections (subst P served.told told.0)).1;
         known = told.0;
-        publications = place_sends limit place end fresh.0 served;
+        publications = place_sends limit place end fresh.0.0 fresh.0.1 served;
         taken = taken.0;
         part = subst Q (sym taken.0.1) (part_of_front own (of_place end.line.place jobs) taken.0.0 (part end.line.place));
       },
@@ -199,10 +208,10 @@ each_of_store limit history jobs (place ∷ places) (end ∷ left) legal part fr
 
 new_lines_length : (places : ℕ) → length (new_lines places) ≡ places
 new_lines_length zero = refl
-new_lines_length (suc n) = let h = new_lines_length n in omega (arith, h, length-append (new_lines n) (record { place = suc n; serial = 0; sent = []; heard = [] } ∷ []))
+new_lines_length (suc n) = let h = new_lines_length n in omega (arith, h, length-append (new_lines n) (record { place = suc n; serial = 0; sent = []; heard = []; expected = []; ahead = [] } ∷ []))
 
 abbrev new_gate : Line → SharedValue
-new_gate line = record { known = []; mark = mark_of line }
+new_gate line = handed_on [] line
 
 gates_length : (lines : List Line) → length (map new_gate lines) ≡ length lines
 gates_length [] = refl
@@ -216,16 +225,14 @@ gates_new [] [] same none = refl
 gates_new [] (line ∷ lines) same none = absurd (omega (arith, same))
 gates_new (seat ∷ seats) [] same none = absurd (omega (arith, same))
 gates_new (seat ∷ seats) (line ∷ lines) same none =
-    let G : List Entry → SharedValue = λ known. record { known = known; mark = mark_of line } in
+    let G : List Entry → SharedValue = λ known. handed_on known line in
     ap (λ l. G l ∷ gates_of seats lines) none.0 ∙ ap (λ l. new_gate line ∷ l) (gates_new seats lines (omega (arith, same)) none.1)
 
 -- the first seat that is left goes with the first line that is left
 pub next_gate : (done more whole : List SharedValue) (gate : SharedValue) (seats seats_left : List (List Entry)) (lines lines_left : List Line) (seat : List Entry) (line : Line)
     → more ≡ done ++ gate ∷ [] → done ++ gates_of seats lines ≡ whole → seats ≡ seat ∷ seats_left → lines ≡ line ∷ lines_left
-    → gate.known ≡ seat → gate.mark ≡ mark_of line → more ++ gates_of seats_left lines_left ≡ whole
-next_gate done more whole gate seats seats_left lines lines_left seat line pushed so_far s l known mark =
-    let G : List Entry → Mark → SharedValue = λ k m. record { known = k; mark = m } in
-    let is : gate ≡ G seat (mark_of line) = ap (λ k. G k gate.mark) known ∙ ap (λ m. G seat m) mark in
+    → gate ≡ handed_on seat line → more ++ gates_of seats_left lines_left ≡ whole
+next_gate done more whole gate seats seats_left lines lines_left seat line pushed so_far s l is =
     let rest = gates_of seats_left lines_left in
     let first : gates_of seats lines ≡ gate ∷ rest = ap (λ k. gates_of k lines) s ∙ (ap (λ k. gates_of (seat ∷ seats_left) k) l ∙ ap (λ g. g ∷ rest) (sym is)) in
     ap (λ k. k ++ rest) pushed ∙ (append_assoc done (gate ∷ []) rest ∙ (ap (λ k. done ++ k) (sym first) ∙ so_far))
@@ -241,14 +248,14 @@ pub gates_of_new : (seats : List (List Entry)) (places : ℕ) → length seats �
 gates_of_new seats places same none = gates_new seats (new_lines places) (same ∙ sym (new_lines_length places)) none
 
 -- a new gate sent nothing
-lines_fresh : (places : ℕ) → AllByRecursion (λ line. line.sent ≡ []) (new_lines places)
+lines_fresh : (places : ℕ) → AllByRecursion (λ line. line.sent ++ line.ahead ≡ []) (new_lines places)
 lines_fresh zero = tt
-lines_fresh (suc n) = all_behind (λ (line : Line). line.sent ≡ []) (new_lines n) (record { place = suc n; serial = 0; sent = []; heard = [] }) (lines_fresh n) refl
+lines_fresh (suc n) = all_behind (λ (line : Line). line.sent ++ line.ahead ≡ []) (new_lines n) (record { place = suc n; serial = 0; sent = []; heard = []; expected = []; ahead = [] }) (lines_fresh n) refl
 
-places_fresh : (plans : List Plan) (lines : List Line) → AllByRecursion (λ line. line.sent ≡ []) lines → AllByRecursion (λ place. place.gate.mark.sent ≡ Some []) (places_of plans (map new_gate lines))
+places_fresh : (plans : List Plan) (lines : List Line) → AllByRecursion (λ line. line.sent ++ line.ahead ≡ []) lines → AllByRecursion (λ place. (place.gate.mark.sent ≡ Some []) × (place.gate.ahead ≡ [])) (places_of plans (map new_gate lines))
 places_fresh [] lines fresh = tt
 places_fresh (plan ∷ plans) [] fresh = tt
-places_fresh (plan ∷ plans) (line ∷ lines) fresh = (ap (λ (l : List Entry). Some l) fresh.0, places_fresh plans lines fresh.1)
+places_fresh (plan ∷ plans) (line ∷ lines) fresh = ((ap (λ (l : List Entry). Some l) fresh.0, refl), places_fresh plans lines fresh.1)
 
 -- the whole run
 store_run : (limit places : ℕ) (before after : List Plan) (gates : List SharedValue) (left : List Left) (w : Written) (jobs : List Entry) (version : ℕ) (changes : Option ℕ)

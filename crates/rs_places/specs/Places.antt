@@ -3,6 +3,7 @@ use Rattle.std.specs.Prelude.{◌≡◌, ℕ, ◌+◌, ◌-◌, ◌^◌, min, Li
 use Rattle.std.specs.Io.KnownBytes.{Consumes, IsAtEnd}
 use Rattle.rs_intake.specs.Lines.{Closed, IsClosed}
 use Rattle.rs_message.specs.declared.entry.Entry.{Entry}
+use Rattle.rs_session.specs.Points.{Given}
 use Rattle.rs_session.specs.Run.{Turn}
 use Rattle.rs_server.specs.Clock.{TellsInOrder}
 use Rattle.rs_server.specs.Conversation.{WritesTurns, assigned_of, start}
@@ -14,20 +15,23 @@ use Rattle.rs_places.specs.Turns.{AreAll, Ending, Plan, Streams, TakesBack, Took
 abbrev pub next_number : ℕ → ℕ
 next_number number = min (number + 1) (2 ^ 64 - 1)
 
--- a connection that was served: what was known of it before and after, the turns of its session, and what the gate knew after it
+-- a connection that was served: what was known of it before and after, the turns of its session, what was decoded behind them and not
+-- handled, and what the gate knew after it
 pub record Visit : Type 0 where
   pub given : Streams
   pub ending : Ending
   pub turns : List Turn
+  pub planned : List Given
   pub gate : SharedValue
 
 -- It was served under this number, from what the gate knew before, over these streams.
 pub record IsConnectionServed (limit number : ℕ) (before : SharedValue) (visit : Visit) : Type 0 where
-  pub connection : IsServedAt limit (start (assigned_of before.mark.place number) before.known before.mark)
+  pub connection : IsServedAt limit (start (assigned_of before.mark.place number) before.known before.mark) before.ahead
       (Consumes visit.given.unread visit.ending.streams.unread) (IsAtEnd visit.ending.streams.unread)
       (TellsInOrder visit.given.moments visit.ending.streams.moments)
       (WritesTurns visit.ending.result visit.given.written visit.ending.streams.written) visit.ending.result visit.gate
   pub turns : visit.turns ≡ connection.turns
+  pub planned : visit.planned ≡ connection.planned
 
 -- Connections were served one after the other, each from what the one before left. They are numbered from this number on.
 abbrev pub AreConnectionsServed : ℕ → ℕ → SharedValue → List Visit → SharedValue → Type 0
@@ -71,7 +75,7 @@ pub record IsPlaceServed (limit : ℕ) (place : Place) (left : Left) : Type 0 wh
   -- what is left is what the gate had then
   pub told : left.told ≡ last.known
   pub number : left.line.place ≡ place.gate.mark.place
-  pub sent : last.mark.sent ≡ Some left.line.sent
+  pub sent : place.gate.ahead ≡ [] → last.mark.sent ≡ Some left.line.sent
   pub closed : IsClosed left.line.place left.line.ends left.line.gone
 
 -- the first turn with the first gate, and so on. What is left of the longer list is left out

@@ -20,20 +20,20 @@ use Rattle.rs_session.specs.Sent.{AreSentBy}
 use Rattle.rs_session.specs.State.{State}
 use Rattle.rs_session.specs.declared.open.Open.{Open}
 use Rattle.rs_session.specs.declared.phase.Phase.TheVariants as phase
-use Rattle.rs_server.specs.Conversation.{assigned_of, start}
+use Rattle.rs_server.specs.Conversation.{AreLeft, assigned_of, start}
 use Rattle.rs_places.specs.Places.{IsPlaceServed, Left, Place, Visit, next_number, places_of}
-use Rattle.rs_places.specs.Shared.{SharedValue, mark_of}
+use Rattle.rs_places.specs.Shared.{SharedValue, handed_on, operations_of}
 use Rattle.rs_places.specs.Turns.{Plan}
 
--- the gates of these seats and lines. What is left of the longer list is left out
+-- the gates of these seats and lines, which are handed on. What is left of the longer list is left out
 abbrev pub gates_of : List (List Entry) → List Line → List SharedValue
 gates_of [] lines = []
 gates_of (seat ∷ seats) [] = []
-gates_of (seat ∷ seats) (line ∷ lines) = record { known = seat; mark = mark_of line } ∷ gates_of seats lines
+gates_of (seat ∷ seats) (line ∷ lines) = handed_on seat line ∷ gates_of seats lines
 
 -- the gates of so many new places, from 1 on. They know nothing, and sent nothing
 abbrev pub new_gates : ℕ → List SharedValue
-new_gates places = map (λ line. record { known = []; mark = mark_of line }) (new_lines places)
+new_gates places = map (λ line. handed_on [] line) (new_lines places)
 
 -- From this point a connection was served. The list that it began with, and each that it was answered from, is a prefix of this one, in
 -- which each retained publication that the client was told is kept stands once.
@@ -50,12 +50,16 @@ AreWithin list number first [] = Unit {0}
 AreWithin list number first (visit ∷ visits) =
     IsWithin list (start (assigned_of first.mark.place number) first.known first.mark) visit × AreWithin list (next_number number) visit.gate visits
 
--- what the turns of these connections send, one after the other
+-- What these connections send, one after the other: what their turns send, and behind that of each connection a tail. It is of changes of
+-- publications that the connection's bytes hold behind the last packet that was handled, or of that one too, if it sent nothing and
+-- ended the session.
 abbrev pub ArePublications : ℕ → SharedValue → List Visit → List Entry → Type 0
 ArePublications number first [] entries = entries ≡ []
 ArePublications number first (visit ∷ visits) entries =
-    (own : List Entry) × (rest : List Entry) × (entries ≡ own ++ rest)
-    × AreSentBy (start (assigned_of first.mark.place number) first.known first.mark) visit.turns own × ArePublications (next_number number) visit.gate visits rest
+    (own : List Entry) × (tail : List Entry) × (rest : List Entry) × (entries ≡ own ++ (tail ++ rest))
+    × AreSentBy (start (assigned_of first.mark.place number) first.known first.mark) visit.turns own
+    × AreLeft (start (assigned_of first.mark.place number) first.known first.mark) visit.turns visit.planned (operations_of tail)
+    × ArePublications (next_number number) visit.gate visits rest
 
 -- A place was served its turn, over a store with this history, whose writer took these jobs.
 pub record IsPlaceOf (limit : ℕ) (history jobs : List Entry) (place : Place) (left : Left) : Type 0 where
@@ -66,8 +70,8 @@ pub record IsPlaceOf (limit : ℕ) (history jobs : List Entry) (place : Place) (
   pub within : AreWithin history 1 place.gate served.visits
   -- so is the list that the place knew last
   pub known : Extends history left.told
-  -- what the place sent are the retained publications of its connections, in order, each at most once, and each that its client was
-  -- told is kept
+  -- What the place sent are the retained publications of its connections, in order, each at most once, and each that its client was
+  -- told is kept; and behind those of each connection at most publications that its bytes hold behind the last one handled.
   pub publications : ArePublications 1 place.gate served.visits left.line.sent
   -- what the writer took of the place is a prefix of that
   pub taken : Extends left.line.sent (of_place left.line.place jobs)

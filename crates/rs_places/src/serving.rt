@@ -14,15 +14,16 @@ use std::alloc::Global;
 use std::io::{Read, Write};
 use std::sync::Wait;
 
-/// Serves one connection at the gate's place, as the place's connection of this `number`: how it ends, and the gate. Whatever
-/// other places do meanwhile, `connection` says:
+/// Serves one connection at the gate's place, as the place's connection of this `number`: how it ends, and the gate, which is handed
+/// on ([`SharedGate::hand_on`]). Whatever other places do meanwhile, `connection` says:
 ///
 /// - What was written are the replies of a session to the packets that the bytes read encode (`run`, `inputs`, `replies`).
 /// - Each filter was answered from a legal list (`legal`), of which every list before is a prefix, the one that the seat knew
 ///   first too. All of them are prefixes of the list that the seat knows after the call (`lists`).
 /// - A retained publication that the client was told is kept stands once in every later list (`kept`).
-/// - What the gate's line sent meanwhile are the client's retained publications, in their order, each at most once, and each that the
-///   client was told is kept (`publications`).
+/// - What the turns of the session sent are the client's retained publications, in their order, each at most once, and each that the
+///   client was told is kept (`publications`). If the gate expected nothing before, the gate's line sent beyond that at most publications
+///   that the bytes hold behind the last one that it handled, or that one, if it sent nothing and ended the session (`tail`).
 /// - The replay sends what the filters were answered, in order, each message once (`sent`).
 ///
 /// # Errors
@@ -39,7 +40,7 @@ pub fn serve_place<T: Wait, N: LineName, H: Wait + Copy, R: Read, W: Write, C: C
 ) -> (Result<Served, ServeFault>, SharedGate<N, H>)
     requires reader_room { failures_of reader.old < 2 ^ 64 - 1 }
     requires writer_room { failures_of writer.old < 2 ^ 64 - 1 }
-    ensures connection { IsServedAt N.limit (start (assigned_of gate.mark.place number) gate.known gate.mark)
+    ensures connection { IsServedAt N.limit (start (assigned_of gate.mark.place number) gate.known gate.mark) gate.ahead
         (Consumes (R.remaining (inner_of reader.old)) (R.remaining (inner_of reader.new))) (IsAtEnd (R.remaining (inner_of reader.new)))
         (TellsInOrder (C.moments clock.old) (C.moments clock.new))
         (WritesTurns result.0 (W.contents (inner_of writer.old)) (W.contents (inner_of writer.new))) result.0 result.1 }
@@ -51,5 +52,8 @@ pub fn serve_place<T: Wait, N: LineName, H: Wait + Copy, R: Read, W: Write, C: C
         place: gate.place(),
         number,
     };
-    serve(rt, alloc, reader, writer, gate, id, clock)
+    let (served, gate) = serve(rt, alloc, reader, writer, gate, id, clock);
+    let mut gate = gate;
+    gate.hand_on();
+    (served, gate)
 }

@@ -1,11 +1,14 @@
 //! A gate over a seat and its line.
 
-ghost use Rattle.std.specs.Prelude.{◌≡◌, ◌<◌, ◌≤◌, ◌∷◌, [], false, length, OnOk, Some};
+ghost use Rattle.std.specs.Prelude.{◌≡◌, ◌<◌, ◌≤◌, ◌⊎◌, ◌∷◌, [], List, false, length, Err, OnOk, Some};
+ghost use mathlib.Core.List.{IsPrefix};
 ghost use Rattle.rs_intake.specs.Lines.{IsClosed, next_serial};
+ghost use Rattle.rs_message.specs.declared.entry.Entry.{Entry};
 ghost use Rattle.rs_message.specs.declared.entry.TheConstants.{MAX_PLACES};
+ghost use Rattle.rs_message.specs.declared.fault.SubmitFault.TheVariants.{Strange};
 ghost use Rattle.rs_message.specs.Messages.{is_sweep};
-ghost use Rattle.rs_places.specs.Shared.{Knows, mark_of};
-ghost use Rattle.rs_session.specs.Gate.{Grows, Sends, SendsAtMost, Submits, Uses, entry_by};
+ghost use Rattle.rs_places.specs.Shared.{HandsOn, IsOtherAhead, Knows, handed_on, operations_of};
+ghost use Rattle.rs_session.specs.Gate.{Grows, Sends, SendsAtMost, Submits, TakesAhead, Uses, entry_by};
 ghost use Rattle.rs_store.specs.History.{IsLegal};
 
 use rs_intake::{Intake, LineEnd, LineName, SeatLine};
@@ -19,6 +22,9 @@ use std::sync::{Arc, Wait};
 
 /// A place's gate to a store that other places use too. It stands for the seat's known list, which is legal, and for no other.
 ///
+/// The changes that it is told to expect go to the writer in one job with the first of them that is submitted, and each is answered when
+/// its own submit comes.
+///
 /// It keeps the handle `rt`, by which a submit waits for its receipt. An answer waits for nobody.
 #[derive(Drop)]
 pub struct SharedGate<N: LineName, R: Wait + Copy> {
@@ -29,26 +35,28 @@ pub struct SharedGate<N: LineName, R: Wait + Copy> {
 }
 
 impl<N: LineName, R: Wait + Copy> Model for SharedGate<N, R> {
+    ghost use Rattle.std.specs.Prelude.{◌≡◌, ◌⊎◌, []};
     ghost use Rattle.rs_store.specs.History.{IsLegal};
-    ghost use Rattle.rs_places.specs.Shared.{SharedValue, mark_of};
+    ghost use Rattle.rs_places.specs.Shared.{SharedValue, gate_of};
 
     ghost Value = { SharedValue };
 
-    ghost view = { λ g. record { known = g.seat; mark = mark_of g.line } };
+    ghost view = { λ g. gate_of g.seat g.line };
 
-    ghost invariant = { λ g. IsLegal N.limit g.seat };
+    ghost invariant = { λ g. IsLegal N.limit g.seat × ((g.line.expected ≡ []) ⊎ (g.line.ahead ≡ [])) };
 }
 
 impl<N: LineName, R: Wait + Copy> SharedGate<N, R> {
-    /// A gate that knows what the seat knows, and goes on with the line's place and serial. Any seat of the store will do: a seat
-    /// has no place.
+    /// A gate that knows what the seat knows, and goes on with the line's place and serial, as if the line were handed on
+    /// ([`hand_on`](SharedGate::hand_on)). Any seat of the store will do: a seat has no place.
     pub fn new(rt: R, intake: Arc<Intake<N>>, seat: Seat<N>, line: SeatLine<N>) -> SharedGate<N, R>
-        ensures known { result.known ≡ seat }
-        ensures mark { result.mark ≡ mark_of line }
+        ensures gate { result ≡ handed_on seat line }
         ensures legal { IsLegal N.limit result.known }
     {
         // For the proof: this call says that the seat's list is legal.
         let _version = seat.version();
+        let mut line = line;
+        line.hand_on();
         SharedGate {
             rt,
             intake,
@@ -84,10 +92,20 @@ impl<N: LineName, R: Wait + Copy> SharedGate<N, R> {
         self.seat.told()
     }
 
-    /// Gives the gate up. The line's end keeps what the queue took from the line.
+    /// Nothing is expected any more, and what was sent ahead counts as submitted, as if the gate had done so and never heard the answers.
+    /// Whoever serves the next connection with the gate calls it first.
+    pub fn hand_on(&mut self)
+        ensures known { self.new.known ≡ self.old.known }
+        ensures mark { (tail : List Entry) × HandsOn self.old.mark tail self.new.mark × IsPrefix (operations_of tail) self.old.ahead }
+        ensures ahead { self.new.ahead ≡ [] }
+    {
+        self.line.hand_on();
+    }
+
+    /// Gives the gate up. The line's end keeps what the queue took from the line, what was sent ahead too.
     pub fn close(self) -> LineEnd<N>
         ensures place { result.place ≡ self.mark.place }
-        ensures sent { self.mark.sent ≡ Some result.sent }
+        ensures sent { (tail : List Entry) × Sends self.mark.sent tail (Some result.sent) × IsPrefix (operations_of tail) self.ahead }
         ensures end { IsClosed result.place result.ends result.gone }
     {
         let SharedGate {
@@ -107,15 +125,29 @@ impl<N: LineName, R: Wait + Copy> Gate for SharedGate<N, R> {
 
     ghost mark = { λ gate. gate.mark };
 
+    ghost ahead = { λ gate. gate.ahead };
+
+    /// The line expects the changes. Nothing is sent before the first of them is submitted.
+    fn expect(&mut self, changes: Vec<Operation>) {
+        self.line.expect(changes);
+    }
+
+    /// Whether anything is ahead of the line, or expected.
+    fn is_ahead(&self) -> bool {
+        self.line.has_announced()
+    }
+
     /// Hands the change to the writer and waits for the receipt. The seat learns its token before `Ok` is answered. Beside what each
-    /// gate promises, the line sent at most this change, under the next serial, and at `Ok` it did.
+    /// gate promises, the line sent at most this change, under the next serial, and at `Ok` it did; or another change was expected
+    /// first, and nothing was done.
     fn submit(&mut self, operation: Operation) -> Result<(), SubmitFault>
         requires { is_sweep operation ≡ false }
         ensures list { Grows (Knows N.limit self.old) (Knows N.limit self.new) (Submits operation self.old.mark self.new.mark result) }
         ensures mark { Uses self.old.mark self.new.mark }
-        ensures serial { self.new.mark.serial ≡ next_serial self.old.mark.serial }
+        ensures serial { (self.new.mark.serial ≡ next_serial self.old.mark.serial) ⊎ ((result ≡ Err Strange) × (self.new.mark ≡ self.old.mark) × IsOtherAhead self.old.ahead operation) }
         ensures sent { SendsAtMost self.old.mark.sent (entry_by operation self.new.mark) self.new.mark.sent }
         ensures last { OnOk result (Sends self.old.mark.sent (entry_by operation self.new.mark ∷ []) self.new.mark.sent) }
+        ensures ahead { TakesAhead operation self.old.mark self.new.mark result self.old.ahead self.new.ahead }
     {
         // For the proof: this call says that the serial is a u64.
         let _serial = self.line.serial();

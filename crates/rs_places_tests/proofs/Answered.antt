@@ -29,9 +29,12 @@ visits_answered limit number history gate (visit ∷ visits) last (one, rest) (h
         turns = c.turns;
         bytes = c.bytes;
         held = c.held;
+        planned = c.planned;
+        left = c.left;
         run = c.run;
         read = c.read;
         inputs = c.inputs;
+        whole = c.whole;
         moments = c.moments;
         replies = c.replies;
         first = here.first;

@@ -6,6 +6,7 @@
 ghost use Rattle.std.specs.Prelude.{◌≡◌, ◌<◌, ◌≤◌, IfOk};
 ghost use Rattle.rs_message.specs.declared.entry.TheConstants.{MAX_PLACES};
 
+mod ahead;
 mod ending;
 mod faults;
 mod gates;

@@ -4,6 +4,7 @@ use Rattle.std.specs.List.{All}
 use Rattle.std.specs.Io.KnownBytes.{append_known}
 use Rattle.rs_hex.specs.Lines.{read_bytes, written_bytes}
 use Rattle.rs_message.specs.declared.entry.Entry.{Entry}
+use Rattle.rs_message.specs.declared.entry.Operation.{Operation}
 use Rattle.rs_session.specs.Gate.{Mark}
 use Rattle.rs_session.specs.Points.{Point}
 use Rattle.rs_session.specs.State.{State}
@@ -45,12 +46,12 @@ piped (Err fault) line = Err (pipe_fault fault line)
 
 -- There was a connection whose every moment was `at`, over what the input and the output stand for. Its outcome
 -- was answered so.
-pub record IsPiped (hex : Bool) (at : ℕ) (from : Point State) (stands_at : Mark → List Entry → Type 0) (stands : List Entry → Type 0) (mark : Mark) (unread rest written more : Option (List ℕ)) (answered : Result Served PipeFault) : Type 0 where
+pub record IsPiped (hex : Bool) (at : ℕ) (from : Point State) (stands_at : Mark → List Entry → Type 0) (stands : List Entry → Type 0) (mark : Mark) (unread rest written more : Option (List ℕ)) (first ahead : List Operation) (answered : Result Served PipeFault) : Type 0 where
   pub outcome : Result Served ServeFault
   pub left : Option (List ℕ)
   pub held : Option (List ℕ)
   pub line : Option ℕ
-  pub connection : IsConnection from stands_at stands mark (All (λ moment. moment ≡ at)) (input_bytes hex unread) left (output_bytes hex written) held outcome
+  pub connection : IsConnection from stands_at stands mark (All (λ moment. moment ≡ at)) (input_bytes hex unread) left (output_bytes hex written) held first ahead outcome
   pub left_is : IsLeft hex rest left
   pub held_is : IsHeld hex more held
   pub answer : answered ≡ piped outcome (if_hex hex line)

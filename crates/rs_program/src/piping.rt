@@ -79,7 +79,7 @@ pub fn pipe<H: Wait, R: Read + Drop, W: Write + Drop, G: Gate>(
 ) -> Piped<R, W, G>
     ensures { (seen : List Entry) → G.stands gate seen
         → IsPiped hex at (start (assigned_of 1 1) seen (G.mark gate)) (StandsAt G.stands G.mark) (G.stands result.gate) (G.mark result.gate)
-        (R.remaining input) (R.remaining result.input) (W.contents output) (W.contents result.output) result.served }
+        (R.remaining input) (R.remaining result.input) (W.contents output) (W.contents result.output) (G.ahead gate) (G.ahead result.gate) result.served }
 {
     if hex {
         pipe_lines(rt, alloc, input, output, gate, at)
@@ -98,7 +98,7 @@ fn pipe_bytes<H: Wait, R: Read + Drop, W: Write + Drop, G: Gate>(
 ) -> Piped<R, W, G>
     ensures { (seen : List Entry) → G.stands gate seen
         → IsPiped false at (start (assigned_of 1 1) seen (G.mark gate)) (StandsAt G.stands G.mark) (G.stands result.gate) (G.mark result.gate)
-        (R.remaining input) (R.remaining result.input) (W.contents output) (W.contents result.output) result.served }
+        (R.remaining input) (R.remaining result.input) (W.contents output) (W.contents result.output) (G.ahead gate) (G.ahead result.gate) result.served }
 {
     let mut reader = Counted::new(input);
     let mut writer = Counted::new(output);
@@ -122,7 +122,7 @@ fn pipe_lines<H: Wait, R: Read + Drop, W: Write + Drop, G: Gate>(
 ) -> Piped<R, W, G>
     ensures { (seen : List Entry) → G.stands gate seen
         → IsPiped true at (start (assigned_of 1 1) seen (G.mark gate)) (StandsAt G.stands G.mark) (G.stands result.gate) (G.mark result.gate)
-        (R.remaining input) (R.remaining result.input) (W.contents output) (W.contents result.output) result.served }
+        (R.remaining input) (R.remaining result.input) (W.contents output) (W.contents result.output) (G.ahead gate) (G.ahead result.gate) result.served }
 {
     let mut reader = Counted::new(HexReader::new(alloc, input));
     let mut writer = Counted::new(HexWriter::new(output));

@@ -21,15 +21,16 @@ fn change(alloc: Global) -> Option<Operation>
     let topic = TopicName::read(alloc, b"a/b").ok()?;
     let payload = Bytes::from_static(b"x");
     let properties = Properties::none();
-    let message = Message::new(alloc, payload, Qos::AtMostOnce, 0, None, properties).ok()?;
-    Some(Operation::Set(topic, message))
+    let message = Message::new(payload, Qos::AtMostOnce, 0, None, properties);
+    Some(Operation::Set(Found::new(alloc, topic, message).ok()?))
 }
 
 // Whether a/b is all that was found, and has x.
 fn is_x(found: &[Found]) -> bool {
     match found {
-        [Found { topic, message }] => {
-            topic.as_bytes() == b"a/b".as_slice() && message.payload().as_slice() == b"x".as_slice()
+        [one] => {
+            one.topic().as_bytes() == b"a/b".as_slice()
+                && one.message().payload().as_slice() == b"x".as_slice()
         }
         _ => false,
     }

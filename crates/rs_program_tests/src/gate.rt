@@ -23,6 +23,10 @@ impl Gate for Refusing {
 
     ghost mark = { λ _. record { place = 1; serial = 0; sent = None } };
 
+    fn is_ahead(&self) -> bool {
+        false
+    }
+
     fn submit(&mut self, _operation: Operation) -> Result<(), SubmitFault> {
         Err(self.fault)
     }

@@ -3,3 +3,4 @@ pub mod Identifiers
 pub mod Written
 pub mod Conversations
 pub mod Inputs
+pub mod Planning

@@ -7,18 +7,23 @@ use Rattle.rs_packet.specs.Grammar.{Encodes}
 use Rattle.rs_packet.specs.Prefixes.{IsMore, IsFaulty}
 use Rattle.rs_packet.specs.Faults as faults
 use Rattle.rs_message.specs.declared.entry.Entry.{Entry}
+use Rattle.rs_message.specs.declared.entry.Operation.{Operation}
 use Rattle.rs_session.specs.declared.phase.Input.{Input}
 use Rattle.rs_session.specs.declared.phase.Input.TheVariants.{Whole, Broken}
 use Rattle.rs_session.specs.declared.phase.Closing.{Closing}
 use Rattle.rs_session.specs.declared.phase.Closing.TheVariants as closing
+use Rattle.rs_session.specs.Ahead.{AreChanges}
 use Rattle.rs_session.specs.Gate.{Mark}
-use Rattle.rs_session.specs.State.{State, fresh, closing_of}
+use Rattle.rs_session.specs.Kept.{point_after}
+use Rattle.rs_session.specs.State.{State, fresh, closing_of, step_of}
+use Rattle.rs_session.specs.declared.phase.Step.TheVariants.{End}
 use Rattle.rs_session.specs.Points.{Given, Point, point_at}
 use Rattle.rs_session.specs.Run.{Turn, IsTurn, Run, IsOfGate, AreOfGate}
 use Rattle.rs_server.specs.declared.connection.Served.{Served}
 use Rattle.rs_server.specs.declared.connection.Served.TheVariants.{ClientClosed, EndOfInput, CutInput, ServerClosed, Dropped}
 use Rattle.rs_server.specs.declared.writing.ServeFault.{ServeFault}
 use Rattle.rs_server.specs.declared.writing.ServeFault.TheVariants.{Read, Write, NoMemory}
+use Rattle.rs_server.specs.Clock.{TellsInOrder}
 use Rattle.rs_server.specs.Writing.{all_reply_bytes}
 
 -- ---- what is read
@@ -44,6 +49,25 @@ abbrev pub TakesInput : List ℕ → Option Input → List ℕ → Type 0
 TakesInput old None new = IsMore old × (new ≡ old)
 TakesInput old (Some (Whole packet)) new = (n : ℕ) × (n ≤ length old) × Encodes (take n old) packet × (new ≡ drop n old)
 TakesInput old (Some (Broken fault)) new = IsFaulty old fault × (new ≡ old)
+
+-- ---- what was decoded and not handled
+
+abbrev pub planned_inputs : List Given → List Input
+planned_inputs planned = map (λ given. given.input) planned
+
+abbrev pub planned_moments : List Given → List ℕ
+planned_moments planned = map (λ given. given.now) planned
+
+-- nothing more is planned, or one input more: the first of what was held, at the time that was told
+abbrev pub PlansNext : List Given → List Given → List ℕ → List ℕ → Option (ℕ → ℕ) → Option (ℕ → ℕ) → Type 0
+PlansNext planned new_planned held new_held told new_told =
+    ((new_planned ≡ planned) × (new_held ≡ held) × (new_told ≡ told))
+    ⊎ ((given : Given) × (new_planned ≡ planned ++ given ∷ []) × TakesInput held (Some given.input) new_held × TellsInOrder told new_told (given.now ∷ []))
+
+-- what is planned grew by the next inputs of what was held, at the times that were told
+abbrev pub Plans : List Given → List Given → List ℕ → List ℕ → Option (ℕ → ℕ) → Option (ℕ → ℕ) → Type 0
+Plans planned new_planned held new_held told new_told =
+    (more : List Given) × (new_planned ≡ planned ++ more) × InputsOf (planned_inputs more) held new_held × TellsInOrder told new_told (planned_moments more)
 
 -- ---- the run
 
@@ -95,6 +119,27 @@ pub record Conversation (from : Point State) (stands_at : Mark → List Entry �
   pub moments : told (moments_of turns)
   pub replies : written turns
 
+-- These changes are those of the last turn's input, which sent nothing and ended the session, and of what is planned behind it.
+pub record IsUnsent (from : Point State) (turns : List Turn) (planned : List Given) (changes : List Operation) : Type 0 where
+  pub before : List Turn
+  pub last : Turn
+  pub whole : turns ≡ before ++ last ∷ []
+  pub unused : last.to.mark ≡ (point_after from before).mark
+  pub ended : step_of last.to.state.phase ≡ End
+  pub are : AreChanges (last.given ∷ planned) changes
+
+-- the changes that are still expected: of what is planned, or of the last turn's input too
+abbrev pub AreLeft : Point State → List Turn → List Given → List Operation → Type 0
+AreLeft from turns planned changes = AreChanges planned changes ⊎ IsUnsent from turns planned changes
+
+-- Such a conversation, and what was decoded and not handled: it follows the last input that was handled, and then come the bytes
+-- that are left. Its times were told after those of the turns. If the gate expected nothing first, it expects only changes of these.
+pub record Talks (from : Point State) (stands_at : Mark → List Entry → Type 0) (stands : List Entry → Type 0) (mark : Mark) (state : State) (consumed : List ℕ → Type 0) (planned : List Given) (left : List ℕ) (told : List ℕ → Type 0) (written : List Turn → Type 0) (first ahead : List Operation) : Type 0 where
+  pub held : List ℕ
+  pub conversation : Conversation from stands_at stands mark state consumed held (λ moments. told (moments ++ planned_moments planned)) written
+  pub whole : InputsOf (planned_inputs planned) held left
+  pub expected : first ≡ [] → AreLeft from conversation.turns planned ahead
+
 -- one turn of it
 pub record TakesTurn (from : Point State) (given : Given) (stands_at : Mark → List Entry → Type 0) (stands : List Entry → Type 0) (mark : Mark) (state : State) (written : List ℕ → Type 0) : Type 0 where
   pub turn : Turn
@@ -135,18 +180,32 @@ abbrev pub Ends : Result Served ServeFault → State → List ℕ → Type 0 →
 Ends (Ok served) state held at_end = ClosesAs served state held at_end
 Ends (Err fault) state held at_end = BreaksAt fault state held
 
--- From this point a session was run over the bytes that were consumed, at the times that were told. What was
+-- From this point a session was run over the bytes that were consumed, at the times that were told: those of its turns, and then
+-- those of what was whole behind them and not handled. What was
 -- written is its replies, at a fault the last turn's perhaps in part, and it ended so. The bytes that the reader
--- has left and those that the writer holds are those before and after, if they are known.
-abbrev pub IsConnection : Point State → (Mark → List Entry → Type 0) → (List Entry → Type 0) → Mark → (List ℕ → Type 0) → Option (List ℕ) → Option (List ℕ) → Option (List ℕ) → Option (List ℕ) → Result Served ServeFault → Type 0
-IsConnection from stands_at stands mark told unread rest written more result = (state : State) × (held : List ℕ)
-    × Conversation from stands_at stands mark state (Consumes unread rest) held told (WritesTurns result written more)
-    × Ends result state held (IsAtEnd rest)
+-- has left and those that the writer holds are those before and after, if they are known. The changes that the gate
+-- expected are those before and after.
+abbrev pub IsConnection : Point State → (Mark → List Entry → Type 0) → (List Entry → Type 0) → Mark → (List ℕ → Type 0) → Option (List ℕ) → Option (List ℕ) → Option (List ℕ) → Option (List ℕ) → List Operation → List Operation → Result Served ServeFault → Type 0
+IsConnection from stands_at stands mark told unread rest written more first ahead result = (state : State) × (planned : List Given) × (left : List ℕ)
+    × (talk : Talks from stands_at stands mark state (Consumes unread rest) planned left told (WritesTurns result written more) first ahead)
+    × Ends result state talk.held (IsAtEnd rest)
 
 abbrev pub Closes : Result (Option Served) ServeFault → State → List ℕ → Type 0 → Type 0
 Closes (Ok None) state held at_end = closing_of state.phase ≡ None
 Closes (Ok (Some served)) state held at_end = ClosesAs served state held at_end
 Closes (Err fault) state held at_end = BreaksAt fault state held
+
+-- not an end of the input, nor a failure of the reader
+abbrev pub IsHandled : Result (Option Served) ServeFault → Type 0
+IsHandled (Ok None) = Unit {0}
+IsHandled (Ok (Some ClientClosed)) = Unit {0}
+IsHandled (Ok (Some EndOfInput)) = ⊥
+IsHandled (Ok (Some CutInput)) = ⊥
+IsHandled (Ok (Some (ServerClosed code))) = Unit {0}
+IsHandled (Ok (Some Dropped)) = Unit {0}
+IsHandled (Err Read) = ⊥
+IsHandled (Err Write) = Unit {0}
+IsHandled (Err NoMemory) = Unit {0}
 
 -- The failures of the reader and of the writer rise only at the fault that says so.
 abbrev pub Causes : {T : Type 0} → Result T ServeFault → ℕ → ℕ → ℕ → ℕ → Type 0

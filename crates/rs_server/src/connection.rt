@@ -1,26 +1,27 @@
 //! One connection: packets are read, and the session's replies are written.
 
-ghost use Rattle.std.specs.Prelude.{◌≡◌, ◌<◌, ◌-◌, ◌^◌, ◌++◌, ℕ, Option, List, None, Some, IfOk};
+ghost use Rattle.std.specs.Prelude.{◌≡◌, ◌<◌, ◌-◌, ◌^◌, ◌++◌, ◌⊎◌, [], ℕ, Option, List, None, Some};
 ghost use Rattle.std.specs.Io.KnownBytes.{Consumes, IsAtEnd};
 ghost use Rattle.rs_message.specs.declared.entry.Entry.{Entry};
-ghost use Rattle.rs_packet.specs.Grammar.{HasPrefix};
-ghost use Rattle.rs_packet.specs.PacketReading.{Gives, answer};
+ghost use Rattle.rs_message.specs.declared.entry.Operation.{Operation};
+ghost use Rattle.rs_session.specs.Ahead.{AreChanges, LeavesAhead};
 ghost use Rattle.rs_session.specs.Gate.{StandsAt};
 ghost use Rattle.rs_session.specs.Points.{Point, given_at};
-ghost use Rattle.rs_session.specs.State.{session_at, state_of, due_of, gate_of, closing_of, State};
+ghost use Rattle.rs_session.specs.State.{session_at, state_of, due_of, gate_of, closing_of, step_of, State};
 ghost use Rattle.rs_server.specs.Clock.{TellsInOrder};
 ghost use Rattle.rs_server.specs.Counts.{inner_of, failures_of};
 ghost use Rattle.rs_server.specs.Writing.{IsWriteCause, Writes};
-ghost use Rattle.rs_server.specs.Conversation.{TakesInput, TakesTurn, Closes, Causes, Conversation, AppendsReplies, WritesTurns, IsConnection, IsReadCause, IsEnd, assigned_of, start, served_as};
+ghost use Rattle.rs_server.specs.Conversation.{TakesTurn, Closes, Causes, Talks, AppendsReplies, WritesTurns, IsConnection, IsHandled, IsReadCause, IsEnd, assigned_of, start, served_as};
 
 use crate::assigned::assigned_client;
 use crate::clock::Clock;
 use crate::counted::Counted;
+use crate::plan::{Planned, plan};
 use crate::writing::{ServeFault, write_replies};
-use bytes::{Bytes, BytesMut};
-use rs_packet::{Decoded, PacketFault, decode, needed_len};
-use rs_session::{Closing, Gate, Input, Session};
+use bytes::BytesMut;
+use rs_session::{Closing, Gate, Input, Session, Step};
 use std::alloc::Global;
+use std::collections::VecDeque;
 use std::io::{Read, Write};
 use std::sync::Wait;
 
@@ -59,6 +60,10 @@ const READ_ROOM: usize = 8192;
 /// (3.2.2.3.7). The clock is asked once for each packet, and once for a fault. The gate is returned in
 /// every case.
 ///
+/// Packets that are whole in its buffer are decoded together, up to [`MAX_CHANGES`](rs_session::MAX_CHANGES) of them, as long as they
+/// are publications whose changes may be announced, and the gate is told to expect these ([`Gate::expect`]). Then they are
+/// handled one by one. It never reads to do so. If the session ends before such a packet is handled, its time was asked all the same.
+///
 /// # Errors
 ///
 /// [`ServeFault`], if the reader fails, if the writer fails or takes nothing, or if memory is refused. No
@@ -81,7 +86,7 @@ pub fn serve<H: Wait, R: Read, W: Write, G: Gate, C: Clock>(
         → IsConnection (start (assigned_of id.place id.number) seen (G.mark gate)) (StandsAt G.stands G.mark) (G.stands result.1) (G.mark result.1)
         (TellsInOrder (C.moments clock.old) (C.moments clock.new))
         (R.remaining (inner_of reader.old)) (R.remaining (inner_of reader.new))
-        (W.contents (inner_of writer.old)) (W.contents (inner_of writer.new)) result.0 }
+        (W.contents (inner_of writer.old)) (W.contents (inner_of writer.new)) (G.ahead gate) (G.ahead result.1) result.0 }
 
     // A fault names what failed.
     ensures cause { Causes result.0 (failures_of reader.old) (failures_of reader.new)
@@ -92,8 +97,17 @@ pub fn serve<H: Wait, R: Read, W: Write, G: Gate, C: Clock>(
     };
     let mut session = Session::new(alloc, gate, assigned);
     let mut held = BytesMut::new(alloc);
+    let mut planned = VecDeque::new(alloc);
     'turns: for _ in rt.forever() {
-        match serve_once(alloc, reader, writer, &mut session, &mut held, clock) {
+        match serve_once(
+            alloc,
+            reader,
+            writer,
+            &mut session,
+            &mut held,
+            &mut planned,
+            clock,
+        ) {
             Ok(None) => {}
             Ok(Some(served)) => return (Ok(served), session.into_gate()),
             Err(fault) => return (Err(fault), session.into_gate()),
@@ -109,6 +123,7 @@ fn serve_once<R: Read, W: Write, G: Gate, C: Clock>(
     writer: &mut Counted<W>,
     session: &mut Session<G>,
     held: &mut BytesMut,
+    planned: &mut VecDeque<Planned>,
     clock: &mut C,
 ) -> Result<Option<Served>, ServeFault>
     requires reader_room { failures_of reader.old < 2 ^ 64 - 1 }
@@ -117,55 +132,35 @@ fn serve_once<R: Read, W: Write, G: Gate, C: Clock>(
     requires goes_on { closing_of (state_of session.old).phase ≡ None }
 
     // Extends every conversation that led to the state before.
-    ensures conversation { (from : Point State) (read wrote : Option (List ℕ)) (told : Option (ℕ → ℕ))
-        → Conversation from (StandsAt G.stands G.mark) (G.stands (gate_of session.old)) (G.mark (gate_of session.old)) (state_of session.old)
-        (Consumes read (R.remaining (inner_of reader.old))) held.old.items
+    ensures conversation { (from : Point State) (read wrote : Option (List ℕ)) (told : Option (ℕ → ℕ)) (first : List Operation)
+        → (first ≡ [] → AreChanges planned.old.items (G.ahead (gate_of session.old)))
+        → Talks from (StandsAt G.stands G.mark) (G.stands (gate_of session.old)) (G.mark (gate_of session.old)) (state_of session.old)
+        (Consumes read (R.remaining (inner_of reader.old))) planned.old.items held.old.items
         (TellsInOrder told (C.moments clock.old))
-        (AppendsReplies wrote (W.contents (inner_of writer.old)))
-        → Conversation from (StandsAt G.stands G.mark) (G.stands (gate_of session.new)) (G.mark (gate_of session.new)) (state_of session.new)
-        (Consumes read (R.remaining (inner_of reader.new))) held.new.items
+        (AppendsReplies wrote (W.contents (inner_of writer.old))) first (G.ahead (gate_of session.old))
+        → Talks from (StandsAt G.stands G.mark) (G.stands (gate_of session.new)) (G.mark (gate_of session.new)) (state_of session.new)
+        (Consumes read (R.remaining (inner_of reader.new))) planned.new.items held.new.items
         (TellsInOrder told (C.moments clock.new))
-        (WritesTurns result wrote (W.contents (inner_of writer.new))) }
+        (WritesTurns result wrote (W.contents (inner_of writer.new))) first (G.ahead (gate_of session.new)) }
+    ensures expected { closing_of (state_of session.new).phase ≡ None → AreChanges planned.old.items (G.ahead (gate_of session.old))
+        → AreChanges planned.new.items (G.ahead (gate_of session.new)) }
     ensures closes { Closes result (state_of session.new) held.new.items (IsAtEnd (R.remaining (inner_of reader.new))) }
+    ensures rest { (planned.new.items ≡ []) ⊎ IsHandled result }
     ensures due { due_of session.new ≡ None }
     ensures cause { Causes result (failures_of reader.old) (failures_of reader.new)
         (failures_of writer.old) (failures_of writer.new) }
 {
-    let Some(input) = next_input(alloc, held) else {
+    if let Err(fault) = plan(alloc, session, held, planned, clock) {
+        return Err(fault);
+    }
+    let Some(next) = planned.pop_front() else {
         return read_more(reader, held);
     };
-    let now = clock.now();
+    let Planned { input, now } = next;
     match take_turn(alloc, session, writer, input, now) {
         Ok(()) => Ok(outcome(session.closing())),
         Err(fault) => Err(fault),
     }
-}
-
-/// Removes the first input from what is held. None if less than a packet is held.
-fn next_input(alloc: Global, held: &mut BytesMut) -> Option<Input>
-    ensures { TakesInput held.old.items result held.new.items }
-{
-    let size = needed_len(held.as_slice());
-    if held.len() < size {
-        return None;
-    }
-    match decode_copy(alloc, &held.as_slice()[..size]) {
-        Ok(Decoded::Whole(packet, used)) => {
-            held.advance(used);
-            Some(Input::Whole(packet))
-        }
-        Ok(Decoded::More) => None,
-        Err(fault) => Some(Input::Broken(fault)),
-    }
-}
-
-/// Decodes the packet from bytes of its own, so that a kept message holds no more than its packet.
-fn decode_copy(alloc: Global, packet: &[u8]) -> Result<Decoded, PacketFault>
-    ensures found { IfOk result (λ d. HasPrefix packet.now d) }
-    ensures exact { Gives (λ d. d) result (answer packet.now) }
-{
-    let bytes = Bytes::copy_from_slice(alloc, packet)?;
-    decode(alloc, &bytes)
 }
 
 /// Reads once and appends to what is held.
@@ -209,6 +204,8 @@ fn take_turn<G: Gate, W: Write>(
         → TakesTurn (session_at G.mark session.old seen) (given_at input now) (StandsAt G.stands G.mark)
         (G.stands (gate_of session.new)) (G.mark (gate_of session.new)) (state_of session.new)
         (Writes result (W.contents (inner_of writer.old)) (W.contents (inner_of writer.new))) }
+    ensures ahead { LeavesAhead (given_at input now) (G.ahead (gate_of session.old)) (G.ahead (gate_of session.new))
+        ((G.mark (gate_of session.new) ≡ G.mark (gate_of session.old)) × (step_of (state_of session.new).phase ≡ Step.End)) }
     ensures due { due_of session.new ≡ None }
     ensures cause { IsWriteCause result (failures_of writer.old) (failures_of writer.new) }
 {

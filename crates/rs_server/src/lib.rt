@@ -16,6 +16,7 @@ mod clock;
 mod connection;
 mod counted;
 mod law;
+mod plan;
 mod writing;
 
 pub use clock::{Clock, Moments};

@@ -1,3 +1,4 @@
+mod ahead;
 mod counted;
 mod gate;
 mod handed;

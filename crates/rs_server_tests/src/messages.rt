@@ -3,22 +3,17 @@
 ghost use Rattle.std.specs.Prelude.{◌≢◌, ◌≤◌, [], length};
 
 use bytes::Bytes;
-use rs_message::{Entry, MAX_PLACES, Message, Operation, Origin, Remaining, SubmitFault};
-use rs_packet::{MessageContent, Properties, Qos};
+use rs_message::{Entry, Found, MAX_PLACES, Message, Operation, Origin, Remaining, SubmitFault};
+use rs_packet::{Properties, Qos};
 use rs_topic::TopicName;
 use std::alloc::{AllocError, Global};
 use std::test::Fail;
 
-fn received_at_100(
-    alloc: Global,
-    payload: &'static [u8],
-    expiry: Option<u32>,
-) -> Result<Message, AllocError>
+fn received_at_100(payload: &'static [u8], expiry: Option<u32>) -> Message
     requires some { payload.now ≢ [] }
     requires small { length payload.now ≤ 1000 }
 {
     Message::new(
-        alloc,
         Bytes::from_static(payload),
         Qos::AtLeastOnce,
         100,
@@ -39,15 +34,14 @@ const LEFT: &[(Option<u32>, u64, Remaining)] = &[
     (None, u64::MAX, Remaining::Forever),
 ];
 
-fn left_at(alloc: Global, expiry: Option<u32>, now: u64) -> Result<Remaining, AllocError> {
-    let message = received_at_100(alloc, b"x", expiry)?;
-    Ok(message.remaining(now))
+fn left_at(expiry: Option<u32>, now: u64) -> Remaining {
+    received_at_100(b"x", expiry).remaining(now)
 }
 
 #[test]
 fn intervals_run_out(rt: HostRuntime) -> Result<(), Fail> {
     for (expiry, now, left) in LEFT {
-        assert!(rt; left_at(rt.alloc(), *expiry, *now)? == *left);
+        assert!(rt; left_at(*expiry, *now) == *left);
     }
     Ok(())
 }
@@ -106,8 +100,10 @@ fn what_is_done(operation: &Option<Operation>) -> Option<Done> {
         Some(Operation::Clear(topic)) if topic.as_bytes() == b"a/b".as_slice() => Some(
             Done::Clears,
         ),
-        Some(Operation::Set(topic, message))
-            if topic.as_bytes() == b"a/b".as_slice() && is_x(message) => { Some(Done::Sets) }
+        Some(Operation::Set(found))
+            if found.topic().as_bytes() == b"a/b".as_slice() && is_x(found.message()) => {
+            Some(Done::Sets)
+        }
         Some(_) => None,
         None => Some(Done::Nothing),
     }
@@ -149,7 +145,8 @@ fn cleared(alloc: Global, place: u8, serial: u64) -> Result<Entry, Fail> {
 fn entry_of_set(alloc: Global) -> Result<Entry, Fail> {
     let origin = Origin::new(1, 1).ok_or("1 is a place")?;
     let topic = TopicName::read(alloc, b"a/b")?;
-    let operation = Operation::Set(topic, received_at_100(alloc, b"x", Some(10))?);
+    let found = Found::new(alloc, topic, received_at_100(b"x", Some(10)))?;
+    let operation = Operation::Set(found);
     Ok(Entry { origin, operation })
 }
 
@@ -181,22 +178,42 @@ fn is_received_at_100(message: &Message) -> bool {
         && message.expiry() == Some(10)
 }
 
-fn is_content(content: &MessageContent) -> bool {
-    content.payload().as_slice() == b"x".as_slice() && content.properties().fields().is_none()
-}
-
 /// Whether a copy of a message that was received at 100 equals it, and differs from one with another interval.
-fn is_message_copied(alloc: Global) -> Result<bool, AllocError> {
-    let message = received_at_100(alloc, b"x", Some(10))?;
+fn is_message_copied() -> Result<bool, AllocError> {
+    let message = received_at_100(b"x", Some(10));
     let copy = message.copy()?;
-    let other = received_at_100(alloc, b"x", Some(11))?;
-    let is_same = copy == message && copy != other && is_received_at_100(&copy);
-    Ok(is_content(&copy.into_content()) && is_same)
+    let other = received_at_100(b"x", Some(11));
+    Ok(copy == message && copy != other && is_received_at_100(&copy))
 }
 
 #[test]
 fn a_message_is_copied(rt: HostRuntime) -> Result<(), Fail> {
-    assert!(rt; is_message_copied(rt.alloc())?);
+    assert!(rt; is_message_copied()?);
+    Ok(())
+}
+
+/// A topic with a message that was received at 100.
+fn found_at_100(alloc: Global, topic: &[u8], expiry: Option<u32>) -> Result<Found, Fail> {
+    let topic = TopicName::read(alloc, topic)?;
+    Ok(Found::new(alloc, topic, received_at_100(b"x", expiry))?)
+}
+
+/// Whether a copy of a topic with its message equals it, and differs from one of another topic and from one of another message. What
+/// a reply carries of the copy shows the same.
+fn is_found_copied(alloc: Global) -> Result<bool, Fail> {
+    let found = found_at_100(alloc, b"a/b", Some(10))?;
+    let copy = found.copy()?;
+    let is_same = copy == found
+        && copy != found_at_100(alloc, b"a/c", Some(10))?
+        && copy != found_at_100(alloc, b"a/b", Some(11))?;
+    let retained = copy.into_retained();
+    let again = retained.copy()?;
+    Ok(is_same && again.topic() == found.topic() && again.message() == found.message())
+}
+
+#[test]
+fn a_topic_and_its_message_are_copied(rt: HostRuntime) -> Result<(), Fail> {
+    assert!(rt; is_found_copied(rt.alloc())?);
     Ok(())
 }
 
@@ -207,14 +224,13 @@ fn of_payload(alloc: Global, payload: &[u8], expiry: Option<u32>) -> Result<Mess
     requires fits { length payload.now ≤ 262000 }
 {
     let payload = Bytes::copy_from_slice(alloc, payload)?;
-    Message::new(
-        alloc,
+    Ok(Message::new(
         payload,
         Qos::ExactlyOnce,
         u64::MAX,
         expiry,
         Properties::none(),
-    )
+    ))
 }
 
 /// A message with the largest payload that the tests send.
@@ -244,7 +260,8 @@ fn a_large_message_is_copied(rt: HostRuntime) -> Result<(), Fail> {
 fn an_entry_of_a_large_message_is_copied(rt: HostRuntime) -> Result<(), Fail> {
     let origin = Origin::new(MAX_PLACES, u64::MAX).ok_or("it is a place")?;
     let topic = TopicName::read(rt.alloc(), b"a/b")?;
-    let operation = Operation::Set(topic, large_message(rt.alloc())?);
+    let found = Found::new(rt.alloc(), topic, large_message(rt.alloc())?)?;
+    let operation = Operation::Set(found);
     let entry = Entry { origin, operation };
     assert!(rt; is_copied(rt.alloc(), &entry, 1)?);
     Ok(())

@@ -23,8 +23,8 @@ fn found(
     }
     let topic = TopicName::read(alloc, topic).ok()?;
     let payload = Bytes::from_static(payload);
-    let message = Message::new(alloc, payload, qos, 0, expiry, Properties::none()).ok()?;
-    Some(Found { topic, message })
+    let message = Message::new(payload, qos, 0, expiry, Properties::none());
+    Found::new(alloc, topic, message).ok()
 }
 
 /// `count` messages under one topic, at this QoS.
@@ -111,7 +111,13 @@ fn given(publish: Option<Publish>) -> Answer {
     let Some(publish) = publish else {
         return Answer::Nothing;
     };
-    let topic = publish.topic.as_bytes().first().copied().unwrap_or(0);
+    let topic = publish
+        .found
+        .topic()
+        .as_bytes()
+        .first()
+        .copied()
+        .unwrap_or(0);
     Answer::Gives(topic, publish.id.map_or(0, |id| id.get()))
 }
 

@@ -6,3 +6,4 @@ pub mod Limits
 pub mod Replaying
 pub mod Keeping
 pub mod Sending
+pub mod Expecting

@@ -51,7 +51,7 @@ use Rattle.rs_session.specs.Subscriptions.{Subscriptions, is_subscribed}
 use Rattle.rs_session.specs.declared.subscriptions.Subscription.{Subscription}
 use Rattle.rs_session.proofs.SubscriptionLemmas.{remove_inserted, get_absent}
 use Rattle.rs_session.proofs.Submitting.{nothing_new, nothing_sent}
-use Rattle.rs_session.specs.Steps.{IsAccepted, connect_refusal, outcome_before, outcome_of_alias, outcome_of_topic, outcome_of_id, topic_refusal, IsConcluded}
+use Rattle.rs_session.specs.Steps.{IsAccepted, connect_refusal, outcome_before, outcome_of_alias, outcome_of_topic, outcome_of_id, outcome_unmade, topic_refusal, IsConcluded}
 use Rattle.rs_session.specs.Table.{Answers, AnswersWithoutGate, LeadsTo, IsNeitherConnectNorVersion, fault_reason, packet_maximum, connack, open_for, change, topic_reason, acknowledged_by, held_id, is_held, is_one_too_many, holding, IsTaken, IsTopicOrUnread, IsHanded, acknowledgement_of, released_by, released_reason, is_shared_local, Grants, IsGranted, removal_reason, removal_codes, without, without_all, due_for, state_after, With_method, With_will, Connect_refused, Accepted, Connack_too_long, Other_version, Unexpected, In_session, Over, Faulty, With_alias, Bad_topic, Sent_again, Too_many_held, Not_retained, Kept, Topic_unread, Not_kept, Uncertain, Gate_closed, Released, Wrong_acknowledgement, Acknowledged, Shared_no_local, Not_subscribed, Subscribed, Not_unsubscribed, Unsubscribed, Connected_twice, Pinged, Disconnected}
 
 pub Grows-weaker : (before after : List Entry → Type 0) (P Q : List Entry → List Entry → Type 0) → ((seen list : List Entry) → P seen list → Q seen list) → Grows before after P → Grows before after Q
@@ -254,31 +254,27 @@ topic_unread p f outcome now at e t d =
     let is : f ≡ topic_fault.NoMemory = subst IsTopicOrUnread t h.1 in
     (Topic_unread, refl, (p, refl, h.0, t ∙ ap (λ (x : TopicFault). Err x) is, d, record { none_used = refl; same = refl }))
 
+abbrev message_of : Publish → ℕ → MessageValue
+message_of p now = record { payload = p.payload; qos = p.qos; received = now; expiry = p.expiry; properties = p.properties }
+
 -- a publication that the gate was not asked to keep
-pub not_kept : (p : Publish) (topic : List ℕ) (outcome : Outcome) (now : ℕ) (at : Point Open) → outcome_before p at.state ≡ None → p.topic ≡ Ok topic → p.retain ≡ true → outcome ≡ Replies (acknowledged_by p.qos p.id QuotaExceeded)
+not_handed : (p : Publish) (topic : List ℕ) (now : ℕ) (at : Point Open) → outcome_before p at.state ≡ None → p.topic ≡ Ok topic → p.retain ≡ true → IsHanded p topic (change_of topic (message_of p now) p.payload) now at at
+not_handed p topic now at e t r =
+    let operation = change_of topic (message_of p now) p.payload in
+    record {
+      taken = (taken p at.state e).0;
+      is_topic = t;
+      changes = ap (λ (retain : Bool). operation_of retain topic (message_of p now)) r;
+      one_used = record { place = refl; no_lower = omega arith; no_higher = omega arith };
+      no_other = nothing_new operation at.mark at.seen;
+      sent = inl (nothing_sent at.mark.sent);
+    }
+
+-- no memory for the change; it may have been sent ahead
+pub not_made : (p : Publish) (topic : List ℕ) (is_ahead : Bool) (outcome : Outcome) (now : ℕ) (at : Point Open) → outcome_before p at.state ≡ None → p.topic ≡ Ok topic → p.retain ≡ true → outcome ≡ outcome_unmade is_ahead p.qos p.id
     → LeadsTo (given_at (Whole (packet.Publish p)) now) at [] outcome at
-not_kept p topic outcome now at e t r d =
-    let m : MessageValue = record { payload = p.payload; qos = p.qos; received = now; expiry = p.expiry; properties = p.properties } in
-    let operation = change_of topic m p.payload in (
-      Not_kept,
-      refl,
-      (
-        p,
-        topic,
-        operation,
-        refl,
-        record {
-          taken = (taken p at.state e).0;
-          is_topic = t;
-          changes = ap (λ (retain : Bool). operation_of retain topic m) r;
-          one_used = record { place = refl; no_lower = omega arith; no_higher = omega arith };
-          no_other = nothing_new operation at.mark at.seen;
-          sent = inl (nothing_sent at.mark.sent);
-        },
-        d,
-        refl,
-      ),
-    )
+not_made p topic false outcome now at e t r d = (Not_kept, refl, (p, topic, change_of topic (message_of p now) p.payload, refl, not_handed p topic now at e t r, d, refl))
+not_made p topic true outcome now at e t r d = (Uncertain, refl, (p, topic, change_of topic (message_of p now) p.payload, refl, not_handed p topic now at e t r, d, refl))
 
 unretained : (retain : Bool) (topic : List ℕ) (m : MessageValue) → operation_of retain topic m ≡ None → retain ≡ false
 unretained true topic m c = absurd (cc)

@@ -1,10 +1,11 @@
 -- What a session knows of the store by its gate.
-use Rattle.std.specs.Prelude.{◌≡◌, ℕ, ◌+◌, ◌<◌, ◌≤◌, ◌⊎◌, List, [], ◌∷◌, ◌++◌, Contains, Option, Some, None, Result, OnOk}
+use Rattle.std.specs.Prelude.{◌≡◌, ℕ, ◌+◌, ◌<◌, ◌≤◌, ◌⊎◌, List, [], ◌∷◌, ◌++◌, Contains, Option, Some, None, Result, Err, OnOk}
 use Rattle.std.specs.List.{All}
 use Rattle.rs_message.specs.Values.{OriginValue}
 use Rattle.rs_message.specs.declared.entry.Entry.{Entry}
 use Rattle.rs_message.specs.declared.entry.Operation.{Operation}
 use Rattle.rs_message.specs.declared.fault.SubmitFault.{SubmitFault}
+use Rattle.rs_message.specs.declared.fault.SubmitFault.TheVariants.{Strange}
 
 -- a place, the last serial that it used, and the entries that it sent to the store, in their order, if they are known
 pub record Mark : Type 0 where
@@ -61,6 +62,12 @@ IsHandedOver operation new seen list = (more : List Entry) → list ≡ seen ++ 
 pub record Submits (operation : Operation) (old new : Mark) (answer : Result (Unit {0}) SubmitFault) (seen list : List Entry) : Type 0 where
   pub handed_over : IsHandedOver operation new seen list
   pub kept : OnOk answer (IsSubmitted operation old new list)
+
+-- Of the changes that were expected, a submit leaves none; or it submits the first, and the rest is left; or it is refused as
+-- another than the first, and all are left and no serial is used.
+abbrev pub TakesAhead : Operation → Mark → Mark → Result (Unit {0}) SubmitFault → List Operation → List Operation → Type 0
+TakesAhead operation old_mark new_mark answer old new =
+    (new ≡ []) ⊎ ((old ≡ operation ∷ new) ⊎ ((new ≡ old) × (answer ≡ Err Strange) × (new_mark ≡ old_mark)))
 
 -- of gates of one type: one of them stands for the list while it has the mark
 abbrev pub StandsAt : {G : Type 0} → (G → List Entry → Type 0) → (G → Mark) → Mark → List Entry → Type 0

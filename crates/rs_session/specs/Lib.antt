@@ -4,6 +4,7 @@ pub mod Subscriptions
 pub mod State
 pub mod Reasons
 pub mod Table
+pub mod Ahead
 pub mod Steps
 pub mod Run
 pub mod Replay

@@ -1,5 +1,5 @@
 -- A session between two inputs, and what it replies from what waits.
-use Rattle.std.specs.Prelude.{◌≡◌, ℕ, nat_le, if◌then◌else◌, List, [], length, Option, Some, None, option_map}
+use Rattle.std.specs.Prelude.{◌≡◌, ℕ, Bool, true, false, nat_le, if◌then◌else◌, List, [], length, Option, Some, None, option_map}
 use Rattle.rs_packet.specs.declared.reply.Reply.{Reply}
 use Rattle.rs_packet.specs.Replies.{reply_bytes}
 use Rattle.rs_message.specs.declared.entry.Entry.{Entry}
@@ -49,6 +49,11 @@ abbrev pub closing_of : Phase → Option Closing
 closing_of phase.Before = None
 closing_of (phase.Open o) = None
 closing_of (phase.Ended closing) = Some closing
+
+abbrev pub is_open : Phase → Bool
+is_open phase.Before = false
+is_open (phase.Open o) = true
+is_open (phase.Ended closing) = false
 
 abbrev pub step_of : Phase → Step
 step_of phase.Before = Go

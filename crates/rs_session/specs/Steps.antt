@@ -1,5 +1,5 @@
 -- What the methods of a session lead to, apart from the packet that they serve.
-use Rattle.std.specs.Prelude.{◌≡◌, ℕ, ◌<◌, ◌≤◌, ◌⊎◌, List, Bool, true, false, length, Option, Some, None, Result, Ok, Err}
+use Rattle.std.specs.Prelude.{◌≡◌, ℕ, ◌<◌, ◌≤◌, ◌⊎◌, List, [], ◌∷◌, Bool, true, false, length, Option, Some, None, Result, Ok, Err}
 use Rattle.rs_topic.specs.declared.text.TopicFault.{TopicFault}
 use Rattle.rs_topic.specs.declared.text.TopicFault.TheVariants as topic_fault
 use Rattle.rs_packet.specs.declared.packet.Publish.{Publish}
@@ -10,7 +10,7 @@ use Rattle.rs_message.specs.declared.entry.Operation.{Operation}
 use Rattle.rs_message.specs.declared.fault.SubmitFault.{SubmitFault}
 use Rattle.rs_message.specs.declared.fault.SubmitFault.TheVariants.{Full, NoMemory, Strange, Closed}
 use Rattle.rs_message.specs.declared.fault.SubmitFault.TheVariants as submit_fault
-use Rattle.rs_session.specs.Gate.{IsSubmitted}
+use Rattle.rs_session.specs.Gate.{IsSubmitted, Mark}
 use Rattle.rs_session.specs.Points.{Point}
 use Rattle.rs_session.specs.Reasons.{code_of}
 use Rattle.rs_session.specs.declared.reason.ReasonCode.{ReasonCode}
@@ -19,7 +19,7 @@ use Rattle.rs_session.specs.State.{State, opened, ended}
 use Rattle.rs_session.specs.Table.{acknowledged_by, held_id, held_with, is_held, is_one_too_many, topic_reason}
 use Rattle.rs_session.specs.declared.open.Open.{Open}
 use Rattle.rs_session.specs.declared.open.Outcome.{Outcome}
-use Rattle.rs_session.specs.declared.open.Outcome.TheVariants.{Replies, Closes}
+use Rattle.rs_session.specs.declared.open.Outcome.TheVariants.{Replies, Closes, Leaves}
 use Rattle.rs_session.specs.declared.phase.Closing.TheVariants.{ByServer}
 
 -- the code of a CONNECT with an Authentication Method, or else with a will
@@ -82,3 +82,22 @@ IsConcluded operation qos id from outcome to =
     ⊎ (((outcome ≡ Replies (acknowledged_by qos id QuotaExceeded)) × (to.state ≡ from.state))
     ⊎ (((outcome ≡ Closes QuotaExceeded) × (to.state ≡ from.state))
     ⊎ ((outcome ≡ Closes ImplementationSpecificError) × (to.state ≡ from.state))))
+
+-- what no memory for the change of a PUBLISH leads to; if changes were sent ahead, it may be one of them, and may become an entry
+abbrev pub outcome_unmade : Bool → Qos → Option ℕ → Outcome
+outcome_unmade true qos id = Closes QuotaExceeded
+outcome_unmade false qos id = Replies (acknowledged_by qos id QuotaExceeded)
+
+-- an outcome that ends the session
+abbrev pub IsLast : Outcome → Type 0
+IsLast (Replies r) = ⊥
+IsLast (Closes code) = Unit {0}
+IsLast Leaves = Unit {0}
+
+-- nothing was sent, and the session ends
+abbrev pub IsUnsent : Mark → Mark → Outcome → Type 0
+IsUnsent old new outcome = (new ≡ old) × IsLast outcome
+
+-- of the changes that were expected, none is left; or this was the first, and the rest is left; or all are
+abbrev pub TakesAheadBy : Operation → Mark → Mark → Outcome → List Operation → List Operation → Type 0
+TakesAheadBy operation old_mark new_mark outcome old new = (new ≡ []) ⊎ ((old ≡ operation ∷ new) ⊎ ((new ≡ old) × IsUnsent old_mark new_mark outcome))

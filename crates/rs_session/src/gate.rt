@@ -1,15 +1,22 @@
 //! The store as a session sees it.
 
-ghost use Rattle.std.specs.Prelude.{◌≡◌, false, List, IfOk};
+ghost use Rattle.std.specs.Prelude.{◌≡◌, ◌⊎◌, [], false, List, IfOk};
+ghost use Rattle.std.specs.List.{All};
 ghost use Rattle.std.specs.Option.{option_map};
 ghost use Rattle.rs_message.specs.Messages.{is_sweep};
 ghost use Rattle.rs_message.specs.declared.entry.Entry.{Entry};
 ghost use Rattle.rs_store.specs.History.{IsAnswer, IsAnswerWithin};
-ghost use Rattle.rs_session.specs.Gate.{Mark, Grows, SendsAtMost, Submits, Uses, entry_by};
+ghost use Rattle.rs_message.specs.declared.entry.Operation.{Operation};
+ghost use Rattle.rs_session.specs.Gate.{Mark, Grows, SendsAtMost, Submits, TakesAhead, Uses, entry_by};
 
 use rs_message::{Found, Operation, SubmitFault};
 use rs_topic::TopicFilter;
 use std::alloc::AllocError;
+
+/// The most changes that a gate is told to expect at once (this server's choice).
+pub const MAX_CHANGES: usize = 64;
+
+const _: () = prove!(MAX_CHANGES == 64);
 
 /// A session's way to the store, seen by the lists of entries that it may stand for. After a call, for each list
 /// that it stood for before, it stands for one that begins with it: what a session saw or was told stays.
@@ -20,14 +27,35 @@ pub trait Gate {
     /// Its place, the last serial that it used, and the entries that it sent to the store, if they are known.
     ghost mark: { Self → Mark };
 
+    /// The changes that it was told to expect and that were not submitted since, in their order. Some of them, or all, may
+    /// have been sent to the store.
+    ghost ahead: { Self → List Operation } = { λ _. [] };
+
+    /// Says which changes come next, in this order. Each is still handed over by a `submit` of its own, unless the session ends
+    /// before. A gate may send them to the store together with the first. By default it does nothing.
+    fn expect(&mut self, changes: Vec<Operation>)
+        requires { All (λ operation. is_sweep operation ≡ false) changes.items }
+        ensures list { Grows (stands self.old) (stands self.new) (λ seen list. list ≡ seen) }
+        ensures mark { mark self.new ≡ mark self.old }
+        ensures ahead { (ahead self.new ≡ changes.items) ⊎ (ahead self.new ≡ []) ⊎ (ahead self.new ≡ ahead self.old) }
+    {
+        let _changes = changes;
+    }
+
+    /// Whether a change that was expected and not submitted may have been sent.
+    fn is_ahead(&self) -> bool
+        ensures { result ≡ false → ahead self.now ≡ [] };
+
     /// Hands a Set or a Clear to the store. At `Ok` the list has it as an entry of its own. The faults say what stands
     /// otherwise; the list may have grown by entries of others. Whatever is answered, no other change than this one
-    /// becomes an entry under the serial that the gate used last, and nothing but this change is sent, at most once.
+    /// becomes an entry under the serial that the gate used last, and nothing but this change is sent, at most once. If changes
+    /// were expected, this was the first of them, or nothing is expected any more, or it is refused and nothing was used.
     fn submit(&mut self, operation: Operation) -> Result<(), SubmitFault>
         requires { is_sweep operation ≡ false }
         ensures list { Grows (stands self.old) (stands self.new) (Submits operation (mark self.old) (mark self.new) result) }
         ensures mark { Uses (mark self.old) (mark self.new) }
-        ensures sent { SendsAtMost (mark self.old).sent (entry_by operation (mark self.new)) (mark self.new).sent };
+        ensures sent { SendsAtMost (mark self.old).sent (entry_by operation (mark self.new)) (mark self.new).sent }
+        ensures ahead { TakesAhead operation (mark self.old) (mark self.new) result (ahead self.old) (ahead self.new) };
 
     /// The retained messages that a filter matches and that have not expired at this time, in the
     /// order of replay. `now` is in seconds. `AllocError` if memory was refused; the list may have grown
@@ -35,7 +63,8 @@ pub trait Gate {
     fn answer(&mut self, filter: &TopicFilter, now: u64) -> Result<Vec<Found>, AllocError>
         ensures list { Grows (stands self.old) (stands self.new)
             (λ seen list. IfOk result (λ found. IsAnswer list filter.now now found.items)) }
-        ensures mark { mark self.new ≡ mark self.old };
+        ensures mark { mark self.new ≡ mark self.old }
+        ensures ahead { ahead self.new ≡ ahead self.old };
 
     /// The same answer if it has at most `room` messages, else `None`. A gate gives up at the first message beyond the room,
     /// so that an answer that nobody can take costs little.
@@ -47,5 +76,6 @@ pub trait Gate {
     ) -> Result<Option<Vec<Found>>, AllocError>
         ensures list { Grows (stands self.old) (stands self.new)
             (λ seen list. IfOk result (λ answer. IsAnswerWithin room list filter.now now (option_map (λ found. found.items) answer))) }
-        ensures mark { mark self.new ≡ mark self.old };
+        ensures mark { mark self.new ≡ mark self.old }
+        ensures ahead { ahead self.new ≡ ahead self.old };
 }

@@ -51,6 +51,11 @@ impl<C: Catalogue> Gate for LocalGate<C> {
 
     ghost mark = { λ gate. local_mark (C.content (catalogue_of gate)) };
 
+    /// It sends nothing ahead.
+    fn is_ahead(&self) -> bool {
+        false
+    }
+
     /// `Full` if no serial is left or the store has no room, `NoMemory` if memory is refused. A Set for which a Sweep makes room is
     /// preceded by that Sweep. Refused, the store is as before, but that this Sweep may stay if memory is refused.
     fn submit(&mut self, operation: Operation) -> Result<(), SubmitFault>

@@ -9,6 +9,8 @@ ghost use Rattle.std.specs.Prelude.{◌≡◌, ℕ, List};
 ghost use Rattle.rs_message.specs.declared.entry.Entry.{Entry};
 ghost use Rattle.rs_session.specs.Gate.{GrowsAnswering};
 ghost use Rattle.rs_session.specs.Points.{given_at, point_at};
+ghost use Rattle.rs_session.specs.Ahead.{LeavesAhead};
+ghost use Rattle.rs_session.specs.Steps.{IsUnsent};
 ghost use Rattle.rs_session.specs.Table.{LeadsTo, open_for};
 
 use crate::gate::Gate;
@@ -50,8 +52,9 @@ impl Open {
         packet: Packet,
         now: u64,
     ) -> Outcome
-        ensures { GrowsAnswering G.stands G.mark gate.old gate.new (λ seen answered list.
+        ensures row { GrowsAnswering G.stands G.mark gate.old gate.new (λ seen answered list.
             LeadsTo (given_at (Input.Whole packet) now) (point_at self.old seen (G.mark gate.old)) answered result (point_at self.new list (G.mark gate.new))) }
+        ensures ahead { LeavesAhead (given_at (Input.Whole packet) now) (G.ahead gate.old) (G.ahead gate.new) (IsUnsent (G.mark gate.old) (G.mark gate.new) result) }
     {
         match packet {
             Packet::Connect(_c) => Outcome::Closes(ReasonCode::ProtocolError),

@@ -2,14 +2,17 @@
 
 mod connect;
 
-ghost use Rattle.std.specs.Prelude.{◌≡◌, ◌<◌, ℕ, List, Some, None, IfSome, length};
+ghost use Rattle.std.specs.Prelude.{◌≡◌, ◌<◌, ◌⊎◌, ℕ, List, [], false, Some, None, IfSome, length};
+ghost use Rattle.std.specs.List.{All};
 ghost use Rattle.rs_message.specs.declared.entry.Entry.{Entry};
 ghost use Rattle.rs_packet.specs.declared.packet.Packet.{Packet};
 ghost use Rattle.rs_packet.specs.declared.reply.Reply.{Reply};
-ghost use Rattle.rs_session.specs.Gate.{GrowsAnswering};
+ghost use Rattle.rs_message.specs.Messages.{is_sweep};
+ghost use Rattle.rs_session.specs.Ahead.{LeavesAhead};
+ghost use Rattle.rs_session.specs.Gate.{Grows, GrowsAnswering};
 ghost use Rattle.rs_session.specs.Points.{given_at};
 ghost use Rattle.rs_session.specs.Run.{replies_left};
-ghost use Rattle.rs_session.specs.State.{session_at, state_of, due_of, gate_of, closing_of, step_of, fresh, ended, waiting_of, within, IsGiven, IsReplayed};
+ghost use Rattle.rs_session.specs.State.{session_at, state_of, due_of, gate_of, closing_of, is_open, step_of, fresh, ended, waiting_of, within, IsGiven, IsReplayed};
 ghost use Rattle.rs_session.specs.declared.open.Open.{Open};
 ghost use Rattle.rs_session.specs.Table.{Answers, due_for, fault_reason, state_after};
 
@@ -17,6 +20,7 @@ use crate::gate::Gate;
 use crate::open::Outcome;
 use crate::phase::{Closing, Input, Phase, Step};
 use crate::reason::ReasonCode;
+use rs_message::Operation;
 use rs_packet::{Packet, PacketFault, Reply, encoded_len};
 use rs_topic::Text;
 use std::alloc::Global;
@@ -56,6 +60,8 @@ impl<G: Gate> Session<G> {
             Answers (given_at (Input.Whole packet) now) (session_at G.mark self.old seen) answered (due_of self.new) (session_at G.mark self.new list)) }
         ensures step { result ≡ step_of (state_of self.new).phase }
         ensures over { (closing : Closing) → (state_of self.old).phase ≡ Phase.Ended closing → self.new ≡ self.old }
+        ensures ahead { LeavesAhead (given_at (Input.Whole packet) now) (G.ahead (gate_of self.old)) (G.ahead (gate_of self.new))
+            ((G.mark (gate_of self.new) ≡ G.mark (gate_of self.old)) × (step_of (state_of self.new).phase ≡ Step.End)) }
     {
         match &mut self.phase {
             Phase::Before => self.first_packet(packet),
@@ -78,6 +84,7 @@ impl<G: Gate> Session<G> {
             Answers (given_at (Input.Broken fault) now) (session_at G.mark self.old seen) answered (due_of self.new) (session_at G.mark self.new list)) }
         ensures step { result ≡ step_of (state_of self.new).phase }
         ensures over { (closing : Closing) → (state_of self.old).phase ≡ Phase.Ended closing → self.new ≡ self.old }
+        ensures ahead { G.ahead (gate_of self.new) ≡ G.ahead (gate_of self.old) }
     {
         match &self.phase {
             Phase::Before => self.first_fault(fault),
@@ -90,13 +97,16 @@ impl<G: Gate> Session<G> {
         self.step()
     }
 
-    /// Handles a packet, or a fault in its place, as `on_packet` or `on_fault` does.
+    /// Handles a packet, or a fault in its place, as `on_packet` or `on_fault` does. If changes were expected and this has the first of
+    /// them, the rest is expected then, or nothing is, or nothing was sent and the session has ended.
     pub fn on_input(&mut self, input: Input, now: u64) -> Step
         requires { due_of self.old ≡ None }
         ensures row { GrowsAnswering G.stands G.mark (gate_of self.old) (gate_of self.new) (λ seen answered list.
             Answers (given_at input now) (session_at G.mark self.old seen) answered (due_of self.new) (session_at G.mark self.new list)) }
         ensures step { result ≡ step_of (state_of self.new).phase }
         ensures over { (closing : Closing) → (state_of self.old).phase ≡ Phase.Ended closing → self.new ≡ self.old }
+        ensures ahead { LeavesAhead (given_at input now) (G.ahead (gate_of self.old)) (G.ahead (gate_of self.new))
+            ((G.mark (gate_of self.new) ≡ G.mark (gate_of self.old)) × (step_of (state_of self.new).phase ≡ Step.End)) }
     {
         match input {
             Input::Whole(packet) => self.on_packet(packet, now),
@@ -115,6 +125,32 @@ impl<G: Gate> Session<G> {
         match self.due.take() {
             Some(reply) => Some(reply),
             None => next_waiting(&mut self.phase, now),
+        }
+    }
+
+    /// Tells the gate which changes come next ([`Gate::expect`]), if the session is open: those of the inputs that it will be given, in
+    /// their order. None is a Sweep.
+    pub fn expect(&mut self, changes: Vec<Operation>)
+        requires { All (λ operation. is_sweep operation ≡ false) changes.items }
+        ensures state { state_of self.new ≡ state_of self.old }
+        ensures due { due_of self.new ≡ due_of self.old }
+        ensures list { Grows (G.stands (gate_of self.old)) (G.stands (gate_of self.new)) (λ seen list. list ≡ seen) }
+        ensures mark { G.mark (gate_of self.new) ≡ G.mark (gate_of self.old) }
+        ensures ahead { (G.ahead (gate_of self.new) ≡ changes.items) ⊎ (G.ahead (gate_of self.new) ≡ [])
+            ⊎ (G.ahead (gate_of self.new) ≡ G.ahead (gate_of self.old)) }
+    {
+        if self.is_open() {
+            self.gate.expect(changes);
+        }
+    }
+
+    /// Whether it accepted a CONNECT and has not ended.
+    pub fn is_open(&self) -> bool
+        ensures { result ≡ is_open (state_of self.now).phase }
+    {
+        match self.phase {
+            Phase::Open(_) => true,
+            _ => false,
         }
     }
 

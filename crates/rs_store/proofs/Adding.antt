@@ -9,9 +9,9 @@ use Rattle.std.specs.declared.cmp.Ordering.{Ordering}
 use Rattle.std.specs.declared.cmp.Ordering.TheVariants.{Less, Equal, Greater}
 use Rattle.std.proofs.lemmas.List.{get_or-set_same, get_or-set_other}
 use Rattle.rs_topic.specs.Order.{topic_cmp}
+use Rattle.rs_message.specs.Messages.{set_of}
 use Rattle.rs_message.specs.Values.{MessageValue}
 use Rattle.rs_message.specs.declared.entry.Entry.{Entry}
-use Rattle.rs_message.specs.declared.entry.Operation.TheVariants.{Set}
 use Rattle.rs_message.specs.declared.entry.TheConstants.{MAX_PLACES}
 use Rattle.rs_store.specs.Contents.{Accepts, HasRoom, IsAdded, IsNew, IsNotNext, NeedsSweep, NotAddedBy, after, expired_in, followed, is_gone, next_sweep, serial_count, stays, swept}
 use Rattle.rs_store.specs.History.{IsLegal, MayNotCome, NeedsSweepAfter, Stands, cleaned, extended, sweep_after}
@@ -20,7 +20,7 @@ use Rattle.rs_store.specs.declared.content.Content.{Content}
 use Rattle.rs_store.specs.declared.fault.Refusal.{Refusal}
 use Rattle.rs_store.specs.declared.fault.Refusal.TheVariants.{Full, Stale, NoMemory}
 use Rattle.rs_store.proofs.Maps.{filter_few}
-use Rattle.rs_store.proofs.Histories.{holds_few, legal_front, never_overfull_more}
+use Rattle.rs_store.proofs.Histories.{holds_few, legal_front, never_overfull_more, same_set}
 use Rattle.rs_store.proofs.Standing.{accepts, at_most, has_room, held_more, keeps_at_most, legal_more, new_rises, rising_is_new, stands_more}
 use Rattle.std.proofs.lemmas.Bool.{cases_lt}
 use Rattle.std.proofs.lemmas.Bool.Decides.{nat_tests}
@@ -45,16 +45,16 @@ all_stay moment (e ∷ es) none = at (is_gone moment e) refl (all_stay moment es
     at false is more = let n : length (filter (is_gone moment) es) ≡ 0 = rw is at none in rw is (ap (λ w. e ∷ w) (more n))
 
 -- without an expired message no Sweep makes room
-pub not_without : (c : Content) (e : Entry) (topic : List ℕ) (message : MessageValue) → e.operation ≡ Set topic message → expired_in message.received c ≡ 0 → NeedsSweep c e → ⊥
+pub not_without : (c : Content) (e : Entry) (topic : List ℕ) (message : MessageValue) → e.operation ≡ set_of topic message → expired_in message.received c ≡ 0 → NeedsSweep c e → ⊥
 not_without c e topic message is none s =
-    let same : Set s.topic s.message ≡ Set topic message = sym s.sets ∙ is in
-    let one : s.message ≡ message = cc (same) in
+    let same : set_of s.topic s.message ≡ set_of topic message = sym s.sets ∙ is in
+    let one : s.message ≡ message = (same_set s.topic topic s.message message same).1 in
     let stay : filter (stays s.message.received) c.held ≡ c.held = all_stay s.message.received c.held (rw one none) in
     let room : length (after (filter (stays s.message.received) c.held) e.operation) ≤ c.limit = s.fits.1.0 in
     omega (arith, s.full, rw stay at room)
 
 -- with one, a Sweep makes room
-room_made : (c : Content) (e : Entry) (topic : List ℕ) (message : MessageValue) → length c.serials ≡ serial_count → e.operation ≡ Set topic message → IsNew c e → ¬ HasRoom c e → length c.held ≤ c.limit → 0 < expired_in message.received c
+room_made : (c : Content) (e : Entry) (topic : List ℕ) (message : MessageValue) → length c.serials ≡ serial_count → e.operation ≡ set_of topic message → IsNew c e → ¬ HasRoom c e → length c.held ≤ c.limit → 0 < expired_in message.received c
     → c.version + 2 < 2 ^ 64 → slice_index c.serials 0 + 1 < 2 ^ 64 → (e.origin.place ≡ 0 → slice_index c.serials 0 + 1 < e.origin.serial) → NeedsSweep c e
 room_made c e topic message wide is new full few some version serial above = record {
   topic = topic;
@@ -79,7 +79,7 @@ room_made c e topic message wide is new full few some version serial above = rec
         let other : e.origin.place ≢ 0 = λ p. grind (arith, nat_tests) in
         rw (get_or-set_other c.serials 0 e.origin.place (slice_index c.serials 0 + 1) 0 other) new
 
-pub makes_room : (c : Content) (e : Entry) (topic : List ℕ) (message : MessageValue) → length c.serials ≡ serial_count → e.operation ≡ Set topic message → IsNew c e → ¬ HasRoom c e → length c.held ≤ c.limit → 0 < expired_in message.received c
+pub makes_room : (c : Content) (e : Entry) (topic : List ℕ) (message : MessageValue) → length c.serials ≡ serial_count → e.operation ≡ set_of topic message → IsNew c e → ¬ HasRoom c e → length c.held ≤ c.limit → 0 < expired_in message.received c
     → c.version + 2 < 2 ^ 64 → slice_index c.serials 0 + 1 < 2 ^ 64 → (e.origin.place ≡ 0 → slice_index c.serials 0 + 1 < e.origin.serial) → (s : NeedsSweep c e) × (s.message ≡ message)
 unfolding room_made
 makes_room c e topic message wide is new full few some version serial above = (room_made c e topic message wide is new full few some version serial above, refl)

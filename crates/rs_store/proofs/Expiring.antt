@@ -10,9 +10,9 @@ use Rattle.std.proofs.lemmas.Bool.{cases_lt}
 use Rattle.std.proofs.lemmas.Bool.Decides.{nat_tests}
 use Rattle.rs_topic.specs.Order.{topic_cmp}
 use Rattle.rs_message.specs.Values.{MessageValue}
-use Rattle.rs_message.specs.Messages.{is_over, left_of}
+use Rattle.rs_message.specs.Messages.{is_over, left_of, set_of}
 use Rattle.rs_message.specs.declared.entry.Entry.{Entry}
-use Rattle.rs_message.specs.declared.entry.Operation.TheVariants.{Set, Clear, Sweep}
+use Rattle.rs_message.specs.declared.entry.Operation.TheVariants.{Clear, Sweep}
 use Rattle.rs_store.specs.Contents.{followed, is_gone, stays}
 use Rattle.rs_store.specs.Expiring.{NoneExpiredBefore, ends_at, ends_of, first_end}
 use Rattle.rs_store.specs.declared.content.Content.{Content}
@@ -131,7 +131,7 @@ none_swept now test (e ∷ es) none = at (test e) refl (split now e es none) (no
     at false is both more = rw is more
 
 -- the moment is lowered to the end of a message that is set
-pub calm_after_set : (x y : ℕ) (topic : List ℕ) (m : MessageValue) (e : Entry) → y ≡ min x (ends_at m) → e.operation ≡ Set topic m → (c : Content) → NoneExpiredBefore x c → NoneExpiredBefore y (followed c e)
+pub calm_after_set : (x y : ℕ) (topic : List ℕ) (m : MessageValue) (e : Entry) → y ≡ min x (ends_at m) → e.operation ≡ set_of topic m → (c : Content) → NoneExpiredBefore x c → NoneExpiredBefore y (followed c e)
 calm_after_set x y topic m e is sets c calm now small = rw sets (none_set now topic m c.held (fresh m.expiry m.received now y (omega (arith, is)) small) (calm now (omega (arith, is, small))))
 
 pub calm_after_clear : (x : ℕ) (topic : List ℕ) (e : Entry) → e.operation ≡ Clear topic → (c : Content) → NoneExpiredBefore x c → NoneExpiredBefore x (followed c e)

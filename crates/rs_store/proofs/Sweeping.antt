@@ -3,11 +3,11 @@ use Rattle.std.proofs.Common.{◌≡◌, ℕ, ◌≤◌, ⊎_elim, Bool, true, f
 use Rattle.std.specs.Prelude.{◌↔◌, nat_le}
 use Rattle.std.proofs.lemmas.Bool.Decides.{nat_tests}
 use Rattle.rs_message.specs.Values.{MessageValue}
-use Rattle.rs_message.specs.Messages.{is_expired, is_over, left_of, waited}
+use Rattle.rs_message.specs.Messages.{is_expired, is_over, left_of, waited, set_of}
 use Rattle.rs_message.specs.declared.entry.Entry.{Entry}
 use Rattle.rs_message.specs.declared.entry.Found.{Found}
 use Rattle.rs_message.specs.declared.entry.Operation.{Operation}
-use Rattle.rs_message.specs.declared.entry.Operation.TheVariants.{Set, Sweep}
+use Rattle.rs_message.specs.declared.entry.Operation.TheVariants.{Sweep}
 use Rattle.rs_store.specs.History.{Ends, Holds, IsAnswer, extended}
 use Rattle.rs_store.proofs.Histories.{held_before, held_still}
 
@@ -26,7 +26,7 @@ expired_later m moment now h over = over_later m.expiry (waited m moment) (waite
 
 holds_before : (history : List Entry) (e : Entry) (moment : ℕ) (topic : List ℕ) (message : MessageValue) → e.operation ≡ Sweep moment → Holds (extended history e) topic message → Holds history topic message
 holds_before history e moment topic message is h = ⊎_elim
-    (λ t. absurd (let same : Sweep moment ≡ Set topic message = sym is ∙ t in cc (same)))
+    (λ t. absurd (let same : Sweep moment ≡ set_of topic message = sym is ∙ t in cc (same)))
     (λ t. t.0)
     (held_before history e topic message h)
 

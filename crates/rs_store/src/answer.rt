@@ -4,8 +4,7 @@ ghost use Rattle.std.specs.Prelude.{◌≡◌, ◌≤◌, ◌++◌, ◌∷◌, [
 ghost use Rattle.rs_store.specs.Room.{IsStop};
 ghost use Rattle.rs_store.specs.declared.answer.Stop.TheVariants.{NoMemory};
 
-use rs_message::{Found, Message};
-use rs_topic::TopicName;
+use rs_message::Found;
 use std::alloc::{AllocError, Global};
 
 /// Why an answer was abandoned.
@@ -44,20 +43,16 @@ impl Answer {
         }
     }
 
-    /// Appends a copy of a message, which shares the bytes.
-    pub fn push(&mut self, topic: &TopicName, message: &Message) -> Result<(), Stop>
-        ensures done { OnOk result (self.new.found.items ≡ self.old.found.items ++ record { topic = topic.now; message = message.now } ∷ []) }
-        ensures stop { IfErr result (λ stop. IsStop stop self.old.room (self.old.found.items ++ record { topic = topic.now; message = message.now } ∷ [])) }
+    /// Appends one more owner of a topic and its message.
+    pub fn push(&mut self, found: &Found) -> Result<(), Stop>
+        ensures done { OnOk result (self.new.found.items ≡ self.old.found.items ++ found.now ∷ []) }
+        ensures stop { IfErr result (λ stop. IsStop stop self.old.room (self.old.found.items ++ found.now ∷ [])) }
         ensures room { self.new.room ≡ self.old.room }
     {
         if self.found.len() == self.room {
             return Err(Stop::Full);
         }
-        let found = Found {
-            topic: topic.copy()?,
-            message: message.copy()?,
-        };
-        match self.found.push(found) {
+        match self.found.push(found.copy()?) {
             Ok(()) => Ok(()),
             Err(_) => Err(Stop::NoMemory),
         }

@@ -34,7 +34,7 @@ fn lowered_by(until: u64, operation: &Operation) -> u64
     ensures { (c : Content) (e : Entry) → e.operation ≡ operation.now → NoneExpiredBefore until c → NoneExpiredBefore result (followed c e) }
 {
     match operation {
-        Operation::Set(_, message) => lowered(until, message),
+        Operation::Set(found) => lowered(until, found.message()),
         Operation::Clear(_) => until,
         Operation::Sweep(_) => until,
     }

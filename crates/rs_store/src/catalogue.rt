@@ -90,10 +90,10 @@ fn sweep_for<C: Catalogue>(catalogue: &C, calm: &mut Calm, entry: &Entry) -> Opt
     ensures none { IfNone result (¬ NeedsSweep (C.content catalogue.now) entry.now) }
     ensures calm { NoneExpiredBefore calm.new (C.content catalogue.now) }
 {
-    let Operation::Set(_, message) = &entry.operation else {
+    let Operation::Set(found) = &entry.operation else {
         return None;
     };
-    let moment = message.received();
+    let moment = found.message().received();
     // For the proof: this call says that no more topics than the limit hold a message.
     let _count = catalogue.count();
     if catalogue.version() >= u64::MAX - 1 {

@@ -18,10 +18,12 @@ mod limit;
 mod map;
 mod store;
 
+pub use answer::{Answer, Stop};
 pub use calm::Calm;
 pub use catalogue::{Catalogue, add, judge};
 pub use content::Content;
 pub use fault::Refusal;
+pub use found::{is_expired, lowered};
 pub use law::{content_law, sweep_law};
 pub use limit::{MAX_TOPICS, TopicLimit};
 pub use map::MapCatalogue;

@@ -2,8 +2,10 @@
 
 ghost use Rattle.std.specs.Prelude.{◌≡◌, ◌-◌, ◌^◌, ◌≤◌, ◌++◌, nat_le, length, map, slice_index, slice_set, IfErr, IfOk, OnOk, OnErr};
 ghost use Rattle.std.specs.Option.{option_map};
+ghost use Rattle.std.specs.BTreeMap.{insert_entry};
 ghost use Rattle.std.specs.List.{filter as filter_list};
 ghost use Rattle.rs_topic.specs.Matching.{matches};
+ghost use Rattle.rs_topic.specs.Order.{topic_cmp};
 ghost use Rattle.rs_store.specs.Contents.{after, found_of, if_fits, is_answered, is_gone, stays};
 ghost use Rattle.rs_store.specs.Expiring.{first_end};
 ghost use Rattle.rs_store.specs.Room.{IsStop};
@@ -42,16 +44,28 @@ fn sweep(held: &mut BTreeMap<TopicName, Message>, moment: u64)
     held.retain(|_, message| !is_expired(message, moment));
 }
 
+/// Sets the message of a topic. If memory is refused, nothing changes.
+fn set(
+    held: &mut BTreeMap<TopicName, Message>,
+    topic: TopicName,
+    message: Message,
+) -> Result<(), AllocError>
+    ensures done { OnOk result (held.new.entries ≡ insert_entry topic_cmp held.old.entries topic message) }
+    ensures refused { OnErr result (held.new.entries ≡ held.old.entries) }
+{
+    match held.insert(topic, message) {
+        Ok(_) => Ok(()),
+        Err(_) => Err(AllocError),
+    }
+}
+
 /// Sets or clears one topic, or removes what is expired. If memory is refused, nothing changes.
 fn change(held: &mut BTreeMap<TopicName, Message>, operation: Operation) -> Result<(), AllocError>
     ensures done { OnOk result (held.new.entries ≡ after held.old.entries operation) }
     ensures refused { OnErr result (held.new.entries ≡ held.old.entries) }
 {
     match operation {
-        Operation::Set(topic, message) => match held.insert(topic, message) {
-            Ok(_) => Ok(()),
-            Err(_) => Err(AllocError),
-        },
+        Operation::Set(found) => set(held, found.topic().copy()?, found.message().copy()?),
         Operation::Clear(topic) => {
             held.remove(&topic);
             Ok(())
@@ -70,8 +84,8 @@ fn has_room(held: &BTreeMap<TopicName, Message>, limit: TopicLimit, operation: &
     ensures { result ≡ nat_le (length (after held.now.entries operation.now)) limit }
 {
     match operation {
-        Operation::Set(topic, _) => {
-            held.len() < limit.get() as usize || held.contains_key(topic)
+        Operation::Set(found) => {
+            held.len() < limit.get() as usize || held.contains_key(found.topic())
         }
         Operation::Clear(_) => true,
         Operation::Sweep(_) => true,
@@ -109,8 +123,9 @@ fn does_match(filter: &TopicFilter, topic: &TopicName) -> bool
     filter.matches(topic)
 }
 
-/// Appends copies of the messages that answer the filter.
+/// Appends the messages that answer the filter, each in a block of its own, which shares the bytes.
 fn answer_all(
+    alloc: Global,
     held: &BTreeMap<TopicName, Message>,
     filter: &TopicFilter,
     now: u64,
@@ -122,7 +137,8 @@ fn answer_all(
 {
     for (topic, message) in held {
         if does_match(filter, topic) && !is_expired(message, now) {
-            answer.push(topic, message)?;
+            let found = Found::new(alloc, topic.copy()?, message.copy()?)?;
+            answer.push(&found)?;
         }
     }
     Ok(())
@@ -139,7 +155,7 @@ fn answers(
     ensures { IfOk result (λ answer. option_map (λ found. found.items) answer ≡ if_fits room (map found_of (filter_list (is_answered filter.now now) held.now.entries))) }
 {
     let mut answer = Answer::new(alloc, room);
-    match answer_all(held, filter, now, &mut answer) {
+    match answer_all(alloc, held, filter, now, &mut answer) {
         Ok(()) => Ok(Some(answer.into_found())),
         Err(Stop::Full) => Ok(None),
         Err(Stop::NoMemory) => Err(AllocError),
@@ -155,7 +171,7 @@ fn copy_of(
 {
     let mut copy = BTreeMap::new(alloc);
     for (topic, message) in held {
-        change(&mut copy, Operation::Set(topic.copy()?, message.copy()?))?;
+        set(&mut copy, topic.copy()?, message.copy()?)?;
     }
     Ok(copy)
 }

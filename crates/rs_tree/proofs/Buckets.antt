@@ -20,7 +20,7 @@ use Rattle.rs_tree.specs.Buckets.{IsGap, IsHere, IsPast, spots_in}
 use Rattle.rs_tree.specs.Chains.{behind, under_all}
 use Rattle.rs_tree.specs.Chosen.{chosen}
 use Rattle.rs_tree.specs.Room.{IsStop}
-use Rattle.rs_tree.specs.declared.answer.Stop.{Stop}
+use Rattle.rs_store.specs.declared.answer.Stop.{Stop}
 use Rattle.rs_topic.specs.Rests.{levels_from}
 use Rattle.rs_tree.specs.Spots.{is_nothing, is_there, spot_of, under}
 use Rattle.rs_store.proofs.Entries.{sorted_cons, sorted_none, sorted_insert, sorted_remove}
@@ -240,6 +240,16 @@ module _ (at i : ℕ) (t : List ℕ) (ls items : List Leaf) (same : ls ≡ items
 
   pub new_is : (f : Found) (mid new : List Leaf) → t ≡ f.topic → mid ≡ items → new ≡ insert mid i (record { found = f; at = at }) → IsGap (levels_from at t) ls i → spots_in new ≡ insert_entry path_cmp (spots_in items) (levels_from at f.topic) f
   new_is f mid new topic kept put gap = let P : List ℕ → Type 0 = λ u. IsGap (levels_from at u) ls i in rw (put, kept, ← same) (set_gap f at ls i (subst P topic gap))
+
+-- ---- one message alone
+
+pub put_one : (q p : Path) (f g : Found) → is_there q ((p, g) ∷ []) ≡ true → insert_entry path_cmp ((p, g) ∷ []) q f ≡ (q, f) ∷ []
+put_one q p f g there = at (path_cmp q p) refl
+  where
+    at : (o : Ordering) → path_cmp q p ≡ o → insert_entry path_cmp ((p, g) ∷ []) q f ≡ (q, f) ∷ []
+    at Less is = absurd (cc (rw is at there))
+    at Equal is = rw is (ap (λ (r : Path). (r, f) ∷ []) (sym (exact_paths q p is)))
+    at Greater is = absurd (cc (rw is at there))
 
 -- ---- one step of a loop over the leaves, as the goals say it
 

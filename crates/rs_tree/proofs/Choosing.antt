@@ -24,8 +24,8 @@ use Rattle.rs_tree.specs.Nodes.{spots_of, stem_spots}
 use Rattle.rs_tree.specs.Room.{IsStop}
 use Rattle.rs_tree.specs.Rows.{IsBehind, IsFrom, IsGap, IsIn, IsRow, Takes, parts}
 use Rattle.rs_tree.specs.Values.{BranchValue, ChildValue}
-use Rattle.rs_tree.specs.declared.answer.Answer.{Answer}
-use Rattle.rs_tree.specs.declared.answer.Stop.{Stop}
+use Rattle.rs_store.specs.declared.answer.Answer.{Answer}
+use Rattle.rs_store.specs.declared.answer.Stop.{Stop}
 use Rattle.rs_tree.proofs.Rows.{Ahead, gap_front, gap_rear, in_front, in_rear, parts_at, split_at, split_gap}
 use Rattle.rs_tree.proofs.Under.{Held, Path}
 use Rattle.rs_tree.proofs.Stopping.{stop_at, stop_more}

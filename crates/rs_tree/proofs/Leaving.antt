@@ -1,5 +1,5 @@
 -- What a Sweep leaves of a branch, child by child.
-use Rattle.std.proofs.Common.{◌≡◌, ◌≢◌, ℕ, zero, suc, ◌+◌, ◌-◌, ◌^◌, ◌<◌, ◌≤◌, ◌==◌, Bool, true, false, cond, List, [], ◌∷◌, ◌++◌, length, get_or, take, drop, refl, sym, ap, subst, ◌∙◌, arith, append_assoc, Option, Some, None, is_some}
+use Rattle.std.proofs.Common.{◌≡◌, ◌≢◌, ℕ, zero, suc, ◌+◌, ◌-◌, ◌^◌, ◌<◌, ◌≤◌, ◌==◌, Bool, true, false, cond, if◌then◌else◌, List, [], ◌∷◌, ◌++◌, length, get_or, take, drop, refl, sym, ap, subst, ◌∙◌, arith, append_assoc, Option, Some, None, is_some}
 use Rattle.std.proofs.lemmas.List.{append-nil, take_more}
 use Rattle.std.proofs.lemmas.Bool.Decides.{nat_tests}
 use Rattle.std.proofs.lemmas.List.Elements.{filter-append}
@@ -10,9 +10,10 @@ use Rattle.rs_tree.specs.Expiring.{earliest}
 use Rattle.rs_tree.specs.Spots.{IsFull, is_nothing, own, under, pairs}
 use Rattle.rs_tree.specs.Sweeping.{spot_stays}
 use Rattle.rs_tree.proofs.Ends.{swept_chain, pairs_end}
-use Rattle.rs_tree.specs.Rows.{IsBefore, IsFrom, IsLeft, IsRow, IsUpTo, Notes, parts, push_some}
+use Rattle.rs_tree.specs.Rows.{IsBefore, IsFrom, IsLeft, IsRow, IsUpTo, parts}
+use Rattle.rs_tree.specs.Rests.{IsRestOf}
 use Rattle.rs_tree.specs.Values.{ChildValue}
-use Rattle.rs_tree.proofs.Dividing.{full_parts, full_under, up_to_all, up_to_front, up_to_rear}
+use Rattle.rs_tree.proofs.Dividing.{full_parts, full_under, up_to_all, row_take, up_to_front, up_to_rear}
 use Rattle.rs_message.specs.Messages.{is_expired}
 use Rattle.rs_store.specs.Contents.{is_gone}
 use Rattle.rs_store.proofs.Expiring.{calm_until}
@@ -69,12 +70,6 @@ pub record IsSwept (moment : ℕ) (cs left : List ChildValue) (i : ℕ) : Type 0
   pub same : parts left ≡ filter (spot_stays moment) (parts (take i cs))
 
 module _ (moment : ℕ) (cs left : List ChildValue) (i : ℕ) where
-  pub swept_none : left ≡ [] → i ≡ 0 → IsSwept moment cs left i
-  swept_none none start = record {
-    row = (let P : List ChildValue → Type 0 = λ l. IsRow l in subst P (sym none) tt);
-    same = ap parts none ∙ ap (λ (n : ℕ). filter (spot_stays moment) (parts (take n cs))) (sym start);
-  }
-
   module _ (c : ChildValue) (small : i < length cs) (is : c ≡ get_or cs i c) (r : IsRow cs) (so : IsSwept moment cs left i) where
     more : filter (spot_stays moment) (parts (take (i + 1) cs)) ≡ filter (spot_stays moment) (parts (take i cs)) ++ filter (spot_stays moment) c.spots
     more =
@@ -96,35 +91,52 @@ module _ (moment : ℕ) (cs left : List ChildValue) (i : ℕ) where
           same = ap parts put ∙ (parts_push left d ∙ (ap (λ (w : Held). w ++ d.spots) so.same ∙ (ap (λ (w : Held). filter (spot_stays moment) (parts (take i cs)) ++ w) h.1 ∙ sym more)));
         }
 
-    pub swept_step : (o : Option ChildValue) (new : List ChildValue) → new ≡ push_some left o → IsLeft moment c o → IsSwept moment cs new (i + 1)
-    swept_step None new put h = let P : List ChildValue → Type 0 = λ l. IsSwept moment cs l (i + 1) in subst P (sym put) (swept_gone h)
-    swept_step (Some d) new put h = swept_left d new put h
-
 take_whole : (cs : List ChildValue) (i : ℕ) → length cs ≤ i → take i cs ≡ cs
 take_whole [] zero small = refl
 take_whole [] (suc i) small = refl
 take_whole (c ∷ cs) zero small = absurd (omega (arith, small))
 take_whole (c ∷ cs) (suc i) small = ap (λ (l : List ChildValue). c ∷ l) (take_whole cs i (omega (arith, small)))
 
-pub swept_all : (moment : ℕ) (cs left : List ChildValue) (i : ℕ) → length cs ≤ i → IsSwept moment cs left i → parts left ≡ filter (spot_stays moment) (parts cs)
-swept_all moment cs left i all so = so.same ∙ ap (λ (l : List ChildValue). filter (spot_stays moment) (parts l)) (take_whole cs i all)
+-- ---- the same, where nothing is built as long as no message goes
 
--- ---- what is noted of one child after the other
+begun_is : (moment : ℕ) (cs : List ChildValue) (i : ℕ) (g : Bool) (left begun : List ChildValue) → IsRow cs → IsRestOf moment (take i cs) g left → begun ≡ (if g then left else take i cs) → IsSwept moment cs begun i
+begun_is moment cs i true left begun r so put = let P : List ChildValue → Type 0 = λ l. IsSwept moment cs l i in subst P (sym put) (record { row = so.0; same = so.1 })
+begun_is moment cs i false left begun r so put = let P : List ChildValue → Type 0 = λ l. IsSwept moment cs l i in subst P (sym put) (record { row = row_take cs i r; same = sym so })
 
-pub noted_both : (moment : ℕ) (v w : Held) (a b c : Bool) → Notes moment v a b → Notes moment w b c → Notes moment (v ++ w) a c
-noted_both moment v w a b c first next none =
-    let last = next none in
-    let before = first last.0 in
-    (before.0, filter-append (spot_stays moment) v w ∙ (ap (λ (x : Held). x ++ filter (spot_stays moment) w) before.1 ∙ ap (λ (x : Held). v ++ x) last.1))
+pub rest_none : (moment : ℕ) (cs left : List ChildValue) (i : ℕ) (g : Bool) → left ≡ [] → i ≡ 0 → IsRestOf moment (take i cs) g left
+rest_none moment cs left i g none start = let P : ℕ → Type 0 = λ n. IsRestOf moment (take n cs) g left in subst P (sym start) (at g)
+  where
+    at : (g : Bool) → IsRestOf moment [] g left
+    at false = refl
+    at true = (let P : List ChildValue → Type 0 = λ l. IsRow l × (parts l ≡ []) in subst P (sym none) (tt, refl))
 
-pub noted_step : (moment : ℕ) (cs : List ChildValue) (i : ℕ) (c : ChildValue) → i < length cs → c ≡ get_or cs i c → (first before after : Bool) → Notes moment (parts (take i cs)) first before → Notes moment c.spots before after → Notes moment (parts (take (i + 1) cs)) first after
-noted_step moment cs i c small is first before after so here =
-    let more : parts (take (i + 1) cs) ≡ parts (take i cs) ++ c.spots = ap parts (take_more cs i c small ∙ ap (λ (w : ChildValue). take i cs ++ w ∷ []) (sym is)) ∙ parts_push (take i cs) c in
-    let P : Held → Type 0 = λ w. Notes moment w first after in
-    subst P (sym more) (noted_both moment (parts (take i cs)) c.spots first before after so here)
+pub rest_whole : (moment : ℕ) (cs left : List ChildValue) (i : ℕ) (g : Bool) → length cs ≤ i → IsRestOf moment (take i cs) g left → IsRestOf moment cs g left
+rest_whole moment cs left i g all so = let P : List ChildValue → Type 0 = λ l. IsRestOf moment l g left in subst P (take_whole cs i all) so
 
-pub noted_all : (moment : ℕ) (cs : List ChildValue) (i : ℕ) (first last : Bool) → length cs ≤ i → Notes moment (parts (take i cs)) first last → Notes moment (parts cs) first last
-noted_all moment cs i first last all so = let P : List ChildValue → Type 0 = λ l. Notes moment (parts l) first last in subst P (take_whole cs i all) so
+module _ (moment : ℕ) (cs : List ChildValue) (i : ℕ) (c : ChildValue) (small : i < length cs) (is : c ≡ get_or cs i c) (r : IsRow cs) where
+  taken : parts (take (i + 1) cs) ≡ parts (take i cs) ++ c.spots
+  taken = ap parts (take_more cs i c small ∙ ap (λ (w : ChildValue). take i cs ++ w ∷ []) (sym is)) ∙ parts_push (take i cs) c
+
+  pub rest_kept : (g : Bool) (left : List ChildValue) → g ≡ false → IsRestOf moment (take i cs) g left → filter (spot_stays moment) c.spots ≡ c.spots → IsRestOf moment (take (i + 1) cs) g left
+  rest_kept true left off so here = absurd (cc (off))
+  rest_kept false left off so here =
+      let P : Held → Type 0 = λ w. filter (spot_stays moment) w ≡ w in
+      subst P (sym taken) (filter-append (spot_stays moment) (parts (take i cs)) c.spots ∙ (ap (λ (x : Held). x ++ filter (spot_stays moment) c.spots) so ∙ ap (λ (x : Held). parts (take i cs) ++ x) here))
+
+  of_swept : (g : Bool) (new : List ChildValue) → g ≡ true → IsSwept moment cs new (i + 1) → IsRestOf moment (take (i + 1) cs) g new
+  of_swept false new on so = absurd (cc (on))
+  of_swept true new on so = (so.row, so.same)
+
+  pub rest_put : (g g' : Bool) (left begun new : List ChildValue) (d : ChildValue) → IsRestOf moment (take i cs) g left → begun ≡ (if g then left else take i cs) → g' ≡ true → new ≡ begun ++ d ∷ [] → IsLeft moment c (Some d) → IsRestOf moment (take (i + 1) cs) g' new
+  rest_put g g' left begun new d so put on more h = of_swept g' new on (swept_left moment cs begun i c small is r (begun_is moment cs i g left begun r so put) d new more h)
+
+  pub rest_gone : (g g' : Bool) (left begun : List ChildValue) → IsRestOf moment (take i cs) g left → begun ≡ (if g then left else take i cs) → g' ≡ true → filter (spot_stays moment) c.spots ≡ [] → IsRestOf moment (take (i + 1) cs) g' begun
+  rest_gone g g' left begun so put on h = of_swept g' begun on (swept_gone moment cs begun i c small is r (begun_is moment cs i g left begun r so put) h)
+
+  pub rest_again : (g : Bool) (left new : List ChildValue) (d : ChildValue) → g ≡ true → IsRestOf moment (take i cs) g left → new ≡ left ++ d ∷ [] → d ≡ c → filter (spot_stays moment) c.spots ≡ c.spots → IsFull c.spots → IsRestOf moment (take (i + 1) cs) g new
+  rest_again g left new d on so more same stay full =
+      let P : ChildValue → Type 0 = λ w. IsLeft moment c (Some w) in
+      rest_put g g left left new d so (rw on refl) on more (subst P (sym same) (refl, sym stay, full))
 
 -- ---- one child
 
@@ -185,9 +197,6 @@ stays_all moment w early = none_goes moment w (calm_until (earliest (2 ^ 64 - 1)
 pub chain_stays : (moment : ℕ) (ks : List (List ℕ)) (w : Held) → filter (spot_stays moment) w ≡ w → filter (spot_stays moment) (under_all ks w) ≡ under_all ks w
 chain_stays moment ks w stay = sym (chain_left moment ks w w (sym stay))
 
-pub all_left : (moment : ℕ) (c d : ChildValue) → filter (spot_stays moment) c.spots ≡ c.spots → IsFull c.spots → d ≡ c → IsLeft moment c (Some d)
-all_left moment c d stay full same = let P : ChildValue → Type 0 = λ w. IsLeft moment c (Some w) in subst P (sym same) (refl, sym stay, full)
-
 pub full_at : (cs : List ChildValue) (i : ℕ) (c : ChildValue) → i < length cs → c ≡ get_or cs i c → IsRow cs → IsFull c.spots
 full_at cs i c small is r = let P : ChildValue → Type 0 = λ w. IsFull w.spots in subst P (sym is) (row_at cs i c small r).0
 
@@ -207,3 +216,7 @@ row_left moment k k' w w' v same put is full = rw put (same, is, full)
 -- a child that is put into another shape
 pub joined_left : (moment : ℕ) (c d e : ChildValue) → e.level ≡ d.level → e.spots ≡ d.spots → IsLeft moment c (Some d) → IsLeft moment c (Some e)
 joined_left moment c d e same is h = (same ∙ h.0, is ∙ h.1, let P : Held → Type 0 = λ w. IsFull w in subst P (sym is) h.2)
+
+-- no message of a branch goes if none of its own and none of its children goes
+pub whole_stays : (moment : ℕ) (held : Option Found) (cs : List ChildValue) → filter (spot_stays moment) (own held) ≡ own held → filter (spot_stays moment) (parts cs) ≡ parts cs → filter (spot_stays moment) (own held ++ parts cs) ≡ own held ++ parts cs
+whole_stays moment held cs a b = filter-append (spot_stays moment) (own held) (parts cs) ∙ (ap (λ (w : Held). w ++ filter (spot_stays moment) (parts cs)) a ∙ ap (λ (w : Held). own held ++ w) b)

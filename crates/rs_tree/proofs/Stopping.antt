@@ -1,8 +1,8 @@
 -- What an answer that is given up would have become: more than there is room for.
 use Rattle.std.proofs.Common.{◌≡◌, ℕ, List, ◌++◌, sym, subst, arith, length-append, Result, Ok, Err, IfErr, IsErrAnd}
 use Rattle.rs_message.specs.declared.entry.Found.{Found}
-use Rattle.rs_tree.specs.declared.answer.Stop.{Stop}
-use Rattle.rs_tree.specs.declared.answer.Stop.TheVariants.{Full, NoMemory}
+use Rattle.rs_store.specs.declared.answer.Stop.{Stop}
+use Rattle.rs_store.specs.declared.answer.Stop.TheVariants.{Full, NoMemory}
 use Rattle.rs_tree.specs.Room.{IsStop}
 
 pub stop_at : (s : Stop) (room : ℕ) (xs ys : List Found) → xs ≡ ys → IsStop s room xs → IsStop s room ys

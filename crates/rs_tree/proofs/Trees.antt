@@ -134,7 +134,7 @@ is_tree root new operation count limit n t placed is counted few = record {
 }
   where
     sorted : (operation : Operation) → IsStrictlySortedBy topic_cmp (keys_of (after (pairs root) operation))
-    sorted (Set topic message) = sorted_insert topic_cmp topic_total (pairs root) topic message t.sorted
+    sorted (Set found) = sorted_insert topic_cmp topic_total (pairs root) found.topic found.message t.sorted
     sorted (Clear topic) = sorted_remove topic_cmp (is_at (topic_cmp topic)) (pairs root) t.sorted
     sorted (Sweep moment) = sorted_filter topic_cmp (stays moment) (pairs root) t.sorted
 
@@ -142,7 +142,7 @@ pub empty_tree : (root : List Spot) (limit : ℕ) → root ≡ [] → IsTree roo
 empty_tree root limit h = rw h (record { placed = tt; sorted = sorted_none topic_cmp; counted = refl; fits = omega arith })
 
 pub room_below : (root : List Spot) (operation : Operation) (count limit : ℕ) → IsTree root count limit → count < limit → true ≡ nat_le (length (after (pairs root) operation)) limit
-room_below root (Set topic message) count limit t few = sym (room_if_few (pairs root) topic message limit t.sorted (omega (arith, t.counted, few)))
+room_below root (Set found) count limit t few = sym (room_if_few (pairs root) found.topic found.message limit t.sorted (omega (arith, t.counted, few)))
 room_below root (Clear topic) count limit t few = sym (room_after_clear (is_at (topic_cmp topic)) (pairs root) limit (omega (arith, t.counted, t.fits)))
 room_below root (Sweep moment) count limit t few = sym (room_after_sweep (stays moment) (pairs root) limit (omega (arith, t.counted, t.fits)))
 

@@ -4,8 +4,8 @@ use Rattle.rs_message.specs.declared.entry.Found.{Found}
 use Rattle.rs_topic.specs.Matching.{fits}
 use Rattle.rs_tree.specs.Room.{IsStop}
 use Rattle.rs_tree.specs.Values.{ChildValue}
-use Rattle.rs_tree.specs.declared.answer.Answer.{Answer}
-use Rattle.rs_tree.specs.declared.answer.Stop.{Stop}
+use Rattle.rs_store.specs.declared.answer.Answer.{Answer}
+use Rattle.rs_store.specs.declared.answer.Stop.{Stop}
 
 -- it appends the messages, or is given up since there is no room or no memory for them
 abbrev pub Gives : {T : Type 0} → Result T Stop → Answer → Answer → List Found → Type 0

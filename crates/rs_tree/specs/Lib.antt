@@ -7,7 +7,9 @@ pub mod Depths
 pub mod Expiring
 pub mod Heights
 pub mod Labels
+pub mod Messages
 pub mod Nodes
+pub mod Rests
 pub mod Room
 pub mod Rows
 pub mod Spots

@@ -104,8 +104,3 @@ IsLeft moment c (Some d) = (d.level ≡ c.level) × (d.spots ≡ filter (spot_st
 -- a Sweep that has noted of no message that it goes had noted none before, and leaves these as they are
 abbrev pub Notes : ℕ → List Spot → Bool → Bool → Type 0
 Notes moment ss old new = new ≡ false → (old ≡ false) × (filter (spot_stays moment) ss ≡ ss)
-
--- the children with one more, if there is one
-abbrev pub push_some : List ChildValue → Option ChildValue → List ChildValue
-push_some cs None = cs
-push_some cs (Some c) = cs ++ c ∷ []

@@ -32,7 +32,8 @@ pub struct Branch {
     children: Vec<Child>,
 }
 
-/// The messages below one level of a branch, or below some levels that follow one another.
+/// The messages below one level of a branch, or below some levels that follow one another. The label is a part of a topic only if that
+/// is the topic of the only message here.
 #[cycle(tree)]
 #[derive(Drop)]
 pub struct Child {
@@ -143,7 +144,7 @@ impl Child {
     }
 
     /// One more owner of the same messages.
-    fn again(&self, alloc: Global) -> Result<Child, AllocError>
+    fn again(&self) -> Result<Child, AllocError>
         ensures { IfOk result (λ c. c ≡ self.now) }
     {
         Ok(Child {
@@ -159,7 +160,7 @@ fn copies(alloc: Global, children: &[Child]) -> Result<Vec<Child>, AllocError>
 {
     let mut copies = Vec::with_capacity(alloc, children.len())?;
     for child in children {
-        copies.push(child.again(alloc)?)?;
+        copies.push(child.again()?)?;
     }
     Ok(copies)
 }

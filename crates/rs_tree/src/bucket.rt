@@ -1,45 +1,85 @@
 //! A few messages below one place of the tree, which are shared until they are changed.
 
-ghost use Rattle.std.specs.Prelude.{◌≡◌, ◌+◌, ◌++◌, ◌≤◌, [], ◌∷◌, length, IfErr, IfOk, IfSome, OnErr, OnOk};
+ghost use Rattle.std.specs.Prelude.{◌≡◌, ◌+◌, ◌++◌, ◌≤◌, [], ◌∷◌, true, length, IfErr, IfOk, IfSome, IsTrue, OnErr, OnOk};
+ghost use Rattle.std.specs.Arc.{arc_value};
 ghost use Rattle.std.specs.BTreeMap.{insert_entry};
 ghost use Rattle.std.specs.List.{filter};
-ghost use Rattle.std.specs.List.Sorted.{IsStrictlySortedBy};
-ghost use Rattle.std.specs.Map.{keys_of};
 ghost use Rattle.rs_topic.specs.Order.{path_cmp};
 ghost use Rattle.rs_tree.specs.Chains.{under_all};
 ghost use Rattle.rs_tree.specs.Chosen.{chosen};
 ghost use Rattle.rs_tree.specs.Expiring.{earliest};
 ghost use Rattle.rs_topic.specs.Rests.{levels_from};
-ghost use Rattle.rs_tree.specs.Spots.{is_nothing, is_there, spot_of, under};
-ghost use Rattle.rs_tree.specs.Sweeping.{is_expired_spot, spot_stays};
+ghost use Rattle.rs_tree.specs.Spots.{is_there, spot_of, under};
+ghost use Rattle.rs_tree.specs.Sweeping.{is_expired_spot};
 ghost use Rattle.rs_store.specs.declared.limit.TheConstants.{MAX_TOPICS};
-ghost use Rattle.rs_tree.specs.Buckets.{spots_in};
 ghost use Rattle.rs_tree.specs.Clearing.{Clears};
+ghost use Rattle.rs_tree.specs.Rests.{IsSomeRest};
 ghost use Rattle.rs_tree.specs.Room.{IsStop};
+ghost use Rattle.rs_message.specs.declared.entry.Found.{Found};
 
 use crate::answer::{Answer, Stop};
 use crate::cleared::Cleared;
-use crate::leaf::Leaf;
+use crate::found::{is_expired, lowered};
+use crate::leaf::{Leaf, answer_one};
 use crate::leaves::Leaves;
 use crate::shared::Shared;
+use rs_topic::compare_rests;
 use std::alloc::{AllocError, Global};
+use std::cmp::Ordering;
 use std::marker::Model;
 use std::sync::Arc;
 
-/// A few messages, each with the rest of its topic, in the order of replay. They are changed in place while the bucket is their only
-/// owner, and copied otherwise.
+/// The messages of a bucket.
+#[derive(Drop)]
+enum Messages {
+    /// One message, which needs no block of its own, and the byte at which the rest of its topic begins.
+    One(u32, Shared),
+    /// More of them, which are changed in place while the bucket is their only owner, and copied otherwise.
+    More(Arc<Leaves>),
+}
+
+/// A few messages, each with the rest of its topic, in the order of replay.
 #[derive(Drop)]
 pub struct Bucket {
-    leaves: Arc<Leaves>,
+    messages: Messages,
 }
 
 impl Model for Bucket {
     ghost use Rattle.std.specs.Prelude.{List, ℕ};
     ghost use Rattle.rs_message.specs.declared.entry.Found.{Found};
+    ghost use Rattle.rs_tree.specs.Messages.{spots_held};
 
     ghost Value = { List (List (List ℕ) × Found) };
 
-    ghost view = { λ b. b.leaves.value };
+    ghost view = { λ b. spots_held b.messages };
+}
+
+/// The rest of a topic is that of a message.
+fn is_same(topic: &[u8], at: usize, found: &Shared, from: u32) -> bool
+    ensures { result ≡ is_there (levels_from at topic.now) (spot_of from found.now ∷ []) }
+{
+    match compare_rests(topic, at, found.topic(), from as usize) {
+        Ordering::Equal => true,
+        _ => false,
+    }
+}
+
+/// Removes the message at this rest of a topic, unless it is the only one, in place if the messages have one owner and else in a copy.
+fn clear_in(
+    this: &mut Arc<Leaves>,
+    alloc: Global,
+    topic: &[u8],
+    at: usize,
+) -> Result<Cleared, AllocError>
+    ensures { Clears result (arc_value this.old) (arc_value this.new) (levels_from at topic.now) }
+{
+    if let Some(leaves) = Arc::get_mut(this) {
+        return Ok(leaves.clear_more(topic, at));
+    }
+    let mut copy = this.copy(alloc)?;
+    let cleared = copy.clear_more(topic, at);
+    *this = Arc::new(alloc, copy)?;
+    Ok(cleared)
 }
 
 impl Bucket {
@@ -47,42 +87,90 @@ impl Bucket {
     pub fn of(alloc: Global, found: Shared, at: usize) -> Result<Bucket, AllocError>
         ensures { IfOk result (λ b. b ≡ spot_of at found ∷ []) }
     {
-        let leaves = Leaves::of(alloc, found, at)?;
+        match u32::try_from(at) {
+            Ok(at) => Ok(Bucket {
+                messages: Messages::One(at, found),
+            }),
+            // Never: a topic has at most 65,535 bytes.
+            Err(_) => Bucket::more(alloc, Leaves::of(alloc, found, at)?),
+        }
+    }
+
+    /// The bucket of some messages.
+    fn more(alloc: Global, leaves: Leaves) -> Result<Bucket, AllocError>
+        ensures { IfOk result (λ b. b ≡ leaves) }
+    {
         Ok(Bucket {
-            leaves: Arc::new(alloc, leaves)?,
+            messages: Messages::More(Arc::new(alloc, leaves)?),
         })
+    }
+
+    /// Takes one message that is left alone out of its block. If the count of its owners is full, it stays.
+    fn settle(&mut self, alloc: Global)
+        ensures { self.new ≡ self.old }
+    {
+        let Messages::More(leaves) = &self.messages else {
+            return;
+        };
+        let Some(leaf) = leaves.lone() else {
+            return;
+        };
+        let Ok(found) = leaf.found.again() else {
+            return;
+        };
+        if let Ok(bucket) = Bucket::of(alloc, found, leaf.at) {
+            *self = bucket;
+        }
     }
 
     /// One more owner of the same messages. The error says that the count of owners is full.
     pub fn again(&self) -> Result<Bucket, AllocError>
         ensures { IfOk result (λ b. b ≡ self.now) }
     {
-        Ok(Bucket {
-            leaves: Arc::try_clone(&self.leaves)?,
-        })
+        match &self.messages {
+            Messages::One(at, found) => Ok(Bucket {
+                messages: Messages::One(*at, found.again()?),
+            }),
+            Messages::More(leaves) => Ok(Bucket {
+                messages: Messages::More(Arc::try_clone(leaves)?),
+            }),
+        }
     }
 
-    pub fn as_slice(&self) -> &[Leaf]
-        ensures same { spots_in result.now ≡ self.now }
-        ensures sorted { IsStrictlySortedBy path_cmp (keys_of self.now) }
+    /// The messages, to be changed.
+    fn copy(&self, alloc: Global) -> Result<Leaves, AllocError>
+        ensures { IfOk result (λ leaves. leaves ≡ self.now) }
     {
-        self.leaves.as_slice()
+        match &self.messages {
+            Messages::One(at, found) => Leaves::of(alloc, found.again()?, *at as usize),
+            Messages::More(leaves) => leaves.copy(alloc),
+        }
     }
 
-    pub fn is_empty(&self) -> bool
-        ensures { result ≡ is_nothing self.now }
+    /// Its messages, if it has more than it is to have.
+    pub fn over(&self) -> Option<&Leaves>
+        ensures { IfSome result (λ leaves. leaves.now ≡ self.now) }
     {
-        self.leaves.is_empty()
+        match &self.messages {
+            Messages::One(_, _) => None,
+            Messages::More(leaves) => {
+                if leaves.is_over() {
+                    return Some(leaves);
+                }
+                None
+            }
+        }
     }
 
-    /// It has more messages than it is to have.
-    pub fn is_over(&self) -> bool {
-        self.leaves.is_over()
-    }
-
-    /// A chain of the levels that the rests of all topics share: those that the first and the last share.
-    pub fn shared(&self, alloc: Global) -> Result<Vec<u8>, AllocError> {
-        self.leaves.shared(alloc)
+    /// It has one message, which is at this rest of a topic.
+    pub fn is_one_at(&self, topic: &[u8], at: usize) -> bool
+        ensures alone { IsTrue result → (found : Found) → insert_entry path_cmp self.now (levels_from at topic.now) found ≡ (levels_from at topic.now, found) ∷ [] }
+        ensures there { IsTrue result → is_there (levels_from at topic.now) self.now ≡ true }
+    {
+        match &self.messages {
+            Messages::One(from, found) => is_same(topic, at, found, *from),
+            Messages::More(_) => false,
+        }
     }
 
     /// Sets the message at the rest of its topic, and returns whether there was one. If memory is refused, nothing changes.
@@ -91,12 +179,18 @@ impl Bucket {
         ensures told { IfOk result (λ was. was ≡ is_there (levels_from at found.topic) self.old) }
         ensures refused { OnErr result (self.new ≡ self.old) }
     {
-        if let Some(leaves) = Arc::get_mut(&mut self.leaves) {
-            return leaves.set(found, at);
+        if self.is_one_at(found.topic(), at) {
+            *self = Bucket::of(alloc, found, at)?;
+            return Ok(true);
         }
-        let mut copy = self.leaves.copy(alloc)?;
+        if let Messages::More(leaves) = &mut self.messages {
+            if let Some(leaves) = Arc::get_mut(leaves) {
+                return leaves.set(found, at);
+            }
+        }
+        let mut copy = self.copy(alloc)?;
         let was = copy.set(found, at)?;
-        self.leaves = Arc::new(alloc, copy)?;
+        *self = Bucket::more(alloc, copy)?;
         Ok(was)
     }
 
@@ -109,24 +203,44 @@ impl Bucket {
     ) -> Result<Cleared, AllocError>
         ensures { Clears result self.old self.new (levels_from at topic.now) }
     {
-        if let Some(leaves) = Arc::get_mut(&mut self.leaves) {
-            return Ok(leaves.clear_more(topic, at));
+        match &mut self.messages {
+            Messages::One(from, found) => {
+                if is_same(topic, at, found, *from) {
+                    return Ok(Cleared::Last);
+                }
+                return Ok(Cleared::Missing);
+            }
+            Messages::More(leaves) => {
+                let cleared = clear_in(leaves, alloc, topic, at);
+                self.settle(alloc);
+                cleared
+            }
         }
-        let mut copy = self.leaves.copy(alloc)?;
-        let cleared = copy.clear_more(topic, at);
-        self.leaves = Arc::new(alloc, copy)?;
-        Ok(cleared)
     }
 
-    /// A bucket of the messages that are not expired.
-    pub fn swept(&self, alloc: Global, moment: u64) -> Result<Bucket, AllocError>
-        ensures { IfOk result (λ b. b ≡ filter (spot_stays moment) self.now) }
+    /// A bucket of the messages that are not expired, if there are any.
+    pub fn swept(&self, alloc: Global, moment: u64) -> Result<Option<Bucket>, AllocError>
+        ensures { IfOk result (λ rest. IsSomeRest moment self.now rest) }
     {
-        let mut left = self.leaves.copy(alloc)?;
-        left.sweep(moment);
-        Ok(Bucket {
-            leaves: Arc::new(alloc, left)?,
-        })
+        match &self.messages {
+            Messages::One(_, found) => {
+                if is_expired(found.message(), moment) {
+                    return Ok(None);
+                }
+                let same = self.again()?;
+                Ok(Some(same))
+            }
+            Messages::More(leaves) => {
+                let mut left = leaves.copy(alloc)?;
+                left.sweep(moment);
+                if left.is_empty() {
+                    return Ok(None);
+                }
+                let mut bucket = Bucket::more(alloc, left)?;
+                bucket.settle(alloc);
+                Ok(Some(bucket))
+            }
+        }
     }
 
     /// A bucket of its messages below a chain and a level, if these stand before the rest of each topic.
@@ -138,11 +252,25 @@ impl Bucket {
     ) -> Result<Option<Bucket>, AllocError>
         ensures { IfOk result (λ r. IfSome r (λ b. b ≡ under_all (levels_from 1 chain.now) (under level.now self.now))) }
     {
-        match self.leaves.risen(alloc, chain, level)? {
-            Some(leaves) => Ok(Some(Bucket {
-                leaves: Arc::new(alloc, leaves)?,
-            })),
-            None => Ok(None),
+        match &self.messages {
+            Messages::One(at, found) => {
+                let mut leaf = Leaf {
+                    found: found.again()?,
+                    at: *at as usize,
+                };
+                if !leaf.rise(chain, level) {
+                    return Ok(None);
+                }
+                let higher = Bucket::of(alloc, leaf.found, leaf.at)?;
+                Ok(Some(higher))
+            }
+            Messages::More(leaves) => match leaves.risen(alloc, chain, level)? {
+                Some(leaves) => {
+                    let higher = Bucket::more(alloc, leaves)?;
+                    Ok(Some(higher))
+                }
+                None => Ok(None),
+            },
         }
     }
 
@@ -150,21 +278,34 @@ impl Bucket {
     pub fn expired(&self, now: u64, count: &mut u32)
         ensures { count.old + length self.now ≤ MAX_TOPICS → count.new ≡ count.old + length (filter (is_expired_spot now) self.now) }
     {
-        self.leaves.expired(now, count);
+        match &self.messages {
+            Messages::One(_, found) => {
+                if is_expired(found.message(), now) {
+                    *count = count.saturating_add(1);
+                }
+            }
+            Messages::More(leaves) => leaves.expired(now, count),
+        }
     }
 
     /// A bound, or the first moment at which one of its messages is expired if that is earlier.
     pub fn earliest(&self, bound: u64) -> u64
         ensures { result ≡ earliest bound self.now }
     {
-        self.leaves.earliest(bound)
+        match &self.messages {
+            Messages::One(_, found) => lowered(bound, found.message()),
+            Messages::More(leaves) => leaves.earliest(bound),
+        }
     }
 
     /// There is a message at this rest of a topic.
     pub fn holds(&self, topic: &[u8], at: usize) -> bool
         ensures { result ≡ is_there (levels_from at topic.now) self.now }
     {
-        self.leaves.holds(topic, at)
+        match &self.messages {
+            Messages::One(from, found) => is_same(topic, at, found, *from),
+            Messages::More(leaves) => leaves.holds(topic, at),
+        }
     }
 
     /// Appends copies of the messages that the filter fits and that are not expired.
@@ -179,6 +320,16 @@ impl Bucket {
         ensures stop { IfErr result (λ stop. IsStop stop answer.old.room (answer.old.found.items ++ chosen (levels_from at filter.now) now self.now)) }
         ensures room { answer.new.room ≡ answer.old.room }
     {
-        self.leaves.answer(filter, at, now, answer)
+        match &self.messages {
+            Messages::One(from, found) => answer_one(
+                found,
+                *from as usize,
+                filter,
+                at,
+                now,
+                answer,
+            ),
+            Messages::More(leaves) => leaves.answer(filter, at, now, answer),
+        }
     }
 }

@@ -19,7 +19,7 @@ pub fn answer_held(held: &Option<Shared>, now: u64, answer: &mut Answer) -> Resu
     if is_expired(found.message(), now) {
         return Ok(());
     }
-    answer.push(&found.get().topic, found.message())
+    answer.push(found.get())
 }
 
 /// One more owner of the message of one place, if there is one.

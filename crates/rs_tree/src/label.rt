@@ -1,7 +1,8 @@
 //! A level of topics, as the children of a branch are named by it.
 
-ghost use Rattle.std.specs.Prelude.{◌≡◌, ◌≤◌, [], length, take, IfOk};
+ghost use Rattle.std.specs.Prelude.{◌≡◌, ◌≤◌, [], length, take, IfOk, IfSome};
 
+use crate::shared::Shared;
 use std::alloc::{AllocError, Global};
 use std::marker::Model;
 use std::sync::Arc;
@@ -13,6 +14,8 @@ const SHORT: usize = 14;
 enum Text {
     /// So many of these bytes.
     Short(u8, [u8; SHORT]),
+    /// So many bytes of a message's topic, from this one on.
+    Part(u16, u32, Shared),
     /// More bytes, which are shared.
     Long(Arc<Vec<u8>>),
 }
@@ -48,7 +51,44 @@ fn padded(level: &[u8]) -> [u8; SHORT]
     bytes
 }
 
+/// A level of more bytes as a part of a topic, if it stands there at this byte.
+fn part(level: &[u8], found: &Shared, at: usize) -> Result<Option<Label>, AllocError>
+    ensures { IfOk result (λ o. IfSome o (λ l. l ≡ level.now)) }
+{
+    let topic = found.topic();
+    let (Ok(length), Ok(from)) = (u16::try_from(level.len()), u32::try_from(at)) else {
+        return Ok(None);
+    };
+    if at > topic.len() {
+        return Ok(None);
+    }
+    let (_, rest) = topic.split_at(at);
+    if level.len() > rest.len() {
+        return Ok(None);
+    }
+    let (own, _) = rest.split_at(level.len());
+    if own != level {
+        return Ok(None);
+    }
+    Ok(Some(Label {
+        text: Text::Part(length, from, found.again()?),
+    }))
+}
+
 impl Label {
+    /// The level of one message alone, which stands at a byte of its topic. If it is long, it is a part of that topic, and keeps the
+    /// message in memory: so whoever takes the message away from below the level also renews the label.
+    pub fn of(alloc: Global, level: &[u8], found: &Shared, at: usize) -> Result<Label, AllocError>
+        ensures { IfOk result (λ l. l ≡ level.now) }
+    {
+        if level.len() > SHORT {
+            if let Some(label) = part(level, found, at)? {
+                return Ok(label);
+            }
+        }
+        Label::new(alloc, level)
+    }
+
     pub fn new(alloc: Global, level: &[u8]) -> Result<Label, AllocError>
         ensures { IfOk result (λ l. l ≡ level.now) }
     {
@@ -80,6 +120,11 @@ impl Label {
                 let (level, _) = bytes.as_slice().split_at(*length as usize);
                 level
             }
+            Text::Part(length, from, found) => {
+                let (_, rest) = found.topic().split_at(*from as usize);
+                let (level, _) = rest.split_at(*length as usize);
+                level
+            }
             Text::Long(bytes) => bytes.as_slice(),
         }
     }
@@ -92,9 +137,22 @@ impl Label {
             Text::Short(length, bytes) => Ok(Label {
                 text: Text::Short(*length, *bytes),
             }),
+            Text::Part(length, from, found) => Ok(Label {
+                text: Text::Part(*length, *from, found.again()?),
+            }),
             Text::Long(bytes) => Ok(Label {
                 text: Text::Long(Arc::try_clone(bytes)?),
             }),
+        }
+    }
+
+    /// The same level, which keeps no message in memory.
+    pub fn own(&self, alloc: Global) -> Result<Label, AllocError>
+        ensures { IfOk result (λ l. l ≡ self.now) }
+    {
+        match &self.text {
+            Text::Part(_, _, _) => Label::new(alloc, self.as_slice()),
+            _ => self.again(),
         }
     }
 }

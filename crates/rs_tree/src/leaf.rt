@@ -23,6 +23,25 @@ pub struct Leaf {
     pub at: usize,
 }
 
+/// Appends a copy of a message if the filter fits the rest of its topic and it is not expired.
+pub fn answer_one(
+    found: &Shared,
+    from: usize,
+    filter: &[u8],
+    at: usize,
+    now: u64,
+    answer: &mut Answer,
+) -> Result<(), Stop>
+    ensures done { OnOk result (answer.new.found.items ≡ answer.old.found.items ++ chosen (levels_from at filter.now) now (spot_of from found.now ∷ [])) }
+    ensures stop { IfErr result (λ stop. IsStop stop answer.old.room (answer.old.found.items ++ chosen (levels_from at filter.now) now (spot_of from found.now ∷ []))) }
+    ensures room { answer.new.room ≡ answer.old.room }
+{
+    if !levels_fit(filter, at, found.topic(), from) || is_expired(found.message(), now) {
+        return Ok(());
+    }
+    answer.push(found.get())
+}
+
 impl Leaf {
     /// Begins the rest of the topic before a chain and a level, if these stand there, and says whether they do.
     pub fn rise(&mut self, chain: &[u8], level: &[u8]) -> bool
@@ -76,10 +95,6 @@ impl Leaf {
         ensures stop { IfErr result (λ stop. IsStop stop answer.old.room (answer.old.found.items ++ chosen (levels_from at filter.now) now (spot_of self.now.at self.now.found ∷ []))) }
         ensures room { answer.new.room ≡ answer.old.room }
     {
-        let topic = self.found.topic();
-        if !levels_fit(filter, at, topic, self.at) || is_expired(self.found.message(), now) {
-            return Ok(());
-        }
-        answer.push(&self.found.get().topic, self.found.message())
+        answer_one(&self.found, self.at, filter, at, now, answer)
     }
 }

@@ -172,6 +172,16 @@ impl Leaves {
         self.leaves.as_slice()
     }
 
+    /// The only message, if there is one alone.
+    pub fn lone(&self) -> Option<&Leaf>
+        ensures { IfSome result (λ leaf. self.now ≡ spot_of leaf.now.at leaf.now.found ∷ []) }
+    {
+        if self.leaves.len() == 1 {
+            return Some(&self.leaves[0]);
+        }
+        None
+    }
+
     pub fn is_empty(&self) -> bool
         ensures { result ≡ is_nothing self.now }
     {

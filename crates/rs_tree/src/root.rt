@@ -70,7 +70,7 @@ impl Root {
         ensures told { IfOk result (λ was. was ≡ is_there (levels_from 0 found.topic) self.old) }
         ensures refused { OnErr result (self.new ≡ self.old) }
     {
-        let shared = Shared::new(alloc, found)?;
+        let shared = Shared::of(found);
         let done = Branch::set_in(&mut self.branch, alloc, shared, 0);
         self.fold(alloc);
         done
@@ -98,10 +98,8 @@ impl Root {
         ensures done { OnOk result (self.new ≡ filter (spot_stays moment) self.old) }
         ensures refused { OnErr result (self.new ≡ self.old) }
     {
-        let mut goes = false;
-        let swept = self.branch.swept(alloc, moment, &mut goes)?;
-        if goes {
-            self.branch = Arc::new(alloc, swept)?;
+        if let Some(left) = self.branch.swept(alloc, moment)? {
+            self.branch = Arc::new(alloc, left)?;
         }
         Ok(())
     }

@@ -3,14 +3,13 @@
 ghost use Rattle.std.specs.Prelude.{◌≡◌, IfOk};
 
 use rs_message::{Found, Message};
-use std::alloc::{AllocError, Global};
+use std::alloc::AllocError;
 use std::marker::Model;
-use std::sync::Arc;
 
 /// A topic and its message. Contracts see them as they are.
 #[derive(Drop)]
 pub struct Shared {
-    found: Arc<Found>,
+    found: Found,
 }
 
 impl Model for Shared {
@@ -18,16 +17,14 @@ impl Model for Shared {
 
     ghost Value = { Found };
 
-    ghost view = { λ s. s.found.value };
+    ghost view = { λ s. s.found };
 }
 
 impl Shared {
-    pub fn new(alloc: Global, found: Found) -> Result<Shared, AllocError>
-        ensures { IfOk result (λ s. s ≡ found) }
+    pub fn of(found: Found) -> Shared
+        ensures { result ≡ found }
     {
-        Ok(Shared {
-            found: Arc::new(alloc, found)?,
-        })
+        Shared { found }
     }
 
     pub fn get(&self) -> &Found
@@ -40,13 +37,13 @@ impl Shared {
     pub fn topic(&self) -> &[u8]
         ensures { result.now ≡ self.now.topic }
     {
-        self.found.topic.as_bytes()
+        self.found.topic().as_bytes()
     }
 
     pub fn message(&self) -> &Message
         ensures { result.now ≡ self.now.message }
     {
-        &self.found.message
+        self.found.message()
     }
 
     /// One more owner of the same. The error says that the count of owners is full.
@@ -54,7 +51,7 @@ impl Shared {
         ensures { IfOk result (λ s. s ≡ self.now) }
     {
         Ok(Shared {
-            found: Arc::try_clone(&self.found)?,
+            found: self.found.copy()?,
         })
     }
 }

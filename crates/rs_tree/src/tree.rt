@@ -15,7 +15,7 @@ ghost use Rattle.rs_tree.specs.Trees.{IsTree};
 
 use crate::answer::{Answer, Stop};
 use crate::root::Root;
-use rs_message::{Entry, Found, MAX_PLACES, Message, Operation};
+use rs_message::{Entry, Found, MAX_PLACES, Operation};
 use rs_store::{Catalogue, Refusal, TopicLimit};
 use rs_topic::{TopicFilter, TopicName};
 use std::alloc::{AllocError, Global};
@@ -71,23 +71,17 @@ fn serial_of(serials: &[u64; SERIALS], place: u8) -> u64
 }
 
 /// Sets one topic and returns how many hold a message then. If memory is refused, nothing changes.
-fn set_one(
-    root: &mut Root,
-    alloc: Global,
-    count: u32,
-    topic: TopicName,
-    message: Message,
-) -> Result<u32, AllocError>
+fn set_one(root: &mut Root, alloc: Global, count: u32, found: Found) -> Result<u32, AllocError>
     requires placed { ArePlaced root.old }
     requires sorted { IsStrictlySortedBy topic_cmp (keys_of (pairs root.old)) }
     requires counted { length (pairs root.old) ≡ count }
     requires small { count ≤ MAX_TOPICS }
-    ensures done { OnOk result (pairs root.new ≡ insert_entry topic_cmp (pairs root.old) topic message) }
-    ensures counted { IfOk result (λ n. n ≡ length (insert_entry topic_cmp (pairs root.old) topic message)) }
+    ensures done { OnOk result (pairs root.new ≡ insert_entry topic_cmp (pairs root.old) found.topic found.message) }
+    ensures counted { IfOk result (λ n. n ≡ length (insert_entry topic_cmp (pairs root.old) found.topic found.message)) }
     ensures placed { ArePlaced root.new }
     ensures refused { OnErr result (root.new ≡ root.old) }
 {
-    let was = root.set(alloc, Found { topic, message })?;
+    let was = root.set(alloc, found)?;
     if was { Ok(count) } else { Ok(count + 1) }
 }
 
@@ -159,7 +153,7 @@ fn change(
     ensures refused { OnErr result (root.new ≡ root.old) }
 {
     match operation {
-        Operation::Set(topic, message) => set_one(root, alloc, count, topic, message),
+        Operation::Set(found) => set_one(root, alloc, count, found),
         Operation::Clear(topic) => clear_one(root, alloc, count, &topic),
         Operation::Sweep(moment) => sweep(root, alloc, count, moment),
     }
@@ -174,8 +168,8 @@ fn count_after(root: &Root, count: u32, operation: &Operation) -> u32
     ensures { result ≡ length (after (pairs root.now) operation.now) }
 {
     match operation {
-        Operation::Set(topic, _) => {
-            if root.holds(topic.as_bytes()) {
+        Operation::Set(found) => {
+            if root.holds(found.topic().as_bytes()) {
                 count
             } else {
                 count + 1

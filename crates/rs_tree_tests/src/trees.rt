@@ -4,7 +4,7 @@ ghost use Rattle.std.specs.Prelude.{◌≢◌, ◌≡◌, ◌≤◌, [], false, 
 ghost use Rattle.rs_message.specs.Messages.{is_sweep};
 
 use bytes::Bytes;
-use rs_message::{Message, Operation, Origin};
+use rs_message::{Found, Message, Operation, Origin};
 use rs_packet::{Properties, Qos};
 use rs_store::Catalogue;
 use rs_topic::{TopicFilter, TopicName};
@@ -19,17 +19,11 @@ mod sweeps;
 mod wide;
 
 /// A message that came at a moment.
-fn message_at(
-    alloc: Global,
-    payload: &'static [u8],
-    received: u64,
-    expiry: Option<u32>,
-) -> Result<Message, AllocError>
+fn message_at(payload: &'static [u8], received: u64, expiry: Option<u32>) -> Message
     requires some { payload.now ≢ [] }
     requires small { length payload.now ≤ 1000 }
 {
     Message::new(
-        alloc,
         Bytes::from_static(payload),
         Qos::AtLeastOnce,
         received,
@@ -50,8 +44,8 @@ fn set_at(
     requires small { length payload.now ≤ 1000 }
     ensures { IfOk result (λ o. is_sweep o ≡ false) }
 {
-    let message = message_at(alloc, payload, received, expiry)?;
-    Ok(Operation::Set(topic, message))
+    let message = message_at(payload, received, expiry);
+    Ok(Operation::Set(Found::new(alloc, topic, message)?))
 }
 
 fn origin(place: u8, serial: u64) -> Result<Origin, Fail> {

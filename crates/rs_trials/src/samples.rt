@@ -25,7 +25,7 @@ fn message(
     requires small { length payload.now ≤ 1000 }
 {
     let payload = Bytes::copy_from_slice(alloc, payload)?;
-    Message::new(alloc, payload, qos, received, expiry, Properties::none())
+    Ok(Message::new(payload, qos, received, expiry, Properties::none()))
 }
 
 /// So many messages of this topic, as one answer of the store. The qualities come in turn.
@@ -40,7 +40,7 @@ pub fn messages(
         let qos = qualities[(n % 2) as usize];
         let message = message(alloc, PAYLOAD, qos, 0, None)?;
         let topic = topic.copy()?;
-        all.push(Found { topic, message })?;
+        all.push(Found::new(alloc, topic, message)?)?;
     }
     Ok(all)
 }
@@ -124,7 +124,7 @@ pub fn operation(
         Change::Clear => Ok(Operation::Clear(topic)),
         Change::Set(received, expiry) => {
             let message = message(alloc, PAYLOAD, Qos::AtMostOnce, received, expiry)?;
-            Ok(Operation::Set(topic, message))
+            Ok(Operation::Set(Found::new(alloc, topic, message)?))
         }
     }
 }

@@ -8,7 +8,7 @@ use Rattle.rs_packet.specs.Grammar.{IdFits, id_bytes, frame}
 use Rattle.rs_packet.specs.Fields.{counted, properties, varint}
 use Rattle.rs_packet.specs.Fields.{replayed}
 use Rattle.rs_packet.specs.Replies.{first_byte, reply_bytes}
-use Rattle.rs_message.specs.declared.message.Remaining.TheVariants.{Expired}
+use Rattle.rs_packet.specs.declared.message.Remaining.TheVariants.{Expired}
 use Rattle.rs_message.specs.Messages.{remaining_of}
 use Rattle.rs_window.specs.declared.queue.Waiting.{Waiting}
 use Rattle.rs_window.specs.Values.{PublishValue}

@@ -11,8 +11,8 @@ use Rattle.rs_packet.proofs.Lengths.{message_len_alike, message_publish}
 use Rattle.rs_packet.specs.Fields.{PropertiesValue, varint_end}
 use Rattle.rs_packet.specs.declared.reply.Reply.{Reply}
 use Rattle.rs_packet.specs.declared.reply.Reply.TheVariants as reply
-use Rattle.rs_message.specs.declared.message.Remaining.{Remaining}
-use Rattle.rs_message.specs.declared.message.Remaining.TheVariants.{Forever, Left, Expired}
+use Rattle.rs_packet.specs.declared.message.Remaining.{Remaining}
+use Rattle.rs_packet.specs.declared.message.Remaining.TheVariants.{Forever, Left, Expired}
 use Rattle.rs_message.specs.Messages.{remaining_of, is_over}
 use Rattle.rs_window.specs.declared.queue.Waiting.{Waiting}
 use Rattle.rs_window.specs.Waiting.{is_dropped, sendable, lesser_qos, some_id, len_with, packet_len, IsDropped}

@@ -55,7 +55,7 @@ pub(crate) fn append(
 pub(crate) fn lesser_of(waiting: &Waiting) -> Qos
     ensures { result ≡ lesser_qos waiting.now }
 {
-    let published = waiting.found.message.qos();
+    let published = waiting.found.message().qos();
     if published.level() <= waiting.granted.level() {
         return published;
     }
@@ -67,8 +67,8 @@ fn is_too_long(waiting: &Waiting, expiry: Option<u32>, packet_maximum: u32) -> b
     requires { is_some expiry ≡ is_some waiting.now.found.message.expiry }
     ensures { result ≡ nat_lt packet_maximum (len_with waiting.now expiry) }
 {
-    let message = &waiting.found.message;
-    let topic = &waiting.found.topic;
+    let message = waiting.found.message();
+    let topic = waiting.found.topic();
     let _topic = topic.as_bytes();
     let len = publish_len(
         topic,
@@ -85,7 +85,7 @@ fn is_too_long(waiting: &Waiting, expiry: Option<u32>, packet_maximum: u32) -> b
 fn is_unsendable(waiting: &Waiting, now: u64, packet_maximum: u32) -> bool
     ensures { result ≡ is_dropped packet_maximum now waiting.now }
 {
-    match waiting.found.message.remaining(now) {
+    match waiting.found.message().remaining(now) {
         Remaining::Expired => true,
         Remaining::Forever => is_too_long(waiting, None, packet_maximum),
         Remaining::Left(seconds) => is_too_long(waiting, Some(seconds), packet_maximum),

@@ -11,7 +11,6 @@ use crate::identifiers::{Kind, change_kind, free_identifier, kind_at};
 use crate::queue::{MAX_WAITING, Waiting, append, drop_unsendable, lesser_of, take_first};
 use rs_message::{Found, Message, Remaining};
 use rs_packet::{PacketId, Publication, Qos, Reply, SubscriptionId};
-use rs_topic::TopicName;
 use slab::Slab;
 use std::alloc::{AllocError, Global};
 use std::collections::VecDeque;
@@ -26,10 +25,8 @@ const _: () = prove!(MAX_QUOTA == 1024);
 /// A retained message as it is sent at a given time.
 #[derive(Drop)]
 pub struct Publish {
-    /// The topic that holds the message.
-    pub topic: TopicName,
-    /// The retained message.
-    pub message: Message,
+    /// The topic and its retained message.
+    pub found: Found,
     /// The lesser of the published and the granted QoS (3.8.4).
     pub qos: Qos,
     /// The packet identifier: there is one exactly if QoS is 1 or 2 (3.3.2.2).
@@ -62,15 +59,15 @@ impl Publish {
         ensures { result ≡ reply_of self }
     {
         let Publish {
-            topic,
-            message,
+            found,
             qos,
             id,
             expiry,
             subscription,
         } = self;
-        let content = message.into_content();
-        Reply::Publish(Publication::new(topic, qos, id, expiry, subscription, content))
+        // For the proof: this call says that the message fits a packet.
+        let _payload = found.message().payload();
+        Reply::Publish(Publication::new(found.into_retained(), qos, id, expiry, subscription))
     }
 }
 
@@ -92,16 +89,14 @@ fn publish_of(waiting: Waiting, now: u64, id: Option<PacketId>) -> Publish
     ensures { result ≡ packet_at now waiting id }
 {
     let qos = lesser_of(&waiting);
+    let expiry = interval_at(waiting.found.message(), now);
     let Waiting {
         found,
         granted: _,
         subscription,
     } = waiting;
-    let Found { topic, message } = found;
-    let expiry = interval_at(&message, now);
     Publish {
-        topic,
-        message,
+        found,
         qos,
         id,
         expiry,

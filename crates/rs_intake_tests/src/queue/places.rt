@@ -1,6 +1,6 @@
 //! A store with its queue: a thread for each place, which follows a script, and one for the writer.
 
-ghost use Rattle.std.specs.Prelude.{◌≡◌, ◌<◌, ◌≤◌, [], false};
+ghost use Rattle.std.specs.Prelude.{◌≡◌, ◌<◌, ◌≤◌, [], false, All, IfSome};
 ghost use Rattle.rs_message.specs.Messages.{is_sweep};
 ghost use Rattle.rs_message.specs.declared.entry.TheConstants.{MAX_PLACES};
 ghost use Rattle.rs_version.specs.Writer.{kept_of};
@@ -126,6 +126,18 @@ fn submit<N: LineName, R: Wait>(
     }
 }
 
+/// The changes of so many turns, from this one on. `None` if memory is refused.
+fn changes_of(task: &Task, place: u8, first: u32, count: u32) -> Option<Vec<Operation>>
+    ensures { IfSome result (λ changes. All (λ o. is_sweep o ≡ false) changes.items) }
+{
+    let mut changes = Vec::new(task.alloc);
+    for turn in first..first.saturating_add(count) {
+        let change = operation_of(task.alloc, task.script.act(place, turn, 0))?;
+        changes.push(change).ok()?;
+    }
+    Some(changes)
+}
+
 /// Does what is due. `None` if memory is refused.
 fn take_turn<N: LineName, R: Wait + Clock + Abort>(
     rt: &R,
@@ -137,6 +149,14 @@ fn take_turn<N: LineName, R: Wait + Clock + Abort>(
 ) -> Option<()> {
     match act {
         Act::Nothing => Some(()),
+        Act::Expect(first, count) => {
+            line.expect(changes_of(task, line.place(), first, count)?);
+            Some(())
+        }
+        Act::HandOn => {
+            line.hand_on();
+            Some(())
+        }
         Act::Read(now) => {
             let snapshot = read_all(task.alloc, seat, now).ok()?;
             log.add_reading(snapshot)

@@ -18,9 +18,9 @@ const TOPICS: u32 = 3;
 fn text_of(alloc: Global, found: &Vec<Found>) -> Option<Vec<u8>> {
     let mut text = Vec::new(alloc);
     for found in found {
-        text.extend_from_slice(found.topic.as_bytes()).ok()?;
+        text.extend_from_slice(found.topic().as_bytes()).ok()?;
         text.push(b'=').ok()?;
-        text.extend_from_slice(found.message.payload().as_slice())
+        text.extend_from_slice(found.message().payload().as_slice())
             .ok()?;
         text.push(b';').ok()?;
     }

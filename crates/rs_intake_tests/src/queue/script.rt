@@ -23,6 +23,10 @@ pub(crate) enum Act {
     Largest,
     /// Submits the Clear of a topic.
     Clear([u8; 2]),
+    /// Announces the changes of so many turns, from this one on.
+    Expect(u32, u32),
+    /// Hands the line on.
+    HandOn,
     /// Reads all messages at this moment.
     Read(u64),
     /// Waits until all places have come to their meeting of this number.
@@ -37,6 +41,8 @@ pub(crate) enum Script {
     Changes,
     /// The first two of these changes.
     Two,
+    /// Changes that are announced, and sent three at a time.
+    Together,
     /// Sets of the place's own topic, with their numbers. Then the places meet, and read.
     Hundred,
     /// The last place submits the largest entry, and reads it.
@@ -54,6 +60,7 @@ impl Script {
     pub(crate) fn turns(&self) -> u32 {
         match self {
             Script::Changes => 5,
+            Script::Together => 15,
             Script::Two | Script::Largest => 2,
             Script::Hundred => 102,
             Script::Beside => 502,
@@ -66,6 +73,7 @@ impl Script {
     pub(crate) fn act(&self, place: u8, turn: u32, random: u64) -> Act {
         match self {
             Script::Changes | Script::Two => change_at(turn),
+            Script::Together => act_together(turn),
             Script::Hundred => act_of_hundred(place, turn),
             Script::Largest if place < MAX_PLACES => Act::Nothing,
             Script::Largest if turn == 0 => Act::Largest,
@@ -96,6 +104,27 @@ fn change_at(turn: u32) -> Act {
         2 => set(*b"c0", *b"02"),
         3 => set(*b"a0", *b"03"),
         _ => Act::Clear(*b"d0"),
+    }
+}
+
+/// In a store of two topics. The third change of the first job needs a Sweep, and the second one of the second job finds the store
+/// full. In the third job, the second change is not what is submitted then, and the line is handed on.
+fn act_together(turn: u32) -> Act {
+    match turn {
+        0 => Act::Expect(1, 3),
+        1 => Act::Set(*b"a0", *b"01", 10, Some(1)),
+        2 => Act::Set(*b"b0", *b"02", 10, Some(1)),
+        3 => Act::Set(*b"c0", *b"03", 20, Some(1)),
+        4 => Act::Expect(5, 3),
+        5 => Act::Set(*b"d0", *b"05", 20, None),
+        6 => Act::Set(*b"e0", *b"06", 20, None),
+        7 => Act::Clear(*b"c0"),
+        8 => Act::Expect(12, 3),
+        9 | 12 => set(*b"f0", *b"12"),
+        10 => set(*b"g0", *b"10"),
+        11 => Act::HandOn,
+        13 => Act::Clear(*b"d0"),
+        _ => Act::Clear(*b"f0"),
     }
 }
 
@@ -178,6 +207,6 @@ pub(crate) fn operation_of(alloc: Global, act: Act) -> Option<Operation>
         }
         Act::Largest => largest(alloc),
         Act::Clear(topic) => clear(alloc, &topic),
-        Act::Read(_) | Act::Meet(_) | Act::Nothing => None,
+        Act::Expect(_, _) | Act::HandOn | Act::Read(_) | Act::Meet(_) | Act::Nothing => None,
     }
 }

@@ -106,7 +106,7 @@ fn holds_nothing<N: StoreName, R: Wait + Drop>(writer: &mut VersionWriter<N, R>)
 fn topics_of(alloc: Global, found: &Vec<Found>) -> Option<Vec<u8>> {
     let mut topics = Vec::new(alloc);
     for found in found {
-        topics.extend_from_slice(found.topic.as_bytes()).ok()?;
+        topics.extend_from_slice(found.topic().as_bytes()).ok()?;
         topics.push(b' ').ok()?;
     }
     Some(topics)

@@ -37,8 +37,13 @@ pub(crate) fn body_len(p: &Publication) -> (usize, usize)
     ensures section_small { result.1 < varint_end }
     ensures fits { PublishFits p.now }
 {
-    let section = properties_len(p.expiry, p.subscription, p.content.properties());
-    let len = around_len(&p.topic, p.id.is_some(), section, p.content.payload().len());
+    let section = properties_len(p.expiry, p.subscription, p.retained.message().properties());
+    let len = around_len(
+        p.retained.topic(),
+        p.id.is_some(),
+        section,
+        p.retained.message().payload().len(),
+    );
     (len, section)
 }
 
@@ -59,11 +64,16 @@ pub(crate) fn put_publication(out: &mut Vec<u8>, p: &Publication) -> Result<(), 
     let (len, section) = body_len(p);
     out.push(0x31 + 2 * p.qos.level())?;
     put_varint(out, len)?;
-    put_binary(out, p.topic.as_bytes())?;
+    put_binary(out, p.retained.topic().as_bytes())?;
     put_id(out, p.id)?;
     put_varint(out, section)?;
-    put_properties(out, p.expiry, p.subscription, p.content.properties())?;
-    out.extend_from_slice(p.content.payload().as_slice())?;
+    put_properties(
+        out,
+        p.expiry,
+        p.subscription,
+        p.retained.message().properties(),
+    )?;
+    out.extend_from_slice(p.retained.message().payload().as_slice())?;
     Ok(())
 }
 

@@ -26,6 +26,10 @@ impl Gate for Recording {
 
     ghost mark = { λ _. record { place = 1; serial = 0; sent = None } };
 
+    fn is_ahead(&self) -> bool {
+        false
+    }
+
     fn submit(&mut self, operation: Operation) -> Result<(), SubmitFault> {
         let Ok(()) = self.handed.push(operation) else {
             return Err(SubmitFault::NoMemory);
@@ -117,8 +121,9 @@ fn reply_to(alloc: Global, session: &mut Session<Recording>, packet: &[u8]) -> R
 /// One change was handed over: to `a`, with this payload, or with an empty one.
 fn is_handed(gate: &Recording, payload: &[u8]) -> bool {
     match gate.handed.as_slice() {
-        [Operation::Set(topic, message)] => {
-            topic.as_bytes() == b"a".as_slice() && message.payload().as_slice() == payload
+        [Operation::Set(found)] => {
+            found.topic().as_bytes() == b"a".as_slice()
+                && found.message().payload().as_slice() == payload
         }
         [Operation::Clear(topic)] => topic.as_bytes() == b"a".as_slice() && payload.is_empty(),
         _ => false,

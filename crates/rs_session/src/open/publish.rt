@@ -5,7 +5,8 @@ ghost use Rattle.rs_message.specs.Messages.{is_sweep};
 ghost use Rattle.rs_message.specs.declared.entry.Operation.{Operation};
 ghost use Rattle.rs_session.specs.Gate.{Grows, GrowsAnswering, IsHandedOver, SendsAtMost, Uses, entry_by};
 ghost use Rattle.rs_session.specs.Points.{given_at, point_at};
-ghost use Rattle.rs_session.specs.Steps.{IsConcluded, outcome_before, outcome_of_submit, outcome_of_id, topic_refusal};
+ghost use Rattle.rs_session.specs.Ahead.{LeavesAhead};
+ghost use Rattle.rs_session.specs.Steps.{IsConcluded, IsUnsent, TakesAheadBy, outcome_before, outcome_of_submit, outcome_of_id, outcome_unmade, topic_refusal};
 ghost use Rattle.rs_session.specs.Table.{LeadsTo, acknowledged_by, held_id, held_with, is_held, is_one_too_many};
 
 use super::{Open, Outcome};
@@ -25,8 +26,9 @@ impl Open {
         p: Publish,
         now: u64,
     ) -> Outcome
-        ensures { GrowsAnswering G.stands G.mark gate.old gate.new (λ seen answered list.
+        ensures row { GrowsAnswering G.stands G.mark gate.old gate.new (λ seen answered list.
             LeadsTo (given_at (Input.Whole (Packet.Publish p)) now) (point_at self.old seen (G.mark gate.old)) answered result (point_at self.new list (G.mark gate.new))) }
+        ensures ahead { LeavesAhead (given_at (Input.Whole (Packet.Publish p)) now) (G.ahead gate.old) (G.ahead gate.new) (IsUnsent (G.mark gate.old) (G.mark gate.new) result) }
     {
         match self.outcome_before(&p) {
             Some(outcome) => outcome,
@@ -66,8 +68,9 @@ impl Open {
     #[tactic(auto, using(crate::proofs::Submitting::no_sweep))]
     fn hand_over<G: Gate>(&mut self, alloc: Global, gate: &mut G, p: Publish, now: u64) -> Outcome
         requires { outcome_before p self.old ≡ None }
-        ensures { GrowsAnswering G.stands G.mark gate.old gate.new (λ seen answered list.
+        ensures row { GrowsAnswering G.stands G.mark gate.old gate.new (λ seen answered list.
             LeadsTo (given_at (Input.Whole (Packet.Publish p)) now) (point_at self.old seen (G.mark gate.old)) answered result (point_at self.new list (G.mark gate.new))) }
+        ensures ahead { LeavesAhead (given_at (Input.Whole (Packet.Publish p)) now) (G.ahead gate.old) (G.ahead gate.new) (IsUnsent (G.mark gate.old) (G.mark gate.new) result) }
     {
         let Publish {
             duplicate: _,
@@ -90,9 +93,7 @@ impl Open {
                 self.hold(qos, held);
                 Outcome::Replies(acknowledged_by(qos, id, ReasonCode::Success))
             }
-            Err(AllocError) => {
-                Outcome::Replies(acknowledged_by(qos, id, ReasonCode::QuotaExceeded))
-            }
+            Err(AllocError) => outcome_unmade(gate.is_ahead(), qos, id),
         }
     }
 
@@ -110,6 +111,7 @@ impl Open {
             × IsConcluded operation qos id (point_at self.old seen (G.mark gate.old)) result (point_at self.new list (G.mark gate.new))) }
         ensures mark { Uses (G.mark gate.old) (G.mark gate.new) }
         ensures sent { SendsAtMost (G.mark gate.old).sent (entry_by operation (G.mark gate.new)) (G.mark gate.new).sent }
+        ensures ahead { TakesAheadBy operation (G.mark gate.old) (G.mark gate.new) result (G.ahead gate.old) (G.ahead gate.new) }
     {
         let submitted = gate.submit(operation);
         if submitted.is_ok() {
@@ -131,6 +133,16 @@ impl Open {
             }
         }
     }
+}
+
+/// What no memory for the change of a PUBLISH leads to. If changes were sent ahead, it may be one of them, and become an entry.
+fn outcome_unmade(is_ahead: bool, qos: Qos, id: Option<PacketId>) -> Outcome
+    ensures { result ≡ outcome_unmade is_ahead qos id }
+{
+    if is_ahead {
+        return Outcome::Closes(ReasonCode::QuotaExceeded);
+    }
+    Outcome::Replies(acknowledged_by(qos, id, ReasonCode::QuotaExceeded))
 }
 
 /// What a submit leads to, by what became of the change.

@@ -24,8 +24,9 @@ impl Open {
         s: Subscribe,
         now: u64,
     ) -> Outcome
-        ensures { GrowsAnswering G.stands G.mark gate.old gate.new (λ seen answered list.
+        ensures row { GrowsAnswering G.stands G.mark gate.old gate.new (λ seen answered list.
             LeadsTo (given_at (Input.Whole (Packet.Subscribe s)) now) (point_at self.old seen (G.mark gate.old)) answered result (point_at self.new list (G.mark gate.new))) }
+        ensures ahead { G.ahead gate.new ≡ G.ahead gate.old }
     {
         if any_shared_local(s.filters.as_slice()) {
             return Outcome::Closes(ReasonCode::ProtocolError);
@@ -58,6 +59,7 @@ impl Open {
         ensures list { Grows (G.stands gate.old) (G.stands gate.new) (λ seen list.
             IsGranted now asked identifier list self.old result self.new) }
         ensures mark { G.mark gate.new ≡ G.mark gate.old }
+        ensures ahead { G.ahead gate.new ≡ G.ahead gate.old }
     {
         let (filter, options) = asked;
         match filter {
@@ -93,6 +95,7 @@ impl Open {
         ensures list { Grows (G.stands gate.old) (G.stands gate.new) (λ seen list.
             MatchBool result (IsSubscribed now filter subscription list self.old self.new) (self.new ≡ self.old)) }
         ensures mark { G.mark gate.new ≡ G.mark gate.old }
+        ensures ahead { G.ahead gate.new ≡ G.ahead gate.old }
     {
         let kept = subscription;
         if !self.replay(gate, &filter, subscription, true, now) {
@@ -114,6 +117,7 @@ impl Open {
         ensures list { Grows (G.stands gate.old) (G.stands gate.new) (λ seen list.
             MatchBool result (IsSubscribed now filter subscription list self.old self.new) (self.new ≡ self.old)) }
         ensures mark { G.mark gate.new ≡ G.mark gate.old }
+        ensures ahead { G.ahead gate.new ≡ G.ahead gate.old }
     {
         if self.subscriptions.len() >= MAX_SUBSCRIPTIONS {
             return false;
@@ -147,6 +151,7 @@ impl Open {
             (MatchBool (replays subscription.options.retain_handling is_there) (IsQueued now filter.now subscription list self.old self.new) (self.new.window ≡ self.old.window))
             (self.new ≡ self.old)) }
         ensures mark { G.mark gate.new ≡ G.mark gate.old }
+        ensures ahead { G.ahead gate.new ≡ G.ahead gate.old }
         ensures rest { self.new ≡ record self.old { window = self.new.window } }
     {
         if !replays(subscription.options.retain_handling, is_there) {

@@ -1,6 +1,7 @@
 //! The first packet.
 
 ghost use Rattle.std.specs.Prelude.{◌≡◌, ◌≤◌, ◌<◌, None, Some, IfOk, is_some};
+ghost use Rattle.rs_packet.specs.declared.packet.Publish.{Publish};
 ghost use Rattle.rs_packet.specs.declared.reply.Reply.{Reply};
 ghost use Rattle.rs_session.specs.Reasons.{code_of};
 ghost use Rattle.rs_session.specs.State.{state_of, ended, within};
@@ -27,6 +28,7 @@ impl<G: Gate> Session<G> {
         requires before { self.old.phase ≡ Phase.Before }
         ensures row { AnswersWithoutGate (Input.Whole packet) (state_of self.old) self.new.due (state_of self.new) }
         ensures gate { self.new.gate ≡ self.old.gate }
+        ensures early { (p : Publish) → packet ≡ Packet.Publish p → self.new.phase ≡ Phase.Ended Closing.Dropped }
     {
         match packet {
             Packet::Connect(c) => self.connect(&c),

@@ -43,7 +43,7 @@ fn halves(alloc: Global, level: Label, children: &[Child]) -> Result<(Child, Chi
 {
     let (low, high) = children.split_at(HALF);
     let first = &high[0];
-    let middle = first.level.again()?;
+    let middle = first.level.own(alloc)?;
     Ok((
         Child::row(alloc, level, low)?,
         Child::row(alloc, middle, high)?,

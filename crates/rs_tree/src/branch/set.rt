@@ -14,13 +14,14 @@ use super::{Below, Branch, Child, Stem, place_of};
 use crate::bucket::Bucket;
 use crate::chain::{behind, shared_levels};
 use crate::label::Label;
+use crate::leaves::Leaves;
 use crate::shared::Shared;
 use rs_topic::level_at;
 use std::alloc::{AllocError, Global};
 use std::sync::Arc;
 
 /// A chain of the levels that the messages of a bucket share, and a branch of the same messages.
-fn parted(alloc: Global, bucket: &Bucket) -> Result<Stem, AllocError>
+fn parted(alloc: Global, bucket: &Leaves) -> Result<Stem, AllocError>
     ensures { IfOk result (λ s. stem_spots s ≡ bucket.now) }
 {
     let chain = bucket.shared(alloc)?;
@@ -34,6 +35,23 @@ fn parted(alloc: Global, bucket: &Bucket) -> Result<Stem, AllocError>
         branch.hold(alloc, leaf.found.again()?, next)?;
     }
     Ok(Stem { chain, branch })
+}
+
+/// The level of a bucket to which a message comes: a part of its topic if no other is there then, or else bytes of its own.
+fn renewed(
+    alloc: Global,
+    level: &Label,
+    bucket: &Bucket,
+    found: &Shared,
+    at: usize,
+    next: usize,
+) -> Result<Label, AllocError>
+    ensures { IfOk result (λ l. l ≡ level.now) }
+{
+    if bucket.is_one_at(found.topic(), next) {
+        return Label::of(alloc, level.as_slice(), found, at);
+    }
+    level.own(alloc)
 }
 
 impl Child {
@@ -51,11 +69,14 @@ impl Child {
         ensures told { IfOk result (λ was. was ≡ is_there (levels_from at found.topic) self.old.spots) }
         ensures refused { OnErr result (self.new.spots ≡ self.old.spots) }
     {
-        if let Below::Few(bucket) = &mut self.below {
-            return bucket.set(alloc, found, next);
-        }
-        // Never: the children of a branch that is made of a bucket are buckets.
-        Err(AllocError)
+        let Below::Few(bucket) = &mut self.below else {
+            // Never: the children of a branch that is made of a bucket are buckets.
+            return Err(AllocError);
+        };
+        let level = renewed(alloc, &self.level, bucket, &found, at, next)?;
+        let was = bucket.set(alloc, found, next)?;
+        self.level = level;
+        Ok(was)
     }
 
     /// Puts a branch in the place of a bucket that has too many messages. If memory is refused, the bucket stays, and the next entry
@@ -67,10 +88,10 @@ impl Child {
         let Below::Few(bucket) = &self.below else {
             return;
         };
-        if !bucket.is_over() {
+        let Some(messages) = bucket.over() else {
             return;
-        }
-        let Ok(stem) = parted(alloc, bucket) else {
+        };
+        let Ok(stem) = parted(alloc, messages) else {
             return;
         };
         if let Ok(stem) = Arc::new(alloc, stem) {
@@ -96,8 +117,8 @@ impl Child {
         ensures refused { OnErr result (self.new.spots ≡ self.old.spots) }
     {
         match &mut self.below {
-            Below::Few(bucket) => {
-                let done = bucket.set(alloc, found, next);
+            Below::Few(_) => {
+                let done = self.hold(alloc, found, at, next);
                 self.part(alloc);
                 return done;
             }
@@ -209,7 +230,7 @@ impl Branch {
         match place_of(self.children.as_slice(), level) {
             Ok(i) => self.children[i].hold(alloc, found, at, next),
             Err(i) => {
-                let label = Label::new(alloc, level)?;
+                let label = Label::of(alloc, level, &found, at)?;
                 let child = Child::of(alloc, label, found, next)?;
                 self.children.reserve_exact(1)?;
                 self.children.insert(i, child)?;
@@ -237,7 +258,7 @@ impl Branch {
                 done
             }
             Err(i) => {
-                let label = Label::new(alloc, level)?;
+                let label = Label::of(alloc, level, &found, at)?;
                 let child = Child::of(alloc, label, found, next)?;
                 self.children.reserve_exact(1)?;
                 self.children.insert(i, child)?;

@@ -1,16 +1,27 @@
-//! What a Sweep leaves of a branch. It is built beside the branch, and shares what it leaves as it is.
+//! What a Sweep leaves of a branch. It is built beside the branch, only where a message goes, and shares all else.
 
-ghost use Rattle.std.specs.Prelude.{◌≡◌, IfOk, OnOk};
+ghost use Rattle.std.specs.Prelude.{◌≡◌, ◌+◌, ◌≤◌, ◌<◌, true, if◌then◌else◌, length, take, IfOk, OnOk};
 ghost use Rattle.std.specs.List.{filter};
 ghost use Rattle.rs_tree.specs.Spots.{IsFull, is_nothing, own};
 ghost use Rattle.rs_tree.specs.Sweeping.{spot_stays};
-ghost use Rattle.rs_tree.specs.Rows.{IsLeft, IsRow, Notes, parts, push_some};
+ghost use Rattle.rs_tree.specs.Rests.{IsBranchRest, IsRest, IsRestOf};
+ghost use Rattle.rs_tree.specs.Rows.{IsRow, Notes};
 
-use super::{Below, Branch, Child, Stem};
+use super::{Below, Branch, Child, Stem, copies};
 use crate::found::is_expired;
 use crate::shared::Shared;
 use std::alloc::{AllocError, Global};
 use std::sync::Arc;
+
+/// What a Sweep leaves of a child.
+#[derive(Drop)]
+enum Rest {
+    /// All of it: no message goes.
+    All,
+    /// Less.
+    Less(Child),
+    Nothing,
+}
 
 /// The message of one place, unless it is expired, and notes if it goes.
 fn held_swept(
@@ -31,17 +42,62 @@ fn held_swept(
     Ok(Some(found.again()?))
 }
 
-/// Appends a child, if there is one.
-fn push_left(children: &mut Vec<Child>, child: Option<Child>) -> Result<(), AllocError>
-    ensures { OnOk result (children.new.items ≡ push_some children.old.items child) }
+/// Begins what is left of some children with the first of them, unless it is begun.
+fn begin(
+    alloc: Global,
+    children: &[Child],
+    i: usize,
+    left: &mut Vec<Child>,
+    goes: &mut bool,
+) -> Result<(), AllocError>
+    requires { i ≤ length children.now }
+    ensures begun { goes.new ≡ true }
+    ensures left { OnOk result (left.new.items ≡ if goes.old then left.old.items else take i children.now) }
 {
-    if let Some(child) = child {
-        children.push(child)?;
+    if *goes {
+        return Ok(());
     }
+    *goes = true;
+    let (before, _) = children.split_at(i);
+    *left = copies(alloc, before)?;
     Ok(())
 }
 
-/// What is left of each child. It notes if a message goes.
+/// Appends what is left of one of the children to what is left of those before it, which is begun once a message goes.
+#[cycle(swept)]
+fn one_swept(
+    alloc: Global,
+    children: &[Child],
+    i: usize,
+    moment: u64,
+    left: &mut Vec<Child>,
+    goes: &mut bool,
+) -> Result<(), AllocError>
+    requires row { IsRow children.now }
+    requires within { i < length children.now }
+    requires before { IsRestOf moment (take i children.now) goes.old left.old.items }
+    ensures left { OnOk result (IsRestOf moment (take (i + 1) children.now) goes.new left.new.items) }
+    ensures noted { goes.old ≡ true → goes.new ≡ true }
+{
+    let child = &children[i];
+    match child.swept(alloc, moment)? {
+        Rest::All => {
+            if !*goes {
+                return Ok(());
+            }
+            left.push(child.again()?)?;
+            Ok(())
+        }
+        Rest::Less(less) => {
+            begin(alloc, children, i, left, goes)?;
+            left.push(less)?;
+            Ok(())
+        }
+        Rest::Nothing => begin(alloc, children, i, left, goes),
+    }
+}
+
+/// What is left of the children. It notes if a message goes, and is empty if it has noted none.
 #[cycle(swept)]
 fn each_swept(
     alloc: Global,
@@ -50,57 +106,44 @@ fn each_swept(
     goes: &mut bool,
 ) -> Result<Vec<Child>, AllocError>
     requires { IsRow children.now }
-    ensures row { IfOk result (λ left. IsRow left.items) }
-    ensures left { IfOk result (λ left. parts left.items ≡ filter (spot_stays moment) (parts children.now)) }
-    ensures noted { OnOk result (Notes moment (parts children.now) goes.old goes.new) }
+    ensures left { IfOk result (λ left. IsRestOf moment children.now goes.new left.items) }
+    ensures noted { goes.old ≡ true → goes.new ≡ true }
 {
-    let mut left = Vec::with_capacity(alloc, children.len())?;
-    for child in children {
-        push_left(&mut left, child.swept(alloc, moment, goes)?)?;
+    let mut left = Vec::new(alloc);
+    for i in 0..children.len() {
+        one_swept(alloc, children, i, moment, &mut left, goes)?;
     }
+    left.shrink_to_fit();
     Ok(left)
 }
 
 impl Child {
-    /// What is left of it, if anything is: it itself, if no message goes. It notes if one goes.
+    /// What is left of it.
     #[cycle(swept)]
-    fn swept(
-        &self,
-        alloc: Global,
-        moment: u64,
-        goes: &mut bool,
-    ) -> Result<Option<Child>, AllocError>
+    fn swept(&self, alloc: Global, moment: u64) -> Result<Rest, AllocError>
         requires { IsFull self.now.spots }
-        ensures left { IfOk result (λ left. IsLeft moment self.now left) }
-        ensures noted { OnOk result (Notes moment self.now.spots goes.old goes.new) }
+        ensures { IfOk result (λ rest. IsRest moment self.now rest) }
     {
         match &self.below {
             Below::Few(bucket) => {
                 if moment < bucket.earliest(u64::MAX) {
-                    let all = self.again(alloc)?;
-                    return Ok(Some(all));
+                    return Ok(Rest::All);
                 }
-                *goes = true;
-                let left = bucket.swept(alloc, moment)?;
-                if left.is_empty() {
-                    return Ok(None);
-                }
+                let Some(left) = bucket.swept(alloc, moment)? else {
+                    return Ok(Rest::Nothing);
+                };
                 let level = self.level.again()?;
-                Ok(Some(Child {
+                Ok(Rest::Less(Child {
                     level,
                     below: Below::Few(left),
                 }))
             }
             Below::Inner(stem) => {
-                let mut here = false;
-                let branch = stem.branch.swept(alloc, moment, &mut here)?;
-                if !here {
-                    let all = self.again(alloc)?;
-                    return Ok(Some(all));
-                }
-                *goes = true;
+                let Some(branch) = stem.branch.swept(alloc, moment)? else {
+                    return Ok(Rest::All);
+                };
                 if branch.is_empty() {
-                    return Ok(None);
+                    return Ok(Rest::Nothing);
                 }
                 let chain = Vec::from_slice(alloc, stem.chain.as_slice())?;
                 let level = self.level.again()?;
@@ -110,22 +153,18 @@ impl Child {
                     below: Below::Inner(left),
                 };
                 child.join(alloc);
-                Ok(Some(child))
+                Ok(Rest::Less(child))
             }
             Below::Row(row) => {
-                let mut here = false;
-                let branch = row.swept(alloc, moment, &mut here)?;
-                if !here {
-                    let all = self.again(alloc)?;
-                    return Ok(Some(all));
-                }
-                *goes = true;
+                let Some(branch) = row.swept(alloc, moment)? else {
+                    return Ok(Rest::All);
+                };
                 if branch.is_empty() {
-                    return Ok(None);
+                    return Ok(Rest::Nothing);
                 }
                 let level = self.level.again()?;
                 let left = Arc::new(alloc, branch)?;
-                Ok(Some(Child {
+                Ok(Rest::Less(Child {
                     level,
                     below: Below::Row(left),
                 }))
@@ -144,16 +183,19 @@ impl Branch {
         self.children.len() == 0
     }
 
-    /// A branch of the messages that are not expired. It notes if one goes.
+    /// A branch of the messages that are not expired, or none if no message goes.
     #[cycle(swept)]
-    pub fn swept(&self, alloc: Global, moment: u64, goes: &mut bool) -> Result<Branch, AllocError>
-        ensures left { IfOk result (λ b. b.spots ≡ filter (spot_stays moment) self.now.spots) }
-        ensures noted { OnOk result (Notes moment self.now.spots goes.old goes.new) }
+    pub fn swept(&self, alloc: Global, moment: u64) -> Result<Option<Branch>, AllocError>
+        ensures { IfOk result (λ rest. IsBranchRest moment self.now.spots rest) }
     {
-        let held = held_swept(&self.held, moment, goes)?;
-        let children = each_swept(alloc, self.children.as_slice(), moment, goes)?;
+        let mut goes = false;
+        let held = held_swept(&self.held, moment, &mut goes)?;
+        let children = each_swept(alloc, self.children.as_slice(), moment, &mut goes)?;
+        if !goes {
+            return Ok(None);
+        }
         let mut left = Branch { held, children };
         left.unfold(alloc);
-        Ok(left)
+        Ok(Some(left))
     }
 }

@@ -43,9 +43,12 @@ impl Draw {
     }
 }
 
+/// A level of more bytes than a node of the tree has room for.
+const LONG: &[u8] = b"a.long.level.of.26.bytes.a";
+
 /// Levels of a topic name. Long names share most of theirs.
 pub fn name_of(alloc: Global, draw: &mut Draw) -> Result<Vec<u8>, Fail> {
-    let levels: [&[u8]; 8] = [b"a", b"a", b"b", b"", b"$s", b"a.b", b"$", b"aa"];
+    let levels: [&[u8]; 8] = [b"a", b"a", b"b", b"", b"$s", LONG, b"$", b"aa"];
     let mut name = Vec::new(alloc);
     let length = draw.length();
     for i in 0..length {
@@ -63,7 +66,7 @@ pub fn name_of(alloc: Global, draw: &mut Draw) -> Result<Vec<u8>, Fail> {
 
 /// Levels of a topic filter.
 fn filter_of(alloc: Global, draw: &mut Draw) -> Result<Vec<u8>, Fail> {
-    let levels: [&[u8]; 8] = [b"+", b"a", b"+", b"b", b"", b"$s", b"+", b"aa"];
+    let levels: [&[u8]; 8] = [b"+", b"a", b"+", b"b", b"", b"$s", b"+", LONG];
     let mut filter = Vec::new(alloc);
     let length = draw.length();
     for i in 0..length {
@@ -122,9 +125,9 @@ fn answer_of<C: Catalogue>(
 ) -> Result<Vec<u8>, Fail> {
     let mut all = Vec::new(alloc);
     for one in &catalogue.answer(filter, now)? {
-        all.extend_from_slice(one.topic.as_bytes())?;
+        all.extend_from_slice(one.topic().as_bytes())?;
         all.push(b'=')?;
-        all.extend_from_slice(one.message.payload().as_slice())?;
+        all.extend_from_slice(one.message().payload().as_slice())?;
         all.push(b' ')?;
     }
     Ok(all)

@@ -115,7 +115,7 @@ fn answers<C: Catalogue>(
     let filter = TopicFilter::read(alloc, filter)?;
     let mut all = Vec::new(alloc);
     for one in &catalogue.answer(&filter, now)? {
-        all.extend_from_slice(one.topic.as_bytes())?;
+        all.extend_from_slice(one.topic().as_bytes())?;
         all.push(b' ')?;
     }
     Ok(all.as_slice() == topics)

@@ -62,7 +62,7 @@ fn is_same_answer(a: &[(usize, Found)], b: &[(usize, Found)]) -> bool {
     }
     for i in 0..a.len() {
         let ((of_a, x), (of_b, y)) = (&a[i], &b[i]);
-        if of_a != of_b || x.topic != y.topic || x.message != y.message {
+        if of_a != of_b || x != y {
             return false;
         }
     }
@@ -117,7 +117,7 @@ fn moment(number: u32) -> u64 {
 fn swept(shown: Shown, moment: u64) -> Shown {
     let mut shown = shown;
     let mut count = 0u64;
-    shown.found.retain(|(_, one)| one.message.remaining(moment) != Remaining::Expired);
+    shown.found.retain(|(_, one)| one.message().remaining(moment) != Remaining::Expired);
     for (of, _) in &shown.found {
         // The first filter finds all topics.
         count = count.wrapping_add(u64::from(*of == 0));
@@ -131,7 +131,7 @@ fn swept(shown: Shown, moment: u64) -> Shown {
 /// The same with nothing of this topic in the answers.
 fn without(shown: Shown, topic: &TopicName) -> Shown {
     let mut shown = shown;
-    shown.found.retain(|(_, one)| one.topic != *topic);
+    shown.found.retain(|(_, one)| one.topic() != topic);
     shown
 }
 

@@ -13,7 +13,7 @@ const LENGTHS: [u32; 3] = [9, 40, 200];
 /// The next message that the window gives is of this topic, or there is none.
 fn gives(window: &mut Window, topic: Option<&TopicName>) -> bool {
     match (window.next(0), topic) {
-        (Some(publish), Some(topic)) => publish.topic == *topic,
+        (Some(publish), Some(topic)) => publish.found.topic() == topic,
         (None, None) => true,
         _ => false,
     }

@@ -4,7 +4,7 @@ use super::row::nanos;
 use crate::failure::Failure;
 use bytes::Bytes;
 use rs_packet::{
-    Codes, Decoded, MAX_PACKET_SIZE, MessageContent, Packet, Publication, Publish, Reply,
+    Codes, Decoded, MAX_PACKET_SIZE, Message, Packet, Publication, Publish, Reply, Retained,
     Subscribe, decode, encode,
 };
 use std::alloc::Global;
@@ -46,7 +46,7 @@ fn parts_of(decoded: &Decoded) -> usize {
     }
 }
 
-/// The PUBLISH that the server would send of this one.
+/// The PUBLISH that the server would send of this one, which has a payload.
 fn publication(alloc: Global, publish: Publish) -> Result<Reply, Failure> {
     let Publish {
         qos,
@@ -58,8 +58,14 @@ fn publication(alloc: Global, publish: Publish) -> Result<Reply, Failure> {
         ..
     } = publish;
     let topic = topic?;
-    let content = MessageContent::new(alloc, payload, properties)?;
-    let sent = Publication::new(topic, qos, id, expiry, None, content);
+    if payload.is_empty() {
+        return Err(Failure::Input);
+    }
+    let message = Message::new(payload, qos, 0, expiry, properties);
+    let Ok(retained) = Retained::new(alloc, topic, message) else {
+        return Err(Failure::NoMemory);
+    };
+    let sent = Publication::new(retained, qos, id, expiry, None);
     Ok(Reply::Publish(sent))
 }
 

@@ -2,7 +2,6 @@
 
 use crate::failure::Failure;
 use crate::samples::messages;
-use rs_message::Found;
 use rs_packet::{PacketId, Qos};
 use rs_topic::TopicName;
 use rs_window::{Publish, Window};
@@ -28,9 +27,9 @@ fn round(alloc: Global, window: &mut Window) -> Result<(), Failure> {
     let publish = window.next(0).ok_or(Failure::Wrong)?;
     let id = publish.id.ok_or(Failure::Wrong)?;
     acknowledge(window, publish.qos, id)?;
-    let Publish { topic, message, .. } = publish;
+    let Publish { found, .. } = publish;
     let mut again = Vec::with_capacity(alloc, 1)?;
-    again.push(Found { topic, message })?;
+    again.push(found)?;
     window.queue(again, Qos::ExactlyOnce, None)?;
     Ok(())
 }

@@ -356,8 +356,9 @@ const PUBLISHES: &[Row] = &[
             Part::Long(24),
             Part::Bytes(&[9]),
             Part::Long(24),
+            Part::Filled(1),
         ],
-        Shape::Publish(true, 0, 0, 0, 0, 0, Kept(0, b'a', b'a', b'a', 0)),
+        Shape::Publish(true, 0, 0, 0, 0, 1, Kept(0, b'a', b'a', b'a', 0)),
     ),
     (
         0x31,
@@ -370,8 +371,9 @@ const PUBLISHES: &[Row] = &[
             Part::Long(257),
             Part::Bytes(&[9]),
             Part::Long(257),
+            Part::Filled(1),
         ],
-        Shape::Publish(true, 0, 0, 0, 0, 0, Kept(0, b'a', b'a', b'a', 0)),
+        Shape::Publish(true, 0, 0, 0, 0, 1, Kept(0, b'a', b'a', b'a', 0)),
     ),
     (
         0x31,
@@ -384,8 +386,9 @@ const PUBLISHES: &[Row] = &[
             Part::Long(40_000),
             Part::Bytes(&[9]),
             Part::Long(40_000),
+            Part::Filled(1),
         ],
-        Shape::Publish(true, 0, 0, 0, 0, 0, Kept(0, b'a', b'a', b'a', 0)),
+        Shape::Publish(true, 0, 0, 0, 0, 1, Kept(0, b'a', b'a', b'a', 0)),
     ),
     (
         0x31,
@@ -398,8 +401,9 @@ const PUBLISHES: &[Row] = &[
             Part::Long(65_531),
             Part::Bytes(&[9]),
             Part::Long(65_531),
+            Part::Filled(1),
         ],
-        Shape::Publish(true, 0, 0, 0, 0, 0, Kept(0, b'a', b'a', b'a', 0)),
+        Shape::Publish(true, 0, 0, 0, 0, 1, Kept(0, b'a', b'a', b'a', 0)),
     ),
 ];
 

@@ -85,8 +85,14 @@ fn reply_of(
         ..
     } = publish;
     let topic = topic.ok()?;
-    let content = MessageContent::new(alloc, payload, properties).ok()?;
-    let sent = Publication::new(topic, qos, id_at(qos), expiry, subscription, content);
+    if payload.is_empty() {
+        return None;
+    }
+    let message = Message::new(payload, qos, 0, expiry, properties);
+    let Ok(retained) = Retained::new(alloc, topic, message) else {
+        return None;
+    };
+    let sent = Publication::new(retained, qos, id_at(qos), expiry, subscription);
     Some(Reply::Publish(sent))
 }
 

@@ -1,4 +1,4 @@
-use Rattle.std.proofs.Common.{◌≡◌, ◌∷◌, ◌++◌, ℕ, List, refl, sym, subst}
+use Rattle.std.proofs.Common.{◌≡◌, ◌∷◌, ◌++◌, ℕ, List, refl, sym, subst, ◌∙◌}
 use Rattle.rs_message.specs.declared.entry.Entry.{Entry}
 use Rattle.rs_store.specs.History.{IsLegal, SerialsRise}
 use Rattle.rs_session.specs.Run.{AreOfGate, Run, Turn}
@@ -7,8 +7,10 @@ use Rattle.rs_session.proofs.Replaying.{run_replays, replay_sends}
 use Rattle.rs_session.proofs.Runs.{of_gate_weaker}
 use Rattle.rs_session.proofs.Sending.{run_sends}
 use Rattle.rs_session.specs.Points.{point_at}
-use Rattle.rs_server.specs.Conversation.{assigned_of, start}
+use Rattle.rs_server.specs.Conversation.{AreLeft, assigned_of, start}
+use Rattle.rs_places.specs.Shared.{operations_of}
 use Rattle.rs_places.proofs.Marks.{marks_between}
+use Rattle.rs_places.proofs.Tails.{left_front}
 use Rattle.rs_places.proofs.serving.serve_place.Goals as goal
 
 pub returns-clause-connection : goal.returns-clause-connection
@@ -16,14 +18,19 @@ returns-clause-connection g c =
     let limit = g.N.StoreName.limit in
     let gate = c.args.gate in
     let number = c.args.number in
-    let after = c.serve.result.1 in
-    let (state, held, conversation, ends) = c.serve.ensures.conversation gate.known (record { known = refl; legal = c.version-version.ensures.legal }) in
+    let before = c.serve-served.result.1 in
+    let after = c.hand_on.new.self in
+    let (state, planned, left, talk, ends) = c.serve-served.ensures.conversation gate.known (record { known = refl; legal = c.version-version.ensures.legal }) in
+    let conversation = talk.conversation in
     let turns = conversation.turns in
+    let (tail, hands_on, front) = c.hand_on.ensures.mark in
     let from = start (assigned_of gate.mark.place number) gate.known gate.mark in
-    let to = point_at state after.known after.mark in
-    let P : ℕ → Type 0 = λ place. Run (start (assigned_of place number) gate.known gate.mark) turns (point_at state conversation.seen after.mark) in
-    let Q : List Entry → Type 0 = λ list. Run from turns (point_at state list after.mark) in
-    let run : Run from turns to = subst Q (sym conversation.stood_for.known) (subst P c.place.ensures.place conversation.run) in
+    let to = point_at state after.known before.mark in
+    let known : conversation.seen ≡ after.known = sym (c.hand_on.ensures.known ∙ conversation.stood_for.known) in
+    let P : ℕ → Type 0 = λ place. Run (start (assigned_of place number) gate.known gate.mark) turns (point_at state conversation.seen before.mark) in
+    let Q : List Entry → Type 0 = λ list. Run from turns (point_at state list before.mark) in
+    let run : Run from turns to = subst Q known (subst P c.place.ensures.place conversation.run) in
+    let A : ℕ → Type 0 = λ place. AreLeft (start (assigned_of place number) gate.known gate.mark) turns planned before.ahead in
     let L : List Entry → Type 0 = λ list. IsLegal limit list in
     let legal : AreOfGate (λ mark list. IsLegal limit list) turns = of_gate_weaker _ (λ mark list. IsLegal limit list) turns (λ mark list h. h.1.legal) conversation.of_gate in
     let rises : AreOfGate (λ mark list. SerialsRise list) turns = of_gate_weaker (λ mark list. IsLegal limit list) (λ mark list. SerialsRise list) turns (λ mark list h. h.rises) legal in
@@ -32,19 +39,27 @@ returns-clause-connection g c =
     record {
       turns = turns;
       state = state;
+      mark = before.mark;
       bytes = conversation.bytes;
-      held = held;
+      held = talk.held;
+      planned = planned;
+      left = left;
       run = run;
       read = conversation.read;
       inputs = conversation.inputs;
+      whole = talk.whole;
       moments = conversation.moments;
       replies = conversation.replies;
       ends = ends;
       legal = legal;
-      last_legal = subst L (sym conversation.stood_for.known) conversation.stood_for.legal;
+      last_legal = subst L known conversation.stood_for.legal;
       lists = run_lists from to turns run;
       kept = λ before turn later o p answer whole is_open told. run_keeps from to before turn later o p answer (subst R whole run) (subst S whole rises) is_open told;
       marks = λ before between later whole. marks_between from to turns before between later run whole;
       publications = run_sends from to turns run;
+      tail = tail;
+      handed_on = hands_on;
+      none_ahead = c.hand_on.ensures.ahead;
+      tail_is = λ none. left_front from turns planned (operations_of tail) before.ahead front (subst A c.place.ensures.place (talk.expected none));
       sent = λ connect opens. let made = run_replays (assigned_of gate.mark.place number) from to turns connect refl run opens in (made, replay_sends connect turns made);
     }

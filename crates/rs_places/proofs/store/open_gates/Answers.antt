@@ -5,8 +5,7 @@ use Rattle.rs_places.proofs.store.open_gates.Goals as goal
 pub loop-seat-preserved : goal.loop-seat-preserved
 loop-seat-preserved g c =
     let steps = c.in-Some.ensures.steps in
-    let new = c.new-in-loop-seat.ensures in
-    next_gate _ _ _ _ _ _ _ _ _ _ c.in-Ok.ensures.items c.loop-seat.invariant steps.0.0 steps.1.0 new.known new.mark
+    next_gate _ _ _ _ _ _ _ _ _ _ c.in-Ok.ensures.items c.loop-seat.invariant steps.0.0 steps.1.0 c.new-in-loop-seat.ensures.gate
 
 pub returns : goal.returns
 returns g c =

@@ -5,18 +5,19 @@ use Rattle.rs_session.specs.Gate.{Mark}
 use Rattle.rs_session.specs.Local.{local_mark}
 use Rattle.rs_session.specs.Points.{point_at}
 use Rattle.rs_session.specs.Run.{Run}
-use Rattle.rs_server.specs.Conversation.{start, assigned_of, replies_of}
+use Rattle.rs_server.specs.Conversation.{start, assigned_of, moments_of, planned_moments, replies_of}
 use Rattle.rs_server.specs.Moments.{told_by}
 use Rattle.rs_program.specs.OwnStores.{content_of}
 use Rattle.rs_session.proofs.Runs.{of_gate_weaker}
 use Rattle.rs_program.specs.Memory.{IsOfMark}
 use Rattle.rs_program.proofs.OwnStores.{of_mark}
-use Rattle.rs_server.proofs.Clocks.{one_moment}
+use Rattle.rs_server.proofs.Clocks.{first_moments}
 use Rattle.rs_program.proofs.memory.serve_bytes.Goals as goal
 
 pub returns-in-Ok-0₀ : goal.returns-in-Ok-0₀
 returns-in-Ok-0₀ g c =
-    let (state, held, conversation, ends) = c.serve.ensures.conversation [] c.in-Ok.ensures.list in
+    let (state, planned, left, talk, ends) = c.serve.ensures.conversation [] c.in-Ok.ensures.list in
+    let conversation = talk.conversation in
     let to = point_at state conversation.seen (local_mark (content_of c.serve.result.1)) in
     let read = rw c.new-reader.ensures.inner at conversation.read in
     let written = rw (c.in-Ok-0₀.is, c.new-writer.ensures.inner) at conversation.replies in
@@ -25,12 +26,12 @@ returns-in-Ok-0₀ g c =
       turns = conversation.turns;
       to = to;
       taken = conversation.bytes;
-      held = held;
+      held = talk.held;
       rest = _;
       run = subst (λ (m : Mark). Run (start (assigned_of 1 1) [] m) conversation.turns to) c.in-Ok.ensures.mark conversation.run;
       split = read;
       inputs = conversation.inputs;
-      moments = one_moment c.args.now (told_by c.new-clock.result) _ c.new-3.result.items _ c.new-clock.ensures c.new-3.ensures.items conversation.moments;
+      moments = first_moments c.args.now (told_by c.new-clock.result) _ c.new-3.result.items (moments_of conversation.turns) (planned_moments planned) c.new-clock.ensures c.new-3.ensures.items conversation.moments;
       replies = ap (λ (v : Vec ℕ Global). v.items) c.into_inner.ensures ∙ written ∙ ap (λ (l : List ℕ). l ++ replies_of conversation.turns) c.new-2.ensures.items;
       closes = closes;
       each = of_gate_weaker _ IsOfMark conversation.turns (λ mark list h. of_mark h.0 mark list h.1 h.2) conversation.of_gate;

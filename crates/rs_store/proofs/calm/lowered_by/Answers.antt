@@ -3,7 +3,7 @@ use Rattle.rs_store.proofs.Expiring.{calm_after_set, calm_after_clear, calm_afte
 use Rattle.rs_store.proofs.calm.lowered_by.Goals as goal
 
 pub returns-in-Set : goal.returns-in-Set
-returns-in-Set c = λ content e is. calm_after_set c.args.until c.lowered.result c.in-Set.field-0 c.in-Set.message e c.lowered.ensures (is ∙ c.in-Set.is) content
+returns-in-Set c = λ content e is. calm_after_set c.args.until c.lowered.result c.in-Set.found.topic c.in-Set.found.message e (rw c.message.ensures at c.lowered.ensures) (is ∙ c.in-Set.is) content
 
 pub returns-in-Clear : goal.returns-in-Clear
 returns-in-Clear c = λ content e is. calm_after_clear c.args.until c.in-Clear.field-0 e (is ∙ c.in-Clear.is) content

@@ -94,18 +94,13 @@ Branch::set-returns-in_ok-insert-in-Err-clause-told t c =
     rw (e, ← c.self.view_is) (sym (there_gap c.self.inside.held es c.self.invariant c.in-Some.level.now (levels_from c.in-Some.next c.args.found.topic) c.in-Err.i here))
 
 pub Child::set-returns-in-Few-clause-done : goal.Child::set-returns-in-Few-clause-done
-Child::set-returns-in-Few-clause-done t c =
-    let leads : levels_from c.args.at c.args.found.topic ≡ c.self.inside.level ∷ levels_from c.args.next c.args.found.topic = rw (← c.self.view_is, c.in-Few.is) at c.requires.leads in
-    rw (← c.self.view_is, c.in-Few.is) (on_ok_weaker c.set-done.result (λ h. c.part.ensures.same ∙ grown_under c.self.inside.level (levels_from c.args.next c.args.found.topic) (levels_from c.args.at c.args.found.topic) c.args.found leads c.in-Few.bucket c.set-done.new.self h) c.set-done.ensures.done)
+Child::set-returns-in-Few-clause-done t c = rw (← c.self.view_is) (on_ok_weaker c.hold-done.result (λ h. c.part.ensures.same ∙ h) c.hold-done.ensures.done)
 
 pub Child::set-returns-in-Few-clause-told : goal.Child::set-returns-in-Few-clause-told
-Child::set-returns-in-Few-clause-told t c =
-    let leads : levels_from c.args.at c.args.found.topic ≡ c.self.inside.level ∷ levels_from c.args.next c.args.found.topic = rw (← c.self.view_is, c.in-Few.is) at c.requires.leads in
-    rw (← c.self.view_is, c.in-Few.is) (told_under c.self.inside.level (levels_from c.args.next c.args.found.topic) (levels_from c.args.at c.args.found.topic) c.args.found leads c.set-done.result c.in-Few.bucket c.set-done.ensures.told)
+Child::set-returns-in-Few-clause-told t c = rw (← c.self.view_is) c.hold-done.ensures.told
 
 pub Child::set-returns-in-Few-clause-refused : goal.Child::set-returns-in-Few-clause-refused
-Child::set-returns-in-Few-clause-refused t c =
-    rw (← c.self.view_is, c.in-Few.is) (on_err_weaker c.set-done.result (λ h. c.part.ensures.same ∙ ap (under c.self.inside.level) h) c.set-done.ensures.refused)
+Child::set-returns-in-Few-clause-refused t c = rw (← c.self.view_is) (on_err_weaker c.hold-done.result (λ h. c.part.ensures.same ∙ h) c.hold-done.ensures.refused)
 
 pub Child::set-returns-in-Inner-clause-done : goal.Child::set-returns-in-Inner-clause-done
 Child::set-returns-in-Inner-clause-done t c =

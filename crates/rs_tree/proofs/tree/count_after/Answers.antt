@@ -7,13 +7,13 @@ use Rattle.rs_tree.proofs.tree.count_after.Goals as goal
 
 pub returns-then-holds : goal.returns-then-holds
 returns-then-holds c =
-    let is : c.holds.result ≡ is_there (levels_from 0 c.in-Set.topic) c.args.root.now = rw c.as_bytes.ensures.bytes at c.holds.ensures in
-    rw c.in-Set.is (set_old c.args.root.now c.in-Set.topic c.in-Set.field-1 c.holds.result c.args.count c.requires.placed c.requires.sorted c.requires.counted is c.if-holds.true)
+    let is : c.holds.result ≡ is_there (levels_from 0 c.in-Set.found.topic) c.args.root.now = rw (c.as_bytes.ensures.bytes, c.topic.ensures) at c.holds.ensures in
+    rw c.in-Set.is (set_old c.args.root.now c.in-Set.found.topic c.in-Set.found.message c.holds.result c.args.count c.requires.placed c.requires.sorted c.requires.counted is c.if-holds.true)
 
 pub returns-else-holds : goal.returns-else-holds
 returns-else-holds c =
-    let is : c.holds.result ≡ is_there (levels_from 0 c.in-Set.topic) c.args.root.now = rw c.as_bytes.ensures.bytes at c.holds.ensures in
-    rw c.in-Set.is (set_new c.args.root.now c.in-Set.topic c.in-Set.field-1 c.holds.result c.args.count c.requires.placed c.requires.sorted c.requires.counted is c.if-holds.false)
+    let is : c.holds.result ≡ is_there (levels_from 0 c.in-Set.found.topic) c.args.root.now = rw (c.as_bytes.ensures.bytes, c.topic.ensures) at c.holds.ensures in
+    rw c.in-Set.is (set_new c.args.root.now c.in-Set.found.topic c.in-Set.found.message c.holds.result c.args.count c.requires.placed c.requires.sorted c.requires.counted is c.if-holds.false)
 
 pub returns-then-holds-2 : goal.returns-then-holds-2
 returns-then-holds-2 c =

@@ -1,10 +1,13 @@
-use Rattle.std.proofs.Common.{◌≡◌, ◌<◌, ◌⊎◌, ⊎_elim, inl, inr, ◌++◌, ◌∷◌, [], ℕ, List, refl, sym, ap, subst, ◌∙◌, arith}
+use Rattle.std.proofs.Common.{◌≡◌, ◌<◌, ◌⊎◌, ⊎_elim, inl, inr, ◌++◌, ◌∷◌, [], ℕ, List, Ok, Err, refl, sym, ap, subst, ◌∙◌, arith}
 use mathlib.Core.List.{IsPrefix}
+use Rattle.std.proofs.lemmas.Result.{err_from_is_err_and}
 use Rattle.rs_message.specs.declared.entry.Entry.{Entry}
-use Rattle.rs_session.specs.Gate.{Mark}
-use Rattle.rs_intake.specs.Lines.{job}
-use Rattle.rs_places.specs.Shared.{SharedValue, mark_of}
-use Rattle.rs_places.proofs.Receipts.{sends_at_most, sends_it, submits_ok}
+use Rattle.rs_session.specs.Gate.{Mark, TakesAhead, Uses}
+use Rattle.rs_message.specs.declared.fault.SubmitFault.TheVariants.{Strange}
+use Rattle.rs_intake.specs.Lines.{job, next_serial}
+use Rattle.rs_intake.proofs.Faults.{not_refused, refused_as}
+use Rattle.rs_places.specs.Shared.{IsOtherAhead, SharedValue, ahead_of, mark_of}
+use Rattle.rs_places.proofs.Receipts.{other_ahead, same_mark, sends_it, submits_ok, takes_ahead}
 use Rattle.rs_places.proofs.shared_gate.SharedGateGate.submit.Goals as goal
 
 pub returns-clause-list : goal.returns-clause-list
@@ -14,8 +17,9 @@ returns-clause-list g c = λ seen knows.
     let line = c.submit.new.line in
     let old : Mark = c.args.self.now.mark in
     let new : Mark = mark_of line in
+    let plain : mark_of c.self.inside.line ≡ old = ap (λ (v : SharedValue). v.mark) c.self.view_is in
     let known : c.self.inside.seat ≡ seen = ap (λ (v : SharedValue). v.known) c.self.view_is ∙ knows.known in
-    let serial : c.self.inside.line.serial ≡ old.serial = ap (λ (v : SharedValue). v.mark.serial) c.self.view_is in
+    let serial : c.self.inside.line.serial ≡ old.serial = ap (λ (m : Mark). m.serial) plain in
     let told : c.told.result ≡ receipt.told = c.told.ensures.told in
     let own = c.learn.ensures.own in
     let one : (list ≡ seen) ⊎ (list ≡ receipt.told) = ⊎_elim (λ (t : list ≡ c.self.inside.seat). inl (t ∙ known)) (λ (t : list ≡ c.told.result). inr (t ∙ told)) c.learn.ensures.one in
@@ -27,5 +31,41 @@ returns-clause-list g c = λ seen knows.
       record { known = refl; legal = c.learn.ensures.legal },
       (own.0, sym own.1 ∙ ap (λ l. l ++ own.0) known),
       submits_ok g.N.StoreName.limit c.args.operation old new seen list receipt.told receipt.entry receipt.number c.in_ok-receipt.ensures.legal c.in_ok-receipt.ensures.stands is one prefix above
-          (sends_it c.args.operation old c.self.inside.line line (ap (λ (v : SharedValue). v.mark) c.self.view_is) c.submit.ensures.place (c.in_ok-receipt.ensures.last ∙ ap (λ (e : Entry). c.self.inside.line.sent ++ e ∷ []) c.in_ok-receipt.ensures.entry)),
+          (sends_it c.args.operation old c.self.inside.line line plain c.submit.ensures.place (c.in_ok-receipt.ensures.last ∙ ap (λ (e : Entry). c.self.inside.line.sent ++ e ∷ []) c.in_ok-receipt.ensures.entry)),
     )
+
+pub returns-clause-ahead : goal.returns-clause-ahead
+returns-clause-ahead g c =
+    let s = c.submit.ensures in
+    let old = c.self.inside.line in
+    let new = c.submit.new.line in
+    let P : SharedValue → Type 0 = λ v. TakesAhead c.args.operation v.mark (mark_of new) (Ok tt) v.ahead (ahead_of new) in
+    subst P c.self.view_is (takes_ahead old.place old.serial old.expected new.expected old.ahead new.ahead c.args.operation (mark_of old) (mark_of new) (Ok tt) c.self.invariant.1 s.expected s.ahead
+    (λ other. absurd (not_refused _ _ _ c.in_ok-receipt.was (s.other other).0)))
+
+pub returns-in_err-receipt-clause-ahead : goal.returns-in_err-receipt-clause-ahead
+returns-in_err-receipt-clause-ahead g c =
+    let s = c.submit.ensures in
+    let p = err_from_is_err_and c.from_residual.result c.from_residual.ensures.1 in
+    let old = c.self.inside.line in
+    let new = c.submit.new.line in
+    let P : SharedValue → Type 0 = λ v. TakesAhead c.args.operation v.mark (mark_of new) c.from_residual.result v.ahead (ahead_of new) in
+    subst P c.self.view_is (takes_ahead old.place old.serial old.expected new.expected old.ahead new.ahead c.args.operation (mark_of old) (mark_of new) c.from_residual.result c.self.invariant.1 s.expected s.ahead
+    (λ other. let o = s.other other in (refused_as _ _ _ _ _ c.in_err-receipt.was o.0 p.1 p.2, same_mark old new s.place o.1 o.2)))
+
+pub returns-clause-serial : goal.returns-clause-serial
+returns-clause-serial g c =
+    let s = c.submit.ensures in
+    let new = c.submit.new.line in
+    let P : SharedValue → Type 0 = λ v. (new.serial ≡ next_serial v.mark.serial) ⊎ ((Ok tt ≡ Err Strange) × (mark_of new ≡ v.mark) × IsOtherAhead v.ahead c.args.operation) in
+    subst P c.self.view_is (⊎_elim (λ t. inl t) (λ other. absurd (not_refused _ _ _ c.in_ok-receipt.was (s.other other).0)) s.serial)
+
+pub returns-in_err-receipt-clause-serial : goal.returns-in_err-receipt-clause-serial
+returns-in_err-receipt-clause-serial g c =
+    let s = c.submit.ensures in
+    let p = err_from_is_err_and c.from_residual.result c.from_residual.ensures.1 in
+    let old = c.self.inside.line in
+    let new = c.submit.new.line in
+    let P : SharedValue → Type 0 = λ v. (new.serial ≡ next_serial v.mark.serial) ⊎ ((c.from_residual.result ≡ Err Strange) × (mark_of new ≡ v.mark) × IsOtherAhead v.ahead c.args.operation) in
+    subst P c.self.view_is (⊎_elim (λ t. inl t)
+    (λ other. let o = s.other other in inr (refused_as _ _ _ _ _ c.in_err-receipt.was o.0 p.1 p.2, same_mark old new s.place o.1 o.2, other_ahead old.ahead old.expected c.args.operation other)) s.serial)

@@ -7,57 +7,88 @@ use Rattle.rs_session.specs.declared.phase.Input.TheVariants.{Whole}
 use Rattle.rs_session.specs.Points.{given_at, point_at}
 use Rattle.rs_session.specs.Table.{LeadsTo}
 use Rattle.rs_session.proofs.Rows.{unmoved, connected_twice, pinged, disconnected}
+use Rattle.rs_session.proofs.Expecting.{by_another, by_publish}
 use Rattle.rs_session.proofs.open.Open.handle.Goals as goal
 
-pub returns-in-Connect : goal.returns-in-Connect
-returns-in-Connect g c =
+pub returns-in-Connect-clause-row : goal.returns-in-Connect-clause-row
+returns-in-Connect-clause-row g c =
     let o = c.args.self.now in
     unmoved g.G.Gate.stands g.G.Gate.mark c.args.gate.now c.args.gate.now (λ seen answered list used. LeadsTo (given_at (Whole c.args.packet) c.args.now) (point_at o seen (g.G.Gate.mark c.args.gate.now)) answered (Closes ProtocolError) (point_at o list used)) refl
     (λ list. connected_twice c.args.packet c.in-Connect._c c.args.now (point_at o list _) c.in-Connect.is)
 
-pub returns-in-Puback : goal.returns-in-Puback
-returns-in-Puback g c =
+pub returns-in-Puback-clause-row : goal.returns-in-Puback-clause-row
+returns-in-Puback-clause-row g c =
     let o = c.args.self.now in
     let mark = g.G.Gate.mark c.args.gate.now in
     unmoved g.G.Gate.stands g.G.Gate.mark c.args.gate.now c.args.gate.now (λ seen answered list used. LeadsTo (given_at (Whole c.args.packet) c.args.now) (point_at o seen mark) answered c.puback.result (point_at c.puback.new.self list used)) refl
     (λ list. subst (λ (p : Packet). LeadsTo (given_at (Whole p) c.args.now) (point_at o list mark) [] c.puback.result (point_at c.puback.new.self list mark)) (sym c.in-Puback.is) (c.puback.ensures c.args.now mark list))
 
-pub returns-in-Pubrec : goal.returns-in-Pubrec
-returns-in-Pubrec g c =
+pub returns-in-Pubrec-clause-row : goal.returns-in-Pubrec-clause-row
+returns-in-Pubrec-clause-row g c =
     let o = c.args.self.now in
     let mark = g.G.Gate.mark c.args.gate.now in
     unmoved g.G.Gate.stands g.G.Gate.mark c.args.gate.now c.args.gate.now (λ seen answered list used. LeadsTo (given_at (Whole c.args.packet) c.args.now) (point_at o seen mark) answered c.pubrec.result (point_at c.pubrec.new.self list used)) refl
     (λ list. subst (λ (p : Packet). LeadsTo (given_at (Whole p) c.args.now) (point_at o list mark) [] c.pubrec.result (point_at c.pubrec.new.self list mark)) (sym c.in-Pubrec.is) (c.pubrec.ensures c.args.now mark list))
 
-pub returns-in-Pubrel : goal.returns-in-Pubrel
-returns-in-Pubrel g c =
+pub returns-in-Pubrel-clause-row : goal.returns-in-Pubrel-clause-row
+returns-in-Pubrel-clause-row g c =
     let o = c.args.self.now in
     let mark = g.G.Gate.mark c.args.gate.now in
     unmoved g.G.Gate.stands g.G.Gate.mark c.args.gate.now c.args.gate.now (λ seen answered list used. LeadsTo (given_at (Whole c.args.packet) c.args.now) (point_at o seen mark) answered c.pubrel.result (point_at c.pubrel.new.self list used)) refl
     (λ list. subst (λ (p : Packet). LeadsTo (given_at (Whole p) c.args.now) (point_at o list mark) [] c.pubrel.result (point_at c.pubrel.new.self list mark)) (sym c.in-Pubrel.is) (c.pubrel.ensures c.args.now mark list))
 
-pub returns-in-Pubcomp : goal.returns-in-Pubcomp
-returns-in-Pubcomp g c =
+pub returns-in-Pubcomp-clause-row : goal.returns-in-Pubcomp-clause-row
+returns-in-Pubcomp-clause-row g c =
     let o = c.args.self.now in
     let mark = g.G.Gate.mark c.args.gate.now in
     unmoved g.G.Gate.stands g.G.Gate.mark c.args.gate.now c.args.gate.now (λ seen answered list used. LeadsTo (given_at (Whole c.args.packet) c.args.now) (point_at o seen mark) answered c.pubcomp.result (point_at c.pubcomp.new.self list used)) refl
     (λ list. subst (λ (p : Packet). LeadsTo (given_at (Whole p) c.args.now) (point_at o list mark) [] c.pubcomp.result (point_at c.pubcomp.new.self list mark)) (sym c.in-Pubcomp.is) (c.pubcomp.ensures c.args.now mark list))
 
-pub returns-in-Unsubscribe : goal.returns-in-Unsubscribe
-returns-in-Unsubscribe g c =
+pub returns-in-Unsubscribe-clause-row : goal.returns-in-Unsubscribe-clause-row
+returns-in-Unsubscribe-clause-row g c =
     let o = c.args.self.now in
     let mark = g.G.Gate.mark c.args.gate.now in
     unmoved g.G.Gate.stands g.G.Gate.mark c.args.gate.now c.args.gate.now (λ seen answered list used. LeadsTo (given_at (Whole c.args.packet) c.args.now) (point_at o seen mark) answered c.unsubscribe.result (point_at c.unsubscribe.new.self list used)) refl
     (λ list. subst (λ (p : Packet). LeadsTo (given_at (Whole p) c.args.now) (point_at o list mark) [] c.unsubscribe.result (point_at c.unsubscribe.new.self list mark)) (sym c.in-Unsubscribe.is) (c.unsubscribe.ensures c.args.now mark list))
 
-pub returns-in-Pingreq : goal.returns-in-Pingreq
-returns-in-Pingreq g c =
+pub returns-in-Pingreq-clause-row : goal.returns-in-Pingreq-clause-row
+returns-in-Pingreq-clause-row g c =
     let o = c.args.self.now in
     unmoved g.G.Gate.stands g.G.Gate.mark c.args.gate.now c.args.gate.now (λ seen answered list used. LeadsTo (given_at (Whole c.args.packet) c.args.now) (point_at o seen (g.G.Gate.mark c.args.gate.now)) answered (Replies (Some reply.Pingresp)) (point_at o list used)) refl
     (λ list. pinged c.args.packet c.args.now (point_at o list _) c.in-Pingreq.is)
 
-pub returns-in-Disconnect : goal.returns-in-Disconnect
-returns-in-Disconnect g c =
+pub returns-in-Disconnect-clause-row : goal.returns-in-Disconnect-clause-row
+returns-in-Disconnect-clause-row g c =
     let o = c.args.self.now in
     unmoved g.G.Gate.stands g.G.Gate.mark c.args.gate.now c.args.gate.now (λ seen answered list used. LeadsTo (given_at (Whole c.args.packet) c.args.now) (point_at o seen (g.G.Gate.mark c.args.gate.now)) answered Leaves (point_at o list used)) refl
     (λ list. disconnected c.args.packet c.in-Disconnect._code c.args.now (point_at o list _) c.in-Disconnect.is)
+
+pub returns-in-Connect-clause-ahead : goal.returns-in-Connect-clause-ahead
+returns-in-Connect-clause-ahead g c = by_another c.args.packet _ c.args.now (g.G.Gate.ahead c.args.gate.now) (g.G.Gate.ahead c.args.gate.now) _ c.in-Connect.is tt refl
+
+pub returns-in-Puback-clause-ahead : goal.returns-in-Puback-clause-ahead
+returns-in-Puback-clause-ahead g c = by_another c.args.packet _ c.args.now (g.G.Gate.ahead c.args.gate.now) (g.G.Gate.ahead c.args.gate.now) _ c.in-Puback.is tt refl
+
+pub returns-in-Pubrec-clause-ahead : goal.returns-in-Pubrec-clause-ahead
+returns-in-Pubrec-clause-ahead g c = by_another c.args.packet _ c.args.now (g.G.Gate.ahead c.args.gate.now) (g.G.Gate.ahead c.args.gate.now) _ c.in-Pubrec.is tt refl
+
+pub returns-in-Pubrel-clause-ahead : goal.returns-in-Pubrel-clause-ahead
+returns-in-Pubrel-clause-ahead g c = by_another c.args.packet _ c.args.now (g.G.Gate.ahead c.args.gate.now) (g.G.Gate.ahead c.args.gate.now) _ c.in-Pubrel.is tt refl
+
+pub returns-in-Pubcomp-clause-ahead : goal.returns-in-Pubcomp-clause-ahead
+returns-in-Pubcomp-clause-ahead g c = by_another c.args.packet _ c.args.now (g.G.Gate.ahead c.args.gate.now) (g.G.Gate.ahead c.args.gate.now) _ c.in-Pubcomp.is tt refl
+
+pub returns-in-Unsubscribe-clause-ahead : goal.returns-in-Unsubscribe-clause-ahead
+returns-in-Unsubscribe-clause-ahead g c = by_another c.args.packet _ c.args.now (g.G.Gate.ahead c.args.gate.now) (g.G.Gate.ahead c.args.gate.now) _ c.in-Unsubscribe.is tt refl
+
+pub returns-in-Pingreq-clause-ahead : goal.returns-in-Pingreq-clause-ahead
+returns-in-Pingreq-clause-ahead g c = by_another c.args.packet _ c.args.now (g.G.Gate.ahead c.args.gate.now) (g.G.Gate.ahead c.args.gate.now) _ c.in-Pingreq.is tt refl
+
+pub returns-in-Disconnect-clause-ahead : goal.returns-in-Disconnect-clause-ahead
+returns-in-Disconnect-clause-ahead g c = by_another c.args.packet _ c.args.now (g.G.Gate.ahead c.args.gate.now) (g.G.Gate.ahead c.args.gate.now) _ c.in-Disconnect.is tt refl
+
+pub returns-in-Subscribe-clause-ahead : goal.returns-in-Subscribe-clause-ahead
+returns-in-Subscribe-clause-ahead g c = by_another c.args.packet _ c.args.now (g.G.Gate.ahead c.args.gate.now) (g.G.Gate.ahead c.subscribe.new.gate) _ c.in-Subscribe.is tt c.subscribe.ensures.ahead
+
+pub returns-in-Publish-clause-ahead : goal.returns-in-Publish-clause-ahead
+returns-in-Publish-clause-ahead g c = by_publish c.args.packet c.in-Publish.p c.args.now (g.G.Gate.ahead c.args.gate.now) (g.G.Gate.ahead c.publish.new.gate) _ c.in-Publish.is c.publish.ensures.ahead

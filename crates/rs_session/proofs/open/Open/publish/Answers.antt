@@ -4,10 +4,14 @@ use Rattle.rs_session.specs.declared.phase.Input.TheVariants.{Whole}
 use Rattle.rs_session.specs.Points.{given_at, point_at}
 use Rattle.rs_session.specs.Table.{LeadsTo}
 use Rattle.rs_session.proofs.Rows.{unmoved, before_use}
+use Rattle.rs_session.proofs.Expecting.{before_use_ahead}
 use Rattle.rs_session.proofs.open.Open.publish.Goals as goal
 
-pub returns-in-Some : goal.returns-in-Some
-returns-in-Some g c =
+pub returns-in-Some-clause-row : goal.returns-in-Some-clause-row
+returns-in-Some-clause-row g c =
     let o = c.args.self.now in
     unmoved g.G.Gate.stands g.G.Gate.mark c.args.gate.now c.args.gate.now (λ seen answered list used. LeadsTo (given_at (Whole (packet.Publish c.args.p)) c.args.now) (point_at o seen (g.G.Gate.mark c.args.gate.now)) answered c.in-Some.outcome (point_at o list used)) refl
     (λ list. before_use c.args.p c.in-Some.outcome c.args.now (point_at o list _) (sym c.in-Some.ensures))
+
+pub returns-in-Some-clause-ahead : goal.returns-in-Some-clause-ahead
+returns-in-Some-clause-ahead g c = before_use_ahead c.args.p c.args.self.now c.in-Some.outcome c.args.now (g.G.Gate.ahead c.args.gate.now) (g.G.Gate.ahead c.args.gate.now) _ (sym c.in-Some.ensures) refl

@@ -14,15 +14,15 @@ use Rattle.rs_session.specs.Table.{LeadsTo, Grants, is_shared_local}
 use Rattle.rs_session.proofs.Rows.{unmoved, stood_more, grants_more, grants_grow, shared_refused, not_subscribed, subscribed, same_codes}
 use Rattle.rs_session.proofs.open.Open.subscribe.Goals as goal
 
-pub returns-then-any_shared_local : goal.returns-then-any_shared_local
-returns-then-any_shared_local g c =
+pub returns-then-any_shared_local-clause-row : goal.returns-then-any_shared_local-clause-row
+returns-then-any_shared_local-clause-row g c =
     let o = c.args.self.now in
     let same = c.as_slice.ensures.value ∙ ap (λ (v : SubscribeValue). v.filters) c.s.view_is in
     unmoved g.G.Gate.stands g.G.Gate.mark c.args.gate.now c.args.gate.now (λ seen answered list used. LeadsTo (given_at (Whole (packet.Subscribe c.args.s)) c.args.now) (point_at o seen (g.G.Gate.mark c.args.gate.now)) answered (Closes ProtocolError) (point_at o list used)) refl
     (λ list. shared_refused c.args.s c.args.now (point_at o list _) (ap (λ (l : List Asked). list_any is_shared_local l) (sym same) ∙ sym c.if-any_shared_local.ensures))
 
-pub returns-in_default : goal.returns-in_default
-returns-in_default g c =
+pub returns-in_default-clause-row : goal.returns-in_default-clause-row
+returns-in_default-clause-row g c =
     let o = c.args.self.now in
     let same = c.as_slice.ensures.value ∙ ap (λ (v : SubscribeValue). v.filters) c.s.view_is in
     unmoved g.G.Gate.stands g.G.Gate.mark c.args.gate.now c.args.gate.now (λ seen answered list used. LeadsTo (given_at (Whole (packet.Subscribe c.args.s)) c.args.now) (point_at o seen (g.G.Gate.mark c.args.gate.now)) answered (Closes QuotaExceeded) (point_at o list used)) refl
@@ -44,13 +44,14 @@ filters-preserved g c =
             rw (c.push_reserved.ensures.items) (grants_more _ _ _ _ _ _ _ _ _ _ so_far begins step),
           );
       mark = c.grant-code.ensures.mark ∙ c.filters.invariant.mark;
+      ahead = c.grant-code.ensures.ahead ∙ c.filters.invariant.ahead;
       all = append_assoc c.filters.yielded (c.in-Some.asked ∷ []) rest ∙ (ap (λ (l : List Asked). c.filters.yielded ++ l) (sym c.in-Some.ensures.steps.0) ∙ c.filters.invariant.all);
       room = omega (arith, c.filters.invariant.room, ap (λ (l : List Asked). length l) c.in-Some.ensures.steps.0, c.push_reserved.ensures.len, c.push_reserved.ensures.capacity);
       few = omega (arith, c.filters.invariant.few, ap (λ (l : List Asked). length l) c.in-Some.ensures.steps.0, c.push_reserved.ensures.len);
     }
 
-pub returns : goal.returns
-returns g c = λ seen s.
+pub returns-clause-row : goal.returns-clause-row
+returns-clause-row g c = λ seen s.
     let (list, stood, answered, each, granted) = c.filters.invariant.granted seen s in
     let all : c.filters.yielded ≡ c.args.s.filters = sym (append-nil c.filters.yielded) ∙ (ap (λ (l : List Asked). c.filters.yielded ++ l) (sym (nil_from_length _ (omega (arith, c.in-None.ensures.steps.0, c.filters.asked-iterator.rest.ok)))) ∙ c.filters.invariant.all) in
     let same = c.as_slice.ensures.value ∙ ap (λ (v : SubscribeValue). v.filters) c.s.view_is in

@@ -1,4 +1,4 @@
-use Rattle.std.proofs.Common.{refl}
+use Rattle.std.proofs.Common.{refl, ap, ◌∙◌}
 use Rattle.rs_session.specs.declared.open.Outcome.TheVariants.{Closes}
 use Rattle.rs_session.specs.declared.phase.Input.TheVariants.{Broken}
 use Rattle.rs_session.specs.State.{session_at, gate_of}
@@ -20,4 +20,12 @@ returns-clause-row g c = λ now.
           (unmoved g.G.Gate.stands g.G.Gate.mark (gate_of old) (gate_of old) (λ seen answered list used. LeadsTo (given_at (Broken c.args.fault) now) (point_at w.in-Open.open seen mark) answered (Closes w.fault_reason.result) (point_at w.in-Open.open list used)) refl
           (λ list. faulty c.args.fault now w.fault_reason.result (point_at w.in-Open.open list mark) w.fault_reason.ensures))
       | in-Ended w ↦ stays g.G.Gate.stands g.G.Gate.mark (given_at (Broken c.args.fault) now) old old c.match-self.self w.self-is refl (λ list. over _ (session_at g.G.Gate.mark old list) _ _ w.in-Ended.is c.requires)
+    ]
+
+pub returns-clause-ahead : goal.returns-clause-ahead
+returns-clause-ahead g c =
+    elim c.match-self.branch [
+      | in-Before w ↦ ap (λ s. g.G.Gate.ahead (gate_of s)) w.self-is ∙ ap (λ x. g.G.Gate.ahead x) w.first_fault.ensures.gate
+      | in-Open w ↦ ap (λ s. g.G.Gate.ahead (gate_of s)) w.self-is ∙ ap (λ x. g.G.Gate.ahead x) w.conclude.ensures.gate
+      | in-Ended w ↦ ap (λ s. g.G.Gate.ahead (gate_of s)) w.self-is
     ]

@@ -1,8 +1,10 @@
-use Rattle.std.proofs.Common.{refl, ◌∙◌}
+use Rattle.std.proofs.Common.{refl, ap, ◌∙◌}
 use Rattle.rs_session.specs.declared.phase.Input.TheVariants.{Whole}
 use Rattle.rs_session.specs.Points.{given_at}
-use Rattle.rs_session.specs.State.{session_at, gate_of, state_of}
+use Rattle.rs_session.specs.State.{State, session_at, gate_of, state_of, step_of}
+use Rattle.rs_session.specs.declared.phase.Phase.{Phase}
 use Rattle.rs_session.proofs.Rows.{stays, took, over, after_same}
+use Rattle.rs_session.proofs.Expecting.{stays_ahead, took_ahead}
 use Rattle.rs_session.proofs.session.Session.on_packet.Goals as goal
 use Rattle.rs_session.proofs.session.Session.on_packet.Goals.{in-Before, in-Open, in-Ended}
 
@@ -16,6 +18,18 @@ returns-clause-row g c =
       | in-Open w ↦
           took g.G.Gate.stands g.G.Gate.mark (given_at (Whole c.args.packet) now) old w.conclude.new.self c.match-self.self w.in-Open.open w.handle-outcome.new.self w.handle-outcome.new.gate w.handle-outcome.result _ w.self-is w.conclude.ensures.gate w.in-Open.is w.packet_maximum-maximum.ensures w.conclude.ensures.due
           (w.conclude.ensures.state w.handle-outcome.new.self refl ∙ after_same w.handle-outcome.result _ (state_of old) w.handle-outcome.new.self refl)
-          w.handle-outcome.ensures
+          w.handle-outcome.ensures.row
       | in-Ended w ↦ stays g.G.Gate.stands g.G.Gate.mark (given_at (Whole c.args.packet) now) old old c.match-self.self w.self-is refl (λ list. over _ (session_at g.G.Gate.mark old list) _ _ w.in-Ended.is c.requires)
+    ]
+
+pub returns-clause-ahead : goal.returns-clause-ahead
+returns-clause-ahead g c =
+    let old = c.args.self.now in
+    elim c.match-self.branch [
+      | in-Before w ↦ stays_ahead g.G.Gate.ahead g.G.Gate.mark c.args.packet c.args.now old w.first_packet.new.self c.match-self.self w.self-is w.first_packet.ensures.gate (λ p e. ap (λ (x : Phase). step_of x) (w.first_packet.ensures.early p e))
+      | in-Open w ↦
+          took_ahead g.G.Gate.ahead g.G.Gate.mark (given_at (Whole c.args.packet) c.args.now) old w.conclude.new.self c.match-self.self w.handle-outcome.new.self (state_of old) w.handle-outcome.new.gate w.handle-outcome.result w.self-is w.conclude.ensures.gate
+          (w.conclude.ensures.state w.handle-outcome.new.self refl ∙ after_same w.handle-outcome.result _ (state_of old) w.handle-outcome.new.self refl)
+          w.handle-outcome.ensures.ahead
+      | in-Ended w ↦ stays_ahead g.G.Gate.ahead g.G.Gate.mark c.args.packet c.args.now old old c.match-self.self w.self-is refl (λ p e. ap (λ (x : Phase). step_of x) w.in-Ended.is)
     ]

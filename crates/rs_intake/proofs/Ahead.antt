@@ -1,0 +1,256 @@
+-- What is ahead of a line: its serials, and what holds of the line's parts.
+use Rattle.std.proofs.Common.{◌≡◌, ◌==◌, ℕ, suc, ◌+◌, ◌-◌, ◌<◌, ◌≤◌, ◌^◌, ◌⊎◌, inl, inr, All, Bool, true, false, cond, max, List, [], ◌∷◌, ◌++◌, length, take, get_or, Option, Some, None, MatchOption, refl, sym, ap, subst, ◌∙◌, append_assoc, length-append, arith}
+use Rattle.std.specs.List.{AllByRecursion}
+use Rattle.std.proofs.lemmas.List.{append-nil}
+use Rattle.rs_message.specs.Messages.{is_sweep}
+use Rattle.rs_message.specs.declared.entry.Entry.{Entry}
+use Rattle.rs_message.specs.declared.entry.Operation.{Operation}
+use Rattle.rs_store.specs.History.{last_serial}
+use Rattle.rs_store.proofs.Histories.{last_serial_more}
+use Rattle.rs_intake.specs.Changes.{AreChanges, AreOf, ArePlain}
+use Rattle.rs_intake.specs.Lines.{AreNext, IsAheadAfter, IsOther, IsSeatLine, job, numbered}
+use Rattle.rs_intake.specs.Parts.{before}
+use Rattle.rs_intake.specs.QueueRule.{AreAbove}
+use Rattle.rs_intake.specs.declared.job.TheConstants.{MAX_CHANGES}
+
+pub each_plain : (os : List Operation) → All (λ o. is_sweep o ≡ false) os → AllByRecursion (λ o. is_sweep o ≡ false) os
+each_plain [] all = tt
+each_plain (o ∷ os) all = (all 0 o (omega arith), each_plain os (λ k d lt. all (suc k) d (omega (arith, lt))))
+
+-- ---- a list without its end
+
+take_front : {A : Type 0} (xs ys : List A) → take (length xs) (xs ++ ys) ≡ xs
+take_front [] ys = refl
+take_front (x ∷ xs) ys = ap (λ l. x ∷ l) (take_front xs ys)
+
+pub before_is : {A : Type 0} (all xs ys : List A) → all ≡ xs ++ ys → before all ys ≡ xs
+before_is {A} all xs ys is =
+    let n : length all - length ys ≡ length xs = let sum = length-append xs ys in let whole = ap length is in omega (arith, sum, whole) in
+    ap (λ k. take k all) n ∙ (ap (λ l. take (length xs) l) is ∙ take_front xs ys)
+
+pub end_is : {A : Type 0} (all xs ys : List A) → all ≡ xs ++ ys → all ≡ before all ys ++ ys
+end_is {A} all xs ys is = is ∙ ap (λ l. l ++ ys) (sym (before_is all xs ys is))
+
+pub before_none : {A : Type 0} (all : List A) → before all [] ≡ all
+before_none {A} all = before_is all all [] (sym (append-nil all))
+
+-- the first of the end no more
+pub end_less : {A : Type 0} (all xs ys : List A) (x : A) → all ≡ xs ++ x ∷ ys → all ≡ (xs ++ x ∷ []) ++ ys
+end_less {A} all xs ys x is = is ∙ sym (append_assoc xs (x ∷ []) ys)
+
+-- a list whose end has one less
+pub end_takes : {A : Type 0} (all old new : List A) (x : A) → all ≡ before all old ++ old → old ≡ x ∷ new → all ≡ before all new ++ new
+end_takes {A} all old new x is first = end_is all (before all old ++ x ∷ []) new (end_less all (before all old) new x (is ∙ ap (λ l. before all old ++ l) first))
+
+pub front_takes : {A : Type 0} (all old new : List A) (x : A) → all ≡ before all old ++ old → old ≡ x ∷ new → before all new ≡ before all old ++ x ∷ []
+front_takes {A} all old new x is first = before_is all (before all old ++ x ∷ []) new (end_less all (before all old) new x (is ∙ ap (λ l. before all old ++ l) first))
+
+-- a list whose end is none
+pub end_none : {A : Type 0} (all new : List A) → new ≡ [] → all ≡ before all new ++ new
+end_none {A} all new none = end_is all all new (sym (append-nil all) ∙ ap (λ l. all ++ l) (sym none))
+
+-- the next of what came is taken
+pub take_end : {A : Type 0} (all old new : List A) (next : Option A) → all ≡ before all old ++ old → MatchOption next ((old ≡ []) × (new ≡ [])) (λ x. old ≡ x ∷ new) → all ≡ before all new ++ new
+take_end {A} all old new (Some x) is taken = end_takes all old new x is taken
+take_end {A} all old new None is taken = end_none all new taken.1
+
+pub take_gives : {A : Type 0} (all old new heard came : List A) (next : Option A) → all ≡ before all old ++ old → before all old ≡ heard → old ≡ came → MatchOption next ((old ≡ []) × (new ≡ [])) (λ x. old ≡ x ∷ new)
+    → MatchOption next ((came ≡ []) × (new ≡ []) × (before all new ≡ heard)) (λ x. (before all new ≡ heard ++ x ∷ []) × (came ≡ x ∷ new))
+take_gives {A} all old new heard came (Some x) is front end taken = (front_takes all old new x is taken ∙ ap (λ l. l ++ x ∷ []) front, sym end ∙ taken)
+take_gives {A} all old new heard came None is front end taken = (sym end ∙ taken.0, taken.1, ap (λ l. before all l) (taken.1 ∙ sym taken.0) ∙ front)
+
+-- a list without an end, and one that grows by an end
+comes : {A : Type 0} (all old all' came : List A) → all ≡ before all old ++ old → old ≡ [] → all' ≡ all ++ came → all' ≡ before all old ++ came
+comes {A} all old all' came is none more = more ∙ ap (λ l. l ++ came) (is ∙ (ap (λ l. before all old ++ l) none ∙ append-nil (before all old)))
+
+pub end_comes : {A : Type 0} (all old all' came : List A) → all ≡ before all old ++ old → old ≡ [] → all' ≡ all ++ came → all' ≡ before all' came ++ came
+end_comes {A} all old all' came is none more = end_is all' (before all old) came (comes all old all' came is none more)
+
+pub front_comes : {A : Type 0} (all old all' came : List A) → all ≡ before all old ++ old → old ≡ [] → all' ≡ all ++ came → before all' came ≡ before all old
+front_comes {A} all old all' came is none more = before_is all' (before all old) came (comes all old all' came is none more)
+
+pub front_none : {A : Type 0} (all old new : List A) → all ≡ before all old ++ old → new ≡ [] → before all new ≡ before all old ++ old
+front_none {A} all old new is none = ap (λ l. before all l) none ∙ (before_none all ∙ is)
+
+-- ---- entries under the next serials
+
+pub numbered_length : (place serial : ℕ) (os : List Operation) → length (numbered place serial os) ≡ length os
+numbered_length place serial [] = refl
+numbered_length place serial (o ∷ os) = ap suc (numbered_length place (serial + 1) os)
+
+pub numbered_of : (place serial : ℕ) (os : List Operation) → AreOf place (numbered place serial os)
+numbered_of place serial [] = tt
+numbered_of place serial (o ∷ os) = (refl, numbered_of place (serial + 1) os)
+
+numbered_plain : (place serial : ℕ) (os : List Operation) → AllByRecursion (λ o. is_sweep o ≡ false) os → ArePlain (numbered place serial os)
+numbered_plain place serial [] plain = tt
+numbered_plain place serial (o ∷ os) plain = (plain.0, numbered_plain place (serial + 1) os plain.1)
+
+numbered_next : (place serial : ℕ) (os : List Operation) → AreNext place serial (numbered place serial os)
+numbered_next place serial [] = tt
+numbered_next place serial (o ∷ os) = (refl, numbered_next place (serial + 1) os)
+
+pub last_below : (place serial : ℕ) (entries : List Entry) (e : Entry) → last_serial place entries ≤ serial → e.origin.serial ≤ serial → last_serial place (entries ++ e ∷ []) ≤ serial
+last_below place serial entries e low here = go (e.origin.place == place) (last_serial_more place entries e)
+  where
+    go : (b : Bool) → last_serial place (entries ++ e ∷ []) ≡ cond b (max (last_serial place entries) e.origin.serial) (last_serial place entries) → last_serial place (entries ++ e ∷ []) ≤ serial
+    go true is = omega (arith, is, low, here)
+    go false is = omega (arith, is, low)
+
+numbered_above : (place serial : ℕ) (os : List Operation) (entries : List Entry) → last_serial place entries ≤ serial → AreAbove entries (numbered place serial os)
+numbered_above place serial [] entries low = tt
+numbered_above place serial (o ∷ os) entries low = (
+  omega (arith, low),
+  numbered_above place (serial + 1) os (entries ++ job place (serial + 1) o ∷ []) (last_below place (serial + 1) entries (job place (serial + 1) o) (omega (arith, low)) (omega arith)),
+)
+
+numbered_last : (place serial : ℕ) (os : List Operation) (entries : List Entry) → last_serial place entries ≤ serial → last_serial place (entries ++ numbered place serial os) ≤ serial + length os
+numbered_last place serial [] entries low = let P : List Entry → Type 0 = λ l. last_serial place l ≤ serial + 0 in subst P (sym (append-nil entries)) (omega (arith, low))
+numbered_last place serial (o ∷ os) entries low =
+    let e = job place (serial + 1) o in
+    let rest = numbered_last place (serial + 1) os (entries ++ e ∷ []) (last_below place (serial + 1) entries e (omega (arith, low)) (omega arith)) in
+    let P : List Entry → Type 0 = λ l. last_serial place l ≤ serial + suc (length os) in
+    subst P (append_assoc entries (e ∷ []) (numbered place (serial + 1) os)) (omega (arith, rest))
+
+pub numbered_changes : (place serial : ℕ) (os : List Operation) → 0 < place → 0 < length (numbered place serial os) → length os ≤ MAX_CHANGES → AllByRecursion (λ o. is_sweep o ≡ false) os → AreChanges (numbered place serial os)
+numbered_changes place serial [] above some few plain = absurd (omega (arith, some))
+numbered_changes place serial (o ∷ os) above some few plain =
+    let n = numbered_length place serial (o ∷ os) in
+    record {
+      some = some;
+      few = omega (arith, n, few);
+      above = above;
+      place = numbered_of place serial (o ∷ os);
+      plain = numbered_plain place serial (o ∷ os) plain;
+    }
+
+pub alone_changes : (e : Entry) → is_sweep e.operation ≡ false → 0 < e.origin.place → AreChanges (e ∷ [])
+alone_changes e plain above = record { some = omega arith; few = omega arith; above = above; place = (refl, tt); plain = (plain, tt) }
+
+-- ---- the line's parts
+
+pub seat_expects : (place serial : ℕ) (taken ahead : List Entry) (old new : List Operation) → AllByRecursion (λ o. is_sweep o ≡ false) new → length new ≤ MAX_CHANGES
+    → IsSeatLine place serial taken old ahead → IsSeatLine place serial taken new ahead
+seat_expects place serial taken ahead old new plain few l = record { end = l.end; next = l.next; fits = l.fits; last = l.last; count = l.count; plain = plain; few = few }
+
+pub seat_expects_none : (place serial : ℕ) (taken ahead : List Entry) (old new : List Operation) → new ≡ [] → IsSeatLine place serial taken old ahead → IsSeatLine place serial taken new ahead
+seat_expects_none place serial taken ahead old new none l =
+    let P : List Operation → Type 0 = λ os. IsSeatLine place serial taken os ahead in
+    subst P (sym none) (seat_expects place serial taken ahead old [] tt (omega arith) l)
+
+-- what is expected may be sent
+pub seat_above : (place serial : ℕ) (taken ahead : List Entry) (old : List Operation) (os : List Operation) → ahead ≡ [] → IsSeatLine place serial taken old ahead → AreAbove taken (numbered place serial os)
+seat_above place serial taken ahead old os none l = let low = l.last in let zero = ap length none in numbered_above place serial os taken (omega (arith, low, zero))
+
+pub seat_sends : (place serial : ℕ) (taken taken' ahead ahead' : List Entry) (expected os : List Operation) → ahead ≡ [] → taken' ≡ taken ++ numbered place serial os → ahead' ≡ numbered place serial os → serial + length ahead' < 2 ^ 64
+    → IsSeatLine place serial taken expected ahead → IsSeatLine place serial taken' expected ahead'
+seat_sends place serial taken taken' ahead ahead' expected os none more is fits l =
+    let low = l.last in
+    let count = l.count in
+    let zero = ap length none in
+    let n = numbered_length place serial os in
+    let sum = length-append taken (numbered place serial os) in
+    let top = numbered_last place serial os taken (omega (arith, low, zero)) in
+    let P : List Entry → Type 0 = λ t. IsSeatLine place serial t expected ahead' in
+    let Q : List Entry → Type 0 = λ a. IsSeatLine place serial (taken ++ numbered place serial os) expected a in
+    subst P (sym more) (subst Q (sym is)
+    (record {
+      end = end_is (taken ++ numbered place serial os) taken (numbered place serial os) refl;
+      next = numbered_next place serial os;
+      fits = (let same = ap length is in omega (arith, fits, same));
+      last = omega (arith, top, n);
+      count = omega (arith, sum, count, zero);
+      plain = l.plain;
+      few = l.few;
+    }))
+
+pub seat_submits : (place serial serial' : ℕ) (taken ahead ahead' : List Entry) (e : Entry) (expected : List Operation) → serial' ≡ serial + 1 → ahead ≡ e ∷ ahead'
+    → IsSeatLine place serial taken expected ahead → IsSeatLine place serial' taken expected ahead'
+seat_submits place serial serial' taken ahead ahead' e expected next first l =
+    let P : List Entry → Type 0 = λ a. IsSeatLine place serial taken expected a in
+    let m = subst P first l in
+    let Q : ℕ → Type 0 = λ n. IsSeatLine place n taken expected ahead' in
+    let fits = m.fits in
+    let low = m.last in
+    let count = m.count in
+    subst Q (sym next)
+    (record {
+      end = end_is taken (before taken (e ∷ ahead') ++ e ∷ []) ahead' (end_less taken (before taken (e ∷ ahead')) ahead' e m.end);
+      next = m.next.1;
+      fits = omega (arith, fits);
+      last = omega (arith, low);
+      count = omega (arith, count);
+      plain = m.plain;
+      few = m.few;
+    })
+
+pub seat_handed_on : (place serial serial' : ℕ) (taken ahead ahead' : List Entry) (expected expected' : List Operation) → serial' ≡ serial + length ahead → expected' ≡ [] → ahead' ≡ []
+    → IsSeatLine place serial taken expected ahead → IsSeatLine place serial' taken expected' ahead'
+seat_handed_on place serial serial' taken ahead ahead' expected expected' next none_expected none l =
+    let fits = l.fits in
+    let low = l.last in
+    let count = l.count in
+    let P : List Operation → Type 0 = λ os. IsSeatLine place serial' taken os ahead' in
+    let Q : List Entry → Type 0 = λ es. IsSeatLine place serial' taken [] es in
+    subst P (sym none_expected) (subst Q (sym none) (record { end = end_is taken taken [] (sym (append-nil taken)); next = tt; fits = omega (arith, fits, next); last = omega (arith, low, next); count = omega (arith, count, next); plain = tt; few = omega arith }))
+
+-- the first
+pub first_split : (es : List Entry) (e : Entry) → 0 < length es → e ≡ get_or es 0 e → (rest : List Entry) × (es ≡ e ∷ rest)
+first_split [] e some is = absurd (omega (arith, some))
+first_split (f ∷ es) e some is = (es, ap (λ (x : Entry). x ∷ es) (sym is))
+
+-- the serial of the last
+pub next_last : (place serial : ℕ) (es : List Entry) (d : Entry) → AreNext place serial es → 0 < length es → (get_or es (length es - 1) d).origin.serial ≡ serial + length es
+next_last place serial [] d next some = absurd (omega (arith, some))
+next_last place serial (e ∷ []) d next some = ap (λ o. o.serial) next.0
+next_last place serial (e ∷ f ∷ es) d next some =
+    let k : length (e ∷ f ∷ es) - 1 ≡ suc (length (f ∷ es) - 1) = omega arith in
+    let here : (get_or (e ∷ f ∷ es) (length (e ∷ f ∷ es) - 1) d).origin.serial ≡ (get_or (f ∷ es) (length (f ∷ es) - 1) d).origin.serial = ap (λ n. (get_or (e ∷ f ∷ es) n d).origin.serial) k in
+    let rest = next_last place (serial + 1) (f ∷ es) d next.1 (omega arith) in
+    omega (arith, rest, here)
+
+-- ---- what is ahead once an operation was submitted
+
+-- what is ahead once what is expected may have been sent, of which this is the first entry
+abbrev pub IsSentAtMost : ℕ → ℕ → List Operation → Entry → List Entry → List Entry → Type 0
+IsSentAtMost place serial expected entry old new = (new ≡ old) ⊎ ((old ≡ []) × (new ≡ numbered place serial expected) × (es : List Entry) × (new ≡ entry ∷ es))
+
+sent_behind : (place serial : ℕ) (expected : List Operation) (after : List Entry) (entry : Entry) (operation : Operation) → entry.operation ≡ operation → numbered place serial expected ≡ entry ∷ after
+    → (os : List Operation) × (expected ≡ operation ∷ os) × (after ≡ numbered place (serial + 1) os)
+sent_behind place serial [] after entry operation is sent = absurd (cc (sent))
+sent_behind place serial (o ∷ os) after entry operation is sent =
+    let head : job place (serial + 1) o ≡ entry = cc (sent) in
+    let tail : numbered place (serial + 1) os ≡ after = cc (sent) in
+    (os, ap (λ (x : Operation). x ∷ os) (ap (λ (e : Entry). e.operation) head ∙ is), sym tail)
+
+pub after_ahead : (place serial : ℕ) (expected : List Operation) (old new after : List Entry) (entry : Entry) (operation : Operation) → entry.operation ≡ operation
+    → IsSentAtMost place serial expected entry old new → new ≡ entry ∷ after → IsAheadAfter place serial expected old operation after
+after_ahead place serial expected old new after entry operation is (inl same) first =
+    let P : List Entry → Type 0 = λ l. IsAheadAfter place serial expected l operation after in
+    subst P (sym (sym same ∙ first)) (inl (is, refl))
+after_ahead place serial expected old new after entry operation is (inr sent) first =
+    let P : List Entry → Type 0 = λ l. IsAheadAfter place serial expected l operation after in
+    subst P (sym sent.0) (inr (sent_behind place serial expected after entry operation is (sym sent.1 ∙ first)))
+
+pub after_none : (place serial : ℕ) (expected : List Operation) (old after : List Entry) (operation : Operation) → old ≡ [] → after ≡ [] → IsAheadAfter place serial expected old operation after
+after_none place serial expected old after operation nothing is =
+    let P : List Entry → Type 0 = λ l. IsAheadAfter place serial expected l operation after in
+    subst P (sym nothing) (inl is)
+
+-- the first of what was ahead does this, if it is ahead now and does it, or if nothing is
+pub not_other : (place serial : ℕ) (expected : List Operation) (old new after : List Entry) (entry : Entry) (operation : Operation) → entry.operation ≡ operation
+    → IsSentAtMost place serial expected entry old new → new ≡ entry ∷ after → IsOther old operation → ⊥
+not_other place serial expected old new after entry operation is (inl same) first other =
+    let P : List Entry → Type 0 = λ l. IsOther l operation in
+    subst P (sym same ∙ first) other is
+not_other place serial expected old new after entry operation is (inr sent) first other =
+    let P : List Entry → Type 0 = λ l. IsOther l operation in
+    subst P sent.0 other
+
+pub none_other : (place serial : ℕ) (expected : List Operation) (old new : List Entry) (entry : Entry) (operation : Operation) → IsSentAtMost place serial expected entry old new → new ≡ [] → IsOther old operation → ⊥
+none_other place serial expected old new entry operation (inl same) none other =
+    let P : List Entry → Type 0 = λ l. IsOther l operation in
+    subst P (sym same ∙ none) other
+none_other place serial expected old new entry operation (inr sent) none other =
+    let P : List Entry → Type 0 = λ l. IsOther l operation in
+    subst P sent.0 other

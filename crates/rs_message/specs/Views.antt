@@ -1,6 +1,0 @@
--- What contracts see of a message: its fields.
-use Rattle.rs_message.specs.Values.{MessageValue}
-use Rattle.rs_message.specs.declared.message.Message.TheInside.{Inside}
-
-abbrev pub message_view : Inside → MessageValue
-message_view m = record { payload = m.content.payload; qos = m.qos; received = m.received; expiry = m.expiry; properties = m.content.properties }

@@ -1,0 +1,6 @@
+-- What contracts see of a message: its fields.
+use Rattle.rs_packet.specs.Values.{MessageValue}
+use Rattle.rs_packet.specs.declared.message.Message.TheInside.{Inside}
+
+abbrev pub message_view : Inside → MessageValue
+message_view m = record { payload = m.payload; qos = m.qos; received = m.received; expiry = m.expiry; properties = m.properties }

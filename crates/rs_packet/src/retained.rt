@@ -1,0 +1,64 @@
+//! A topic and its retained message, which all that hold them share.
+
+ghost use Rattle.std.specs.Prelude.{◌≡◌, IfOk};
+
+use crate::message::Message;
+use rs_topic::TopicName;
+use std::alloc::{AllocError, Global};
+use std::marker::Model;
+use std::sync::Arc;
+
+#[derive(Debug, Drop)]
+struct Block {
+    topic: TopicName,
+    message: Message,
+}
+
+/// A topic and its retained message (3.3.1.3), in one block of memory that all copies share.
+#[derive(Debug, Drop)]
+pub struct Retained {
+    block: Arc<Block>,
+}
+
+impl Model for Retained {
+    ghost use Rattle.rs_packet.specs.Values.{RetainedValue};
+
+    ghost Value = { RetainedValue };
+
+    ghost view = { λ r. record { topic = r.block.value.topic; message = r.block.value.message } };
+}
+
+impl Retained {
+    /// The topic and the message in a block of their own; none of their bytes is copied. The error says that memory for the block
+    /// was refused.
+    pub fn new(alloc: Global, topic: TopicName, message: Message) -> Result<Retained, AllocError>
+        ensures { IfOk result (λ r. r ≡ record { topic = topic; message = message }) }
+    {
+        Ok(Retained {
+            block: Arc::new(alloc, Block { topic, message })?,
+        })
+    }
+
+    /// The topic.
+    pub fn topic(&self) -> &TopicName
+        ensures { result.now ≡ self.now.topic }
+    {
+        &self.block.topic
+    }
+
+    /// Its retained message.
+    pub fn message(&self) -> &Message
+        ensures { result.now ≡ self.now.message }
+    {
+        &self.block.message
+    }
+
+    /// One more owner of the same block. It takes no memory. The error says that the count of owners is full.
+    pub fn copy(&self) -> Result<Retained, AllocError>
+        ensures { IfOk result (λ r. r ≡ self.now) }
+    {
+        Ok(Retained {
+            block: Arc::try_clone(&self.block)?,
+        })
+    }
+}

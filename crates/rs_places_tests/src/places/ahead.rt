@@ -1,0 +1,65 @@
+//! Publications that came in one piece: their changes go to the writer together.
+
+use super::play::{PLAIN, Row, as_wanted, ending, plain_row, play};
+use super::script::{Call, End};
+use super::{CONNECTED, PUBLISHES};
+use rs_server::{ServeFault, Served};
+use std::test::Fail;
+
+/// CONNECT, three retained PUBLISH of QoS 1.
+const THREE: &[u8] =
+    b"\x10\x0E\x00\x04MQTT\x05\x02\x00\x3C\x00\x00\x01a\x33\x09\x00\x03a/b\x00\x01\x00x\x33\x09\x00\x03a/c\x00\x02\x00y\x33\x09\x00\x03a/d\x00\x03\x00z";
+
+/// CONNACK (15 bytes), three PUBACK (4 bytes each).
+const THREE_REPLIES: &[u8] =
+    b"\x20\x0D\x00\x00\x0A\x21\x00\x10\x27\x00\x04\x00\x00\x2A\x00\x40\x02\x00\x01\x40\x02\x00\x02\x40\x02\x00\x03";
+
+/// CONNECT, SUBSCRIBE.
+const READS: &[u8] =
+    b"\x10\x0E\x00\x04MQTT\x05\x02\x00\x3C\x00\x00\x01a\x82\x09\x00\x01\x00\x00\x03a/#\x00";
+
+/// CONNACK, SUBACK (21 bytes), and the three PUBLISH (9 bytes each).
+const READ_REPLIES: &[u8] =
+    b"\x20\x0D\x00\x00\x0A\x21\x00\x10\x27\x00\x04\x00\x00\x2A\x00\x90\x04\x00\x01\x00\x00\x31\x07\x00\x03a/b\x00x\x31\x07\x00\x03a/c\x00y\x31\x07\x00\x03a/d\x00z";
+
+const INPUT: End = Ok(Served::EndOfInput);
+
+const WRITE: End = Err(ServeFault::Write);
+
+/// Which write fails, if one does; how the first connection ends then; how many bytes of its replies are written; and whether its
+/// publications were kept. Once the first was handed over, all are.
+type Fault = (usize, End, usize, bool);
+
+const FAULTS: [Fault; 5] = [
+    (0, INPUT, 27, true),
+    (1, WRITE, 0, false),
+    (2, WRITE, 15, true),
+    (3, WRITE, 19, true),
+    (4, WRITE, 23, true),
+];
+
+/// The connection that publishes three at once, one that reads, and one that publishes. The serial of the last one is above those of
+/// the first, else the writer would refuse it.
+fn rows(at: usize, ends: End, written: usize, kept: bool) -> [Row<'static>; 3] {
+    let mut course = ending(PLAIN, ends);
+    course.pace.call = Call::Write;
+    course.pace.at = at;
+    let first = plain_row(course, THREE, &THREE_REPLIES[..written.min(27)]);
+    let got = &READ_REPLIES[..if kept { 48 } else { 21 }];
+    let second = plain_row(ending(PLAIN, INPUT), READS, got);
+    let third = plain_row(PLAIN, PUBLISHES, CONNECTED);
+    [first, second, third]
+}
+
+/// Three publications in one piece, from a client to which some write fails, or none. All are kept if the first was handed over; the next
+/// connection of the place reads them, and the one after it publishes.
+#[test]
+fn publications_come_together(rt: HostRuntime) -> Result<(), Fail> {
+    for (at, ends, written, kept) in FAULTS {
+        let changes = if kept { 4 } else { 1 };
+        let rows = rows(at, ends, written, kept);
+        let ran = play(rt, rt.alloc(), 7, 1, &rows)?;
+        assert!(rt; ran == as_wanted(1, 3, changes, changes), "{at}");
+    }
+    Ok(())
+}

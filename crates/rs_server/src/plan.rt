@@ -1,0 +1,177 @@
+//! What is decoded before it is handled.
+
+ghost use Rattle.std.specs.Prelude.{◌≡◌, ◌≢◌, ◌⊎◌, [], true, false, List, Ok, OnOk, IfOk, IfErr};
+ghost use Rattle.std.specs.List.{All};
+ghost use Rattle.rs_message.specs.declared.entry.Entry.{Entry};
+ghost use Rattle.rs_message.specs.declared.entry.Operation.{Operation};
+ghost use Rattle.rs_message.specs.Messages.{is_sweep};
+ghost use Rattle.rs_packet.specs.Grammar.{HasPrefix};
+ghost use Rattle.rs_packet.specs.PacketReading.{Gives, answer};
+ghost use Rattle.rs_packet.specs.Prefixes.{IsMore};
+ghost use Rattle.rs_session.specs.Ahead.{AreChanges};
+ghost use Rattle.rs_session.specs.Gate.{Grows};
+ghost use Rattle.rs_session.specs.State.{state_of, due_of, gate_of};
+ghost use Rattle.rs_server.specs.Clock.{TellsInOrder};
+ghost use Rattle.rs_server.specs.Conversation.{Plans, PlansNext, TakesInput};
+
+use crate::clock::Clock;
+use crate::writing::ServeFault;
+use bytes::{Bytes, BytesMut};
+use rs_message::Operation;
+use rs_packet::{Decoded, PacketFault, decode, needed_len};
+use rs_session::{Gate, Input, MAX_CHANGES, Session};
+use std::alloc::Global;
+use std::collections::VecDeque;
+use std::marker::Model;
+
+/// An input that was decoded, and its time in seconds.
+#[derive(Drop)]
+pub(crate) struct Planned {
+    pub(crate) input: Input,
+    pub(crate) now: u64,
+}
+
+impl Model for Planned {
+    ghost use Rattle.rs_session.specs.Points.{Given, given_at};
+
+    ghost Value = { Given };
+
+    ghost view = { λ planned. given_at planned.input planned.now };
+}
+
+/// Plans what comes next, if nothing is planned: the first whole input of what is held; and, in an open session, while the last one
+/// is a publication that may be announced, the next. The changes of two or more of them are announced. Nothing is read.
+pub(crate) fn plan<G: Gate, C: Clock>(
+    alloc: Global,
+    session: &mut Session<G>,
+    held: &mut BytesMut,
+    planned: &mut VecDeque<Planned>,
+    clock: &mut C,
+) -> Result<(), ServeFault>
+    ensures plans { Plans planned.old.items planned.new.items held.old.items held.new.items (C.moments clock.old) (C.moments clock.new) }
+    ensures more { OnOk result (planned.new.items ≡ [] → IsMore held.new.items) }
+    ensures fault { IfErr result (λ fault. fault ≡ ServeFault.NoMemory) }
+    ensures state { state_of session.new ≡ state_of session.old }
+    ensures due { due_of session.new ≡ due_of session.old }
+    ensures list { (seen : List Entry) → G.stands (gate_of session.old) seen → G.stands (gate_of session.new) seen }
+    ensures mark { G.mark (gate_of session.new) ≡ G.mark (gate_of session.old) }
+    ensures ahead { AreChanges planned.old.items (G.ahead (gate_of session.old)) → AreChanges planned.new.items (G.ahead (gate_of session.new)) }
+{
+    if !planned.is_empty() {
+        return Ok(());
+    }
+    match plan_next(alloc, held, planned, clock) {
+        Ok(true) => {
+            if session.is_open() {
+                look_ahead(alloc, held, planned, clock);
+                announce(alloc, session, planned);
+            }
+            Ok(())
+        }
+        Ok(false) => Ok(()),
+        Err(fault) => Err(fault),
+    }
+}
+
+/// Plans the next input, if it is whole. Whether it may be announced.
+fn plan_next<C: Clock>(
+    alloc: Global,
+    held: &mut BytesMut,
+    planned: &mut VecDeque<Planned>,
+    clock: &mut C,
+) -> Result<bool, ServeFault>
+    ensures plans { PlansNext planned.old.items planned.new.items held.old.items held.new.items (C.moments clock.old) (C.moments clock.new) }
+    ensures more { OnOk result (planned.new.items ≡ [] → IsMore held.new.items) }
+    ensures some { result ≡ Ok true → planned.new.items ≢ [] }
+    ensures fault { IfErr result (λ fault. fault ≡ ServeFault.NoMemory) }
+{
+    if planned.reserve(1).is_err() {
+        return Err(ServeFault::NoMemory);
+    }
+    let Some(input) = next_input(alloc, held) else {
+        return Ok(false);
+    };
+    let now = clock.now();
+    let goes_on = input.may_be_announced();
+    planned.push_back_reserved(Planned { input, now });
+    Ok(goes_on)
+}
+
+/// Plans whole inputs up to [`MAX_CHANGES`], and to the first that may not be announced. If memory is refused it stops.
+fn look_ahead<C: Clock>(
+    alloc: Global,
+    held: &mut BytesMut,
+    planned: &mut VecDeque<Planned>,
+    clock: &mut C,
+)
+    ensures plans { Plans planned.old.items planned.new.items held.old.items held.new.items (C.moments clock.old) (C.moments clock.new) }
+{
+    'next: for _ in 1..MAX_CHANGES {
+        let Ok(true) = plan_next(alloc, held, planned, clock) else {
+            return;
+        };
+    }
+}
+
+/// Announces the changes of what is planned, if there are two or more.
+fn announce<G: Gate>(alloc: Global, session: &mut Session<G>, planned: &VecDeque<Planned>)
+    ensures state { state_of session.new ≡ state_of session.old }
+    ensures due { due_of session.new ≡ due_of session.old }
+    ensures list { Grows (G.stands (gate_of session.old)) (G.stands (gate_of session.new)) (λ seen list. list ≡ seen) }
+    ensures mark { G.mark (gate_of session.new) ≡ G.mark (gate_of session.old) }
+    ensures ahead { AreChanges planned.now.items (G.ahead (gate_of session.new)) ⊎ (G.ahead (gate_of session.new) ≡ G.ahead (gate_of session.old)) }
+{
+    if planned.len() < 2 {
+        return;
+    }
+    let changes = changes_of(alloc, planned);
+    if changes.len() < 2 {
+        return;
+    }
+    session.expect(changes);
+}
+
+/// The changes of the first of what is planned, up to one that may not be announced or for which memory is refused.
+fn changes_of(alloc: Global, planned: &VecDeque<Planned>) -> Vec<Operation>
+    ensures changes { AreChanges planned.now.items result.items }
+    ensures none_sweeps { All (λ operation. is_sweep operation ≡ false) result.items }
+{
+    let Ok(mut changes) = Vec::with_capacity(alloc, planned.len()) else {
+        return Vec::new(alloc);
+    };
+    'made: for i in 0..planned.len() {
+        let next = &planned[i];
+        let Some(change) = next.input.change(alloc, next.now) else {
+            return changes;
+        };
+        changes.push_reserved(change);
+    }
+    changes
+}
+
+/// Removes the first input from what is held. None if less than a packet is held.
+fn next_input(alloc: Global, held: &mut BytesMut) -> Option<Input>
+    ensures { TakesInput held.old.items result held.new.items }
+{
+    let size = needed_len(held.as_slice());
+    if held.len() < size {
+        return None;
+    }
+    match decode_copy(alloc, &held.as_slice()[..size]) {
+        Ok(Decoded::Whole(packet, used)) => {
+            held.advance(used);
+            Some(Input::Whole(packet))
+        }
+        Ok(Decoded::More) => None,
+        Err(fault) => Some(Input::Broken(fault)),
+    }
+}
+
+/// Decodes the packet from bytes of its own, so that a kept message holds no more than its packet.
+fn decode_copy(alloc: Global, packet: &[u8]) -> Result<Decoded, PacketFault>
+    ensures found { IfOk result (λ d. HasPrefix packet.now d) }
+    ensures exact { Gives (λ d. d) result (answer packet.now) }
+{
+    let bytes = Bytes::copy_from_slice(alloc, packet)?;
+    decode(alloc, &bytes)
+}
