@@ -1,7 +1,7 @@
 //! Publications that came in one piece: their changes go to the writer together.
 
 use super::play::{PLAIN, Row, as_wanted, ending, plain_row, play};
-use super::script::{Call, End};
+use super::script::{Call, End, Pace};
 use super::{CONNECTED, PUBLISHES};
 use rs_server::{ServeFault, Served};
 use std::test::Fail;
@@ -42,8 +42,11 @@ const FAULTS: [Fault; 5] = [
 /// the first, else the writer would refuse it.
 fn rows(at: usize, ends: End, written: usize, kept: bool) -> [Row<'static>; 3] {
     let mut course = ending(PLAIN, ends);
-    course.pace.call = Call::Write;
-    course.pace.at = at;
+    course.pace = Pace {
+        step: 100,
+        call: Call::Write,
+        at,
+    };
     let first = plain_row(course, THREE, &THREE_REPLIES[..written.min(27)]);
     let got = &READ_REPLIES[..if kept { 48 } else { 21 }];
     let second = plain_row(ending(PLAIN, INPUT), READS, got);
