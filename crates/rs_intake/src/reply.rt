@@ -64,7 +64,7 @@ impl<N: StoreName> Reply<N> {
 #[derive(Drop)]
 pub struct Replies<N: StoreName> {
     made: VecDeque<Reply<N>>,
-    // Behind the others, those that say that memory was refused. For want of memory for any other reply they are the job's own entries.
+    // Behind the others, those that say that memory was refused. If there is none for any other reply, they are the entries of the job.
     refused: VecDeque<Entry>,
 }
 
