@@ -5,6 +5,8 @@ five runs. The clients are bench/load.c. The table is for a person, on a quiet m
 `--once` each measure is made once and small, and nothing is judged.
 """
 
+import contextlib
+import itertools
 import os
 import socket
 import statistics
@@ -86,10 +88,15 @@ class Load:
     def fill(self, count, size, pattern):
         self.times("fill", count, size, pattern)
 
-    def rate(self, qos, connections, count, topics=10_000, size=64):
-        """Publications a second of some connections together."""
+    def publish(self, qos, connections, count, topics=10_000, window=16, name="fleet"):
+        """Publishes by some connections together: how many, in how many microseconds, and the
+        longest time from a send to the next PUBACK."""
         each, own = count // connections, max(1, topics // connections)
-        published, micros = self.times("publish", qos, connections, each, own, size)
+        return self.times("publish", qos, connections, each, own, 64, window, name)
+
+    def rate(self, *words, **options):
+        """Publications a second of some connections together."""
+        published, micros, _ = self.publish(*words, **options)
         return published * 1_000_000 / micros
 
     def replay(self, text, pattern, messages, qos, rounds, is_delayed=False):
@@ -108,10 +115,49 @@ class Load:
 # of messages and rounds.
 
 
-def publishes(qos, connections):
+def publications(qos):
+    return 200_000 if qos == 0 else 100_000
+
+
+def replaces(qos, connections, window=16):
+    """Publications to topics that have a message, but for the first of each."""
+
     def prepare(load, scale):
-        count = (200_000 if qos == 0 else 100_000) // scale
-        return lambda: load.rate(qos, connections, count)
+        load.publish(qos, connections, 10_000 // scale)
+        return lambda: load.rate(qos, connections, publications(qos) // scale, window=window)
+
+    return prepare
+
+
+def adds(qos, connections):
+    """Publications to topics that have no message, others in each run."""
+
+    def prepare(load, scale):
+        count, names = 12_000 // scale, (f"new{run}" for run in itertools.count())
+        return lambda: load.rate(qos, connections, count, topics=count, name=next(names))
+
+    return prepare
+
+
+def processor_time(pid):
+    """The microseconds that a process has had of the processors."""
+    with open(f"/proc/{pid}/stat") as stat:
+        words = stat.read().rsplit(")", 1)[1].split()
+    return (int(words[11]) + int(words[12])) * 1_000_000 / os.sysconf("SC_CLK_TCK")
+
+
+def costs(qos, connections):
+    """The broker's processor time for each publication."""
+
+    def prepare(load, scale):
+        pid = load.broker.run.pid
+
+        def cost():
+            before = processor_time(pid)
+            published = load.publish(qos, connections, publications(qos) // scale)[0]
+            return (processor_time(pid) - before) / published
+
+        return cost
 
     return prepare
 
@@ -139,31 +185,58 @@ def answers(text, pattern, messages, is_delayed=False):
     return prepare
 
 
+@contextlib.contextmanager
+def beside(load, count, *words, is_ready=""):
+    """So many jobs that go on for as long as the `with`. Each has said that it is ready, if it says
+    so."""
+    running = [load.start(*words) for _ in range(count)]
+    try:
+        if not all(job.stdout.readline() == is_ready for job in running if is_ready):
+            sys.exit("bench: a job ended")
+        yield
+    finally:
+        for job in running:
+            job.kill()
+            job.communicate()
+
+
+def replaying(load, count, scale):
+    """So many clients that replay 10,000 messages all the time."""
+    messages, pattern = 10_000 // scale, "kept/%04d%02d"
+    load.fill(messages, 64, pattern)
+    words = load.replay("kept/#", pattern, messages, 0, 0)
+    return lambda: beside(load, count, *words, is_ready="ready\n")
+
+
 def beside_replays(readers=3):
-    """The share of its rate that a publisher keeps beside clients that replay 10,000 messages all
-    the time."""
+    """A publisher's rate beside replaying clients, as a share of its rate beside programs that keep
+    processors busy: two for each client, which is busy itself and keeps a thread of the broker
+    busy."""
 
     def prepare(load, scale):
-        messages, pattern = 10_000 // scale, "kept/%04d%02d"
-        load.fill(messages, 64, pattern)
+        replays = replaying(load, readers, scale)
 
         def share():
-            alone = load.rate(1, 1, 100_000 // scale)
-            words = load.replay("kept/#", pattern, messages, 0, 0)
-            running = [load.start(*words) for _ in range(readers)]
-            # Each has taken all messages once before the publisher begins.
-            are_ready = all(reader.stdout.readline() == "ready\n" for reader in running)
-            beside = load.rate(1, 1, 100_000 // scale)
-            for reader in running:
-                reader.kill()
-                reader.communicate()
-            if not are_ready:
-                sys.exit("bench: a replaying client ended")
-            return beside / alone
+            with beside(load, 2 * readers, "burn"):
+                burning = load.rate(1, 1, 100_000 // scale)
+            with replays():
+                return load.rate(1, 1, 100_000 // scale) / burning
 
         return share
 
     return prepare
+
+
+def longest_wait(load, scale):
+    """The longest that one of 20,000 publications, sent one at a time, waits for its PUBACK beside
+    a client that replays 10,000 messages all the time."""
+    replays = replaying(load, 1, scale)
+
+    def longest():
+        with replays():
+            return load.publish(1, 1, 20_000 // scale, window=1)[2]
+
+    return longest
 
 
 def connects(load, scale):
@@ -218,10 +291,18 @@ BELOW = ("a/b/#", "a/b/%d%d", 10)
 ONE_TOPIC = ("site3/device50/state", "site3/device50/state", 1)
 
 MEASURES = (
-    fast("retained publications at QoS 0, one connection", RATE, publishes(0, 1), 1.5),
-    fast("retained publications at QoS 1, one connection", RATE, publishes(1, 1), 1.5),
-    fast("retained publications at QoS 0, eight connections", RATE, publishes(0, 8), 2),
-    fast("retained publications at QoS 1, eight connections", RATE, publishes(1, 8), 2),
+    fast("replacements at QoS 0, one connection", RATE, replaces(0, 1), 1.5),
+    fast("replacements at QoS 0, eight connections", RATE, replaces(0, 8), 1.5),
+    fast("new topics at QoS 0, one connection", RATE, adds(0, 1), 1.5),
+    fast("new topics at QoS 0, eight connections", RATE, adds(0, 8), 1.5),
+    fast("replacements at QoS 1, one connection", RATE, replaces(1, 1), 2),
+    fast("replacements at QoS 1, eight connections", RATE, replaces(1, 8), 4),
+    fast("new topics at QoS 1, one connection", RATE, adds(1, 1), 2),
+    fast("new topics at QoS 1, eight connections", RATE, adds(1, 8), 4),
+    fast("replacements at QoS 1, one at a time", RATE, replaces(1, 1, window=1), 1),
+    fast("processor time of a publication at QoS 0, one connection", TIME, costs(0, 1), 1),
+    fast("processor time of a publication at QoS 0, eight connections", TIME, costs(0, 8), 1),
+    fast("processor time of a publication at QoS 1, eight connections", TIME, costs(1, 8), 1),
     fast("replay of 10,000 messages at QoS 0", RATE, replays(0), 5),
     fast("replay of 10,000 messages at QoS 1, acknowledged", RATE, replays(1), 3),
     fast("answer to `+/+/x`, 10 of 60,000 topics", TIME, answers(*ONE_LEVEL), 1),
@@ -238,11 +319,18 @@ MEASURES = (
     small("peak memory, 60,000 messages of 64 bytes", memory(60_000, 64)),
     small("peak memory, 1,000 messages of 100 kB", memory(1_000, 100_000)),
     Measure(
-        "share of its rate that a publisher keeps beside three replaying clients",
+        "rate beside three replaying clients, as a share of that beside six busy programs",
         "",
         beside_replays(),
-        "at least 0.7 of its own",
-        lambda own, other: own >= 0.7,
+        "at least 0.9",
+        lambda own, other: own >= 0.9,
+    ),
+    Measure(
+        "longest wait for a PUBACK beside a replaying client",
+        TIME,
+        longest_wait,
+        "less than 2,000 us",
+        lambda own, other: own < 2_000,
     ),
 )
 

@@ -1,17 +1,21 @@
 // The clients of bench/brokers, in C so that they cost less than any broker. They speak MQTT 5.0 to
 // a port of 127.0.0.1, check what they are answered, and print:
 //
-//     load PORT publish QOS CONNECTIONS COUNT TOPICS SIZE
-//         two numbers: how many were published, at most COUNT by each connection, and microseconds
+//     load PORT publish QOS CONNECTIONS COUNT TOPICS SIZE WINDOW NAME
+//         three numbers: how many were published, at most COUNT by each connection; microseconds;
+//         and the longest time from a send to the next PUBACK, of the first connection
 //     load PORT fill COUNT SIZE PATTERN
 //         nothing
 //     load PORT replay QOS FILTER MESSAGES ROUNDS DELAYED PATTERN ORDERED
 //         the microseconds of each SUBSCRIBE, up to its last message
 //     load PORT connect ROUNDS
 //         the microseconds of each connection, up to its CONNACK
+//     load PORT burn
+//         nothing: it keeps a processor busy until it is killed
 //
-// PATTERN writes a topic, with the hundreds and the rest of its number. The messages of a replay
-// are those that were filled by it.
+// WINDOW is how many publications of QoS 1 wait for their PUBACK. NAME begins the topics of the
+// publications. PATTERN writes a topic, with the hundreds and the rest of its number. The messages
+// of a replay are those that were filled by it.
 
 #define _GNU_SOURCE
 #include <arpa/inet.h>
@@ -27,8 +31,8 @@
 
 enum { CONNACK = 0x20, PUBLISH = 0x30, PUBACK = 0x40, SUBACK = 0x90, PINGRESP = 0xD0 };
 
-// How many publications of QoS 1 wait for their PUBACK: what rstored's CONNACK allows, and less
-// than mosquitto's.
+// The most publications of QoS 1 that wait for their PUBACK: what rstored's CONNACK allows, and
+// less than mosquitto's.
 enum { WINDOW = 16 };
 
 // The microseconds after which a publisher at QoS 1 ends.
@@ -197,7 +201,8 @@ static Publications publications(
 
 // Sends them, those of QoS 1 until the time is over. How many were sent; all of them were handled
 // when this returns.
-static size_t publish_all(Client *client, const Publications *made, int qos, double time) {
+static size_t publish_all(Client *client, const Publications *made, int qos, size_t window,
+    double time, double *longest) {
     size_t sent = 0, acknowledged = 0, count = made->count;
     if (qos == 0) {
         send_all(client, made->bytes, made->starts[count]);
@@ -208,11 +213,13 @@ static size_t publish_all(Client *client, const Publications *made, int qos, dou
     for (double start = now(); acknowledged < count;) {
         if (now() - start > time) count = sent;
         if (acknowledged == count) break;
-        size_t until = acknowledged + WINDOW < count ? acknowledged + WINDOW : count;
+        size_t until = acknowledged + window < count ? acknowledged + window : count;
         size_t first = made->starts[sent];
         send_all(client, made->bytes + first, made->starts[until] - first);
         sent = until;
+        double begun = now();
         Packet packet = take(client);
+        if (now() - begun > *longest) *longest = now() - begun;
         do {
             int is_refused = packet.size > 2 && packet.body[2] >= 0x80;
             if (packet.kind != PUBACK || is_refused) fail("no PUBACK");
@@ -224,33 +231,37 @@ static size_t publish_all(Client *client, const Publications *made, int qos, dou
 
 typedef struct {
     int qos, number;
-    size_t count, topics, size;
+    size_t count, topics, size, window;
+    double longest;
+    const char *name;
     pthread_barrier_t *barrier;
 } Job;
 
 static void *publisher(void *given) {
     Job *job = given;
     char pattern[100];
-    snprintf(pattern, sizeof pattern, "fleet/%d/%%04d%%02d/state", job->number);
+    snprintf(pattern, sizeof pattern, "%.40s/%d/%%04d%%02d/state", job->name, job->number);
     Publications made = publications(job->count, job->qos, job->size, pattern, job->topics);
     Client *client = malloc(sizeof *client);
     if (!client) fail("malloc");
     open_named(client, 'p', job->number);
     pthread_barrier_wait(job->barrier);
-    job->count = publish_all(client, &made, job->qos, LONGEST);
+    job->count = publish_all(client, &made, job->qos, job->window, LONGEST, &job->longest);
     pthread_barrier_wait(job->barrier);
     close_client(client);
     return NULL;
 }
 
 // Connections that publish at once, each so many publications over topics of its own.
-static void publish(int qos, int connections, size_t count, size_t topics, size_t size) {
+static void publish(int connections, Job job) {
     pthread_barrier_t barrier;
     pthread_t threads[64];
     Job jobs[64];
     pthread_barrier_init(&barrier, NULL, (unsigned)connections + 1);
     for (int i = 0; i < connections; i++) {
-        jobs[i] = (Job){qos, i, count, topics, size, &barrier};
+        jobs[i] = job;
+        jobs[i].number = i;
+        jobs[i].barrier = &barrier;
         if (pthread_create(&threads[i], NULL, publisher, &jobs[i]) != 0) fail("pthread_create");
     }
     pthread_barrier_wait(&barrier);
@@ -262,7 +273,7 @@ static void publish(int qos, int connections, size_t count, size_t topics, size_
         pthread_join(threads[i], NULL);
         total += jobs[i].count;
     }
-    printf("%zu %.0f\n", total, time);
+    printf("%zu %.0f %.1f\n", total, time, jobs[0].longest);
 }
 
 // The client of the jobs that have one.
@@ -272,7 +283,8 @@ static Client single;
 static void fill(size_t count, size_t size, const char *pattern) {
     Publications made = publications(count, 1, size, pattern, count);
     open_named(&single, 'f', 0);
-    publish_all(&single, &made, 1, 1e12);
+    double longest = 0;
+    publish_all(&single, &made, 1, WINDOW, 1e12, &longest);
     close_client(&single);
 }
 
@@ -376,19 +388,26 @@ static void connect_often(size_t rounds) {
 }
 
 int main(int count, char **words) {
-    if (count < 4) return 2;
+    if (count < 3) return 2;
     port = atoi(words[1]);
     const char *job = words[2];
     long n[8] = {0};
     for (int i = 3; i < count && i < 10; i++) n[i - 3] = atol(words[i]);
-    if (strcmp(job, "publish") == 0 && count == 8)
-        publish((int)n[0], (int)n[1], (size_t)n[2], (size_t)n[3], (size_t)n[4]);
+    if (strcmp(job, "publish") == 0 && count == 10)
+        publish((int)n[1], (Job){.qos = (int)n[0],
+                               .count = (size_t)n[2],
+                               .topics = (size_t)n[3],
+                               .size = (size_t)n[4],
+                               .window = (size_t)n[5],
+                               .name = words[9]});
     else if (strcmp(job, "fill") == 0 && count == 6)
         fill((size_t)n[0], (size_t)n[1], words[5]);
     else if (strcmp(job, "replay") == 0 && count == 10)
         replay((int)n[0], words[4], (size_t)n[2], (size_t)n[3], (int)n[4], words[8], (int)n[6]);
     else if (strcmp(job, "connect") == 0 && count == 4)
         connect_often((size_t)n[0]);
+    else if (strcmp(job, "burn") == 0 && count == 3)
+        for (volatile size_t i = 0;; i++) {}
     else
         return 2;
     return 0;
