@@ -1,10 +1,10 @@
 //! The way back from the writer to a line.
 
-ghost use Rattle.std.specs.Prelude.{◌≡◌, ◌∷◌, ◌++◌, [], IfOk, MatchBool, MatchOption, map};
+ghost use Rattle.std.specs.Prelude.{◌≡◌, ◌∷◌, ◌++◌, [], IfOk, MatchOption, MatchResult, map};
 ghost use Rattle.rs_intake.specs.Done.{is_held, is_refused, refused_reply, refused_in};
 
 use crate::waiting;
-use crate::waiting::{Patience, receive};
+use crate::waiting::{Gone, Patience, receive};
 use crossbeam_channel::protocol::{Lesson, Outcome, Protocol, Split};
 use crossbeam_channel::{Pass, RuledReceiver, RuledSender, bounded_with};
 use rs_message::{Entry, Origin};
@@ -242,19 +242,16 @@ pub fn way_back<N: StoreName>(
 }
 
 impl<N: StoreName> ReplySender<N> {
-    /// Whether the replies were sent. If the line is gone, they are dropped. Takes no memory.
-    pub fn send<R: Wait>(&mut self, rt: &R, replies: Replies<N>) -> bool
-        ensures { MatchBool result (self.new ≡ self.old ++ replies) (self.new ≡ self.old) }
+    /// Sends the replies. If the line is gone, they are dropped. Takes no memory.
+    pub fn send<R: Wait>(&mut self, rt: &R, replies: Replies<N>) -> Result<(), Gone>
+        ensures { MatchResult result (λ _. self.new ≡ self.old ++ replies) (λ _. self.new ≡ self.old) }
     {
-        match waiting::send::<Replies<N>, WayPass<N>, ReplyRule, Counting, R>(
+        waiting::send::<Replies<N>, WayPass<N>, ReplyRule, Counting, R>(
             rt,
             &self.to,
             &mut self.pass,
             replies,
-        ) {
-            Ok(()) => true,
-            Err(_) => false,
-        }
+        )
     }
 }
 

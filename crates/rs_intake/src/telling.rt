@@ -1,6 +1,6 @@
 //! Putting a job, and sending the writer's answers to its line.
 
-ghost use Rattle.std.specs.Prelude.{◌≡◌, ◌<◌, ◌≤◌, ◌||◌, ◌++◌, [], List, true, false, length, vec_capacity, MatchBool};
+ghost use Rattle.std.specs.Prelude.{◌≡◌, ◌<◌, ◌≤◌, ◌||◌, ◌++◌, [], List, true, false, length, vec_capacity, MatchResult};
 ghost use Rattle.rs_message.specs.Messages.{is_sweep};
 ghost use Rattle.rs_message.specs.declared.entry.Entry.{Entry};
 ghost use Rattle.rs_store.specs.History.{SerialsRise, extended};
@@ -13,6 +13,7 @@ ghost use Rattle.rs_intake.specs.Sweeps.{Serves};
 use crate::job::Changes;
 use crate::name::LineName;
 use crate::reply::{Replies, Reply, ReplySender};
+use crate::waiting::Gone;
 use rs_message::Entry;
 use rs_version::{PutFault, VersionWriter};
 use std::alloc::Global;
@@ -118,17 +119,17 @@ impl<N: LineName> WaysBack<N> {
     }
 
     /// Puts the changes of a job, one after the other, tells their line the answers, and tells no line anything else. The result is how
-    /// many changes are refused, and whether the replies were sent. They are not, if the line is gone.
+    /// many changes are refused, and whether the send of the replies failed. It does, if the line is gone.
     pub(crate) fn put_job<R: Wait + Drop, W: Wait>(
         &mut self,
         rt: &W,
         writer: &mut VersionWriter<N, R>,
         changes: Changes,
-    ) -> (u64, bool)
+    ) -> (u64, Result<(), Gone>)
         requires place { place_of_all changes ≤ length self.old.senders.items }
         requires rises { (before : List Entry) × Serves N.limit before (kept_of writer.old) × SerialsRise (before ++ changes) }
         ensures done { (replies : List ReplyValue) × AreReplied N.limit writer.old changes replies result.0 writer.new
-            × MatchBool result.1 (self.new.senders.items ≡ answered_more self.old.senders.items (place_of_all changes) replies) (self.new.senders.items ≡ self.old.senders.items) }
+            × MatchResult result.1 (λ _. self.new.senders.items ≡ answered_more self.old.senders.items (place_of_all changes) replies) (λ _. self.new.senders.items ≡ self.old.senders.items) }
         ensures ways { length self.new.senders.items ≡ length self.old.senders.items }
     {
         let index = changes.place() as usize - 1;
