@@ -31,9 +31,6 @@ before_is {A} all xs ys is =
 pub end_is : {A : Type 0} (all xs ys : List A) → all ≡ xs ++ ys → all ≡ before all ys ++ ys
 end_is {A} all xs ys is = is ∙ ap (λ l. l ++ ys) (sym (before_is all xs ys is))
 
-pub before_none : {A : Type 0} (all : List A) → before all [] ≡ all
-before_none {A} all = before_is all all [] (sym (append-nil all))
-
 -- the first of the end no more
 pub end_less : {A : Type 0} (all xs ys : List A) (x : A) → all ≡ xs ++ x ∷ ys → all ≡ (xs ++ x ∷ []) ++ ys
 end_less {A} all xs ys x is = is ∙ sym (append_assoc xs (x ∷ []) ys)
@@ -58,19 +55,6 @@ pub take_gives : {A : Type 0} (all old new heard came : List A) (next : Option A
     → MatchOption next ((came ≡ []) × (new ≡ []) × (before all new ≡ heard)) (λ x. (before all new ≡ heard ++ x ∷ []) × (came ≡ x ∷ new))
 take_gives {A} all old new heard came (Some x) is front end taken = (front_takes all old new x is taken ∙ ap (λ l. l ++ x ∷ []) front, sym end ∙ taken)
 take_gives {A} all old new heard came None is front end taken = (sym end ∙ taken.0, taken.1, ap (λ l. before all l) (taken.1 ∙ sym taken.0) ∙ front)
-
--- a list without an end, and one that grows by an end
-comes : {A : Type 0} (all old all' came : List A) → all ≡ before all old ++ old → old ≡ [] → all' ≡ all ++ came → all' ≡ before all old ++ came
-comes {A} all old all' came is none more = more ∙ ap (λ l. l ++ came) (is ∙ (ap (λ l. before all old ++ l) none ∙ append-nil (before all old)))
-
-pub end_comes : {A : Type 0} (all old all' came : List A) → all ≡ before all old ++ old → old ≡ [] → all' ≡ all ++ came → all' ≡ before all' came ++ came
-end_comes {A} all old all' came is none more = end_is all' (before all old) came (comes all old all' came is none more)
-
-pub front_comes : {A : Type 0} (all old all' came : List A) → all ≡ before all old ++ old → old ≡ [] → all' ≡ all ++ came → before all' came ≡ before all old
-front_comes {A} all old all' came is none more = before_is all' (before all old) came (comes all old all' came is none more)
-
-pub front_none : {A : Type 0} (all old new : List A) → all ≡ before all old ++ old → new ≡ [] → before all new ≡ before all old ++ old
-front_none {A} all old new is none = ap (λ l. before all l) none ∙ (before_none all ∙ is)
 
 -- ---- entries under the next serials
 
@@ -123,9 +107,6 @@ numbered_changes place serial (o ∷ os) above some few plain =
       place = numbered_of place serial (o ∷ os);
       plain = numbered_plain place serial (o ∷ os) plain;
     }
-
-pub alone_changes : (e : Entry) → is_sweep e.operation ≡ false → 0 < e.origin.place → AreChanges (e ∷ [])
-alone_changes e plain above = record { some = omega arith; few = omega arith; above = above; place = (refl, tt); plain = (plain, tt) }
 
 -- ---- the line's parts
 

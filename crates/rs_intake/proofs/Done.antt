@@ -44,12 +44,6 @@ put_is limit w w' e (Err f) adds entry number told refuses = refuses
 
 -- ---- one job after the other
 
-pub written_none : (limit : ℕ) (jobs kept : List Entry) → jobs ≡ [] → kept ≡ [] → IsWritten limit jobs kept
-written_none limit jobs kept no_jobs none =
-    let P : List Entry → Type 0 = λ l. IsWritten limit l kept in
-    let Q : List Entry → Type 0 = λ l. IsWritten limit [] l in
-    subst P (sym no_jobs) (subst Q (sym none) (record { told = []; done = refl; changes = refl }))
-
 done_more : (limit : ℕ) (first jobs : List Entry) (told : List Answer) (kept : List Entry) (job : Entry) (answer : Answer) (kept' : List Entry)
     → AreDone limit first jobs told kept → IsDone limit kept job answer kept' → AreDone limit first (jobs ++ job ∷ []) (told ++ answer ∷ []) kept'
 done_more limit first [] [] kept job answer kept' are is = let P : List Entry → Type 0 = λ l. IsDone limit l job answer kept' in (kept', subst P are is, refl)

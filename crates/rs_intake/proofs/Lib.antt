@@ -1,6 +1,5 @@
 pub mod Queues
 pub mod Ways
-pub mod Seats
 pub mod Parts
 pub mod Opening
 pub mod Ahead

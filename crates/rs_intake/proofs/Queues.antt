@@ -38,9 +38,6 @@ of_place-append place xs ys = filter-append (λ (e : Entry). e.origin.place == p
 pub of_place-here : (place : ℕ) (e : Entry) → e.origin.place ≡ place → of_place place (e ∷ []) ≡ e ∷ []
 of_place-here place e same = let is : (e.origin.place == place) ≡ true = grind (arith, nat_tests) in then_is (e.origin.place == place) (e ∷ []) [] is
 
-pub of_place-other : (place : ℕ) (e : Entry) → e.origin.place ≢ place → of_place place (e ∷ []) ≡ []
-of_place-other place e other = let is : (e.origin.place == place) ≡ false = grind (arith, nat_tests) in else_is (e.origin.place == place) (e ∷ []) [] is
-
 -- all entries of a list that are of its place
 of_place_all : (place : ℕ) (es : List Entry) → AreOf place es → of_place place es ≡ es
 of_place_all place [] of = refl

@@ -185,25 +185,30 @@ impl<N: LineName> LineEnd<N> {
 
 /// The entries of this place that do this one after the other, under the serials behind this one. `None` if there are no such serials,
 /// or memory is refused.
-fn numbered(
-    alloc: Global,
-    place: u8,
-    serial: u64,
-    operations: &Vec<Operation>,
-) -> Option<Vec<Entry>>
+fn numbered(alloc: Global, place: u8, serial: u64, operations: Vec<Operation>) -> Option<Vec<Entry>>
     requires { (0 < place) × (place ≤ MAX_PLACES) }
-    ensures entries { IfSome result (λ es. es.items ≡ numbered place serial operations.now.items) }
+    ensures entries { IfSome result (λ es. es.items ≡ numbered place serial operations.items) }
     ensures small { IfSome result (λ es. serial + length es.items < 2 ^ 64) }
 {
     let mut entries = Vec::with_capacity(alloc, operations.len()).ok()?;
     let mut last = serial;
-    for operation in operations.iter() {
+    for operation in operations {
         last = last.checked_add(1)?;
         let origin = Origin::new(place, last)?;
-        let operation = operation.copy().ok()?;
         entries.push(Entry { origin, operation }).ok()?;
     }
     Some(entries)
+}
+
+/// Equal entries, which share the bytes. `None` if memory is refused.
+fn copies(alloc: Global, entries: &Vec<Entry>) -> Option<Vec<Entry>>
+    ensures { IfSome result (λ es. es.items ≡ entries.now.items) }
+{
+    let mut copies = Vec::with_capacity(alloc, entries.len()).ok()?;
+    for entry in entries.iter() {
+        copies.push(entry.copy().ok()?).ok()?;
+    }
+    Some(copies)
 }
 
 /// What is expected, as one job, if this is the first entry of it; and a copy of its entries. `None` if it is not, or if memory is
@@ -212,22 +217,22 @@ fn prepared(
     alloc: Global,
     place: u8,
     serial: u64,
-    expected: &Vec<Operation>,
+    expected: Vec<Operation>,
     first: &Entry,
 ) -> Option<(Changes, VecDeque<Entry>)>
     requires place { (0 < place) × (place ≤ MAX_PLACES) }
-    requires plain { AllByRecursion (λ o. is_sweep o ≡ false) expected.now.items }
-    requires few { length expected.now.items ≤ MAX_CHANGES }
-    ensures job { IfSome result (λ r. r.0 ≡ numbered place serial expected.now.items) }
-    ensures ahead { IfSome result (λ r. r.1.items ≡ numbered place serial expected.now.items) }
+    requires plain { AllByRecursion (λ o. is_sweep o ≡ false) expected.items }
+    requires few { length expected.items ≤ MAX_CHANGES }
+    ensures job { IfSome result (λ r. r.0 ≡ numbered place serial expected.items) }
+    ensures ahead { IfSome result (λ r. r.1.items ≡ numbered place serial expected.items) }
     ensures first { IfSome result (λ r. (es : List Entry) × (r.1.items ≡ first.now ∷ es)) }
     ensures small { IfSome result (λ r. serial + length r.1.items < 2 ^ 64) }
 {
     let entries = numbered(alloc, place, serial, expected)?;
-    let job = numbered(alloc, place, serial, expected)?;
     if !is_same(entries.first()?, first) {
         return None;
     }
+    let job = copies(alloc, &entries)?;
     Some((Changes::new(job), VecDeque::from_vec(entries)))
 }
 
@@ -362,7 +367,7 @@ impl<N: LineName> SeatLine<N> {
             return;
         }
         let place = self.line.place();
-        let Some((job, ahead)) = prepared(self.alloc, place, self.serial, &expected, first) else {
+        let Some((job, ahead)) = prepared(self.alloc, place, self.serial, expected, first) else {
             return;
         };
         if self.line.send_changes(rt, job) {

@@ -1,4 +1,4 @@
-use Rattle.std.proofs.Common.{List, length, ap, sym, subst, arith}
+use Rattle.std.proofs.Common.{List, length, ap, sym, subst, ◌∙◌, arith}
 use Rattle.rs_message.specs.declared.entry.Entry.{Entry}
 use Rattle.rs_intake.specs.Changes.{AreChanges}
 use Rattle.rs_intake.proofs.Ahead.{numbered_changes}
@@ -10,4 +10,4 @@ new-requires c =
     let some = c.in_ok-first.ensures.item.3.0 in
     let value = ap length c.deref.ensures.value in
     let entries = ap length c.in_ok-entries.ensures.entries in
-    subst P (sym c.in_ok-job.ensures.entries) (numbered_changes c.args.place c.args.serial c.args.expected.now.items c.requires.place.0 (omega (arith, some, value, entries)) c.requires.few c.requires.plain)
+    subst P (sym (c.in_ok-job.ensures ∙ c.in_ok-entries.ensures.entries)) (numbered_changes c.args.place c.args.serial c.args.expected.items c.requires.place.0 (omega (arith, some, value, entries)) c.requires.few c.requires.plain)
