@@ -11,7 +11,7 @@ ghost use Rattle.rs_places.specs.Shared.{HandsOn, IsOtherAhead, Knows, handed_on
 ghost use Rattle.rs_session.specs.Gate.{Grows, Sends, SendsAtMost, Submits, TakesAhead, Uses, entry_by};
 ghost use Rattle.rs_store.specs.History.{IsLegal};
 
-use rs_intake::{Intake, LineEnd, LineName, SeatLine};
+use rs_intake::{Intake, LineEnd, LineName, MAX_CHANGES, SeatLine};
 use rs_message::{Found, Operation, SubmitFault};
 use rs_session::Gate;
 use rs_topic::TopicFilter;
@@ -119,6 +119,7 @@ impl<N: LineName, R: Wait + Copy> SharedGate<N, R> {
 }
 
 impl<N: LineName, R: Wait + Copy> Gate for SharedGate<N, R> {
+    ghost use Rattle.rs_intake.specs.declared.job.TheConstants.{MAX_CHANGES};
     ghost use Rattle.rs_places.specs.Shared.{Knows};
 
     ghost stands = { Knows N.limit };
@@ -126,6 +127,13 @@ impl<N: LineName, R: Wait + Copy> Gate for SharedGate<N, R> {
     ghost mark = { λ gate. gate.mark };
 
     ghost ahead = { λ gate. gate.ahead };
+
+    ghost most = { MAX_CHANGES };
+
+    /// As many as go in one job.
+    fn most_expected(&self) -> usize {
+        MAX_CHANGES
+    }
 
     /// The line expects the changes. Nothing is sent before the first of them is submitted.
     fn expect(&mut self, changes: Vec<Operation>) {

@@ -7,6 +7,7 @@ ghost use Rattle.std.specs.Prelude.{◌≡◌, ◌<◌, ◌≤◌, IfOk};
 ghost use Rattle.rs_message.specs.declared.entry.TheConstants.{MAX_PLACES};
 
 mod ahead;
+mod bursts;
 mod ending;
 mod faults;
 mod gates;

@@ -46,12 +46,12 @@ piped (Err fault) line = Err (pipe_fault fault line)
 
 -- There was a connection whose every moment was `at`, over what the input and the output stand for. Its outcome
 -- was answered so.
-pub record IsPiped (hex : Bool) (at : ℕ) (from : Point State) (stands_at : Mark → List Entry → Type 0) (stands : List Entry → Type 0) (mark : Mark) (unread rest written more : Option (List ℕ)) (first ahead : List Operation) (answered : Result Served PipeFault) : Type 0 where
+pub record IsPiped (hex : Bool) (at : ℕ) (from : Point State) (stands_at : Mark → List Entry → Type 0) (stands : List Entry → Type 0) (mark : Mark) (most : ℕ) (unread rest written more : Option (List ℕ)) (first ahead : List Operation) (answered : Result Served PipeFault) : Type 0 where
   pub outcome : Result Served ServeFault
   pub left : Option (List ℕ)
   pub held : Option (List ℕ)
   pub line : Option ℕ
-  pub connection : IsConnection from stands_at stands mark (All (λ moment. moment ≡ at)) (input_bytes hex unread) left (output_bytes hex written) held first ahead outcome
+  pub connection : IsConnection from stands_at stands mark most (All (λ moment. moment ≡ at)) (input_bytes hex unread) left (output_bytes hex written) held first ahead outcome
   pub left_is : IsLeft hex rest left
   pub held_is : IsHeld hex more held
   pub answer : answered ≡ piped outcome (if_hex hex line)

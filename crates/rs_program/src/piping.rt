@@ -78,7 +78,7 @@ pub fn pipe<H: Wait, R: Read + Drop, W: Write + Drop, G: Gate>(
     at: u64,
 ) -> Piped<R, W, G>
     ensures { (seen : List Entry) → G.stands gate seen
-        → IsPiped hex at (start (assigned_of 1 1) seen (G.mark gate)) (StandsAt G.stands G.mark) (G.stands result.gate) (G.mark result.gate)
+        → IsPiped hex at (start (assigned_of 1 1) seen (G.mark gate)) (StandsAt G.stands G.mark) (G.stands result.gate) (G.mark result.gate) G.most
         (R.remaining input) (R.remaining result.input) (W.contents output) (W.contents result.output) (G.ahead gate) (G.ahead result.gate) result.served }
 {
     if hex {
@@ -97,7 +97,7 @@ fn pipe_bytes<H: Wait, R: Read + Drop, W: Write + Drop, G: Gate>(
     at: u64,
 ) -> Piped<R, W, G>
     ensures { (seen : List Entry) → G.stands gate seen
-        → IsPiped false at (start (assigned_of 1 1) seen (G.mark gate)) (StandsAt G.stands G.mark) (G.stands result.gate) (G.mark result.gate)
+        → IsPiped false at (start (assigned_of 1 1) seen (G.mark gate)) (StandsAt G.stands G.mark) (G.stands result.gate) (G.mark result.gate) G.most
         (R.remaining input) (R.remaining result.input) (W.contents output) (W.contents result.output) (G.ahead gate) (G.ahead result.gate) result.served }
 {
     let mut reader = Counted::new(input);
@@ -121,7 +121,7 @@ fn pipe_lines<H: Wait, R: Read + Drop, W: Write + Drop, G: Gate>(
     at: u64,
 ) -> Piped<R, W, G>
     ensures { (seen : List Entry) → G.stands gate seen
-        → IsPiped true at (start (assigned_of 1 1) seen (G.mark gate)) (StandsAt G.stands G.mark) (G.stands result.gate) (G.mark result.gate)
+        → IsPiped true at (start (assigned_of 1 1) seen (G.mark gate)) (StandsAt G.stands G.mark) (G.stands result.gate) (G.mark result.gate) G.most
         (R.remaining input) (R.remaining result.input) (W.contents output) (W.contents result.output) (G.ahead gate) (G.ahead result.gate) result.served }
 {
     let mut reader = Counted::new(HexReader::new(alloc, input));

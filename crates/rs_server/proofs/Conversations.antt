@@ -373,14 +373,15 @@ handled_fault T NoMemory before after h = tt
 -- ---- a connection
 
 -- the same over equal streams
-pub connection_as : (from : Point State) (stands_at : Mark → List Entry → Type 0) (stands : List Entry → Type 0) (mark : Mark) (told other : List ℕ → Type 0) (u v r q w x m n : Option (List ℕ)) (first ahead : List Operation) (result : Result Served ServeFault)
+pub connection_as : (from : Point State) (stands_at : Mark → List Entry → Type 0) (stands : List Entry → Type 0) (mark : Mark) (most : ℕ) (told other : List ℕ → Type 0) (u v r q w x m n : Option (List ℕ)) (first ahead : List Operation) (result : Result Served ServeFault)
     → u ≡ v → r ≡ q → w ≡ x → m ≡ n → ((ms : List ℕ) → told ms → other ms)
-    → IsConnection from stands_at stands mark told u r w m first ahead result → IsConnection from stands_at stands mark other v q x n first ahead result
-connection_as from stands_at stands mark told other u v r q w x m n first ahead result e f g h t (state, planned, left, talk, ends) =
+    → IsConnection from stands_at stands mark most told u r w m first ahead result → IsConnection from stands_at stands mark most other v q x n first ahead result
+connection_as from stands_at stands mark most told other u v r q w x m n first ahead result e f g h t (state, planned, left, few, talk, ends) =
     let c = talk.conversation in (
       state,
       planned,
       left,
+      few,
       record {
         held = talk.held;
         conversation = record {

@@ -1,5 +1,5 @@
 -- Lemmas on what is decoded before it is handled.
-use Rattle.std.proofs.Common.{◌≡◌, ◌≢◌, ℕ, List, [], ◌∷◌, ◌++◌, length, refl, sym, subst, ap, ◌∙◌, append-nil, append_assoc, inl, inr, ◌⊎◌, Option, Some, None, arith}
+use Rattle.std.proofs.Common.{◌≡◌, ◌≢◌, ◌≤◌, ◌+◌, ℕ, length-append, List, [], ◌∷◌, ◌++◌, length, refl, sym, subst, ap, ◌∙◌, append-nil, append_assoc, inl, inr, ◌⊎◌, Option, Some, None, arith}
 use Rattle.std.proofs.lemmas.List.{map-append}
 use Rattle.rs_packet.specs.declared.reply.Reply.{Reply}
 use Rattle.rs_message.specs.declared.entry.Entry.{Entry}
@@ -37,6 +37,11 @@ plans_next p1 p2 h1 h2 c1 c2 (inr (given, e, t, m)) = (given ∷ [], e, front_in
 
 pub plans_more : (p1 p2 p3 : List Given) (h1 h2 h3 : List ℕ) (c1 c2 c3 : Option (ℕ → ℕ)) → Plans p1 p2 h1 h2 c1 c2 → PlansNext p2 p3 h2 h3 c2 c3 → Plans p1 p3 h1 h3 c1 c3
 plans_more p1 p2 p3 h1 h2 h3 c1 c2 c3 p q = plans_join p1 p2 p3 h1 h2 h3 c1 c2 c3 p (plans_next p2 p3 h2 h3 c2 c3 q)
+
+-- at most one more is planned
+pub next_few : (p1 p2 : List Given) (h1 h2 : List ℕ) (c1 c2 : Option (ℕ → ℕ)) → PlansNext p1 p2 h1 h2 c1 c2 → length p2 ≤ length p1 + 1
+next_few p1 p2 h1 h2 c1 c2 (inl (e, f, g)) = omega (arith, ap (λ (l : List Given). length l) e)
+next_few p1 p2 h1 h2 c1 c2 (inr (given, e, t, m)) = omega (arith, ap (λ (l : List Given). length l) e, length-append p1 (given ∷ []))
 
 pub not_empty : (planned : List Given) (given : Given) → planned ++ given ∷ [] ≡ [] → ⊥
 not_empty [] given e = absurd (cc)

@@ -181,12 +181,12 @@ Ends (Ok served) state held at_end = ClosesAs served state held at_end
 Ends (Err fault) state held at_end = BreaksAt fault state held
 
 -- From this point a session was run over the bytes that were consumed, at the times that were told: those of its turns, and then
--- those of what was whole behind them and not handled. What was
+-- those of what was whole behind them and not handled, at most as many as the gate takes at once. What was
 -- written is its replies, at a fault the last turn's perhaps in part, and it ended so. The bytes that the reader
 -- has left and those that the writer holds are those before and after, if they are known. The changes that the gate
 -- expected are those before and after.
-abbrev pub IsConnection : Point State → (Mark → List Entry → Type 0) → (List Entry → Type 0) → Mark → (List ℕ → Type 0) → Option (List ℕ) → Option (List ℕ) → Option (List ℕ) → Option (List ℕ) → List Operation → List Operation → Result Served ServeFault → Type 0
-IsConnection from stands_at stands mark told unread rest written more first ahead result = (state : State) × (planned : List Given) × (left : List ℕ)
+abbrev pub IsConnection : Point State → (Mark → List Entry → Type 0) → (List Entry → Type 0) → Mark → ℕ → (List ℕ → Type 0) → Option (List ℕ) → Option (List ℕ) → Option (List ℕ) → Option (List ℕ) → List Operation → List Operation → Result Served ServeFault → Type 0
+IsConnection from stands_at stands mark most told unread rest written more first ahead result = (state : State) × (planned : List Given) × (left : List ℕ) × (length planned ≤ most)
     × (talk : Talks from stands_at stands mark state (Consumes unread rest) planned left told (WritesTurns result written more) first ahead)
     × Ends result state talk.held (IsAtEnd rest)
 

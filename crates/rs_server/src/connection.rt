@@ -1,6 +1,6 @@
 //! One connection: packets are read, and the session's replies are written.
 
-ghost use Rattle.std.specs.Prelude.{◌≡◌, ◌<◌, ◌-◌, ◌^◌, ◌++◌, ◌⊎◌, [], ℕ, Option, List, None, Some};
+ghost use Rattle.std.specs.Prelude.{◌≡◌, ◌<◌, ◌-◌, ◌^◌, ◌≤◌, ◌++◌, ◌⊎◌, [], ℕ, Option, List, None, Some, length};
 ghost use Rattle.std.specs.Io.KnownBytes.{Consumes, IsAtEnd};
 ghost use Rattle.rs_message.specs.declared.entry.Entry.{Entry};
 ghost use Rattle.rs_message.specs.declared.entry.Operation.{Operation};
@@ -60,9 +60,10 @@ const READ_ROOM: usize = 8192;
 /// (3.2.2.3.7). The clock is asked once for each packet, and once for a fault. The gate is returned in
 /// every case.
 ///
-/// Packets that are whole in its buffer are decoded together, up to [`MAX_CHANGES`](rs_session::MAX_CHANGES) of them, as long as they
-/// are publications whose changes may be announced, and the gate is told to expect these ([`Gate::expect`]). Then they are
+/// Packets that are whole in its buffer are decoded together, up to as many as the gate takes at once ([`Gate::most_expected`]), as long
+/// as they are publications whose changes may be announced, and the gate is told to expect these ([`Gate::expect`]). Then they are
 /// handled one by one. It never reads to do so. If the session ends before such a packet is handled, its time was asked all the same.
+/// For a gate that takes none, each packet is handled before the next one is decoded.
 ///
 /// # Errors
 ///
@@ -83,7 +84,7 @@ pub fn serve<H: Wait, R: Read, W: Write, G: Gate, C: Clock>(
 
     // What was written are the replies of a session to the packets that the bytes read encode.
     ensures conversation { (seen : List Entry) → G.stands gate seen
-        → IsConnection (start (assigned_of id.place id.number) seen (G.mark gate)) (StandsAt G.stands G.mark) (G.stands result.1) (G.mark result.1)
+        → IsConnection (start (assigned_of id.place id.number) seen (G.mark gate)) (StandsAt G.stands G.mark) (G.stands result.1) (G.mark result.1) G.most
         (TellsInOrder (C.moments clock.old) (C.moments clock.new))
         (R.remaining (inner_of reader.old)) (R.remaining (inner_of reader.new))
         (W.contents (inner_of writer.old)) (W.contents (inner_of writer.new)) (G.ahead gate) (G.ahead result.1) result.0 }
@@ -144,6 +145,7 @@ fn serve_once<R: Read, W: Write, G: Gate, C: Clock>(
         (WritesTurns result wrote (W.contents (inner_of writer.new))) first (G.ahead (gate_of session.new)) }
     ensures expected { closing_of (state_of session.new).phase ≡ None → AreChanges planned.old.items (G.ahead (gate_of session.old))
         → AreChanges planned.new.items (G.ahead (gate_of session.new)) }
+    ensures few { length planned.old.items ≤ G.most → length planned.new.items ≤ G.most }
     ensures closes { Closes result (state_of session.new) held.new.items (IsAtEnd (R.remaining (inner_of reader.new))) }
     ensures rest { (planned.new.items ≡ []) ⊎ IsHandled result }
     ensures due { due_of session.new ≡ None }

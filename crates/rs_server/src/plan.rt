@@ -1,6 +1,6 @@
 //! What is decoded before it is handled.
 
-ghost use Rattle.std.specs.Prelude.{◌≡◌, ◌≢◌, ◌⊎◌, [], true, false, List, Ok, OnOk, IfOk, IfErr};
+ghost use Rattle.std.specs.Prelude.{◌≡◌, ◌≢◌, ◌≤◌, ◌+◌, ◌⊎◌, [], true, false, List, Ok, OnErr, OnOk, IfOk, IfErr, length};
 ghost use Rattle.std.specs.List.{All};
 ghost use Rattle.rs_message.specs.declared.entry.Entry.{Entry};
 ghost use Rattle.rs_message.specs.declared.entry.Operation.{Operation};
@@ -19,7 +19,7 @@ use crate::writing::ServeFault;
 use bytes::{Bytes, BytesMut};
 use rs_message::Operation;
 use rs_packet::{Decoded, PacketFault, decode, needed_len};
-use rs_session::{Gate, Input, MAX_CHANGES, Session};
+use rs_session::{Gate, Input, Session};
 use std::alloc::Global;
 use std::collections::VecDeque;
 use std::marker::Model;
@@ -40,7 +40,8 @@ impl Model for Planned {
 }
 
 /// Plans what comes next, if nothing is planned: the first whole input of what is held; and, in an open session, while the last one
-/// is a publication that may be announced, the next. The changes of two or more of them are announced. Nothing is read.
+/// is a publication that may be announced, the next, up to as many as its gate takes at once. The changes of two or more of them are
+/// announced. Nothing is read.
 pub(crate) fn plan<G: Gate, C: Clock>(
     alloc: Global,
     session: &mut Session<G>,
@@ -50,6 +51,8 @@ pub(crate) fn plan<G: Gate, C: Clock>(
 ) -> Result<(), ServeFault>
     ensures plans { Plans planned.old.items planned.new.items held.old.items held.new.items (C.moments clock.old) (C.moments clock.new) }
     ensures more { OnOk result (planned.new.items ≡ [] → IsMore held.new.items) }
+    ensures few { length planned.old.items ≤ G.most → length planned.new.items ≤ G.most + 1 }
+    ensures none { OnErr result (planned.new.items ≡ planned.old.items) }
     ensures fault { IfErr result (λ fault. fault ≡ ServeFault.NoMemory) }
     ensures state { state_of session.new ≡ state_of session.old }
     ensures due { due_of session.new ≡ due_of session.old }
@@ -62,10 +65,8 @@ pub(crate) fn plan<G: Gate, C: Clock>(
     }
     match plan_next(alloc, held, planned, clock) {
         Ok(true) => {
-            if session.is_open() {
-                look_ahead(alloc, held, planned, clock);
-                announce(alloc, session, planned);
-            }
+            look_ahead(alloc, held, planned, clock, session.most_expected());
+            announce(alloc, session, planned);
             Ok(())
         }
         Ok(false) => Ok(()),
@@ -83,6 +84,7 @@ fn plan_next<C: Clock>(
     ensures plans { PlansNext planned.old.items planned.new.items held.old.items held.new.items (C.moments clock.old) (C.moments clock.new) }
     ensures more { OnOk result (planned.new.items ≡ [] → IsMore held.new.items) }
     ensures some { result ≡ Ok true → planned.new.items ≢ [] }
+    ensures none { OnErr result (planned.new.items ≡ planned.old.items) }
     ensures fault { IfErr result (λ fault. fault ≡ ServeFault.NoMemory) }
 {
     if planned.reserve(1).is_err() {
@@ -97,16 +99,19 @@ fn plan_next<C: Clock>(
     Ok(goes_on)
 }
 
-/// Plans whole inputs up to [`MAX_CHANGES`], and to the first that may not be announced. If memory is refused it stops.
+/// Plans whole inputs behind the first one, up to `most` with it, and to the first that may not be announced. If memory is refused it
+/// stops.
 fn look_ahead<C: Clock>(
     alloc: Global,
     held: &mut BytesMut,
     planned: &mut VecDeque<Planned>,
     clock: &mut C,
+    most: usize,
 )
     ensures plans { Plans planned.old.items planned.new.items held.old.items held.new.items (C.moments clock.old) (C.moments clock.new) }
+    ensures few { length planned.new.items ≤ length planned.old.items + most }
 {
-    'next: for _ in 1..MAX_CHANGES {
+    'next: for count in 1..most {
         let Ok(true) = plan_next(alloc, held, planned, clock) else {
             return;
         };

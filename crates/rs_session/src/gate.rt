@@ -1,6 +1,6 @@
 //! The store as a session sees it.
 
-ghost use Rattle.std.specs.Prelude.{◌≡◌, ◌⊎◌, [], false, List, IfOk};
+ghost use Rattle.std.specs.Prelude.{◌≡◌, ◌≤◌, ◌⊎◌, [], false, ℕ, List, IfOk};
 ghost use Rattle.std.specs.List.{All};
 ghost use Rattle.std.specs.Option.{option_map};
 ghost use Rattle.rs_message.specs.Messages.{is_sweep};
@@ -12,11 +12,6 @@ ghost use Rattle.rs_session.specs.Gate.{Mark, Grows, SendsAtMost, Submits, Takes
 use rs_message::{Found, Operation, SubmitFault};
 use rs_topic::TopicFilter;
 use std::alloc::AllocError;
-
-/// The most changes that a gate is told to expect at once (this server's choice).
-pub const MAX_CHANGES: usize = 64;
-
-const _: () = prove!(MAX_CHANGES == 64);
 
 /// A session's way to the store, seen by the lists of entries that it may stand for. After a call, for each list
 /// that it stood for before, it stands for one that begins with it: what a session saw or was told stays.
@@ -30,6 +25,16 @@ pub trait Gate {
     /// The changes that it was told to expect and that were not submitted since, in their order. Some of them, or all, may
     /// have been sent to the store.
     ghost ahead: { Self → List Operation } = { λ _. [] };
+
+    /// A bound of `most_expected`.
+    ghost most: { ℕ } = { 0 };
+
+    /// How many changes it takes at once by `expect`. By default none, so nobody looks ahead for it.
+    fn most_expected(&self) -> usize
+        ensures { result ≤ most }
+    {
+        0
+    }
 
     /// Says which changes come next, in this order. Each is still handed over by a `submit` of its own, unless the session ends
     /// before. A gate may send them to the store together with the first. By default it does nothing.

@@ -22,7 +22,7 @@ mod reason;
 mod session;
 mod subscriptions;
 
-pub use gate::{Gate, MAX_CHANGES};
+pub use gate::Gate;
 pub use law::{kept_of_run, limits_kept, lists_grow, replay_of_run, sent_of_run};
 pub use local::LocalGate;
 pub use phase::{Closing, Input, Step};

@@ -2,7 +2,7 @@
 
 mod connect;
 
-ghost use Rattle.std.specs.Prelude.{◌≡◌, ◌<◌, ◌⊎◌, ℕ, List, [], false, Some, None, IfSome, length};
+ghost use Rattle.std.specs.Prelude.{◌≡◌, ◌<◌, ◌≤◌, ◌⊎◌, ℕ, List, [], false, Some, None, IfSome, length};
 ghost use Rattle.std.specs.List.{All};
 ghost use Rattle.rs_message.specs.declared.entry.Entry.{Entry};
 ghost use Rattle.rs_packet.specs.declared.packet.Packet.{Packet};
@@ -126,6 +126,16 @@ impl<G: Gate> Session<G> {
             Some(reply) => Some(reply),
             None => next_waiting(&mut self.phase, now),
         }
+    }
+
+    /// How many changes the gate takes at once ([`Gate::most_expected`]). None if the session is not open.
+    pub fn most_expected(&self) -> usize
+        ensures { result ≤ G.most }
+    {
+        if self.is_open() {
+            return self.gate.most_expected();
+        }
+        0
     }
 
     /// Tells the gate which changes come next ([`Gate::expect`]), if the session is open: those of the inputs that it will be given, in

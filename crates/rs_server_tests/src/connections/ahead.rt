@@ -1,6 +1,6 @@
 //! A gate that is told which changes come next. What a connection replies does not change by it.
 
-ghost use Rattle.std.specs.Prelude.{None};
+ghost use Rattle.std.specs.Prelude.{None, ◌^◌};
 
 use rs_message::{Found, Operation, SubmitFault};
 use rs_server::{ConnectionId, Counted, Moments, Served, serve};
@@ -18,8 +18,8 @@ use std::test::Fail;
 #[derive(Drop)]
 struct Expecting {
     store: LocalGate<MapCatalogue>,
-    /// Whether it keeps what it is told.
-    keeps: bool,
+    /// How many changes it takes at once.
+    most: usize,
     /// The changes that were not submitted yet.
     next: VecDeque<Operation>,
     /// How many it was told to expect, and how many of them were submitted.
@@ -32,11 +32,15 @@ impl Gate for Expecting {
 
     ghost mark = { λ _. record { place = 1; serial = 0; sent = None } };
 
+    ghost most = { 2 ^ 64 };
+
+    fn most_expected(&self) -> usize {
+        self.most
+    }
+
     fn expect(&mut self, changes: Vec<Operation>) {
-        if self.keeps {
-            self.told = self.told.saturating_add(changes.len());
-            self.next = VecDeque::from_vec(changes);
-        }
+        self.told = self.told.saturating_add(changes.len());
+        self.next = VecDeque::from_vec(changes);
     }
 
     fn is_ahead(&self) -> bool {
@@ -107,7 +111,7 @@ fn counts<H: Wait>(
     rt: &H,
     alloc: Global,
     sent: Cut,
-    keeps: bool,
+    most: usize,
     replied: &[u8],
 ) -> Result<Option<(usize, usize)>, Fail> {
     let Some(limit) = TopicLimit::new(100) else {
@@ -115,7 +119,7 @@ fn counts<H: Wait>(
     };
     let gate = Expecting {
         store: LocalGate::new(alloc, limit)?,
-        keeps,
+        most,
         next: VecDeque::new(alloc),
         told: 0,
         met: 0,
@@ -142,7 +146,7 @@ fn what_is_replied_does_not_change(rt: HostRuntime) -> Result<(), Fail> {
             first: &SENT[..cut],
             rest: &SENT[cut..],
         };
-        let kept = counts(&rt, rt.alloc(), told, true, REPLIED)?;
+        let kept = counts(&rt, rt.alloc(), told, 64, REPLIED)?;
         let is_met = match kept {
             Some((told, met)) => told == met,
             None => false,
@@ -152,17 +156,18 @@ fn what_is_replied_does_not_change(rt: HostRuntime) -> Result<(), Fail> {
     Ok(())
 }
 
+/// How many changes a gate takes at once, and how many of what came whole are announced to it. One change alone is not announced.
+const ANNOUNCED: [(usize, usize); 5] = [(0, 0), (1, 0), (2, 6), (3, 7), (64, 7)];
+
 #[test]
 fn what_came_whole_is_announced(rt: HostRuntime) -> Result<(), Fail> {
-    let whole = Cut {
-        first: SENT,
-        rest: b"",
-    };
-    assert!(rt; counts(&rt, rt.alloc(), whole, true, REPLIED)? == Some((7, 7)));
-    let whole = Cut {
-        first: SENT,
-        rest: b"",
-    };
-    assert!(rt; counts(&rt, rt.alloc(), whole, false, REPLIED)? == Some((0, 0)));
+    for (most, count) in ANNOUNCED {
+        let whole = Cut {
+            first: SENT,
+            rest: b"",
+        };
+        let found = counts(&rt, rt.alloc(), whole, most, REPLIED)?;
+        assert!(rt; found == Some((count, count)), "{most}");
+    }
     Ok(())
 }

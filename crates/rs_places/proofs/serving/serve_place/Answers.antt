@@ -20,7 +20,7 @@ returns-clause-connection g c =
     let number = c.args.number in
     let before = c.serve-served.result.1 in
     let after = c.hand_on.new.self in
-    let (state, planned, left, talk, ends) = c.serve-served.ensures.conversation gate.known (record { known = refl; legal = c.version-version.ensures.legal }) in
+    let (state, planned, left, few, talk, ends) = c.serve-served.ensures.conversation gate.known (record { known = refl; legal = c.version-version.ensures.legal }) in
     let conversation = talk.conversation in
     let turns = conversation.turns in
     let (tail, hands_on, front) = c.hand_on.ensures.mark in

@@ -16,7 +16,7 @@ use Rattle.rs_program.proofs.memory.serve_bytes.Goals as goal
 
 pub returns-in-Ok-0₀ : goal.returns-in-Ok-0₀
 returns-in-Ok-0₀ g c =
-    let (state, planned, left, talk, ends) = c.serve.ensures.conversation [] c.in-Ok.ensures.list in
+    let (state, planned, left, few, talk, ends) = c.serve.ensures.conversation [] c.in-Ok.ensures.list in
     let conversation = talk.conversation in
     let to = point_at state conversation.seen (local_mark (content_of c.serve.result.1)) in
     let read = rw c.new-reader.ensures.inner at conversation.read in

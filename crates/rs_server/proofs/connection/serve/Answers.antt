@@ -1,5 +1,6 @@
-use Rattle.std.proofs.Common.{◌≡◌, ◌⊎◌, refl, ap, ◌∙◌, subst, [], ℕ, List, Option, None, Some, Ok, Err}
+use Rattle.std.proofs.Common.{◌≡◌, ◌⊎◌, refl, ap, ◌∙◌, subst, [], ℕ, List, Option, None, Some, Ok, Err, arith, length}
 use Rattle.std.specs.Io.KnownBytes.{IsAtEnd}
+use Rattle.rs_session.specs.Points.{Given}
 use Rattle.rs_session.specs.State.{State, closing_of, fresh, state_of}
 use Rattle.rs_server.specs.Counts.{inner_of}
 use Rattle.rs_server.specs.Conversation.{assigned_of, start, Closes, Ends, IsHandled}
@@ -12,6 +13,7 @@ turns-init g c =
     record {
       conversation = talks_first g.G.Gate.stands g.G.Gate.mark g.G.Gate.ahead _ _ _ _ _ _ _ _ _ c.new-session.ensures.gate (c.new-session.ensures.state ∙ ap fresh c.in-Ok.ensures) c.new-held.ensures.items c.new-planned.ensures.items;
       expected = λ e. first_expected g.G.Gate.ahead _ _ _ c.new-session.ensures.gate e;
+      few = omega (arith, ap (λ (l : List Given). length l) c.new-planned.ensures.items);
       none_due = c.new-session.ensures.due;
       goes_on = ap (λ (s : State). closing_of s.phase) c.new-session.ensures.state;
       reader = refl;
@@ -21,7 +23,7 @@ turns-init g c =
 pub returns-in_default-clause-conversation : goal.returns-in_default-clause-conversation
 returns-in_default-clause-conversation g c = λ seen s.
     let assigned = assigned_of c.args.id.place c.args.id.number in
-    (fresh assigned, [], [], talks_none Served _ (g.G.Gate.stands c.args.gate) (g.G.Gate.mark c.args.gate) assigned (g.R.Read.remaining (inner_of c.args.reader.now)) (g.C.Clock.moments c.args.clock.now) (g.W.Write.contents (inner_of c.args.writer.now)) (g.G.Gate.ahead c.args.gate) seen s, tt)
+    (fresh assigned, [], [], omega arith, talks_none Served _ (g.G.Gate.stands c.args.gate) (g.G.Gate.mark c.args.gate) assigned (g.R.Read.remaining (inner_of c.args.reader.now)) (g.C.Clock.moments c.args.clock.now) (g.W.Write.contents (inner_of c.args.writer.now)) (g.G.Gate.ahead c.args.gate) seen s, tt)
 
 pub turns-preserved : goal.turns-preserved
 turns-preserved g c =
@@ -30,6 +32,7 @@ turns-preserved g c =
       conversation = λ seen s.
           c.in-Ok-None.ensures.conversation (start (assigned_of c.args.id.place c.args.id.number) seen (g.G.Gate.mark c.args.gate)) (g.R.Read.remaining (inner_of c.args.reader.now)) (g.W.Write.contents (inner_of c.args.writer.now)) (g.C.Clock.moments c.args.clock.now) (g.G.Gate.ahead c.args.gate) c.turns.invariant.expected (c.turns.invariant.conversation seen s);
       expected = λ e. c.in-Ok-None.ensures.expected closes (c.turns.invariant.expected e);
+      few = c.in-Ok-None.ensures.few c.turns.invariant.few;
       none_due = c.in-Ok-None.ensures.due;
       goes_on = closes;
       reader = c.in-Ok-None.ensures.cause.0 ∙ c.turns.invariant.reader;
@@ -48,7 +51,7 @@ returns-in-Ok-Some-clause-conversation g c = λ seen s.
     let closes = subst (λ (o : Option Served). Closes (Ok o) state left at_end) c.in-Ok-Some.field-0-is c.in-Ok-Some.ensures.closes in
     let rest = subst (λ (o : Option Served). (planned ≡ []) ⊎ IsHandled (Ok o)) c.in-Ok-Some.field-0-is c.in-Ok-Some.ensures.rest in
     let (kept, ends) = talks_kept g.G.Gate.stands g.G.Gate.mark g.G.Gate.ahead _ _ from _ _ _ planned left _ _ (g.G.Gate.ahead c.args.gate) (λ (held : List ℕ). Ends (Ok served) state held at_end) c.into_gate.ensures (talk, ends_held (Ok served) state planned talk.held left at_end closes rest talk.whole) in
-    (state, planned, left, kept, ends)
+    (state, planned, left, c.in-Ok-Some.ensures.few c.turns.invariant.few, kept, ends)
 
 pub returns-in-Err-clause-conversation : goal.returns-in-Err-clause-conversation
 returns-in-Err-clause-conversation g c = λ seen s.
@@ -62,4 +65,4 @@ returns-in-Err-clause-conversation g c = λ seen s.
     let talk = talks_as (Option Served) Served fault from _ _ _ _ _ planned left _ wrote (g.W.Write.contents (inner_of c.serve_once.new.writer)) (g.G.Gate.ahead c.args.gate) _
     (c.in-Err.ensures.conversation from (g.R.Read.remaining (inner_of c.args.reader.now)) wrote (g.C.Clock.moments c.args.clock.now) (g.G.Gate.ahead c.args.gate) c.turns.invariant.expected (c.turns.invariant.conversation seen s)) in
     let (kept, ends) = talks_kept g.G.Gate.stands g.G.Gate.mark g.G.Gate.ahead _ _ from _ _ _ planned left _ _ (g.G.Gate.ahead c.args.gate) (λ (held : List ℕ). Ends (Err fault) state held at_end) c.into_gate-in-Err.ensures (talk, ends_held (Err fault) state planned talk.held left at_end c.in-Err.ensures.closes c.in-Err.ensures.rest talk.whole) in
-    (state, planned, left, kept, ends)
+    (state, planned, left, c.in-Err.ensures.few c.turns.invariant.few, kept, ends)

@@ -1,5 +1,5 @@
 -- The conversation so far, no reply being left.
-use Rattle.std.proofs.Common.{◌≡◌, List, [], None}
+use Rattle.std.proofs.Common.{◌≡◌, ◌≤◌, List, [], None, length}
 use Rattle.std.specs.Io.KnownBytes.{Consumes}
 use Rattle.rs_message.specs.declared.entry.Entry.{Entry}
 use Rattle.rs_session.specs.Ahead.{AreChanges}
@@ -18,6 +18,7 @@ invariant-turns g l =
           (TellsInOrder (g.C.Clock.moments l.initial.clock) (g.C.Clock.moments l.clock))
           (AppendsReplies (g.W.Write.contents (inner_of l.initial.writer)) (g.W.Write.contents (inner_of l.writer))) (g.G.Gate.ahead l.fn.gate) (g.G.Gate.ahead (gate_of l.session));
       expected : g.G.Gate.ahead l.fn.gate ≡ [] → AreChanges l.planned.items (g.G.Gate.ahead (gate_of l.session));
+      few : length l.planned.items ≤ g.G.Gate.most;
       none_due : due_of l.session ≡ None;
       goes_on : closing_of (state_of l.session).phase ≡ None;
       reader : failures_of l.reader ≡ failures_of l.initial.reader;

@@ -1,4 +1,4 @@
-use Rattle.std.proofs.Common.{◌≡◌, ◌∙◌, ◌∷◌, [], ℕ, List, Option, Ok, Err, ap, sym, subst, arith}
+use Rattle.std.proofs.Common.{◌≡◌, ◌∙◌, ◌∷◌, [], ℕ, List, Option, Ok, Err, ap, sym, subst, arith, length}
 use Rattle.std.proofs.lemmas.List.{nil_from_length}
 use Rattle.rs_session.specs.Ahead.{AreChanges}
 use Rattle.rs_session.specs.Points.{Given, given_at}
@@ -46,3 +46,17 @@ returns-in-Err-take_turn-clause-conversation g c = λ from read wrote told first
     (talks_turn {T = Unit {0}} from _ _ _ _ _ _ _ _ rest _ _ (Err c.in-Err-take_turn.fault) wrote wrote_first wrote_last given first _ _ c.in-Err-take_turn.ensures.turn
     (λ e. subst (λ (l : List Given). AreChanges l (g.G.Gate.ahead (gate_of c.plan.new.session))) is (c.plan.ensures.ahead (changes e))) c.in-Err-take_turn.ensures.ahead
     (talks_equal from _ _ _ _ _ c.plan.new.planned.items (given ∷ rest) _ _ _ first _ is planned))
+
+pub returns-in-Err-clause-few : goal.returns-in-Err-clause-few
+returns-in-Err-clause-few g c = λ few. omega (arith, few, ap (λ (l : List Given). length l) c.in-Err.ensures.none)
+
+pub returns-in_default-pop_front-clause-few : goal.returns-in_default-pop_front-clause-few
+returns-in_default-pop_front-clause-few g c = λ few.
+    let none : c.plan.new.planned.items ≡ [] = nil_from_length _ (omega (arith, c.in_default-pop_front.ensures.cases.0, c.plan.new.planned.ok.0)) in
+    omega (arith, ap (λ (l : List Given). length l) (sym none ∙ c.in_default-pop_front.ensures.items))
+
+pub returns-in-Ok-clause-few : goal.returns-in-Ok-clause-few
+returns-in-Ok-clause-few g c = λ few. omega (arith, c.plan.ensures.few few, ap (λ (l : List Given). length l) c.in-Some.ensures.items)
+
+pub returns-in-Err-take_turn-clause-few : goal.returns-in-Err-take_turn-clause-few
+returns-in-Err-take_turn-clause-few g c = λ few. omega (arith, c.plan.ensures.few few, ap (λ (l : List Given). length l) c.in-Some.ensures.items)

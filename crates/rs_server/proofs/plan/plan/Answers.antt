@@ -1,21 +1,30 @@
+use Rattle.std.proofs.Common.{◌≡◌, arith, nat_tests, length}
 use Rattle.rs_session.specs.State.{gate_of}
-use Rattle.rs_server.proofs.Planning.{announced, expected_planned, plans_join, plans_next}
+use Rattle.rs_server.proofs.Planning.{announced, expected_planned, next_few, plans_join, plans_next}
 use Rattle.rs_server.proofs.plan.plan.Goals as goal
 
-pub returns-then-is_open-clause-plans : goal.returns-then-is_open-clause-plans
-returns-then-is_open-clause-plans g c =
+pub returns-in-Ok-true-clause-plans : goal.returns-in-Ok-true-clause-plans
+returns-in-Ok-true-clause-plans g c =
     plans_join c.args.planned.now.items c.plan_next.new.planned.items c.look_ahead.new.planned.items _ c.plan_next.new.held.items _ _ (g.C.Clock.moments c.plan_next.new.clock) _
     (plans_next c.args.planned.now.items c.plan_next.new.planned.items _ _ _ _ c.plan_next.ensures.plans) c.look_ahead.ensures.plans
 
-pub returns-then-is_open-clause-ahead : goal.returns-then-is_open-clause-ahead
-returns-then-is_open-clause-ahead g c =
+pub returns-in-Ok-true-clause-ahead : goal.returns-in-Ok-true-clause-ahead
+returns-in-Ok-true-clause-ahead g c =
     announced c.args.planned.now.items c.look_ahead.new.planned.items _ _ _ _ (g.G.Gate.ahead (gate_of c.args.session.now)) (g.G.Gate.ahead (gate_of c.announce.new.session))
     (plans_join c.args.planned.now.items c.plan_next.new.planned.items c.look_ahead.new.planned.items c.args.held.now.items c.plan_next.new.held.items c.look_ahead.new.held.items (g.C.Clock.moments c.args.clock.now) (g.C.Clock.moments c.plan_next.new.clock) (g.C.Clock.moments c.look_ahead.new.clock)
     (plans_next c.args.planned.now.items c.plan_next.new.planned.items _ _ _ _ c.plan_next.ensures.plans) c.look_ahead.ensures.plans)
     c.announce.ensures.ahead
 
-pub returns-else-is_open-clause-ahead : goal.returns-else-is_open-clause-ahead
-returns-else-is_open-clause-ahead g c = expected_planned c.args.planned.now.items c.plan_next.new.planned.items _ _ _ _ (g.G.Gate.ahead (gate_of c.args.session.now)) (plans_next c.args.planned.now.items c.plan_next.new.planned.items _ _ _ _ c.plan_next.ensures.plans)
+pub returns-in-Ok-true-clause-few : goal.returns-in-Ok-true-clause-few
+returns-in-Ok-true-clause-few g c = λ few.
+    let none : length c.args.planned.now.items ≡ 0 = grind (arith, nat_tests, c.is_empty.ensures, c.if-not-is_empty.false, c.args.planned.now.ok.0) in
+    omega (arith, none, next_few c.args.planned.now.items c.plan_next.new.planned.items _ _ _ _ c.plan_next.ensures.plans, c.look_ahead.ensures.few, c.most_expected.ensures)
+
+pub returns-in-Ok-false-clause-few : goal.returns-in-Ok-false-clause-few
+returns-in-Ok-false-clause-few g c = λ few. omega (arith, few, next_few c.args.planned.now.items c.plan_next.new.planned.items _ _ _ _ c.plan_next.ensures.plans)
+
+pub returns-in-Err-clause-few : goal.returns-in-Err-clause-few
+returns-in-Err-clause-few g c = λ few. omega (arith, few, next_few c.args.planned.now.items c.plan_next.new.planned.items _ _ _ _ c.plan_next.ensures.plans)
 
 pub returns-in-Ok-false-clause-ahead : goal.returns-in-Ok-false-clause-ahead
 returns-in-Ok-false-clause-ahead g c = expected_planned c.args.planned.now.items c.plan_next.new.planned.items _ _ _ _ (g.G.Gate.ahead (gate_of c.args.session.now)) (plans_next c.args.planned.now.items c.plan_next.new.planned.items _ _ _ _ c.plan_next.ensures.plans)
