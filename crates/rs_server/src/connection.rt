@@ -1,10 +1,10 @@
 //! One connection: packets are read, and the session's replies are written.
 
-ghost use Rattle.std.specs.Prelude.{◌≡◌, ◌<◌, ◌-◌, ◌^◌, ◌≤◌, ◌++◌, ◌⊎◌, [], ℕ, Option, List, None, Some, length};
+ghost use Rattle.std.specs.Prelude.{◌≡◌, ◌<◌, ◌-◌, ◌^◌, ◌≤◌, ◌++◌, ◌⊎◌, [], ℕ, Option, List, None, Some, IfSome, length};
 ghost use Rattle.std.specs.Io.KnownBytes.{Consumes, IsAtEnd};
 ghost use Rattle.rs_message.specs.declared.entry.Entry.{Entry};
 ghost use Rattle.rs_message.specs.declared.entry.Operation.{Operation};
-ghost use Rattle.rs_session.specs.Ahead.{AreChanges, LeavesAhead};
+ghost use Rattle.rs_session.specs.Ahead.{AreChanges, IsChange, LeavesAhead};
 ghost use Rattle.rs_session.specs.Gate.{StandsAt};
 ghost use Rattle.rs_session.specs.Points.{Point, given_at};
 ghost use Rattle.rs_session.specs.State.{session_at, state_of, due_of, gate_of, closing_of, step_of, State};
@@ -19,6 +19,7 @@ use crate::counted::Counted;
 use crate::plan::{Planned, plan};
 use crate::writing::{ServeFault, write_replies};
 use bytes::BytesMut;
+use rs_message::Operation;
 use rs_session::{Closing, Gate, Input, Session, Step};
 use std::alloc::Global;
 use std::collections::VecDeque;
@@ -158,8 +159,8 @@ fn serve_once<R: Read, W: Write, G: Gate, C: Clock>(
     let Some(next) = planned.pop_front() else {
         return read_more(reader, held);
     };
-    let Planned { input, now } = next;
-    match take_turn(alloc, session, writer, input, now) {
+    let Planned { input, now, change } = next;
+    match take_turn(alloc, session, writer, input, change, now) {
         Ok(()) => Ok(outcome(session.closing())),
         Err(fault) => Err(fault),
     }
@@ -191,17 +192,19 @@ fn read_more<R: Read>(
     Ok(Some(Served::CutInput))
 }
 
-/// One turn of the session: hands over an input and writes all replies to it.
+/// One turn of the session: hands over an input, with its change if that was made before, and writes all replies to it.
 fn take_turn<G: Gate, W: Write>(
     alloc: Global,
     session: &mut Session<G>,
     writer: &mut Counted<W>,
     input: Input,
+    change: Option<Operation>,
     now: u64,
 ) -> Result<(), ServeFault>
     requires writer_room { failures_of writer.old < 2 ^ 64 - 1 }
     requires none_due { due_of session.old ≡ None }
     requires goes_on { closing_of (state_of session.old).phase ≡ None }
+    requires change { IfSome change (λ operation. IsChange (given_at input now) operation) }
     ensures turn { (seen : List Entry) → G.stands (gate_of session.old) seen
         → TakesTurn (session_at G.mark session.old seen) (given_at input now) (StandsAt G.stands G.mark)
         (G.stands (gate_of session.new)) (G.mark (gate_of session.new)) (state_of session.new)
@@ -212,7 +215,7 @@ fn take_turn<G: Gate, W: Write>(
     ensures cause { IsWriteCause result (failures_of writer.old) (failures_of writer.new) }
 {
     // Whether the session goes on is asked after its last reply is written.
-    let _step = session.on_input(input, now);
+    let _step = session.on_input(input, change, now);
     write_replies(alloc, session, writer, now)
 }
 

@@ -1,6 +1,6 @@
 //! What is decoded before it is handled.
 
-ghost use Rattle.std.specs.Prelude.{◌≡◌, ◌≢◌, ◌≤◌, ◌+◌, ◌⊎◌, [], true, false, List, Ok, OnErr, OnOk, IfOk, IfErr, length};
+ghost use Rattle.std.specs.Prelude.{◌≡◌, ◌≢◌, ◌≤◌, ◌+◌, ◌⊎◌, [], true, false, List, Ok, Some, OnErr, OnOk, IfOk, IfErr, IfSome, length};
 ghost use Rattle.std.specs.List.{All};
 ghost use Rattle.rs_message.specs.declared.entry.Entry.{Entry};
 ghost use Rattle.rs_message.specs.declared.entry.Operation.{Operation};
@@ -8,8 +8,9 @@ ghost use Rattle.rs_message.specs.Messages.{is_sweep};
 ghost use Rattle.rs_packet.specs.Grammar.{HasPrefix};
 ghost use Rattle.rs_packet.specs.PacketReading.{Gives, answer};
 ghost use Rattle.rs_packet.specs.Prefixes.{IsMore};
-ghost use Rattle.rs_session.specs.Ahead.{AreChanges};
+ghost use Rattle.rs_session.specs.Ahead.{AreChanges, IsChange};
 ghost use Rattle.rs_session.specs.Gate.{Grows};
+ghost use Rattle.rs_session.specs.Points.{given_at};
 ghost use Rattle.rs_session.specs.State.{state_of, due_of, gate_of};
 ghost use Rattle.rs_server.specs.Clock.{TellsInOrder};
 ghost use Rattle.rs_server.specs.Conversation.{Plans, PlansNext, TakesInput};
@@ -20,23 +21,41 @@ use bytes::{Bytes, BytesMut};
 use rs_message::Operation;
 use rs_packet::{Decoded, PacketFault, decode, needed_len};
 use rs_session::{Gate, Input, Session};
-use std::alloc::Global;
+use std::alloc::{AllocError, Global};
 use std::collections::VecDeque;
 use std::marker::Model;
 
-/// An input that was decoded, and its time in seconds.
+/// An input that was decoded, its time in seconds, and its change, if that may be announced.
 #[derive(Drop)]
 pub(crate) struct Planned {
     pub(crate) input: Input,
     pub(crate) now: u64,
+    pub(crate) change: Option<Operation>,
 }
 
 impl Model for Planned {
+    ghost use Rattle.std.specs.Prelude.{IfSome};
+    ghost use Rattle.rs_session.specs.Ahead.{IsChange};
     ghost use Rattle.rs_session.specs.Points.{Given, given_at};
 
     ghost Value = { Given };
 
     ghost view = { λ planned. given_at planned.input planned.now };
+
+    ghost invariant = { λ planned. IfSome planned.change (λ operation. IsChange (given_at planned.input planned.now) operation) };
+}
+
+/// A copy of a change, which shares the bytes. None also if the count of their owners is full.
+fn copied(change: &Option<Operation>) -> Option<Operation>
+    ensures { IfSome result (λ operation. change.now ≡ Some operation) }
+{
+    match change {
+        Some(change) => match change.copy() {
+            Ok(copy) => Some(copy),
+            Err(AllocError) => None,
+        },
+        None => None,
+    }
 }
 
 /// Plans what comes next, if nothing is planned: the first whole input of what is held; and, in an open session, while the last one
@@ -63,9 +82,10 @@ pub(crate) fn plan<G: Gate, C: Clock>(
     if !planned.is_empty() {
         return Ok(());
     }
-    match plan_next(alloc, held, planned, clock) {
+    let most = session.most_expected();
+    match plan_next(alloc, held, planned, clock, most > 1) {
         Ok(true) => {
-            look_ahead(alloc, held, planned, clock, session.most_expected());
+            look_ahead(alloc, held, planned, clock, most);
             announce(alloc, session, planned);
             Ok(())
         }
@@ -74,12 +94,13 @@ pub(crate) fn plan<G: Gate, C: Clock>(
     }
 }
 
-/// Plans the next input, if it is whole. Whether it may be announced.
+/// Plans the next input, if it is whole, with its change, if that is wanted and may be announced. Whether there is one.
 fn plan_next<C: Clock>(
     alloc: Global,
     held: &mut BytesMut,
     planned: &mut VecDeque<Planned>,
     clock: &mut C,
+    announces: bool,
 ) -> Result<bool, ServeFault>
     ensures plans { PlansNext planned.old.items planned.new.items held.old.items held.new.items (C.moments clock.old) (C.moments clock.new) }
     ensures more { OnOk result (planned.new.items ≡ [] → IsMore held.new.items) }
@@ -94,9 +115,20 @@ fn plan_next<C: Clock>(
         return Ok(false);
     };
     let now = clock.now();
-    let goes_on = input.may_be_announced();
-    planned.push_back_reserved(Planned { input, now });
+    let change = change_of(alloc, &input, now, announces);
+    let goes_on = change.is_some();
+    planned.push_back_reserved(Planned { input, now, change });
     Ok(goes_on)
+}
+
+/// The change of an input, if it is wanted. None also if it may not be announced, or if memory is refused.
+fn change_of(alloc: Global, input: &Input, now: u64, announces: bool) -> Option<Operation>
+    ensures { IfSome result (λ operation. IsChange (given_at input.now now) operation) }
+{
+    if announces {
+        return input.change(alloc, now);
+    }
+    None
 }
 
 /// Plans whole inputs behind the first one, up to `most` with it, and to the first that may not be announced. If memory is refused it
@@ -112,7 +144,7 @@ fn look_ahead<C: Clock>(
     ensures few { length planned.new.items ≤ length planned.old.items + most }
 {
     'next: for count in 1..most {
-        let Ok(true) = plan_next(alloc, held, planned, clock) else {
+        let Ok(true) = plan_next(alloc, held, planned, clock, true) else {
             return;
         };
     }
@@ -136,7 +168,7 @@ fn announce<G: Gate>(alloc: Global, session: &mut Session<G>, planned: &VecDeque
     session.expect(changes);
 }
 
-/// The changes of the first of what is planned, up to one that may not be announced or for which memory is refused.
+/// Copies of the changes of the first of what is planned, up to one that has none. If memory is refused there are fewer.
 fn changes_of(alloc: Global, planned: &VecDeque<Planned>) -> Vec<Operation>
     ensures changes { AreChanges planned.now.items result.items }
     ensures none_sweeps { All (λ operation. is_sweep operation ≡ false) result.items }
@@ -146,7 +178,7 @@ fn changes_of(alloc: Global, planned: &VecDeque<Planned>) -> Vec<Operation>
     };
     'made: for i in 0..planned.len() {
         let next = &planned[i];
-        let Some(change) = next.input.change(alloc, next.now) else {
+        let Some(change) = copied(&next.change) else {
             return changes;
         };
         changes.push_reserved(change);

@@ -9,8 +9,8 @@ use Rattle.rs_packet.specs.declared.packet.Publish.{Publish}
 use Rattle.rs_packet.specs.declared.packet.Qos.{Qos}
 use Rattle.rs_packet.specs.declared.packet.Qos.TheVariants.{AtMostOnce, AtLeastOnce, ExactlyOnce}
 use Rattle.rs_message.specs.declared.entry.Operation.{Operation}
+use Rattle.rs_message.specs.Messages.{is_sweep}
 use Rattle.rs_message.specs.declared.fault.SubmitFault.{SubmitFault}
-use Rattle.rs_message.specs.declared.fault.SubmitFault.TheVariants.{Strange}
 use Rattle.rs_session.specs.declared.open.Open.{Open}
 use Rattle.rs_session.specs.declared.open.Outcome.{Outcome}
 use Rattle.rs_session.specs.declared.open.Outcome.TheVariants.{Replies, Closes, Leaves}
@@ -24,6 +24,7 @@ use Rattle.rs_session.specs.Points.{Given, given_at}
 use Rattle.rs_session.specs.State.{State, gate_of, state_of, step_of}
 use Rattle.rs_session.specs.Steps.{IsLast, IsUnsent, TakesAheadBy, outcome_before, outcome_of_alias, outcome_of_id, outcome_of_submit, outcome_of_topic, outcome_unmade, topic_refusal}
 use Rattle.rs_session.specs.Table.{acknowledged_by, change, held_id, is_held, is_one_too_many, state_after}
+use Rattle.rs_session.proofs.Submitting.{no_sweep}
 use Rattle.rs_session.specs.Ahead.{IsChange, LeavesAhead, is_low, is_topic, may_be_announced}
 
 whole_is : (p q : Packet) → Whole p ≡ Whole q → p ≡ q
@@ -36,11 +37,15 @@ not_broken : (p : Packet) (f : PacketFault) → ◌≡◌ {A = Input} (Broken f)
 not_broken p f e = absurd (cc)
 
 -- its change, by the publication
-its_change : (p : Publish) (now : ℕ) (operation : Operation) → IsChange (given_at (Whole (packet.Publish p)) now) operation
+pub its_change : (p : Publish) (now : ℕ) (operation : Operation) → IsChange (given_at (Whole (packet.Publish p)) now) operation
     → (may_be_announced p ≡ true) × (topic : List ℕ) × (p.topic ≡ Ok topic) × (change p topic now ≡ Some operation)
 its_change p now operation (q, topic, e, may, t, c) =
     let same : q ≡ p = sym (publish_is p q (whole_is _ _ e)) in
     (subst (λ (x : Publish). may_be_announced x ≡ true) same may, topic, subst (λ (x : Publish). x.topic ≡ Ok topic) same t, subst (λ (x : Publish). change x topic now ≡ Some operation) same c)
+
+-- none is a Sweep
+pub no_change_sweeps : (given : Given) (operation : Operation) → IsChange given operation → is_sweep operation ≡ false
+no_change_sweeps given operation (p, topic, i, may, t, made) = no_sweep _ _ _ _ (sym made)
 
 -- ---- what may be announced leads to nothing before its topic is used
 

@@ -1,6 +1,5 @@
 -- Lemmas on the rows.
 use Rattle.std.proofs.Common.{◌≡◌, ◌≢◌, ℕ, ◌<◌, ◌≤◌, List, [], ◌∷◌, ◌++◌, refl, sym, subst, ap, append-nil, append_assoc, arith, Bool, true, false, ltb, Option, Some, None, is_some, Result, Ok, Err, ◌∙◌, inl, inr}
-use Rattle.std.specs.Prelude.{option_map}
 use Rattle.std.specs.List.{All, list_any}
 use Rattle.std.specs.FinMap as finite
 use Rattle.std.specs.FinSet as set
@@ -42,11 +41,8 @@ use Rattle.rs_session.specs.Points.{Given, Point, given_at, point_at, with_state
 use Rattle.rs_session.specs.Reasons.{code_of}
 use Rattle.rs_session.specs.declared.reason.ReasonCode.{ReasonCode}
 use Rattle.rs_session.specs.declared.reason.ReasonCode.TheVariants.{Success, UnsupportedProtocolVersion, ImplementationSpecificError, BadAuthenticationMethod, QuotaExceeded, ProtocolError, PacketIdentifierNotFound}
-use Rattle.rs_session.specs.State.{State, session_at, opened, ended, within, state_of, due_of, gate_of, IsGiven, IsReplayed}
+use Rattle.rs_session.specs.State.{State, session_at, ended, within, state_of, due_of, gate_of}
 use Rattle.rs_session.specs.declared.session.Session.{Session}
-use Rattle.rs_session.specs.declared.phase.Phase.{Phase}
-use Rattle.rs_window.specs.Packets.{reply_of}
-use Rattle.rs_window.specs.Values.{PublishValue}
 use Rattle.rs_session.specs.Subscriptions.{Subscriptions, is_subscribed}
 use Rattle.rs_session.specs.declared.subscriptions.Subscription.{Subscription}
 use Rattle.rs_session.proofs.SubscriptionLemmas.{remove_inserted, get_absent}

@@ -1,5 +1,5 @@
 -- Lemmas on what the turns of a run send.
-use Rattle.std.proofs.Common.{◌≡◌, ◌⊎◌, ⊎_elim, ℕ, List, [], ◌∷◌, ◌++◌, Option, Some, None, refl, sym, ap, subst, ◌∙◌, append_assoc}
+use Rattle.std.proofs.Common.{◌≡◌, ⊎_elim, ℕ, List, [], ◌∷◌, ◌++◌, Option, Some, None, refl, sym, ap, subst, ◌∙◌, append_assoc}
 use Rattle.rs_packet.specs.declared.packet.Packet.TheVariants as packet
 use Rattle.rs_packet.specs.declared.packet.Publish.{Publish}
 use Rattle.rs_packet.specs.declared.reply.Reply.{Reply}
@@ -10,14 +10,14 @@ use Rattle.rs_session.specs.declared.open.Outcome.{Outcome}
 use Rattle.rs_session.specs.declared.phase.Input.TheVariants.{Whole}
 use Rattle.rs_session.specs.declared.phase.Phase.{Phase}
 use Rattle.rs_session.specs.declared.phase.Phase.TheVariants as phase
-use Rattle.rs_session.specs.Gate.{Mark, Sends, SendsAtMost, entry_by}
+use Rattle.rs_session.specs.Gate.{Mark, Sends, entry_by}
 use Rattle.rs_session.specs.State.{State}
 use Rattle.rs_session.specs.Table.{IsHanded, OpenCase, OpenRow, Case, SessionRow, With_method, With_will, Connect_refused, Accepted, Connack_too_long, Other_version, Unexpected, In_session, Over, Faulty, With_alias, Bad_topic, Sent_again, Too_many_held, Not_retained, Kept, Topic_unread, Not_kept, Uncertain, Gate_closed, Released, Wrong_acknowledgement, Acknowledged, Shared_no_local, Not_subscribed, Subscribed, Not_unsubscribed, Unsubscribed, Connected_twice, Pinged, Disconnected}
 use Rattle.rs_session.specs.Points.{Point, with_state}
-use Rattle.rs_session.specs.Run.{Turn, GivesAll, IsTurn, Run}
+use Rattle.rs_session.specs.Run.{Turn, GivesAll, Run}
 use Rattle.rs_session.specs.Kept.{IsToldKept}
 use Rattle.rs_session.specs.Replay.{IsOpen}
-use Rattle.rs_session.specs.Sent.{IsPublication, IsSentBy, AreSentBy, SendsPublications}
+use Rattle.rs_session.specs.Sent.{IsPublication, IsSentBy, SendsPublications}
 use Rattle.rs_session.proofs.Keeping.{IsKept, told_row}
 use Rattle.rs_session.proofs.Replaying.{shut}
 use Rattle.rs_session.proofs.Submitting.{nothing_sent}

@@ -1,6 +1,6 @@
 -- Lemmas on the gate with a catalogue of its own.
-use Rattle.std.proofs.Common.{◌≡◌, ◌≢◌, ◌⊎◌, inl, inr, ℕ, ◌+◌, ◌<◌, ◌≤◌, Bool, true, false, if◌then◌else◌, List, [], ◌∷◌, ◌++◌, length, refl, sym, ap, subst, ◌∙◌, Option, Some, None, Ok, Err, arith, set, slice_index, append-nil}
-use Rattle.std.proofs.lemmas.List.{append_assoc, append_cancel_left, get_or-set_other, get_or-set_same, length-set}
+use Rattle.std.proofs.Common.{◌≡◌, ◌≢◌, ◌⊎◌, inl, inr, ℕ, ◌+◌, ◌≤◌, Bool, true, false, if◌then◌else◌, List, [], ◌∷◌, ◌++◌, length, refl, sym, ap, subst, ◌∙◌, Option, Some, None, Ok, Err, arith, set, slice_index, append-nil}
+use Rattle.std.proofs.lemmas.List.{append_assoc, append_cancel_left, get_or-set_same, length-set}
 use Rattle.std.proofs.lemmas.List.Elements.{All-nil, All-cons, Contains-append_right}
 use Rattle.std.specs.Prelude.{Contains}
 use Rattle.std.specs.List.{All}
@@ -9,12 +9,11 @@ use Rattle.rs_message.specs.Messages.{change_of, is_sweep, operation_of}
 use Rattle.rs_message.specs.Values.{MessageValue, OriginValue}
 use Rattle.rs_message.specs.declared.entry.Entry.{Entry}
 use Rattle.rs_message.specs.declared.entry.Operation.{Operation}
-use Rattle.rs_message.specs.declared.entry.Operation.TheVariants.{Set, Clear}
 use Rattle.rs_store.specs.declared.content.Content.{Content}
 use Rattle.rs_message.specs.declared.entry.TheConstants.{MAX_PLACES}
 use Rattle.rs_store.specs.Adding.{Adds, NotAdds}
-use Rattle.rs_store.specs.Contents.{IsAdded, NeedsSweep, NotAddedBy, next_sweep, serial_count, swept}
-use Rattle.rs_store.specs.History.{Stands, cleaned, extended, sweep_after}
+use Rattle.rs_store.specs.Contents.{IsAdded, NeedsSweep, NotAddedBy, serial_count, swept}
+use Rattle.rs_store.specs.History.{cleaned, sweep_after}
 use Rattle.rs_store.specs.declared.fault.Refusal.TheVariants as refusal
 use Rattle.rs_session.specs.Gate.{Mark, Extends, Grows, IsHandedOver, Sends, Submits, last_origin}
 use Rattle.rs_session.specs.Local.{local_mark, next_entry}

@@ -13,16 +13,8 @@ use rs_topic::{TopicFault, TopicName};
 use std::alloc::{AllocError, Global};
 
 impl Input {
-    /// Whether its change may be announced: a PUBLISH with RETAIN 1, of QoS 0 or 1, with a topic and no alias. It needs nothing of
-    /// the session but that it goes on.
-    pub fn may_be_announced(&self) -> bool {
-        match self {
-            Input::Whole(Packet::Publish(p)) => may_be_announced(p),
-            _ => false,
-        }
-    }
-
-    /// The change of a publication that may be announced, of copies that share the bytes; `now` is its time, in seconds. None also
+    /// The change of a publication that may be announced, of copies that share the bytes; `now` is its time, in seconds. Such a one is a
+    /// PUBLISH with RETAIN 1, of QoS 0 or 1, with a topic and no alias. It needs nothing of the session but that it goes on. None also
     /// if memory is refused.
     pub fn change(&self, alloc: Global, now: u64) -> Option<Operation>
         ensures change { IfSome result (λ operation. IsChange (given_at self.now now) operation) }

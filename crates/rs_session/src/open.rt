@@ -5,11 +5,11 @@ mod publish;
 mod subscribe;
 mod unsubscribe;
 
-ghost use Rattle.std.specs.Prelude.{◌≡◌, ℕ, List};
+ghost use Rattle.std.specs.Prelude.{◌≡◌, ℕ, List, IfSome};
 ghost use Rattle.rs_message.specs.declared.entry.Entry.{Entry};
 ghost use Rattle.rs_session.specs.Gate.{GrowsAnswering};
 ghost use Rattle.rs_session.specs.Points.{given_at, point_at};
-ghost use Rattle.rs_session.specs.Ahead.{LeavesAhead};
+ghost use Rattle.rs_session.specs.Ahead.{IsChange, LeavesAhead};
 ghost use Rattle.rs_session.specs.Steps.{IsUnsent};
 ghost use Rattle.rs_session.specs.Table.{LeadsTo, open_for};
 
@@ -17,6 +17,7 @@ use crate::gate::Gate;
 use crate::phase::Input;
 use crate::reason::ReasonCode;
 use crate::subscriptions::Subscriptions;
+use rs_message::Operation;
 use rs_packet::{Packet, Reply};
 use rs_window::{Inbound, Window};
 use std::alloc::Global;
@@ -44,21 +45,23 @@ pub enum Outcome {
 }
 
 impl Open {
-    /// Handles a packet, and says what it leads to. `now` is in seconds.
+    /// Handles a packet, and says what it leads to. `change` is its change, if that was made before, and `now` is in seconds.
     pub fn handle<G: Gate>(
         &mut self,
         alloc: Global,
         gate: &mut G,
         packet: Packet,
+        change: Option<Operation>,
         now: u64,
     ) -> Outcome
+        requires { IfSome change (λ operation. IsChange (given_at (Input.Whole packet) now) operation) }
         ensures row { GrowsAnswering G.stands G.mark gate.old gate.new (λ seen answered list.
             LeadsTo (given_at (Input.Whole packet) now) (point_at self.old seen (G.mark gate.old)) answered result (point_at self.new list (G.mark gate.new))) }
         ensures ahead { LeavesAhead (given_at (Input.Whole packet) now) (G.ahead gate.old) (G.ahead gate.new) (IsUnsent (G.mark gate.old) (G.mark gate.new) result) }
     {
         match packet {
             Packet::Connect(_c) => Outcome::Closes(ReasonCode::ProtocolError),
-            Packet::Publish(p) => self.publish(alloc, gate, p, now),
+            Packet::Publish(p) => self.publish(alloc, gate, p, change, now),
             Packet::Puback(a) => self.puback(a),
             Packet::Pubrec(a) => self.pubrec(a),
             Packet::Pubrel(a) => self.pubrel(a),

@@ -8,7 +8,7 @@ ghost use Rattle.rs_message.specs.declared.entry.Entry.{Entry};
 ghost use Rattle.rs_packet.specs.declared.packet.Packet.{Packet};
 ghost use Rattle.rs_packet.specs.declared.reply.Reply.{Reply};
 ghost use Rattle.rs_message.specs.Messages.{is_sweep};
-ghost use Rattle.rs_session.specs.Ahead.{LeavesAhead};
+ghost use Rattle.rs_session.specs.Ahead.{IsChange, LeavesAhead};
 ghost use Rattle.rs_session.specs.Gate.{Grows, GrowsAnswering};
 ghost use Rattle.rs_session.specs.Points.{given_at};
 ghost use Rattle.rs_session.specs.Run.{replies_left};
@@ -63,11 +63,25 @@ impl<G: Gate> Session<G> {
         ensures ahead { LeavesAhead (given_at (Input.Whole packet) now) (G.ahead (gate_of self.old)) (G.ahead (gate_of self.new))
             ((G.mark (gate_of self.new) ≡ G.mark (gate_of self.old)) × (step_of (state_of self.new).phase ≡ Step.End)) }
     {
+        self.on_packet_with(packet, None, now)
+    }
+
+    /// Handles a packet as `on_packet` does, whose change may have been made before.
+    fn on_packet_with(&mut self, packet: Packet, change: Option<Operation>, now: u64) -> Step
+        requires due { due_of self.old ≡ None }
+        requires change { IfSome change (λ operation. IsChange (given_at (Input.Whole packet) now) operation) }
+        ensures row { GrowsAnswering G.stands G.mark (gate_of self.old) (gate_of self.new) (λ seen answered list.
+            Answers (given_at (Input.Whole packet) now) (session_at G.mark self.old seen) answered (due_of self.new) (session_at G.mark self.new list)) }
+        ensures step { result ≡ step_of (state_of self.new).phase }
+        ensures over { (closing : Closing) → (state_of self.old).phase ≡ Phase.Ended closing → self.new ≡ self.old }
+        ensures ahead { LeavesAhead (given_at (Input.Whole packet) now) (G.ahead (gate_of self.old)) (G.ahead (gate_of self.new))
+            ((G.mark (gate_of self.new) ≡ G.mark (gate_of self.old)) × (step_of (state_of self.new).phase ≡ Step.End)) }
+    {
         match &mut self.phase {
             Phase::Before => self.first_packet(packet),
             Phase::Open(open) => {
                 let maximum = open.window.packet_maximum();
-                let outcome = open.handle(self.alloc, &mut self.gate, packet, now);
+                let outcome = open.handle(self.alloc, &mut self.gate, packet, change, now);
                 self.conclude(outcome, maximum);
             }
             Phase::Ended(_) => {}
@@ -97,10 +111,12 @@ impl<G: Gate> Session<G> {
         self.step()
     }
 
-    /// Handles a packet, or a fault in its place, as `on_packet` or `on_fault` does. If changes were expected and this has the first of
-    /// them, the rest is expected then, or nothing is, or nothing was sent and the session has ended.
-    pub fn on_input(&mut self, input: Input, now: u64) -> Step
-        requires { due_of self.old ≡ None }
+    /// Handles a packet, or a fault in its place, as `on_packet` or `on_fault` does. `change` is the change of the packet, if it was made
+    /// before ([`Input::change`]). If changes were expected and this has the first of them, the rest is expected then, or nothing is, or
+    /// nothing was sent and the session has ended.
+    pub fn on_input(&mut self, input: Input, change: Option<Operation>, now: u64) -> Step
+        requires due { due_of self.old ≡ None }
+        requires change { IfSome change (λ operation. IsChange (given_at input now) operation) }
         ensures row { GrowsAnswering G.stands G.mark (gate_of self.old) (gate_of self.new) (λ seen answered list.
             Answers (given_at input now) (session_at G.mark self.old seen) answered (due_of self.new) (session_at G.mark self.new list)) }
         ensures step { result ≡ step_of (state_of self.new).phase }
@@ -109,7 +125,7 @@ impl<G: Gate> Session<G> {
             ((G.mark (gate_of self.new) ≡ G.mark (gate_of self.old)) × (step_of (state_of self.new).phase ≡ Step.End)) }
     {
         match input {
-            Input::Whole(packet) => self.on_packet(packet, now),
+            Input::Whole(packet) => self.on_packet_with(packet, change, now),
             Input::Broken(fault) => self.on_fault(fault),
         }
     }

@@ -1,11 +1,11 @@
 //! PUBLISH: section 3.3.
 
-ghost use Rattle.std.specs.Prelude.{◌≡◌, ℕ, List, None, Some, Ok, Err, true, false, option_map};
+ghost use Rattle.std.specs.Prelude.{◌≡◌, ℕ, List, None, Some, Ok, Err, true, false, option_map, IfSome};
 ghost use Rattle.rs_message.specs.Messages.{is_sweep};
 ghost use Rattle.rs_message.specs.declared.entry.Operation.{Operation};
 ghost use Rattle.rs_session.specs.Gate.{Grows, GrowsAnswering, IsHandedOver, SendsAtMost, Uses, entry_by};
 ghost use Rattle.rs_session.specs.Points.{given_at, point_at};
-ghost use Rattle.rs_session.specs.Ahead.{LeavesAhead};
+ghost use Rattle.rs_session.specs.Ahead.{IsChange, LeavesAhead};
 ghost use Rattle.rs_session.specs.Steps.{IsConcluded, IsUnsent, TakesAheadBy, outcome_before, outcome_of_submit, outcome_of_id, outcome_unmade, topic_refusal};
 ghost use Rattle.rs_session.specs.Table.{LeadsTo, acknowledged_by, held_id, held_with, is_held, is_one_too_many};
 
@@ -24,15 +24,17 @@ impl Open {
         alloc: Global,
         gate: &mut G,
         p: Publish,
+        change: Option<Operation>,
         now: u64,
     ) -> Outcome
+        requires { IfSome change (λ operation. IsChange (given_at (Input.Whole (Packet.Publish p)) now) operation) }
         ensures row { GrowsAnswering G.stands G.mark gate.old gate.new (λ seen answered list.
             LeadsTo (given_at (Input.Whole (Packet.Publish p)) now) (point_at self.old seen (G.mark gate.old)) answered result (point_at self.new list (G.mark gate.new))) }
         ensures ahead { LeavesAhead (given_at (Input.Whole (Packet.Publish p)) now) (G.ahead gate.old) (G.ahead gate.new) (IsUnsent (G.mark gate.old) (G.mark gate.new) result) }
     {
         match self.outcome_before(&p) {
             Some(outcome) => outcome,
-            None => self.hand_over(alloc, gate, p, now),
+            None => self.hand_over(alloc, gate, p, change, now),
         }
     }
 
@@ -64,10 +66,18 @@ impl Open {
         None
     }
 
-    /// Hands the change that a PUBLISH asks for to the store.
+    /// Hands the change that a PUBLISH asks for to the store. It is made here, unless it was made before.
     #[tactic(auto, using(crate::proofs::Submitting::no_sweep))]
-    fn hand_over<G: Gate>(&mut self, alloc: Global, gate: &mut G, p: Publish, now: u64) -> Outcome
-        requires { outcome_before p self.old ≡ None }
+    fn hand_over<G: Gate>(
+        &mut self,
+        alloc: Global,
+        gate: &mut G,
+        p: Publish,
+        change: Option<Operation>,
+        now: u64,
+    ) -> Outcome
+        requires before { outcome_before p self.old ≡ None }
+        requires change { IfSome change (λ operation. IsChange (given_at (Input.Whole (Packet.Publish p)) now) operation) }
         ensures row { GrowsAnswering G.stands G.mark gate.old gate.new (λ seen answered list.
             LeadsTo (given_at (Input.Whole (Packet.Publish p)) now) (point_at self.old seen (G.mark gate.old)) answered result (point_at self.new list (G.mark gate.new))) }
         ensures ahead { LeavesAhead (given_at (Input.Whole (Packet.Publish p)) now) (G.ahead gate.old) (G.ahead gate.new) (IsUnsent (G.mark gate.old) (G.mark gate.new) result) }
@@ -83,6 +93,9 @@ impl Open {
             properties,
             payload,
         } = p;
+        if let Some(made) = change {
+            return self.submit(gate, made, qos, id);
+        }
         let Ok(topic) = topic else {
             return Outcome::Replies(acknowledged_by(qos, id, ReasonCode::QuotaExceeded));
         };

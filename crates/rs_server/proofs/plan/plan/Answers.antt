@@ -1,4 +1,5 @@
-use Rattle.std.proofs.Common.{◌≡◌, arith, nat_tests, length}
+use Rattle.std.proofs.Common.{◌≡◌, arith, length}
+use Rattle.std.proofs.lemmas.Bool.Decides.{nat_tests}
 use Rattle.rs_session.specs.State.{gate_of}
 use Rattle.rs_server.proofs.Planning.{announced, expected_planned, next_few, plans_join, plans_next}
 use Rattle.rs_server.proofs.plan.plan.Goals as goal
@@ -18,7 +19,7 @@ returns-in-Ok-true-clause-ahead g c =
 pub returns-in-Ok-true-clause-few : goal.returns-in-Ok-true-clause-few
 returns-in-Ok-true-clause-few g c = λ few.
     let none : length c.args.planned.now.items ≡ 0 = grind (arith, nat_tests, c.is_empty.ensures, c.if-not-is_empty.false, c.args.planned.now.ok.0) in
-    omega (arith, none, next_few c.args.planned.now.items c.plan_next.new.planned.items _ _ _ _ c.plan_next.ensures.plans, c.look_ahead.ensures.few, c.most_expected.ensures)
+    omega (arith, none, next_few c.args.planned.now.items c.plan_next.new.planned.items _ _ _ _ c.plan_next.ensures.plans, c.look_ahead.ensures.few, c.most_expected-most.ensures)
 
 pub returns-in-Ok-false-clause-few : goal.returns-in-Ok-false-clause-few
 returns-in-Ok-false-clause-few g c = λ few. omega (arith, few, next_few c.args.planned.now.items c.plan_next.new.planned.items _ _ _ _ c.plan_next.ensures.plans)

@@ -1,4 +1,4 @@
-use Rattle.std.proofs.Common.{◌≡◌, refl, subst}
+use Rattle.std.proofs.Common.{refl, subst}
 use Rattle.rs_message.specs.declared.entry.Entry.{Entry}
 use Rattle.rs_message.specs.declared.fault.SubmitFault.TheVariants.{NoMemory}
 use Rattle.rs_session.specs.Local.{catalogue_of, next_entry}

@@ -1,9 +1,11 @@
 use Rattle.std.proofs.Common.{refl, sym, subst, Some, []}
+use Rattle.std.specs.Prelude.{IfSome}
 use Rattle.rs_packet.specs.declared.packet.Packet.{Packet}
 use Rattle.rs_packet.specs.declared.reply.Reply.TheVariants as reply
 use Rattle.rs_session.specs.declared.reason.ReasonCode.TheVariants.{ProtocolError}
 use Rattle.rs_session.specs.declared.open.Outcome.TheVariants.{Replies, Closes, Leaves}
 use Rattle.rs_session.specs.declared.phase.Input.TheVariants.{Whole}
+use Rattle.rs_session.specs.Ahead.{IsChange}
 use Rattle.rs_session.specs.Points.{given_at, point_at}
 use Rattle.rs_session.specs.Table.{LeadsTo}
 use Rattle.rs_session.proofs.Rows.{unmoved, connected_twice, pinged, disconnected}
@@ -92,3 +94,6 @@ returns-in-Subscribe-clause-ahead g c = by_another c.args.packet _ c.args.now (g
 
 pub returns-in-Publish-clause-ahead : goal.returns-in-Publish-clause-ahead
 returns-in-Publish-clause-ahead g c = by_publish c.args.packet c.in-Publish.p c.args.now (g.G.Gate.ahead c.args.gate.now) (g.G.Gate.ahead c.publish.new.gate) _ c.in-Publish.is c.publish.ensures.ahead
+
+pub publish-requires : goal.publish-requires
+publish-requires g c = subst (λ (p : Packet). IfSome c.args.change (λ operation. IsChange (given_at (Whole p) c.args.now) operation)) c.in-Publish.is c.requires

@@ -1,4 +1,5 @@
 use Rattle.std.proofs.Common.{◌≡◌, subst, sym}
+use Rattle.std.specs.Prelude.{IfSome}
 use Rattle.rs_session.specs.declared.phase.Input.{Input}
 use Rattle.rs_session.specs.State.{gate_of, state_of, step_of}
 use Rattle.rs_session.specs.declared.phase.Step.TheVariants.{End}
@@ -6,7 +7,7 @@ use Rattle.rs_session.specs.Points.{given_at, point_at}
 use Rattle.rs_session.specs.Table.{Answers}
 use Rattle.rs_session.proofs.Rows.{Grows-weaker}
 use Rattle.rs_session.proofs.Expecting.{by_fault}
-use Rattle.rs_session.specs.Ahead.{LeavesAhead}
+use Rattle.rs_session.specs.Ahead.{IsChange, LeavesAhead}
 use Rattle.rs_session.proofs.session.Session.on_input.Goals as goal
 
 pub returns-in-Broken-clause-row : goal.returns-in-Broken-clause-row
@@ -20,8 +21,8 @@ returns-in-Broken-clause-row g c =
 pub returns-in-Whole-clause-ahead : goal.returns-in-Whole-clause-ahead
 returns-in-Whole-clause-ahead g c =
     let old = c.args.self.now in
-    let new = c.on_packet.new.self in
-    subst (λ (i : Input). LeavesAhead (given_at i c.args.now) (g.G.Gate.ahead (gate_of old)) (g.G.Gate.ahead (gate_of new)) ((g.G.Gate.mark (gate_of new) ≡ g.G.Gate.mark (gate_of old)) × (step_of (state_of new).phase ≡ End))) (sym c.in-Whole.is) c.on_packet.ensures.ahead
+    let new = c.on_packet_with.new.self in
+    subst (λ (i : Input). LeavesAhead (given_at i c.args.now) (g.G.Gate.ahead (gate_of old)) (g.G.Gate.ahead (gate_of new)) ((g.G.Gate.mark (gate_of new) ≡ g.G.Gate.mark (gate_of old)) × (step_of (state_of new).phase ≡ End))) (sym c.in-Whole.is) c.on_packet_with.ensures.ahead
 
 pub returns-in-Broken-clause-ahead : goal.returns-in-Broken-clause-ahead
 returns-in-Broken-clause-ahead g c =
@@ -30,3 +31,6 @@ returns-in-Broken-clause-ahead g c =
     let Unused = (g.G.Gate.mark (gate_of new) ≡ g.G.Gate.mark (gate_of old)) × (step_of (state_of new).phase ≡ End) in
     subst (λ (i : Input). LeavesAhead (given_at i c.args.now) (g.G.Gate.ahead (gate_of old)) (g.G.Gate.ahead (gate_of new)) Unused) (sym c.in-Broken.is)
     (by_fault c.in-Broken.fault c.args.now (g.G.Gate.ahead (gate_of old)) (g.G.Gate.ahead (gate_of new)) Unused c.on_fault.ensures.ahead)
+
+pub on_packet_with-requires-clause-change : goal.on_packet_with-requires-clause-change
+on_packet_with-requires-clause-change g c = subst (λ (i : Input). IfSome c.args.change (λ operation. IsChange (given_at i c.args.now) operation)) c.in-Whole.is c.requires.change

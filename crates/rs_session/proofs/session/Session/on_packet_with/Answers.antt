@@ -1,12 +1,12 @@
 use Rattle.std.proofs.Common.{refl, ap, ◌∙◌}
 use Rattle.rs_session.specs.declared.phase.Input.TheVariants.{Whole}
 use Rattle.rs_session.specs.Points.{given_at}
-use Rattle.rs_session.specs.State.{State, session_at, gate_of, state_of, step_of}
+use Rattle.rs_session.specs.State.{session_at, gate_of, state_of, step_of}
 use Rattle.rs_session.specs.declared.phase.Phase.{Phase}
 use Rattle.rs_session.proofs.Rows.{stays, took, over, after_same}
 use Rattle.rs_session.proofs.Expecting.{stays_ahead, took_ahead}
-use Rattle.rs_session.proofs.session.Session.on_packet.Goals as goal
-use Rattle.rs_session.proofs.session.Session.on_packet.Goals.{in-Before, in-Open, in-Ended}
+use Rattle.rs_session.proofs.session.Session.on_packet_with.Goals as goal
+use Rattle.rs_session.proofs.session.Session.on_packet_with.Goals.{in-Before, in-Open, in-Ended}
 
 pub returns-clause-row : goal.returns-clause-row
 returns-clause-row g c =
@@ -19,7 +19,7 @@ returns-clause-row g c =
           took g.G.Gate.stands g.G.Gate.mark (given_at (Whole c.args.packet) now) old w.conclude.new.self c.match-self.self w.in-Open.open w.handle-outcome.new.self w.handle-outcome.new.gate w.handle-outcome.result _ w.self-is w.conclude.ensures.gate w.in-Open.is w.packet_maximum-maximum.ensures w.conclude.ensures.due
           (w.conclude.ensures.state w.handle-outcome.new.self refl ∙ after_same w.handle-outcome.result _ (state_of old) w.handle-outcome.new.self refl)
           w.handle-outcome.ensures.row
-      | in-Ended w ↦ stays g.G.Gate.stands g.G.Gate.mark (given_at (Whole c.args.packet) now) old old c.match-self.self w.self-is refl (λ list. over _ (session_at g.G.Gate.mark old list) _ _ w.in-Ended.is c.requires)
+      | in-Ended w ↦ stays g.G.Gate.stands g.G.Gate.mark (given_at (Whole c.args.packet) now) old old c.match-self.self w.self-is refl (λ list. over _ (session_at g.G.Gate.mark old list) _ _ w.in-Ended.is c.requires.due)
     ]
 
 pub returns-clause-ahead : goal.returns-clause-ahead
