@@ -1,7 +1,7 @@
 //! Places of one store, with its writer in a thread.
 //!
-//! A test is a table of connections (`Row`), which `play` serves in a run of a store. Tests that need gates in their hands, or a
-//! queue that ends early, open store and queue themselves (`gates`, `ending`).
+//! A test is a table of connections (`Row`), which `play` serves in a run of a store. The tests of a queue that ends early open store
+//! and queue themselves (`ending`).
 
 ghost use Rattle.std.specs.Prelude.{◌≡◌, ◌<◌, ◌≤◌, IfOk};
 ghost use Rattle.rs_message.specs.declared.entry.TheConstants.{MAX_PLACES};
@@ -10,7 +10,6 @@ mod ahead;
 mod bursts;
 mod ending;
 mod faults;
-mod gates;
 mod known;
 mod peers;
 mod play;

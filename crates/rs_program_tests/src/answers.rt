@@ -1,9 +1,12 @@
 //! What a gate answers to a filter, with and without a limit.
 
+mod shared;
+
 ghost use Rattle.std.specs.Prelude.{◌≡◌, false, IfSome};
 ghost use Rattle.rs_message.specs.Messages.{is_sweep};
 
 use bytes::Bytes;
+use rs_intake::blank_queue;
 use rs_message::{Found, Message, Operation};
 use rs_packet::{Properties, Qos};
 use rs_program::OwnGate;
@@ -11,10 +14,13 @@ use rs_session::{Gate, LocalGate};
 use rs_store::{Catalogue, MapCatalogue, TopicLimit};
 use rs_topic::{TopicFilter, TopicName};
 use rs_tree::TreeCatalogue;
+use rs_version::Blank;
+use shared::check_shared_gates;
 use std::alloc::Global;
+use std::marker::Brand;
 use std::test::Fail;
 
-// Sets a/b to x.
+/// Sets a/b to x.
 fn change(alloc: Global) -> Option<Operation>
     ensures { IfSome result (λ o. is_sweep o ≡ false) }
 {
@@ -25,7 +31,7 @@ fn change(alloc: Global) -> Option<Operation>
     Some(Operation::Set(Found::new(alloc, topic, message).ok()?))
 }
 
-// Whether a/b is all that was found, and has x.
+/// Whether a/b is all that was found, and has x.
 fn is_x(found: &[Found]) -> bool {
     match found {
         [one] => {
@@ -43,6 +49,7 @@ fn sets<G: Gate>(alloc: Global, gate: &mut G) -> bool {
     }
 }
 
+/// Whether the message that is kept is answered.
 fn answers<G: Gate>(gate: &mut G, all: &TopicFilter) -> bool {
     match gate.answer(all, 0) {
         Ok(found) => is_x(found.as_slice()),
@@ -50,7 +57,7 @@ fn answers<G: Gate>(gate: &mut G, all: &TopicFilter) -> bool {
     }
 }
 
-// Whether it is answered with a limit if there is room for it, and only then.
+/// Whether it is answered with a limit if there is room for it, and only then.
 fn answers_within<G: Gate>(gate: &mut G, all: &TopicFilter) -> bool {
     let is_refused = match gate.answer_within(all, 0, 0) {
         Ok(found) => found.is_none(),
@@ -62,10 +69,9 @@ fn answers_within<G: Gate>(gate: &mut G, all: &TopicFilter) -> bool {
     }
 }
 
-// Whether a message is taken, and answered.
-fn is_kept<G: Gate + Drop>(alloc: Global, gate: G, all: &TopicFilter) -> bool {
-    let mut gate = gate;
-    sets(alloc, &mut gate) && answers(&mut gate, all) && answers_within(&mut gate, all)
+/// Whether a message is taken, and is what the gate then answers, with and without a limit.
+fn check_answers<G: Gate>(alloc: Global, gate: &mut G, all: &TopicFilter) -> bool {
+    sets(alloc, gate) && answers(gate, all) && answers_within(gate, all)
 }
 
 fn local<C: Catalogue>(alloc: Global) -> Result<LocalGate<C>, Fail> {
@@ -73,12 +79,17 @@ fn local<C: Catalogue>(alloc: Global) -> Result<LocalGate<C>, Fail> {
     Ok(LocalGate::new(alloc, limit)?)
 }
 
+/// How many places the store of the shared gates has.
+const PLACES: u8 = 2;
+
 #[test]
 fn gates_answer(rt: HostRuntime) -> Result<(), Fail> {
     let alloc = rt.alloc();
     let all = TopicFilter::read(alloc, b"#")?;
-    assert!(rt; is_kept(alloc, local::<MapCatalogue>(alloc)?, &all));
-    assert!(rt; is_kept(alloc, local::<TreeCatalogue>(alloc)?, &all));
-    assert!(rt; is_kept(alloc, OwnGate::new(alloc)?, &all));
-    Ok(())
+    assert!(rt; check_answers(alloc, &mut local::<MapCatalogue>(alloc)?, &all));
+    assert!(rt; check_answers(alloc, &mut local::<TreeCatalogue>(alloc)?, &all));
+    assert!(rt; check_answers(alloc, &mut OwnGate::new(alloc)?, &all));
+    let limit = TopicLimit::new(7).ok_or("the limit")?;
+    let blank = Blank::new(alloc, limit, PLACES)?;
+    check_shared_gates::<Brand, _>(rt, alloc, blank, blank_queue(alloc, PLACES)?, &all)
 }

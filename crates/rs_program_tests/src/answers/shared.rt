@@ -1,0 +1,78 @@
+//! The gates of two places of one store, held side by side: what they answer to a filter, and what they know.
+
+ghost use Rattle.std.specs.Prelude.{◌≡◌};
+
+use super::{answers, answers_within, check_answers};
+use rs_intake::{BlankQueue, LineName, run_writer, settle};
+use rs_places::{SharedGate, open_gates};
+use rs_topic::TopicFilter;
+use rs_version::{Blank, Told};
+use std::alloc::Global;
+use std::process::Abort;
+use std::sync::Wait;
+use std::test::Fail;
+use std::thread::{Threads, spawn};
+
+/// Whether so many entries are known to the gate, and what it knows is a prefix of the token's list, and is all of it or not.
+fn knows<N: LineName, R: Wait + Copy>(
+    gate: &SharedGate<N, R>,
+    version: u64,
+    told: &Told<N>,
+    all: bool,
+) -> bool {
+    let own = gate.told();
+    gate.version() == version && told.reaches(&own) && own.reaches(told) == all
+}
+
+/// Another place than the token's knows a publication once it has read. Before that, what it knows is a prefix of the token's list.
+fn reads<N: LineName, R: Wait + Copy>(
+    gate: &mut SharedGate<N, R>,
+    all: &TopicFilter,
+    told: &Told<N>,
+) -> bool {
+    knows(gate, 0, told, false)
+        && answers(gate, all)
+        && knows(gate, 1, told, true)
+        && answers_within(gate, all)
+        && knows(gate, 1, told, true)
+}
+
+/// A place that was told of its publication knows it, and answers it, and another place does so once it has read.
+fn check_places<N: LineName, R: Wait + Copy>(
+    alloc: Global,
+    gates: &mut [SharedGate<N, R>],
+    all: &TopicFilter,
+) -> bool {
+    let Some(first) = gates.get_mut(0) else {
+        return false;
+    };
+    let answered = first.place() == 1 && check_answers(alloc, first, all);
+    let told = first.told();
+    let known = told.version() == 1 && knows(first, 1, &told, true);
+    let Some(second) = gates.get_mut(1) else {
+        return false;
+    };
+    answered && known && second.place() == 2 && reads(second, all, &told)
+}
+
+pub(super) fn check_shared_gates<
+    N: LineName + Send + Sync + 'static,
+    R: Threads + Wait + Abort + Copy + Send + Sync + 'static,
+>(rt: R, alloc: Global, blank: Blank, queue: BlankQueue, all: &TopicFilter) -> Result<(), Fail>
+    requires store { (blank.history ≡ N.history) × (blank.limit ≡ N.limit) }
+    requires queue { (queue.name ≡ N.queue) × (queue.places ≡ N.places) }
+{
+    let (writer, seats) = blank.open::<N, R>(rt)?;
+    let (intake, lines, queue) = queue.open::<N>()?;
+    let writer = spawn(&rt, move || run_writer(&rt, queue, writer))?;
+    let mut gates = open_gates(rt, alloc, intake, seats, lines)?;
+    assert!(rt; check_places(alloc, gates.as_mut_slice(), all));
+    let mut ends = Vec::new(alloc);
+    for gate in gates {
+        ends.push(gate.close())?;
+    }
+    let mut ended = writer.join(&rt);
+    assert!(rt; ended.writer.tell().version() == 1);
+    assert!(rt; settle(ends, &mut ended).ok() == Some(1));
+    Ok(())
+}
