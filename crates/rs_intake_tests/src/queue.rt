@@ -73,22 +73,24 @@ fn full_store(rt: HostRuntime) -> Result<(), Fail> {
 }
 
 /// What the place of `Together` is answered.
-const TOGETHER: [(u64, u8); 11] = [
+const TOGETHER: [(u64, u8); 13] = [
     (1, 0),
     (2, 0),
     (4, 0),
     (5, 0),
-    (0, 40),
     (6, 0),
+    (0, 40),
     (7, 0),
+    (8, 0),
+    (9, 0),
     (0, 43),
-    (10, 0),
-    (11, 0),
     (12, 0),
+    (13, 0),
+    (14, 0),
 ];
 
-/// Jobs of three changes: each change has its own answer. A change that is not the one that was sent ahead uses no serial. What is ahead
-/// of a line that is handed on was sent.
+/// Jobs of three and of five changes: each change has its own answer, though the store sweeps or becomes full in the middle of a job. A
+/// change that is not the one that was sent ahead uses no serial. What is ahead of a line that is handed on was sent.
 #[test]
 fn together(rt: HostRuntime) -> Result<(), Fail> {
     let plan = Plan {
@@ -99,8 +101,8 @@ fn together(rt: HostRuntime) -> Result<(), Fail> {
         writing: Writing::All,
     };
     let outcome = run(rt, plan)?;
-    assert!(rt; has_answers(&outcome, 12, &TOGETHER));
-    assert!(rt; has_totals(&outcome, 12, 1, 12) && is_settled(&outcome, 12));
+    assert!(rt; has_answers(&outcome, 14, &TOGETHER));
+    assert!(rt; has_totals(&outcome, 14, 1, 14) && is_settled(&outcome, 14));
     Ok(())
 }
 

@@ -60,7 +60,7 @@ impl Script {
     pub(crate) fn turns(&self) -> u32 {
         match self {
             Script::Changes => 5,
-            Script::Together => 15,
+            Script::Together => 17,
             Script::Two | Script::Largest => 2,
             Script::Hundred => 102,
             Script::Beside => 502,
@@ -107,23 +107,26 @@ fn change_at(turn: u32) -> Act {
     }
 }
 
-/// In a store of two topics. The third change of the first job needs a Sweep, and the second one of the second job finds the store
-/// full. In the third job, the second change is not what is submitted then, and the line is handed on.
+/// In a store of two topics. The third change of the first job needs a Sweep. In the second job, the first change replaces a message, the
+/// second one fills the store, the third one finds it full, and the others are kept. In the third job, the second change is not what is
+/// submitted then, and the line is handed on.
 fn act_together(turn: u32) -> Act {
     match turn {
         0 => Act::Expect(1, 3),
         1 => Act::Set(*b"a0", *b"01", 10, Some(1)),
         2 => Act::Set(*b"b0", *b"02", 10, Some(1)),
         3 => Act::Set(*b"c0", *b"03", 20, Some(1)),
-        4 => Act::Expect(5, 3),
-        5 => Act::Set(*b"d0", *b"05", 20, None),
-        6 => Act::Set(*b"e0", *b"06", 20, None),
-        7 => Act::Clear(*b"c0"),
-        8 => Act::Expect(12, 3),
-        9 | 12 => set(*b"f0", *b"12"),
-        10 => set(*b"g0", *b"10"),
-        11 => Act::HandOn,
-        13 => Act::Clear(*b"d0"),
+        4 => Act::Expect(5, 5),
+        5 => Act::Set(*b"c0", *b"05", 20, None),
+        6 => Act::Set(*b"d0", *b"06", 20, None),
+        7 => Act::Set(*b"e0", *b"07", 20, None),
+        8 => Act::Set(*b"d0", *b"08", 20, None),
+        9 => Act::Clear(*b"c0"),
+        10 => Act::Expect(14, 3),
+        11 | 14 => set(*b"f0", *b"14"),
+        12 => set(*b"g0", *b"12"),
+        13 => Act::HandOn,
+        15 => Act::Clear(*b"d0"),
         _ => Act::Clear(*b"f0"),
     }
 }
