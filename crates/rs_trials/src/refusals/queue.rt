@@ -1,6 +1,7 @@
 //! What the queue to the writer of a store shows after memory was refused to `submit`, or to the writer for it.
 
-ghost use Rattle.std.specs.Prelude.{◌≡◌, false};
+ghost use Rattle.std.specs.Prelude.{◌≡◌, All, IfOk, false};
+ghost use Rattle.rs_message.specs.Messages.{is_sweep};
 
 use super::view::{View, look};
 use crate::failure::{Failure, expect};
@@ -34,8 +35,12 @@ enum Done {
 
 /// A place that submits and reads.
 trait Place {
-    ghost use Rattle.std.specs.Prelude.{◌≡◌, false};
+    ghost use Rattle.std.specs.Prelude.{◌≡◌, All, false};
     ghost use Rattle.rs_message.specs.Messages.{is_sweep};
+
+    /// Says which changes are submitted next.
+    fn expect(&mut self, changes: Vec<Operation>)
+        requires { All (λ o. is_sweep o ≡ false) changes.items };
 
     /// The seat learns the receipt, if there is one.
     fn submit(&mut self, change: Operation) -> Done
@@ -54,6 +59,10 @@ struct Open<N: LineName, H: Wait + Copy + Drop> {
 }
 
 impl<N: LineName, H: Wait + Copy + Drop> Place for Open<N, H> {
+    fn expect(&mut self, changes: Vec<Operation>) {
+        self.line.expect(changes);
+    }
+
     fn submit(&mut self, change: Operation) -> Done {
         match self.intake.submit(&self.rt, &mut self.line, change) {
             Ok(receipt) => {
@@ -124,23 +133,45 @@ fn read<P: Place>(place: &mut P, kept: u64) -> Result<(), Failure> {
     }
 }
 
-/// Submits a Set of a new topic.
+/// Sets of new topics, which are announced and then submitted. If they are more than one, they are one job.
+#[derive(Drop)]
+struct Group {
+    announced: Vec<Operation>,
+    changes: Vec<Operation>,
+    ghost plain: { All (λ o. is_sweep o ≡ false) announced.items },
+}
+
+/// How many groups are submitted, how many Sets each has, and whether none is behind one with an entry that is held.
+#[derive(Clone, Copy)]
+struct Plan {
+    groups: u64,
+    size: u64,
+    ends_at_held: bool,
+}
+
+/// Submits one of them.
 fn submit<P: Place>(place: &mut P, book: &mut Book, change: Operation) -> Result<(), Failure> {
     if change.is_sweep() {
         return Err(Failure::Wrong);
     }
     let done = place.submit(change);
-    expect(book.note(done))?;
-    match done {
-        Done::Published(number) => read(place, number),
-        _ => Ok(()),
-    }
+    expect(book.note(done))
 }
 
-/// Submits all of them, or none after one whose entry is held.
+/// Submits all of a group, and then reads.
+fn submit_group<P: Place>(place: &mut P, book: &mut Book, group: Group) -> Result<(), Failure> {
+    let Group { announced, changes } = group;
+    place.expect(announced);
+    for change in changes {
+        submit(place, book, change)?;
+    }
+    read(place, book.kept)
+}
+
+/// Submits the groups.
 fn submit_all<P: Place>(
     place: &mut P,
-    changes: Vec<Operation>,
+    groups: Vec<Group>,
     ends_at_held: bool,
 ) -> Result<Book, Failure> {
     let mut book = Book {
@@ -149,8 +180,8 @@ fn submit_all<P: Place>(
         submit: 0,
         held: 0,
     };
-    for change in changes {
-        submit(place, &mut book, change)?;
+    for group in groups {
+        submit_group(place, &mut book, group)?;
         if ends_at_held && book.is_open {
             break;
         }
@@ -158,13 +189,26 @@ fn submit_all<P: Place>(
     Ok(book)
 }
 
-/// Sets of new topics.
-fn changes(alloc: Global) -> Result<Vec<Operation>, Failure> {
+/// Sets of so many topics, from this number on.
+fn changes(alloc: Global, first: u64, count: u64) -> Result<Vec<Operation>, Failure>
+    ensures { IfOk result (λ changes. All (λ o. is_sweep o ≡ false) changes.items) }
+{
     let mut changes = Vec::new(alloc);
-    for number in 0..u64::from(ROUNDS) {
+    for number in first..first.saturating_add(count) {
         changes.push(operation(alloc, Naming::Houses, number, Change::Set(0, None))?)?;
     }
     Ok(changes)
+}
+
+fn groups(alloc: Global, plan: Plan) -> Result<Vec<Group>, Failure> {
+    let mut groups = Vec::new(alloc);
+    for index in 0..plan.groups {
+        let first = index.saturating_mul(plan.size);
+        let announced = changes(alloc, first, plan.size)?;
+        let changes = changes(alloc, first, plan.size)?;
+        groups.push(Group { announced, changes })?;
+    }
+    Ok(groups)
 }
 
 #[derive(Drop)]
@@ -233,15 +277,15 @@ fn tried<H: Wait + Threads + Copy + Send + Sync + 'static, N: LineName + Send + 
     blank: Blank,
     queue: BlankQueue,
     all: TopicFilter,
-    ends_at_held: bool,
+    plan: Plan,
 ) -> Result<(Book, Left), Failure>
     requires store { (blank.history ≡ N.history) × (blank.limit ≡ N.limit) }
     requires queue { (queue.name ≡ N.queue) × (queue.places ≡ N.places) }
 {
     // They are made before: between two submits, only what the calls themselves need takes memory.
-    let changes = changes(alloc)?;
+    let groups = groups(alloc, plan)?;
     let Running { writer, mut place } = run::<H, N>(rt, blank, queue, all)?;
-    let book = submit_all(&mut place, changes, ends_at_held);
+    let book = submit_all(&mut place, groups, plan.ends_at_held);
     let Open { line, .. } = place;
     let end = line.close(&rt);
     let left = leave(alloc, end, writer.join(&rt));
@@ -253,13 +297,13 @@ fn tried<H: Wait + Threads + Copy + Send + Sync + 'static, N: LineName + Send + 
 fn refused<H: Wait + Threads + Copy + Send + Sync + 'static>(
     rt: H,
     alloc: Global,
-    ends_at_held: bool,
+    plan: Plan,
 ) -> Result<[u64; 3], Failure> {
     let limit = TopicLimit::new(ROUNDS).ok_or(Failure::Wrong)?;
     let blank = Blank::new(alloc, limit, 1)?;
     let queue = blank_queue(alloc, 1)?;
     let all = TopicFilter::read(alloc, b"#")?;
-    let (book, left) = tried::<H, Brand>(rt, alloc, blank, queue, all, ends_at_held)?;
+    let (book, left) = tried::<H, Brand>(rt, alloc, blank, queue, all, plan)?;
     // What is still held then was refused twice, and is not published.
     let is_last = book.is_open && !left.is_held;
     let kept = book.kept.saturating_add(u64::from(is_last));
@@ -267,17 +311,40 @@ fn refused<H: Wait + Threads + Copy + Send + Sync + 'static>(
     Ok([book.submit, book.held, u64::from(is_last)])
 }
 
-/// Submits new topics to two stores: to the first none after one whose entry is held, to the second all of them. Returns how often
-/// memory was refused in both, in the order of [`refused`].
+/// Submits new topics to three stores: to the first one by one, and none after one whose entry is held; to the second all of them one by
+/// one; to the third all of them, three in a job. Returns how often memory was refused in all, in the order of [`refused`].
 pub fn work<H: Wait + Threads + Copy + Send + Sync + 'static>(
     rt: &H,
     alloc: Global,
 ) -> Result<Vec<u64>, Failure> {
-    let short = refused(*rt, alloc, true)?;
-    let long = refused(*rt, alloc, false)?;
-    let mut both = Vec::with_capacity(alloc, 3)?;
-    for at in 0..3 {
-        both.push(short[at].saturating_add(long[at]))?;
+    let rounds = u64::from(ROUNDS);
+    let plans = [
+        Plan {
+            groups: rounds,
+            size: 1,
+            ends_at_held: true,
+        },
+        Plan {
+            groups: rounds,
+            size: 1,
+            ends_at_held: false,
+        },
+        Plan {
+            groups: rounds / 3,
+            size: 3,
+            ends_at_held: false,
+        },
+    ];
+    let mut sums = [0u64; 3];
+    for plan in plans {
+        let counts = refused(*rt, alloc, plan)?;
+        for at in 0..3 {
+            sums[at] = sums[at].saturating_add(counts[at]);
+        }
     }
-    Ok(both)
+    let mut all = Vec::with_capacity(alloc, 3)?;
+    for sum in sums {
+        all.push(sum)?;
+    }
+    Ok(all)
 }
