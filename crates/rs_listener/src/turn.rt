@@ -1,11 +1,12 @@
 //! The connections of one place.
 
+ghost use Rattle.rs_server.specs.Counts.{failures_of, inner_of};
 ghost use Rattle.rs_places.specs.Turns.{TakesBack, unknown};
 
 use crate::ending::Ending;
 use log::{Log, info};
 use rs_places::{Connection, Turn};
-use rs_server::{ServeFault, Served};
+use rs_server::{Counted, ServeFault, Served};
 use rs_sockets::{Accepted, FromClient, Listener, SystemClock, ToClient, abandon, close};
 use std::alloc::Global;
 use std::fmt;
@@ -117,10 +118,10 @@ impl<H: Clock + Log + Copy + Send> Turn for ListenTurn<H> {
     /// Closes the connection, as [`abandon`] does if it failed, else as [`close`].
     fn end(
         &mut self,
-        connection: Connection<FromClient, ToClient, ListenClock<H>>,
+        connection: Connection<Counted<FromClient>, Counted<ToClient>, ListenClock<H>>,
         served: Result<Served, ServeFault>,
     )
-        ensures { TakesBack unknown (record { streams = record { unread = ⟦<FromClient as Read>⟧.remaining connection.input; written = ⟦<ToClient as Write>⟧.contents connection.output; moments = ⟦<ListenClock<H> as rs_server::Clock>⟧.moments connection.clock }; result = served }) unknown }
+        ensures { TakesBack unknown (record { streams = record { unread = ⟦<FromClient as Read>⟧.remaining (inner_of connection.input); written = ⟦<ToClient as Write>⟧.contents (inner_of connection.output); moments = ⟦<ListenClock<H> as rs_server::Clock>⟧.moments connection.clock }; read_failures = failures_of connection.input; write_failures = failures_of connection.output; result = served }) unknown }
     {
         let Connection {
             input,
@@ -134,6 +135,7 @@ impl<H: Clock + Log + Copy + Send> Turn for ListenTurn<H> {
             id,
         } = clock;
         self.clock = clock;
+        let (input, output) = (input.into_inner(), output.into_inner());
         let (read, written) = (input.count(), output.count());
         let ending = Ending::new(served, input.is_unwritten());
         if ending.is_failed() {

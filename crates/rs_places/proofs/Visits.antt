@@ -8,7 +8,9 @@ use Rattle.rs_message.specs.declared.entry.Entry.{Entry}
 use mathlib.Core.List.{IsPrefix}
 use Rattle.rs_session.specs.Gate.{Sends}
 use Rattle.rs_server.specs.Clock.{TellsInOrder}
-use Rattle.rs_server.specs.Conversation.{WritesTurns, assigned_of, start}
+use Rattle.rs_server.specs.Conversation.{Causes, WritesTurns, assigned_of, start}
+use Rattle.rs_server.specs.Counts.{failures_of, inner_of}
+use Rattle.rs_server.specs.declared.counted.Counted.{Counted}
 use Rattle.rs_server.specs.declared.connection.Served.{Served}
 use Rattle.rs_server.specs.declared.writing.ServeFault.{ServeFault}
 use Rattle.rs_places.specs.Places.{AreConnectionsServed, IsPlaceServed, Left, Place, ServesOne, Visit, next_number, place_at}
@@ -110,21 +112,27 @@ place_served limit number first now plan told line so_far next told_is place sen
 
 -- one connection, once it was given back
 pub one_served : {R W C : Type 0} (remaining : R → Option (List ℕ)) (contents : W → Option (List ℕ)) (moments : C → Option (ℕ → ℕ)) (limit number : ℕ) (old new : Plan) (gate after : SharedValue)
-    (input read_from read_to input_back : R) (output write_from write_to output_back : W) (clock clock_back : C) (result : Result Served ServeFault)
-    → read_from ≡ input → write_from ≡ output → input_back ≡ read_to → output_back ≡ write_to
-    → IsServedAt limit (start (assigned_of gate.mark.place number) gate.known gate.mark) gate.ahead (Consumes (remaining read_from) (remaining read_to)) (IsAtEnd (remaining read_to))
-    (TellsInOrder (moments clock) (moments clock_back)) (WritesTurns result (contents write_from) (contents write_to)) result after
-    → TakesBack old (record { streams = record { unread = remaining input_back; written = contents output_back; moments = moments clock_back }; result = result }) new
+    (input : R) (output : W) (reader read : Counted R) (writer written : Counted W) (clock clock_back : C) (result : Result Served ServeFault)
+    → inner_of reader ≡ input → inner_of writer ≡ output → failures_of reader ≡ 0 → failures_of writer ≡ 0
+    → IsServedAt limit (start (assigned_of gate.mark.place number) gate.known gate.mark) gate.ahead (Consumes (remaining (inner_of reader)) (remaining (inner_of read))) (IsAtEnd (remaining (inner_of read)))
+    (TellsInOrder (moments clock) (moments clock_back)) (WritesTurns result (contents (inner_of writer)) (contents (inner_of written))) result after
+    → Causes result (failures_of reader) (failures_of read) (failures_of writer) (failures_of written)
+    → TakesBack old (record { streams = record { unread = remaining (inner_of read); written = contents (inner_of written); moments = moments clock_back }; read_failures = failures_of read; write_failures = failures_of written; result = result }) new
     → ServesOne limit number (place_at old gate) (record { unread = remaining input; written = contents output; moments = moments clock }) (place_at new after)
-one_served {R} {W} {C} remaining contents moments limit number old new gate after input read_from read_to input_back output write_from write_to output_back clock clock_back result same_in same_out back_in back_out served taken =
+one_served {R} {W} {C} remaining contents moments limit number old new gate after input output reader read writer written clock clock_back result same_in same_out none_in none_out served cause taken =
     let S : R → W → C → Streams = λ r w c. record { unread = remaining r; written = contents w; moments = moments c } in
-    let E : R → W → Ending = λ r w. record { streams = S r w clock_back; result = result } in
-    let P : R → Type 0 = λ r. TakesBack old (E r output_back) new in
-    let Q : W → Type 0 = λ w. TakesBack old (E read_to w) new in
+    let P : ℕ → Type 0 = λ n. Causes result n (failures_of read) 0 (failures_of written) in
+    let Q : ℕ → Type 0 = λ n. Causes result (failures_of reader) (failures_of read) n (failures_of written) in
     record {
-      visit = record { given = S read_from write_from clock; ending = E read_to write_to; turns = served.turns; planned = served.planned; gate = after };
-      served = record { connection = served; turns = refl; planned = refl };
-      over = ap (λ (r : R). S r write_from clock) same_in ∙ ap (λ (w : W). S input w clock) same_out;
+      visit = record {
+        given = S (inner_of reader) (inner_of writer) clock;
+        ending = record { streams = S (inner_of read) (inner_of written) clock_back; read_failures = failures_of read; write_failures = failures_of written; result = result };
+        turns = served.turns;
+        planned = served.planned;
+        gate = after;
+      };
+      served = record { connection = served; turns = refl; planned = refl; cause = subst P none_in (subst Q none_out cause) };
+      over = ap (λ (r : R). S r (inner_of writer) clock) same_in ∙ ap (λ (w : W). S input w clock) same_out;
       leaves = refl;
-      taken_back = subst Q back_out (subst P back_in taken);
+      taken_back = taken;
     }

@@ -6,7 +6,7 @@ use Rattle.rs_message.specs.declared.entry.Entry.{Entry}
 use Rattle.rs_session.specs.Points.{Given}
 use Rattle.rs_session.specs.Run.{Turn}
 use Rattle.rs_server.specs.Clock.{TellsInOrder}
-use Rattle.rs_server.specs.Conversation.{WritesTurns, assigned_of, start}
+use Rattle.rs_server.specs.Conversation.{Causes, WritesTurns, assigned_of, start}
 use Rattle.rs_places.specs.Serving.{IsServedAt}
 use Rattle.rs_places.specs.Shared.{SharedValue}
 use Rattle.rs_places.specs.Turns.{AreAll, Ending, Plan, Streams, TakesBack, TookBack}
@@ -32,6 +32,8 @@ pub record IsConnectionServed (limit number : ℕ) (before : SharedValue) (visit
       (WritesTurns visit.ending.result visit.given.written visit.ending.streams.written) visit.ending.result visit.gate
   pub turns : visit.turns ≡ connection.turns
   pub planned : visit.planned ≡ connection.planned
+  -- its reader and its writer had not failed before; a fault says which of them did, or that memory was refused and none did
+  pub cause : Causes visit.ending.result 0 visit.ending.read_failures 0 visit.ending.write_failures
 
 -- Connections were served one after the other, each from what the one before left. They are numbered from this number on.
 abbrev pub AreConnectionsServed : ℕ → ℕ → SharedValue → List Visit → SharedValue → Type 0

@@ -10,9 +10,11 @@ pub record Streams : Type 0 where
   pub written : Option (List ℕ)
   pub moments : Option (ℕ → ℕ)
 
--- a connection that was taken back: what is known of it then, and how it ended
+-- a connection that was taken back: what is known of it then, how often its reader and its writer failed, and how it ended
 pub record Ending : Type 0 where
   pub streams : Streams
+  pub read_failures : ℕ
+  pub write_failures : ℕ
   pub result : Result Served ServeFault
 
 -- the connections that a turn will still give, and those that it took back, each in their order, if they are known

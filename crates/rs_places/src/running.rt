@@ -67,8 +67,8 @@ fn serve_connection<T: Turn + Drop, N: LineName, H: Wait + Copy>(
         &mut clock,
     );
     let connection = Connection {
-        input: reader.into_inner(),
-        output: writer.into_inner(),
+        input: reader,
+        output: writer,
         clock,
     };
     turn.end(connection, served);

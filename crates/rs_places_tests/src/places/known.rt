@@ -1,13 +1,14 @@
 //! A run over turns whose connections are known.
 
 ghost use Rattle.std.specs.Prelude.{◌≡◌, All, IfOk, IsTrue, is_some, length, map, true};
+ghost use Rattle.rs_server.specs.Counts.{failures_of, inner_of};
 ghost use Rattle.rs_places.specs.Turns.{TakesBack};
 ghost use Rattle.rs_places_tests.specs.Answered.{AreAnswered};
 
 use super::{CONNECTED, PUBLISHES, REPLAYED, SUBSCRIBED, SUBSCRIBES, blank_store};
 use rs_intake::{BlankQueue, blank_queue};
 use rs_places::{Connection, StoreEnd, StoreFault, Turn, run_store};
-use rs_server::{Clock, Moments, ServeFault, Served};
+use rs_server::{Clock, Counted, Moments, ServeFault, Served};
 use rs_version::Blank;
 use std::alloc::{AllocError, Global};
 use std::collections::VecDeque;
@@ -19,10 +20,12 @@ use std::thread::Threads;
 /// A connection in memory.
 type Played = Connection<VecDeque<u8>, Vec<u8>, Moments>;
 
-/// How a connection ended.
+/// How a connection ended, and how often its reader and its writer failed.
 #[derive(Drop)]
 struct Outcome {
     connection: Played,
+    read_failures: u64,
+    write_failures: u64,
     served: Result<Served, ServeFault>,
 }
 
@@ -47,20 +50,41 @@ impl Turn for Listed {
 
     ghost plan = { λ turn. record {
       waiting = Some (map (λ c. record { unread = Some c.input.items; written = Some c.output.items; moments = Some (told_by c.clock) }) turn.waiting.items);
-      ended = option_map (λ all. map (λ o. record { streams = record { unread = Some o.connection.input.items; written = Some o.connection.output.items; moments = Some (told_by o.connection.clock) }; result = o.served }) all.items) turn.ended;
+      ended = option_map (λ all. map (λ o. record { streams = record { unread = Some o.connection.input.items; written = Some o.connection.output.items; moments = Some (told_by o.connection.clock) }; read_failures = o.read_failures; write_failures = o.write_failures; result = o.served }) all.items) turn.ended;
     } };
 
     fn next(&mut self) -> Option<Played> {
         self.waiting.pop_front()
     }
 
-    fn end(&mut self, connection: Played, served: Result<Served, ServeFault>)
-        ensures { TakesBack (⟦<Listed as Turn>⟧.plan self.old) (record { streams = record { unread = ⟦<VecDeque<u8> as Read>⟧.remaining connection.input; written = ⟦<Vec<u8> as Write>⟧.contents connection.output; moments = ⟦<Moments as Clock>⟧.moments connection.clock }; result = served }) (⟦<Listed as Turn>⟧.plan self.new) }
+    fn end(
+        &mut self,
+        connection: Connection<Counted<VecDeque<u8>>, Counted<Vec<u8>>, Moments>,
+        served: Result<Served, ServeFault>,
+    )
+        ensures { TakesBack (⟦<Listed as Turn>⟧.plan self.old) (record { streams = record { unread = ⟦<VecDeque<u8> as Read>⟧.remaining (inner_of connection.input); written = ⟦<Vec<u8> as Write>⟧.contents (inner_of connection.output); moments = ⟦<Moments as Clock>⟧.moments connection.clock }; read_failures = failures_of connection.input; write_failures = failures_of connection.output; result = served }) (⟦<Listed as Turn>⟧.plan self.new) }
     {
+        let Connection {
+            input,
+            output,
+            clock,
+        } = connection;
+        let (read_failures, write_failures) = (input.failures(), output.failures());
+        let connection = Connection {
+            input: input.into_inner(),
+            output: output.into_inner(),
+            clock,
+        };
+        let outcome = Outcome {
+            connection,
+            read_failures,
+            write_failures,
+            served,
+        };
         let Some(mut ended) = self.ended.take() else {
             return;
         };
-        if ended.push(Outcome { connection, served }).is_ok() {
+        if ended.push(outcome).is_ok() {
             self.ended = Some(ended);
         }
     }
@@ -113,7 +137,7 @@ fn is_written(turn: &Listed, wanted: &[&[u8]]) -> bool {
         let Some(output) = wanted.get(at) else {
             return false;
         };
-        if outcome.connection.output.as_slice() != *output || !is_closed(outcome.served) {
+        if outcome.connection.output.as_slice() != *output || !is_closed(outcome) {
             return false;
         }
         at = at.saturating_add(1);
@@ -121,8 +145,11 @@ fn is_written(turn: &Listed, wanted: &[&[u8]]) -> bool {
     at == wanted.len()
 }
 
-fn is_closed(served: Result<Served, ServeFault>) -> bool {
-    served == Ok(Served::ClientClosed)
+/// Whether the client closed the connection, and no call failed.
+fn is_closed(outcome: &Outcome) -> bool {
+    outcome.served == Ok(Served::ClientClosed)
+        && outcome.read_failures == 0
+        && outcome.write_failures == 0
 }
 
 /// A place that publishes and then reads it back, and one whose client reads what it can.

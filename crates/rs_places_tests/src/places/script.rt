@@ -1,10 +1,11 @@
 //! Turns that play connections from memory.
 
+ghost use Rattle.rs_server.specs.Counts.{failures_of, inner_of};
 ghost use Rattle.rs_places.specs.Turns.{TakesBack, unknown};
 
 use super::CLOSED;
 use rs_places::{Connection, Turn};
-use rs_server::{Clock, ServeFault, Served};
+use rs_server::{Clock, Counted, ServeFault, Served};
 use std::alloc::{AllocError, Global};
 use std::collections::VecDeque;
 use std::io;
@@ -262,15 +263,16 @@ impl Turn for Script {
 
     fn end(
         &mut self,
-        connection: Connection<Input, Output, ScriptClock>,
+        connection: Connection<Counted<Input>, Counted<Output>, ScriptClock>,
         served: Result<Served, ServeFault>,
     )
-        ensures { TakesBack unknown (record { streams = record { unread = ⟦<Input as Read>⟧.remaining connection.input; written = ⟦<Output as Write>⟧.contents connection.output; moments = ⟦<ScriptClock as Clock>⟧.moments connection.clock }; result = served }) unknown }
+        ensures { TakesBack unknown (record { streams = record { unread = ⟦<Input as Read>⟧.remaining (inner_of connection.input); written = ⟦<Output as Write>⟧.contents (inner_of connection.output); moments = ⟦<ScriptClock as Clock>⟧.moments connection.clock }; read_failures = failures_of connection.input; write_failures = failures_of connection.output; result = served }) unknown }
     {
-        if connection.output.is_right(served) && !connection.clock.is_alone {
+        let output = connection.output.into_inner();
+        if output.is_right(served) && !connection.clock.is_alone {
             self.counts.right.fetch_add(1, Ordering::SeqCst);
         }
-        if connection.output.is_closed(served) {
+        if output.is_closed(served) {
             self.counts.closed.fetch_add(1, Ordering::SeqCst);
         }
         self.counts.ended.fetch_add(1, Ordering::SeqCst);
