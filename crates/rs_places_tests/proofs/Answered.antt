@@ -39,6 +39,7 @@ visits_answered limit number history gate (visit ∷ visits) last (one, rest) (h
         replies = c.replies;
         first = here.first;
         lists = subst (AllOf history) one.turns here.lists;
+        cause = one.cause;
       },
       visits_answered limit (next_number number) history visit.gate visits last rest more,
     )

@@ -10,11 +10,11 @@ use Rattle.rs_session.specs.Points.{Given, Point}
 use Rattle.rs_session.specs.Run.{Run, Turn}
 use Rattle.rs_session.specs.State.{State}
 use Rattle.rs_server.specs.Clock.{TellsInOrder}
-use Rattle.rs_server.specs.Conversation.{InputsOf, WritesTurns, inputs_of, moments_of, planned_inputs, planned_moments, start}
+use Rattle.rs_server.specs.Conversation.{Causes, InputsOf, WritesTurns, inputs_of, moments_of, planned_inputs, planned_moments, start}
 use Rattle.rs_places.specs.Turns.{Ending, Plan, Streams}
 
 -- The connection was answered by a session: what its client was written are the session's replies to the bytes that it sent. The list
--- that it began with, and each that a filter was answered from, is a prefix of this one.
+-- that it began with, and each that a filter was answered from, is a prefix of this one. A fault that the turn was told was met.
 pub record IsAnswered (history : List Entry) (given : Streams) (ending : Ending) : Type 0 where
   pub assigned : List ℕ
   pub seen : List Entry
@@ -34,6 +34,7 @@ pub record IsAnswered (history : List Entry) (given : Streams) (ending : Ending)
   pub replies : WritesTurns ending.result given.written ending.streams.written turns
   pub first : Extends history seen
   pub lists : AllByRecursion (λ list. Extends history list) (lists_of turns)
+  pub cause : Causes ending.result 0 ending.read_failures 0 ending.write_failures
 
 -- each was answered, one after the other
 abbrev pub EachAnswered : List Entry → List Streams → List Ending → Type 0
