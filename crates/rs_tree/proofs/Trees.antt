@@ -8,6 +8,7 @@ use Rattle.std.specs.Ordering.{is_eq}
 use Rattle.std.specs.declared.cmp.Ordering.{Ordering}
 use Rattle.std.specs.declared.cmp.Ordering.TheVariants.{Less, Equal, Greater}
 use Rattle.std.proofs.lemmas.Bool.Decides.{nat_tests}
+use Rattle.std.proofs.lemmas.List.{length-map}
 use Rattle.rs_topic.specs.Topics.{levels, slash, dollar}
 use Rattle.rs_topic.specs.Order.{path_cmp, topic_cmp}
 use Rattle.rs_topic.specs.TopicOrder.{exact_paths, exact_topics, topic_total}
@@ -18,6 +19,7 @@ use Rattle.rs_topic.specs.Matching.{begins_with_dollar}
 use Rattle.rs_message.specs.declared.entry.Operation.{Operation}
 use Rattle.rs_message.specs.declared.entry.Operation.TheVariants.{Set, Clear, Sweep}
 use Rattle.rs_store.specs.Contents.{after, found_of, is_answered, is_gone, stays}
+use Rattle.rs_store.specs.declared.limit.TheConstants.{MAX_TOPICS}
 use Rattle.rs_tree.specs.Sweeping.{is_expired_spot, spot_stays}
 use Rattle.rs_tree.specs.Trees.{IsTree}
 use Rattle.rs_tree.specs.Chosen.{chosen_at_root, is_matched, is_dollar}
@@ -26,7 +28,7 @@ use Rattle.rs_topic.specs.Rests.{levels_from}
 use Rattle.rs_tree.specs.Spots.{Spot, ArePlaced, pair_of, pairs, is_there}
 use Rattle.std.specs.Prelude.{nat_le}
 use Rattle.rs_store.proofs.Entries.{sorted_none, sorted_insert, sorted_remove, sorted_filter}
-use Rattle.rs_store.proofs.Maps.{insert_old, insert_new, remove_there, remove_absent, room_if_few, room_after_clear, room_after_sweep}
+use Rattle.rs_store.proofs.Maps.{filter_few, insert_old, insert_new, no_room, remove_there, remove_absent, room_if_few, room_if_there, room_after_clear, room_after_sweep}
 
 -- ---- a Set
 
@@ -141,10 +143,17 @@ is_tree root new operation count limit n t placed is counted few = record {
 pub empty_tree : (root : List Spot) (limit : ℕ) → root ≡ [] → IsTree root 0 limit
 empty_tree root limit h = rw h (record { placed = tt; sorted = sorted_none topic_cmp; counted = refl; fits = omega arith })
 
-pub room_below : (root : List Spot) (operation : Operation) (count limit : ℕ) → IsTree root count limit → count < limit → true ≡ nat_le (length (after (pairs root) operation)) limit
-room_below root (Set found) count limit t few = sym (room_if_few (pairs root) found.topic found.message limit t.sorted (omega (arith, t.counted, few)))
-room_below root (Clear topic) count limit t few = sym (room_after_clear (is_at (topic_cmp topic)) (pairs root) limit (omega (arith, t.counted, t.fits)))
-room_below root (Sweep moment) count limit t few = sym (room_after_sweep (stays moment) (pairs root) limit (omega (arith, t.counted, t.fits)))
+-- a Set where there may be one more topic
+pub room_below : (root : List Spot) (t : List ℕ) (m : MessageValue) (count limit : ℕ) → IsTree root count limit → count < limit → true ≡ nat_le (length (insert_entry topic_cmp (pairs root) t m)) limit
+room_below root t m count limit tree few = sym (room_if_few (pairs root) t m limit tree.sorted (omega (arith, tree.counted, few)))
+
+-- a Set where there may not; r is what `holds` answered
+pub room_held : (root : List Spot) (t : List ℕ) (m : MessageValue) (r : Bool) (count limit : ℕ) → IsTree root count limit → limit ≤ count → r ≡ is_there (levels_from 0 t) root → r ≡ nat_le (length (insert_entry topic_cmp (pairs root) t m)) limit
+room_held root t m true count limit tree full is = sym (room_if_there (pairs root) t m limit tree.sorted (omega (arith, tree.counted, tree.fits)) (sym (is ∙ there_pairs root (levels_from 0 t) t tree.placed (from_start t))))
+room_held root t m false count limit tree full is = sym (no_room (pairs root) t m limit tree.sorted (omega (arith, tree.counted, full)) (sym (is ∙ there_pairs root (levels_from 0 t) t tree.placed (from_start t))))
+
+pub room_cleared : (root : List Spot) (t : List ℕ) (count limit : ℕ) → IsTree root count limit → true ≡ nat_le (length (remove_entry (is_at (topic_cmp t)) (pairs root))) limit
+room_cleared root t count limit tree = sym (room_after_clear (is_at (topic_cmp t)) (pairs root) limit (omega (arith, tree.counted, tree.fits)))
 
 -- ---- a Sweep
 
@@ -174,3 +183,14 @@ placed_swept moment (s ∷ ss) a = at (spot_stays moment s) refl (placed_swept m
 
 pub room_swept : (root : List Spot) (moment count limit : ℕ) → IsTree root count limit → true ≡ nat_le (length (filter (stays moment) (pairs root))) limit
 room_swept root moment count limit t = sym (room_after_sweep (stays moment) (pairs root) limit (omega (arith, t.counted, t.fits)))
+
+-- how many are left, as the call that counts them says it
+pub left_counted : (moment : ℕ) (ss new : List Spot) (n : ℕ) → length (pairs ss) ≤ MAX_TOPICS → new ≡ filter (spot_stays moment) ss → (length new ≤ MAX_TOPICS → n ≡ length new) → n ≡ length (filter (stays moment) (pairs ss))
+left_counted moment ss new n small is counted =
+    let all = length-map ss pair_of in
+    let left = length-map (filter (spot_stays moment) ss) pair_of in
+    let same = ap (λ (w : List (List ℕ × MessageValue)). length w) (pairs_swept moment ss) in
+    let new_is = ap (λ (w : List Spot). length w) is in
+    let few = filter_few (spot_stays moment) ss in
+    let n_is = counted (omega (arith, small, all, new_is, few)) in
+    omega (arith, n_is, left, same, new_is)

@@ -11,6 +11,7 @@ mod earliest;
 mod expired;
 mod holds;
 mod join;
+mod len;
 mod rows;
 mod set;
 mod sweep;

@@ -274,6 +274,16 @@ impl Bucket {
         }
     }
 
+    /// The number of its messages.
+    pub fn len(&self) -> usize
+        ensures { result ≡ length self.now }
+    {
+        match &self.messages {
+            Messages::One(_, _) => 1,
+            Messages::More(leaves) => leaves.len(),
+        }
+    }
+
     /// Adds how many of its messages are expired.
     pub fn expired(&self, now: u64, count: &mut u32)
         ensures { count.old + length self.now ≤ MAX_TOPICS → count.new ≡ count.old + length (filter (is_expired_spot now) self.now) }

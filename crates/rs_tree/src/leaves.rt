@@ -228,7 +228,7 @@ impl Leaves {
     }
 
     /// The number of its messages.
-    fn len(&self) -> usize
+    pub fn len(&self) -> usize
         ensures { result ≡ length self.now }
     {
         self.leaves.len()

@@ -120,6 +120,13 @@ impl Root {
         self.branch.answer_at_root(filter, now, answer)
     }
 
+    /// The number of messages.
+    pub fn len(&self) -> usize
+        ensures { length self.now ≤ MAX_TOPICS → result ≡ length self.now }
+    {
+        self.branch.len()
+    }
+
     /// Adds how many of the messages are expired.
     pub fn expired(&self, now: u64, count: &mut u32)
         ensures { count.old + length self.now ≤ MAX_TOPICS → count.new ≡ count.old + length (filter (is_expired_spot now) self.now) }

@@ -36,7 +36,7 @@ const SERIALS: usize = MAX_PLACES as usize + 1;
 /// the branches that the filter can match: one for a level without a wildcard, each for a `+`, all below for a `#`. It builds no
 /// list of levels and copies no byte of a topic, text or payload. `version`, `last_serial` and `count` take constant time.
 ///
-/// A Sweep makes what it changes anew, and shares the rest. `expired` and `earliest` visit each message once.
+/// A Sweep makes what it changes anew, and shares the rest. It visits each message once, as `expired` and `earliest` do.
 #[derive(Drop)]
 pub struct TreeCatalogue {
     alloc: Global,
@@ -121,18 +121,16 @@ fn earliest_of(root: &Root) -> u64
 }
 
 /// Removes the messages that are expired and returns how many topics hold a message then. If memory is refused, nothing changes.
-fn sweep(root: &mut Root, alloc: Global, count: u32, moment: u64) -> Result<u32, AllocError>
+fn sweep(root: &mut Root, alloc: Global, moment: u64) -> Result<u32, AllocError>
     requires placed { ArePlaced root.old }
-    requires counted { length (pairs root.old) ≡ count }
-    requires small { count ≤ MAX_TOPICS }
+    requires small { length (pairs root.old) ≤ MAX_TOPICS }
     ensures done { OnOk result (pairs root.new ≡ filter_list (stays moment) (pairs root.old)) }
     ensures counted { IfOk result (λ n. n ≡ length (filter_list (stays moment) (pairs root.old))) }
     ensures placed { ArePlaced root.new }
     ensures refused { OnErr result (root.new ≡ root.old) }
 {
-    let gone = count_expired(root, moment);
     root.sweep(alloc, moment)?;
-    Ok(count - gone)
+    Ok(root.len() as u32)
 }
 
 /// Sets or clears one topic, or removes what is expired, and returns how many topics hold a message then. If memory is refused,
@@ -155,50 +153,26 @@ fn change(
     match operation {
         Operation::Set(found) => set_one(root, alloc, count, found),
         Operation::Clear(topic) => clear_one(root, alloc, count, &topic),
-        Operation::Sweep(moment) => sweep(root, alloc, count, moment),
-    }
-}
-
-/// The number of topics that hold a message after the operation.
-fn count_after(root: &Root, count: u32, operation: &Operation) -> u32
-    requires placed { ArePlaced root.now }
-    requires sorted { IsStrictlySortedBy topic_cmp (keys_of (pairs root.now)) }
-    requires counted { length (pairs root.now) ≡ count }
-    requires small { count ≤ MAX_TOPICS }
-    ensures { result ≡ length (after (pairs root.now) operation.now) }
-{
-    match operation {
-        Operation::Set(found) => {
-            if root.holds(found.topic().as_bytes()) {
-                count
-            } else {
-                count + 1
-            }
-        }
-        Operation::Clear(topic) => {
-            if root.holds(topic.as_bytes()) {
-                count - 1
-            } else {
-                count
-            }
-        }
-        Operation::Sweep(moment) => count - count_expired(root, *moment),
+        Operation::Sweep(moment) => sweep(root, alloc, moment),
     }
 }
 
 /// At most `limit` topics hold a message after the operation.
-#[tactic(auto, using(crate::proofs::Trees::room_below, crate::proofs::Trees::room_swept))]
+#[tactic(auto, using(crate::proofs::Trees::room_below, crate::proofs::Trees::room_cleared, crate::proofs::Trees::room_swept))]
 fn has_room(root: &Root, count: u32, limit: TopicLimit, operation: &Operation) -> bool
     requires { IsTree root.now count limit }
     ensures { result ≡ nat_le (length (after (pairs root.now) operation.now)) limit }
 {
-    if let Operation::Sweep(_) = operation {
-        return true;
+    match operation {
+        Operation::Set(found) => {
+            if count < limit.get() {
+                return true;
+            }
+            root.holds(found.topic().as_bytes())
+        }
+        Operation::Clear(_) => true,
+        Operation::Sweep(_) => true,
     }
-    if count < limit.get() {
-        return true;
-    }
-    count_after(root, count, operation) <= limit.get()
 }
 
 /// Copies of the messages that answer the filter, if they are at most `room`.

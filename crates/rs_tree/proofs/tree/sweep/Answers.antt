@@ -1,17 +1,20 @@
 use Rattle.std.proofs.Common.{arith}
+use Rattle.rs_store.specs.Contents.{stays}
+use Rattle.rs_store.proofs.Maps.{filter_few}
 use Rattle.rs_tree.specs.Spots.{pairs}
-use Rattle.rs_store.proofs.Expiring.{all_counted}
-use Rattle.rs_tree.proofs.Trees.{pairs_swept, placed_swept}
+use Rattle.rs_tree.proofs.Trees.{left_counted, pairs_swept, placed_swept}
 use Rattle.rs_tree.proofs.tree.sweep.Goals as goal
 
-pub overflow_sub-result : goal.overflow_sub-result
-overflow_sub-result c = omega (arith, c.count_expired-gone.ensures, c.requires.counted, all_counted c.args.moment (pairs c.args.root.now))
+pub overflow_cast-result : goal.overflow_cast-result
+overflow_cast-result c =
+    let left = left_counted c.args.moment c.args.root.now c.sweep.new.self c.len.result c.requires.small c.in_ok-sweep.ensures.done c.len.ensures in
+    omega (arith, left, filter_few (stays c.args.moment) (pairs c.args.root.now), c.requires.small)
 
 pub returns-clause-done : goal.returns-clause-done
 returns-clause-done c = rw c.in_ok-sweep.ensures.done (pairs_swept c.args.moment c.args.root.now)
 
 pub returns-clause-counted : goal.returns-clause-counted
-returns-clause-counted c = omega (arith, c.count_expired-gone.ensures, c.requires.counted, all_counted c.args.moment (pairs c.args.root.now))
+returns-clause-counted c = left_counted c.args.moment c.args.root.now c.sweep.new.self c.len.result c.requires.small c.in_ok-sweep.ensures.done c.len.ensures
 
 pub returns-clause-placed : goal.returns-clause-placed
 returns-clause-placed c = rw c.in_ok-sweep.ensures.done (placed_swept c.args.moment c.args.root.now c.requires.placed)
