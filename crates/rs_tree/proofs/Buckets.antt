@@ -19,7 +19,7 @@ use Rattle.rs_tree.specs.declared.leaf.Leaf.{Leaf}
 use Rattle.rs_tree.specs.Buckets.{IsGap, IsHere, IsPast, spots_in}
 use Rattle.rs_tree.specs.Chains.{behind, under_all}
 use Rattle.rs_tree.specs.Chosen.{chosen}
-use Rattle.rs_tree.specs.Room.{IsStop}
+use Rattle.rs_store.specs.Room.{IsStop}
 use Rattle.rs_store.specs.declared.answer.Stop.{Stop}
 use Rattle.rs_topic.specs.Rests.{levels_from}
 use Rattle.rs_tree.specs.Spots.{is_nothing, is_there, spot_of, under}

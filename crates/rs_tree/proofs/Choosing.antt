@@ -21,7 +21,7 @@ use Rattle.std.specs.declared.alloc.Global.{Global}
 use Rattle.rs_tree.specs.declared.branch.Below.{Below}
 use Rattle.rs_tree.specs.declared.branch.Below.TheVariants.{Few, Inner, Row}
 use Rattle.rs_tree.specs.Nodes.{spots_of, stem_spots}
-use Rattle.rs_tree.specs.Room.{IsStop}
+use Rattle.rs_store.specs.Room.{IsStop}
 use Rattle.rs_tree.specs.Rows.{IsBehind, IsFrom, IsGap, IsIn, IsRow, Takes, parts}
 use Rattle.rs_tree.specs.Values.{BranchValue, ChildValue}
 use Rattle.rs_store.specs.declared.answer.Answer.{Answer}

@@ -3,7 +3,7 @@ use Rattle.std.proofs.Common.{◌≡◌, ℕ, List, ◌++◌, sym, subst, arith,
 use Rattle.rs_message.specs.declared.entry.Found.{Found}
 use Rattle.rs_store.specs.declared.answer.Stop.{Stop}
 use Rattle.rs_store.specs.declared.answer.Stop.TheVariants.{Full, NoMemory}
-use Rattle.rs_tree.specs.Room.{IsStop}
+use Rattle.rs_store.specs.Room.{IsStop}
 
 pub stop_at : (s : Stop) (room : ℕ) (xs ys : List Found) → xs ≡ ys → IsStop s room xs → IsStop s room ys
 stop_at s room xs ys same h = let P : List Found → Type 0 = λ l. IsStop s room l in subst P same h

@@ -2,7 +2,7 @@
 use Rattle.std.specs.Prelude.{◌≡◌, ℕ, Bool, true, false, List, ◌∷◌, ◌++◌, Result, Ok, Err}
 use Rattle.rs_message.specs.declared.entry.Found.{Found}
 use Rattle.rs_topic.specs.Matching.{fits}
-use Rattle.rs_tree.specs.Room.{IsStop}
+use Rattle.rs_store.specs.Room.{IsStop}
 use Rattle.rs_tree.specs.Values.{ChildValue}
 use Rattle.rs_store.specs.declared.answer.Answer.{Answer}
 use Rattle.rs_store.specs.declared.answer.Stop.{Stop}

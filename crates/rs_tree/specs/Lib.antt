@@ -10,7 +10,6 @@ pub mod Labels
 pub mod Messages
 pub mod Nodes
 pub mod Rests
-pub mod Room
 pub mod Rows
 pub mod Spots
 pub mod Sweeping

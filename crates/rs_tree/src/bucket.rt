@@ -14,15 +14,14 @@ ghost use Rattle.rs_tree.specs.Sweeping.{is_expired_spot};
 ghost use Rattle.rs_store.specs.declared.limit.TheConstants.{MAX_TOPICS};
 ghost use Rattle.rs_tree.specs.Clearing.{Clears};
 ghost use Rattle.rs_tree.specs.Rests.{IsSomeRest};
-ghost use Rattle.rs_tree.specs.Room.{IsStop};
+ghost use Rattle.rs_store.specs.Room.{IsStop};
 ghost use Rattle.rs_message.specs.declared.entry.Found.{Found};
 
-use crate::answer::{Answer, Stop};
 use crate::cleared::Cleared;
-use crate::found::{is_expired, lowered};
 use crate::leaf::{Leaf, answer_one};
 use crate::leaves::Leaves;
 use crate::shared::Shared;
+use rs_store::{Answer, Stop, is_expired, lowered};
 use rs_topic::compare_rests;
 use std::alloc::{AllocError, Global};
 use std::cmp::Ordering;

@@ -4,9 +4,8 @@ ghost use Rattle.std.specs.Prelude.{◌≡◌, IfOk};
 ghost use Rattle.rs_tree.specs.Chosen.{own_chosen};
 ghost use Rattle.rs_tree.specs.Answers.{Gives};
 
-use crate::answer::{Answer, Stop};
-use crate::found::is_expired;
 use crate::shared::Shared;
+use rs_store::{Answer, Stop, is_expired};
 use std::alloc::AllocError;
 
 /// Appends a copy of the message of one place, unless it is expired.

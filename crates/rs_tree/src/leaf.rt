@@ -3,14 +3,13 @@
 ghost use Rattle.std.specs.Prelude.{◌≡◌, false, [], ◌∷◌, ◌++◌, IfErr, IfOk, IsTrue, OnOk};
 ghost use Rattle.rs_topic.specs.Order.{path_cmp};
 ghost use Rattle.rs_tree.specs.Chosen.{chosen};
-ghost use Rattle.rs_tree.specs.Room.{IsStop};
+ghost use Rattle.rs_store.specs.Room.{IsStop};
 ghost use Rattle.rs_topic.specs.Rests.{levels_from};
 ghost use Rattle.rs_tree.specs.Spots.{spot_of};
 
-use crate::answer::{Answer, Stop};
 use crate::chain::behind;
-use crate::found::is_expired;
 use crate::shared::Shared;
+use rs_store::{Answer, Stop, is_expired};
 use rs_topic::{compare_rests, level_at, levels_fit};
 use std::alloc::AllocError;
 use std::cmp::Ordering;

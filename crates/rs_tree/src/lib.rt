@@ -2,12 +2,10 @@
 //! copies. A node is changed in place while it has one owner, and copied otherwise.
 #![tactic(auto)]
 
-mod answer;
 mod branch;
 mod bucket;
 mod chain;
 mod cleared;
-mod found;
 mod held;
 mod label;
 mod leaf;

@@ -11,13 +11,13 @@ ghost use Rattle.rs_topic.specs.Rests.{levels_from};
 ghost use Rattle.rs_tree.specs.Spots.{is_there};
 ghost use Rattle.rs_tree.specs.Sweeping.{is_expired_spot, spot_stays};
 ghost use Rattle.rs_store.specs.declared.limit.TheConstants.{MAX_TOPICS};
-ghost use Rattle.rs_tree.specs.Room.{IsStop};
+ghost use Rattle.rs_store.specs.Room.{IsStop};
 
-use crate::answer::{Answer, Stop};
 use crate::branch::Branch;
 use crate::cleared::Cleared;
 use crate::shared::Shared;
 use rs_message::Found;
+use rs_store::{Answer, Stop};
 use std::alloc::{AllocError, Global};
 use std::marker::Model;
 use std::sync::Arc;

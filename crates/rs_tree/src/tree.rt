@@ -13,10 +13,9 @@ ghost use Rattle.rs_tree.specs.Spots.{ArePlaced, pairs};
 ghost use Rattle.rs_store.specs.declared.limit.TheConstants.{MAX_TOPICS};
 ghost use Rattle.rs_tree.specs.Trees.{IsTree};
 
-use crate::answer::{Answer, Stop};
 use crate::root::Root;
 use rs_message::{Entry, Found, MAX_PLACES, Operation};
-use rs_store::{Catalogue, Refusal, TopicLimit};
+use rs_store::{Answer, Catalogue, Refusal, Stop, TopicLimit};
 use rs_topic::{TopicFilter, TopicName};
 use std::alloc::{AllocError, Global};
 use std::marker::Model;

@@ -8,9 +8,9 @@ ghost use Rattle.rs_tree.specs.Nodes.{stem_spots};
 ghost use Rattle.rs_tree.specs.Rows.{parts};
 
 use super::{Below, Branch, Child, Stem, place_of};
-use crate::answer::{Answer, Stop};
 use crate::chain::past;
 use crate::held::answer_held;
+use rs_store::{Answer, Stop};
 use rs_topic::{begins_with_dollar, is_all_below, is_plus, level_at};
 
 /// Appends what the filter fits below each child, of which the first level ends before `next` in the filter.

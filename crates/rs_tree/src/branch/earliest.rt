@@ -6,8 +6,8 @@ ghost use Rattle.rs_tree.specs.Spots.{own};
 ghost use Rattle.rs_tree.specs.Rows.{parts};
 
 use super::{Below, Branch, Child};
-use crate::found::lowered;
 use crate::shared::Shared;
+use rs_store::lowered;
 
 /// A bound, or the first moment at which the message of one place is expired if that is earlier.
 fn lowered_by_held(held: &Option<Shared>, bound: u64) -> u64

@@ -8,8 +8,8 @@ ghost use Rattle.rs_store.specs.declared.limit.TheConstants.{MAX_TOPICS};
 ghost use Rattle.rs_tree.specs.Rows.{parts};
 
 use super::{Below, Branch, Child};
-use crate::found::is_expired;
 use crate::shared::Shared;
+use rs_store::is_expired;
 
 /// Counts the message of one place, if it is expired.
 fn count_held(held: &Option<Shared>, now: u64, count: &mut u32)

@@ -8,8 +8,8 @@ ghost use Rattle.rs_tree.specs.Rests.{IsBranchRest, IsRest, IsRestOf};
 ghost use Rattle.rs_tree.specs.Rows.{IsRow, Notes};
 
 use super::{Below, Branch, Child, Stem, copies};
-use crate::found::is_expired;
 use crate::shared::Shared;
+use rs_store::is_expired;
 use std::alloc::{AllocError, Global};
 use std::sync::Arc;
 

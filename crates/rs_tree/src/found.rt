@@ -1,3 +1,0 @@
-//! When messages expire.
-
-pub use rs_store::{is_expired, lowered};
