@@ -10,7 +10,7 @@ use rs_message::{Entry, Operation};
 use rs_store::{Catalogue, MapCatalogue, Refusal, Store, TopicLimit};
 use rs_topic::{TopicFilter, TopicName};
 use rs_tree::TreeCatalogue;
-use std::alloc::Global;
+use std::alloc::{AllocError, Global};
 use std::process::Abort;
 use std::test::Fail;
 
@@ -117,12 +117,12 @@ pub fn put<C: Catalogue>(
 }
 
 /// The topics and payloads that a filter is answered at a given time.
-fn answer_of<C: Catalogue>(
+pub fn answer_of<C: Catalogue>(
     alloc: Global,
     catalogue: &C,
     filter: &TopicFilter,
     now: u64,
-) -> Result<Vec<u8>, Fail> {
+) -> Result<Vec<u8>, AllocError> {
     let mut all = Vec::new(alloc);
     for one in &catalogue.answer(filter, now)? {
         all.extend_from_slice(one.topic().as_bytes())?;

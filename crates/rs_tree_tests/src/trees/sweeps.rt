@@ -12,7 +12,7 @@ use std::process::Abort;
 use std::test::Fail;
 
 /// The writer's Sweep of a moment.
-fn sweep_of(serial: u64, moment: u64) -> Result<Entry, Fail> {
+pub fn sweep_of(serial: u64, moment: u64) -> Result<Entry, Fail> {
     let origin = Origin::of_writer(serial).ok_or("no serial")?;
     let operation = Operation::Sweep(moment);
     Ok(Entry { origin, operation })
@@ -77,7 +77,7 @@ fn operation_at(
 }
 
 /// Three Sets of four, of a message that came between 100 and 139, else a Clear.
-fn change_of(alloc: Global, draw: &mut Draw, serial: u64) -> Result<Entry, Fail> {
+pub fn change_of(alloc: Global, draw: &mut Draw, serial: u64) -> Result<Entry, Fail> {
     let origin = origin(1, serial)?;
     let name = name_of(alloc, draw)?;
     let topic = TopicName::read(alloc, name.as_slice())?;

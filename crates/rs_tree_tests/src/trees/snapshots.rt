@@ -1,0 +1,173 @@
+//! Copies of a tree that goes on changing: what they show never changes.
+
+ghost use Rattle.std.specs.Prelude.{◌<◌};
+
+use super::alike::{Draw, answer_of};
+use super::examples::take;
+use super::sweeps::{change_of, sweep_of};
+use rs_store::{Catalogue, TopicLimit};
+use rs_topic::TopicFilter;
+use rs_tree::TreeCatalogue;
+use std::alloc::{AllocError, Global};
+use std::process::Abort;
+use std::test::Fail;
+use std::thread::{JoinHandle, Threads, spawn};
+
+/// After so many entries a copy is looked at again.
+const LATER: u64 = 1000;
+
+/// How often a thread copies the tree that it reads.
+const COPIES: u32 = 20;
+
+/// A copy, and what it showed after so many entries, when it was taken.
+#[derive(Drop)]
+struct Snapshot {
+    entries: u64,
+    tree: TreeCatalogue,
+    shown: Vec<u8>,
+}
+
+/// What a tree shows: all its messages at moments at which more and more of them are expired, and its numbers.
+fn shown_by(
+    alloc: Global,
+    tree: &TreeCatalogue,
+    filter: &TopicFilter,
+) -> Result<Vec<u8>, AllocError> {
+    let mut all = Vec::new(alloc);
+    for now in [90, 115, 140, 165] {
+        let answer = answer_of(alloc, tree, filter, now)?;
+        all.extend_from_slice(answer.as_slice())?;
+        let expired = format!(in alloc; "{} ", tree.expired(now))?;
+        all.extend_from_slice(expired.as_bytes())?;
+    }
+    let (count, earliest) = (tree.count(), tree.earliest());
+    let (own, first) = (tree.last_serial(0), tree.last_serial(1));
+    let numbers = format!(in alloc; "{} {count} {earliest} {own} {first}", tree.version())?;
+    all.extend_from_slice(numbers.as_bytes())?;
+    Ok(all)
+}
+
+fn taken(
+    alloc: Global,
+    tree: &TreeCatalogue,
+    filter: &TopicFilter,
+    entries: u64,
+) -> Result<Snapshot, AllocError> {
+    Ok(Snapshot {
+        entries,
+        tree: tree.copy()?,
+        shown: shown_by(alloc, tree, filter)?,
+    })
+}
+
+/// A Set or a Clear, and now and then a Sweep of some moment.
+fn step(alloc: Global, draw: &mut Draw, tree: &mut TreeCatalogue, serial: u64) -> Result<(), Fail> {
+    take(tree, change_of(alloc, draw, serial)?)?;
+    if draw.below(50) == 0 {
+        let next = tree.last_serial(0).saturating_add(1);
+        take(tree, sweep_of(next, draw.below(90).saturating_add(90))?)?;
+    }
+    Ok(())
+}
+
+/// The copies that were taken a thousand entries before show what they did then. Returns how many they are.
+fn looked_at(
+    rt: &impl Abort,
+    alloc: Global,
+    snapshots: &[Snapshot],
+    filter: &TopicFilter,
+    entries: u64,
+) -> Result<u32, AllocError> {
+    let mut count: u32 = 0;
+    for one in snapshots {
+        if one.entries.saturating_add(LATER) == entries {
+            let shown = shown_by(alloc, &one.tree, filter)?;
+            assert!(rt; shown.as_slice() == one.shown.as_slice());
+            count = count.saturating_add(1);
+        }
+    }
+    Ok(count)
+}
+
+/// Copies at random moments, and looks at each again.
+fn copied(
+    rt: &impl Abort,
+    alloc: Global,
+    tree: &mut TreeCatalogue,
+    filter: &TopicFilter,
+) -> Result<(), Fail> {
+    let mut draw = Draw { state: 17 };
+    let mut snapshots = Vec::new(alloc);
+    let mut count: u32 = 0;
+    for entries in 1..3001 {
+        step(alloc, &mut draw, tree, entries)?;
+        if draw.below(40) == 0 {
+            snapshots.push(taken(alloc, tree, filter, entries)?)?;
+        }
+        let looked = looked_at(rt, alloc, snapshots.as_slice(), filter, entries)?;
+        count = count.saturating_add(looked);
+    }
+    assert!(rt; 30 < count);
+    Ok(())
+}
+
+/// Takes copies of a tree and drops them. Says whether all show what they are to show.
+fn are_same(alloc: Global, tree: TreeCatalogue, filter: TopicFilter, wanted: Vec<u8>) -> bool {
+    for _ in 0..COPIES {
+        let Ok(copy) = tree.copy() else {
+            return false;
+        };
+        let Ok(shown) = shown_by(alloc, &copy, &filter) else {
+            return false;
+        };
+        if shown.as_slice() != wanted.as_slice() {
+            return false;
+        }
+    }
+    true
+}
+
+/// A thread that reads a copy.
+fn start<R: Threads>(
+    rt: &R,
+    alloc: Global,
+    tree: &TreeCatalogue,
+    filter: &TopicFilter,
+) -> Result<JoinHandle<bool>, Fail> {
+    let wanted = shown_by(alloc, tree, filter)?;
+    let (copy, filter) = (tree.copy()?, filter.copy()?);
+    Ok(spawn(rt, move || are_same(alloc, copy, filter, wanted))?)
+}
+
+/// Changes the tree while threads read copies of it.
+fn read_beside<R: Threads + Abort>(
+    rt: &R,
+    alloc: Global,
+    tree: &mut TreeCatalogue,
+    filter: &TopicFilter,
+) -> Result<(), Fail> {
+    let mut draw = Draw { state: 19 };
+    let mut readers = Vec::new(alloc);
+    for entries in 3001..4001 {
+        step(alloc, &mut draw, tree, entries)?;
+        if entries % 50 == 0 {
+            readers.push(start(rt, alloc, tree, filter)?)?;
+        }
+    }
+    for reader in readers {
+        assert!(rt; reader.join(rt));
+    }
+    Ok(())
+}
+
+#[test]
+fn snapshots_stay(rt: HostRuntime) -> Result<(), Fail> {
+    let alloc = rt.alloc();
+    let limit = TopicLimit::new(500).ok_or("500 is a limit")?;
+    let filter = TopicFilter::read(alloc, b"#")?;
+    let mut tree = TreeCatalogue::new(alloc, limit)?;
+    copied(&rt, alloc, &mut tree, &filter)?;
+    read_beside(&rt, alloc, &mut tree, &filter)?;
+    assert!(rt; 100 < tree.count());
+    Ok(())
+}
