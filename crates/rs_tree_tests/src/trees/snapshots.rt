@@ -1,7 +1,5 @@
 //! Copies of a tree that goes on changing: what they show never changes.
 
-ghost use Rattle.std.specs.Prelude.{◌<◌};
-
 use super::alike::{Draw, answer_of};
 use super::examples::take;
 use super::sweeps::{change_of, sweep_of};
