@@ -1,5 +1,5 @@
 -- Lemmas on conversations.
-use Rattle.std.proofs.Common.{◌≡◌, ℕ, suc, List, [], ◌∷◌, ◌++◌, take, drop, refl, sym, subst, ap, ◌∙◌, append-nil, append_assoc, take-append-drop, map, inl, inr, ◌⊎◌, Option, Some, None, Result, Ok, Err, arith}
+use Rattle.std.proofs.Common.{◌≡◌, ℕ, suc, List, [], ◌∷◌, ◌++◌, take, drop, refl, sym, subst, ap, ◌∙◌, append-nil, append_assoc, take-append-drop, inl, inr, ◌⊎◌, Option, Some, None, Result, Ok, Err, arith}
 use Rattle.std.proofs.lemmas.List.{map-append, flat_map_more}
 use Rattle.std.proofs.KnownBytes.{Consumes-trans, Appends-trans, Appends-nil, Consumes-nil}
 use Rattle.std.specs.Io.KnownBytes.{Appends, Consumes, IsAtEnd}
@@ -19,7 +19,7 @@ use Rattle.rs_session.specs.Ahead.{AreChanges, LeavesAhead}
 use Rattle.rs_session.specs.Kept.{point_after}
 use Rattle.rs_session.specs.State.{State, fresh, closing_of, step_of}
 use Rattle.rs_session.specs.Table.{Answers}
-use Rattle.rs_session.specs.Points.{Given, Point, given_at, point_at}
+use Rattle.rs_session.specs.Points.{Given, Point, point_at}
 use Rattle.rs_session.specs.Run.{Turn, Run, GivesAll}
 use Rattle.rs_session.proofs.Runs.{run_more, of_gate_more}
 use Rattle.rs_server.specs.declared.connection.Served.{Served}

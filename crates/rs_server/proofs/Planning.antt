@@ -1,5 +1,5 @@
 -- Lemmas on what is decoded before it is handled.
-use Rattle.std.proofs.Common.{◌≡◌, ◌≢◌, ◌≤◌, ◌+◌, ℕ, length-append, List, [], ◌∷◌, ◌++◌, length, refl, sym, subst, ap, ◌∙◌, append-nil, append_assoc, inl, inr, ◌⊎◌, Option, Some, None, arith}
+use Rattle.std.proofs.Common.{◌≡◌, ◌≤◌, ◌+◌, ℕ, length-append, List, [], ◌∷◌, ◌++◌, length, refl, sym, subst, ap, ◌∙◌, append-nil, append_assoc, inl, inr, ◌⊎◌, Option, Some, None, arith}
 use Rattle.std.proofs.lemmas.List.{map-append}
 use Rattle.rs_packet.specs.declared.reply.Reply.{Reply}
 use Rattle.rs_message.specs.declared.entry.Entry.{Entry}
@@ -15,7 +15,7 @@ use Rattle.rs_session.specs.Run.{Gives, GivesAll}
 use Rattle.rs_session.specs.State.{State, IsGiven, IsReplayed, step_of}
 use Rattle.rs_session.proofs.Expecting.{leaves_weaker}
 use Rattle.rs_server.specs.Clock.{TellsInOrder}
-use Rattle.rs_server.specs.Conversation.{InputsOf, Plans, PlansNext, planned_inputs, planned_moments}
+use Rattle.rs_server.specs.Conversation.{InputsOf, Plans, PlansNext}
 use Rattle.rs_server.proofs.Conversations.{front_inputs, in_order_join, in_order_none, inputs_join}
 
 -- ---- what is planned grows

@@ -1,4 +1,4 @@
-use Rattle.std.proofs.Common.{◌≡◌, ◌⊎◌, refl, ap, ◌∙◌, subst, [], ℕ, List, Option, None, Some, Ok, Err, arith, length}
+use Rattle.std.proofs.Common.{◌≡◌, ◌⊎◌, refl, ap, ◌∙◌, subst, [], ℕ, List, Option, Ok, Err, arith, length}
 use Rattle.std.specs.Io.KnownBytes.{IsAtEnd}
 use Rattle.rs_session.specs.Points.{Given}
 use Rattle.rs_session.specs.State.{State, closing_of, fresh, state_of}

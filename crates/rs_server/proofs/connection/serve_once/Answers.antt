@@ -1,9 +1,9 @@
-use Rattle.std.proofs.Common.{◌≡◌, ◌∙◌, ◌∷◌, [], ℕ, List, Option, Ok, Err, ap, sym, subst, arith, length}
+use Rattle.std.proofs.Common.{◌≡◌, ◌∙◌, ◌∷◌, [], List, Option, Ok, Err, ap, sym, subst, arith, length}
 use Rattle.std.proofs.lemmas.List.{nil_from_length}
 use Rattle.rs_session.specs.Ahead.{AreChanges}
 use Rattle.rs_session.specs.Points.{Given, given_at}
 use Rattle.rs_session.specs.State.{gate_of}
-use Rattle.rs_server.specs.Counts.{inner_of, failures_of}
+use Rattle.rs_server.specs.Counts.{inner_of}
 use Rattle.rs_server.specs.declared.connection.Served.{Served}
 use Rattle.rs_server.proofs.Conversations.{talks_as, talks_equal, talks_planned, talks_read, talks_refused, talks_turn}
 use Rattle.rs_server.proofs.connection.serve_once.Goals as goal
