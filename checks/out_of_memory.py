@@ -161,7 +161,7 @@ def main():
         for count in (1, 2):
             # A submit takes room for its job, and the writer room for its replies.
             least = {
-                "a submit that makes no entry": count - 1,
+                "a submit that makes no entry": 2,
                 "a submit whose entry is held": 2,
                 "the last submit": 3 - count,
             }
