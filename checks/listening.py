@@ -15,6 +15,7 @@ from checks.listening_ends import (
 from checks.listening_messages import wanted
 from checks.listening_places import (
     all_connections_served,
+    bursts,
     few_threads,
     short_connections,
     sixty_four_places,
@@ -47,6 +48,7 @@ def worked_examples():
 CHECKS = (
     sixty_four_places,
     short_connections,
+    bursts,
     one_history,
     few_threads,
     abrupt_ends,

@@ -2,11 +2,13 @@
 threads. Part of `checks/listening`."""
 
 import tempfile
+import threading
 from concurrent.futures import ThreadPoolExecutor
 
 from checks.listening_messages import all_replayed, publish, replayed, subscribe, topic, wanted
+from harness import packets
 from harness.client import Client
-from harness.packets import CONNACK, CONNECT, PUBACK, SUBACK
+from harness.packets import CONNACK, CONNECT, PUBACK, SUBACK, puback
 from harness.program import preloaded
 from harness.server import Server
 
@@ -48,6 +50,45 @@ def short_connections(count=1_000):
             reader.ask(subscribe(b"#"), SUBACK + b"".join(kept))
             reader.disconnect()
         wanted(server.ended() == (0, f"rstored: served {count + 1}\n", ""), "another end")
+
+
+def bursts(rounds=10, size=200, own=4):
+    """64 clients at once send publications of QoS 0, and as many of QoS 1 as they may, in one
+    piece, again and again. Each is acknowledged, the last of each topic is there, and at the end
+    the store is known to have taken all."""
+    acknowledged = range(0, size, size // 15)
+
+    def burst(number, turn):
+        """Its bytes, and the acknowledgements."""
+        sent = [
+            packets.publish(
+                topic(number * own + at % own),
+                b"%d.%d" % (turn, at),
+                qos=int(at in acknowledged),
+                identifier=at + 1,
+            )
+            for at in range(size)
+        ]
+        return b"".join(sent), b"".join(puback(at + 1) for at in acknowledged)
+
+    def send_all(number):
+        made = [burst(number, turn) for turn in range(rounds)]
+        with Client(server).connect() as client:
+            all_are_ready.wait()
+            for sent, answers in made:
+                client.ask(sent, answers)
+            client.disconnect()
+
+    all_are_ready = threading.Barrier(MANY)
+    with Server(places=MANY, connections=MANY + 1) as server:
+        with ThreadPoolExecutor(MANY) as threads:
+            list(threads.map(send_all, range(MANY)))
+        with Client(server).connect() as reader:
+            last = [b"%d.%d" % (rounds - 1, size - own + at) for at in range(own)]
+            kept = [replayed(topic(each), last[each % own]) for each in range(MANY * own)]
+            reader.ask(subscribe(b"#"), SUBACK + b"".join(kept))
+            reader.disconnect()
+        wanted(server.ended() == (0, f"rstored: served {MANY + 1}\n", ""), "another end")
 
 
 def few_threads(connections=2 * MANY):
