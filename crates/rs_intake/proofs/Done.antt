@@ -14,7 +14,7 @@ use Rattle.rs_intake.specs.Done.{Answer, AreAnswered, AreDone, AreRefusedBehind,
 use Rattle.rs_intake.specs.Parts.{IsPart}
 use Rattle.rs_intake.specs.Sweeps.{AreForJobs, IsSweptAtMost, Serves, without_sweeps}
 use Rattle.rs_intake.proofs.Parts.{part_front, part_rises}
-use Rattle.rs_intake.proofs.Sweeps.{job_rises, adds_kept, held_kept, no_memory_kept, serves_job, serves_refused, serves_start, settled_kept, without_cleaned, without_more}
+use Rattle.rs_intake.proofs.Sweeps.{job_rises, adds_kept, held_kept, no_memory_kept, serves_job, serves_refused, serves_start, released_kept, without_cleaned, without_more}
 
 -- ---- a put
 
@@ -32,7 +32,7 @@ pub put_done : (limit : ℕ) (w w' : Written) (e : Entry) (answer : Answer) → 
 put_done limit w w' e (Ok r) rises adds entry number told refuses =
     let same = added_kept limit (kept_of w) e w' adds in
     (adds_kept limit (kept_of w) e w' adds, (entry, number ∙ ap length same, told ∙ same))
-put_done limit w w' e (Err Full) rises adds entry number told refuses = (refuses.0, settled_kept w w' refuses.1)
+put_done limit w w' e (Err Full) rises adds entry number told refuses = (refuses.0, released_kept w w' refuses.1)
 put_done limit w w' e (Err Stale) rises adds entry number told refuses = refuses.0 rises
 put_done limit w w' e (Err NoMemory) rises adds entry number told refuses = no_memory_kept limit w e w' refuses
 put_done limit w w' e (Err Held) rises adds entry number told refuses = held_kept limit w e w' refuses

@@ -11,7 +11,7 @@ use Rattle.rs_store.specs.Adding.{Adds}
 use Rattle.rs_store.specs.History.{IsLegal, NeedsSweepAfter, SerialsRise, cleaned, extended, last_serial, serials_of, sweep_after}
 use Rattle.rs_store.proofs.Histories.{last_is_above, legal_front, serials_rise_more}
 use Rattle.rs_store.proofs.Needed.{all_needed, needed_cleaned, needed_more, needed_none, needed_weaker}
-use Rattle.rs_version.specs.Writer.{Refuses, Written, kept_of, settled, shows}
+use Rattle.rs_version.specs.Writer.{Refuses, Written, kept_of, released, shows}
 use Rattle.rs_version.specs.declared.fault.PutFault.TheVariants.{Held, NoMemory}
 use Rattle.rs_intake.specs.Parts.{IsPart}
 use Rattle.rs_intake.specs.Sweeps.{AreForJobs, IsSweptAtMost, Serves, without_sweeps}
@@ -158,11 +158,11 @@ serves_start limit jobs kept no_jobs none =
 
 -- ---- what a put leaves
 
-pub settled_kept : (w w' : Written) → w' ≡ settled w → kept_of w' ≡ kept_of w
-settled_kept w w' is = ap kept_of is ∙ append-nil (kept_of w)
+pub released_kept : (w w' : Written) → w' ≡ released w → kept_of w' ≡ kept_of w
+released_kept w w' is = ap kept_of is ∙ append-nil (kept_of w)
 
-pub retried_kept : {A E : Type 0} (answer : Result A E) (w w' : Written) → OnOk answer (w' ≡ settled w) → OnErr answer ((w.held ≢ None) × (w' ≡ w)) → kept_of w' ≡ kept_of w
-retried_kept (Ok a) w w' done refused = settled_kept w w' done
+pub retried_kept : {A E : Type 0} (answer : Result A E) (w w' : Written) → OnOk answer (w' ≡ released w) → OnErr answer ((w.held ≢ None) × (w' ≡ w)) → kept_of w' ≡ kept_of w
+retried_kept (Ok a) w w' done refused = released_kept w w' done
 retried_kept (Err e) w w' done refused = ap kept_of refused.1
 
 pub adds_kept : (limit : ℕ) (history : List Entry) (e : Entry) (w : Written) → Adds limit history e (λ list. w ≡ shows list) → Adds limit history e (λ list. kept_of w ≡ list)
@@ -174,9 +174,9 @@ held_kept limit w e w' (inl r) = inl (r.0, ap kept_of r.1)
 held_kept limit w e w' (inr r) = inr (r.0, ap kept_of r.1)
 
 pub no_memory_kept : (limit : ℕ) (w : Written) (e : Entry) (w' : Written) → Refuses limit w e NoMemory w' → IsSweptAtMost limit (kept_of w) e (kept_of w')
-no_memory_kept limit w e w' (inl r) = inl (settled_kept w w' r.1)
+no_memory_kept limit w e w' (inl r) = inl (released_kept w w' r.1)
 no_memory_kept limit w e w' (inr (inl r)) = ⊎_elim
-    (λ k. inl (settled_kept w w' k))
+    (λ k. inl (released_kept w w' k))
     (λ t. ⊎_elim
     (λ k. inr (r.0, ap kept_of k))
     (λ k. inr (r.0, ap kept_of k ∙ append-nil (cleaned r.0.message.received (kept_of w))))

@@ -10,7 +10,7 @@ ghost use Rattle.rs_intake.specs.Refusals.{IsFaultOfReply, IsRefused, fault_for}
 
 use crate::line::SeatLine;
 use crate::name::LineName;
-use crate::reply::Reply;
+use crate::reply::WriterReply;
 use rs_message::{Entry, Operation, SubmitFault, is_same};
 use rs_version::{PutFault, Receipt};
 use std::marker::PhantomData;
@@ -36,7 +36,10 @@ fn fault_of(fault: PutFault) -> SubmitFault
 }
 
 /// The receipt for this entry, or why the reply has none ([`submit`](Intake::submit) has the faults).
-pub fn read_reply<N: LineName>(reply: Reply<N>, entry: &Entry) -> Result<Receipt<N>, SubmitFault>
+pub fn read_reply<N: LineName>(
+    reply: WriterReply<N>,
+    entry: &Entry,
+) -> Result<Receipt<N>, SubmitFault>
     ensures entry { IfOk result (λ r. r.entry ≡ entry.now) }
     ensures stands { IfOk result (λ r. StandsAt r.entry r.number r.told) }
     ensures legal { IfOk result (λ r. IsLegal N.limit r.told) }
@@ -44,7 +47,7 @@ pub fn read_reply<N: LineName>(reply: Reply<N>, entry: &Entry) -> Result<Receipt
     ensures came { IfOk result (λ r. reply ≡ record { origin = entry.now.origin; answer = Ok r }) }
     ensures refused { IfErr result (λ f. IsFaultOfReply entry.now reply f) }
 {
-    let Reply { origin, answer } = reply;
+    let WriterReply { origin, answer } = reply;
     if origin != entry.origin {
         return Err(SubmitFault::Strange);
     }

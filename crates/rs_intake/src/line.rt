@@ -20,7 +20,7 @@ ghost use Rattle.rs_intake.specs.declared.job.TheConstants.{MAX_CHANGES};
 
 use crate::job::{Changes, Job, MAX_CHANGES};
 use crate::name::LineName;
-use crate::reply::{Reply, ReplyReceiver};
+use crate::reply::{ReplyReceiver, WriterReply};
 use crate::rule::{JobSender, PassView};
 use crate::steps::send;
 use crate::waiting::Gone;
@@ -462,7 +462,7 @@ impl<N: LineName> SeatLine<N> {
     }
 
     /// What the writer answers. `None` if it is gone.
-    pub(crate) fn receive<R: Wait>(&mut self, rt: &R) -> Option<Reply<N>>
+    pub(crate) fn receive<R: Wait>(&mut self, rt: &R) -> Option<WriterReply<N>>
         ensures same { (self.new.place ≡ self.old.place) × (self.new.serial ≡ self.old.serial) × (self.new.sent ≡ self.old.sent) }
         ensures heard { MatchOption result (self.new.heard ≡ self.old.heard) (λ reply. self.new.heard ≡ self.old.heard ++ reply ∷ []) }
         ensures ahead { (self.new.expected ≡ self.old.expected) × (self.new.ahead ≡ self.old.ahead) }

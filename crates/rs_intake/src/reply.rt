@@ -16,14 +16,14 @@ use std::sync::Wait;
 
 /// What the writer answers to a change.
 #[derive(Drop)]
-pub struct Reply<N: StoreName> {
+pub struct WriterReply<N: StoreName> {
     /// The origin of the change.
     pub origin: Origin,
     /// The receipt, or why there is none.
     pub answer: Result<Receipt<N>, PutFault>,
 }
 
-impl<N: StoreName> Model for Reply<N> {
+impl<N: StoreName> Model for WriterReply<N> {
     ghost use Rattle.rs_intake.specs.Done.{ReplyValue};
 
     ghost Value = { ReplyValue };
@@ -31,7 +31,7 @@ impl<N: StoreName> Model for Reply<N> {
     ghost view = { λ r. record { origin = r.origin; answer = r.answer } };
 }
 
-impl<N: StoreName> Reply<N> {
+impl<N: StoreName> WriterReply<N> {
     /// Whether the change is not kept. One that is held is kept.
     pub fn is_refused(&self) -> bool
         ensures { result ≡ is_refused self.now.answer }
@@ -62,13 +62,13 @@ impl<N: StoreName> Reply<N> {
 
 /// What the writer answers to the changes of one job, in their order. Contracts see a list of replies.
 #[derive(Drop)]
-pub struct Replies<N: StoreName> {
-    made: VecDeque<Reply<N>>,
+pub struct WriterReplies<N: StoreName> {
+    made: VecDeque<WriterReply<N>>,
     // Behind the others, those that say that memory was refused. If there is none for any other reply, they are the entries of the job.
     refused: VecDeque<Entry>,
 }
 
-impl<N: StoreName> Model for Replies<N> {
+impl<N: StoreName> Model for WriterReplies<N> {
     ghost use Rattle.std.specs.Prelude.{List, ◌++◌, map};
     ghost use Rattle.rs_intake.specs.Done.{ReplyValue, refused_reply};
 
@@ -77,46 +77,46 @@ impl<N: StoreName> Model for Replies<N> {
     ghost view = { λ r. r.made.items ++ map refused_reply r.refused.items };
 }
 
-impl<N: StoreName> Replies<N> {
+impl<N: StoreName> WriterReplies<N> {
     /// No replies.
-    fn none(alloc: Global) -> Replies<N>
+    fn none(alloc: Global) -> WriterReplies<N>
         ensures { result ≡ [] }
     {
-        Replies {
+        WriterReplies {
             made: VecDeque::new(alloc),
             refused: VecDeque::new(alloc),
         }
     }
 
     /// These replies.
-    pub(crate) fn of(alloc: Global, replies: Vec<Reply<N>>) -> Replies<N>
+    pub(crate) fn of(alloc: Global, replies: Vec<WriterReply<N>>) -> WriterReplies<N>
         ensures { result ≡ replies.items }
     {
-        Replies {
+        WriterReplies {
             made: VecDeque::from_vec(replies),
             refused: VecDeque::new(alloc),
         }
     }
 
     /// A reply to each of these changes, that memory was refused. Takes no memory.
-    pub(crate) fn refusing(alloc: Global, changes: Vec<Entry>) -> Replies<N>
+    pub(crate) fn refusing(alloc: Global, changes: Vec<Entry>) -> WriterReplies<N>
         ensures { result ≡ map refused_reply changes.items }
     {
-        Replies {
+        WriterReplies {
             made: VecDeque::new(alloc),
             refused: VecDeque::from_vec(changes),
         }
     }
 
     /// Takes the first reply.
-    fn next(&mut self) -> Option<Reply<N>>
+    fn next(&mut self) -> Option<WriterReply<N>>
         ensures { MatchOption result ((self.old ≡ []) × (self.new ≡ [])) (λ reply. self.old ≡ reply ∷ self.new) }
     {
         if let Some(reply) = self.made.pop_front() {
             return Some(reply);
         }
         match self.refused.pop_front() {
-            Some(change) => Some(Reply {
+            Some(change) => Some(WriterReply {
                 origin: change.origin,
                 answer: Err(PutFault::NoMemory),
             }),
@@ -129,7 +129,7 @@ impl<N: StoreName> Replies<N> {
 pub struct WayPass<N: StoreName> {
     pub sends: bool,
     pub receives: bool,
-    pub replies: LinkedList<Reply<N>>,
+    pub replies: LinkedList<WriterReply<N>>,
 }
 
 impl<N: StoreName> Model for WayPass<N> {
@@ -144,7 +144,7 @@ impl<N: StoreName> Model for WayPass<N> {
 /// the replies to the changes of one job.
 pub struct ReplyRule;
 
-impl<N: StoreName> Protocol<Replies<N>, WayPass<N>> for ReplyRule {
+impl<N: StoreName> Protocol<WriterReplies<N>, WayPass<N>> for ReplyRule {
     ghost use Rattle.rs_intake.specs.ReplyRule.{Replies, both_ends};
 
     ghost holds = { Replies };
@@ -155,13 +155,13 @@ impl<N: StoreName> Protocol<Replies<N>, WayPass<N>> for ReplyRule {
 /// A send or a receive: the replies join those before them.
 struct Counting;
 
-impl<N: StoreName> Outcome<Replies<N>, WayPass<N>> for Counting {
+impl<N: StoreName> Outcome<WriterReplies<N>, WayPass<N>> for Counting {
     ghost use Rattle.rs_intake.specs.ReplyRule.{Counts};
 
     ghost then = { Counts };
 }
 
-impl<N: StoreName> Lesson<Replies<N>, WayPass<N>> for Counting {
+impl<N: StoreName> Lesson<WriterReplies<N>, WayPass<N>> for Counting {
     ghost fact = { λ v items. Unit {0} };
 }
 
@@ -179,8 +179,8 @@ impl<N: StoreName> Split<WayPass<N>> for Ends {
 /// The writer's end. Contracts see the replies that were sent.
 #[derive(Drop)]
 pub struct ReplySender<N: StoreName> {
-    to: RuledSender<Replies<N>, WayPass<N>, ReplyRule>,
-    pass: Pass<Replies<N>, WayPass<N>>,
+    to: RuledSender<WriterReplies<N>, WayPass<N>, ReplyRule>,
+    pass: Pass<WriterReplies<N>, WayPass<N>>,
 }
 
 impl<N: StoreName> Model for ReplySender<N> {
@@ -199,10 +199,10 @@ impl<N: StoreName> Model for ReplySender<N> {
 /// The line's end. Contracts see the replies that were taken from it, and those that came and were not taken yet.
 #[derive(Drop)]
 pub struct ReplyReceiver<N: StoreName> {
-    from: RuledReceiver<Replies<N>, WayPass<N>, ReplyRule>,
-    pass: Pass<Replies<N>, WayPass<N>>,
+    from: RuledReceiver<WriterReplies<N>, WayPass<N>, ReplyRule>,
+    pass: Pass<WriterReplies<N>, WayPass<N>>,
     patience: Patience,
-    came: Replies<N>,
+    came: WriterReplies<N>,
     alloc: Global,
 }
 
@@ -227,7 +227,9 @@ pub fn way_back<N: StoreName>(
 ) -> Result<(ReplySender<N>, ReplyReceiver<N>), AllocError>
     ensures { IfOk result (λ r. (r.0 ≡ []) × (r.1.heard ≡ [])) }
 {
-    let (to, from, mut pass) = bounded_with::<Replies<N>, WayPass<N>, ReplyRule, Global>(alloc, 1)?;
+    let (to, from, mut pass) = bounded_with::<WriterReplies<N>, WayPass<N>, ReplyRule, Global>(
+        alloc, 1,
+    )?;
     let other = to.another::<Ends>(&mut pass);
     Ok((
         ReplySender { to, pass },
@@ -235,7 +237,7 @@ pub fn way_back<N: StoreName>(
             from,
             pass: other,
             patience: Patience::new(),
-            came: Replies::none(alloc),
+            came: WriterReplies::none(alloc),
             alloc,
         },
     ))
@@ -243,10 +245,10 @@ pub fn way_back<N: StoreName>(
 
 impl<N: StoreName> ReplySender<N> {
     /// Sends the replies. If the line is gone, they are dropped. Takes no memory.
-    pub fn send<R: Wait>(&mut self, rt: &R, replies: Replies<N>) -> Result<(), Gone>
+    pub fn send<R: Wait>(&mut self, rt: &R, replies: WriterReplies<N>) -> Result<(), Gone>
         ensures { MatchResult result (λ _. self.new ≡ self.old ++ replies) (λ _. self.new ≡ self.old) }
     {
-        waiting::send::<Replies<N>, WayPass<N>, ReplyRule, Counting, R>(
+        waiting::send::<WriterReplies<N>, WayPass<N>, ReplyRule, Counting, R>(
             rt,
             &self.to,
             &mut self.pass,
@@ -257,7 +259,7 @@ impl<N: StoreName> ReplySender<N> {
 
 impl<N: StoreName> ReplyReceiver<N> {
     /// Takes the next reply that came.
-    fn take(&mut self) -> Option<Reply<N>>
+    fn take(&mut self) -> Option<WriterReply<N>>
         ensures { MatchOption result ((self.old.came ≡ []) × (self.new.came ≡ []) × (self.new.heard ≡ self.old.heard)) (λ reply. (self.new.heard ≡ self.old.heard ++ reply ∷ []) × (self.old.came ≡ reply ∷ self.new.came)) }
     {
         self.came.next()
@@ -268,7 +270,7 @@ impl<N: StoreName> ReplyReceiver<N> {
         requires { self.old.came ≡ [] }
         ensures { self.new.heard ≡ self.old.heard }
     {
-        match receive::<Replies<N>, WayPass<N>, ReplyRule, Counting, R>(
+        match receive::<WriterReplies<N>, WayPass<N>, ReplyRule, Counting, R>(
             rt,
             &self.from,
             &mut self.pass,
@@ -283,7 +285,7 @@ impl<N: StoreName> ReplyReceiver<N> {
     }
 
     /// The next reply, for which it waits if none has come that was not taken. `None` if the writer is gone.
-    pub fn wait<R: Wait>(&mut self, rt: &R) -> Option<Reply<N>>
+    pub fn wait<R: Wait>(&mut self, rt: &R) -> Option<WriterReply<N>>
         ensures { MatchOption result (self.new.heard ≡ self.old.heard) (λ reply. self.new.heard ≡ self.old.heard ++ reply ∷ []) }
     {
         if let Some(reply) = self.take() {
@@ -299,6 +301,6 @@ impl<N: StoreName> ReplyReceiver<N> {
     pub fn skip(&mut self)
         ensures { self.new.heard ≡ self.old.heard ++ self.old.came }
     {
-        self.came = Replies::none(self.alloc);
+        self.came = WriterReplies::none(self.alloc);
     }
 }

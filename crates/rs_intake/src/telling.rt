@@ -12,7 +12,7 @@ ghost use Rattle.rs_intake.specs.Sweeps.{Serves};
 
 use crate::job::Changes;
 use crate::name::LineName;
-use crate::reply::{Replies, Reply, ReplySender};
+use crate::reply::{ReplySender, WriterReplies, WriterReply};
 use crate::waiting::Gone;
 use rs_message::Entry;
 use rs_version::{PutFault, VersionWriter};
@@ -20,7 +20,10 @@ use std::alloc::Global;
 use std::sync::Wait;
 
 /// Puts a change, and makes the reply to its line. A Sweep may have been appended before the change, or without it.
-fn reply_to<N: LineName, R: Wait + Drop>(writer: &mut VersionWriter<N, R>, job: Entry) -> Reply<N>
+fn reply_to<N: LineName, R: Wait + Drop>(
+    writer: &mut VersionWriter<N, R>,
+    job: Entry,
+) -> WriterReply<N>
     requires no_sweep { is_sweep job.operation ≡ false }
     requires rises { SerialsRise (extended (kept_of writer.old) job) }
     ensures done { IsDone N.limit (kept_of writer.old) job result.answer (kept_of writer.new) }
@@ -29,7 +32,7 @@ fn reply_to<N: LineName, R: Wait + Drop>(writer: &mut VersionWriter<N, R>, job: 
 {
     let origin = job.origin;
     let answer = writer.put(job);
-    Reply { origin, answer }
+    WriterReply { origin, answer }
 }
 
 /// Puts the next change of a job, unless one before it is held: then nothing is done, and it is told that memory was refused. `has_held`
@@ -38,7 +41,7 @@ fn reply_to_next<N: LineName, R: Wait + Drop>(
     writer: &mut VersionWriter<N, R>,
     job: Entry,
     has_held: &mut bool,
-) -> Reply<N>
+) -> WriterReply<N>
     requires no_sweep { is_sweep job.operation ≡ false }
     requires rises { SerialsRise (extended (kept_of writer.old) job) }
     ensures done { IsDone N.limit (kept_of writer.old) job result.answer (kept_of writer.new) }
@@ -48,7 +51,7 @@ fn reply_to_next<N: LineName, R: Wait + Drop>(
     ensures held { has_held.new ≡ (has_held.old || is_held result.answer) }
 {
     if *has_held {
-        return Reply {
+        return WriterReply {
             origin: job.origin,
             answer: Err(PutFault::NoMemory),
         };
@@ -63,8 +66,8 @@ fn reply_to_next<N: LineName, R: Wait + Drop>(
 fn reply_to_each<N: LineName, R: Wait + Drop>(
     writer: &mut VersionWriter<N, R>,
     jobs: Vec<Entry>,
-    room: Vec<Reply<N>>,
-) -> (Vec<Reply<N>>, u64)
+    room: Vec<WriterReply<N>>,
+) -> (Vec<WriterReply<N>>, u64)
     requires room { (room.items ≡ []) × (length jobs.items ≤ vec_capacity room) }
     requires changes { AreChanges jobs.items }
     requires rises { (before : List Entry) × Serves N.limit before (kept_of writer.old) × SerialsRise (before ++ jobs.items) }
@@ -90,17 +93,17 @@ fn replies_to<N: LineName, R: Wait + Drop>(
     alloc: Global,
     writer: &mut VersionWriter<N, R>,
     jobs: Vec<Entry>,
-) -> (Replies<N>, u64)
+) -> (WriterReplies<N>, u64)
     requires changes { AreChanges jobs.items }
     requires rises { (before : List Entry) × Serves N.limit before (kept_of writer.old) × SerialsRise (before ++ jobs.items) }
     ensures { AreReplied N.limit writer.old jobs.items result.0 result.1 writer.new }
 {
     let Ok(room) = Vec::with_capacity(alloc, jobs.len()) else {
         let refused = jobs.len() as u64;
-        return (Replies::refusing(alloc, jobs), refused);
+        return (WriterReplies::refusing(alloc, jobs), refused);
     };
     let (replies, refused) = reply_to_each(writer, jobs, room);
-    (Replies::of(alloc, replies), refused)
+    (WriterReplies::of(alloc, replies), refused)
 }
 
 /// The writer's ends of the ways back to the lines, that of place 1 first. What a line is told is what is sent by its way back, and

@@ -152,7 +152,7 @@ impl Eq for Found {
     ghost laws = { found_eq_equiv };
 }
 
-/// A change of a topic's retained message (3.3.1.3), or of all that are expired.
+/// An operation on a topic's retained message (3.3.1.3), or on all that are expired.
 #[derive(Drop, PartialEq, Eq)]
 pub enum Operation {
     /// The message becomes the topic's retained message, in place of any other.
@@ -214,12 +214,12 @@ impl Operation {
     }
 }
 
-/// One change of the store and its origin.
+/// One operation on the store and its origin.
 #[derive(Drop, PartialEq, Eq)]
 pub struct Entry {
     /// Where it came from.
     pub origin: Origin,
-    /// What it changes.
+    /// What it does to the store.
     pub operation: Operation,
 }
 

@@ -4,7 +4,7 @@ use bytes::Bytes;
 use rs_message::{Found, Message};
 use rs_packet::{PacketId, Properties, Qos, RECEIVE_MAXIMUM, SubscriptionId, encode};
 use rs_topic::TopicName;
-use rs_window::{Ack, Inbound, MAX_QUOTA, MAX_WAITING, Publish, Window, WindowFault};
+use rs_window::{Ack, Inbound, MAX_QUOTA, MAX_WAITING, Outgoing, Window, WindowFault};
 use std::alloc::Global;
 use std::process::Abort;
 use std::test::Fail;
@@ -107,7 +107,7 @@ fn queue_one(alloc: Global, window: &mut Window, one: &One) -> Result<Answer, Fa
     Ok(queued(window.queue(all, one.granted, subscription)))
 }
 
-fn given(publish: Option<Publish>) -> Answer {
+fn given(publish: Option<Outgoing>) -> Answer {
     let Some(publish) = publish else {
         return Answer::Nothing;
     };
@@ -130,7 +130,7 @@ fn given_in_order(window: &mut Window, count: u16) -> Answer {
     Answer::Done
 }
 
-fn given_as(alloc: Global, publish: Option<Publish>, sent: &[u8]) -> Result<Answer, Fail> {
+fn given_as(alloc: Global, publish: Option<Outgoing>, sent: &[u8]) -> Result<Answer, Fail> {
     let Some(publish) = publish else {
         return Ok(Answer::Nothing);
     };

@@ -26,7 +26,7 @@ use Rattle.std.proofs.lemmas.Map.Keys.{sorted_head, sorted_tail}
 use Rattle.rs_message.specs.Values.{OriginValue}
 use Rattle.rs_window.specs.Calls as window
 use Rattle.rs_window.specs.Packets.{reply_of}
-use Rattle.rs_window.specs.Values.{PublishValue}
+use Rattle.rs_window.specs.Values.{OutgoingValue}
 use Rattle.rs_session.specs.declared.open.Open.{Open}
 use Rattle.rs_session.specs.declared.open.Outcome.{Outcome}
 use Rattle.rs_session.specs.declared.open.Outcome.TheVariants.{Replies, Closes, Leaves}
@@ -203,7 +203,7 @@ among_append r (x ∷ xs) ys (inr h) = by_case (among_append r xs ys h)
     by_case (inl a) = inl (inr a)
     by_case (inr b) = inr b
 
-no_ack_given : (r : Reply) (given : List PublishValue) → IsAck r → Among r (map reply_of given) → ⊥
+no_ack_given : (r : Reply) (given : List OutgoingValue) → IsAck r → Among r (map reply_of given) → ⊥
 no_ack_given r [] ack h = h
 no_ack_given r (p ∷ given) ack (inl e) = subst IsAck (sym e) ack
 no_ack_given r (p ∷ given) ack (inr h) = no_ack_given r given ack h
@@ -231,7 +231,7 @@ replied_by turn maximum (Replies answer) left old mid due r d same g ack h =
     let (given, n, is, run, whole) = given_calls turn.given.now due mid left turn.replies g.left g.last turn.to.state (phase_of mid _ same) g.given g.none_left in
     by_case given (among_append r (listed due) (map reply_of given) (subst (λ (rs : List Reply). Among r rs) whole h))
   where
-    by_case : (given : List PublishValue) → Among r (listed due) ⊎ Among r (map reply_of given) → Replies answer ≡ Replies (Some r)
+    by_case : (given : List OutgoingValue) → Among r (listed due) ⊎ Among r (map reply_of given) → Replies answer ≡ Replies (Some r)
     by_case given (inl a) = due_is maximum (Replies answer) r ack (subst (λ (o : Option Reply). Among r (listed o)) d a)
     by_case given (inr b) = absurd (no_ack_given r given ack b)
 replied_by turn maximum (Closes code) left old mid due r d same g ack h =

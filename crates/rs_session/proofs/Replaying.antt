@@ -21,7 +21,7 @@ use Rattle.rs_window.specs.Calls.{Call, Queue, Next, Acknowledge}
 use Rattle.rs_window.specs.Packets.{reply_of, publication_of}
 use Rattle.rs_window.specs.Replay as calls
 use Rattle.rs_window.specs.State as window_state
-use Rattle.rs_window.specs.Values.{PublishValue}
+use Rattle.rs_window.specs.Values.{OutgoingValue}
 use Rattle.rs_window.specs.Waiting.{AllDropped}
 use Rattle.rs_window.specs.declared.queue.Waiting.{Waiting}
 use Rattle.rs_window.specs.declared.fault.Ack.{Ack}
@@ -245,17 +245,17 @@ row_calls Disconnected given from answered outcome to (code, i, out, unchanged) 
 
 -- ---- the replies
 
-none_next : (now : ℕ) (old new : window_state.State) (publish : Option PublishValue) → None ≡ option_map reply_of publish → window.IsNext now old publish new → window.Step old (Next now None) new
+none_next : (now : ℕ) (old new : window_state.State) (publish : Option OutgoingValue) → None ≡ option_map reply_of publish → window.IsNext now old publish new → window.Step old (Next now None) new
 none_next now old new None e step = step
 none_next now old new (Some p) e step = absurd (none-some (reply_of p) e)
 
-some_next : (now : ℕ) (answer : Reply) (old new : window_state.State) (publish : Option PublishValue) → Some answer ≡ option_map reply_of publish → window.IsNext now old publish new
-    → (p : PublishValue) × (answer ≡ reply_of p) × window.Step old (Next now (Some p)) new
+some_next : (now : ℕ) (answer : Reply) (old new : window_state.State) (publish : Option OutgoingValue) → Some answer ≡ option_map reply_of publish → window.IsNext now old publish new
+    → (p : OutgoingValue) × (answer ≡ reply_of p) × window.Step old (Next now (Some p)) new
 some_next now answer old new None e step = absurd (none-some answer (sym e))
 some_next now answer old new (Some p) e step = (p, same_Some answer (reply_of p) e, step)
 
 abbrev pub AreGiven : ℕ → Option Reply → Open → List Reply → State → Type 0
-AreGiven now due o replies new = (given : List PublishValue) × (n : Open) × (new.phase ≡ phase.Open n) × calls.Run o.window (giving now given) n.window × (replies ≡ listed due ++ map reply_of given)
+AreGiven now due o replies new = (given : List OutgoingValue) × (n : Open) × (new.phase ≡ phase.Open n) × calls.Run o.window (giving now given) n.window × (replies ≡ listed due ++ map reply_of given)
 
 last_given : (now : ℕ) (due : Option Reply) (old : State) (o : Open) (new : State) → old.phase ≡ phase.Open o → IsGiven now due old None None new → AreGiven now due o [] new
 last_given now (Some first) old o new e (g, d, same) = absurd (none-some first g)
@@ -503,7 +503,7 @@ dropped_first packet_maximum now [] ws sent all h = h
 dropped_first packet_maximum now (w ∷ dropped) ws sent (first, all) h = inl (first, dropped_first packet_maximum now dropped ws sent all h)
 
 -- what leaves the queue while the window gives these
-front_given : (packet_maximum now : ℕ) (given : List PublishValue) (rest : List Call) (front : List Waiting) → calls.HasLeft packet_maximum (giving now given ++ rest) front
+front_given : (packet_maximum now : ℕ) (given : List OutgoingValue) (rest : List Call) (front : List Waiting) → calls.HasLeft packet_maximum (giving now given ++ rest) front
     → (gone : List Waiting) × (more : List Waiting) × (front ≡ gone ++ more) × AreSentOrDropped packet_maximum now gone (map publication_of given) × calls.HasLeft packet_maximum rest more
 front_given packet_maximum now [] rest front (gone, more, e, all, is) =
     (gone, more, e, subst (λ (ws : List Waiting). AreSentOrDropped packet_maximum now ws []) (append-nil gone) (dropped_first packet_maximum now gone [] [] all refl), is)
@@ -514,7 +514,7 @@ front_given packet_maximum now (p ∷ given) rest front (gone, more, e, (dropped
     e ∙ ap (λ (ws : List Waiting). ws ++ more) whole ∙ append_assoc dropped (w ∷ []) more ∙ ap (λ (ws : List Waiting). dropped ++ w ∷ ws) e_later ∙ sym (append_assoc dropped (w ∷ later) left) in
     (dropped ++ w ∷ later, left, regroup, dropped_first packet_maximum now dropped (w ∷ later) _ all here, fronts)
 
-published : (given : List PublishValue) → publications (map reply_of given) ≡ map publication_of given
+published : (given : List OutgoingValue) → publications (map reply_of given) ≡ map publication_of given
 published [] = refl
 published (p ∷ given) = ap (λ (ps : List Publication). publication_of p ∷ ps) (published given)
 

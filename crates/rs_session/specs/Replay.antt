@@ -18,7 +18,7 @@ use Rattle.rs_window.specs.Identifiers.{Kinds}
 use Rattle.rs_window.specs.Packets.{reply_of, publication_of}
 use Rattle.rs_window.specs.Replay as calls
 use Rattle.rs_window.specs.State as window_state
-use Rattle.rs_window.specs.Values.{PublishValue}
+use Rattle.rs_window.specs.Values.{OutgoingValue}
 use Rattle.rs_window.specs.Waiting.{Carries, IsDropped}
 use Rattle.rs_window.specs.declared.queue.Waiting.{Waiting}
 use Rattle.rs_window.specs.declared.window.TheConstants.{MAX_QUOTA}
@@ -88,7 +88,7 @@ IsRefused None own = own ≡ []
 IsRefused (Some (ack, id)) own = own ≡ Acknowledge ack id (Err WrongKind) ∷ []
 
 -- the window gives these, and then none
-abbrev pub giving : ℕ → List PublishValue → List Call
+abbrev pub giving : ℕ → List OutgoingValue → List Call
 giving now [] = Next now None ∷ []
 giving now (p ∷ ps) = Next now (Some p) ∷ giving now ps
 
@@ -110,7 +110,7 @@ IsNoPublish answer = Unit {0}
 pub record IsServed (there : Subscriptions) (packet_maximum : ℕ) (turn : Turn) (made : List Call) : Type 0 where
   pub answer : Option Reply
   pub own : List Call
-  pub given : List PublishValue
+  pub given : List OutgoingValue
   pub called : AreCalledBy turn.given.input turn.given.now turn.answered there answer own
   pub no_publish : IsNoPublish answer
   pub whole : made ≡ own ++ giving turn.given.now given
@@ -177,7 +177,7 @@ abbrev pub AreSentOrDropped : ℕ → ℕ → List Waiting → List Publication 
 AreSentOrDropped packet_maximum now [] sent = sent ≡ []
 AreSentOrDropped packet_maximum now (w ∷ ws) sent =
     (IsDropped packet_maximum now w × AreSentOrDropped packet_maximum now ws sent)
-    ⊎ ((p : PublishValue) × (more : List Publication) × (sent ≡ publication_of p ∷ more) × Carries packet_maximum now w p × AreSentOrDropped packet_maximum now ws more)
+    ⊎ ((p : OutgoingValue) × (more : List Publication) × (sent ≡ publication_of p ∷ more) × Carries packet_maximum now w p × AreSentOrDropped packet_maximum now ws more)
 
 -- turn by turn, these leave the queue, and the PUBLISH packets among the replies are what is sent of them
 abbrev pub AreSent : ℕ → List Turn → List Waiting → Type 0

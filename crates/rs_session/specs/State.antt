@@ -5,7 +5,7 @@ use Rattle.rs_packet.specs.Replies.{reply_bytes}
 use Rattle.rs_message.specs.declared.entry.Entry.{Entry}
 use Rattle.rs_window.specs.Calls.{IsNext}
 use Rattle.rs_window.specs.Packets.{reply_of}
-use Rattle.rs_window.specs.Values.{PublishValue}
+use Rattle.rs_window.specs.Values.{OutgoingValue}
 use Rattle.rs_window.specs.declared.queue.Waiting.{Waiting}
 use Rattle.rs_session.specs.Gate.{Mark}
 use Rattle.rs_session.specs.Points.{Point, point_at}
@@ -71,7 +71,7 @@ within maximum r = if nat_le (length (reply_bytes r)) maximum then Some r else N
 
 -- what the window gives at a given time, as a reply
 pub record IsSent (now : ℕ) (old : Open) (given : Option Reply) (new : Open) : Type 0 where
-  pub publish : Option PublishValue
+  pub publish : Option OutgoingValue
   pub next : IsNext now old.window publish new.window
   pub reply : given ≡ option_map reply_of publish
   pub rest : new ≡ record old { window = new.window }

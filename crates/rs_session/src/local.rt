@@ -10,7 +10,7 @@ ghost use Rattle.rs_session.specs.Local.{catalogue_of, local_mark, next_entry, I
 
 use crate::gate::Gate;
 use rs_message::{Entry, Found, Operation, Origin, SubmitFault};
-use rs_store::{Catalogue, Refusal, Store, TopicLimit};
+use rs_store::{CalmCatalogue, Catalogue, Refusal, TopicLimit};
 use rs_topic::TopicFilter;
 use std::alloc::{AllocError, Global};
 
@@ -21,7 +21,7 @@ const PLACE: u8 = 1;
 /// for each list of entries that its catalogue stands for.
 #[derive(Drop)]
 pub struct LocalGate<C: Catalogue> {
-    store: Store<C>,
+    store: CalmCatalogue<C>,
 }
 
 impl<C: Catalogue> LocalGate<C> {
@@ -31,7 +31,7 @@ impl<C: Catalogue> LocalGate<C> {
         ensures list { IfOk result (λ gate. Stands (C.content (catalogue_of gate)) []) }
     {
         Ok(LocalGate {
-            store: Store::new(alloc, limit)?,
+            store: CalmCatalogue::new(alloc, limit)?,
         })
     }
 

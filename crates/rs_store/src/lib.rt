@@ -3,12 +3,13 @@
 //!
 //! A [`Catalogue`] keeps the content of a list of entries: the message of each topic, the last serial of each place and of the writer,
 //! and the number of entries. [`add`] appends one entry or says why not. If a Set is one topic too many, it first appends a Sweep, by
-//! which expired messages free their topics. A [`Calm`] says from which moment on it has to look for them. A [`Store`] is a
+//! which expired messages free their topics. A [`Calm`] says from which moment on it has to look for them. A [`CalmCatalogue`] is a
 //! catalogue with its calm moment. [`MapCatalogue`] keeps the messages in one ordered map.
 #![tactic(auto)]
 
 mod answer;
 mod calm;
+mod calm_catalogue;
 mod catalogue;
 mod content;
 mod fault;
@@ -16,10 +17,10 @@ mod found;
 mod law;
 mod limit;
 mod map;
-mod store;
 
 pub use answer::{Answer, Stop};
 pub use calm::Calm;
+pub use calm_catalogue::CalmCatalogue;
 pub use catalogue::{Catalogue, add, judge};
 pub use content::Content;
 pub use fault::Refusal;
@@ -27,4 +28,3 @@ pub use found::{is_expired, lowered};
 pub use law::{content_law, sweep_law};
 pub use limit::{MAX_TOPICS, TopicLimit};
 pub use map::MapCatalogue;
-pub use store::Store;

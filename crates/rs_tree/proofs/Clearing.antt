@@ -74,7 +74,7 @@ clears_level k p path b w w' is c = clears_chain (k ∷ []) path p b w w' (rw (i
 pub clears_none : (ks p : Path) (w : Held) → behind ks p ≡ None → ClearsAs Missing (under_all ks w) (under_all ks w) p
 clears_none ks p w h = (not_behind ks p w h, refl)
 
--- ---- the message of the place itself
+-- ---- the message of the spot itself
 
 pub held_missing : (held : Option Found) (cs : List ChildValue) → IsRow cs → is_some held ≡ false → is_there [] (own held ++ parts cs) ≡ false
 held_missing held cs r none = there_own held cs r ∙ none
@@ -89,7 +89,7 @@ held_left None cs r some more = absurd (cc (some))
 held_left (Some f) [] r some more = absurd (more refl)
 held_left (Some f) (c ∷ cs) r some more = (refl, refl, full_parts (c ∷ cs) r (omega arith))
 
--- ---- a removal among what stands before, what may be the place, and what stands behind
+-- ---- a removal among what stands before, what may be the spot, and what stands behind
 
 remove_ahead : (p : Path) (r : Held) → Ahead p r → remove_entry (is_at (path_cmp p)) r ≡ r
 remove_ahead p [] a = refl

@@ -15,7 +15,7 @@ use Rattle.rs_tree.specs.Rows.{IsAhead, IsBefore, IsBehind, IsEdge, IsFrom, IsGa
 use Rattle.rs_tree.specs.Values.{ChildValue}
 use Rattle.rs_tree.proofs.Rows.{Ahead, BeforeAll, ahead_all, around, behind_up_to, edge_at, gap_front, gap_rear, in_front, in_rear, level_less, split_at, split_gap, takes_reached, there_under}
 
--- ---- an insertion among what stands before, what may be the place, and what stands behind
+-- ---- an insertion among what stands before, what may be the spot, and what stands behind
 
 insert_ahead : (p : Path) (f : Found) (r : Held) → Ahead p r → insert_entry path_cmp r p f ≡ (p, f) ∷ r
 insert_ahead p f [] a = refl
@@ -166,7 +166,7 @@ module _ (held : Option Found) (cs : List ChildValue) (r : IsRow cs) (q : List �
   row_put (Ok x) c c' small e is lv done kept = row_grown c c' small e is lv done
   row_put (Err x) c c' small e is lv done kept = row_same c c' small e is lv kept
 
--- the message of the place itself comes first
+-- the message of the spot itself comes first
 pub own_first : (held : Option Found) (f : Found) (cs : List ChildValue) → IsRow cs → ([], f) ∷ parts cs ≡ insert_entry path_cmp (own held ++ parts cs) [] f
 own_first (Some g) f cs r = refl
 own_first None f cs r = sym (insert_ahead [] f (parts cs) (ahead_all [] cs r (first cs)))

@@ -53,14 +53,14 @@ up_to_filter k moment (s ∷ w) f = at (spot_stays moment s) (up_to_filter k mom
     at true more = (f.0, more)
     at false more = more
 
-same_place : (cs : List ChildValue) (i : ℕ) (d : ChildValue) → get_or (drop i cs) 0 d ≡ get_or cs i d
-same_place [] zero d = refl
-same_place [] (suc i) d = refl
-same_place (c ∷ cs) zero d = refl
-same_place (c ∷ cs) (suc i) d = same_place cs i d
+same_index : (cs : List ChildValue) (i : ℕ) (d : ChildValue) → get_or (drop i cs) 0 d ≡ get_or cs i d
+same_index [] zero d = refl
+same_index [] (suc i) d = refl
+same_index (c ∷ cs) zero d = refl
+same_index (c ∷ cs) (suc i) d = same_index cs i d
 
 up_to_at : (cs : List ChildValue) (i : ℕ) (c : ChildValue) → i < length cs → c ≡ get_or cs i c → IsRow cs → IsUpTo c.level (parts (take i cs))
-up_to_at cs i c small is r = let P : ChildValue → Type 0 = λ w. IsUpTo w.level (parts (take i cs)) in subst P (same_place cs i c ∙ sym is) (up_to_all cs i c small r)
+up_to_at cs i c small is r = let P : ChildValue → Type 0 = λ w. IsUpTo w.level (parts (take i cs)) in subst P (same_index cs i c ∙ sym is) (up_to_all cs i c small r)
 
 -- ---- one child after the other
 

@@ -190,7 +190,7 @@ gap_behind q p [] (suc i) r e = absurd e
 gap_behind q p (c ∷ cs) (suc i) r e =
     take_one (q ∷ p) (c ∷ cs) i c (omega (arith, edge_small (Passes q) q (c ∷ cs) (suc i) e)) (front_behind (q ∷ p) (c ∷ cs) i r (gap_reached q p (c ∷ cs) i r e)) (edge_at (Passes q) q (c ∷ cs) i c e p)
 
--- ---- a look among what stands before, what may be the place, and what stands behind
+-- ---- a look among what stands before, what may be the spot, and what stands behind
 
 there_none : (p : Path) (r : Held) → Ahead p r → is_there p r ≡ false
 there_none p [] a = refl
@@ -273,7 +273,7 @@ module _ (held : Option Found) (cs : List ChildValue) (r : IsRow cs) (q : List �
   pub there_gap : (i : ℕ) → IsGap q cs i → is_there (q ∷ p) (own held ++ parts cs) ≡ false
   there_gap i e = rw (split_gap held cs i) (there_rear (q ∷ p) (own held ++ parts (take i cs)) (parts (drop i cs)) (gap_front i e) ∙ there_none (q ∷ p) (parts (drop i cs)) (gap_rear i e))
 
--- at the place itself is only its own message
+-- at the spot itself is only its own message
 pub there_own : (held : Option Found) (cs : List ChildValue) → IsRow cs → is_there [] (own held ++ parts cs) ≡ is_some held
 there_own held cs r = there_front [] (own held) (parts cs) (ahead_all [] cs r (first cs)) ∙ alone held
   where
@@ -285,7 +285,7 @@ there_own held cs r = there_front [] (own held) (parts cs) (ahead_all [] cs r (f
     alone None = refl
     alone (Some f) = refl
 
--- ---- the search for a place
+-- ---- the search for an index
 
 abbrev pub IsLow : List ℕ → List ChildValue → ℕ → Type 0
 IsLow q cs zero = Unit {0}
@@ -358,14 +358,14 @@ module _ (q : List ℕ) (cs : List ChildValue) (i j : ℕ) (c : ChildValue) (e :
   edge_suc : IsEdge (IsNotBefore q) q cs (suc j)
   edge_suc = let P : ℕ → Type 0 = λ m. IsEdge (IsNotBefore q) q cs m in subst P (e ∙ add-one j) edge
 
-  pub place_not : IsNotBefore q c
-  place_not = let P : ChildValue → Type 0 = λ w. IsNotBefore q w in subst P (sym is) (edge_at (IsNotBefore q) q cs j c edge_suc)
+  pub index_not : IsNotBefore q c
+  index_not = let P : ChildValue → Type 0 = λ w. IsNotBefore q w in subst P (sym is) (edge_at (IsNotBefore q) q cs j c edge_suc)
 
-  pub place_in : Takes q c → IsIn q cs j
-  place_in t = edge_turned (IsNotBefore q) (Takes q) q cs j c (let P : ChildValue → Type 0 = λ w. Takes q w in subst P is t) edge_suc
+  pub index_in : Takes q c → IsIn q cs j
+  index_in t = edge_turned (IsNotBefore q) (Takes q) q cs j c (let P : ChildValue → Type 0 = λ w. Takes q w in subst P is t) edge_suc
 
-  pub place_gap : Passes q c → IsGap q cs i
-  place_gap p =
+  pub index_gap : Passes q c → IsGap q cs i
+  index_gap p =
       let turned : IsGap q cs (suc j) = edge_turned (IsNotBefore q) (Passes q) q cs j c (let P : ChildValue → Type 0 = λ w. Passes q w in subst P is p) edge_suc in
       let P : ℕ → Type 0 = λ m. IsGap q cs m in subst P (sym (e ∙ add-one j)) turned
 

@@ -195,7 +195,7 @@ fn first_behind(children: &[Child], level: &[u8]) -> usize
 }
 
 /// The index of the child that a level belongs to, or else the index where it would stand.
-fn place_of(children: &[Child], level: &[u8]) -> Result<usize, usize>
+fn index_of(children: &[Child], level: &[u8]) -> Result<usize, usize>
     ensures found { MatchResult result (λ i. IsIn level.now children.now i) (λ i. IsGap level.now children.now i) }
     ensures within { IfOk result (λ i. i < length children.now) }
     ensures room { IfErr result (λ i. i ≤ length children.now) }

@@ -1,4 +1,4 @@
-//! A few messages below one place of the tree, which are shared until they are changed.
+//! A few messages below one spot of the tree, which are shared until they are changed.
 
 ghost use Rattle.std.specs.Prelude.{◌≡◌, ◌+◌, ◌++◌, ◌≤◌, [], ◌∷◌, true, length, IfErr, IfOk, IfSome, IsTrue, OnErr, OnOk};
 ghost use Rattle.std.specs.Arc.{arc_value};

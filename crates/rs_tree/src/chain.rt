@@ -89,7 +89,7 @@ pub fn joined(
 
 /// The levels that the rests of two texts share.
 #[derive(Drop)]
-pub struct Shared {
+pub struct SharedLevels {
     pub chain: Vec<u8>,
     /// Where the first text goes on.
     pub at: usize,
@@ -104,7 +104,7 @@ pub fn shared_levels(
     mut at: usize,
     other: &[u8],
     mut from: usize,
-) -> Result<Shared, AllocError>
+) -> Result<SharedLevels, AllocError>
     ensures text { IfOk result (λ s. levels_from at text.now ≡ levels_from 1 s.chain.items ++ levels_from s.at text.now) }
     ensures other { IfOk result (λ s. levels_from from other.now ≡ levels_from 1 s.chain.items ++ levels_from s.from other.now) }
     ensures further { IfOk result (λ s. from ≤ s.from) }
@@ -122,5 +122,5 @@ pub fn shared_levels(
         from = rest;
     }
     chain.shrink_to_fit();
-    Ok(Shared { chain, at, from })
+    Ok(SharedLevels { chain, at, from })
 }

@@ -1,4 +1,4 @@
-//! The message of one place, or none.
+//! The message of one spot, or none.
 
 ghost use Rattle.std.specs.Prelude.{◌≡◌, IfOk};
 ghost use Rattle.rs_tree.specs.Chosen.{own_chosen};
@@ -8,7 +8,7 @@ use crate::shared::Shared;
 use rs_store::{Answer, Stop, is_expired};
 use std::alloc::AllocError;
 
-/// Appends a copy of the message of one place, unless it is expired.
+/// Appends a copy of the message of one spot, unless it is expired.
 pub fn answer_held(held: &Option<Shared>, now: u64, answer: &mut Answer) -> Result<(), Stop>
     ensures { Gives result answer.old answer.new (own_chosen now held.now) }
 {
@@ -21,7 +21,7 @@ pub fn answer_held(held: &Option<Shared>, now: u64, answer: &mut Answer) -> Resu
     answer.push(found.get())
 }
 
-/// One more owner of the message of one place, if there is one.
+/// One more owner of the message of one spot, if there is one.
 pub fn held_again(held: &Option<Shared>) -> Result<Option<Shared>, AllocError>
     ensures { IfOk result (λ h. h ≡ held.now) }
 {

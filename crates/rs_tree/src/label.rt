@@ -11,7 +11,7 @@ use std::sync::Arc;
 const SHORT: usize = 14;
 
 #[derive(Drop)]
-enum Text {
+enum LabelText {
     /// So many of these bytes.
     Short(u8, [u8; SHORT]),
     /// So many bytes of a message's topic, from this one on.
@@ -23,7 +23,7 @@ enum Text {
 /// A level. Contracts see its bytes.
 #[derive(Drop)]
 pub struct Label {
-    text: Text,
+    text: LabelText,
 }
 
 impl Model for Label {
@@ -71,7 +71,7 @@ fn part(level: &[u8], found: &Shared, at: usize) -> Result<Option<Label>, AllocE
         return Ok(None);
     }
     Ok(Some(Label {
-        text: Text::Part(length, from, found.again()?),
+        text: LabelText::Part(length, from, found.again()?),
     }))
 }
 
@@ -94,12 +94,12 @@ impl Label {
     {
         if level.len() <= SHORT {
             return Ok(Label {
-                text: Text::Short(level.len() as u8, padded(level)),
+                text: LabelText::Short(level.len() as u8, padded(level)),
             });
         }
         let bytes = Vec::from_slice(alloc, level)?;
         Ok(Label {
-            text: Text::Long(Arc::new(alloc, bytes)?),
+            text: LabelText::Long(Arc::new(alloc, bytes)?),
         })
     }
 
@@ -108,7 +108,7 @@ impl Label {
         ensures { result ≡ [] }
     {
         Label {
-            text: Text::Short(0, [0; SHORT]),
+            text: LabelText::Short(0, [0; SHORT]),
         }
     }
 
@@ -116,16 +116,16 @@ impl Label {
         ensures { result.now ≡ self.now }
     {
         match &self.text {
-            Text::Short(length, bytes) => {
+            LabelText::Short(length, bytes) => {
                 let (level, _) = bytes.as_slice().split_at(*length as usize);
                 level
             }
-            Text::Part(length, from, found) => {
+            LabelText::Part(length, from, found) => {
                 let (_, rest) = found.topic().split_at(*from as usize);
                 let (level, _) = rest.split_at(*length as usize);
                 level
             }
-            Text::Long(bytes) => bytes.as_slice(),
+            LabelText::Long(bytes) => bytes.as_slice(),
         }
     }
 
@@ -134,14 +134,14 @@ impl Label {
         ensures { IfOk result (λ l. l ≡ self.now) }
     {
         match &self.text {
-            Text::Short(length, bytes) => Ok(Label {
-                text: Text::Short(*length, *bytes),
+            LabelText::Short(length, bytes) => Ok(Label {
+                text: LabelText::Short(*length, *bytes),
             }),
-            Text::Part(length, from, found) => Ok(Label {
-                text: Text::Part(*length, *from, found.again()?),
+            LabelText::Part(length, from, found) => Ok(Label {
+                text: LabelText::Part(*length, *from, found.again()?),
             }),
-            Text::Long(bytes) => Ok(Label {
-                text: Text::Long(Arc::try_clone(bytes)?),
+            LabelText::Long(bytes) => Ok(Label {
+                text: LabelText::Long(Arc::try_clone(bytes)?),
             }),
         }
     }
@@ -151,7 +151,7 @@ impl Label {
         ensures { IfOk result (λ l. l ≡ self.now) }
     {
         match &self.text {
-            Text::Part(_, _, _) => Label::new(alloc, self.as_slice()),
+            LabelText::Part(_, _, _) => Label::new(alloc, self.as_slice()),
             _ => self.again(),
         }
     }

@@ -1,4 +1,4 @@
-//! A message below a place of the tree.
+//! A message below a spot of the tree.
 
 ghost use Rattle.std.specs.Prelude.{◌≡◌, false, [], ◌∷◌, ◌++◌, IfErr, IfOk, IsTrue, OnOk};
 ghost use Rattle.rs_topic.specs.Order.{path_cmp};
@@ -14,7 +14,7 @@ use rs_topic::{compare_rests, level_at, levels_fit};
 use std::alloc::AllocError;
 use std::cmp::Ordering;
 
-/// A message below a place, however many levels are left of its topic.
+/// A message below a spot, however many levels are left of its topic.
 #[derive(Drop)]
 pub struct Leaf {
     pub found: Shared,

@@ -1,4 +1,4 @@
-//! A few messages below one place of the tree, in the order of replay.
+//! A few messages below one spot of the tree, in the order of replay.
 
 ghost use Rattle.std.specs.Prelude.{◌≡◌, ◌+◌, ◌++◌, ◌<◌, ◌≤◌, [], ◌∷◌, false, length, IfErr, IfOk, IfSome, IsTrue, MatchResult, OnErr, OnOk};
 ghost use Rattle.std.specs.BTreeMap.{insert_entry, is_at};
@@ -53,7 +53,7 @@ impl Model for Leaves {
 }
 
 /// Where the rest of a topic is, or else where it belongs.
-fn place_of(leaves: &[Leaf], topic: &[u8], at: usize) -> Result<usize, usize>
+fn index_of(leaves: &[Leaf], topic: &[u8], at: usize) -> Result<usize, usize>
     ensures found { MatchResult result (λ i. IsHere (levels_from at topic.now) leaves.now i) (λ i. IsGap (levels_from at topic.now) leaves.now i) }
     ensures within { IfOk result (λ i. i < length leaves.now) }
     ensures room { IfErr result (λ i. i ≤ length leaves.now) }
@@ -198,7 +198,7 @@ impl Leaves {
         ensures told { IfOk result (λ was. was ≡ is_there (levels_from at found.topic) self.old) }
         ensures refused { OnErr result (self.new ≡ self.old) }
     {
-        match place_of(self.leaves.as_slice(), found.topic(), at) {
+        match index_of(self.leaves.as_slice(), found.topic(), at) {
             Ok(i) => {
                 self.leaves[i] = Leaf { found, at };
                 Ok(true)
@@ -216,7 +216,7 @@ impl Leaves {
         ensures done { self.new ≡ remove_entry (is_at (path_cmp (levels_from at topic.now))) self.old }
         ensures told { result ≡ is_there (levels_from at topic.now) self.old }
     {
-        match place_of(self.leaves.as_slice(), topic, at) {
+        match index_of(self.leaves.as_slice(), topic, at) {
             Ok(i) => {
                 self.leaves.remove(i);
                 self.leaves.shrink_to_fit();
@@ -273,7 +273,7 @@ impl Leaves {
     pub fn holds(&self, topic: &[u8], at: usize) -> bool
         ensures { result ≡ is_there (levels_from at topic.now) self.now }
     {
-        match place_of(self.leaves.as_slice(), topic, at) {
+        match index_of(self.leaves.as_slice(), topic, at) {
             Ok(_) => true,
             Err(_) => false,
         }

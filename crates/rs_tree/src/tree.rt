@@ -25,7 +25,7 @@ const SERIALS: usize = MAX_PLACES as usize + 1;
 
 /// The messages in a tree of the levels of their topics.
 ///
-/// A few messages below one place lie side by side, in order. If there are more, the place has a row of the next levels, and the
+/// A few messages below one spot lie side by side, in order. If there are more, the spot has a row of the next levels, and the
 /// levels that all topics below share are one text. A row that grows too long becomes a row of rows.
 ///
 /// A copy takes one count: it shares the whole tree. `apply` changes a node in place if no copy shares it, and else puts a copy of

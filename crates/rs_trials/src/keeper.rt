@@ -3,7 +3,7 @@
 ghost use Rattle.std.specs.Prelude.{◌≡◌, false};
 
 use rs_message::Entry;
-use rs_store::{Catalogue, Refusal, Store};
+use rs_store::{CalmCatalogue, Catalogue, Refusal};
 use rs_tree::TreeCatalogue;
 use rs_version::{PutFault, StoreName, VersionWriter};
 use std::sync::Wait;
@@ -35,9 +35,9 @@ pub trait Keeper {
     fn count(&self) -> u64;
 }
 
-impl Keeper for Store<TreeCatalogue> {
+impl Keeper for CalmCatalogue<TreeCatalogue> {
     fn add(&mut self, entry: Entry) -> Answer {
-        match Store::add(self, entry) {
+        match CalmCatalogue::add(self, entry) {
             Ok(()) => Answer::Kept,
             Err(Refusal::Full) => Answer::Full,
             Err(Refusal::NoMemory) => Answer::NoMemory,

@@ -21,16 +21,16 @@ use Rattle.rs_store.proofs.calm.Calm.TheSendSync as calm
 use Rattle.rs_store.proofs.limit.TopicLimit.TheSendSync as limit
 use Rattle.rs_store.specs.contracts.content.Content as Content
 use Rattle.rs_tree.proofs.Sent.{tree_send, tree_sync}
-use Rattle.rs_version.proofs.catalogue_copy.Step.TheSendSync as step
-use Rattle.rs_version.proofs.known.HistoryWord.TheSendSync as word
-use Rattle.rs_version.proofs.known.KnownList.TheSendSync as list
-use Rattle.rs_version.proofs.known.NewHistory.TheSendSync as history
+use Rattle.rs_version.proofs.catalogue_copy.CopyStep.TheSendSync as step
+use Rattle.rs_version.proofs.named.HistoryWord.TheSendSync as word
+use Rattle.rs_version.proofs.named.NamedList.TheSendSync as list
+use Rattle.rs_version.proofs.named.NewHistory.TheSendSync as history
 use Rattle.rs_version.proofs.prefix.Prefix.TheSendSync as prefix
 use Rattle.rs_version.specs.contracts.blank.Blank as Blank
 use Rattle.rs_version.specs.contracts.blank.Blank.TheInside as InBlank
 use Rattle.rs_version.specs.contracts.catalogue_copy.CatalogueCopy as CatalogueCopy
-use Rattle.rs_version.specs.contracts.catalogue_copy.CatalogueCopyAbsorbStep.TheImpl as absorb
-use Rattle.rs_version.specs.contracts.catalogue_copy.Step as Step
+use Rattle.rs_version.specs.contracts.catalogue_copy.CatalogueCopyAbsorbCopyStep.TheImpl as absorb
+use Rattle.rs_version.specs.contracts.catalogue_copy.CopyStep as CopyStep
 use Rattle.rs_version.specs.contracts.copies.Copies as Copies
 use Rattle.rs_version.specs.contracts.prefix.Prefix as Prefix
 use Rattle.rs_version.specs.contracts.rule.KnownVersion as KnownVersion
@@ -60,9 +60,9 @@ state_row = Tuple (Content.the_row ∷ Prefix.the_row ∷ [])
 
 copies_send : IsSend Copies.the_field.row
 copies_send = struct_send (shape Copies.the_type) (
-  copy_writer.the_field_send CatalogueCopy.the_row Step.the_row known_row VersionRule.the_row Global.the_row state_row absorb.ghosts rule.ghosts ghosts
+  copy_writer.the_field_send CatalogueCopy.the_row CopyStep.the_row known_row VersionRule.the_row Global.the_row state_row absorb.ghosts rule.ghosts ghosts
       copy_send step.the_send heap.the_send copy_sync heap.the_sync frees,
-  (option.the_field_send Step.the_row step.the_send, tt),
+  (option.the_field_send CopyStep.the_row step.the_send, tt),
 )
 
 module _ (N : RattleType) (g : StoreName.Ghosts N.Denot) where

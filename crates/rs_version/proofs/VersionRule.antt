@@ -8,7 +8,7 @@ use Rattle.rs_store.specs.Contents.{followed}
 use Rattle.rs_version.specs.Catalogues.{content_of}
 use Rattle.rs_store.proofs.Standing.{stands_more}
 use Rattle.rs_version.specs.declared.catalogue_copy.CatalogueCopy.{CatalogueCopy}
-use Rattle.rs_version.specs.declared.catalogue_copy.Step.{Step}
+use Rattle.rs_version.specs.declared.catalogue_copy.CopyStep.{CopyStep}
 use Rattle.rs_version.specs.declared.rule.KnownVersion.{KnownVersion}
 use Rattle.rs_version.specs.VersionRule.{Keeps, SeesIt, Continues, IsSound, Follows, known, state, applied}
 use Rattle.rs_version.proofs.Prefixes.{prefix_self, prefix_trans}
@@ -37,14 +37,14 @@ turns seat v x y goes views h at =
     )
 
 -- what the copies have in common goes on by at most one step
-pub settled : (x y : CatalogueCopy) (ss : List Step) → length ss ≤ 1 → ((s : Step) → ss ≡ s ∷ [] → Follows x s) → state y ≡ fold applied (state x) ss → IsSound x → IsSound y × Continues (known x) y
-settled x y [] one next is sound =
+pub goes_on : (x y : CatalogueCopy) (ss : List CopyStep) → length ss ≤ 1 → ((s : CopyStep) → ss ≡ s ∷ [] → Follows x s) → state y ≡ fold applied (state x) ss → IsSound x → IsSound y × Continues (known x) y
+goes_on x y [] one next is sound =
     let c : content_of y.catalogue ≡ content_of x.catalogue = ap (λ p. p.0) is in
     let b : y.prefix ≡ x.prefix = ap (λ p. p.1) is in (
       rw (c, ap (λ z. z.log) b) sound,
       (ap (λ z. z.history) b, ap (λ z. z.limit) c, rw (ap (λ z. z.log) b) (prefix_self x.prefix.log)),
     )
-settled x y (s ∷ []) one next is sound =
+goes_on x y (s ∷ []) one next is sound =
     let f = next s refl in
     let c : content_of y.catalogue ≡ followed (content_of x.catalogue) s.entry = ap (λ p. p.0) is in
     let b : y.prefix ≡ s.after = ap (λ p. p.1) is in
@@ -52,7 +52,7 @@ settled x y (s ∷ []) one next is sound =
       rw (c, log) (stands_more (content_of x.catalogue) x.prefix.log s.entry sound f.0 f.1),
       (ap (λ z. z.history) b ∙ f.2, ap (λ z. z.limit) c, (s.entry ∷ [], sym log)),
     )
-settled x y (s ∷ t ∷ ss) one next is sound = absurd (omega arith)
+goes_on x y (s ∷ t ∷ ss) one next is sound = absurd (omega arith)
 
 pub admits : Admits Keeps None
 admits x views h = (h.0, λ j u e. ⊎_elim (λ t. h.1 j u t) (λ (t : None ≡ Some u). absurd (cc (t))) (at_snoc views None (Some u) j e))

@@ -13,15 +13,15 @@ use Rattle.rs_store.proofs.Histories.{legal_front}
 use Rattle.rs_store.proofs.Standing.{accepts}
 use Rattle.rs_version.specs.Catalogues.{content_of}
 use Rattle.rs_version.specs.declared.catalogue_copy.CatalogueCopy.{CatalogueCopy}
-use Rattle.rs_version.specs.declared.catalogue_copy.Step.{Step}
+use Rattle.rs_version.specs.declared.catalogue_copy.CopyStep.{CopyStep}
 use Rattle.rs_version.specs.declared.copies.Copies.{Copies}
 use Rattle.rs_version.specs.declared.fault.PutFault.{PutFault}
 use Rattle.rs_version.specs.declared.fault.PutFault.TheVariants.{Full, Stale, NoMemory, Held}
 use Rattle.rs_version.specs.Copies.{listed, shown, steps_of}
 use Rattle.rs_version.specs.Receipts.{StandsAt}
 use Rattle.rs_version.specs.VersionRule.{Follows, IsSound, applied, state}
-use Rattle.rs_version.specs.Writer.{Declines, IsReady, IsWriting, Precedes, Refuses, StepsFor, Written, holds_back, kept_content, kept_of, settled, shows}
-use Rattle.rs_version.proofs.VersionRule.{settled as goes_on}
+use Rattle.rs_version.specs.Writer.{Declines, IsReady, IsWriting, Precedes, Refuses, StepsFor, Written, holds_back, kept_content, kept_of, released, shows}
+use Rattle.rs_version.proofs.VersionRule.{goes_on}
 
 -- if nothing is held, the kept list is the published one
 nothing_held : (history : Book) (limit : ℕ) (copies : Copies) (list : List Entry) (calm : ℕ) (held : Option Entry) → IsWriting history limit copies list calm held → held ≡ None → list ≡ (shown copies).prefix.log
@@ -53,7 +53,7 @@ pub still_writing : (history : Book) (limit : ℕ) (copies copies' : Copies) (li
 still_writing history limit copies copies' list calm held w same steps =
     let C : CatalogueCopy → Type 0 = λ x. NoneExpiredBefore calm (kept_content (content_of x.catalogue) held) in
     let P : CatalogueCopy → Type 0 = λ x. StepsFor x held (steps_of copies) in
-    let Q : List Step → Type 0 = λ ss. StepsFor (shown copies') held ss in
+    let Q : List CopyStep → Type 0 = λ ss. StepsFor (shown copies') held ss in
     record {
       history_is = ap (λ x. x.prefix.history) same ∙ w.history_is;
       limit_is = ap (λ x. (content_of x.catalogue).limit) same ∙ w.limit_is;
@@ -73,7 +73,7 @@ all_published history limit copies copies' list calm held e writing is goes none
     let y = shown copies' in
     let next = w.steps in
     let one : length (steps_of copies) ≤ 1 = rw next.1 (omega arith) in
-    let follows : (s : Step) → steps_of copies ≡ s ∷ [] → Follows x s = λ s at. let same : next.0 ≡ s = cc (next.1, at) in subst (Follows x) same next.3 in
+    let follows : (s : CopyStep) → steps_of copies ≡ s ∷ [] → Follows x s = λ s at. let same : next.0 ≡ s = cc (next.1, at) in subst (Follows x) same next.3 in
     let g = goes_on x y (steps_of copies) one follows goes w.sound in
     let turn = goes ∙ ap (λ ss. fold applied (state x) ss) next.1 in
     let last : y.prefix ≡ next.0.after = ap (λ p. p.1) turn in
@@ -89,7 +89,7 @@ all_published history limit copies copies' list calm held e writing is goes none
     }
 
 -- an entry that was appended is held
-pub appended : (history : Book) (limit : ℕ) (copies copies' : Copies) (list list' : List Entry) (calm calm' : ℕ) (held : Option Entry) (e : Entry) (step : Step) → IsWriting history limit copies list calm held → held ≡ None
+pub appended : (history : Book) (limit : ℕ) (copies copies' : Copies) (list list' : List Entry) (calm calm' : ℕ) (held : Option Entry) (e : Entry) (step : CopyStep) → IsWriting history limit copies list calm held → held ≡ None
     → IsLegal limit (extended (shown copies).prefix.log e) → e.origin.place ≤ MAX_PLACES → 0 < e.origin.serial
     → shown copies' ≡ shown copies → steps_of copies' ≡ step ∷ [] → step.entry ≡ e → step.after.history ≡ history → step.after.log ≡ list' → list' ≡ extended list e
     → ((c : Content) → NoneExpiredBefore calm c → NoneExpiredBefore calm' (followed c e))
@@ -115,13 +115,13 @@ appended history limit copies copies' list list' calm calm' held e step w none l
 
 -- ---- what `put` makes of what is kept
 
-settled_log : (w w' : Written) → w' ≡ settled w → w'.published ≡ kept_of w
-settled_log w w' is = ap (λ (z : Written). z.published) is
+released_log : (w w' : Written) → w' ≡ released w → w'.published ≡ kept_of w
+released_log w w' is = ap (λ (z : Written). z.published) is
 
 -- why the entry does not come next, if all that was kept is published
-pub declines_refuses : (limit : ℕ) (w w' : Written) (e : Entry) (f : PutFault) → w' ≡ settled w → Declines limit w'.published e f → Refuses limit w e f w'
-declines_refuses limit w w' e Stale is h = (let P : List Entry → Type 0 = λ l. Declines limit l e Stale in subst P (settled_log w w' is) h, is)
-declines_refuses limit w w' e Full is h = (let P : List Entry → Type 0 = λ l. Declines limit l e Full in subst P (settled_log w w' is) h, is)
+pub declines_refuses : (limit : ℕ) (w w' : Written) (e : Entry) (f : PutFault) → w' ≡ released w → Declines limit w'.published e f → Refuses limit w e f w'
+declines_refuses limit w w' e Stale is h = (let P : List Entry → Type 0 = λ l. Declines limit l e Stale in subst P (released_log w w' is) h, is)
+declines_refuses limit w w' e Full is h = (let P : List Entry → Type 0 = λ l. Declines limit l e Full in subst P (released_log w w' is) h, is)
 declines_refuses limit w w' e NoMemory is h = absurd h
 declines_refuses limit w w' e Held is h = absurd h
 
@@ -136,30 +136,30 @@ precedes_legal limit history e sweep p =
     let P : List Entry → Type 0 = λ l. IsLegal limit l in
     subst P (sym (ap (λ (z : Entry). extended history z) p.1)) clean
 
-precedes_at : (limit : ℕ) (w w' : Written) (e sweep : Entry) → w' ≡ settled w → Precedes limit w'.published e sweep → Precedes limit (kept_of w) e sweep
-precedes_at limit w w' e sweep is p = let P : List Entry → Type 0 = λ l. Precedes limit l e sweep in subst P (settled_log w w' is) p
+precedes_at : (limit : ℕ) (w w' : Written) (e sweep : Entry) → w' ≡ released w → Precedes limit w'.published e sweep → Precedes limit (kept_of w) e sweep
+precedes_at limit w w' e sweep is p = let P : List Entry → Type 0 = λ l. Precedes limit l e sweep in subst P (released_log w w' is) p
 
-pub plain_ready : (limit : ℕ) (w w' : Written) (e : Entry) → w' ≡ settled w → IsLegal limit (extended w'.published e) → IsReady limit w e w'
-plain_ready limit w w' e is legal = inl (let P : List Entry → Type 0 = λ l. IsLegal limit (extended l e) in subst P (settled_log w w' is) legal, is)
+pub plain_ready : (limit : ℕ) (w w' : Written) (e : Entry) → w' ≡ released w → IsLegal limit (extended w'.published e) → IsReady limit w e w'
+plain_ready limit w w' e is legal = inl (let P : List Entry → Type 0 = λ l. IsLegal limit (extended l e) in subst P (released_log w w' is) legal, is)
 
-pub swept_ready : (limit : ℕ) (w w' w'' : Written) (e sweep : Entry) → w' ≡ settled w → Precedes limit w'.published e sweep → w'' ≡ shows (extended w'.published sweep) → IsReady limit w e w''
+pub swept_ready : (limit : ℕ) (w w' w'' : Written) (e sweep : Entry) → w' ≡ released w → Precedes limit w'.published e sweep → w'' ≡ shows (extended w'.published sweep) → IsReady limit w e w''
 swept_ready limit w w' w'' e sweep is p now =
     let q = precedes_at limit w w' e sweep is p in
-    inr (q.0, now ∙ (ap (λ (l : List Entry). shows (extended l sweep)) (settled_log w w' is) ∙ ap (λ (z : Entry). shows (extended (kept_of w) z)) q.1))
+    inr (q.0, now ∙ (ap (λ (l : List Entry). shows (extended l sweep)) (released_log w w' is) ∙ ap (λ (z : Entry). shows (extended (kept_of w) z)) q.1))
 
-pub swept_refuses : (limit : ℕ) (w w' w'' : Written) (e sweep : Entry) → w' ≡ settled w → Precedes limit w'.published e sweep → (w'' ≡ w') ⊎ (w'' ≡ holds_back w'.published sweep) → Refuses limit w e NoMemory w''
+pub swept_refuses : (limit : ℕ) (w w' w'' : Written) (e sweep : Entry) → w' ≡ released w → Precedes limit w'.published e sweep → (w'' ≡ w') ⊎ (w'' ≡ holds_back w'.published sweep) → Refuses limit w e NoMemory w''
 swept_refuses limit w w' w'' e sweep is p left =
     let q = precedes_at limit w w' e sweep is p in
     inr (inl (
       q.0,
       ⊎_elim
           (λ k. inl (k ∙ is))
-          (λ k. inr (inl (k ∙ (ap (λ (l : List Entry). holds_back l sweep) (settled_log w w' is) ∙ ap (λ (z : Entry). holds_back (kept_of w) z) q.1))))
+          (λ k. inr (inl (k ∙ (ap (λ (l : List Entry). holds_back l sweep) (released_log w w' is) ∙ ap (λ (z : Entry). holds_back (kept_of w) z) q.1))))
           left,
     ))
 
 ready_log : (limit : ℕ) (w w' : Written) (e : Entry) → IsReady limit w e w' → (w'.held ≡ None) × IsLegal limit (extended w'.published e)
-ready_log limit w w' e (inl r) = (ap (λ (z : Written). z.held) r.1, (let P : List Entry → Type 0 = λ l. IsLegal limit (extended l e) in subst P (sym (settled_log w w' r.1)) r.0))
+ready_log limit w w' e (inl r) = (ap (λ (z : Written). z.held) r.1, (let P : List Entry → Type 0 = λ l. IsLegal limit (extended l e) in subst P (sym (released_log w w' r.1)) r.0))
 ready_log limit w w' e (inr r) = (
   ap (λ (z : Written). z.held) r.1,
   (let P : List Entry → Type 0 = λ l. IsLegal limit (extended l e) in subst P (sym (ap (λ (z : Written). z.published) r.1)) r.0.legal),
@@ -176,15 +176,15 @@ ready_refuses limit w w' w'' e (inl r) is = inl (r.0, is ∙ r.1)
 ready_refuses limit w w' w'' e (inr r) is = inr (inl (r.0, inr (inr (is ∙ r.1))))
 
 pub ready_holds : (limit : ℕ) (w w' w'' : Written) (e : Entry) → IsReady limit w e w' → w'' ≡ holds_back w'.published e → Refuses limit w e Held w''
-ready_holds limit w w' w'' e (inl r) is = inl (r.0, is ∙ ap (λ (l : List Entry). holds_back l e) (settled_log w w' r.1))
+ready_holds limit w w' w'' e (inl r) is = inl (r.0, is ∙ ap (λ (l : List Entry). holds_back l e) (released_log w w' r.1))
 ready_holds limit w w' w'' e (inr r) is = inr (r.0, is ∙ ap (λ (l : List Entry). holds_back l e) (ap (λ (z : Written). z.published) r.1))
 
 pub ready_adds : (limit : ℕ) (w w' w'' : Written) (e : Entry) → IsReady limit w e w' → w'' ≡ shows (extended w'.published e) → Adds limit (kept_of w) e (λ list. w'' ≡ shows list)
-ready_adds limit w w' w'' e (inl r) is = inl (r.0, is ∙ ap (λ (l : List Entry). shows (extended l e)) (settled_log w w' r.1))
+ready_adds limit w w' w'' e (inl r) is = inl (r.0, is ∙ ap (λ (l : List Entry). shows (extended l e)) (released_log w w' r.1))
 ready_adds limit w w' w'' e (inr r) is = inr (r.0, is ∙ ap (λ (l : List Entry). shows (extended l e)) (ap (λ (z : Written). z.published) r.1))
 
 -- what was held is the last entry of the list that is published then
-pub stands_last : (w w' : Written) (e : Entry) → w.held ≡ Some e → w' ≡ settled w → StandsAt e (length w'.published) w'.published
+pub stands_last : (w w' : Written) (e : Entry) → w.held ≡ Some e → w' ≡ released w → StandsAt e (length w'.published) w'.published
 stands_last w w' e held is =
     let log : w'.published ≡ w.published ++ e ∷ [] = ap (λ z. z.published) is ∙ ap (λ h. w.published ++ listed h) held in
     record { before = w.published; after = []; whole = log; counted = ap length log ∙ length-append w.published (e ∷ []) }

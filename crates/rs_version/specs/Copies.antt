@@ -1,7 +1,7 @@
 -- The published copy, and the steps that it does not have yet.
 use Rattle.std.specs.Prelude.{List, [], ◌∷◌, ◌++◌, drop, Option, Some, None}
 use Rattle.rs_version.specs.declared.catalogue_copy.CatalogueCopy.{CatalogueCopy}
-use Rattle.rs_version.specs.declared.catalogue_copy.Step.{Step}
+use Rattle.rs_version.specs.declared.catalogue_copy.CopyStep.{CopyStep}
 use Rattle.rs_version.specs.declared.copies.Copies.{Copies}
 
 abbrev pub shown : Copies → CatalogueCopy
@@ -11,5 +11,5 @@ abbrev pub listed : {A : Type 0} → Option A → List A
 listed None = []
 listed (Some x) = x ∷ []
 
-abbrev pub steps_of : Copies → List Step
+abbrev pub steps_of : Copies → List CopyStep
 steps_of e = drop e.writer.behind e.writer.log.items ++ listed e.waiting

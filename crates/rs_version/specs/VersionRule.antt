@@ -11,14 +11,14 @@ use Rattle.rs_store.specs.declared.content.Content.{Content}
 use Rattle.logbook.specs.Pages.{Book}
 use Rattle.rs_version.specs.Prefixes.{PrefixValue}
 use Rattle.rs_version.specs.declared.catalogue_copy.CatalogueCopy.{CatalogueCopy}
-use Rattle.rs_version.specs.declared.catalogue_copy.Step.{Step}
+use Rattle.rs_version.specs.declared.catalogue_copy.CopyStep.{CopyStep}
 use Rattle.rs_version.specs.declared.rule.KnownVersion.{KnownVersion}
 
 -- what both copies have in common, and what a step does to it
 abbrev pub state : CatalogueCopy → Content × PrefixValue
 state c = (content_of c.catalogue, c.prefix)
 
-abbrev pub applied : Content × PrefixValue → Step → Content × PrefixValue
+abbrev pub applied : Content × PrefixValue → CopyStep → Content × PrefixValue
 applied s step = (followed s.0 step.entry, step.after)
 
 -- what a reader or writer knows after it saw this copy
@@ -41,7 +41,7 @@ abbrev pub SeesIt : Option KnownVersion → CatalogueCopy → CatalogueCopy → 
 SeesIt v x y w = (w ≡ Some (known y)) × IsSound y × ((u : KnownVersion) → v ≡ Some u → Continues u y)
 
 -- the step is the next one of the copy
-abbrev pub Follows : CatalogueCopy → Step → Type 0
+abbrev pub Follows : CatalogueCopy → CopyStep → Type 0
 Follows x s = (s.entry.origin.place ≤ MAX_PLACES) × Accepts (content_of x.catalogue) s.entry × (s.after.history ≡ x.prefix.history) × (s.after.log ≡ extended x.prefix.log s.entry)
 
 -- something of this history and this limit is known

@@ -9,7 +9,7 @@ use Rattle.rs_store.specs.Contents.{followed}
 use Rattle.rs_store.specs.Expiring.{NoneExpiredBefore}
 use Rattle.rs_store.specs.History.{IsLegal, MayNotCome, NeedsSweepAfter, cleaned, extended, sweep_after}
 use Rattle.rs_version.specs.declared.catalogue_copy.CatalogueCopy.{CatalogueCopy}
-use Rattle.rs_version.specs.declared.catalogue_copy.Step.{Step}
+use Rattle.rs_version.specs.declared.catalogue_copy.CopyStep.{CopyStep}
 use Rattle.rs_version.specs.declared.copies.Copies.{Copies}
 use Rattle.rs_version.specs.declared.fault.PutFault.{PutFault}
 use Rattle.rs_version.specs.declared.fault.PutFault.TheVariants as fault
@@ -26,13 +26,13 @@ abbrev pub kept_of : Written → List Entry
 kept_of w = w.published ++ listed w.held
 
 -- all of it published
-abbrev pub settled : Written → Written
-settled w = record { published = kept_of w; held = None }
+abbrev pub released : Written → Written
+released w = record { published = kept_of w; held = None }
 
 -- the steps that are not published are those of the held entry
-abbrev pub StepsFor : CatalogueCopy → Option Entry → List Step → Type 0
+abbrev pub StepsFor : CatalogueCopy → Option Entry → List CopyStep → Type 0
 StepsFor x None ss = ss ≡ []
-StepsFor x (Some e) ss = (s : Step) × (ss ≡ s ∷ []) × (s.entry ≡ e) × Follows x s
+StepsFor x (Some e) ss = (s : CopyStep) × (ss ≡ s ∷ []) × (s.entry ≡ e) × Follows x s
 
 -- the content after the kept list, by that after the published list
 abbrev pub kept_content : Content → Option Entry → Content
@@ -62,7 +62,7 @@ Precedes limit history e sweep = (s : NeedsSweepAfter limit history e) × (sweep
 
 -- all that was kept is published, and behind it the Sweep that comes before the entry, if it does not come next without
 abbrev pub IsReady : ℕ → Written → Entry → Written → Type 0
-IsReady limit w e w' = (IsLegal limit (extended (kept_of w) e) × (w' ≡ settled w)) ⊎ ((s : NeedsSweepAfter limit (kept_of w) e) × (w' ≡ shows (cleaned s.message.received (kept_of w))))
+IsReady limit w e w' = (IsLegal limit (extended (kept_of w) e) × (w' ≡ released w)) ⊎ ((s : NeedsSweepAfter limit (kept_of w) e) × (w' ≡ shows (cleaned s.message.received (kept_of w))))
 
 -- why the entry does not come next behind the published list, if nothing is held
 abbrev pub Declines : ℕ → List Entry → Entry → PutFault → Type 0
@@ -73,12 +73,12 @@ Declines limit history e fault.Held = ⊥
 
 -- the entry is not appended to the kept list, all of which is published
 abbrev pub IsDeclined : ℕ → Written → Entry → Refusal → Written → Type 0
-IsDeclined limit w e r w' = MayNotCome limit (kept_of w) e r × (w' ≡ settled w)
+IsDeclined limit w e r w' = MayNotCome limit (kept_of w) e r × (w' ≡ released w)
 
 -- memory was refused for the Sweep of the moment or for the entry behind it: what was kept is published, and the Sweep is not kept,
 -- or it is held, or it is published too
 abbrev pub IsSweptInPart : ℕ → Written → Written → Type 0
-IsSweptInPart moment w w' = (w' ≡ settled w) ⊎ (w' ≡ holds_back (kept_of w) (sweep_after moment (kept_of w))) ⊎ (w' ≡ shows (cleaned moment (kept_of w)))
+IsSweptInPart moment w w' = (w' ≡ released w) ⊎ (w' ≡ holds_back (kept_of w) (sweep_after moment (kept_of w))) ⊎ (w' ≡ shows (cleaned moment (kept_of w)))
 
 -- What a refusal says, and what it leaves. 31, 30: the held entry, if any, is published. 32: the same, and the entry may come next;
 -- or it may come after a Sweep, which may be kept; or the held entry could not be published, and nothing changed. 33: the kept list
@@ -86,5 +86,5 @@ IsSweptInPart moment w w' = (w' ≡ settled w) ⊎ (w' ≡ holds_back (kept_of w
 abbrev pub Refuses : ℕ → Written → Entry → PutFault → Written → Type 0
 Refuses limit w e fault.Stale w' = IsDeclined limit w e refusal.Stale w'
 Refuses limit w e fault.Full w' = IsDeclined limit w e refusal.Full w'
-Refuses limit w e fault.NoMemory w' = (IsLegal limit (extended (kept_of w) e) × (w' ≡ settled w)) ⊎ ((s : NeedsSweepAfter limit (kept_of w) e) × IsSweptInPart s.message.received w w') ⊎ ((w.held ≢ None) × (w' ≡ w))
+Refuses limit w e fault.NoMemory w' = (IsLegal limit (extended (kept_of w) e) × (w' ≡ released w)) ⊎ ((s : NeedsSweepAfter limit (kept_of w) e) × IsSweptInPart s.message.received w w') ⊎ ((w.held ≢ None) × (w' ≡ w))
 Refuses limit w e fault.Held w' = (IsLegal limit (extended (kept_of w) e) × (w' ≡ holds_back (kept_of w) e)) ⊎ ((s : NeedsSweepAfter limit (kept_of w) e) × (w' ≡ holds_back (cleaned s.message.received (kept_of w)) e))

@@ -8,11 +8,11 @@ ghost use Rattle.rs_store.specs.History.{Stands};
 ghost use Rattle.rs_version.specs.Catalogues.{content_of};
 ghost use Rattle.rs_version.specs.VersionRule.{Names, known, state};
 
+use crate::catalogue::StoreCatalogue;
 use crate::catalogue_copy::CatalogueCopy;
 use crate::copies::{CopyWriter, inform, publish_once};
 use crate::history::StoreName;
-use crate::kept::Kept;
-use crate::known::{HistoryWord, KnownList, NewHistory};
+use crate::named::{HistoryWord, NamedList, NewHistory};
 use crate::seat::Seat;
 use crate::writer::VersionWriter;
 use left_right::writer::Writer;
@@ -28,8 +28,8 @@ pub struct Blank {
     new_history: NewHistory,
     limit: TopicLimit,
     places: u8,
-    first: Kept,
-    second: Kept,
+    first: StoreCatalogue,
+    second: StoreCatalogue,
 }
 
 impl Model for Blank {
@@ -75,7 +75,7 @@ fn informed<R: Wait>(rt: &R, writer: CopyWriter) -> Result<CopyWriter, AllocErro
 }
 
 /// A seat that knows what the writer knows.
-fn seat<N: StoreName>(writer: &mut CopyWriter, list: &KnownList<N>) -> Result<Seat<N>, AllocError>
+fn seat<N: StoreName>(writer: &mut CopyWriter, list: &NamedList<N>) -> Result<Seat<N>, AllocError>
     requires { Names N.history N.limit (view writer.old.desk.place) }
     ensures seat { IfOk result (λ s. s ≡ list.now) }
     ensures kept { (view writer.new.desk.place ≡ view writer.old.desk.place) × (writer.new.desk.shown ≡ writer.old.desk.shown) × (writer.new.log ≡ writer.old.log) × (writer.new.behind ≡ writer.old.behind) }
@@ -89,7 +89,7 @@ fn seat<N: StoreName>(writer: &mut CopyWriter, list: &KnownList<N>) -> Result<Se
 fn seats<N: StoreName>(
     alloc: Global,
     writer: &mut CopyWriter,
-    list: &KnownList<N>,
+    list: &NamedList<N>,
     places: u8,
 ) -> Result<Vec<Seat<N>>, AllocError>
     requires { Names N.history N.limit (view writer.old.desk.place) }
@@ -113,7 +113,7 @@ impl Blank {
         requires { (0 < places) × (places ≤ MAX_PLACES) }
         ensures { IfOk result (λ b. (b.limit ≡ limit) × (b.places ≡ places)) }
     {
-        let first = Kept::new(alloc, limit)?;
+        let first = StoreCatalogue::new(alloc, limit)?;
         let second = first.copy()?;
         Ok(Blank {
             alloc,
@@ -160,7 +160,7 @@ impl Blank {
         };
         let writer = copy_writer(alloc, first, second, places)?;
         let mut writer = informed(&rt, writer)?;
-        let list: KnownList<N> = KnownList::of(prefix);
+        let list: NamedList<N> = NamedList::of(prefix);
         match seats(alloc, &mut writer, &list, places) {
             Ok(seats) => Ok((
                 VersionWriter::over(rt, writer, HistoryWord::of(word), list),

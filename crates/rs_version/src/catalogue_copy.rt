@@ -1,6 +1,6 @@
 //! One of the two copies of the catalogue that seats read, with the prefix of the history that it stands for.
 
-use crate::kept::Kept;
+use crate::catalogue::StoreCatalogue;
 use crate::prefix::Prefix;
 use left_right::Absorb;
 use rs_message::Entry;
@@ -9,7 +9,7 @@ use std::alloc::AllocError;
 
 /// What both copies absorb: an entry, and the prefix of the history that ends with it.
 #[derive(Drop)]
-pub struct Step {
+pub struct CopyStep {
     /// The entry.
     pub entry: Entry,
     /// The prefix that ends with it.
@@ -21,12 +21,12 @@ pub struct Step {
 #[derive(Drop)]
 pub struct CatalogueCopy {
     /// The catalogue.
-    pub catalogue: Kept,
+    pub catalogue: StoreCatalogue,
     /// The prefix of the history that it stands for.
     pub prefix: Prefix,
 }
 
-impl Absorb<Step> for CatalogueCopy {
+impl Absorb<CopyStep> for CatalogueCopy {
     ghost use Rattle.rs_store.specs.Contents.{followed};
     ghost use Rattle.rs_version.specs.Catalogues.{content_of};
 
@@ -38,7 +38,7 @@ impl Absorb<Step> for CatalogueCopy {
 
     /// An entry that the catalogue does not accept changes nothing. The step is only lent, so the entry is copied here; copies of a
     /// message share its bytes.
-    fn absorb_first(&mut self, step: &Step, _other: &CatalogueCopy) -> Result<(), AllocError> {
+    fn absorb_first(&mut self, step: &CopyStep, _other: &CatalogueCopy) -> Result<(), AllocError> {
         if self.catalogue.accepts(&step.entry).is_err() {
             return Err(AllocError);
         }

@@ -5,8 +5,8 @@ ghost use Rattle.left_right.specs.Sides.{view};
 ghost use Rattle.rs_version.specs.VersionRule.{Follows, known, applied, state};
 ghost use Rattle.rs_version.specs.Copies.{listed, shown, steps_of};
 
-use crate::catalogue_copy::{CatalogueCopy, Step};
-use crate::kept::Kept;
+use crate::catalogue::StoreCatalogue;
+use crate::catalogue_copy::{CatalogueCopy, CopyStep};
 use crate::prefix::Prefix;
 use crate::rule::{KnownVersion, Notes, Sees, VersionRule};
 use core::mem::replace_with;
@@ -18,20 +18,20 @@ use std::sync::Wait;
 pub type CopyReader = left_right::reader::Reader<CatalogueCopy, Option<KnownVersion>, VersionRule>;
 
 /// Changes the copy that is not published, and publishes it.
-pub type CopyWriter = Writer<CatalogueCopy, Step, Option<KnownVersion>, VersionRule>;
+pub type CopyWriter = Writer<CatalogueCopy, CopyStep, Option<KnownVersion>, VersionRule>;
 
 /// Both copies, and at most one step that the published one lacks. It is not `Drop`: end it by `end`.
 pub struct Copies {
     /// The copies, and the log of the steps that one of them lacks.
     pub writer: CopyWriter,
     /// A step for which the log had no memory.
-    pub waiting: Option<Step>,
+    pub waiting: Option<CopyStep>,
 }
 
 /// Publishes the step of the log, if there is one. It waits for the seats that still read the other copy.
 pub fn publish_once<R: Wait>(rt: &R, writer: CopyWriter) -> (CopyWriter, Result<(), AllocError>)
     requires one { length (drop writer.behind writer.log.items) ≤ 1 }
-    requires follows { (s : Step) → drop writer.behind writer.log.items ≡ s ∷ [] → Follows writer.desk.shown.value s }
+    requires follows { (s : CopyStep) → drop writer.behind writer.log.items ≡ s ∷ [] → Follows writer.desk.shown.value s }
     ensures { MatchResult result.1
         (λ _. (state result.0.desk.shown.value ≡ fold applied (state writer.desk.shown.value) (drop writer.behind writer.log.items)) × (drop result.0.behind result.0.log.items ≡ []) × (view result.0.desk.place ≡ Some (known result.0.desk.shown.value)))
         (λ _. (result.0.desk.shown.value ≡ writer.desk.shown.value) × (drop result.0.behind result.0.log.items ≡ drop writer.behind writer.log.items)) }
@@ -42,7 +42,7 @@ pub fn publish_once<R: Wait>(rt: &R, writer: CopyWriter) -> (CopyWriter, Result<
 /// The same in place.
 fn publish_in<R: Wait>(rt: &R, writer: &mut CopyWriter) -> Result<(), AllocError>
     requires one { length (drop writer.old.behind writer.old.log.items) ≤ 1 }
-    requires follows { (s : Step) → drop writer.old.behind writer.old.log.items ≡ s ∷ [] → Follows writer.old.desk.shown.value s }
+    requires follows { (s : CopyStep) → drop writer.old.behind writer.old.log.items ≡ s ∷ [] → Follows writer.old.desk.shown.value s }
     ensures { MatchResult result
         (λ _. (state writer.new.desk.shown.value ≡ fold applied (state writer.old.desk.shown.value) (drop writer.old.behind writer.old.log.items)) × (drop writer.new.behind writer.new.log.items ≡ []))
         (λ _. (writer.new.desk.shown.value ≡ writer.old.desk.shown.value) × (drop writer.new.behind writer.new.log.items ≡ drop writer.old.behind writer.old.log.items)) }
@@ -52,7 +52,7 @@ fn publish_in<R: Wait>(rt: &R, writer: &mut CopyWriter) -> Result<(), AllocError
         rt,
         |writer: CopyWriter, rt: &R| -> (CopyWriter, Result<(), AllocError>)
             requires one { length (drop writer.behind writer.log.items) ≤ 1 }
-            requires follows { (s : Step) → drop writer.behind writer.log.items ≡ s ∷ [] → Follows writer.desk.shown.value s }
+            requires follows { (s : CopyStep) → drop writer.behind writer.log.items ≡ s ∷ [] → Follows writer.desk.shown.value s }
             ensures { MatchResult result.1
                 (λ _. (state result.0.desk.shown.value ≡ fold applied (state writer.desk.shown.value) (drop writer.behind writer.log.items)) × (drop result.0.behind result.0.log.items ≡ []))
                 (λ _. (result.0.desk.shown.value ≡ writer.desk.shown.value) × (drop result.0.behind result.0.log.items ≡ drop writer.behind writer.log.items)) }
@@ -71,7 +71,7 @@ pub fn inform(writer: &mut CopyWriter, reader: &mut CopyReader)
 
 impl Copies {
     /// Takes a step. If there is no memory for it in the log, it waits beside the log.
-    pub fn push(&mut self, step: Step)
+    pub fn push(&mut self, step: CopyStep)
         requires { steps_of self.old ≡ [] }
         ensures shown { shown self.new ≡ shown self.old }
         ensures steps { steps_of self.new ≡ step ∷ [] }
@@ -102,7 +102,7 @@ impl Copies {
     /// Publishes the step, if there is one. If memory is refused, the published copy is as it was.
     pub fn publish<R: Wait>(&mut self, rt: &R) -> Result<(), AllocError>
         requires one { length (steps_of self.old) ≤ 1 }
-        requires follows { (s : Step) → steps_of self.old ≡ s ∷ [] → Follows (shown self.old) s }
+        requires follows { (s : CopyStep) → steps_of self.old ≡ s ∷ [] → Follows (shown self.old) s }
         ensures { MatchResult result
             (λ _. (state (shown self.new) ≡ fold applied (state (shown self.old)) (steps_of self.old)) × (steps_of self.new ≡ []))
             (λ _. (shown self.new ≡ shown self.old) × (steps_of self.new ≡ steps_of self.old)) }
@@ -112,7 +112,7 @@ impl Copies {
     }
 
     /// The catalogue of the published copy.
-    pub fn catalogue(&self) -> &Kept
+    pub fn catalogue(&self) -> &StoreCatalogue
         ensures { result.now ≡ (shown self.now).catalogue }
     {
         &self.writer.published().catalogue

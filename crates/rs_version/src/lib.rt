@@ -16,13 +16,13 @@
 #![tactic(auto)]
 
 mod blank;
+mod catalogue;
 mod catalogue_copy;
 mod copies;
 mod fault;
 mod history;
-mod kept;
-mod known;
 mod law;
+mod named;
 mod prefix;
 mod receipt;
 mod rule;

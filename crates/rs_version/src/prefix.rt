@@ -9,7 +9,7 @@ use logbook::{Offer, Seen, Word};
 use rs_message::Entry;
 use std::marker::Model;
 
-/// A prefix of a history: a token that the history has reached it, and its length. Contracts see it as the history and the
+/// A prefix of a history: a proof that the history has reached it, and its length. Contracts see it as the history and the
 /// entries of the prefix, which no code keeps.
 #[derive(Drop)]
 pub struct Prefix {

@@ -6,7 +6,7 @@ ghost use Rattle.rs_store.specs.History.{IsLegal};
 ghost use Rattle.rs_version.specs.Receipts.{StandsAt};
 
 use crate::history::StoreName;
-use crate::known::KnownList;
+use crate::named::NamedList;
 use rs_message::Entry;
 use std::marker::Model;
 
@@ -15,7 +15,7 @@ use std::marker::Model;
 /// It holds no entry, only a proof that the list was published and its length.
 #[derive(Drop)]
 pub struct Told<N: StoreName> {
-    pub(crate) list: KnownList<N>,
+    pub(crate) list: NamedList<N>,
 }
 
 impl<N: StoreName> Model for Told<N> {

@@ -8,11 +8,11 @@ ghost use Rattle.rs_store.specs.History.{IsAnswer, IsAnswerWithin, IsLegal, Stan
 ghost use Rattle.rs_version.specs.Catalogues.{content_of};
 ghost use Rattle.rs_version.specs.VersionRule.{Names, IsSound};
 
+use crate::catalogue::StoreCatalogue;
 use crate::catalogue_copy::CatalogueCopy;
 use crate::copies::CopyReader;
 use crate::history::StoreName;
-use crate::kept::Kept;
-use crate::known::KnownList;
+use crate::named::NamedList;
 use crate::receipt::Told;
 use crate::rule::Sees;
 use rs_message::Found;
@@ -36,7 +36,7 @@ pub struct Snapshot {
 #[derive(Drop)]
 pub struct Seat<N: StoreName> {
     reader: Option<CopyReader>,
-    known: KnownList<N>,
+    known: NamedList<N>,
 }
 
 impl<N: StoreName> Model for Seat<N> {
@@ -56,8 +56,8 @@ impl<N: StoreName> Model for Seat<N> {
 /// one.
 fn take_from<N: StoreName>(
     published: &CatalogueCopy,
-    known: &KnownList<N>,
-) -> Result<(KnownList<N>, Kept), AllocError>
+    known: &NamedList<N>,
+) -> Result<(NamedList<N>, StoreCatalogue), AllocError>
     requires sound { IsSound published.now }
     requires history { published.now.prefix.history ≡ N.history }
     requires limit { (content_of published.now.catalogue).limit ≡ N.limit }
@@ -65,7 +65,7 @@ fn take_from<N: StoreName>(
     ensures legal { IfOk result (λ r. IsLegal N.limit r.0) }
     ensures stands { IfOk result (λ r. Stands (content_of r.1) r.0) }
 {
-    let list: KnownList<N> = KnownList::of(published.prefix.again());
+    let list: NamedList<N> = NamedList::of(published.prefix.again());
     // Never: a publish is no shorter than what was published before. The rule of the published copy says so of what was read,
     // and not of what was learned from a token.
     if !list.reaches(known) {
@@ -76,8 +76,8 @@ fn take_from<N: StoreName>(
 
 /// What the catalogue of this list answers.
 fn look<N: StoreName>(
-    list: &KnownList<N>,
-    catalogue: &Kept,
+    list: &NamedList<N>,
+    catalogue: &StoreCatalogue,
     filter: &TopicFilter,
     now: u64,
 ) -> Result<Snapshot, AllocError>
@@ -94,8 +94,8 @@ fn look<N: StoreName>(
 
 /// The same if there are at most `room` messages, else no snapshot.
 fn look_within<N: StoreName>(
-    list: &KnownList<N>,
-    catalogue: &Kept,
+    list: &NamedList<N>,
+    catalogue: &StoreCatalogue,
     filter: &TopicFilter,
     now: u64,
     room: usize,
@@ -115,7 +115,7 @@ fn look_within<N: StoreName>(
 
 impl<N: StoreName> Seat<N> {
     /// A seat whose reader knows something of this store.
-    pub(crate) fn new(reader: CopyReader, known: KnownList<N>) -> Seat<N>
+    pub(crate) fn new(reader: CopyReader, known: NamedList<N>) -> Seat<N>
         requires { Names N.history N.limit (view reader.place) }
         ensures { result ≡ known }
     {
@@ -160,7 +160,7 @@ impl<N: StoreName> Seat<N> {
 
     /// Takes the list and the catalogue out of the published copy. The seat is inside of it for as long as a count takes, so a
     /// publish does not wait for a walk.
-    fn take(&mut self) -> Result<(KnownList<N>, Kept), AllocError>
+    fn take(&mut self) -> Result<(NamedList<N>, StoreCatalogue), AllocError>
         ensures same { self.new ≡ self.old }
         ensures later { IfOk result (λ r. IsPrefix self.old r.0) }
         ensures legal { IfOk result (λ r. IsLegal N.limit r.0) }

@@ -10,14 +10,14 @@ ghost use Rattle.rs_message.specs.declared.entry.Entry.{Entry};
 ghost use Rattle.rs_store.specs.History.{IsLegal, Stands, extended};
 ghost use Rattle.rs_version.specs.Catalogues.{content_of};
 ghost use Rattle.rs_version.specs.Receipts.{StandsAt};
-ghost use Rattle.rs_version.specs.Writer.{Written, Declines, IsReady, Precedes, Refuses, holds_back, kept_of, settled, shows};
+ghost use Rattle.rs_version.specs.Writer.{Written, Declines, IsReady, Precedes, Refuses, holds_back, kept_of, released, shows};
 
-use crate::catalogue_copy::Step;
+use crate::catalogue::StoreCatalogue;
+use crate::catalogue_copy::CopyStep;
 use crate::copies::{Copies, CopyWriter};
 use crate::fault::PutFault;
 use crate::history::StoreName;
-use crate::kept::Kept;
-use crate::known::{HistoryWord, KnownList};
+use crate::named::{HistoryWord, NamedList};
 use crate::receipt::{Receipt, Told};
 use rs_message::{Entry, Origin};
 use rs_store::{Calm, Refusal, judge};
@@ -35,7 +35,7 @@ pub struct VersionWriter<N: StoreName, R: Wait + Drop> {
     copies: Copies,
     history_word: HistoryWord<N>,
     // The kept list.
-    list: KnownList<N>,
+    list: NamedList<N>,
     // Of the catalogue that the kept list makes. Entries are judged by it, on the published copy.
     calm: Calm,
     held: Option<Entry>,
@@ -53,7 +53,11 @@ impl<N: StoreName, R: Wait + Drop> Model for VersionWriter<N, R> {
 }
 
 /// Whether the entry may come next, or after which Sweep.
-fn judge_on(catalogue: &Kept, calm: &mut Calm, entry: &Entry) -> Result<Option<Entry>, PutFault>
+fn judge_on(
+    catalogue: &StoreCatalogue,
+    calm: &mut Calm,
+    entry: &Entry,
+) -> Result<Option<Entry>, PutFault>
     requires { NoneExpiredBefore calm.old (content_of catalogue.now) }
     ensures stands { (history : List Entry) → Stands (content_of catalogue.now) history → MatchResult result
         (λ before. MatchOption before (IsLegal (content_of catalogue.now).limit (extended history entry.now)) (λ sweep. Precedes (content_of catalogue.now).limit history entry.now sweep))
@@ -70,10 +74,10 @@ fn judge_on(catalogue: &Kept, calm: &mut Calm, entry: &Entry) -> Result<Option<E
 
 /// Adds an entry to the history: its step, and the list with it. Its copy is made first, so a refusal leaves the history as it was.
 fn next_step<N: StoreName>(
-    list: &KnownList<N>,
+    list: &NamedList<N>,
     history_word: &HistoryWord<N>,
     entry: &Entry,
-) -> Result<(Step, KnownList<N>), AllocError>
+) -> Result<(CopyStep, NamedList<N>), AllocError>
     requires { IsLegal N.limit (extended list.now entry.now) }
     ensures step { IfOk result (λ r. (r.0.entry ≡ entry.now) × (r.0.after.history ≡ N.history) × (r.0.after.log ≡ r.1)) }
     ensures list { IfOk result (λ r. r.1 ≡ extended list.now entry.now) }
@@ -82,7 +86,7 @@ fn next_step<N: StoreName>(
     let Some(list) = list.followed(history_word, entry) else {
         return Err(AllocError);
     };
-    let step = Step {
+    let step = CopyStep {
         entry: copy,
         after: list.prefix(),
     };
@@ -109,7 +113,7 @@ impl<N: StoreName, R: Wait + Drop> VersionWriter<N, R> {
         rt: R,
         writer: CopyWriter,
         history_word: HistoryWord<N>,
-        list: KnownList<N>,
+        list: NamedList<N>,
     ) -> VersionWriter<N, R>
         requires steps { drop writer.behind writer.log.items ≡ [] }
         requires history { (writer.desk.shown.value.prefix.history ≡ N.history) × (list ≡ []) × (writer.desk.shown.value.prefix.log ≡ []) }
@@ -131,7 +135,7 @@ impl<N: StoreName, R: Wait + Drop> VersionWriter<N, R> {
 
     /// Publishes the held entry, if there is one, and gives it back. Refused, it is held as before.
     fn release(&mut self) -> Result<Option<Entry>, AllocError>
-        ensures { MatchResult result (λ o. (o ≡ self.old.held) × (self.new ≡ settled self.old)) (λ _. (self.old.held ≢ None) × (self.new ≡ self.old)) }
+        ensures { MatchResult result (λ o. (o ≡ self.old.held) × (self.new ≡ released self.old)) (λ _. (self.old.held ≢ None) × (self.new ≡ self.old)) }
     {
         let Some(_held) = &self.held else {
             return Ok(None);
@@ -247,7 +251,7 @@ impl<N: StoreName, R: Wait + Drop> VersionWriter<N, R> {
     ///
     /// [`AllocError`] if it could not be published. It is held as before.
     pub fn retry(&mut self) -> Result<Option<Receipt<N>>, AllocError>
-        ensures published { OnOk result (self.new ≡ settled self.old) }
+        ensures published { OnOk result (self.new ≡ released self.old) }
         ensures none { IfOk result (λ o. IfNone o ((self.old.held ≡ None) × (self.new ≡ self.old))) }
         ensures entry { IfOk result (λ o. IfSome o (λ r. self.old.held ≡ Some r.entry)) }
         ensures number { IfOk result (λ o. IfSome o (λ r. r.number ≡ length (kept_of self.old))) }
@@ -267,7 +271,7 @@ impl<N: StoreName, R: Wait + Drop> VersionWriter<N, R> {
         ensures legal { IsLegal N.limit self.now.published }
     {
         Told {
-            list: KnownList::of(self.copies.published()),
+            list: NamedList::of(self.copies.published()),
         }
     }
 

@@ -16,7 +16,7 @@ use Rattle.rs_window.specs.declared.fault.WindowFault.TheVariants.{TooManyWaitin
 use Rattle.rs_window.specs.declared.identifiers.Kind.{Kind}
 use Rattle.rs_window.specs.declared.identifiers.Kind.TheVariants.{AtLeastOnce, ExactlyOnce}
 use Rattle.rs_window.specs.declared.queue.Waiting.{Waiting}
-use Rattle.rs_window.specs.Values.{PublishValue}
+use Rattle.rs_window.specs.Values.{OutgoingValue}
 use Rattle.rs_window.specs.Identifiers.{Kinds, kind_sent, kinds_put, kinds_given, IsNumbered}
 use Rattle.rs_window.specs.State.{State}
 use Rattle.rs_window.specs.Waiting.{granted_at, is_dropped, sendable, AllDropped}
@@ -230,7 +230,7 @@ free_for : (before : List Call) (mid : State) (quality : Qos) (id : Option ℕ) 
 free_for before mid quality None known n = record { fits = n.fits; free = tt }
 free_for before mid quality (Some id) known n = record { fits = n.fits; free = sym (known id) ∙ n.free }
 
-pub fresh_id : (receive_maximum packet_maximum : ℕ) (before after : List Call) (now : ℕ) (p : PublishValue) (end : State) → Run (fresh receive_maximum packet_maximum) (before ++ Next now (Some p) ∷ after) end → IsFreeFor before p.qos p.id
+pub fresh_id : (receive_maximum packet_maximum : ℕ) (before after : List Call) (now : ℕ) (p : OutgoingValue) (end : State) → Run (fresh receive_maximum packet_maximum) (before ++ Next now (Some p) ∷ after) end → IsFreeFor before p.qos p.id
 fresh_id receive_maximum packet_maximum before after now p end h =
     let (mid, next, begun, step, later) = run_at (fresh receive_maximum packet_maximum) before (Next now (Some p)) after end h in
     free_for before mid p.qos p.id (kinds_read receive_maximum packet_maximum before mid begun) step.numbered

@@ -11,7 +11,7 @@ use Rattle.rs_packet.specs.Replies.{first_byte, reply_bytes}
 use Rattle.rs_packet.specs.declared.message.Remaining.TheVariants.{Expired}
 use Rattle.rs_message.specs.Messages.{remaining_of}
 use Rattle.rs_window.specs.declared.queue.Waiting.{Waiting}
-use Rattle.rs_window.specs.Values.{PublishValue}
+use Rattle.rs_window.specs.Values.{OutgoingValue}
 use Rattle.rs_window.specs.Packets.{reply_of}
 use Rattle.rs_window.specs.Identifiers.{Kinds, IsNumbered, kinds_given}
 use Rattle.rs_window.specs.State.{State}
@@ -81,7 +81,7 @@ needs_quota kinds quota w (x ∷ xs) e q n = (subst (λ (v : Waiting). lesser_qo
 pub first_current : (packet_maximum now : ℕ) (w : Waiting) (ws rest : List Waiting) → sendable packet_maximum now ws ≡ w ∷ rest → remaining_of w.found.message now ≢ Expired
 first_current packet_maximum now w ws rest e h = keeps packet_maximum now w (first_is_sent packet_maximum now w ws rest e) (inl h)
 
-pub is_given : (now : ℕ) (old : State) (kinds : Kinds) (rest : List Waiting) (first : Waiting) (p : PublishValue) (id : Option ℕ)
+pub is_given : (now : ℕ) (old : State) (kinds : Kinds) (rest : List Waiting) (first : Waiting) (p : OutgoingValue) (id : Option ℕ)
     → sendable old.packet_maximum now old.waiting ≡ first ∷ rest → p ≡ packet_at now first id
     → IsNumbered old.kinds old.quota (lesser_qos first) id → kinds ≡ kinds_given (lesser_qos first) id old.kinds
     → IsGiven now old p (record { kinds = kinds; waiting = rest; quota = old.quota; packet_maximum = old.packet_maximum })
@@ -93,7 +93,7 @@ is_given now old kinds rest first p id leaves same numbered becomes =
       numbered = numbered;
       becomes = ap (λ (k : Kinds). record { kinds = k; waiting = rest; quota = old.quota; packet_maximum = old.packet_maximum }) becomes;
     } in
-    subst (λ (r : PublishValue). IsGiven now old r (record { kinds = kinds; waiting = rest; quota = old.quota; packet_maximum = old.packet_maximum })) (sym same) given
+    subst (λ (r : OutgoingValue). IsGiven now old r (record { kinds = kinds; waiting = rest; quota = old.quota; packet_maximum = old.packet_maximum })) (sym same) given
 
 -- each that is given leaves fewer
 pub given_fewer : (packet_maximum now : ℕ) (old new : List Waiting) (first : Waiting) → sendable packet_maximum now old ≡ first ∷ new → length new < length old

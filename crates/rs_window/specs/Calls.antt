@@ -13,7 +13,7 @@ use Rattle.rs_window.specs.declared.identifiers.Kind.TheVariants.{AtLeastOnce, E
 use Rattle.rs_window.specs.declared.queue.Waiting.{Waiting}
 use Rattle.rs_window.specs.declared.queue.TheConstants.{MAX_WAITING}
 use Rattle.rs_window.specs.declared.window.TheConstants.{MAX_QUOTA}
-use Rattle.rs_window.specs.Values.{PublishValue}
+use Rattle.rs_window.specs.Values.{OutgoingValue}
 use Rattle.rs_window.specs.Identifiers.{Kinds, IsNumbered, kinds_put, kinds_given}
 use Rattle.rs_window.specs.State.{State}
 use Rattle.rs_window.specs.Waiting.{lesser_qos, sendable, granted_at, Carries}
@@ -31,7 +31,7 @@ pub data Acknowledgement : Type 0 where
 -- a call, and what was answered
 pub data Call : Type 0 where
   Queue : (found : List Found) (granted : Qos) (subscription : Option ℕ) (answer : Result (Unit {0}) WindowFault) → Call
-  Next : (now : ℕ) (given : Option PublishValue) → Call
+  Next : (now : ℕ) (given : Option OutgoingValue) → Call
   Acknowledge : (ack : Acknowledgement) (id : ℕ) (answer : Result Ack WindowFault) → Call
 
 -- ---- what an identifier waits for
@@ -83,7 +83,7 @@ NeedsQuota kinds quota [] = Unit {0}
 NeedsQuota kinds quota (w ∷ ws) = (lesser_qos w ≢ AtMostOnce) × (finite.len kinds ≡ quota)
 
 -- 4.6: the first message that is to be sent leaves the queue as this packet
-pub record IsGiven (now : ℕ) (old : State) (p : PublishValue) (new : State) : Type 0 where
+pub record IsGiven (now : ℕ) (old : State) (p : OutgoingValue) (new : State) : Type 0 where
   pub first : Waiting
   pub leaves : sendable old.packet_maximum now old.waiting ≡ first ∷ new.waiting
   pub carries : Carries old.packet_maximum now first p
@@ -91,7 +91,7 @@ pub record IsGiven (now : ℕ) (old : State) (p : PublishValue) (new : State) : 
   pub becomes : new ≡ record old { kinds = kinds_given p.qos p.id old.kinds; waiting = new.waiting }
 
 -- nothing is given only if nothing is left to be sent, or the quota is used up
-abbrev pub IsNext : ℕ → State → Option PublishValue → State → Type 0
+abbrev pub IsNext : ℕ → State → Option OutgoingValue → State → Type 0
 IsNext now old None new = (new ≡ record old { waiting = sendable old.packet_maximum now old.waiting }) × NeedsQuota old.kinds old.quota (sendable old.packet_maximum now old.waiting)
 IsNext now old (Some p) new = IsGiven now old p new
 

@@ -4,15 +4,15 @@ use Rattle.rs_packet.specs.Grammar.{IdFits}
 use Rattle.rs_packet.specs.declared.reply.Publication.{Publication}
 use Rattle.rs_packet.specs.declared.reply.Reply.{Reply}
 use Rattle.rs_packet.specs.declared.reply.Reply.TheVariants as reply
-use Rattle.rs_window.specs.Values.{PublishValue}
+use Rattle.rs_window.specs.Values.{OutgoingValue}
 
 -- 3.3.2.2, 3.3.2.3.3: there is an identifier if QoS is 1 or 2, and an interval if the message came with one
-pub record FieldsFit (p : PublishValue) : Type 0 where
+pub record FieldsFit (p : OutgoingValue) : Type 0 where
   pub id_fits : IdFits p.qos p.id
   pub expires : is_some p.expiry ≡ is_some p.message.expiry
 
 -- 3.3.1.3: with RETAIN 1 and DUP 0, as every PUBLISH of the server
-abbrev pub publication_of : PublishValue → Publication
+abbrev pub publication_of : OutgoingValue → Publication
 publication_of p = record {
   topic = p.topic;
   qos = p.qos;
@@ -23,5 +23,5 @@ publication_of p = record {
   payload = p.message.payload;
 }
 
-abbrev pub reply_of : PublishValue → Reply
+abbrev pub reply_of : OutgoingValue → Reply
 reply_of p = reply.Publish (publication_of p)

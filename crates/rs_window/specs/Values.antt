@@ -3,7 +3,7 @@ use Rattle.std.specs.Prelude.{ℕ, List, Option}
 use Rattle.rs_packet.specs.declared.packet.Qos.{Qos}
 use Rattle.rs_message.specs.Values.{MessageValue}
 
-pub record PublishValue : Type 0 where
+pub record OutgoingValue : Type 0 where
   pub topic : List ℕ
   pub message : MessageValue
   pub qos : Qos

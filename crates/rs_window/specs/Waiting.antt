@@ -8,7 +8,7 @@ use Rattle.rs_message.specs.declared.entry.Found.{Found}
 use Rattle.rs_packet.specs.declared.message.Remaining.{Remaining}
 use Rattle.rs_packet.specs.declared.message.Remaining.TheVariants.{Forever, Left, Expired}
 use Rattle.rs_message.specs.Messages.{remaining_of, is_expired}
-use Rattle.rs_window.specs.Values.{PublishValue}
+use Rattle.rs_window.specs.Values.{OutgoingValue}
 use Rattle.rs_window.specs.Packets.{reply_of}
 use Rattle.rs_window.specs.declared.queue.Waiting.{Waiting}
 
@@ -30,7 +30,7 @@ interval_sent (Left seconds) = Some seconds
 interval_sent Expired = None
 
 -- its packet with this interval and this identifier
-abbrev pub packet_with : Waiting → Option ℕ → Option ℕ → PublishValue
+abbrev pub packet_with : Waiting → Option ℕ → Option ℕ → OutgoingValue
 packet_with w expiry id = record {
   topic = w.found.topic;
   message = w.found.message;
@@ -41,7 +41,7 @@ packet_with w expiry id = record {
 }
 
 -- its packet at a given time
-abbrev pub packet_at : ℕ → Waiting → Option ℕ → PublishValue
+abbrev pub packet_at : ℕ → Waiting → Option ℕ → OutgoingValue
 packet_at now w id = packet_with w (interval_sent (remaining_of w.found.message now)) id
 
 -- 3.3.2.2: the QoS decides whether there is an identifier, and each has the same length
@@ -76,7 +76,7 @@ sendable packet_maximum now [] = []
 sendable packet_maximum now (w ∷ ws) = if is_dropped packet_maximum now w then sendable packet_maximum now ws else w ∷ ws
 
 -- a given PUBLISH is this message's packet at this time; the message has not expired, and the client takes the packet
-pub record Carries (packet_maximum now : ℕ) (w : Waiting) (p : PublishValue) : Type 0 where
+pub record Carries (packet_maximum now : ℕ) (w : Waiting) (p : OutgoingValue) : Type 0 where
   pub packet : p ≡ packet_at now w p.id
   pub current : remaining_of w.found.message now ≢ Expired
   pub fits : length (reply_bytes (reply_of p)) ≤ packet_maximum

@@ -4,7 +4,7 @@ ghost use Rattle.std.specs.Prelude.{◌≡◌, ℕ, ◌≤◌, min, Option, Some
 ghost use Rattle.std.specs.FinMap as finite;
 ghost use Rattle.rs_window.specs.declared.fault.Ack.{Ack};
 ghost use Rattle.rs_window.specs.declared.fault.WindowFault.{WindowFault};
-ghost use Rattle.rs_window.specs.Values.{PublishValue};
+ghost use Rattle.rs_window.specs.Values.{OutgoingValue};
 ghost use Rattle.rs_window.specs.State.{State};
 ghost use Rattle.rs_window.specs.Calls.{Call, Acknowledgement, Next, Acknowledge, fresh, answer_to};
 ghost use Rattle.rs_window.specs.declared.queue.TheConstants.{MAX_WAITING};
@@ -28,7 +28,7 @@ pub fn replay_law()
     ensures few { (receive_maximum packet_maximum : ℕ) (calls : List Call) (end : State) → Run (fresh receive_maximum packet_maximum) calls end
         → length end.waiting ≤ MAX_WAITING }
     // an identifier is given only while it is not in use
-    ensures identifiers { (receive_maximum packet_maximum : ℕ) (before after : List Call) (now : ℕ) (p : PublishValue) (end : State) → Run (fresh receive_maximum packet_maximum) (before ++ Next now (Some p) ∷ after) end
+    ensures identifiers { (receive_maximum packet_maximum : ℕ) (before after : List Call) (now : ℕ) (p : OutgoingValue) (end : State) → Run (fresh receive_maximum packet_maximum) (before ++ Next now (Some p) ∷ after) end
         → IsFreeFor before p.qos p.id }
     // nothing is given only if nothing waits or the quota is used up
     ensures none { (receive_maximum packet_maximum : ℕ) (before : List Call) (now : ℕ) (end : State) → Run (fresh receive_maximum packet_maximum) (before ++ Next now None ∷ []) end

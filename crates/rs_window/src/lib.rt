@@ -23,4 +23,4 @@ pub use identifiers::Kind;
 pub use inbound::Inbound;
 pub use law::replay_law;
 pub use queue::{MAX_WAITING, Waiting};
-pub use window::{MAX_QUOTA, Publish, Window};
+pub use window::{MAX_QUOTA, Outgoing, Window};

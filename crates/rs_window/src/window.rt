@@ -24,7 +24,7 @@ const _: () = prove!(MAX_QUOTA == 1024);
 
 /// A retained message as it is sent at a given time.
 #[derive(Drop)]
-pub struct Publish {
+pub struct Outgoing {
     /// The topic and its retained message.
     pub found: Found,
     /// The lesser of the published and the granted QoS (3.8.4).
@@ -37,20 +37,20 @@ pub struct Publish {
     pub subscription: Option<SubscriptionId>,
 }
 
-impl Model for Publish {
-    ghost use Rattle.rs_window.specs.Values.{PublishValue};
+impl Model for Outgoing {
+    ghost use Rattle.rs_window.specs.Values.{OutgoingValue};
 
-    ghost Value = { PublishValue };
+    ghost Value = { OutgoingValue };
 
     ghost use Rattle.rs_window.specs.Packets.{FieldsFit};
-    ghost use Rattle.rs_window.specs.Views.{publish_view};
+    ghost use Rattle.rs_window.specs.Views.{outgoing_view};
 
-    ghost view = { publish_view };
+    ghost view = { outgoing_view };
 
-    ghost invariant = { λ p. FieldsFit (publish_view p) };
+    ghost invariant = { λ p. FieldsFit (outgoing_view p) };
 }
 
-impl Publish {
+impl Outgoing {
     ghost use Rattle.std.specs.Prelude.{◌≡◌};
     ghost use Rattle.rs_window.specs.Packets.{reply_of};
 
@@ -58,7 +58,7 @@ impl Publish {
     pub fn reply(self) -> Reply
         ensures { result ≡ reply_of self }
     {
-        let Publish {
+        let Outgoing {
             found,
             qos,
             id,
@@ -83,7 +83,7 @@ fn interval_at(message: &Message, now: u64) -> Option<u32>
 }
 
 /// What is sent of a message at this time.
-fn publish_of(waiting: Waiting, now: u64, id: Option<PacketId>) -> Publish
+fn outgoing_of(waiting: Waiting, now: u64, id: Option<PacketId>) -> Outgoing
     requires fits { IdFits (lesser_qos waiting) id }
     requires current { remaining_of waiting.found.message now ≢ Remaining.Expired }
     ensures { result ≡ packet_at now waiting id }
@@ -95,7 +95,7 @@ fn publish_of(waiting: Waiting, now: u64, id: Option<PacketId>) -> Publish
         granted: _,
         subscription,
     } = waiting;
-    Publish {
+    Outgoing {
         found,
         qos,
         id,
@@ -197,13 +197,13 @@ impl Window {
     /// The next message to be sent, at `now` in seconds. Messages before it that have expired, or whose packets are longer
     /// than the client takes, are dropped. None if nothing is left, or if the first message needs an identifier and the
     /// quota is used up (4.9). It takes no memory.
-    pub fn next(&mut self, now: u64) -> Option<Publish>
+    pub fn next(&mut self, now: u64) -> Option<Outgoing>
         ensures step { IsNext now self.old result self.new }
         ensures fewer { IfSome result (λ _. length self.new.waiting < length self.old.waiting) }
     {
         drop_unsendable(&mut self.waiting, now, self.packet_maximum);
         let (first, id) = take_first(&mut self.waiting, &mut self.identifiers, self.quota)?;
-        Some(publish_of(first, now, id))
+        Some(outgoing_of(first, now, id))
     }
 
     /// Handles a PUBACK (4.3.2), whatever its reason code. `WrongKind` if the identifier was sent at QoS 2.

@@ -4,7 +4,7 @@ ghost use Rattle.std.specs.Prelude.{◌≡◌, false, IfSome};
 ghost use Rattle.rs_message.specs.Messages.{is_sweep};
 
 use crate::samples::{blank_store, set};
-use rs_intake::{LineName, Reply, read_reply};
+use rs_intake::{LineName, WriterReply, read_reply};
 use rs_message::{Entry, Origin};
 use rs_version::{Blank, PutFault};
 use std::alloc::Global;
@@ -22,7 +22,7 @@ fn first_entry(alloc: Global, payload: &[u8]) -> Option<Entry>
 }
 
 /// What a line of this entry answers if this comes back.
-fn code_of<N: LineName>(reply: Reply<N>, entry: &Entry) -> Option<u8> {
+fn code_of<N: LineName>(reply: WriterReply<N>, entry: &Entry) -> Option<u8> {
     match read_reply::<N>(reply, entry) {
         Ok(_) => None,
         Err(fault) => Some(fault.code()),
@@ -42,7 +42,7 @@ fn are_told<N: LineName>(entry: &Entry) -> Option<bool> {
     ];
     for (origin, fault, code) in rows {
         let answer = Err(fault);
-        if code_of::<N>(Reply { origin, answer }, entry)? != code {
+        if code_of::<N>(WriterReply { origin, answer }, entry)? != code {
             return Some(false);
         }
     }
@@ -50,14 +50,14 @@ fn are_told<N: LineName>(entry: &Entry) -> Option<bool> {
 }
 
 /// The reply to this entry, which a new store takes.
-fn reply_to<N: LineName, R: Wait>(rt: &R, blank: Blank, entry: Entry) -> Option<Reply<N>>
+fn reply_to<N: LineName, R: Wait>(rt: &R, blank: Blank, entry: Entry) -> Option<WriterReply<N>>
     requires store { (blank.history ≡ N.history) × (blank.limit ≡ N.limit) }
     requires change { is_sweep entry.operation ≡ false }
 {
     let (mut writer, _seats) = blank.open::<N, &R>(rt).ok()?;
     let origin = entry.origin;
     let answer = writer.put(entry);
-    Some(Reply { origin, answer })
+    Some(WriterReply { origin, answer })
 }
 
 /// What a line answers to the receipt for another entry of its origin.

@@ -4,7 +4,7 @@ use super::log::{Log, Outcome, Reading, totals_of};
 use super::places::{Plan, Writing, run};
 use super::script::Script;
 use rs_message::{Entry, Found};
-use rs_store::{Catalogue, MapCatalogue, Store, TopicLimit};
+use rs_store::{CalmCatalogue, Catalogue, MapCatalogue, TopicLimit};
 use rs_topic::TopicFilter;
 use std::alloc::Global;
 use std::test::Fail;
@@ -51,7 +51,7 @@ fn add_text(alloc: Global, catalogue: &MapCatalogue, texts: &mut Vec<Vec<u8>>) -
 }
 
 /// Adds a copy of the entry, which is no Sweep.
-fn add(store: &mut Store<MapCatalogue>, entry: &Entry) -> Option<()> {
+fn add(store: &mut CalmCatalogue<MapCatalogue>, entry: &Entry) -> Option<()> {
     if entry.operation.is_sweep() {
         return None;
     }
@@ -61,7 +61,7 @@ fn add(store: &mut Store<MapCatalogue>, entry: &Entry) -> Option<()> {
 /// What a store of one thread reads after each of the entries, from none to this many, in the order of their numbers.
 fn texts(alloc: Global, logs: &Vec<Log>, version: u64) -> Option<Vec<Vec<u8>>> {
     let limit = TopicLimit::new(TOPICS)?;
-    let mut store: Store<MapCatalogue> = Store::new(alloc, limit).ok()?;
+    let mut store: CalmCatalogue<MapCatalogue> = CalmCatalogue::new(alloc, limit).ok()?;
     let mut texts = Vec::new(alloc);
     add_text(alloc, store.catalogue(), &mut texts)?;
     for before in 0..version {

@@ -7,7 +7,7 @@ ghost use Rattle.rs_tree.specs.Answers.{Enters, Gives, Steps};
 ghost use Rattle.rs_tree.specs.Nodes.{stem_spots};
 ghost use Rattle.rs_tree.specs.Rows.{parts};
 
-use super::{Below, Branch, Child, Stem, place_of};
+use super::{Below, Branch, Child, Stem, index_of};
 use crate::chain::past;
 use crate::held::answer_held;
 use rs_store::{Answer, Stop};
@@ -132,7 +132,7 @@ impl Branch {
         if is_plus(level) {
             return answer_each(self.children.as_slice(), filter, at, next, now, answer);
         }
-        match place_of(self.children.as_slice(), level) {
+        match index_of(self.children.as_slice(), level) {
             Ok(i) => self.children[i].answer(filter, at, next, now, answer),
             Err(_) => Ok(()),
         }

@@ -8,7 +8,7 @@ ghost use Rattle.rs_tree.specs.Clearing.{Clears, ClearsAs};
 ghost use Rattle.rs_tree.specs.Nodes.{stem_spots};
 ghost use Rattle.rs_tree.specs.Rows.{Leads};
 
-use super::{Below, Branch, Child, Stem, place_of};
+use super::{Below, Branch, Child, Stem, index_of};
 use crate::chain::behind;
 use crate::cleared::Cleared;
 use crate::shared::Shared;
@@ -114,7 +114,7 @@ impl Branch {
         let Some((level, next)) = level_at(topic, at) else {
             return Ok(self.clear_held());
         };
-        let Ok(i) = place_of(self.children.as_slice(), level) else {
+        let Ok(i) = index_of(self.children.as_slice(), level) else {
             return Ok(Cleared::Missing);
         };
         match self.children[i].clear(alloc, topic, at, next) {

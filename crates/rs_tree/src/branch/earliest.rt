@@ -9,7 +9,7 @@ use super::{Below, Branch, Child};
 use crate::shared::Shared;
 use rs_store::lowered;
 
-/// A bound, or the first moment at which the message of one place is expired if that is earlier.
+/// A bound, or the first moment at which the message of one spot is expired if that is earlier.
 fn lowered_by_held(held: &Option<Shared>, bound: u64) -> u64
     ensures { result ≡ earliest bound (own held.now) }
 {

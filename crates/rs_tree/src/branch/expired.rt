@@ -11,7 +11,7 @@ use super::{Below, Branch, Child};
 use crate::shared::Shared;
 use rs_store::is_expired;
 
-/// Counts the message of one place, if it is expired.
+/// Counts the message of one spot, if it is expired.
 fn count_held(held: &Option<Shared>, now: u64, count: &mut u32)
     ensures { count.old + length (own held.now) ≤ MAX_TOPICS → count.new ≡ count.old + length (filter (is_expired_spot now) (own held.now)) }
 {

@@ -6,7 +6,7 @@ ghost use Rattle.rs_tree.specs.Spots.{is_there};
 ghost use Rattle.rs_tree.specs.Nodes.{stem_spots};
 ghost use Rattle.rs_tree.specs.Rows.{Leads};
 
-use super::{Below, Branch, Child, Stem, place_of};
+use super::{Below, Branch, Child, Stem, index_of};
 use crate::chain::behind;
 use rs_topic::level_at;
 
@@ -47,7 +47,7 @@ impl Branch {
         let Some((level, next)) = level_at(topic, at) else {
             return self.held.is_some();
         };
-        match place_of(self.children.as_slice(), level) {
+        match index_of(self.children.as_slice(), level) {
             Ok(i) => self.children[i].holds(topic, at, next),
             Err(_) => false,
         }

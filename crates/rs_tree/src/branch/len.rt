@@ -8,7 +8,7 @@ ghost use Rattle.rs_tree.specs.Rows.{parts};
 use super::{Below, Branch, Child};
 use crate::shared::Shared;
 
-/// The number of messages of one place.
+/// The number of messages of one spot.
 fn held_len(held: &Option<Shared>) -> usize
     ensures { result ≡ length (own held.now) }
 {

@@ -10,7 +10,7 @@ ghost use Rattle.rs_tree.specs.Nodes.{stem_spots};
 ghost use Rattle.rs_tree.specs.Rows.{Leads};
 
 use super::rows::single;
-use super::{Below, Branch, Child, Stem, place_of};
+use super::{Below, Branch, Child, Stem, index_of};
 use crate::bucket::Bucket;
 use crate::chain::{behind, shared_levels};
 use crate::label::Label;
@@ -227,7 +227,7 @@ impl Branch {
             self.held = Some(found);
             return Ok(was);
         };
-        match place_of(self.children.as_slice(), level) {
+        match index_of(self.children.as_slice(), level) {
             Ok(i) => self.children[i].hold(alloc, found, at, next),
             Err(i) => {
                 let label = Label::of(alloc, level, &found, at)?;
@@ -251,7 +251,7 @@ impl Branch {
             self.held = Some(found);
             return Ok(was);
         };
-        match place_of(self.children.as_slice(), level) {
+        match index_of(self.children.as_slice(), level) {
             Ok(i) => {
                 let done = self.children[i].set(alloc, found, at, next);
                 self.divide(alloc, i);

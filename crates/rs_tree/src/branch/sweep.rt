@@ -23,7 +23,7 @@ enum Rest {
     Nothing,
 }
 
-/// The message of one place, unless it is expired, and notes if it goes.
+/// The message of one spot, unless it is expired, and notes if it goes.
 fn held_swept(
     held: &Option<Shared>,
     moment: u64,

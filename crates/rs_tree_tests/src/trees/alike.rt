@@ -7,7 +7,7 @@ use super::joined::{cleared_rows, deep, lone_messages, swept_rows};
 use super::wide::{grown, swept_grown};
 use super::{as_many, origin, set_at};
 use rs_message::{Entry, Operation};
-use rs_store::{Catalogue, MapCatalogue, Refusal, Store, TopicLimit};
+use rs_store::{CalmCatalogue, Catalogue, MapCatalogue, Refusal, TopicLimit};
 use rs_topic::{TopicFilter, TopicName};
 use rs_tree::TreeCatalogue;
 use std::alloc::{AllocError, Global};
@@ -106,7 +106,7 @@ pub fn operation_of(alloc: Global, name: &[u8], kind: u64) -> Result<Operation, 
 
 pub fn put<C: Catalogue>(
     alloc: Global,
-    store: &mut Store<C>,
+    store: &mut CalmCatalogue<C>,
     serial: u64,
     name: &[u8],
     kind: u64,
@@ -203,8 +203,8 @@ fn are_alike<C: Catalogue, D: Catalogue>(
 fn entries<C: Catalogue, D: Catalogue>(
     rt: &impl Abort,
     alloc: Global,
-    first: &mut Store<C>,
-    second: &mut Store<D>,
+    first: &mut CalmCatalogue<C>,
+    second: &mut CalmCatalogue<D>,
 ) -> Result<(), Fail> {
     let mut draw = Draw { state: 7 };
     for serial in 1..1001 {
@@ -231,8 +231,8 @@ fn copies_are_alike<C: Catalogue + Drop, D: Catalogue + Drop>(
 fn filled<C: Catalogue + Drop>(
     rt: &impl Abort,
     alloc: Global,
-    map: &mut Store<C>,
-    tree: &mut Store<TreeCatalogue>,
+    map: &mut CalmCatalogue<C>,
+    tree: &mut CalmCatalogue<TreeCatalogue>,
 ) -> Result<(), Fail> {
     entries(rt, alloc, map, tree)?;
     let (map, tree) = (map.catalogue(), tree.catalogue());
@@ -244,8 +244,8 @@ fn filled<C: Catalogue + Drop>(
 /// Sets or clears one topic in both.
 pub fn put_both(
     alloc: Global,
-    map: &mut Store<MapCatalogue>,
-    tree: &mut Store<TreeCatalogue>,
+    map: &mut CalmCatalogue<MapCatalogue>,
+    tree: &mut CalmCatalogue<TreeCatalogue>,
     name: &[u8],
     kind: u64,
 ) -> Result<(), Fail> {
@@ -286,8 +286,8 @@ pub enum Case {
 
 pub fn check(rt: &impl Abort, alloc: Global, topics: u32, check: Case) -> Result<(), Fail> {
     let limit = TopicLimit::new(topics).ok_or("a limit")?;
-    let mut map: Store<MapCatalogue> = Store::new(alloc, limit)?;
-    let mut tree: Store<TreeCatalogue> = Store::new(alloc, limit)?;
+    let mut map: CalmCatalogue<MapCatalogue> = CalmCatalogue::new(alloc, limit)?;
+    let mut tree: CalmCatalogue<TreeCatalogue> = CalmCatalogue::new(alloc, limit)?;
     match check {
         Case::Entries => filled(rt, alloc, &mut map, &mut tree),
         Case::Deep => deep(rt, alloc, &mut map, &mut tree),

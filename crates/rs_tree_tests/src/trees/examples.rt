@@ -5,7 +5,9 @@ ghost use Rattle.rs_message.specs.Messages.{is_sweep};
 
 use super::{origin, set_at};
 use rs_message::{Entry, Operation, Origin};
-use rs_store::{Catalogue, MAX_TOPICS, MapCatalogue, Refusal, Store, TopicLimit, content_law};
+use rs_store::{
+    CalmCatalogue, Catalogue, MAX_TOPICS, MapCatalogue, Refusal, TopicLimit, content_law,
+};
 use rs_topic::{TopicFilter, TopicName};
 use rs_tree::TreeCatalogue;
 use std::alloc::Global;
@@ -77,7 +79,7 @@ fn refusal(answer: Result<(), Refusal>) -> Option<Refusal> {
 /// Adds a Set or a Clear, or says why it is refused.
 fn add<C: Catalogue>(
     alloc: Global,
-    store: &mut Store<C>,
+    store: &mut CalmCatalogue<C>,
     change: Change,
 ) -> Result<Option<Refusal>, Fail> {
     let origin = origin_of(change)?;
@@ -137,7 +139,7 @@ fn says<C: Catalogue>(alloc: Global, catalogue: &C, fact: Fact) -> Result<bool, 
 fn in_store<C: Catalogue>(
     rt: &impl Abort,
     alloc: Global,
-    store: &mut Store<C>,
+    store: &mut CalmCatalogue<C>,
     steps: &[Step],
 ) -> Result<(), Fail> {
     for step in steps {
@@ -189,7 +191,7 @@ fn check_store<C: Catalogue + Drop>(
     steps: [&[Step]; 2],
     facts: &[Fact],
 ) -> Result<(), Fail> {
-    let mut store: Store<C> = Store::new(alloc, limit)?;
+    let mut store: CalmCatalogue<C> = CalmCatalogue::new(alloc, limit)?;
     in_store(rt, alloc, &mut store, steps[0])?;
     says_all(rt, alloc, store.catalogue(), facts)?;
     let copy = store.catalogue().copy()?;

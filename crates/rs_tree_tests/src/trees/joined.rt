@@ -1,7 +1,7 @@
 //! How many branches are left when messages go.
 
 use super::alike::{Case, LATE, all_alike, check, put_both};
-use rs_store::{Catalogue, MapCatalogue, Store};
+use rs_store::{CalmCatalogue, Catalogue, MapCatalogue};
 use rs_tree::TreeCatalogue;
 use std::alloc::Global;
 use std::process::Abort;
@@ -24,8 +24,8 @@ fn below(alloc: Global, levels: u64, last: &[u8]) -> Result<Vec<u8>, Fail> {
 fn at_each_level(
     rt: &impl Abort,
     alloc: Global,
-    map: &mut Store<MapCatalogue>,
-    tree: &mut Store<TreeCatalogue>,
+    map: &mut CalmCatalogue<MapCatalogue>,
+    tree: &mut CalmCatalogue<TreeCatalogue>,
     kind: u64,
 ) -> Result<(), Fail> {
     for i in 0..127 {
@@ -43,8 +43,8 @@ fn at_each_level(
 pub fn deep(
     rt: &impl Abort,
     alloc: Global,
-    map: &mut Store<MapCatalogue>,
-    tree: &mut Store<TreeCatalogue>,
+    map: &mut CalmCatalogue<MapCatalogue>,
+    tree: &mut CalmCatalogue<TreeCatalogue>,
 ) -> Result<(), Fail> {
     put_both(alloc, map, tree, below(alloc, 127, b"c")?.as_slice(), 1)?;
     put_both(alloc, map, tree, below(alloc, 127, b"d")?.as_slice(), 1)?;
@@ -68,8 +68,8 @@ fn shared_levels(rt: HostRuntime) -> Result<(), Fail> {
 fn left_alone(
     rt: &impl Abort,
     alloc: Global,
-    map: &mut Store<MapCatalogue>,
-    tree: &mut Store<TreeCatalogue>,
+    map: &mut CalmCatalogue<MapCatalogue>,
+    tree: &mut CalmCatalogue<TreeCatalogue>,
     name: &[u8],
 ) -> Result<(), Fail> {
     let lasts: [&[u8]; 9] = [b"", b"/1", b"/2", b"/3", b"/4", b"/5", b"/6", b"/7", b"/8"];
@@ -96,8 +96,8 @@ fn left_alone(
 pub fn lone_messages(
     rt: &impl Abort,
     alloc: Global,
-    map: &mut Store<MapCatalogue>,
-    tree: &mut Store<TreeCatalogue>,
+    map: &mut CalmCatalogue<MapCatalogue>,
+    tree: &mut CalmCatalogue<TreeCatalogue>,
 ) -> Result<(), Fail> {
     let names: [&[u8]; 5] = [b"a/a", b"a/b", b"b/a", b"b/b", b"c"];
     for name in names {
@@ -117,8 +117,8 @@ fn lone_messages_are_joined(rt: HostRuntime) -> Result<(), Fail> {
 /// Sets or clears many topics at each of three places, of which one stays at each.
 fn put_many(
     alloc: Global,
-    map: &mut Store<MapCatalogue>,
-    tree: &mut Store<TreeCatalogue>,
+    map: &mut CalmCatalogue<MapCatalogue>,
+    tree: &mut CalmCatalogue<TreeCatalogue>,
     kind: u64,
 ) -> Result<(), Fail> {
     for i in 3..600u32 {
@@ -136,8 +136,8 @@ fn put_many(
 pub fn cleared_rows(
     rt: &impl Abort,
     alloc: Global,
-    map: &mut Store<MapCatalogue>,
-    tree: &mut Store<TreeCatalogue>,
+    map: &mut CalmCatalogue<MapCatalogue>,
+    tree: &mut CalmCatalogue<TreeCatalogue>,
 ) -> Result<(), Fail> {
     put_many(alloc, map, tree, 1)?;
     assert!(rt; 10 < tree.catalogue().branches());
@@ -157,8 +157,8 @@ fn cleared_rows_are_joined(rt: HostRuntime) -> Result<(), Fail> {
 pub fn swept_rows(
     rt: &impl Abort,
     alloc: Global,
-    map: &mut Store<MapCatalogue>,
-    tree: &mut Store<TreeCatalogue>,
+    map: &mut CalmCatalogue<MapCatalogue>,
+    tree: &mut CalmCatalogue<TreeCatalogue>,
 ) -> Result<(), Fail> {
     put_many(alloc, map, tree, 0)?;
     assert!(rt; 10 < tree.catalogue().branches());

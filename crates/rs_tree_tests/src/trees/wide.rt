@@ -1,7 +1,7 @@
 //! Many levels side by side, so that rows are divided, and copies that never change.
 
 use super::alike::{Case, LATE, all_alike, check, put_both};
-use rs_store::{Catalogue, MapCatalogue, Store};
+use rs_store::{CalmCatalogue, Catalogue, MapCatalogue};
 use rs_tree::TreeCatalogue;
 use std::alloc::Global;
 use std::process::Abort;
@@ -26,8 +26,8 @@ fn name_of(alloc: Global, number: u64) -> Result<Vec<u8>, Fail> {
 /// Sets or clears the topic of a number in both.
 fn put_number(
     alloc: Global,
-    map: &mut Store<MapCatalogue>,
-    tree: &mut Store<TreeCatalogue>,
+    map: &mut CalmCatalogue<MapCatalogue>,
+    tree: &mut CalmCatalogue<TreeCatalogue>,
     number: u64,
     kind: u64,
 ) -> Result<(), Fail> {
@@ -42,8 +42,8 @@ const FILTERS: &[&[u8]] = &[b"#", b"+", b"+/deep", b"0010", b"7000/#", b"9999"];
 pub fn grown(
     rt: &impl Abort,
     alloc: Global,
-    map: &mut Store<MapCatalogue>,
-    tree: &mut Store<TreeCatalogue>,
+    map: &mut CalmCatalogue<MapCatalogue>,
+    tree: &mut CalmCatalogue<TreeCatalogue>,
     step: u64,
 ) -> Result<(), Fail> {
     for i in 0..MANY / 2 {
@@ -77,8 +77,8 @@ fn rows(rt: HostRuntime) -> Result<(), Fail> {
 pub fn swept_grown(
     rt: &impl Abort,
     alloc: Global,
-    map: &mut Store<MapCatalogue>,
-    tree: &mut Store<TreeCatalogue>,
+    map: &mut CalmCatalogue<MapCatalogue>,
+    tree: &mut CalmCatalogue<TreeCatalogue>,
 ) -> Result<(), Fail> {
     for i in 0..1000 {
         let kind = if i % 4 == 0 { 1 } else { 0 };

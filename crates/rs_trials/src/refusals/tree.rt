@@ -4,7 +4,7 @@ use crate::failure::{Failure, expect};
 use crate::keeper::{Answer, Keeper};
 use crate::samples::{Change, HOUSE, Naming, entry, topic};
 use rs_message::{Entry, Found, Remaining};
-use rs_store::{Catalogue, Store, TopicLimit};
+use rs_store::{CalmCatalogue, Catalogue, TopicLimit};
 use rs_topic::{TopicFilter, TopicName};
 use rs_tree::TreeCatalogue;
 use std::alloc::Global;
@@ -49,9 +49,9 @@ struct Copied {
 #[derive(Drop)]
 struct Run {
     alloc: Global,
-    store: Store<TreeCatalogue>,
+    store: CalmCatalogue<TreeCatalogue>,
     filters: Vec<TopicFilter>,
-    // How often memory was refused: to a topic of each kind of place, which `Naming::Houses` has in turn, to one behind a Sweep, and
+    // How often memory was refused: to a topic of each kind of spot, which `Naming::Houses` has in turn, to one behind a Sweep, and
     // to a Clear.
     refused: Vec<u64>,
 }
@@ -281,14 +281,14 @@ fn new(alloc: Global) -> Result<Run, Failure> {
     let limit = TopicLimit::new(TOPICS).ok_or(Failure::Wrong)?;
     Ok(Run {
         alloc,
-        store: Store::new(alloc, limit)?,
+        store: CalmCatalogue::new(alloc, limit)?,
         filters,
         refused: vec![in alloc; 0u64, 0, 0, 0, 0, 0]?,
     })
 }
 
 /// Adds new topics one after the other, clears and copies now and then, and returns how often memory was refused for a topic of each
-/// kind of place, for one behind a Sweep, and for a Clear.
+/// kind of spot, for one behind a Sweep, and for a Clear.
 pub fn work(alloc: Global) -> Result<Vec<u64>, Failure> {
     let mut run = new(alloc)?;
     for number in 0..ADDED {

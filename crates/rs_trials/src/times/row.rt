@@ -14,10 +14,10 @@ use std::time::{Duration, Instant};
 /// A prime that divides no number of topics that are in no order.
 const STEP: u64 = 7919;
 
-/// The messages that come at 0 are expired at this moment if their place in the row is even.
+/// The messages that come at 0 are expired at this moment if their index in the row is even.
 pub const EARLY: u64 = 1_000_000;
 
-/// Sets whose messages come at this moment: those at even places are expired before the others.
+/// Sets whose messages come at this moment: those at even indices are expired before the others.
 pub fn expiring(received: u64) -> (Change, Change) {
     let early = EARLY as u32;
     (
@@ -26,17 +26,17 @@ pub fn expiring(received: u64) -> (Change, Change) {
     )
 }
 
-/// Entries, each at a place: from the place `from` on, and before the place `to`.
+/// Entries, each at an index: from the index `from` on, and before the index `to`.
 #[derive(Clone, Copy)]
 pub struct Row {
     pub naming: Naming,
-    /// The serial at place 0, whether the row has it or not.
+    /// The serial at index 0, whether the row has it or not.
     pub serial: u64,
     pub from: u32,
     pub to: u32,
     /// So many topics are in no order. 0 if they are in order.
     pub among: u32,
-    /// What each does whose place is even, and what each other one.
+    /// What each does whose index is even, and what each other one.
     pub changes: (Change, Change),
     /// How each must be answered.
     pub wanted: Answer,
@@ -57,7 +57,7 @@ pub fn in_order(naming: Naming, topics: u32) -> Row {
 }
 
 impl Row {
-    /// The number of the topic that stands at this place.
+    /// The number of the topic that stands at this index.
     fn number(&self, at: u32) -> u64 {
         match u64::from(self.among) {
             0 => u64::from(at),
@@ -65,7 +65,7 @@ impl Row {
         }
     }
 
-    /// The entry that stands at this place.
+    /// The entry that stands at this index.
     fn entry(&self, alloc: Global, at: u32) -> Result<Entry, Failure>
         ensures { IfOk result (λ e. is_sweep e.operation ≡ false) }
     {

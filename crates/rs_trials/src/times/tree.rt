@@ -4,7 +4,7 @@ use super::row::{EARLY, Row, expiring, fill, in_order, nanos, timed};
 use crate::failure::{Failure, expect};
 use crate::keeper::{Answer, Keeper};
 use crate::samples::{Change, Naming};
-use rs_store::{Catalogue, Store, TopicLimit};
+use rs_store::{CalmCatalogue, Catalogue, TopicLimit};
 use rs_topic::TopicFilter;
 use rs_tree::TreeCatalogue;
 use std::alloc::Global;
@@ -121,7 +121,7 @@ fn answered<C: Clock>(
 fn done<C: Clock>(
     clock: &C,
     alloc: Global,
-    store: &mut Store<TreeCatalogue>,
+    store: &mut CalmCatalogue<TreeCatalogue>,
     step: &Step,
 ) -> Result<Option<u64>, Failure> {
     match step {
@@ -150,7 +150,7 @@ fn all_done<C: Clock>(
     steps: &[Step],
 ) -> Result<Vec<u64>, Failure> {
     let mut times = Vec::new(alloc);
-    let mut store: Store<TreeCatalogue> = Store::new(alloc, limit)?;
+    let mut store: CalmCatalogue<TreeCatalogue> = CalmCatalogue::new(alloc, limit)?;
     for step in steps {
         if let Some(took) = done(clock, alloc, &mut store, step)? {
             times.push(took)?;

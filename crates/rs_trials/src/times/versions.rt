@@ -61,7 +61,7 @@ impl Shared {
     }
 }
 
-/// One entry, by its serial and the place of its topic in the row that was filled.
+/// One entry, by its serial and the index of its topic in the row that was filled.
 fn one(filled: &Row, serial: u64, at: u32, changes: (Change, Change)) -> Row {
     Row {
         serial: serial.wrapping_sub(u64::from(at)),

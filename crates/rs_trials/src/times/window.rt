@@ -4,7 +4,7 @@ use crate::failure::Failure;
 use crate::samples::messages;
 use rs_packet::{PacketId, Qos};
 use rs_topic::TopicName;
-use rs_window::{Publish, Window};
+use rs_window::{Outgoing, Window};
 use std::alloc::Global;
 
 /// Acknowledges a PUBLISH as its quality asks.
@@ -27,7 +27,7 @@ fn round(alloc: Global, window: &mut Window) -> Result<(), Failure> {
     let publish = window.next(0).ok_or(Failure::Wrong)?;
     let id = publish.id.ok_or(Failure::Wrong)?;
     acknowledge(window, publish.qos, id)?;
-    let Publish { found, .. } = publish;
+    let Outgoing { found, .. } = publish;
     let mut again = Vec::with_capacity(alloc, 1)?;
     again.push(found)?;
     window.queue(again, Qos::ExactlyOnce, None)?;

@@ -111,14 +111,14 @@ Branch::answer-returns-in-Ok t c =
     let small : c.in-Ok.i < length es = rw c.as_slice-2.ensures.value at c.in-Ok.ensures.within in
     rw (← c.self.view_is) (gives_same c.answer.result c.args.answer.now c.answer.new.answer _ _ (rw c.in-Some.ensures.more (exact_in c.in-Some.level.now (levels_from c.in-Some.next filter) c.args.now (sym c.is_plus.ensures ∙ c.if-is_plus.false) ends c.self.inside.held es c.self.invariant c.in-Ok.i c.index.result.now small here c.index.ensures)) c.answer.ensures)
 
-pub Branch::answer-returns-in-Err-place_of : goal.Branch::answer-returns-in-Err-place_of
-Branch::answer-returns-in-Err-place_of t c =
+pub Branch::answer-returns-in-Err-index_of : goal.Branch::answer-returns-in-Err-index_of
+Branch::answer-returns-in-Err-index_of t c =
     let filter = c.args.filter.now in
     let more = levels_from c.in-Some.next filter in
     let ends : fits (c.in-Some.level.now ∷ more) [] ≡ false = sym c.is_all_below.ensures ∙ c.if-is_all_below.false in
     let es = c.self.inside.children.items in
-    let here : IsGap c.in-Some.level.now es c.in-Err-place_of.field-0 = rw c.as_slice-2.ensures.value at c.in-Err-place_of.ensures.found in
-    rw (← c.self.view_is) (gives_none c.args.answer.now _ (rw c.in-Some.ensures.more (exact_gap c.in-Some.level.now more c.args.now (sym c.is_plus.ensures ∙ c.if-is_plus.false) ends c.self.inside.held es c.self.invariant c.in-Err-place_of.field-0 here)))
+    let here : IsGap c.in-Some.level.now es c.in-Err-index_of.field-0 = rw c.as_slice-2.ensures.value at c.in-Err-index_of.ensures.found in
+    rw (← c.self.view_is) (gives_none c.args.answer.now _ (rw c.in-Some.ensures.more (exact_gap c.in-Some.level.now more c.args.now (sym c.is_plus.ensures ∙ c.if-is_plus.false) ends c.self.inside.held es c.self.invariant c.in-Err-index_of.field-0 here)))
 
 pub Branch::answer-returns-then-is_all_below : goal.Branch::answer-returns-then-is_all_below
 Branch::answer-returns-then-is_all_below t c =

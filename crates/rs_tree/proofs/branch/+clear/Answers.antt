@@ -59,11 +59,11 @@ Branch::clear-clear-requires t c =
     let whole : depth es ≡ c.args.self.now.depth = ap (λ (v : BranchValue). v.depth) c.self.view_is in
     (omega arith, rw e (leads_child c.self.inside.held es c.self.invariant c.in-Some.level.now (levels_from c.in-Some.next c.args.topic.now) c.in-Ok.i c.index_mut.result.now here c.index_mut.ensures.value))
 
-pub Branch::clear-returns-in_default-place_of : goal.Branch::clear-returns-in_default-place_of
-Branch::clear-returns-in_default-place_of t c =
+pub Branch::clear-returns-in_default-index_of : goal.Branch::clear-returns-in_default-index_of
+Branch::clear-returns-in_default-index_of t c =
     let es = c.self.inside.children.items in
-    let here : IsGap c.in-Some.level.now es c.in_default-place_of.field-0 = rw c.as_slice.ensures.value at c.in_default-place_of.ensures.found in
-    rw (c.in-Some.ensures.more, ← c.self.view_is) (there_gap c.self.inside.held es c.self.invariant c.in-Some.level.now (levels_from c.in-Some.next c.args.topic.now) c.in_default-place_of.field-0 here, refl)
+    let here : IsGap c.in-Some.level.now es c.in_default-index_of.field-0 = rw c.as_slice.ensures.value at c.in_default-index_of.ensures.found in
+    rw (c.in-Some.ensures.more, ← c.self.view_is) (there_gap c.self.inside.held es c.self.invariant c.in-Some.level.now (levels_from c.in-Some.next c.args.topic.now) c.in_default-index_of.field-0 here, refl)
 
 pub Branch::clear-invariant_of-self : goal.Branch::clear-invariant_of-self
 Branch::clear-invariant_of-self t c =

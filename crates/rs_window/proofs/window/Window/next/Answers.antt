@@ -15,8 +15,8 @@ invariant_of-self c = record {
   few = omega (arith, c.self.invariant.few, sendable_fewer c.self.inside.packet_maximum c.args.now c.self.inside.waiting.items, ap (λ (ws : List Waiting). length ws) (c.in_err-first.ensures.kept ∙ c.drop_unsendable.ensures));
 }
 
-pub publish_of-requires-clause-current : goal.publish_of-requires-clause-current
-publish_of-requires-clause-current c =
+pub outgoing_of-requires-clause-current : goal.outgoing_of-requires-clause-current
+outgoing_of-requires-clause-current c =
     first_current c.self.inside.packet_maximum c.args.now c.in_ok-first.first c.self.inside.waiting.items c.take_first.new.waiting.items (sym c.drop_unsendable.ensures ∙ c.in_ok-first.ensures.first)
 
 pub invariant_of-self-2 : goal.invariant_of-self-2
@@ -29,11 +29,11 @@ invariant_of-self-2 c = record {
 
 pub returns-clause-step : goal.returns-clause-step
 returns-clause-step c =
-    subst (λ (s : State). IsGiven c.args.now s c.publish_of.result (state_of (kinds_of c.take_first.new.identifiers) c.take_first.new.waiting.items c.self.inside.quota c.self.inside.packet_maximum)) c.self.view_is (
+    subst (λ (s : State). IsGiven c.args.now s c.outgoing_of.result (state_of (kinds_of c.take_first.new.identifiers) c.take_first.new.waiting.items c.self.inside.quota c.self.inside.packet_maximum)) c.self.view_is (
     is_given c.args.now (state_of (kinds_of c.self.inside.identifiers) c.self.inside.waiting.items c.self.inside.quota c.self.inside.packet_maximum)
-    (kinds_of c.take_first.new.identifiers) c.take_first.new.waiting.items c.in_ok-first.first c.publish_of.result c.in_ok-first.id
+    (kinds_of c.take_first.new.identifiers) c.take_first.new.waiting.items c.in_ok-first.first c.outgoing_of.result c.in_ok-first.id
     (sym c.drop_unsendable.ensures ∙ c.in_ok-first.ensures.first)
-    c.publish_of.ensures
+    c.outgoing_of.ensures
     c.in_ok-first.ensures.numbered
     c.in_ok-first.ensures.kinds
     )

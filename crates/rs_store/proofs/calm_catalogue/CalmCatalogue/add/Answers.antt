@@ -1,4 +1,4 @@
-use Rattle.rs_store.proofs.store.Store.add.Goals as goal
+use Rattle.rs_store.proofs.calm_catalogue.CalmCatalogue.add.Goals as goal
 
 pub returns-clause-done : goal.returns-clause-done
 returns-clause-done g c = rw (← c.self.view_is) c.add.ensures.done

@@ -53,12 +53,12 @@ impl<N: StoreName> HistoryWord<N> {
 
 /// A prefix of the history of a named store, which is legal. Contracts see it as its entries.
 #[derive(Drop)]
-pub struct KnownList<N: StoreName> {
+pub struct NamedList<N: StoreName> {
     prefix: Prefix,
     of: PhantomData<N>,
 }
 
-impl<N: StoreName> Model for KnownList<N> {
+impl<N: StoreName> Model for NamedList<N> {
     ghost use Rattle.std.specs.Prelude.{◌≡◌, List};
     ghost use Rattle.rs_message.specs.declared.entry.Entry.{Entry};
     ghost use Rattle.rs_store.specs.History.{IsLegal};
@@ -70,13 +70,13 @@ impl<N: StoreName> Model for KnownList<N> {
     ghost invariant = { λ f. (f.prefix.history ≡ N.history) × IsLegal N.limit f.prefix.log };
 }
 
-impl<N: StoreName> KnownList<N> {
+impl<N: StoreName> NamedList<N> {
     /// Gives a prefix the name.
-    pub fn of(prefix: Prefix) -> KnownList<N>
+    pub fn of(prefix: Prefix) -> NamedList<N>
         requires { (prefix.history ≡ N.history) × IsLegal N.limit prefix.log }
         ensures { result ≡ prefix.log }
     {
-        KnownList {
+        NamedList {
             prefix,
             of: PhantomData,
         }
@@ -98,17 +98,17 @@ impl<N: StoreName> KnownList<N> {
     }
 
     /// An equal one. It takes no memory.
-    pub fn again(&self) -> KnownList<N>
+    pub fn again(&self) -> NamedList<N>
         ensures { result ≡ self.now }
     {
-        KnownList {
+        NamedList {
             prefix: self.prefix.again(),
             of: PhantomData,
         }
     }
 
     /// Whether the other is a prefix of this one. If not, this one is a prefix of the other.
-    pub fn reaches(&self, other: &KnownList<N>) -> bool
+    pub fn reaches(&self, other: &NamedList<N>) -> bool
         ensures prefix { MatchBool result (IsPrefix other.now self.now) (IsPrefix self.now other.now) }
         ensures legal { IsLegal N.limit self.now × IsLegal N.limit other.now }
     {
@@ -116,12 +116,12 @@ impl<N: StoreName> KnownList<N> {
     }
 
     /// The list with one more entry, which it adds to the history. `None` if the history is longer than this list.
-    pub fn followed(&self, history_word: &HistoryWord<N>, entry: &Entry) -> Option<KnownList<N>>
+    pub fn followed(&self, history_word: &HistoryWord<N>, entry: &Entry) -> Option<NamedList<N>>
         requires { IsLegal N.limit (extended self.now entry.now) }
         ensures { IfSome result (λ f. f ≡ extended self.now entry.now) }
     {
         let prefix = self.prefix.followed(&history_word.word, entry)?;
-        Some(KnownList {
+        Some(NamedList {
             prefix,
             of: PhantomData,
         })

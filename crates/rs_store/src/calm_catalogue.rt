@@ -17,12 +17,12 @@ use std::marker::Model;
 
 /// A catalogue that one owner both changes and reads, with its [`Calm`]. Contracts see it as its catalogue.
 #[derive(Drop)]
-pub struct Store<C: Catalogue> {
+pub struct CalmCatalogue<C: Catalogue> {
     catalogue: C,
     calm: Calm,
 }
 
-impl<C: Catalogue> Model for Store<C> {
+impl<C: Catalogue> Model for CalmCatalogue<C> {
     ghost use Rattle.rs_store.specs.Expiring.{NoneExpiredBefore};
 
     ghost Value = { C };
@@ -32,12 +32,12 @@ impl<C: Catalogue> Model for Store<C> {
     ghost invariant = { λ s. NoneExpiredBefore s.calm (C.content s.catalogue) };
 }
 
-impl<C: Catalogue> Store<C> {
-    /// An empty store of at most `limit` topics. An error if memory is refused.
-    pub fn new(alloc: Global, limit: TopicLimit) -> Result<Store<C>, AllocError>
+impl<C: Catalogue> CalmCatalogue<C> {
+    /// An empty catalogue of at most `limit` topics. An error if memory is refused.
+    pub fn new(alloc: Global, limit: TopicLimit) -> Result<CalmCatalogue<C>, AllocError>
         ensures { IfOk result (λ s. C.content s ≡ empty limit) }
     {
-        Ok(Store {
+        Ok(CalmCatalogue {
             catalogue: C::new(alloc, limit)?,
             calm: Calm::new(),
         })

@@ -1,7 +1,7 @@
 use Rattle.std.proofs.Common.{arith}
 use Rattle.rs_topic.specs.Rests.{levels_from}
 use Rattle.rs_tree.proofs.Buckets.{is_behind, is_gap, is_here, is_past}
-use Rattle.rs_tree.proofs.leaves.place_of.Goals as goal
+use Rattle.rs_tree.proofs.leaves.index_of.Goals as goal
 
 pub returns-in-Less-clause-found : goal.returns-in-Less-clause-found
 returns-in-Less-clause-found c = is_gap (levels_from c.args.at c.args.topic.now) c.args.leaves.now c.loop-i.i c.index-leaves-i.result c.compared.result (omega (arith, c.loop-i-test.true)) c.loop-i.invariant c.index-leaves-i.is c.compared.ensures c.in-Less.is
