@@ -210,14 +210,13 @@ def replaying(load, count, scale):
 
 def beside_replays(readers=3):
     """A publisher's rate beside replaying clients, as a share of its rate beside programs that keep
-    processors busy: two for each client, which is busy itself and keeps a thread of the broker
-    busy."""
+    the processors busy, one for each."""
 
     def prepare(load, scale):
         replays = replaying(load, readers, scale)
 
         def share():
-            with beside(load, 2 * readers, "burn"):
+            with beside(load, os.cpu_count(), "burn"):
                 burning = load.rate(1, 1, 100_000 // scale)
             with replays():
                 return load.rate(1, 1, 100_000 // scale) / burning
@@ -319,7 +318,7 @@ MEASURES = (
     small("peak memory, 60,000 messages of 64 bytes", memory(60_000, 64)),
     small("peak memory, 1,000 messages of 100 kB", memory(1_000, 100_000)),
     Measure(
-        "rate beside three replaying clients, as a share of that beside six busy programs",
+        "rate beside three replaying clients, as a share of that beside busy processors",
         "",
         beside_replays(),
         "at least 0.9",
