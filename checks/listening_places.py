@@ -9,6 +9,7 @@ from checks.listening_messages import all_replayed, publish, replayed, subscribe
 from harness import packets
 from harness.client import Client
 from harness.packets import CONNACK, CONNECT, PUBACK, SUBACK, puback
+from harness.patience import PATIENCE
 from harness.program import preloaded
 from harness.server import Server
 
@@ -79,7 +80,8 @@ def bursts(rounds=10, size=200, own=4):
                 client.ask(sent, answers)
             client.disconnect()
 
-    all_are_ready = threading.Barrier(MANY)
+    # If a client fails before, the others do not wait without an end.
+    all_are_ready = threading.Barrier(MANY, timeout=PATIENCE)
     with Server(places=MANY, connections=MANY + 1) as server:
         with ThreadPoolExecutor(MANY) as threads:
             list(threads.map(send_all, range(MANY)))
