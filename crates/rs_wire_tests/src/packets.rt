@@ -297,6 +297,8 @@ const JUDGED: &[(&[u8], u8)] = &[
     // Lengths: five bytes, more than its number needs, and the one of a packet of 262,145 bytes.
     (&[0x30, 0xFF, 0xFF, 0xFF, 0xFF], 10),
     (&[0xC0, 0x80, 0], 10),
+    (&[0xC0, 0x80, 0x81, 0], 10),
+    (&[0xC0, 0x80, 0x80, 0x81, 0], 10),
     (&[0x31, 0xFD, 0xFF, 0x0F], 12),
     // The packet identifier 0.
     (&[0x33, 7, 0, 1, 0x61, 0, 0, 0, 0x31], 11),

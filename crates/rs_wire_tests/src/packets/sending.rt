@@ -127,10 +127,17 @@ pub fn is_sent_as(
     is_replied(rt, publish, qos, subscription, want)
 }
 
+// A retained PUBLISH with two User Properties, not in the order of their names.
+const USERS: &[u8] = &[
+    0x31, 0x13, 0, 1, 0x61, 0x0E, 0x26, 0, 1, 0x62, 0, 1, 0x32, 0x26, 0, 1, 0x61, 0, 1, 0x31, 0x78,
+];
+
 // A PUBLISH, and at which QoS and with which Subscription Identifier, 0 for none, it is sent on as these bytes.
 const SENT: &[(&[u8], Qos, u32, &[u8])] = &[
     // Properties are sent on in rising order.
     (KEPT, Qos::AtMostOnce, 0, KEPT),
+    // User Properties keep their order (3.3.2.3.7).
+    (USERS, Qos::AtMostOnce, 0, USERS),
     (
         PUBLISH,
         Qos::ExactlyOnce,
