@@ -1,6 +1,6 @@
 //! The lines of the places.
 
-ghost use Rattle.std.specs.Prelude.{◌≡◌, ◌+◌, ◌-◌, ◌<◌, ◌≤◌, ◌^◌, ◌∷◌, ◌++◌, ◌⊎◌, [], List, All, length, true, false, IfErr, IfOk, IfSome, Decides, MatchBool, MatchOption, MatchResult, Err};
+ghost use Rattle.std.specs.Prelude.{◌≡◌, ◌≢◌, ◌+◌, ◌-◌, ◌<◌, ◌≤◌, ◌^◌, ◌∷◌, ◌++◌, ◌⊎◌, [], List, All, length, true, false, IfErr, IfOk, IfSome, Decides, MatchBool, MatchOption, MatchResult, Err};
 ghost use Rattle.std.specs.List.{AllByRecursion};
 ghost use Rattle.crossbeam_channel.specs.Claims.{view as known_by};
 ghost use Rattle.crossbeam_channel.specs.Ends.{sends_on};
@@ -321,9 +321,9 @@ impl<N: LineName> SeatLine<N> {
         }
     }
 
-    /// Whether some change that was announced may be left: it is expected, or ahead.
+    /// Whether some change that was announced is left: it is expected, or ahead.
     pub fn has_announced(&self) -> bool
-        ensures { result ≡ false → (self.now.expected ≡ []) × (self.now.ahead ≡ []) }
+        ensures { MatchBool result ((self.now.expected ≢ []) ⊎ (self.now.ahead ≢ [])) ((self.now.expected ≡ []) × (self.now.ahead ≡ [])) }
     {
         !self.expected.is_empty() || !self.ahead.is_empty()
     }

@@ -1,6 +1,6 @@
 -- What a receipt says of the list that its token names.
 use Rattle.std.proofs.Common.{◌≡◌, ◌⊎◌, ⊎_elim, Bool, true, false, cond, ℕ, zero, suc, ◌+◌, List, [], ◌∷◌, ◌++◌, length, refl, inl, inr, sym, ap, subst, ◌∙◌, Some, append-nil, arith, length-append}
-use Rattle.std.specs.Prelude.{Contains, ◌-◌, ◌<◌, ◌≤◌, ◌^◌, min, nat_le, Result, Ok, Err}
+use Rattle.std.specs.Prelude.{Contains, ◌≢◌, ◌-◌, ◌<◌, ◌≤◌, ◌^◌, min, nat_le, MatchBool, Result, Ok, Err}
 use Rattle.std.specs.List.{All}
 use Rattle.std.proofs.lemmas.List.Elements.{All-weaker, All-contains_itself, Contains-append_left, Contains-append_right}
 use mathlib.Core.List.{IsPrefix}
@@ -108,6 +108,16 @@ sends_it operation before old new is place adds =
 pub other_ahead : (ahead : List Entry) (expected : List Operation) (operation : Operation) → IsOther ahead operation → IsOtherAhead (operations_of ahead ++ expected) operation
 other_ahead [] expected operation other = absurd other
 other_ahead (e ∷ es) expected operation other = other
+
+some_ahead : (ahead : List Entry) (expected : List Operation) → (expected ≢ []) ⊎ (ahead ≢ []) → operations_of ahead ++ expected ≢ []
+some_ahead [] expected some = λ none. ⊎_elim (λ t. t none) (λ t. t refl) some
+some_ahead (e ∷ es) expected some = λ none. absurd (cc (none))
+
+-- whether something is ahead, or expected
+pub has_ahead : (b : Bool) (expected : List Operation) (ahead : List Entry) (all : List Operation) → operations_of ahead ++ expected ≡ all
+    → MatchBool b ((expected ≢ []) ⊎ (ahead ≢ [])) ((expected ≡ []) × (ahead ≡ [])) → MatchBool b (all ≢ []) (all ≡ [])
+has_ahead true expected ahead all is some = λ none. some_ahead ahead expected some (is ∙ none)
+has_ahead false expected ahead all is none = sym is ∙ (ap (λ l. operations_of l ++ expected) none.1 ∙ none.0)
 
 operations_numbered : (place serial : ℕ) (os : List Operation) → operations_of (numbered place serial os) ++ [] ≡ os
 operations_numbered place serial [] = refl

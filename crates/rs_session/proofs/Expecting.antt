@@ -158,10 +158,9 @@ by_submit given operation old_mark new_mark outcome (first ∷ rest) new h = λ 
     ]
 
 -- no memory for the change
-pub by_refusal : (given : Given) (is_ahead : Bool) (qos : Qos) (id : Option ℕ) (mark : Mark) (outcome : Outcome) (old : List Operation) → outcome ≡ outcome_unmade is_ahead qos id → (is_ahead ≡ false → old ≡ []) → LeavesAhead given old old (IsUnsent mark mark outcome)
-by_refusal given is_ahead qos id mark outcome [] d h = refl
-by_refusal given true qos id mark outcome (first ∷ rest) d h = λ is. inr (inr (refl, (refl, subst IsLast (sym d) tt)))
-by_refusal given false qos id mark outcome (first ∷ rest) d h = absurd (none_is first rest (sym (h refl)))
+pub by_refusal : (given : Given) (qos : Qos) (id : Option ℕ) (mark : Mark) (outcome : Outcome) (old : List Operation) → outcome ≡ outcome_unmade old qos id → LeavesAhead given old old (IsUnsent mark mark outcome)
+by_refusal given qos id mark outcome [] d = refl
+by_refusal given qos id mark outcome (first ∷ rest) d = λ is. inr (inr (refl, (refl, subst IsLast (sym d) tt)))
 
 -- ---- a session
 

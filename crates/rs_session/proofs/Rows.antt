@@ -267,10 +267,10 @@ not_handed p topic now at e t r =
     }
 
 -- no memory for the change; it may have been sent ahead
-pub not_made : (p : Publish) (topic : List ℕ) (is_ahead : Bool) (outcome : Outcome) (now : ℕ) (at : Point Open) → outcome_before p at.state ≡ None → p.topic ≡ Ok topic → p.retain ≡ true → outcome ≡ outcome_unmade is_ahead p.qos p.id
+pub not_made : (p : Publish) (topic : List ℕ) (ahead : List Operation) (outcome : Outcome) (now : ℕ) (at : Point Open) → outcome_before p at.state ≡ None → p.topic ≡ Ok topic → p.retain ≡ true → outcome ≡ outcome_unmade ahead p.qos p.id
     → LeadsTo (given_at (Whole (packet.Publish p)) now) at [] outcome at
-not_made p topic false outcome now at e t r d = (Not_kept, refl, (p, topic, change_of topic (message_of p now) p.payload, refl, not_handed p topic now at e t r, d, refl))
-not_made p topic true outcome now at e t r d = (Uncertain, refl, (p, topic, change_of topic (message_of p now) p.payload, refl, not_handed p topic now at e t r, d, refl))
+not_made p topic [] outcome now at e t r d = (Not_kept, refl, (p, topic, change_of topic (message_of p now) p.payload, refl, not_handed p topic now at e t r, d, refl))
+not_made p topic (operation ∷ operations) outcome now at e t r d = (Uncertain, refl, (p, topic, change_of topic (message_of p now) p.payload, refl, not_handed p topic now at e t r, d, refl))
 
 unretained : (retain : Bool) (topic : List ℕ) (m : MessageValue) → operation_of retain topic m ≡ None → retain ≡ false
 unretained true topic m c = absurd (cc)

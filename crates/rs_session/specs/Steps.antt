@@ -83,10 +83,11 @@ IsConcluded operation qos id from outcome to =
     ⊎ (((outcome ≡ Closes QuotaExceeded) × (to.state ≡ from.state))
     ⊎ ((outcome ≡ Closes ImplementationSpecificError) × (to.state ≡ from.state))))
 
--- what no memory for the change of a PUBLISH leads to; if changes were sent ahead, it may be one of them, and may become an entry
-abbrev pub outcome_unmade : Bool → Qos → Option ℕ → Outcome
-outcome_unmade true qos id = Closes QuotaExceeded
-outcome_unmade false qos id = Replies (acknowledged_by qos id QuotaExceeded)
+-- what no memory for the change of a PUBLISH leads to, by the changes that are expected; it may be one that was sent ahead, and may
+-- become an entry
+abbrev pub outcome_unmade : List Operation → Qos → Option ℕ → Outcome
+outcome_unmade [] qos id = Replies (acknowledged_by qos id QuotaExceeded)
+outcome_unmade (operation ∷ operations) qos id = Closes QuotaExceeded
 
 -- an outcome that ends the session
 abbrev pub IsLast : Outcome → Type 0

@@ -1,6 +1,6 @@
 //! The store as a session sees it.
 
-ghost use Rattle.std.specs.Prelude.{◌≡◌, ◌≤◌, ◌⊎◌, [], false, ℕ, List, IfOk};
+ghost use Rattle.std.specs.Prelude.{◌≡◌, ◌≢◌, ◌≤◌, ◌⊎◌, [], false, ℕ, List, IfOk, MatchBool};
 ghost use Rattle.std.specs.List.{All};
 ghost use Rattle.std.specs.Option.{option_map};
 ghost use Rattle.rs_message.specs.Messages.{is_sweep};
@@ -47,9 +47,9 @@ pub trait Gate {
         let _changes = changes;
     }
 
-    /// Whether a change that was expected and not submitted may have been sent.
+    /// Whether some change was expected and is not submitted yet. It may have been sent.
     fn is_ahead(&self) -> bool
-        ensures { result ≡ false → ahead self.now ≡ [] };
+        ensures { MatchBool result (ahead self.now ≢ []) (ahead self.now ≡ []) };
 
     /// Hands a Set or a Clear to the store. At `Ok` the list has it as an entry of its own. The faults say what stands
     /// otherwise; the list may have grown by entries of others. Whatever is answered, no other change than this one

@@ -43,8 +43,9 @@ impl Gate for Expecting {
         self.next = VecDeque::from_vec(changes);
     }
 
+    /// It sends nothing ahead to its store.
     fn is_ahead(&self) -> bool {
-        !self.next.is_empty()
+        false
     }
 
     fn submit(&mut self, operation: Operation) -> Result<(), SubmitFault> {

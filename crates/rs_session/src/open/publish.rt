@@ -106,7 +106,7 @@ impl Open {
                 self.hold(qos, held);
                 Outcome::Replies(acknowledged_by(qos, id, ReasonCode::Success))
             }
-            Err(AllocError) => outcome_unmade(gate.is_ahead(), qos, id),
+            Err(AllocError) => outcome_unmade(gate, qos, id),
         }
     }
 
@@ -148,11 +148,12 @@ impl Open {
     }
 }
 
-/// What no memory for the change of a PUBLISH leads to. If changes were sent ahead, it may be one of them, and become an entry.
-fn outcome_unmade(is_ahead: bool, qos: Qos, id: Option<PacketId>) -> Outcome
-    ensures { result ≡ outcome_unmade is_ahead qos id }
+/// What no memory for the change of a PUBLISH leads to. If the gate expects changes, it may be one that was sent ahead, and become an
+/// entry.
+fn outcome_unmade<G: Gate>(gate: &G, qos: Qos, id: Option<PacketId>) -> Outcome
+    ensures { result ≡ outcome_unmade (G.ahead gate.now) qos id }
 {
-    if is_ahead {
+    if gate.is_ahead() {
         return Outcome::Closes(ReasonCode::QuotaExceeded);
     }
     Outcome::Replies(acknowledged_by(qos, id, ReasonCode::QuotaExceeded))

@@ -51,7 +51,7 @@ returns-in-Err-clause-row g c =
     let Leads : PublishValue → List Entry → List (List Entry) → List Entry → Mark → Type 0 = λ p seen answered list used. LeadsTo (given_at (Whole (packet.Publish p)) c.args.now) (point_at o seen (g.G.Gate.mark c.args.gate.now)) answered outcome (point_at o list used) in
     unmoved g.G.Gate.stands g.G.Gate.mark c.args.gate.now c.args.gate.now (Leads c.args.p) refl
     (λ list. subst (λ (p : PublishValue). outcome_before p o ≡ None → Leads p list [] list (g.G.Gate.mark c.args.gate.now)) c.p.view_is
-    (λ e. not_made _ c.in-Ok.topic c.is_ahead.result outcome c.args.now (point_at o list _) e c.in-Ok.is c.in-Err.ensures.err.0 c.outcome_unmade.ensures) c.requires.before)
+    (λ e. not_made _ c.in-Ok.topic (g.G.Gate.ahead c.args.gate.now) outcome c.args.now (point_at o list _) e c.in-Ok.is c.in-Err.ensures.err.0 c.outcome_unmade.ensures) c.requires.before)
 
 pub returns-in_default-topic-clause-ahead : goal.returns-in_default-topic-clause-ahead
 returns-in_default-topic-clause-ahead g c =
@@ -69,7 +69,7 @@ returns-in-Ok-None-clause-ahead g c =
     subst (λ (p : PublishValue). LeavesAhead (given_at (Whole (packet.Publish p)) c.args.now) ahead ahead Unused) c.p.view_is (not_retained_ahead _ c.in-Ok.topic c.args.now ahead ahead Unused c.in-Ok.is (sym c.in-Ok-None.ensures.ok ∙ c.in-Ok-None.field-0-is) refl)
 
 pub returns-in-Err-clause-ahead : goal.returns-in-Err-clause-ahead
-returns-in-Err-clause-ahead g c = by_refusal (given_at (Whole (packet.Publish c.args.p)) c.args.now) c.is_ahead.result _ _ (g.G.Gate.mark c.args.gate.now) c.outcome_unmade.result (g.G.Gate.ahead c.args.gate.now) c.outcome_unmade.ensures c.is_ahead.ensures
+returns-in-Err-clause-ahead g c = by_refusal (given_at (Whole (packet.Publish c.args.p)) c.args.now) _ _ (g.G.Gate.mark c.args.gate.now) c.outcome_unmade.result (g.G.Gate.ahead c.args.gate.now) c.outcome_unmade.ensures
 
 pub submit-requires-clause-change : goal.submit-requires-clause-change
 submit-requires-clause-change g c =
