@@ -9,7 +9,7 @@ use Rattle.rs_intake.specs.Lines.{Closed}
 use Rattle.rs_intake.specs.declared.rule.SentFrom.{SentFrom}
 use Rattle.std.proofs.lemmas.List.Elements.{All-append, All-weaker, filter-append}
 use mathlib.Core.List.{IsPrefix}
-use Rattle.rs_intake.specs.Settling.{Covers, ends_at, EachOnce, sent_in_all, AreTaken, AreTakenInOrder, BalancesWith}
+use Rattle.rs_intake.specs.Settling.{Covers, ends_at, EachOnce, sent_in_all, AreOfPlaces, AreTaken, AreTakenInOrder, BalancesWith}
 
 all_head : {A : Type 0} (P : A → Type 0) (x : A) (xs : List A) → All P (x ∷ xs) → P x
 all_head P x xs all = all 0 x (omega arith)
@@ -182,6 +182,16 @@ in_order places taken (end ∷ ends) learned =
     let P : Closed → Type 0 = λ e. e.sent ≡ of_place e.place (taken ++ rest) in
     let Q : Closed → Type 0 = λ e. IsPrefix (of_place e.place taken) e.sent in
     All-weaker P Q (λ e sent. (of_place e.place rest, sym (sent ∙ filter-append (λ (z : Entry). z.origin.place == e.place) taken rest))) (end ∷ ends) balanced.1
+
+none_in_front : {A : Type 0} (xs ys : List A) → xs ++ ys ≡ [] → xs ≡ []
+none_in_front [] ys none = refl
+none_in_front (x ∷ xs) ys none = absurd (cc (none))
+
+-- what was taken is of the places alone
+pub of_places : (places : ℕ) (taken : List Entry) (items : List Job) (ends : List Closed) → BalancesWith places taken items ends → AreOfPlaces places taken
+of_places places taken items ends balanced place outside =
+    let rest = entries_of items in
+    none_in_front (of_place place taken) (of_place place rest) (sym (filter-append (λ (z : Entry). z.origin.place == place) taken rest) ∙ balanced.0 place outside)
 
 -- some end is there
 pub some_ends : (places : ℕ) (ends : List Closed) → 0 < places → EachOnce places ends → 0 < length ends

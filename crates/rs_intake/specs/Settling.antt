@@ -28,6 +28,10 @@ AreTaken taken ends = All (λ e. of_place e.place taken ≡ e.sent) ends
 abbrev pub AreTakenInOrder : List Entry → List Closed → Type 0
 AreTakenInOrder taken ends = All (λ e. IsPrefix (of_place e.place taken) e.sent) ends
 
+-- the entries are of these places alone
+abbrev pub AreOfPlaces : ℕ → List Entry → Type 0
+AreOfPlaces places entries = (place : ℕ) → IsOutside places place → of_place place entries ≡ []
+
 -- beside what the queue holds, what was taken is what was sent
 abbrev pub IsBalanced : ℕ → Received → List Job → Type 0
 IsBalanced places r items =

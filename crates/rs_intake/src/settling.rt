@@ -2,7 +2,7 @@
 
 ghost use Rattle.std.specs.Prelude.{◌≡◌, ◌^◌, ◌<◌, ◌≤◌, List, MatchBool, MatchOption, IfOk, IfErr, length};
 ghost use Rattle.rs_intake.specs.declared.job.Job.{Job};
-ghost use Rattle.rs_intake.specs.Settling.{ends_at, EachOnce, sent_in_all, AreTaken, AreTakenInOrder, BalancesWith};
+ghost use Rattle.rs_intake.specs.Settling.{ends_at, EachOnce, sent_in_all, AreOfPlaces, AreTaken, AreTakenInOrder, BalancesWith};
 
 use crate::fault::SettleFault;
 use crate::line::LineEnd;
@@ -68,7 +68,7 @@ fn join_all<N: LineName>(taken: &mut Taken<N>, ends: Vec<LineEnd<N>>)
 
 /// Whether all that was sent was taken. If so, what was taken of each place is what was sent from there, in its order and each
 /// job once, and the result is how many jobs these are. If not, what was taken of each place that has an end is a prefix of what was
-/// sent from there.
+/// sent from there. If there are as many ends as places, nothing was taken of any other place.
 ///
 /// It takes no memory. `ended` is lent mutably since its pass of the queue learns what the lines know; nothing else of it changes.
 ///
@@ -84,6 +84,7 @@ pub fn settle<N: LineName, R: Wait + Drop>(
     ensures once { IfOk result (λ _. EachOnce N.places ends.items) }
     ensures settled { IfOk result (λ _. AreTaken ended.old.jobs.entries ends.items) }
     ensures order { AreTakenInOrder ended.old.jobs.entries ends.items }
+    ensures placed { length ends.items ≡ N.places → AreOfPlaces N.places ended.old.jobs.entries }
     ensures unsettled { IfErr result (λ _. ¬ (EachOnce N.places ends.items × (sent_in_all ends.items ≡ ended.old.taken))) }
     ensures same { (ended.new.writer ≡ ended.old.writer) × (ended.new.taken ≡ ended.old.taken) × (ended.new.refused ≡ ended.old.refused) × (ended.new.held ≡ ended.old.held) × (ended.new.cause ≡ ended.old.cause) × (ended.new.jobs.entries ≡ ended.old.jobs.entries) × (ended.new.jobs.ends ≡ ended.old.jobs.ends) }
 {

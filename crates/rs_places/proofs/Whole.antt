@@ -16,7 +16,7 @@ use Rattle.rs_intake.specs.Lines.{Closed, Line, new_lines}
 use Rattle.rs_intake.specs.Parts.{IsPart}
 use Rattle.rs_intake.specs.QueueRule.{of_place}
 use Rattle.rs_intake.specs.Done.{Answer, IsWritten, accepted, is_refused}
-use Rattle.rs_intake.specs.Settling.{AreTaken, AreTakenInOrder, sent_in_all}
+use Rattle.rs_intake.specs.Settling.{AreOfPlaces, AreTaken, AreTakenInOrder, sent_in_all}
 use Rattle.rs_intake.specs.Sweeps.{without_sweeps}
 use Rattle.rs_packet.specs.declared.packet.Publish.{Publish}
 use Rattle.rs_session.specs.Gate.{Extends, Mark, Sends}
@@ -261,11 +261,12 @@ places_fresh (plan ∷ plans) (line ∷ lines) fresh = ((ap (λ (l : List Entry)
 store_run : (limit places : ℕ) (before after : List Plan) (gates : List SharedValue) (left : List Left) (w : Written) (jobs : List Entry) (version : ℕ) (changes : Option ℕ)
     → gates ≡ new_gates places → length before ≡ places → AreEachServed limit (places_of before gates) left → IsWritten limit jobs (kept_of w) → IsLegal limit w.published
     → AllByRecursion (λ end. Extends w.published end.told) left → AllByRecursion (λ end. Extends end.line.sent (of_place end.line.place jobs)) left
-    → IfSome changes (IsSettled jobs left) → version ≡ length w.published → after ≡ map (λ end. end.plan) left → IsStoreRun limit places before after version changes
-store_run limit places before after gates left w jobs version changes new turns served written legal known taken settled version_is after_is =
+    → IfSome changes (IsSettled jobs left) → (length left ≡ places → AreOfPlaces places jobs) → version ≡ length w.published → after ≡ map (λ end. end.plan) left → IsStoreRun limit places before after version changes
+store_run limit places before after gates left w jobs version changes new turns served written legal known taken settled placed version_is after_is =
     let gates_count : length gates ≡ places = ap length new ∙ new_gates_length places in
     let all = places_length before gates (turns ∙ sym gates_count) in
     let each = each_length limit (places_of before gates) left served in
+    let count : length left ≡ places = omega (arith, each, all, gates_count) in
     let P : List SharedValue → Type 0 = λ l. AreEachServed limit (places_of before l) left in
     let part = written_part limit jobs (kept_of w) written in
     record {
@@ -275,11 +276,12 @@ store_run limit places before after gates left w jobs version changes new turns 
       jobs = jobs;
       held = w.held;
       written = written;
+      placed = placed count;
       accepted_of = λ place. ap (of_place place) written.changes;
       left = left;
       each = each_of_store limit w.published jobs (places_of before (new_gates places)) left legal (λ place. published_part w jobs place part)
           (places_fresh before (new_lines places) (lines_fresh places)) (subst P new served) known taken;
-      count = omega (arith, each, all, gates_count);
+      count = count;
       turns = after_is;
       settled = settled;
     }
@@ -359,9 +361,9 @@ pub whole_run : {T E : Type 0} (turns : List T) (ends : List E) (plan : T → Pl
     → AreEachServed limit (places_of (map plan turns) gates) (map (λ e. left_at (plan (turn e)) (told e) (line e)) ends)
     → IsWritten limit jobs (kept_of w) → IsLegal limit w.published → MatchBool ordered (All (λ e. IsPrefix (told e) w.published) ends) (changes ≡ None)
     → AreTakenInOrder jobs (map line ends) → IfSome changes (λ n. AreTaken jobs (map line ends) × (n ≡ length jobs) × (n ≡ sent_in_all (map line ends)))
-    → version ≡ length w.published → turns_left ≡ map turn ends → IsTrue ordered
+    → (length ends ≡ places → AreOfPlaces places jobs) → version ≡ length w.published → turns_left ≡ map turn ends → IsTrue ordered
     → IsStoreRun own places (map plan turns) (map plan turns_left) version changes
-whole_run {T} {E} turns ends plan turn told line own limit places turns_left seats lines gates w jobs version changes ordered same count none lines_is gates_is turns_count served written legal known taken settled version_is left_is is_ordered =
+whole_run {T} {E} turns ends plan turn told line own limit places turns_left seats lines gates w jobs version changes ordered same count none lines_is gates_is turns_count served written legal known taken settled placed version_is left_is is_ordered =
     let h : E → Left = λ e. left_at (plan (turn e)) (told e) (line e) in
     let left = map h ends in
     let new : gates ≡ new_gates places =
@@ -376,4 +378,4 @@ whole_run {T} {E} turns ends plan turn told line own limit places turns_left sea
     all_at line h C (λ end. Extends end.line.sent (of_place end.line.place jobs)) (λ e k. (k.0, sym k.1)) ends (recursion_from_All C (map line ends) taken) in
     let so = if_some_more changes _ (IsSettled jobs left) (λ n s. settled_so h line jobs ends n (λ e. refl) s) settled in
     let R : ℕ → Type 0 = λ l. IsStoreRun l places (map plan turns) (map plan turns_left) version changes in
-    subst R (sym same) (store_run limit places (map plan turns) (map plan turns_left) gates left w jobs version changes new (length-map turns plan ∙ turns_count) served written legal all_known all_taken so version_is after)
+    subst R (sym same) (store_run limit places (map plan turns) (map plan turns_left) gates left w jobs version changes new (length-map turns plan ∙ turns_count) served written legal all_known all_taken so (λ count. placed (sym (length-map ends h) ∙ count)) version_is after)

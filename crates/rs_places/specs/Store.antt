@@ -10,7 +10,7 @@ use Rattle.rs_intake.specs.Done.{IsWritten, accepted}
 use Rattle.rs_intake.specs.Lines.{Line, new_lines}
 use Rattle.rs_intake.specs.Parts.{IsPart}
 use Rattle.rs_intake.specs.QueueRule.{of_place}
-use Rattle.rs_intake.specs.Settling.{sent_in_all}
+use Rattle.rs_intake.specs.Settling.{AreOfPlaces, sent_in_all}
 use Rattle.rs_intake.specs.Sweeps.{without_sweeps}
 use Rattle.rs_session.specs.Gate.{Extends}
 use Rattle.rs_session.specs.Kept.{IsKeptIn, IsToldKept, lists_of, point_after}
@@ -103,6 +103,8 @@ pub record IsStoreRun (limit places : ℕ) (before after : List Plan) (version :
   pub jobs : List Entry
   pub held : Option Entry
   pub written : IsWritten limit jobs (history ++ listed held)
+  -- they are of these places alone
+  pub placed : AreOfPlaces places jobs
   -- so of each place it has what was taken of the place less what was refused
   pub accepted_of : (place : ℕ) → of_place place (without_sweeps (history ++ listed held)) ≡ of_place place (accepted jobs written.told)
   -- of each place: its connections, what they saw, what they sent, and what became of that

@@ -85,7 +85,7 @@ fn start_writer<
 /// [`run_places`] does, with the writer on one more, and settles. The first turn goes with place 1, and so on.
 ///
 /// The contract is one statement about the run, `IsStoreRun`: there is one legal history, which the
-/// writer made of the jobs that it took by its answers; all lists that any connection of any place was answered from are prefixes of
+/// writer made by its answers of the jobs that it took, all from these places; all lists that any connection of any place was answered from are prefixes of
 /// it; each retained publication that any client was told is kept stands in it once; each place served all connections of its turn,
 /// over their own bytes and at their own times; what a place sent are their retained publications, in order; and if the changes are
 /// known, all of it was taken, once.
