@@ -28,14 +28,15 @@ next_serial serial = min (serial + 1) (2 ^ 64 - 1)
 abbrev pub job : ℕ → ℕ → Operation → Entry
 job place serial operation = record { origin = record { place = place; serial = serial }; operation = operation }
 
--- A place, the last serial that was submitted there, what was sent from it and submitted, and the replies to that; the changes that
--- it expects; and what was sent ahead, in one job with a change that was submitted, and is not submitted itself yet. The queue took
+-- A place, the last serial that was submitted there, what was sent from it and submitted, and the replies that were read, and those that
+-- came and were not read yet; the changes that it expects; and what was sent ahead, in one job with a change that was submitted, and is not submitted itself yet. The queue took
 -- what was sent and then what is ahead
 pub record Line : Type 0 where
   pub place : ℕ
   pub serial : ℕ
   pub sent : List Entry
   pub heard : List ReplyValue
+  pub came : List ReplyValue
   pub expected : List Operation
   pub ahead : List Entry
 
@@ -109,7 +110,7 @@ pub record IsLine {Q M L A : Type 0} (name : QueueName) (places : ℕ) (c : Rows
 -- nothing was sent from these places
 abbrev pub new_lines : ℕ → List Line
 new_lines zero = []
-new_lines (suc n) = new_lines n ++ record { place = suc n; serial = 0; sent = []; heard = []; expected = []; ahead = [] } ∷ []
+new_lines (suc n) = new_lines n ++ record { place = suc n; serial = 0; sent = []; heard = []; came = []; expected = []; ahead = [] } ∷ []
 
 -- the same, or with this entry behind the others
 abbrev pub AddsAtMost : List Entry → Entry → List Entry → Type 0

@@ -11,7 +11,6 @@ ghost use Rattle.rs_message.specs.declared.entry.TheConstants.{MAX_PLACES};
 ghost use Rattle.rs_message.specs.declared.fault.SubmitFault.TheVariants.{Strange};
 ghost use Rattle.rs_store.specs.History.{last_serial};
 ghost use Rattle.rs_intake.specs.Changes.{AreOf};
-ghost use Rattle.rs_intake.specs.Done.{ReplyValue};
 ghost use Rattle.rs_intake.specs.Names.{IsQueue, IsIn};
 ghost use Rattle.rs_intake.specs.Lines.{AreNext, IsAheadAfter, IsClosed, IsOther, announced, job, next_serial, numbered};
 ghost use Rattle.rs_intake.specs.QueueRule.{AreAbove};
@@ -268,15 +267,16 @@ impl<N: LineName> Model for SeatLine<N> {
 
     ghost Value = { Line };
 
-    ghost view = { λ l. record { place = l.line.place; serial = l.serial; sent = before l.line.sent l.ahead.items; heard = l.replies.heard; expected = l.expected.items; ahead = l.ahead.items } };
+    ghost view = { λ l. record { place = l.line.place; serial = l.serial; sent = before l.line.sent l.ahead.items; heard = l.replies.heard; came = l.replies.came; expected = l.expected.items; ahead = l.ahead.items } };
 
     ghost invariant = { λ l. IsSeatLine l.line.place l.serial l.line.sent l.expected.items l.ahead.items };
 }
 
 impl<N: LineName> SeatLine<N> {
     pub(crate) fn new(alloc: Global, line: OpenLine<N>, replies: ReplyReceiver<N>) -> SeatLine<N>
-        requires { (line.sent ≡ []) × (replies.heard ≡ []) }
-        ensures line { (result.place ≡ line.place) × (result.serial ≡ 0) × (result.sent ≡ []) × (result.heard ≡ []) }
+        requires { (line.sent ≡ []) × (replies.heard ≡ []) × (replies.came ≡ []) }
+        ensures line { (result.place ≡ line.place) × (result.serial ≡ 0) × (result.sent ≡ []) }
+        ensures replies { (result.heard ≡ []) × (result.came ≡ []) }
         ensures ahead { (result.expected ≡ []) × (result.ahead ≡ []) }
     {
         SeatLine {
@@ -339,13 +339,13 @@ impl<N: LineName> SeatLine<N> {
     }
 
     /// For a line that is handed on. Nothing is expected any more, and what is ahead counts as submitted. The replies to it have come
-    /// with that to the first change of its job, if any did, and are dropped.
+    /// with that to the first change of its job, if any did, and are dropped, so that no later submit reads them.
     pub fn hand_on(&mut self)
         ensures place { self.new.place ≡ self.old.place }
         ensures serial { self.new.serial ≡ self.old.serial + length self.old.ahead }
         ensures sent { self.new.sent ≡ self.old.sent ++ self.old.ahead }
         ensures next { AreNext self.old.place self.old.serial self.old.ahead }
-        ensures heard { (more : List ReplyValue) × (self.new.heard ≡ self.old.heard ++ more) }
+        ensures heard { (self.new.heard ≡ self.old.heard ++ self.old.came) × (self.new.came ≡ []) }
         ensures none { (self.new.expected ≡ []) × (self.new.ahead ≡ []) }
     {
         self.serial = self.last_serial();

@@ -225,7 +225,7 @@ impl<N: StoreName> Model for ReplyReceiver<N> {
 pub fn way_back<N: StoreName>(
     alloc: Global,
 ) -> Result<(ReplySender<N>, ReplyReceiver<N>), AllocError>
-    ensures { IfOk result (λ r. (r.0 ≡ []) × (r.1.heard ≡ [])) }
+    ensures { IfOk result (λ r. (r.0 ≡ []) × (r.1.heard ≡ []) × (r.1.came ≡ [])) }
 {
     let (to, from, mut pass) = bounded_with::<WriterReplies<N>, WayPass<N>, ReplyRule, Global>(
         alloc, 1,
@@ -299,7 +299,7 @@ impl<N: StoreName> ReplyReceiver<N> {
 
     /// Takes all replies that came, and drops them.
     pub fn skip(&mut self)
-        ensures { self.new.heard ≡ self.old.heard ++ self.old.came }
+        ensures { (self.new.heard ≡ self.old.heard ++ self.old.came) × (self.new.came ≡ []) }
     {
         self.came = WriterReplies::none(self.alloc);
     }
