@@ -40,6 +40,14 @@ Takes-then a x b y c p q = record { parts = p.parts ∙ ap (λ (t : List ℕ). x
 pub Takes-next : (b : ℕ) (a x c : List ℕ) → Takes a x c → Takes (b ∷ a) (b ∷ x) c
 Takes-next b a x c p = record { parts = ap (λ (t : List ℕ). b ∷ t) p.parts; rest_fits = p.rest_fits }
 
+-- ---- lengths
+
+length_front : (n : ℕ) (bytes : List ℕ) → n ≤ length bytes → length (take n bytes) ≡ n
+length_front n bytes le = omega (arith, length-take n bytes)
+
+long_enough : (n : ℕ) (front rest : List ℕ) → length front ≡ n → n ≤ length (front ++ rest)
+long_enough n front rest is = omega (arith, length-append front rest)
+
 -- ---- numbers of two and four bytes
 
 pub record IsWide (w : Width) (limit : ℕ) : Type 0 where
@@ -68,14 +76,14 @@ pub number_takes : (w : Width) (limit : ℕ) (wide : IsWide w limit) (bytes : Li
 number_takes w limit wide bytes x fits e =
     let g = guarded (ltb (length bytes) (byte_len w)) Malformed (from_be_bytes w (take (byte_len w) bytes), drop (byte_len w) bytes) x e in
     let long : byte_len w ≤ length bytes = ltb-false _ _ g.0 in
-    let front : to_be_bytes w (from_be_bytes w (take (byte_len w) bytes)) ≡ take (byte_len w) bytes = wide.back (take (byte_len w) bytes) (omega (arith, length-take (byte_len w) bytes)) (IsBytes-take (byte_len w) bytes fits) in
+    let front : to_be_bytes w (from_be_bytes w (take (byte_len w) bytes)) ≡ take (byte_len w) bytes = wide.back (take (byte_len w) bytes) (length_front (byte_len w) bytes long) (IsBytes-take (byte_len w) bytes fits) in
     let made : Takes bytes (to_be_bytes w (from_be_bytes w (take (byte_len w) bytes))) (drop (byte_len w) bytes) = record { parts = rw front (sym (take-append-drop (byte_len w) bytes)); rest_fits = IsBytes-drop (byte_len w) bytes fits } in
     subst (λ (y : ℕ × List ℕ). Takes bytes (to_be_bytes w y.0) y.1 × (y.0 < limit)) g.1 (made, wide.below (take (byte_len w) bytes) (IsBytes-take (byte_len w) bytes fits))
 
 pub number_again : (w : Width) (limit : ℕ) (wide : IsWide w limit) (n : ℕ) (rest : List ℕ) → n < limit → number_at w (to_be_bytes w n ++ rest) ≡ Ok (n, rest)
 number_again w limit wide n rest lt =
     let len = wide.len n in
-    let long : ltb (length (to_be_bytes w n ++ rest)) (byte_len w) ≡ false = le-ltb _ _ (omega (arith, length-append (to_be_bytes w n) rest)) in
+    let long : ltb (length (to_be_bytes w n ++ rest)) (byte_len w) ≡ false = le-ltb _ _ (long_enough (byte_len w) (to_be_bytes w n) rest len) in
     rw (long, take_at (to_be_bytes w n) rest (byte_len w) len, drop_at (to_be_bytes w n) rest (byte_len w) len, wide.again n lt) refl
 
 -- ---- parts, binaries, texts
@@ -85,11 +93,11 @@ part_takes n bytes x fits e =
     let g = guarded (ltb (length bytes) n) Malformed (take n bytes, drop n bytes) x e in
     let long : n ≤ length bytes = ltb-false _ _ g.0 in
     let made : Takes bytes (take n bytes) (drop n bytes) = record { parts = sym (take-append-drop n bytes); rest_fits = IsBytes-drop n bytes fits } in
-    subst (λ (y : List ℕ × List ℕ). Takes bytes y.0 y.1 × (length y.0 ≡ n) × IsBytes y.0) g.1 (made, omega (arith, length-take n bytes), IsBytes-take n bytes fits)
+    subst (λ (y : List ℕ × List ℕ). Takes bytes y.0 y.1 × (length y.0 ≡ n) × IsBytes y.0) g.1 (made, length_front n bytes long, IsBytes-take n bytes fits)
 
 pub part_again : (part rest : List ℕ) → part_at (length part) (part ++ rest) ≡ Ok (part, rest)
 part_again part rest =
-    let long : ltb (length (part ++ rest)) (length part) ≡ false = le-ltb _ _ (omega (arith, length-append part rest)) in
+    let long : ltb (length (part ++ rest)) (length part) ≡ false = le-ltb _ _ (long_enough (length part) part rest refl) in
     rw (long, take_at part rest (length part) refl, drop_at part rest (length part) refl) refl
 
 pub binary_takes : (bytes : List ℕ) (x : List ℕ × List ℕ) → IsBytes bytes → binary_at bytes ≡ Ok x → Takes bytes (counted x.0) x.1 × IsShort x.0
@@ -100,7 +108,7 @@ binary_takes bytes x fits e =
     let p = part_takes b.0.0 b.0.1 x t.0.rest_fits b.2 in
     let len : length x.0 ≡ b.0.0 = p.1 in
     let both = Takes-then bytes (to_be_bytes w16 b.0.0) b.0.1 x.0 x.1 t.0 p.0 in
-    (subst (λ (k : ℕ). Takes bytes (to_be_bytes w16 k ++ x.0) x.1) (sym len) both, omega (arith, t.1))
+    (subst (λ (k : ℕ). Takes bytes (to_be_bytes w16 k ++ x.0) x.1) (sym len) both, subst (λ (k : ℕ). k < 2 ^ 16) (sym len) t.1)
 
 pub binary_again : (part rest : List ℕ) → IsShort part → binary_at (counted part ++ rest) ≡ Ok (part, rest)
 unfolding binary_at
@@ -133,6 +141,42 @@ limit_pos : (k : ℕ) → 0 < limit k
 limit_pos zero = omega arith
 limit_pos (suc k) = omega (arith, limit_pos k)
 
+-- apart, since these are slow to decide among the facts of a reading
+one_below : (k n : ℕ) → n < 128 → n < 128 * limit k
+one_below k n lt = omega (arith, limit_pos k)
+
+some_of : (n : ℕ) → eqb n 0 ≡ false → 0 < n
+some_of n f = omega (arith, eqb-false n 0 f)
+
+-- a digit, and the number above it
+joined_low : (b high : ℕ) → 128 ≤ b → b < 256 → (b - 128 + 128 * high) % 128 + 128 ≡ b
+joined_low b high top byte = omega arith
+
+joined_up : (b high : ℕ) → 128 ≤ b → b < 256 → (b - 128 + 128 * high) / 128 ≡ high
+joined_up b high top byte = omega arith
+
+joined_large : (b high : ℕ) → 128 ≤ b → 0 < high → 128 ≤ b - 128 + 128 * high
+joined_large b high top some = omega arith
+
+joined_below : (b high m : ℕ) → 128 ≤ b → b < 256 → high < m → b - 128 + 128 * high < 128 * m
+joined_below b high m top byte lt = omega arith
+
+-- a number, and its lowest digit
+parted_low : (n : ℕ) → 128 ≤ n % 128 + 128
+parted_low n = omega arith
+
+parted_below : (n m : ℕ) → n < 128 * m → n / 128 < m
+parted_below n m lt = omega arith
+
+parted_some : (n : ℕ) → 128 ≤ n → n / 128 ≡ 0 → ⊥
+parted_some n big none = omega arith
+
+parted_back : (n : ℕ) → n % 128 + 128 - 128 + 128 * (n / 128) ≡ n
+parted_back n = omega arith
+
+suc_pos : (k : ℕ) → 0 < suc k
+suc_pos k = omega arith
+
 pub digits_takes : (k : ℕ) (bytes : List ℕ) (x : ℕ × List ℕ) → IsBytes bytes → digits_at k bytes ≡ Ok x → Takes bytes (low_first k x.0) x.1 × (x.0 < limit k)
 unfolding digits_at low_first
 digits_takes zero bytes x fits e = absurd cc
@@ -142,20 +186,19 @@ digits_takes (suc k) (b ∷ bytes) x fits e =
       | inl h ↦
           let lt : b < 128 = ltb-true _ _ h.0 in
           let made : Takes (b ∷ bytes) (low_first (suc k) b) bytes = rw h.0 (record { parts = refl; rest_fits = IsBytes-rest b bytes fits }) in
-          subst (λ (y : ℕ × List ℕ). Takes (b ∷ bytes) (low_first (suc k) y.0) y.1 × (y.0 < limit (suc k))) (ok_is (b, bytes) x h.1) (made, omega (arith, limit_pos k))
+          subst (λ (y : ℕ × List ℕ). Takes (b ∷ bytes) (low_first (suc k) y.0) y.1 × (y.0 < limit (suc k))) (ok_is (b, bytes) x h.1) (made, one_below k b lt)
       | inr h ↦
           let high = bind_ok (digits_at k bytes) (λ high. cond (eqb high.0 0) (Err Bad) (Ok (b - 128 + 128 * high.0, high.1))) x h.1 in
           let g = guarded (eqb high.0.0 0) Bad (b - 128 + 128 * high.0.0, high.0.1) x high.2 in
-          let some : 0 < high.0.0 = omega (arith, eqb-false _ _ g.0) in
+          let some : 0 < high.0.0 = some_of high.0.0 g.0 in
           let top : 128 ≤ b = ltb-false _ _ h.0 in
           let byte : b < 256 = fits 0 in
           let t = digits_takes k bytes high.0 (IsBytes-rest b bytes fits) high.1 in
-          let n : ℕ = b - 128 + 128 * high.0.0 in
-          let large : ltb (b - 128 + 128 * high.0.0) 128 ≡ false = le-ltb _ _ (omega arith) in
-          let low : (b - 128 + 128 * high.0.0) % 128 + 128 ≡ b = omega arith in
-          let up : (b - 128 + 128 * high.0.0) / 128 ≡ high.0.0 = omega arith in
+          let large : ltb (b - 128 + 128 * high.0.0) 128 ≡ false = le-ltb _ _ (joined_large b high.0.0 top some) in
+          let low : (b - 128 + 128 * high.0.0) % 128 + 128 ≡ b = joined_low b high.0.0 top byte in
+          let up : (b - 128 + 128 * high.0.0) / 128 ≡ high.0.0 = joined_up b high.0.0 top byte in
           let made : Takes (b ∷ bytes) (low_first (suc k) (b - 128 + 128 * high.0.0)) high.0.1 = rw (large, low, up) (Takes-next b bytes (low_first k high.0.0) high.0.1 t.0) in
-          subst (λ (y : ℕ × List ℕ). Takes (b ∷ bytes) (low_first (suc k) y.0) y.1 × (y.0 < limit (suc k))) g.1 (made, omega (arith, t.1))
+          subst (λ (y : ℕ × List ℕ). Takes (b ∷ bytes) (low_first (suc k) y.0) y.1 × (y.0 < limit (suc k))) g.1 (made, joined_below b high.0.0 (limit k) top byte t.1)
     ]
 
 pub digits_again : (k n : ℕ) (rest : List ℕ) → n < limit k → 0 < k → digits_at k (low_first k n ++ rest) ≡ Ok (n, rest)
@@ -170,11 +213,11 @@ digits_again (suc (suc k)) n rest lt pos =
       | inl small ↦ let t : ltb n 128 ≡ true = lt-ltb _ _ small in rw (t, t) refl
       | inr big ↦
           let t : ltb n 128 ≡ false = le-ltb _ _ big in
-          let low : ltb (n % 128 + 128) 128 ≡ false = le-ltb _ _ (omega arith) in
-          let up : n / 128 < limit (suc k) = omega (arith, lt) in
-          let some : eqb (n / 128) 0 ≡ false = ne_eqb _ _ (λ z. omega arith) in
-          let back : n % 128 + 128 - 128 + 128 * (n / 128) ≡ n = omega arith in
-          rw (t, low, digits_again (suc k) (n / 128) rest up (omega arith), some, back) refl
+          let low : ltb (n % 128 + 128) 128 ≡ false = le-ltb _ _ (parted_low n) in
+          let up : n / 128 < limit (suc k) = parted_below n (limit (suc k)) lt in
+          let some : eqb (n / 128) 0 ≡ false = ne_eqb _ _ (parted_some n big) in
+          let back : n % 128 + 128 - 128 + 128 * (n / 128) ≡ n = parted_back n in
+          rw (t, low, digits_again (suc k) (n / 128) rest up (suc_pos k), some, back) refl
     ]
 
 pub varint_takes : (bytes : List ℕ) (x : ℕ × List ℕ) → IsBytes bytes → varint_at bytes ≡ Ok x → Takes bytes (varint x.0) x.1 × (x.0 < varint_end)
