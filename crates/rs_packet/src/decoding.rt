@@ -65,7 +65,6 @@ fn publish_of(
     let mut rest = body;
     let topic = read_string(&mut rest)?;
     let id = id_if(&mut rest, qos)?;
-    let found = read_properties(alloc, &mut rest, PropertyOwner::Publish)?;
     let PropertyValues {
         format,
         expiry,
@@ -75,7 +74,7 @@ fn publish_of(
         alias,
         user,
         ..
-    } = found;
+    } = read_properties(alloc, &mut rest, PropertyOwner::Publish)?;
     let fields = PropertyFields {
         format,
         content_type,
@@ -108,7 +107,7 @@ fn code_of(alloc: Global, body: Bytes, owner: PropertyOwner) -> Result<u8, Packe
     if rest.is_empty() {
         return Ok(code);
     }
-    let _found = read_properties(alloc, &mut rest, owner)?;
+    read_properties(alloc, &mut rest, owner)?;
     if !rest.is_empty() {
         return Err(PacketFault::Malformed);
     }
@@ -132,11 +131,10 @@ fn subscribe_of(alloc: Global, body: Bytes) -> Result<Subscribe, PacketFault>
 {
     let mut rest = body;
     let id = id_of(&mut rest)?;
-    let found = read_properties(alloc, &mut rest, PropertyOwner::Subscribe)?;
+    let subscription = read_properties(alloc, &mut rest, PropertyOwner::Subscribe)?.subscription;
     if rest.is_empty() {
         return Err(PacketFault::Protocol);
     }
-    let subscription = found.subscription;
     let filters = all_items(alloc, rest)?;
     Ok(Subscribe {
         id,
@@ -152,7 +150,7 @@ fn unsubscribe_of(alloc: Global, body: Bytes) -> Result<Unsubscribe, PacketFault
 {
     let mut rest = body;
     let id = id_of(&mut rest)?;
-    let _found = read_properties(alloc, &mut rest, PropertyOwner::Unsubscribe)?;
+    read_properties(alloc, &mut rest, PropertyOwner::Unsubscribe)?;
     if rest.is_empty() {
         return Err(PacketFault::Protocol);
     }
@@ -285,7 +283,6 @@ fn connect_of(alloc: Global, body: Bytes) -> Result<Connect, PacketFault>
     let byte = read_u8(&mut rest)?;
     let flags = read_flags(byte)?;
     let keep_alive = read_u16(&mut rest)?;
-    let found = read_properties(alloc, &mut rest, PropertyOwner::Connect)?;
     let PropertyValues {
         session_expiry,
         method,
@@ -293,7 +290,7 @@ fn connect_of(alloc: Global, body: Bytes) -> Result<Connect, PacketFault>
         receive_maximum,
         packet_maximum,
         ..
-    } = found;
+    } = read_properties(alloc, &mut rest, PropertyOwner::Connect)?;
     if authentication && method.is_none() {
         return Err(PacketFault::Protocol);
     }
