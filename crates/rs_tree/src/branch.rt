@@ -1,6 +1,7 @@
 //! The retained messages as a tree of levels, whose nodes are shared.
 
-ghost use Rattle.std.specs.Prelude.{◌≡◌, ◌<◌, ◌≤◌, false, [], List, ℕ, length, IfErr, IfOk, IsTrue, MatchResult};
+ghost use Rattle.std.specs.Prelude.{◌≡◌, ◌<◌, ◌≤◌, false, [], List, ℕ, length, IfErr, IfOk, IsTrue, MatchResult, OnErr, OnOk};
+ghost use Rattle.std.specs.List.{insert};
 ghost use Rattle.rs_tree.specs.Nodes.{depth_of, is_row, spots_of};
 ghost use Rattle.rs_tree.specs.Rows.{IsEdge, IsGap, IsIn, IsNotBefore, Passes, Takes};
 
@@ -176,6 +177,17 @@ impl Branch {
             children: copies(alloc, self.children.as_slice())?,
         })
     }
+}
+
+/// Puts a child at an index. If memory is refused, nothing changes.
+fn insert_at(children: &mut Vec<Child>, i: usize, child: Child) -> Result<(), AllocError>
+    requires { i ≤ length children.old.items }
+    ensures done { OnOk result (children.new.items ≡ insert children.old.items i child) }
+    ensures refused { OnErr result (children.new.items ≡ children.old.items) }
+{
+    children.reserve_exact(1)?;
+    children.insert(i, child)?;
+    Ok(())
 }
 
 /// The index of the first child whose level is behind a level.

@@ -6,7 +6,7 @@ ghost use Rattle.rs_tree.specs.Spots.{IsFull, spot_of, under};
 ghost use Rattle.rs_tree.specs.Nodes.{stem_spots};
 ghost use Rattle.rs_tree.specs.Rows.{AreHalves, IsFrom, IsRow, parts};
 
-use super::{Below, Branch, Child, Stem, copies};
+use super::{Below, Branch, Child, Stem, copies, insert_at};
 use crate::bucket::Bucket;
 use crate::label::Label;
 use crate::shared::Shared;
@@ -97,7 +97,7 @@ fn put_two(children: &mut Vec<Child>, i: usize, low: Child, high: Child) -> bool
     ensures done { IsTrue result → children.new.items ≡ slice_set (insert children.old.items (i + 1) high) i low }
     ensures kept { result ≡ false → children.new.items ≡ children.old.items }
 {
-    let Ok(()) = children.insert(i + 1, high) else {
+    let Ok(()) = insert_at(children, i + 1, high) else {
         return false;
     };
     children[i] = low;

@@ -10,7 +10,7 @@ ghost use Rattle.rs_tree.specs.Nodes.{stem_spots};
 ghost use Rattle.rs_tree.specs.Rows.{Leads};
 
 use super::rows::single;
-use super::{Below, Branch, Child, Stem, index_of};
+use super::{Below, Branch, Child, Stem, index_of, insert_at};
 use crate::bucket::Bucket;
 use crate::chain::{behind, shared_levels};
 use crate::label::Label;
@@ -232,8 +232,7 @@ impl Branch {
             Err(i) => {
                 let label = Label::of(alloc, level, &found, at)?;
                 let child = Child::of(alloc, label, found, next)?;
-                self.children.reserve_exact(1)?;
-                self.children.insert(i, child)?;
+                insert_at(&mut self.children, i, child)?;
                 Ok(false)
             }
         }
@@ -260,8 +259,7 @@ impl Branch {
             Err(i) => {
                 let label = Label::of(alloc, level, &found, at)?;
                 let child = Child::of(alloc, label, found, next)?;
-                self.children.reserve_exact(1)?;
-                self.children.insert(i, child)?;
+                insert_at(&mut self.children, i, child)?;
                 Ok(false)
             }
         }
