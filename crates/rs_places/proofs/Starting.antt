@@ -1,5 +1,5 @@
 -- Lists that grow by one, and the ends of places beside their gates.
-use Rattle.std.proofs.Common.{◌≡◌, ◌⊎◌, ⊎_elim, ℕ, ◌+◌, ◌≤◌, List, [], ◌∷◌, ◌++◌, length, map, refl, sym, ap, subst, ◌∙◌, append_assoc, length-append, arith}
+use Rattle.std.proofs.Common.{◌≡◌, ◌⊎◌, ⊎_elim, ℕ, suc, ◌+◌, ◌<◌, ◌≤◌, List, [], ◌∷◌, ◌++◌, length, map, refl, sym, ap, subst, ◌∙◌, append_assoc, length-append, arith}
 use Rattle.std.proofs.lemmas.List.{append-nil, length-map, map-append}
 use Rattle.rs_places.specs.Places.{AreEachServed, IsPlaceServed, Left, Place, places_of}
 use Rattle.rs_places.specs.Shared.{SharedValue}
@@ -61,6 +61,29 @@ each_length limit [] [] each = refl
 each_length limit [] (end ∷ left) each = absurd each
 each_length limit (place ∷ places) [] each = absurd each
 each_length limit (place ∷ places) (end ∷ left) each = let h = each_length limit places left each.1 in omega (arith, h)
+
+-- ---- one more where there is room, in numbers alone
+
+pub few_at_first : (threads served left all : ℕ) → threads ≡ 0 → served ≡ 0 → left ≡ all → threads + served + left ≤ all
+few_at_first threads served left all a b c = omega arith
+
+pub few_served : (threads served more left rest all : ℕ) → threads + served + left ≤ all → more ≡ served + 1 → left ≡ suc rest → threads + more + rest ≤ all
+few_served threads served more left rest all few one next = omega arith
+
+pub few_threads : (threads more served left rest all : ℕ) → threads + served + left ≤ all → more ≡ threads + 1 → left ≡ suc rest → more + served + rest ≤ all
+few_threads threads more served left rest all few one next = omega arith
+
+pub few_so_far : (threads served left all : ℕ) → threads + served + left ≤ all → threads + served ≤ all
+few_so_far threads served left all few = omega arith
+
+pub still_room : (all room more : ℕ) → all ≤ room → room ≤ more → all ≤ more
+still_room all room more a b = omega arith
+
+pub thread_fits : (threads served left rest all room : ℕ) → threads + served + left ≤ all → left ≡ suc rest → all ≤ room → threads < room
+thread_fits threads served left rest all room few next fits = omega arith
+
+pub served_fits : (threads served left rest all room : ℕ) → threads + served + left ≤ all → left ≡ suc rest → all ≤ room → served < room
+served_fits threads served left rest all room few next fits = omega arith
 
 -- ---- places that are started
 

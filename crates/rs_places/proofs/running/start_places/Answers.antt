@@ -2,7 +2,7 @@ use Rattle.std.proofs.Common.{rules, ◌≡◌, ◌⊎◌, ⊎_elim, inl, inr, �
 use Rattle.std.proofs.lemmas.Bool.Decides.{nat_tests}
 use Rattle.rs_places.specs.Places.{left_at, place_at, places_of}
 use Rattle.rs_places.specs.Shared.{SharedValue}
-use Rattle.rs_places.proofs.Starting.{all_started, length_more, next_place, no_places, same_place, served_here, started_none, thread_more}
+use Rattle.rs_places.proofs.Starting.{all_started, few_at_first, few_served, few_so_far, few_threads, length_more, next_place, no_places, same_place, served_fits, served_here, started_none, still_room, thread_fits, thread_more}
 use Rattle.rs_places.proofs.running.start_places.Goals as goal
 
 pub loop-turn-init : goal.loop-turn-init
@@ -12,7 +12,7 @@ loop-turn-init g c =
     let gates : iterator.b.rest.items ≡ c.args.gates.items = search rules in
     record {
       started = started_none _ _ _ _ _ _ _ c.in_ok-threads.ensures.items c.in_ok-served.ensures.items same;
-      few = omega (arith, ap length c.in_ok-threads.ensures.items, ap length c.in_ok-served.ensures.items, ap length gates);
+      few = few_at_first _ _ _ _ (ap length c.in_ok-threads.ensures.items) (ap length c.in_ok-served.ensures.items) (ap length gates);
       threads_room = omega (arith, c.in_ok-threads.ensures.capacity, c.len.ensures);
       served_room = omega (arith, c.in_ok-served.ensures.capacity, c.len-2.ensures);
     }
@@ -24,9 +24,9 @@ loop-turn-preserved-then-not-is_empty g c =
     let first = next_place g.T.Turn.plan _ _ _ _ _ _ steps.0.0 steps.1.0 in
     record {
       started = served_here _ _ _ _ _ _ _ _ _ _ c.push_reserved.ensures.items c.serve_turns.ensures first i.started;
-      few = omega (arith, i.few, length_more _ _ _ c.push_reserved.ensures.items, ap length steps.1.0);
+      few = few_served _ _ _ _ _ _ i.few (length_more _ _ _ c.push_reserved.ensures.items) (ap length steps.1.0);
       threads_room = i.threads_room;
-      served_room = omega (arith, i.served_room, c.push_reserved.ensures.capacity);
+      served_room = still_room _ _ _ i.served_room c.push_reserved.ensures.capacity;
     }
 
 pub loop-turn-preserved-in-Ok : goal.loop-turn-preserved-in-Ok
@@ -38,8 +38,8 @@ loop-turn-preserved-in-Ok g c =
     let none : length c.loop-turn.served.items ≡ 0 = grind (arith, nat_tests, c.is_empty.ensures, c.if-not-is_empty.false) in
     record {
       started = thread_more _ _ _ _ _ _ _ _ _ _ _ c.push_reserved-in-Ok.ensures.items none (same_place g.T.Turn.plan _ _ _ _ promised.0 promised.1) first i.started;
-      few = omega (arith, i.few, length_more _ _ _ c.push_reserved-in-Ok.ensures.items, ap length steps.1.0);
-      threads_room = omega (arith, i.threads_room, c.push_reserved-in-Ok.ensures.capacity);
+      few = few_threads _ _ _ _ _ _ i.few (length_more _ _ _ c.push_reserved-in-Ok.ensures.items) (ap length steps.1.0);
+      threads_room = still_room _ _ _ i.threads_room c.push_reserved-in-Ok.ensures.capacity;
       served_room = i.served_room;
     }
 
@@ -51,10 +51,22 @@ loop-turn-preserved g c =
     let one = rw c.in-Err-Some.field-0-is at c.in-Err-Some.ensures in
     record {
       started = served_here _ _ _ _ _ _ _ _ _ _ c.push_reserved-in-Err-Some.ensures.items one first i.started;
-      few = omega (arith, i.few, length_more _ _ _ c.push_reserved-in-Err-Some.ensures.items, ap length steps.1.0);
+      few = few_served _ _ _ _ _ _ i.few (length_more _ _ _ c.push_reserved-in-Err-Some.ensures.items) (ap length steps.1.0);
       threads_room = i.threads_room;
-      served_room = omega (arith, i.served_room, c.push_reserved-in-Err-Some.ensures.capacity);
+      served_room = still_room _ _ _ i.served_room c.push_reserved-in-Err-Some.ensures.capacity;
     }
+
+pub push_reserved-requires : goal.push_reserved-requires
+push_reserved-requires g c = served_fits _ _ _ _ _ _ c.loop-turn.invariant.few (ap length c.in-Some.ensures.steps.1.0) c.loop-turn.invariant.served_room
+
+pub push_reserved-requires-in-Ok : goal.push_reserved-requires-in-Ok
+push_reserved-requires-in-Ok g c = thread_fits _ _ _ _ _ _ c.loop-turn.invariant.few (ap length c.in-Some.ensures.steps.1.0) c.loop-turn.invariant.threads_room
+
+pub push_reserved-requires-in-Err-Some : goal.push_reserved-requires-in-Err-Some
+push_reserved-requires-in-Err-Some g c = served_fits _ _ _ _ _ _ c.loop-turn.invariant.few (ap length c.in-Some.ensures.steps.1.0) c.loop-turn.invariant.served_room
+
+pub returns-clause-few : goal.returns-clause-few
+returns-clause-few g c = few_so_far _ _ _ _ c.loop-turn.invariant.few
 
 pub returns-clause-served : goal.returns-clause-served
 returns-clause-served g c =
