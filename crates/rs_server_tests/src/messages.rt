@@ -3,7 +3,9 @@
 ghost use Rattle.std.specs.Prelude.{◌≢◌, ◌≤◌, [], length};
 
 use bytes::Bytes;
-use rs_message::{Entry, Found, MAX_PLACES, Message, Operation, Origin, Remaining, SubmitFault};
+use rs_message::{
+    Entry, Found, MAX_PLACES, Message, Operation, Origin, Remaining, SubmitFault, is_same,
+};
 use rs_packet::{Properties, Qos};
 use rs_topic::TopicName;
 use std::alloc::{AllocError, Global};
@@ -196,6 +198,25 @@ fn a_message_is_copied(rt: HostRuntime) -> Result<(), Fail> {
 fn found_at_100(alloc: Global, topic: &[u8], expiry: Option<u32>) -> Result<Found, Fail> {
     let topic = TopicName::read(alloc, topic)?;
     Ok(Found::new(alloc, topic, received_at_100(b"x", expiry))?)
+}
+
+/// Whether the entry of a/b is the same as one of this topic, with a message that lasts so long.
+fn is_same_as(alloc: Global, topic: &[u8], expiry: Option<u32>) -> Result<bool, Fail> {
+    let entry = entry_of_set(alloc)?;
+    let operation = Operation::Set(found_at_100(alloc, topic, expiry)?);
+    let other = Entry {
+        origin: entry.origin,
+        operation,
+    };
+    Ok(is_same(&entry, &other))
+}
+
+#[test]
+fn entries_are_the_same_if_topic_and_message_are(rt: HostRuntime) -> Result<(), Fail> {
+    for (topic, expiry, same) in [(b"a/b", 10, true), (b"a/c", 10, false), (b"a/b", 11, false)] {
+        assert!(rt; is_same_as(rt.alloc(), topic, Some(expiry))? == same);
+    }
+    Ok(())
 }
 
 /// Whether a copy of a topic with its message equals it, and differs from one of another topic and from one of another message. What
