@@ -304,7 +304,8 @@ fn copies(rt: HostRuntime) -> Result<(), Fail> {
     check_stores(&rt, rt.alloc(), 10, [BEFORE_A_COPY, AFTER_A_COPY], COPIED)
 }
 
-/// A full store takes a new topic from the moment on at which one has expired, by a Sweep of its own, and not before.
+/// A full store takes a new topic from the moment on at which one has expired, by a Sweep of its own, which has the next serial of the
+/// writer, and not before.
 const ROOM_MADE: &[Step] = &[
     Step::Takes(Change::Set(1, b"a", 100, Some(10)), None),
     Step::Says(Fact::Numbers(1, 1)),
@@ -313,10 +314,12 @@ const ROOM_MADE: &[Step] = &[
     Step::Says(Fact::Numbers(1, 1)),
     Step::Takes(Change::Set(2, b"b", 110, Some(10)), None),
     Step::Says(Fact::Numbers(3, 1)),
+    Step::Says(Fact::Serial(0, 1)),
     Step::Takes(Change::Set(3, b"c", 119, Some(10)), Some(Refusal::Full)),
     Step::Says(Fact::Numbers(3, 1)),
     Step::Takes(Change::Set(3, b"c", 120, Some(10)), None),
     Step::Says(Fact::Numbers(5, 1)),
+    Step::Says(Fact::Serial(0, 2)),
 ];
 
 #[test]
