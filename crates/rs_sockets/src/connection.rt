@@ -5,7 +5,8 @@ use crate::halves::{ReadHalf, WriteHalf};
 use crate::splitting::{finish, give_up, split};
 use std::alloc::Global;
 use std::io;
-use std::net::TcpStream;
+use std::io::{Read, Write};
+use std::net::{OpenStream, TcpStream};
 use std::time::{Clock, Duration};
 
 /// What a client sends. Before each read, what was gathered for the client is written out.
@@ -42,13 +43,17 @@ pub fn open(
 /// # Errors
 ///
 /// If what was gathered could not be written. The connection is closed.
-pub fn close<H: Clock>(rt: &H, input: FromClient, output: ToClient) -> io::Result<()> {
+pub fn close<H: Clock, R: Read + Drop, S: Read + Write + OpenStream + Drop>(
+    rt: &H,
+    input: ReadHalf<R, S>,
+    output: WriteHalf<S>,
+) -> io::Result<()> {
     let (_reader, mut stream) = finish(input, output)?;
     end(rt, &mut stream);
     Ok(())
 }
 
 /// Ends a connection that failed: nothing more is written or read, and nothing is waited for.
-pub fn abandon(input: FromClient, output: ToClient) {
+pub fn abandon<R: Read + Drop, W: Write + Drop>(input: ReadHalf<R, W>, output: WriteHalf<W>) {
     drop(give_up(input, output));
 }

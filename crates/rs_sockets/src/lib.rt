@@ -33,6 +33,3 @@ pub use halves::{ReadHalf, WriteHalf};
 pub use limits::{DISCARD_SECONDS, FIRST_PAUSE, LONGEST_PAUSE, MAX_DISCARDED, MAX_GATHERED};
 pub use listener::{Accepted, Listener};
 pub use splitting::{finish, split};
-
-#[cfg(test)]
-mod tests;

@@ -14,7 +14,7 @@ use std::{io, thread};
 /// Accepts connections, up to a number in all. Threads share it by reference, as by an `Arc`.
 #[derive(Drop)]
 pub struct Listener {
-    pub(crate) socket: TcpListener,
+    socket: TcpListener,
     left: AtomicU64,
     idle: Option<Duration>,
 }

@@ -1,12 +1,12 @@
-// The system's clock, where it can be read and where not.
+//! The system's clock, where it can be read and where not.
 
-use crate::clock::SystemClock;
+use rs_sockets::SystemClock;
 use std::io;
 use std::io::ErrorKind;
 use std::test::Fail;
 use std::time::{Clock, Duration};
 
-// A clock that tells so many milliseconds, or fails.
+/// A clock that tells so many milliseconds, or fails.
 #[derive(Drop)]
 struct Told(Option<u64>);
 

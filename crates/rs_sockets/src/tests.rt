@@ -1,5 +1,0 @@
-mod clocks;
-mod ending;
-mod gathering;
-mod listening;
-mod loopback;
