@@ -1,6 +1,5 @@
 mod ahead;
 mod counted;
-mod gate;
 mod handed;
 mod streams;
 

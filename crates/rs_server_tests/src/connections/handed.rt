@@ -7,6 +7,7 @@ use bytes::Bytes;
 use rs_message::{Found, Operation, SubmitFault};
 use rs_packet::{Decoded, Packet, Reply, decode, encode};
 use rs_session::{Gate, Session};
+use rs_test_kit::{CONNACK, CONNECT};
 use rs_topic::{Text, TopicFilter};
 use std::alloc::{AllocError, Global};
 use std::process::Abort;
@@ -53,12 +54,6 @@ impl Gate for Recording {
         Err(AllocError)
     }
 }
-
-/// A CONNECT with client identifier `a` (3.1).
-const CONNECT: &[u8] = b"\x10\x0E\x00\x04MQTT\x05\x02\x00\x3C\x00\x00\x01a";
-
-/// The CONNACK that accepts it (3.2).
-const CONNACK: &[u8] = b"\x20\x0D\x00\x00\x0A\x21\x00\x10\x27\x00\x04\x00\x00\x2A\x00";
 
 /// At QoS 0, 1 and 2 a PUBLISH with RETAIN 1 to `a` with the payload `x`, one with an empty payload, and the replies if the
 /// gate keeps it and if its store is full.

@@ -1,10 +1,10 @@
 //! Clients that send and take bytes slowly, or fail.
 
-use super::gate::FULL;
 use rs_server::{ConnectionId, Counted, Moments, ServeFault, Served, serve};
+use rs_test_kit::{Call, FULL, Pace, Paced};
 use std::alloc::{AllocError, Global};
 use std::io;
-use std::io::{ErrorKind, Read, Write};
+use std::io::Write;
 use std::sync::Wait;
 use std::test::Fail;
 
@@ -19,24 +19,6 @@ const OUTPUT: &[u8] = &[
     0x20, 0x0D, 0x00, 0x00, 0x0A, 0x21, 0x00, 0x10, 0x27, 0x00, 0x04, 0x00, 0x00, 0x2A, 0x00, 0x90,
     0x04, 0x00, 0x01, 0x00, 0x97, 0xD0, 0x00,
 ];
-
-/// Gives at most `step` bytes a read, and fails once so many bytes are left.
-#[derive(Drop)]
-struct Slow<'a> {
-    bytes: &'a [u8],
-    step: usize,
-    fails_at: Option<usize>,
-}
-
-impl Read for Slow<'_> {
-    fn read(&mut self, buf: &mut [u8]) -> io::Result<usize> {
-        if self.fails_at == Some(self.bytes.len()) {
-            return Err(io::Error::from(ErrorKind::Interrupted));
-        }
-        let n = buf.len().min(self.step);
-        self.bytes.read(&mut buf[..n])
-    }
-}
 
 /// Takes at most `step` bytes a write, is full after some, and notes at which byte it was flushed.
 #[derive(Drop)]
@@ -68,8 +50,8 @@ struct Script<'a> {
     input: &'a [u8],
     /// How many bytes a read gives.
     step: usize,
-    /// How many bytes are left when a read fails.
-    fails_at: Option<usize>,
+    /// The number of the read that fails, from 1 on. None fails at 0.
+    fails_at: usize,
     /// How many bytes a write takes.
     takes: usize,
     /// How many bytes are taken in all.
@@ -84,7 +66,7 @@ const PLAIN: Script<'static> = Script {
     },
     input: INPUT,
     step: 1,
-    fails_at: None,
+    fails_at: 0,
     takes: 2,
     room: 1000,
 };
@@ -108,10 +90,13 @@ fn is_written(narrow: &Narrow, wanted: &Outcome) -> bool {
 }
 
 fn is_served<H: Wait>(rt: &H, alloc: Global, script: &Script, wanted: &Outcome) -> bool {
-    let mut reader = Counted::new(Slow {
-        bytes: script.input,
-        step: script.step,
-        fails_at: script.fails_at,
+    let mut reader = Counted::new(Paced {
+        inner: script.input,
+        pace: Pace {
+            step: script.step,
+            call: Call::Read,
+            at: script.fails_at,
+        },
     });
     let mut writer = Counted::new(Narrow {
         bytes: Vec::new(alloc),
@@ -169,17 +154,14 @@ fn the_input_ends(rt: HostRuntime) {
 
 #[test]
 fn the_reader_fails(rt: HostRuntime) {
-    for (fails_at, len) in [(31, 0), (16, 0), (15, 15), (3, 21)] {
+    for (fails_at, len) in [(1, 0), (16, 0), (17, 15), (29, 21)] {
         let wanted = Outcome {
             served: Err(ServeFault::Read),
             output: &OUTPUT[..len],
             flushed_at: None,
             failures: (1, 0),
         };
-        let script = Script {
-            fails_at: Some(fails_at),
-            ..PLAIN
-        };
+        let script = Script { fails_at, ..PLAIN };
         assert!(rt; is_served(&rt, rt.alloc(), &script, &wanted), "{fails_at}");
     }
 }

@@ -1,0 +1,13 @@
+//! What several crates of tests share: packets as bytes, streams of which a call fails, a table of what one failing call comes to, and a
+//! gate that refuses all. It is a crate of its own so that nothing of it stands, and is proved, twice.
+#![tactic(auto)]
+
+mod faults;
+mod gate;
+mod packets;
+mod streams;
+
+pub use faults::{End, FAULTS, FIRST, Fault, SECOND, first_replies, second_replies};
+pub use gate::{FULL, Refusing};
+pub use packets::{CONNACK, CONNECT, joined};
+pub use streams::{Call, Pace, Paced};
