@@ -19,11 +19,8 @@ mod sweeping;
 
 use rs_store::TopicLimit;
 use rs_version::Blank;
-use std::alloc::{AllocError, Global};
+use std::alloc::Global;
 use std::test::Fail;
-
-/// A CONNECT, to which the CONNACK is `CONNECTED`.
-const CONNECT: &[u8] = b"\x10\x0E\x00\x04MQTT\x05\x02\x00\x3C\x00\x00\x01a";
 
 /// CONNECT, a retained PUBLISH of a/b, DISCONNECT.
 const PUBLISHES: &[u8] =
@@ -32,9 +29,6 @@ const PUBLISHES: &[u8] =
 /// CONNECT, SUBSCRIBE of a/#, DISCONNECT.
 const SUBSCRIBES: &[u8] =
     b"\x10\x0E\x00\x04MQTT\x05\x02\x00\x3C\x00\x00\x01a\x82\x09\x00\x01\x00\x00\x03a/#\x00\xE0\x00";
-
-/// CONNACK.
-const CONNECTED: &[u8] = b"\x20\x0D\x00\x00\x0A\x21\x00\x10\x27\x00\x04\x00\x00\x2A\x00";
 
 /// CONNACK, and a DISCONNECT that says that the store takes no more changes.
 const CLOSED: &[u8] = b"\x20\x0D\x00\x00\x0A\x21\x00\x10\x27\x00\x04\x00\x00\x2A\x00\xE0\x01\x83";
@@ -46,14 +40,6 @@ const SUBSCRIBED: &[u8] =
 /// CONNACK, SUBACK, and the retained message.
 const REPLAYED: &[u8] =
     b"\x20\x0D\x00\x00\x0A\x21\x00\x10\x27\x00\x04\x00\x00\x2A\x00\x90\x04\x00\x01\x00\x001\x07\x00\x03a/b\x00x";
-
-fn joined(alloc: Global, parts: &[&[u8]]) -> Result<Vec<u8>, AllocError> {
-    let mut bytes = Vec::new(alloc);
-    for part in parts {
-        bytes.extend_from_slice(part)?;
-    }
-    Ok(bytes)
-}
 
 fn blank_store(alloc: Global, topics: u32, places: u8) -> Result<Blank, Fail>
     requires { (0 < places) × (places ≤ MAX_PLACES) }

@@ -1,9 +1,9 @@
 //! Publications that came in one piece: their changes go to the writer together.
 
+use super::PUBLISHES;
 use super::play::{PLAIN, Row, as_wanted, ending, plain_row, play};
-use super::script::{Call, End, Pace};
-use super::{CONNECTED, PUBLISHES};
 use rs_server::{ServeFault, Served};
+use rs_test_kit::{CONNACK, Call, End, Pace};
 use std::test::Fail;
 
 /// CONNECT, three retained PUBLISH of QoS 1.
@@ -50,7 +50,7 @@ fn rows(at: usize, ends: End, written: usize, kept: bool) -> [Row<'static>; 3] {
     let first = plain_row(course, THREE, &THREE_REPLIES[..written.min(27)]);
     let got = &READ_REPLIES[..if kept { 48 } else { 21 }];
     let second = plain_row(ending(PLAIN, INPUT), READS, got);
-    let third = plain_row(PLAIN, PUBLISHES, CONNECTED);
+    let third = plain_row(PLAIN, PUBLISHES, CONNACK);
     [first, second, third]
 }
 

@@ -1,9 +1,9 @@
 //! Bursts: what a client sends in one piece is answered as if each packet came alone.
 
 use super::play::{PLAIN, as_wanted, ending, run};
-use super::script::{Call, Counts, Course, End, Pace, Script};
-use super::{CONNECT, CONNECTED};
+use super::script::{Counts, Course, Script};
 use rs_server::{ServeFault, Served};
+use rs_test_kit::{CONNACK, CONNECT, Call, End, Pace};
 use std::alloc::{AllocError, Global};
 use std::sync::Arc;
 use std::test::Fail;
@@ -22,7 +22,7 @@ impl Talk {
             sent: Vec::new(alloc),
             told: Vec::new(alloc),
         };
-        talk.put(CONNECT, CONNECTED)?;
+        talk.put(CONNECT, CONNACK)?;
         Ok(talk)
     }
 

@@ -5,10 +5,11 @@ ghost use Rattle.rs_server.specs.Counts.{failures_of, inner_of};
 ghost use Rattle.rs_places.specs.Turns.{TakesBack};
 ghost use Rattle.rs_places_tests.specs.Answered.{AreAnswered};
 
-use super::{CONNECTED, PUBLISHES, REPLAYED, SUBSCRIBED, SUBSCRIBES, blank_store};
+use super::{PUBLISHES, REPLAYED, SUBSCRIBED, SUBSCRIBES, blank_store};
 use rs_intake::{BlankQueue, blank_queue};
 use rs_places::{Connection, StoreEnd, StoreFault, Turn, run_store};
 use rs_server::{Clock, Counted, Moments, ServeFault, Served};
+use rs_test_kit::CONNACK;
 use rs_version::Blank;
 use std::alloc::{AllocError, Global};
 use std::collections::VecDeque;
@@ -179,7 +180,7 @@ fn known_connections_are_answered(rt: HostRuntime) -> Result<(), Fail> {
     assert!(rt; (end.changes, end.version) == (Some(1), 1));
     let turns = end.turns;
     let first = match turns.get(0) {
-        Some(turn) => is_written(turn, &[CONNECTED, REPLAYED]),
+        Some(turn) => is_written(turn, &[CONNACK, REPLAYED]),
         None => false,
     };
     assert!(rt; first);

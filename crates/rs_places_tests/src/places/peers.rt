@@ -5,9 +5,9 @@
 //! kind, and three filters that match 40,000 messages each.
 
 use super::play::{NONE, PLAIN, Row, as_wanted, ending, plain_row, play};
-use super::script::End;
-use super::{CONNECT, CONNECTED, PUBLISHES, REPLAYED, SUBSCRIBES};
+use super::{PUBLISHES, REPLAYED, SUBSCRIBES};
 use rs_server::Served;
+use rs_test_kit::{CONNACK, CONNECT, End};
 use std::alloc::{AllocError, Global};
 use std::test::Fail;
 
@@ -53,7 +53,7 @@ fn peer(sent: &'static [u8], told: &'static [u8]) -> Row<'static> {
     Row {
         course: ending(PLAIN, end_of(told)),
         sent: [CONNECT, sent, NONE, NONE],
-        told: [CONNECTED, told, NONE],
+        told: [CONNACK, told, NONE],
     }
 }
 
@@ -61,11 +61,11 @@ fn peer(sent: &'static [u8], told: &'static [u8]) -> Row<'static> {
 /// kept.
 fn rows(alloc: Global) -> Result<Vec<Row<'static>>, AllocError> {
     let mut rows = Vec::new(alloc);
-    rows.push(plain_row(PLAIN, PUBLISHES, CONNECTED))?;
+    rows.push(plain_row(PLAIN, PUBLISHES, CONNACK))?;
     for (sent, told) in PEERS {
         rows.push(peer(sent, told))?;
     }
-    rows.push(plain_row(PLAIN, PUBLISHES, CONNECTED))?;
+    rows.push(plain_row(PLAIN, PUBLISHES, CONNACK))?;
     rows.push(plain_row(PLAIN, SUBSCRIBES, REPLAYED))?;
     Ok(rows)
 }

@@ -1,11 +1,12 @@
 //! A run of a store over connections from memory.
 
-use super::script::{Call, Counts, Course, End, Pace, Script};
-use super::{blank_store, joined};
+use super::blank_store;
+use super::script::{Counts, Course, Script};
 use rs_intake::blank_queue;
 use rs_message::MAX_PLACES;
 use rs_places::{Turn, run_store};
 use rs_server::Served;
+use rs_test_kit::{Call, End, Pace, joined};
 use std::alloc::{AllocError, Global};
 use std::sync::atomic::Ordering;
 use std::sync::{Arc, Wait};

@@ -2,8 +2,9 @@
 
 use super::play::{NONE, PLAIN, Row, as_wanted, ending, later, plain_row, play, run, scripts};
 use super::script::{Counts, Script};
-use super::{CONNECT, CONNECTED, PUBLISHES, REPLAYED, SUBSCRIBED, SUBSCRIBES, joined};
+use super::{PUBLISHES, REPLAYED, SUBSCRIBED, SUBSCRIBES};
 use rs_server::Served;
+use rs_test_kit::{CONNACK, CONNECT, joined};
 use std::alloc::{AllocError, Global};
 use std::sync::Arc;
 use std::test::Fail;
@@ -25,7 +26,7 @@ fn two_connections_meet(rt: HostRuntime) -> Result<(), Fail> {
 #[test]
 fn later_connection_sees(rt: HostRuntime) -> Result<(), Fail> {
     let rows = [
-        plain_row(PLAIN, PUBLISHES, CONNECTED),
+        plain_row(PLAIN, PUBLISHES, CONNACK),
         plain_row(PLAIN, SUBSCRIBES, REPLAYED),
         plain_row(later(2, 1), SUBSCRIBES, REPLAYED),
     ];
@@ -112,7 +113,7 @@ fn large(rt: HostRuntime) -> Result<(), Fail> {
         Row {
             course: ending(PLAIN, Ok(Served::EndOfInput)),
             sent: [CONNECT, head, &payload, NONE],
-            told: [CONNECTED, NONE, NONE],
+            told: [CONNACK, NONE, NONE],
         },
         Row {
             course: later(2, 1),

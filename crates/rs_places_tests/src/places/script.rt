@@ -6,51 +6,17 @@ ghost use Rattle.rs_places.specs.Turns.{TakesBack, unknown};
 use super::CLOSED;
 use rs_places::{Connection, Turn};
 use rs_server::{Clock, Counted, ServeFault, Served};
+use rs_test_kit::{End, Pace, Paced};
 use std::alloc::{AllocError, Global};
 use std::collections::VecDeque;
 use std::io;
-use std::io::{ErrorKind, Read, Write};
+use std::io::{Read, Write};
 use std::sync::Arc;
 use std::sync::atomic::{AtomicU64, Ordering};
 use std::thread::yield_now;
 
 /// How often a turn looks whether another one came so far.
 const LOOKS: u32 = 10_000_000;
-
-/// How a connection ends.
-pub type End = Result<Served, ServeFault>;
-
-#[derive(Clone, Copy, Debug, PartialEq, Eq)]
-pub enum Call {
-    Read,
-    Write,
-    Flush,
-}
-
-/// How the streams of a connection behave.
-#[derive(Clone, Copy)]
-pub struct Pace {
-    /// At most so many bytes go by one call.
-    pub step: usize,
-    /// The call that fails is of this kind.
-    pub call: Call,
-    /// Its number among those of its kind, from 1 on. None fails at 0.
-    pub at: usize,
-}
-
-impl Pace {
-    /// Counts a call. Whether it goes well.
-    fn meets(&mut self, call: Call) -> io::Result<()> {
-        if self.call != call || self.at == 0 {
-            return Ok(());
-        }
-        self.at -= 1;
-        if self.at == 0 {
-            return Err(io::Error::from(ErrorKind::Interrupted));
-        }
-        Ok(())
-    }
-}
 
 /// How a connection goes.
 #[derive(Clone, Copy)]
@@ -112,49 +78,33 @@ pub fn comes(count: &AtomicU64, least: u64) -> bool {
 }
 
 /// What a client sends.
-#[derive(Drop)]
-pub struct Input {
-    bytes: VecDeque<u8>,
-    pace: Pace,
-}
-
-impl Read for Input {
-    fn read(&mut self, buf: &mut [u8]) -> io::Result<usize> {
-        self.pace.meets(Call::Read)?;
-        let n = buf.len().min(self.pace.step);
-        self.bytes.read(&mut buf[..n])
-    }
-}
+pub type Input = Paced<VecDeque<u8>>;
 
 /// What is written to it.
 #[derive(Drop)]
 pub struct Output {
-    bytes: Vec<u8>,
-    pace: Pace,
+    stream: Paced<Vec<u8>>,
     wanted: Vec<u8>,
     ends: End,
 }
 
 impl Write for Output {
     fn write(&mut self, buf: &[u8]) -> io::Result<usize> {
-        self.pace.meets(Call::Write)?;
-        let n = buf.len().min(self.pace.step);
-        self.bytes.extend_from_slice(&buf[..n])?;
-        Ok(n)
+        self.stream.write(buf)
     }
 
     fn flush(&mut self) -> io::Result<()> {
-        self.pace.meets(Call::Flush)
+        self.stream.flush()
     }
 }
 
 impl Output {
     fn is_right(&self, end: End) -> bool {
-        end == self.ends && self.bytes.as_slice() == self.wanted.as_slice()
+        end == self.ends && self.stream.inner.as_slice() == self.wanted.as_slice()
     }
 
     fn is_closed(&self, end: End) -> bool {
-        end == Ok(Served::ServerClosed(0x83)) && self.bytes.as_slice() == CLOSED
+        end == Ok(Served::ServerClosed(0x83)) && self.stream.inner.as_slice() == CLOSED
     }
 }
 
@@ -241,13 +191,15 @@ impl Turn for Script {
             return None;
         }
         Some(Connection {
-            input: Input {
-                bytes: VecDeque::from_vec(input),
+            input: Paced {
+                inner: VecDeque::from_vec(input),
                 pace: course.pace,
             },
             output: Output {
-                bytes: Vec::new(self.alloc),
-                pace: course.pace,
+                stream: Paced {
+                    inner: Vec::new(self.alloc),
+                    pace: course.pace,
+                },
                 wanted: output,
                 ends: course.ends,
             },

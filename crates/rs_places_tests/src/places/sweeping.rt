@@ -1,8 +1,8 @@
 //! Expired messages make room for new topics.
 
 use super::play::{NONE, Row, as_wanted, ending, later, play};
-use super::{CONNECT, CONNECTED};
 use rs_server::Served;
+use rs_test_kit::{CONNACK, CONNECT};
 use std::alloc::{AllocError, Global};
 use std::test::Fail;
 
@@ -41,7 +41,7 @@ fn row_of<'a>(
     Row {
         course,
         sent: [CONNECT, first, second, third],
-        told: [CONNECTED, reply, messages],
+        told: [CONNACK, reply, messages],
     }
 }
 
