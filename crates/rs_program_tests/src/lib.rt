@@ -7,8 +7,6 @@ mod answers;
 #[cfg(test)]
 mod faults;
 #[cfg(test)]
-mod gate;
-#[cfg(test)]
 mod lines;
 #[cfg(test)]
 mod listening;
@@ -18,7 +16,5 @@ mod piping;
 mod refusals;
 #[cfg(test)]
 mod statuses;
-#[cfg(test)]
-mod streams;
 #[cfg(test)]
 mod words;

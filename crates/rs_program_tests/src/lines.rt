@@ -1,6 +1,6 @@
-use crate::gate::FULL;
 use rs_program::{PipeFault, pipe, serve_bytes};
 use rs_server::Served;
+use rs_test_kit::FULL;
 use std::alloc::Global;
 use std::sync::Wait;
 use std::test::Fail;

@@ -6,6 +6,7 @@ ghost use Rattle.rs_message.specs.declared.entry.TheConstants.{MAX_PLACES};
 use log::Log;
 use rs_listener::{ListenFault, Server, Summary};
 use rs_store::TopicLimit;
+use rs_test_kit::{CONNACK, CONNECT};
 use std::alloc::Global;
 use std::io;
 use std::io::{ErrorKind, Read, Write};
@@ -14,10 +15,6 @@ use std::sync::Wait;
 use std::test::Fail;
 use std::thread::{Threads, spawn};
 use std::time::Clock;
-
-const CONNECT: &[u8] = b"\x10\x0E\x00\x04MQTT\x05\x02\x00\x3C\x00\x00\x01a";
-
-const CONNACK: &[u8] = b"\x20\x0D\x00\x00\x0A\x21\x00\x10\x27\x00\x04\x00\x00\x2A\x00";
 
 const DISCONNECT: &[u8] = b"\xE0\x00";
 

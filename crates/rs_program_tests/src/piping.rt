@@ -1,9 +1,8 @@
 //! One failing read, write or flush of `pipe`, over bytes and over lines of hex digits: the fault names what failed.
 
-use crate::faults::FIRST;
-use crate::streams::{ByteWriter, Call, Failing, StepReader};
 use rs_program::{OwnGate, PipeFault, pipe};
 use rs_server::Served;
+use rs_test_kit::{Call, FIRST, Pace, Paced};
 use std::alloc::Global;
 use std::process::Abort;
 use std::sync::Wait;
@@ -42,9 +41,12 @@ fn check_row<H: Abort + Wait>(rt: &H, alloc: Global, row: Row) -> Result<(), Fai
     let (hex, call, first, last, ends) = row;
     let input = if hex { LINES } else { FIRST };
     for at in first..=last {
-        let failing = Failing { call, at };
-        let reader = StepReader::new(input, 1, failing);
-        let writer = ByteWriter::new(alloc, failing);
+        let pace = Pace { step: 1, call, at };
+        let reader = Paced { inner: input, pace };
+        let writer = Paced {
+            inner: Vec::new(alloc),
+            pace,
+        };
         let ended = pipe(rt, alloc, reader, writer, OwnGate::new(alloc)?, hex, 0);
         assert!(rt; ended.served == ends, "{hex} {call:?} {at}");
     }

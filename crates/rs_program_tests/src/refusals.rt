@@ -1,17 +1,13 @@
 //! What a client is answered if the gate gives no receipt for its publication.
 
-use crate::gate::Refusing;
 use rs_message::SubmitFault;
 use rs_program::pipe;
 use rs_server::Served;
+use rs_test_kit::{CONNACK, CONNECT, Refusing, joined};
 use std::alloc::Global;
 use std::process::Abort;
 use std::sync::Wait;
 use std::test::Fail;
-
-const CONNECT: &[u8] = b"\x10\x0E\x00\x04MQTT\x05\x02\x00\x3C\x00\x00\x01a";
-
-const CONNACK: &[u8] = b"\x20\x0D\x00\x00\x0A\x21\x00\x10\x27\x00\x04\x00\x00\x2A\x00";
 
 const PINGREQ: &[u8] = b"\xC0\x00";
 
@@ -35,13 +31,6 @@ const ENDING: [(SubmitFault, u8); 3] = [
     (SubmitFault::Closed, 0x83),
 ];
 
-fn joined(alloc: Global, first: &[u8], second: &[u8], third: &[u8]) -> Result<Vec<u8>, Fail> {
-    let mut all = first.to_vec(alloc)?;
-    all.extend_from_slice(second)?;
-    all.extend_from_slice(third)?;
-    Ok(all)
-}
-
 fn check<H: Abort + Wait>(
     rt: &H,
     alloc: Global,
@@ -50,8 +39,8 @@ fn check<H: Abort + Wait>(
     replies: &[u8],
     ends: Served,
 ) -> Result<(), Fail> {
-    let input = joined(alloc, CONNECT, publish, PINGREQ)?;
-    let wanted = joined(alloc, CONNACK, replies, b"")?;
+    let input = joined(alloc, &[CONNECT, publish, PINGREQ])?;
+    let wanted = joined(alloc, &[CONNACK, replies])?;
     let gate = Refusing { fault };
     let ended = pipe(rt, alloc, input.as_slice(), Vec::new(alloc), gate, false, 0);
     assert!(rt; ended.served == Ok(ends));
