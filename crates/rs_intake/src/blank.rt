@@ -18,6 +18,7 @@ use crate::taken::Taken;
 use crate::telling::WaysBack;
 use crate::writer::Queue;
 use crossbeam_channel::{Pass, bounded_with};
+use rs_message::PlaceCount;
 use std::alloc::{AllocError, Global};
 use std::marker::Model;
 
@@ -27,15 +28,14 @@ pub struct BlankQueue {
     sender: JobSender,
     receiver: JobReceiver,
     pass: Pass<Job, PassView>,
-    places: u8,
+    places: PlaceCount,
     alloc: Global,
 }
 
 impl Model for BlankQueue {
-    ghost use Rattle.std.specs.Prelude.{◌≡◌, ◌<◌, ◌≤◌};
+    ghost use Rattle.std.specs.Prelude.{◌≡◌};
     ghost use Rattle.crossbeam_channel.specs.Claims.{view as known_by, IsSeatAt};
     ghost use Rattle.crossbeam_channel.specs.Ends.{sends_on, receives_on};
-    ghost use Rattle.rs_message.specs.declared.entry.TheConstants.{MAX_PLACES};
     ghost use Rattle.rs_intake.specs.QueueRule.{taker};
     ghost use Rattle.rs_intake.specs.Names.{Unnamed, name_of};
 
@@ -43,21 +43,20 @@ impl Model for BlankQueue {
 
     ghost view = { λ b. record { name = name_of (sends_on b.sender); places = b.places } };
 
-    ghost invariant = { λ b. IsSeatAt (sends_on b.sender) b.pass × (receives_on b.receiver ≡ sends_on b.sender) × (known_by b.pass ≡ taker) × (0 < b.places) × (b.places ≤ MAX_PLACES) };
+    ghost invariant = { λ b. IsSeatAt (sends_on b.sender) b.pass × (receives_on b.receiver ≡ sends_on b.sender) × (known_by b.pass ≡ taker) };
 }
 
-/// A queue for 1 to [`MAX_PLACES`](rs_message::MAX_PLACES) places, which holds as many jobs as there are places.
+/// A queue for so many places, which holds as many jobs.
 ///
 /// # Errors
 ///
 /// [`AllocError`] if memory is refused.
-pub fn blank_queue(alloc: Global, places: u8) -> Result<BlankQueue, AllocError>
-    requires { (0 < places) × (places ≤ MAX_PLACES) }
+pub fn blank_queue(alloc: Global, places: PlaceCount) -> Result<BlankQueue, AllocError>
     ensures { IfOk result (λ b. b.places ≡ places) }
 {
     let (sender, receiver, pass) = bounded_with::<Job, PassView, QueueRule, Global>(
         alloc,
-        places as usize,
+        places.get() as usize,
     )?;
     Ok(BlankQueue {
         sender,
@@ -107,6 +106,7 @@ impl BlankQueue {
             places,
             alloc,
         } = self;
+        let places = places.get();
         let mut lines = Vec::new(alloc);
         let mut replies = Vec::new(alloc);
         for before in 0..places {

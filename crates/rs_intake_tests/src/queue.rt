@@ -1,8 +1,5 @@
 //! Lines, a writer and seats over threads, and each refusal.
 
-ghost use Rattle.std.specs.Prelude.{◌≡◌};
-ghost use Rattle.rs_message.specs.declared.entry.TheConstants.{MAX_PLACES};
-
 mod log;
 mod places;
 mod replies;
@@ -25,9 +22,7 @@ const TRIES: u32 = 100;
 /// How many jobs a writer takes: fewer than the places have to submit, more than one round of them.
 const JOBS: u64 = 1000;
 
-fn plan(alloc: Global, limit: u32, script: Script, writing: Writing) -> Plan
-    ensures { result.places ≡ MAX_PLACES }
-{
+fn plan(alloc: Global, limit: u32, script: Script, writing: Writing) -> Plan {
     Plan {
         alloc,
         limit,

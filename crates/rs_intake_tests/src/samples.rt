@@ -2,10 +2,9 @@
 
 ghost use Rattle.std.specs.Prelude.{◌≡◌, ◌≢◌, ◌<◌, ◌≤◌, [], false, length, IfSome};
 ghost use Rattle.rs_message.specs.Messages.{is_sweep};
-ghost use Rattle.rs_message.specs.declared.entry.TheConstants.{MAX_PLACES};
 
 use bytes::Bytes;
-use rs_message::{Found, Message, Operation};
+use rs_message::{Found, Message, Operation, PlaceCount};
 use rs_packet::{Properties, Qos};
 use rs_store::TopicLimit;
 use rs_topic::{TopicFilter, TopicName};
@@ -65,10 +64,9 @@ pub(crate) fn clear(alloc: Global, topic: &[u8]) -> Option<Operation>
     Some(Operation::Clear(TopicName::read(alloc, topic).ok()?))
 }
 
-pub(crate) fn blank_store(alloc: Global, limit: u32, places: u8) -> Result<Blank, Fail>
-    requires { (0 < places) × (places ≤ MAX_PLACES) }
-{
+pub(crate) fn blank_store(alloc: Global, limit: u32, places: u8) -> Result<Blank, Fail> {
     let limit = TopicLimit::new(limit).ok_or("no limit")?;
+    let places = PlaceCount::new(places).ok_or("no places")?;
     Ok(Blank::new(alloc, limit, places)?)
 }
 

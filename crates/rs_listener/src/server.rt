@@ -1,7 +1,6 @@
 //! The server.
 
 ghost use Rattle.std.specs.Prelude.{◌≡◌, ◌<◌, ◌≤◌, ℕ, List, IfOk, IfSome};
-ghost use Rattle.rs_message.specs.declared.entry.TheConstants.{MAX_PLACES};
 ghost use Rattle.rs_places.specs.Store.{IsStoreRun};
 ghost use Rattle.rs_places.specs.Turns.{Plan};
 
@@ -9,6 +8,7 @@ use crate::fault::ListenFault;
 use crate::opening::turns;
 use log::Log;
 use rs_intake::{BlankQueue, blank_queue};
+use rs_message::PlaceCount;
 use rs_places::run_store;
 use rs_sockets::Listener;
 use rs_store::TopicLimit;
@@ -26,7 +26,7 @@ pub struct Server {
     listener: Listener,
     blank: Blank,
     queue: BlankQueue,
-    places: u8,
+    places: PlaceCount,
     ghost both: { queue.places ≡ blank.places },
     ghost each: { places ≡ blank.places },
 }
@@ -42,8 +42,8 @@ pub struct Summary {
 
 impl Server {
     /// Binds an address: a host's name, an IPv4 or an IPv6 address, and a port, as `localhost:1883` or `[::1]:1883`. Port 0 takes one
-    /// that is free. It will accept `connections` connections, none if that is 0, and serve as many clients at the same time as there are `places`, 1 to
-    /// [`MAX_PLACES`](rs_message::MAX_PLACES). Their store is empty, and holds messages of at most `limit` topics. If `idle` is given, a
+    /// that is free. It will accept `connections` connections, none if that is 0, and serve as many clients at the same time as there are `places`.
+    /// Their store is empty, and holds messages of at most `limit` topics. If `idle` is given, a
     /// connection ends if no byte came for so long, or if no byte of what waits for its client was taken for so long.
     ///
     /// # Errors
@@ -56,11 +56,9 @@ impl Server {
         address: &str,
         connections: u64,
         limit: TopicLimit,
-        places: u8,
+        places: PlaceCount,
         idle: Option<Duration>,
-    ) -> Result<Server, ListenFault>
-        requires { (0 < places) × (places ≤ MAX_PLACES) }
-    {
+    ) -> Result<Server, ListenFault> {
         let blank = Blank::new(alloc, limit, places)?;
         let queue = blank_queue(alloc, places)?;
         match Listener::bind(rt, address, connections, idle) {
@@ -113,7 +111,7 @@ impl Server {
             queue,
             places,
         } = self;
-        let turns = turns(rt, alloc, listener, places)?;
+        let turns = turns(rt, alloc, listener, places.get())?;
         let end = run_store(rt, alloc, blank, queue, turns)?;
         Ok(Summary {
             threads: end.threads,

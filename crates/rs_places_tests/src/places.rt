@@ -3,8 +3,7 @@
 //! A test is a table of connections (`Row`), which `play` serves in a run of a store. The tests of a queue that ends early open store
 //! and queue themselves (`ending`).
 
-ghost use Rattle.std.specs.Prelude.{◌≡◌, ◌<◌, ◌≤◌, IfOk};
-ghost use Rattle.rs_message.specs.declared.entry.TheConstants.{MAX_PLACES};
+ghost use Rattle.std.specs.Prelude.{◌≡◌, IfOk};
 
 mod ahead;
 mod bursts;
@@ -17,6 +16,7 @@ mod runs;
 mod script;
 mod sweeping;
 
+use rs_message::PlaceCount;
 use rs_store::TopicLimit;
 use rs_version::Blank;
 use std::alloc::Global;
@@ -41,8 +41,7 @@ const SUBSCRIBED: &[u8] =
 const REPLAYED: &[u8] =
     b"\x20\x0D\x00\x00\x0A\x21\x00\x10\x27\x00\x04\x00\x00\x2A\x00\x90\x04\x00\x01\x00\x001\x07\x00\x03a/b\x00x";
 
-fn blank_store(alloc: Global, topics: u32, places: u8) -> Result<Blank, Fail>
-    requires { (0 < places) × (places ≤ MAX_PLACES) }
+fn blank_store(alloc: Global, topics: u32, places: PlaceCount) -> Result<Blank, Fail>
     ensures { IfOk result (λ blank. blank.places ≡ places) }
 {
     let limit = TopicLimit::new(topics).ok_or("a limit")?;

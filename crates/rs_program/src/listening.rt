@@ -1,12 +1,9 @@
 //! Clients by TCP.
 
-ghost use Rattle.std.specs.Prelude.{◌<◌, ◌≤◌};
-ghost use Rattle.rs_message.specs.declared.entry.TheConstants.{MAX_PLACES};
-ghost use Rattle.rs_store.specs.declared.limit.TheConstants.{MAX_TOPICS};
-
 use log::sink::Console;
 use log::{LevelFilter, Logged};
 use rs_listener::{ListenFault, Server, Summary};
+use rs_message::PlaceCount;
 use rs_store::TopicLimit;
 use std::net::{Net, TcpListener, TcpStream};
 use std::sync::Wait;
@@ -22,8 +19,8 @@ use std::time::{Clock, Duration};
 pub(crate) fn listen<H>(
     rt: &H,
     address: &str,
-    places: u8,
-    topics: u32,
+    places: PlaceCount,
+    topics: TopicLimit,
     connections: u64,
     idle: Option<u32>,
     log: bool,
@@ -40,15 +37,10 @@ where
         + Send
         + Sync
         + 'static,
-    requires places { (0 < places) × (places ≤ MAX_PLACES) }
-    requires topics { (0 < topics) × (topics ≤ MAX_TOPICS) }
 {
-    let Some(limit) = TopicLimit::new(topics) else {
-        unreachable!()
-    };
     let idle = idle.map(|seconds| Duration::from_secs(u64::from(seconds)));
     // By the plain handle, since the one that logs looks up no name.
-    let server = Server::bind(rt, rt.alloc(), address, connections, limit, places, idle)?;
+    let server = Server::bind(rt, rt.alloc(), address, connections, topics, places, idle)?;
     let bound = server.address()?;
     // If nobody reads the output, clients are served all the same.
     let _ = println!(rt; "rstored: listening on {bound}");

@@ -124,7 +124,7 @@ where
                 log,
             },
         ) => match listen(rt, address.as_str(), places, topics, connections, idle, log) {
-            Ok(summary) => served_by(summary, places),
+            Ok(summary) => served_by(summary, places.get()),
             Err(fault) => Err(RunFault::Listen(log.then_some(fault))),
         },
         Err(fault) => Err(RunFault::Words(fault)),

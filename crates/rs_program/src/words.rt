@@ -14,6 +14,8 @@ pub use crate::words::commands::{MAX_CONNECTIONS, MAX_IDLE};
 use crate::words::values::{listen_of, pipe_of};
 use clap::ArgMatches;
 use clap::error::ErrorKind;
+use rs_message::PlaceCount;
+use rs_store::TopicLimit;
 use std::alloc::Global;
 use thiserror::Error;
 
@@ -31,10 +33,10 @@ pub enum Run {
     Listen {
         /// The address to listen on, as it was given.
         address: String,
-        /// How many clients are served at the same time: 1 to [`MAX_PLACES`](rs_message::MAX_PLACES).
-        places: u8,
-        /// How many topics may hold a message: 1 to [`MAX_TOPICS`](rs_store::MAX_TOPICS).
-        topics: u32,
+        /// How many clients are served at the same time.
+        places: PlaceCount,
+        /// How many topics may hold a message.
+        topics: TopicLimit,
         /// After how many connections the program ends: 1 to [`MAX_CONNECTIONS`].
         connections: u64,
         /// After how many seconds an idle connection ends: 1 to [`MAX_IDLE`]. Never, if it is not given.

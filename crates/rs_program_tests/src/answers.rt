@@ -7,7 +7,7 @@ ghost use Rattle.rs_message.specs.Messages.{is_sweep};
 
 use bytes::Bytes;
 use rs_intake::blank_queue;
-use rs_message::{Found, Message, Operation};
+use rs_message::{Found, Message, Operation, PlaceCount};
 use rs_packet::{Properties, Qos};
 use rs_program::OwnGate;
 use rs_session::{Gate, LocalGate};
@@ -79,9 +79,6 @@ fn local<C: Catalogue>(alloc: Global) -> Result<LocalGate<C>, Fail> {
     Ok(LocalGate::new(alloc, limit)?)
 }
 
-/// How many places the store of the shared gates has.
-const PLACES: u8 = 2;
-
 #[test]
 fn gates_answer(rt: HostRuntime) -> Result<(), Fail> {
     let alloc = rt.alloc();
@@ -90,6 +87,7 @@ fn gates_answer(rt: HostRuntime) -> Result<(), Fail> {
     assert!(rt; check_answers(alloc, &mut local::<TreeCatalogue>(alloc)?, &all));
     assert!(rt; check_answers(alloc, &mut OwnGate::new(alloc)?, &all));
     let limit = TopicLimit::new(7).ok_or("the limit")?;
-    let blank = Blank::new(alloc, limit, PLACES)?;
-    check_shared_gates::<Brand, _>(rt, alloc, blank, blank_queue(alloc, PLACES)?, &all)
+    let places = PlaceCount::new(2).ok_or("two places")?;
+    let blank = Blank::new(alloc, limit, places)?;
+    check_shared_gates::<Brand, _>(rt, alloc, blank, blank_queue(alloc, places)?, &all)
 }

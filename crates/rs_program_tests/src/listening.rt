@@ -1,10 +1,8 @@
 //! Clients on the loopback.
 
-ghost use Rattle.std.specs.Prelude.{◌<◌, ◌≤◌};
-ghost use Rattle.rs_message.specs.declared.entry.TheConstants.{MAX_PLACES};
-
 use log::Log;
 use rs_listener::{ListenFault, Server, Summary};
+use rs_message::PlaceCount;
 use rs_store::TopicLimit;
 use rs_test_kit::{CONNACK, CONNECT};
 use std::alloc::Global;
@@ -109,9 +107,8 @@ fn publish_and_read<
         + Send
         + Sync
         + 'static,
->(rt: H, alloc: Global, places: u8) -> Result<(bool, Option<Summary>), Fail>
-    requires { (0 < places) × (places ≤ MAX_PLACES) }
-{
+>(rt: H, alloc: Global, places: u8) -> Result<(bool, Option<Summary>), Fail> {
+    let places = PlaceCount::new(places).ok_or("places")?;
     let limit = TopicLimit::new(10).ok_or("10 topics")?;
     let server = Server::bind(&rt, alloc, "127.0.0.1:0", 3, limit, places, None)?;
     let address = server.address()?;

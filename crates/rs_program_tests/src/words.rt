@@ -1,8 +1,8 @@
 // Command lines.
 
-use rs_message::MAX_PLACES;
+use rs_message::{MAX_PLACES, PlaceCount};
 use rs_program::{MAX_CONNECTIONS, MAX_IDLE, Run, WordsFault, read_words};
-use rs_store::MAX_TOPICS;
+use rs_store::{MAX_TOPICS, TopicLimit};
 use std::alloc::{AllocError, Global};
 use std::test::Fail;
 
@@ -92,8 +92,8 @@ fn words_ask_to_listen(rt: HostRuntime) -> Result<(), Fail> {
     for (line, address, places, topics, connections, idle, log) in lines {
         let wanted = Run::Listen {
             address: String::from_str(alloc, address)?,
-            places,
-            topics,
+            places: PlaceCount::new(places).ok_or("places")?,
+            topics: TopicLimit::new(topics).ok_or("topics")?,
             connections,
             idle,
             log,

@@ -2,7 +2,7 @@
 use mathlib.Core.List.{List, [], ◌∷◌}
 use Prim.Native.Nat.{ℕ}
 use mir.Syntax.{Ty}
-use denote.Builtin.{u8, u32, u64}
+use denote.Builtin.{u32, u64}
 use denote.Exit.{no}
 use denote.RattleType.{RattleType}
 use denote.Param.{param, arg}
@@ -16,6 +16,7 @@ use Rattle.left_right.proofs.reader.Reader.TheSendSync as reader
 use Rattle.left_right.proofs.writer.Writer.TheSendSync as copy_writer
 use Rattle.left_right.specs.contracts.reader.Reader as Reader
 use Rattle.rs_message.proofs.entry.Entry.TheSendSync as entry
+use Rattle.rs_message.proofs.places.PlaceCount.TheSendSync as count
 use Rattle.rs_message.specs.contracts.entry.Entry as Entry
 use Rattle.rs_store.proofs.calm.Calm.TheSendSync as calm
 use Rattle.rs_store.proofs.limit.TopicLimit.TheSendSync as limit
@@ -97,9 +98,6 @@ module _ (N : RattleType) (g : StoreName.Ghosts N.Denot) where
 pub bool_send : IsSend bool-field.row
 bool_send = search sendable
 
-u8_send : IsSend u8
-u8_send = search sendable
-
 pub u32_send : IsSend u32
 u32_send = search sendable
 
@@ -111,7 +109,7 @@ pub blank_send : IsSend Blank.the_row
 blank_send = view_send InBlank.the_row _ _ _ _
     (recorded_send InBlank.the_field.row _ _ InBlank.the_type.to_one (struct_send (shape InBlank.the_type) (
       heap.the_field_send,
-      (history.the_field_send, (limit.the_send, (u8_send, (tree_send, (tree_send, tt))))),
+      (history.the_field_send, (limit.the_send, (count.the_send, (tree_send, (tree_send, tt))))),
     )))
 
 all_rows : (Ts : List RattleType) → AllSend Ts → AllSend (rows (parts Ts))

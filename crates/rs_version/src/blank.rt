@@ -2,7 +2,6 @@
 
 ghost use Rattle.std.specs.Prelude.{◌≡◌, ◌<◌, ◌≤◌, [], drop, Some, None, All, IfOk, vec_len};
 ghost use Rattle.left_right.specs.Sides.{view};
-ghost use Rattle.rs_message.specs.declared.entry.TheConstants.{MAX_PLACES};
 ghost use Rattle.rs_store.specs.Contents.{empty};
 ghost use Rattle.rs_store.specs.History.{Stands};
 ghost use Rattle.rs_version.specs.Catalogues.{content_of};
@@ -16,6 +15,7 @@ use crate::named::{HistoryWord, NamedList, NewHistory};
 use crate::seat::Seat;
 use crate::writer::VersionWriter;
 use left_right::writer::Writer;
+use rs_message::PlaceCount;
 use rs_store::{Catalogue, TopicLimit};
 use std::alloc::{AllocError, Global};
 use std::marker::Model;
@@ -27,13 +27,13 @@ pub struct Blank {
     alloc: Global,
     new_history: NewHistory,
     limit: TopicLimit,
-    places: u8,
+    places: PlaceCount,
     first: StoreCatalogue,
     second: StoreCatalogue,
 }
 
 impl Model for Blank {
-    ghost use Rattle.std.specs.Prelude.{◌≡◌, ◌<◌};
+    ghost use Rattle.std.specs.Prelude.{◌≡◌};
     ghost use Rattle.rs_store.specs.Contents.{empty};
     ghost use Rattle.rs_version.specs.Catalogues.{content_of};
     ghost use Rattle.rs_version.specs.Values.{BlankValue};
@@ -42,7 +42,7 @@ impl Model for Blank {
 
     ghost view = { λ b. record { history = b.new_history.prefix.history; limit = b.limit; places = b.places } };
 
-    ghost invariant = { λ b. (0 < b.places) × (content_of b.first ≡ empty b.limit) × (content_of b.second ≡ empty b.limit) };
+    ghost invariant = { λ b. (content_of b.first ≡ empty b.limit) × (content_of b.second ≡ empty b.limit) };
 }
 
 /// What writes the two copies. It knows nothing of them yet.
@@ -104,13 +104,12 @@ fn seats<N: StoreName>(
 }
 
 impl Blank {
-    /// A store of at most `limit` topics, with 1 to [`MAX_PLACES`](rs_message::MAX_PLACES) `places`.
+    /// A store of at most `limit` topics, for so many places.
     ///
     /// # Errors
     ///
     /// [`AllocError`] if memory is refused.
-    pub fn new(alloc: Global, limit: TopicLimit, places: u8) -> Result<Blank, AllocError>
-        requires { (0 < places) × (places ≤ MAX_PLACES) }
+    pub fn new(alloc: Global, limit: TopicLimit, places: PlaceCount) -> Result<Blank, AllocError>
         ensures { IfOk result (λ b. (b.limit ≡ limit) × (b.places ≡ places)) }
     {
         let first = StoreCatalogue::new(alloc, limit)?;
@@ -150,6 +149,7 @@ impl Blank {
             second,
         } = self;
         let NewHistory { word, prefix } = new_history;
+        let places = places.get();
         let first = CatalogueCopy {
             catalogue: first,
             prefix: prefix.again(),

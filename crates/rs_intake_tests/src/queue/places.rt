@@ -2,7 +2,6 @@
 
 ghost use Rattle.std.specs.Prelude.{◌≡◌, ◌<◌, ◌≤◌, [], false, All, IfSome};
 ghost use Rattle.rs_message.specs.Messages.{is_sweep};
-ghost use Rattle.rs_message.specs.declared.entry.TheConstants.{MAX_PLACES};
 ghost use Rattle.rs_version.specs.Writer.{kept_of};
 
 use super::log::{Answer, Log, Outcome, Totals};
@@ -12,7 +11,7 @@ use rs_intake::{
     BlankQueue, Ended, Intake, LineEnd, LineName, Queue, SeatLine, blank_queue, run_writer,
     run_writer_for, settle,
 };
-use rs_message::Operation;
+use rs_message::{Operation, PlaceCount};
 use rs_version::{Blank, Receipt, Seat, VersionWriter};
 use std::alloc::Global;
 use std::marker::Brand;
@@ -359,9 +358,7 @@ fn run_named<
 pub(crate) fn run<R: Threads + Wait + Clock + Abort + Copy + Send + Sync + 'static>(
     rt: R,
     plan: Plan,
-) -> Result<Outcome, Fail>
-    requires { (0 < plan.places) × (plan.places ≤ MAX_PLACES) }
-{
+) -> Result<Outcome, Fail> {
     let counts = Arc::new(
         plan.alloc,
         Counts {
@@ -370,7 +367,8 @@ pub(crate) fn run<R: Threads + Wait + Clock + Abort + Copy + Send + Sync + 'stat
         },
     )?;
     let blank = blank_store(plan.alloc, plan.limit, plan.places)?;
-    let queue = blank_queue(plan.alloc, plan.places)?;
+    let places = PlaceCount::new(plan.places).ok_or("no places")?;
+    let queue = blank_queue(plan.alloc, places)?;
     let outcome = run_named::<Brand, R>(rt, blank, queue, plan, &counts);
     Ok(outcome.ok_or("memory or a thread was refused")?)
 }

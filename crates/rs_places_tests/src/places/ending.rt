@@ -6,6 +6,7 @@ use super::play::{ending, later, plain_row, put_rows, scripts};
 use super::script::{Counts, Script, comes};
 use super::{CLOSED, PUBLISHES, SUBSCRIBED, SUBSCRIBES, blank_store};
 use rs_intake::{BlankQueue, LineName, Queue, blank_queue};
+use rs_message::PlaceCount;
 use rs_places::{PlaceEnd, Turn, open_gates, run_places};
 use rs_server::Served;
 use rs_version::{Blank, VersionWriter};
@@ -85,8 +86,9 @@ fn cut_off<R: Threads + Wait + Copy + Send + Sync + 'static, T: Turn + Send + Dr
     turns: Vec<T>,
     counts: Arc<Counts>,
 ) -> Result<Cut, Fail> {
-    let blank = blank_store(alloc, 10, 64)?;
-    let queue = blank_queue(alloc, 64)?;
+    let places = PlaceCount::new(64).ok_or("64 places")?;
+    let blank = blank_store(alloc, 10, places)?;
+    let queue = blank_queue(alloc, places)?;
     cut_off_named::<Brand, R, T>(rt, alloc, blank, queue, turns, counts)
 }
 

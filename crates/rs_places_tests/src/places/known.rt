@@ -7,6 +7,7 @@ ghost use Rattle.rs_places_tests.specs.Answered.{AreAnswered};
 
 use super::{PUBLISHES, REPLAYED, SUBSCRIBED, SUBSCRIBES, blank_store};
 use rs_intake::{BlankQueue, blank_queue};
+use rs_message::PlaceCount;
 use rs_places::{Connection, StoreEnd, StoreFault, Turn, run_store};
 use rs_server::{Clock, Counted, Moments, ServeFault, Served};
 use rs_test_kit::CONNACK;
@@ -173,8 +174,9 @@ fn known_turns(alloc: Global) -> Result<Vec<Listed>, AllocError>
 fn known_connections_are_answered(rt: HostRuntime) -> Result<(), Fail> {
     let alloc = rt.alloc();
     let turns = known_turns(alloc)?;
-    let blank = blank_store(alloc, 10, 2)?;
-    let queue = blank_queue(alloc, 2)?;
+    let places = PlaceCount::new(2).ok_or("two places")?;
+    let blank = blank_store(alloc, 10, places)?;
+    let queue = blank_queue(alloc, places)?;
     let end = answered(rt, alloc, blank, queue, turns)?;
     assert!(rt; end.ordered && end.threads == 2);
     assert!(rt; (end.changes, end.version) == (Some(1), 1));

@@ -3,7 +3,7 @@
 use super::blank_store;
 use super::script::{Counts, Course, Script};
 use rs_intake::blank_queue;
-use rs_message::MAX_PLACES;
+use rs_message::{MAX_PLACES, PlaceCount};
 use rs_places::{Turn, run_store};
 use rs_server::Served;
 use rs_test_kit::{Call, End, Pace, joined};
@@ -122,10 +122,10 @@ pub fn run<T: Turn + Send + Drop + 'static, R: Threads + Wait + Copy + Send + Sy
     counts: &Counts,
 ) -> Result<Left, Fail> {
     let count = turns.len();
-    if count == 0 || count > usize::from(MAX_PLACES) {
-        return Err(Fail::from("1 to 64 places"));
+    if count > usize::from(MAX_PLACES) {
+        return Err(Fail::from("at most 64 places"));
     }
-    let places = count as u8;
+    let places = PlaceCount::new(count as u8).ok_or("no place")?;
     let blank = blank_store(alloc, topics, places)?;
     let end = run_store(rt, alloc, blank, blank_queue(alloc, places)?, turns)?;
     Ok(Left {

@@ -2,13 +2,15 @@
 
 ghost use Rattle.std.specs.Prelude.{◌≡◌, IfOk, IfSome, codes};
 ghost use Rattle.clap.specs.Words.{found_of, rows_of};
+ghost use Rattle.rs_message.specs.declared.entry.TheConstants.{MAX_PLACES};
+ghost use Rattle.rs_store.specs.declared.limit.TheConstants.{MAX_TOPICS};
 ghost use Rattle.rs_program.specs.CommandLine.{IsInRange, IsNumberGiven, IsNumberOf, IsRunOf};
 
 use crate::words::commands::{MAX_CONNECTIONS, MAX_IDLE};
 use crate::words::{Run, WordsFault, refused};
 use clap::ArgMatches;
-use rs_message::MAX_PLACES;
-use rs_store::MAX_TOPICS;
+use rs_message::{MAX_PLACES, PlaceCount};
+use rs_store::{MAX_TOPICS, TopicLimit};
 use std::alloc::Global;
 
 pub(super) fn pipe_of(alloc: Global, found: &ArgMatches<'_>) -> Result<Run, WordsFault>
@@ -30,8 +32,8 @@ pub(super) fn listen_of(alloc: Global, found: &ArgMatches<'_>) -> Result<Run, Wo
 {
     let (Some(address), Some(places), Some(topics), Some(connections)) = (
         found.get_str("address"),
-        number(found, "places", 1, u64::from(MAX_PLACES)),
-        number(found, "topics", 1, u64::from(MAX_TOPICS)),
+        place_count(found),
+        topic_limit(found),
         number(found, "connections", 1, MAX_CONNECTIONS),
     ) else {
         return Err(missing(alloc));
@@ -44,12 +46,28 @@ pub(super) fn listen_of(alloc: Global, found: &ArgMatches<'_>) -> Result<Run, Wo
     };
     Ok(Run::Listen {
         address,
-        places: places as u8,
-        topics: topics as u32,
+        places,
+        topics,
         connections,
         idle,
         log: found.get_flag("log"),
     })
+}
+
+/// How many places there are to be.
+fn place_count(found: &ArgMatches<'_>) -> Option<PlaceCount>
+    ensures { IfSome result (IsNumberOf (rows_of (found_of found.now)) (codes "places") 1 MAX_PLACES) }
+{
+    let places = number(found, "places", 1, u64::from(MAX_PLACES))?;
+    PlaceCount::new(places as u8)
+}
+
+/// How many topics may hold a message.
+fn topic_limit(found: &ArgMatches<'_>) -> Option<TopicLimit>
+    ensures { IfSome result (IsNumberOf (rows_of (found_of found.now)) (codes "topics") 1 MAX_TOPICS) }
+{
+    let topics = number(found, "topics", 1, u64::from(MAX_TOPICS))?;
+    TopicLimit::new(topics as u32)
 }
 
 /// The number that an option was given, if it is from `least` to `most`.

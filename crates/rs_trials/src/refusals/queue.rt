@@ -9,7 +9,7 @@ use crate::samples::{Change, Naming, operation};
 use rs_intake::{
     BlankQueue, Ended, Intake, LineEnd, LineName, SeatLine, blank_queue, run_writer, settle,
 };
-use rs_message::{Operation, SubmitFault};
+use rs_message::{Operation, PlaceCount, SubmitFault};
 use rs_store::TopicLimit;
 use rs_topic::TopicFilter;
 use rs_version::{Blank, Seat};
@@ -300,8 +300,9 @@ fn refused<H: Wait + Threads + Copy + Send + Sync + 'static>(
     plan: Plan,
 ) -> Result<[u64; 3], Failure> {
     let limit = TopicLimit::new(ROUNDS).ok_or(Failure::Wrong)?;
-    let blank = Blank::new(alloc, limit, 1)?;
-    let queue = blank_queue(alloc, 1)?;
+    let places = PlaceCount::new(1).ok_or(Failure::Wrong)?;
+    let blank = Blank::new(alloc, limit, places)?;
+    let queue = blank_queue(alloc, places)?;
     let all = TopicFilter::read(alloc, b"#")?;
     let (book, left) = tried::<H, Brand>(rt, alloc, blank, queue, all, plan)?;
     // What is still held then was refused twice, and is not published.

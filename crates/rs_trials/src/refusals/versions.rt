@@ -6,7 +6,7 @@ ghost use Rattle.rs_message.specs.Messages.{is_sweep};
 use super::view::{View, look};
 use crate::failure::{Failure, expect};
 use crate::samples::{Change, Naming, entry};
-use rs_message::{Entry, Origin};
+use rs_message::{Entry, Origin, PlaceCount};
 use rs_store::TopicLimit;
 use rs_topic::TopicFilter;
 use rs_version::{Blank, PutFault, Receipt, Seat, StoreName, VersionWriter};
@@ -377,7 +377,8 @@ fn tried<N: StoreName, R: Wait>(
 pub fn work<H: Wait>(rt: &H, alloc: Global) -> Result<Vec<u64>, Failure> {
     let limit = TopicLimit::new(TOPICS).ok_or(Failure::Wrong)?;
     let all = TopicFilter::read(alloc, b"#")?;
-    let book = tried::<Brand, H>(rt, alloc, Blank::new(alloc, limit, 1)?, all)?;
+    let places = PlaceCount::new(1).ok_or(Failure::Wrong)?;
+    let book = tried::<Brand, H>(rt, alloc, Blank::new(alloc, limit, places)?, all)?;
     Ok(vec![in alloc;
         book.put,
         book.sweep,

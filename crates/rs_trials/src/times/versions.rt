@@ -6,7 +6,7 @@ use super::row::{EARLY, Row, expiring, fill, in_order, nanos, timed};
 use crate::failure::{Failure, expect};
 use crate::keeper::Keeper;
 use crate::samples::{Change, Naming};
-use rs_message::MAX_PLACES;
+use rs_message::{MAX_PLACES, PlaceCount};
 use rs_store::TopicLimit;
 use rs_topic::TopicFilter;
 use rs_version::{Blank, Seat, StoreName, VersionWriter};
@@ -190,9 +190,13 @@ fn measured<H: Clock + Threads + Wait + Sync>(
     limit: TopicLimit,
     load: &Load,
 ) -> Result<Vec<u64>, Failure> {
-    if load.readers > u32::from(MAX_PLACES) {
+    let readers = load.readers.max(1);
+    if readers > u32::from(MAX_PLACES) {
         return Err(Failure::Words);
     }
+    let Some(places) = PlaceCount::new(readers as u8) else {
+        return Err(Failure::Words);
+    };
     let shared = Shared {
         filter: TopicFilter::read(alloc, b"000000/door/main/0/state")?,
         threads: load.readers.saturating_add(1),
@@ -200,7 +204,7 @@ fn measured<H: Clock + Threads + Wait + Sync>(
         stop: AtomicBool::new(false),
         answers: AtomicU64::new(0),
     };
-    let blank = Blank::new(alloc, limit, load.readers.max(1) as u8)?;
+    let blank = Blank::new(alloc, limit, places)?;
     let times = timed_puts::<H, Brand>(rt, alloc, blank, load, &shared)?;
     let answers = shared.answers.load(Ordering::SeqCst);
     Ok(vec![in alloc;

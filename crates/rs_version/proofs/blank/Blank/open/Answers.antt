@@ -3,7 +3,7 @@ use Rattle.rs_store.proofs.Standing.{stands_empty}
 use Rattle.rs_version.proofs.blank.Blank.open.Goals as goal
 
 pub copy_writer-requires-clause-sound : goal.copy_writer-requires-clause-sound
-copy_writer-requires-clause-sound g c = rw (c.self.invariant.1, ap (λ b. b.log) c.again.ensures ∙ c.self.inside.new_history.empty) (stands_empty c.self.inside.limit)
+copy_writer-requires-clause-sound g c = rw (c.self.invariant.0, ap (λ b. b.log) c.again.ensures ∙ c.self.inside.new_history.empty) (stands_empty c.self.inside.limit)
 
 pub of-list-requires : goal.of-list-requires
 of-list-requires g c = (ap (λ v. v.history) c.self.view_is ∙ c.requires.0, rw c.self.inside.new_history.empty (stands_empty g.N.StoreName.limit).legal)
