@@ -1,11 +1,12 @@
 -- A server may cross threads, in one step. It has a store, whose catalogue is a recursive type.
-use denote.Param.Send.{IsSend, plain_send, recorded_send, struct_send}
+use denote.Param.Send.{IsSend, recorded_send, struct_send}
 use denote.Struct.Declared.{shape}
 use Rattle.rs_intake.proofs.blank.BlankQueue.TheSendSync as queue
+use Rattle.rs_message.proofs.places.PlaceCount.TheSendSync as count
 use Rattle.rs_sockets.proofs.listener.Listener.TheSendSync as listener
 use Rattle.rs_version.proofs.Sent.{blank_send}
 use Rattle.std.proofs.alloc.Global.TheSendSync as heap
 use Rattle.rs_listener.specs.contracts.server.Server as Server
 
 pub server_send : IsSend Server.the_row
-server_send = recorded_send Server.the_field.row _ _ Server.the_type.to_one (struct_send (shape Server.the_type) (heap.the_field_send, (listener.the_field_send, (blank_send, (queue.the_send, (plain_send _ _ _ _ _, tt))))))
+server_send = recorded_send Server.the_field.row _ _ Server.the_type.to_one (struct_send (shape Server.the_type) (heap.the_field_send, (listener.the_field_send, (blank_send, (queue.the_send, (count.the_send, tt))))))

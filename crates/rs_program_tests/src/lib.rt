@@ -1,5 +1,5 @@
-//! Tests of the program and of the server by their public calls. They stand in a crate of their own, so that `rs_program` and
-//! `rs_listener` are not proved a second time with them.
+//! Tests of the program by its public calls. They stand in a crate of their own, so that `rs_program` is not proved a second time
+//! with them.
 #![tactic(auto)]
 
 #[cfg(test)]
@@ -8,8 +8,6 @@ mod answers;
 mod faults;
 #[cfg(test)]
 mod lines;
-#[cfg(test)]
-mod listening;
 #[cfg(test)]
 mod piping;
 #[cfg(test)]
