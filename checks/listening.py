@@ -17,6 +17,7 @@ from checks.listening_places import (
     all_connections_served,
     bursts,
     few_threads,
+    refused_accepts,
     short_connections,
     sixty_four_places,
 )
@@ -51,6 +52,7 @@ CHECKS = (
     bursts,
     one_history,
     few_threads,
+    refused_accepts,
     abrupt_ends,
     a_client_that_never_reads,
     half_closed,

@@ -119,6 +119,19 @@ def few_threads(connections=2 * MANY):
                 wanted(server.ended() == end, f"another end with {threads} threads")
 
 
+def refused_accepts(refused=4, served=3):
+    """An accept that fails, as if no descriptor was left, counts as a connection. Clients that come
+    later are served, and the program ends after as many as are left."""
+    with tempfile.TemporaryDirectory() as folder:
+        library = preloaded("failing_accepts", folder)
+        environment = {"LD_PRELOAD": library, "FAILING": str(refused)}
+        with Server(places=2, connections=refused + served, environment=environment) as server:
+            for _ in range(served):
+                Client(server).connect().disconnect()
+            end = (0, f"rstored: served {refused + served}\n", "")
+            wanted(server.ended() == end, "another end")
+
+
 def all_connections_served():
     """Connections of all kinds count, and after the last one the program ends, whichever places
     served them."""
