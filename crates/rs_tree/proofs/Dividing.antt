@@ -43,7 +43,7 @@ pub up_to_rear : (k : List ℕ) (xs ys : Held) → IsUpTo k (xs ++ ys) → IsUpT
 up_to_rear k [] ys f = f
 up_to_rear k (x ∷ xs) ys f = up_to_rear k xs ys f.1
 
-up_to_both : (k : List ℕ) (xs ys : Held) → IsUpTo k xs → IsUpTo k ys → IsUpTo k (xs ++ ys)
+pub up_to_both : (k : List ℕ) (xs ys : Held) → IsUpTo k xs → IsUpTo k ys → IsUpTo k (xs ++ ys)
 up_to_both k [] ys f g = g
 up_to_both k (x ∷ xs) ys f g = (f.0, up_to_both k xs ys f.1 g)
 

@@ -59,7 +59,7 @@ same_index [] (suc i) d = refl
 same_index (c ∷ cs) zero d = refl
 same_index (c ∷ cs) (suc i) d = same_index cs i d
 
-up_to_at : (cs : List ChildValue) (i : ℕ) (c : ChildValue) → i < length cs → c ≡ get_or cs i c → IsRow cs → IsUpTo c.level (parts (take i cs))
+pub up_to_at : (cs : List ChildValue) (i : ℕ) (c : ChildValue) → i < length cs → c ≡ get_or cs i c → IsRow cs → IsUpTo c.level (parts (take i cs))
 up_to_at cs i c small is r = let P : ChildValue → Type 0 = λ w. IsUpTo w.level (parts (take i cs)) in subst P (same_index cs i c ∙ sym is) (up_to_all cs i c small r)
 
 -- ---- one child after the other
@@ -91,7 +91,7 @@ module _ (moment : ℕ) (cs left : List ChildValue) (i : ℕ) where
           same = ap parts put ∙ (parts_push left d ∙ (ap (λ (w : Held). w ++ d.spots) so.same ∙ (ap (λ (w : Held). filter (spot_stays moment) (parts (take i cs)) ++ w) h.1 ∙ sym more)));
         }
 
-take_whole : (cs : List ChildValue) (i : ℕ) → length cs ≤ i → take i cs ≡ cs
+pub take_whole : (cs : List ChildValue) (i : ℕ) → length cs ≤ i → take i cs ≡ cs
 take_whole [] zero small = refl
 take_whole [] (suc i) small = refl
 take_whole (c ∷ cs) zero small = absurd (omega (arith, small))

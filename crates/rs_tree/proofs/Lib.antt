@@ -6,6 +6,7 @@ pub mod Clearing
 pub mod Dividing
 pub mod Ends
 pub mod Expiring
+pub mod Flattening
 pub mod Growing
 pub mod Joining
 pub mod Leaving

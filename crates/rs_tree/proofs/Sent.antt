@@ -12,6 +12,7 @@ use Rattle.rs_tree.proofs.label.Label.TheSendSync as label
 use Rattle.rs_tree.proofs.bucket.Bucket.TheSendSync as bucket
 use Rattle.rs_tree.proofs.branch.Branch.TheLaws.TheKnot as knot
 use Rattle.rs_tree.specs.contracts.branch.Branch as Branch
+use Rattle.rs_tree.specs.contracts.branch.Child as Child
 use Rattle.rs_tree.specs.contracts.shared.Shared as Shared
 use Rattle.rs_tree.specs.contracts.tree.TreeCatalogue as Tree
 
@@ -31,8 +32,18 @@ branch_sync = knot.both_sync-Branch
     (option.the_send Shared.the_row shared.the_send) (λ h s y. std.Vec-send h s) label.the_send bucket.the_send (λ h s y. std.Arc-send h s y) chain_send
     (option.the_sync Shared.the_row shared.the_sync) (λ h s y. std.Vec-sync h y) label.the_sync bucket.the_sync (λ h s y. std.Arc-sync h s y) chain_sync
 
+pub child_send : IsSend Child.the_row
+child_send = knot.both_send-Child
+    (option.the_send Shared.the_row shared.the_send) (λ h s y. std.Vec-send h s) label.the_send bucket.the_send (λ h s y. std.Arc-send h s y) chain_send
+    (option.the_sync Shared.the_row shared.the_sync) (λ h s y. std.Vec-sync h y) label.the_sync bucket.the_sync (λ h s y. std.Arc-sync h s y) chain_sync
+
+pub child_sync : IsSync Child.the_row
+child_sync = knot.both_sync-Child
+    (option.the_send Shared.the_row shared.the_send) (λ h s y. std.Vec-send h s) label.the_send bucket.the_send (λ h s y. std.Arc-send h s y) chain_send
+    (option.the_sync Shared.the_row shared.the_sync) (λ h s y. std.Vec-sync h y) label.the_sync bucket.the_sync (λ h s y. std.Arc-sync h s y) chain_sync
+
 pub tree_send : IsSend Tree.the_row
-tree_send = search (branch_send, branch_sync, std.crosses, sendable) depth 60 fits 20000
+tree_send = search (branch_send, branch_sync, child_send, child_sync, std.crosses, sendable) depth 60 fits 20000
 
 pub tree_sync : IsSync Tree.the_row
-tree_sync = search (branch_send, branch_sync, std.crosses, sendable) depth 60 fits 20000
+tree_sync = search (branch_send, branch_sync, child_send, child_sync, std.crosses, sendable) depth 60 fits 20000

@@ -13,13 +13,14 @@ ghost use Rattle.rs_tree.specs.Sweeping.{is_expired_spot, spot_stays};
 ghost use Rattle.rs_store.specs.declared.limit.TheConstants.{MAX_TOPICS};
 ghost use Rattle.rs_store.specs.Room.{IsStop};
 
-use crate::branch::Branch;
+use crate::branch::{Branch, Remains};
 use crate::cleared::Cleared;
 use crate::shared::Shared;
 use rs_message::Found;
 use rs_store::{Answer, Stop};
 use std::alloc::{AllocError, Global};
 use std::marker::Model;
+use std::mem;
 use std::sync::Arc;
 
 /// The messages of all topics. Contracts see them with the levels of their topics, in the order of replay.
@@ -93,13 +94,19 @@ impl Root {
         }
     }
 
-    /// Removes the messages that are expired. If memory is refused, nothing changes.
-    pub fn sweep(&mut self, alloc: Global, moment: u64) -> Result<(), AllocError>
+    /// Removes the messages that are expired. The tree from before is added to the remains. If memory is refused, nothing changes.
+    pub fn sweep(
+        &mut self,
+        alloc: Global,
+        moment: u64,
+        remains: &mut Remains,
+    ) -> Result<(), AllocError>
         ensures done { OnOk result (self.new ≡ filter (spot_stays moment) self.old) }
         ensures refused { OnErr result (self.new ≡ self.old) }
     {
         if let Some(left) = self.branch.swept(alloc, moment)? {
-            self.branch = Arc::new(alloc, left)?;
+            let left = Arc::new(alloc, left)?;
+            remains.add(alloc, mem::replace(&mut self.branch, left));
         }
         Ok(())
     }

@@ -1,27 +1,25 @@
 //! A catalogue in a tree of levels.
 
-ghost use Rattle.std.specs.Prelude.{◌≡◌, ◌-◌, ◌^◌, ◌≤◌, nat_le, length, map, slice_index, IfOk, OnOk, OnErr};
+ghost use Rattle.std.specs.Prelude.{◌≡◌, ◌-◌, ◌^◌, ◌≤◌, nat_le, length, map, IfOk, OnOk, OnErr};
 ghost use Rattle.std.specs.List.{filter as filter_list};
 ghost use Rattle.std.specs.List.Sorted.{IsStrictlySortedBy};
 ghost use Rattle.std.specs.BTreeMap.{insert_entry, is_at};
 ghost use Rattle.std.specs.Option.{option_map};
 ghost use Rattle.std.specs.Map.{keys_of, remove_entry};
 ghost use Rattle.rs_topic.specs.Order.{topic_cmp};
-ghost use Rattle.rs_store.specs.Contents.{after, found_of, if_fits, is_answered, is_gone, serial_count, stays};
+ghost use Rattle.rs_store.specs.Contents.{after, found_of, if_fits, is_answered, is_gone, stays};
 ghost use Rattle.rs_store.specs.Expiring.{first_end};
 ghost use Rattle.rs_tree.specs.Spots.{ArePlaced, pairs};
 ghost use Rattle.rs_store.specs.declared.limit.TheConstants.{MAX_TOPICS};
 ghost use Rattle.rs_tree.specs.Trees.{IsTree};
 
+use crate::branch::Remains;
 use crate::root::Root;
-use rs_message::{Entry, Found, MAX_PLACES, Operation};
-use rs_store::{Answer, Catalogue, Refusal, Stop, TopicLimit};
+use rs_message::{Entry, Found, Operation};
+use rs_store::{Answer, Catalogue, Ledger, Refusal, Stop, TopicLimit};
 use rs_topic::{TopicFilter, TopicName};
 use std::alloc::{AllocError, Global};
 use std::marker::Model;
-
-/// One serial for each place, at its number, and the writer's at 0.
-const SERIALS: usize = MAX_PLACES as usize + 1;
 
 /// The messages in a tree of the levels of their topics.
 ///
@@ -35,38 +33,29 @@ const SERIALS: usize = MAX_PLACES as usize + 1;
 /// the branches that the filter can match: one for a level without a wildcard, each for a `+`, all below for a `#`. It builds no
 /// list of levels and copies no byte of a topic, text or payload. `version`, `last_serial` and `count` take constant time.
 ///
-/// A Sweep makes what it changes anew, and shares the rest. It visits each message once, as `expired` and `earliest` do.
+/// A Sweep makes what it changes anew, and shares the rest. It visits each message once, as `expired` and `earliest` do. The entries
+/// after it drop what it took out, each a few nodes.
 #[derive(Drop)]
 pub struct TreeCatalogue {
     alloc: Global,
-    limit: TopicLimit,
     root: Root,
+    // What Sweeps took out, as far as no entry has dropped it.
+    remains: Remains,
     count: u32,
-    // Indexed by place. The writer's is at 0.
-    serials: [u64; SERIALS],
-    version: u64,
+    ledger: Ledger,
 }
 
 impl Model for TreeCatalogue {
     ghost use Rattle.rs_store.specs.declared.content.Content.{Content};
+    ghost use Rattle.rs_store.specs.Ledgers.{content_of};
     ghost use Rattle.rs_tree.specs.Trees.{IsTree};
     ghost use Rattle.rs_tree.specs.Spots.{pairs};
 
     ghost Value = { Content };
 
-    ghost view = { λ c. record { limit = c.limit; held = pairs c.root; serials = c.serials; version = c.version } };
+    ghost view = { λ c. content_of (pairs c.root) c.ledger };
 
-    ghost invariant = { λ c. IsTree c.root c.count c.limit };
-}
-
-fn serial_of(serials: &[u64; SERIALS], place: u8) -> u64
-    ensures value { result ≡ slice_index serials.now place }
-    ensures wide { length serials.now ≡ serial_count }
-{
-    if (place as usize) < SERIALS {
-        return serials[place as usize];
-    }
-    0
+    ghost invariant = { λ c. IsTree c.root c.count c.ledger.limit };
 }
 
 /// Sets one topic and returns how many hold a message then. If memory is refused, nothing changes.
@@ -120,7 +109,12 @@ fn earliest_of(root: &Root) -> u64
 }
 
 /// Removes the messages that are expired and returns how many topics hold a message then. If memory is refused, nothing changes.
-fn sweep(root: &mut Root, alloc: Global, moment: u64) -> Result<u32, AllocError>
+fn sweep(
+    root: &mut Root,
+    remains: &mut Remains,
+    alloc: Global,
+    moment: u64,
+) -> Result<u32, AllocError>
     requires placed { ArePlaced root.old }
     requires small { length (pairs root.old) ≤ MAX_TOPICS }
     ensures done { OnOk result (pairs root.new ≡ filter_list (stays moment) (pairs root.old)) }
@@ -128,7 +122,7 @@ fn sweep(root: &mut Root, alloc: Global, moment: u64) -> Result<u32, AllocError>
     ensures placed { ArePlaced root.new }
     ensures refused { OnErr result (root.new ≡ root.old) }
 {
-    root.sweep(alloc, moment)?;
+    root.sweep(alloc, moment, remains)?;
     Ok(root.len() as u32)
 }
 
@@ -136,6 +130,7 @@ fn sweep(root: &mut Root, alloc: Global, moment: u64) -> Result<u32, AllocError>
 /// nothing changes.
 fn change(
     root: &mut Root,
+    remains: &mut Remains,
     alloc: Global,
     count: u32,
     operation: Operation,
@@ -152,7 +147,7 @@ fn change(
     match operation {
         Operation::Set(found) => set_one(root, alloc, count, found),
         Operation::Clear(topic) => clear_one(root, alloc, count, &topic),
-        Operation::Sweep(moment) => sweep(root, alloc, moment),
+        Operation::Sweep(moment) => sweep(root, remains, alloc, moment),
     }
 }
 
@@ -198,6 +193,11 @@ impl TreeCatalogue {
     pub fn branches(&self) -> u32 {
         self.root.branches()
     }
+
+    /// How many nodes that a Sweep took out are not dropped yet, without those below them, for tests. No contract speaks of it.
+    pub fn remains(&self) -> usize {
+        self.remains.len()
+    }
 }
 
 impl Catalogue for TreeCatalogue {
@@ -206,35 +206,44 @@ impl Catalogue for TreeCatalogue {
     fn new(alloc: Global, limit: TopicLimit) -> Result<TreeCatalogue, AllocError> {
         Ok(TreeCatalogue {
             alloc,
-            limit,
             root: Root::new(alloc)?,
+            remains: Remains::none(alloc),
             count: 0,
-            serials: [0; SERIALS],
-            version: 0,
+            ledger: Ledger::new(limit),
         })
     }
 
     fn accepts(&self, entry: &Entry) -> Result<(), Refusal> {
-        let place = entry.origin.place();
-        if entry.origin.serial() <= self.serials[place as usize] {
+        if !self.ledger.is_new(entry.origin) {
             return Err(Refusal::Stale);
         }
-        if self.version == u64::MAX {
+        if !self.ledger.has_number() {
             return Err(Refusal::Full);
         }
-        if !has_room(&self.root, self.count, self.limit, &entry.operation) {
+        if !has_room(
+            &self.root,
+            self.count,
+            self.ledger.limit(),
+            &entry.operation,
+        ) {
             return Err(Refusal::Full);
         }
         Ok(())
     }
 
     fn apply(&mut self, entry: Entry) -> Result<(), AllocError> {
-        let _limit = self.limit.get();
+        let _limit = self.ledger.limit().get();
         let origin = entry.origin;
-        let count = change(&mut self.root, self.alloc, self.count, entry.operation)?;
+        self.remains.shrink(self.alloc);
+        let count = change(
+            &mut self.root,
+            &mut self.remains,
+            self.alloc,
+            self.count,
+            entry.operation,
+        )?;
         self.count = count;
-        self.serials[origin.place() as usize] = origin.serial();
-        self.version += 1;
+        self.ledger.count(origin);
         Ok(())
     }
 
@@ -256,11 +265,11 @@ impl Catalogue for TreeCatalogue {
     }
 
     fn version(&self) -> u64 {
-        self.version
+        self.ledger.version()
     }
 
     fn last_serial(&self, place: u8) -> u64 {
-        serial_of(&self.serials, place)
+        self.ledger.last_serial(place)
     }
 
     fn count(&self) -> u32 {
@@ -268,7 +277,7 @@ impl Catalogue for TreeCatalogue {
     }
 
     fn expired(&self, now: u64) -> u32 {
-        let _limit = self.limit.get();
+        let _limit = self.ledger.limit().get();
         count_expired(&self.root, now)
     }
 
@@ -279,11 +288,10 @@ impl Catalogue for TreeCatalogue {
     fn copy(&self) -> Result<TreeCatalogue, AllocError> {
         Ok(TreeCatalogue {
             alloc: self.alloc,
-            limit: self.limit,
             root: self.root.again()?,
+            remains: Remains::none(self.alloc),
             count: self.count,
-            serials: self.serials,
-            version: self.version,
+            ledger: self.ledger.copy(),
         })
     }
 }

@@ -16,8 +16,6 @@ use std::sync::Arc;
 /// The most children of a branch. Two rows of half as many take the place of more.
 const MOST: usize = 32;
 
-const HALF: usize = 16;
-
 /// A branch of one child, which is a stem.
 pub fn single(alloc: Global, level: Label, stem: Stem) -> Result<Branch, AllocError>
     requires { IsFull (stem_spots stem) }
@@ -41,7 +39,8 @@ fn halves(alloc: Global, level: Label, children: &[Child]) -> Result<(Child, Chi
     requires many { 16 < length children.now }
     ensures { IfOk result (λ r. AreHalves level (parts children.now) r.0 r.1) }
 {
-    let (low, high) = children.split_at(HALF);
+    let half = children.len() / 2;
+    let (low, high) = children.split_at(half);
     let first = &high[0];
     let middle = first.level.own(alloc)?;
     Ok((
@@ -131,12 +130,16 @@ impl Branch {
         put_two(&mut self.children, i, low, high);
     }
 
-    /// Puts two rows in the place of the children, if these are too many. If memory is refused, they stay, and the next entry that goes
-    /// there tries again.
+    /// Puts two rows in the place of the children, if these are too many, or none if there are rows enough. The next entry that goes
+    /// there divides what is left of too many children, and tries again if memory is refused.
     pub fn fold(&mut self, alloc: Global)
         ensures { self.new.spots ≡ self.old.spots }
     {
         if self.children.len() <= MOST {
+            return;
+        }
+        if self.is_tall() {
+            self.flatten(alloc);
             return;
         }
         if let Ok(rows) = two_rows(alloc, self.children.as_slice()) {

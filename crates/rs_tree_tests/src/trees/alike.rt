@@ -3,7 +3,7 @@
 ghost use Rattle.std.specs.Prelude.{◌≡◌, ◌<◌, false, IfOk};
 ghost use Rattle.rs_message.specs.Messages.{is_sweep};
 
-use super::joined::{cleared_rows, deep, lone_messages, swept_rows};
+use super::joined::{cleared_rows, deep, lone_messages, narrow_rows, swept_rows};
 use super::wide::{grown, swept_grown};
 use super::{as_many, origin, set_at};
 use rs_message::{Entry, Operation};
@@ -280,6 +280,7 @@ pub enum Case {
     LoneMessages,
     ClearedRows,
     SweptRows,
+    NarrowRows,
     Grown(u64),
     SweptGrown,
 }
@@ -294,6 +295,7 @@ pub fn check(rt: &impl Abort, alloc: Global, topics: u32, check: Case) -> Result
         Case::LoneMessages => lone_messages(rt, alloc, &mut map, &mut tree),
         Case::ClearedRows => cleared_rows(rt, alloc, &mut map, &mut tree),
         Case::SweptRows => swept_rows(rt, alloc, &mut map, &mut tree),
+        Case::NarrowRows => narrow_rows(rt, alloc, &mut map, &mut tree),
         Case::Grown(step) => grown(rt, alloc, &mut map, &mut tree, step),
         Case::SweptGrown => swept_grown(rt, alloc, &mut map, &mut tree),
     }

@@ -173,3 +173,29 @@ pub fn swept_rows(
 fn swept_rows_are_joined(rt: HostRuntime) -> Result<(), Fail> {
     check(&rt, rt.alloc(), 600, Case::SweptRows)
 }
+
+/// Sets many topics before those that are there and clears all of them but one, time and again. The rows that are left stand in one
+/// another, but no deeper each time.
+pub fn narrow_rows(
+    rt: &impl Abort,
+    alloc: Global,
+    map: &mut CalmCatalogue<MapCatalogue>,
+    tree: &mut CalmCatalogue<TreeCatalogue>,
+) -> Result<(), Fail> {
+    for round in 0..9u32 {
+        for i in 0..1079u32 {
+            let (number, kind) = if i < 540 { (i, 1) } else { (i - 539, 4) };
+            let name = format!(in alloc; "{}-{}", 900 - round, 1000 + number)?;
+            put_both(alloc, map, tree, name.as_bytes(), kind)?;
+        }
+    }
+    all_alike(rt, alloc, map.catalogue(), tree.catalogue(), FILTERS)?;
+    let tree = tree.catalogue();
+    assert!(rt; tree.count() == 9 && tree.branches() < 9);
+    Ok(())
+}
+
+#[test]
+fn narrow_rows_are_undone(rt: HostRuntime) -> Result<(), Fail> {
+    check(&rt, rt.alloc(), 600, Case::NarrowRows)
+}

@@ -1,7 +1,7 @@
 //! Many levels side by side, so that rows are divided, and copies that never change.
 
-use super::alike::{Case, LATE, all_alike, check, put_both};
-use rs_store::{CalmCatalogue, Catalogue, MapCatalogue};
+use super::alike::{Case, LATE, all_alike, check, put, put_both};
+use rs_store::{CalmCatalogue, Catalogue, MapCatalogue, TopicLimit};
 use rs_tree::TreeCatalogue;
 use std::alloc::Global;
 use std::process::Abort;
@@ -94,4 +94,38 @@ pub fn swept_grown(
 #[test]
 fn sweeps(rt: HostRuntime) -> Result<(), Fail> {
     check(&rt, rt.alloc(), 1000, Case::SweptGrown)
+}
+
+/// Sets the topics of the numbers below 1,000. All but a quarter of the messages expire.
+fn set_all(
+    alloc: Global,
+    tree: &mut CalmCatalogue<TreeCatalogue>,
+    last_serial: u64,
+) -> Result<(), Fail> {
+    for i in 0..1000 {
+        let name = name_of(alloc, i)?;
+        let kind = if i % 4 == 0 { 1 } else { 0 };
+        let serial = last_serial.wrapping_add(i).wrapping_add(1);
+        put(alloc, tree, serial, name.as_slice(), kind)??;
+    }
+    Ok(())
+}
+
+/// What a Sweep takes out of a tree that nothing shares is dropped by later entries, and then all of it.
+#[test]
+fn later_entries_drop_what_was_swept(rt: HostRuntime) -> Result<(), Fail> {
+    let alloc = rt.alloc();
+    let limit = TopicLimit::new(1000).ok_or("the limit")?;
+    let mut tree: CalmCatalogue<TreeCatalogue> = CalmCatalogue::new(alloc, limit)?;
+    set_all(alloc, &mut tree, 0)?;
+    assert!(rt; tree.catalogue().remains() == 0);
+    put(alloc, &mut tree, 1001, b"late", LATE)??;
+    assert!(rt; tree.catalogue().count() == 251);
+    assert!(rt; tree.catalogue().remains() > 0);
+    for serial in 1002..2000 {
+        put(alloc, &mut tree, serial, b"late", LATE)??;
+    }
+    assert!(rt; tree.catalogue().count() == 251);
+    assert!(rt; tree.catalogue().remains() == 0);
+    Ok(())
 }
