@@ -4,6 +4,7 @@ pub mod Contents
 pub mod Expiring
 pub mod History
 pub mod Law
+pub mod Ledgers
 pub mod Maps
 pub mod Needed
 pub mod Room

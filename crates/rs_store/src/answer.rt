@@ -8,7 +8,7 @@ use rs_message::Found;
 use std::alloc::{AllocError, Global};
 
 /// Why an answer was abandoned.
-#[derive(Clone, Copy, PartialEq, Eq)]
+#[derive(Clone, Copy, Debug, PartialEq, Eq)]
 pub enum Stop {
     /// It would have more messages than it may.
     Full,

@@ -14,7 +14,7 @@ use std::marker::Model;
 ///
 /// Whoever judges the entries of a catalogue keeps one beside it, for [`judge`](crate::judge) and [`add`](crate::add). So the
 /// messages are looked at only from that moment on, and a full catalogue is not walked over for each Set that it refuses.
-#[derive(Clone, Copy)]
+#[derive(Clone, Copy, Debug)]
 pub struct Calm {
     until: u64,
 }

@@ -4,7 +4,8 @@
 //! A [`Catalogue`] keeps the content of a list of entries: the message of each topic, the last serial of each place and of the writer,
 //! and the number of entries. [`add`] appends one entry or says why not. If a Set is one topic too many, it first appends a Sweep, by
 //! which expired messages free their topics. A [`Calm`] says from which moment on it has to look for them. A [`CalmCatalogue`] is a
-//! catalogue with its calm moment. [`MapCatalogue`] keeps the messages in one ordered map.
+//! catalogue with its calm moment. [`MapCatalogue`] keeps the messages in one ordered map. A catalogue is its messages and a [`Ledger`],
+//! which counts the entries.
 #![tactic(auto)]
 
 mod answer;
@@ -15,6 +16,7 @@ mod content;
 mod fault;
 mod found;
 mod law;
+mod ledger;
 mod limit;
 mod map;
 
@@ -26,5 +28,6 @@ pub use content::Content;
 pub use fault::Refusal;
 pub use found::{is_expired, lowered};
 pub use law::{content_law, sweep_law};
+pub use ledger::Ledger;
 pub use limit::{MAX_TOPICS, TopicLimit};
 pub use map::MapCatalogue;

@@ -1,6 +1,6 @@
 //! A catalogue in an ordered map.
 
-ghost use Rattle.std.specs.Prelude.{◌≡◌, ◌-◌, ◌^◌, ◌≤◌, ◌++◌, nat_le, length, map, slice_index, slice_set, IfErr, IfOk, OnOk, OnErr};
+ghost use Rattle.std.specs.Prelude.{◌≡◌, ◌-◌, ◌^◌, ◌≤◌, ◌++◌, nat_le, length, map, IfErr, IfOk, OnOk, OnErr};
 ghost use Rattle.std.specs.Option.{option_map};
 ghost use Rattle.std.specs.BTreeMap.{insert_entry};
 ghost use Rattle.std.specs.List.{filter as filter_list};
@@ -15,7 +15,8 @@ use crate::answer::{Answer, Stop};
 use crate::catalogue::Catalogue;
 use crate::fault::Refusal;
 use crate::found::{is_expired, lowered};
-use crate::limit::{SERIALS, TopicLimit};
+use crate::ledger::Ledger;
+use crate::limit::TopicLimit;
 use rs_message::{Entry, Found, Message, Operation};
 use rs_topic::{TopicFilter, TopicName};
 use std::alloc::{AllocError, Global};
@@ -29,12 +30,9 @@ use std::collections::BTreeMap;
 #[derive(Drop)]
 pub struct MapCatalogue {
     alloc: Global,
-    limit: TopicLimit,
     held: BTreeMap<TopicName, Message>,
-    // Indexed by place. The writer's is at 0.
-    serials: [u64; SERIALS],
-    version: u64,
-    ghost fits: { length held.entries ≤ limit },
+    ledger: Ledger,
+    ghost fits: { length held.entries ≤ ledger.limit },
 }
 
 /// Removes the messages that are expired.
@@ -184,22 +182,19 @@ impl Catalogue for MapCatalogue {
     fn new(alloc: Global, limit: TopicLimit) -> Result<MapCatalogue, AllocError> {
         Ok(MapCatalogue {
             alloc,
-            limit,
             held: BTreeMap::new(alloc),
-            serials: [0; SERIALS],
-            version: 0,
+            ledger: Ledger::new(limit),
         })
     }
 
     fn accepts(&self, entry: &Entry) -> Result<(), Refusal> {
-        let place = entry.origin.place();
-        if entry.origin.serial() <= self.serials[place as usize] {
+        if !self.ledger.is_new(entry.origin) {
             return Err(Refusal::Stale);
         }
-        if self.version == u64::MAX {
+        if !self.ledger.has_number() {
             return Err(Refusal::Full);
         }
-        if !has_room(&self.held, self.limit, &entry.operation) {
+        if !has_room(&self.held, self.ledger.limit(), &entry.operation) {
             return Err(Refusal::Full);
         }
         Ok(())
@@ -208,8 +203,7 @@ impl Catalogue for MapCatalogue {
     fn apply(&mut self, entry: Entry) -> Result<(), AllocError> {
         let origin = entry.origin;
         change(&mut self.held, entry.operation)?;
-        self.serials[origin.place() as usize] = origin.serial();
-        self.version += 1;
+        self.ledger.count(origin);
         Ok(())
     }
 
@@ -231,23 +225,20 @@ impl Catalogue for MapCatalogue {
     }
 
     fn version(&self) -> u64 {
-        self.version
+        self.ledger.version()
     }
 
     fn last_serial(&self, place: u8) -> u64 {
-        if (place as usize) < SERIALS {
-            return self.serials[place as usize];
-        }
-        0
+        self.ledger.last_serial(place)
     }
 
     fn count(&self) -> u32 {
-        let _limit = self.limit.get();
+        let _limit = self.ledger.limit().get();
         self.held.len() as u32
     }
 
     fn expired(&self, now: u64) -> u32 {
-        let _limit = self.limit.get();
+        let _limit = self.ledger.limit().get();
         count_expired(&self.held, now)
     }
 
@@ -258,10 +249,8 @@ impl Catalogue for MapCatalogue {
     fn copy(&self) -> Result<MapCatalogue, AllocError> {
         Ok(MapCatalogue {
             alloc: self.alloc,
-            limit: self.limit,
             held: copy_of(self.alloc, &self.held)?,
-            serials: self.serials,
-            version: self.version,
+            ledger: self.ledger.copy(),
         })
     }
 }

@@ -22,7 +22,7 @@ use std::alloc::AllocError;
 use std::marker::Model;
 
 /// An answer, and the version that it is of.
-#[derive(Drop)]
+#[derive(Debug, Drop)]
 pub struct Snapshot {
     /// The number of entries of the list that was read.
     pub version: u64,
