@@ -1,4 +1,4 @@
--- What was done with the jobs that the writer took, one after the other.
+-- What was done with the entries that the writer took, one after the other.
 use Rattle.std.proofs.Common.{◌≡◌, ℕ, zero, suc, ◌+◌, Bool, true, false, cond, All, ◌<◌, ◌≤◌, ◌||◌, List, [], ◌∷◌, ◌++◌, length, map, inl, inr, refl, sym, ap, subst, ◌∙◌, append_assoc, length-append, zero-add, Ok, Err, OnOk, IfOk, IfErr, arith}
 use Rattle.std.specs.List.{AllByRecursion, filter}
 use Rattle.std.proofs.lemmas.List.{append-nil}
@@ -12,7 +12,7 @@ use Rattle.rs_version.specs.declared.fault.PutFault.TheVariants.{Full, Held, NoM
 use Rattle.rs_intake.specs.Changes.{AreChanges, AreOf, ArePlain, place_of_all}
 use Rattle.rs_intake.specs.Done.{Answer, AreAnswered, AreDone, AreRefusedBehind, AreReplied, IsAnswered, IsDone, IsPut, IsWritten, ReplyValue, accepted, is_held, is_refused, refused_reply, refused_in, replies_to}
 use Rattle.rs_intake.specs.Parts.{IsPart}
-use Rattle.rs_intake.specs.Sweeps.{AreForJobs, IsSweptAtMost, Serves, without_sweeps}
+use Rattle.rs_intake.specs.Sweeps.{AreForEntries, IsSweptAtMost, Serves, without_sweeps}
 use Rattle.rs_intake.proofs.Parts.{part_front, part_rises}
 use Rattle.rs_intake.proofs.Sweeps.{job_rises, adds_kept, held_kept, no_memory_kept, serves_job, serves_refused, serves_start, released_kept, without_cleaned, without_more}
 
@@ -42,175 +42,175 @@ pub put_is : (limit : ℕ) (w w' : Written) (e : Entry) (answer : Answer) → On
 put_is limit w w' e (Ok r) adds entry number told refuses = (adds, (entry, number, told))
 put_is limit w w' e (Err f) adds entry number told refuses = refuses
 
--- ---- one job after the other
+-- ---- one entry after the other
 
-done_more : (limit : ℕ) (first jobs : List Entry) (told : List Answer) (kept : List Entry) (job : Entry) (answer : Answer) (kept' : List Entry)
-    → AreDone limit first jobs told kept → IsDone limit kept job answer kept' → AreDone limit first (jobs ++ job ∷ []) (told ++ answer ∷ []) kept'
-done_more limit first [] [] kept job answer kept' are is = let P : List Entry → Type 0 = λ l. IsDone limit l job answer kept' in (kept', subst P are is, refl)
-done_more limit first [] (a ∷ told) kept job answer kept' are is = absurd are
-done_more limit first (j ∷ jobs) [] kept job answer kept' are is = absurd are
-done_more limit first (j ∷ jobs) (a ∷ told) kept job answer kept' are is = (are.0, are.1, done_more limit are.0 jobs told kept job answer kept' are.2 is)
+done_more : (limit : ℕ) (first entries : List Entry) (answers : List Answer) (kept : List Entry) (entry : Entry) (answer : Answer) (kept' : List Entry)
+    → AreDone limit first entries answers kept → IsDone limit kept entry answer kept' → AreDone limit first (entries ++ entry ∷ []) (answers ++ answer ∷ []) kept'
+done_more limit first [] [] kept entry answer kept' are is = let P : List Entry → Type 0 = λ l. IsDone limit l entry answer kept' in (kept', subst P are is, refl)
+done_more limit first [] (a ∷ answers) kept entry answer kept' are is = absurd are
+done_more limit first (e ∷ entries) [] kept entry answer kept' are is = absurd are
+done_more limit first (e ∷ entries) (a ∷ answers) kept entry answer kept' are is = (are.0, are.1, done_more limit are.0 entries answers kept entry answer kept' are.2 is)
 
 -- ---- what the answer says
 
-pub adds_if_done : (limit : ℕ) (kept : List Entry) (job : Entry) (answer : Answer) (kept' : List Entry) → IsDone limit kept job answer kept' → is_refused answer ≡ false → Adds limit kept job (λ list. kept' ≡ list)
-adds_if_done limit kept job (Ok r) kept' is stays = is.0
-adds_if_done limit kept job (Err Full) kept' is stays = absurd (cc (stays))
-adds_if_done limit kept job (Err Stale) kept' is stays = absurd is
-adds_if_done limit kept job (Err NoMemory) kept' is stays = absurd (cc (stays))
-adds_if_done limit kept job (Err Held) kept' is stays = is
+pub adds_if_done : (limit : ℕ) (kept : List Entry) (entry : Entry) (answer : Answer) (kept' : List Entry) → IsDone limit kept entry answer kept' → is_refused answer ≡ false → Adds limit kept entry (λ list. kept' ≡ list)
+adds_if_done limit kept entry (Ok r) kept' is stays = is.0
+adds_if_done limit kept entry (Err Full) kept' is stays = absurd (cc (stays))
+adds_if_done limit kept entry (Err Stale) kept' is stays = absurd is
+adds_if_done limit kept entry (Err NoMemory) kept' is stays = absurd (cc (stays))
+adds_if_done limit kept entry (Err Held) kept' is stays = is
 
-pub swept_if_done : (limit : ℕ) (kept : List Entry) (job : Entry) (answer : Answer) (kept' : List Entry) → IsDone limit kept job answer kept' → is_refused answer ≡ true → IsSweptAtMost limit kept job kept'
-swept_if_done limit kept job (Ok r) kept' is goes = absurd (cc (goes))
-swept_if_done limit kept job (Err Full) kept' is goes = inl is.1
-swept_if_done limit kept job (Err Stale) kept' is goes = absurd is
-swept_if_done limit kept job (Err NoMemory) kept' is goes = is
-swept_if_done limit kept job (Err Held) kept' is goes = absurd (cc (goes))
+pub swept_if_done : (limit : ℕ) (kept : List Entry) (entry : Entry) (answer : Answer) (kept' : List Entry) → IsDone limit kept entry answer kept' → is_refused answer ≡ true → IsSweptAtMost limit kept entry kept'
+swept_if_done limit kept entry (Ok r) kept' is goes = absurd (cc (goes))
+swept_if_done limit kept entry (Err Full) kept' is goes = inl is.1
+swept_if_done limit kept entry (Err Stale) kept' is goes = absurd is
+swept_if_done limit kept entry (Err NoMemory) kept' is goes = is
+swept_if_done limit kept entry (Err Held) kept' is goes = absurd (cc (goes))
 
--- ---- the jobs that were not refused
+-- ---- the entries that were not refused
 
-without_added : (limit : ℕ) (kept : List Entry) (job : Entry) (kept' : List Entry) → is_sweep job.operation ≡ false → Adds limit kept job (λ list. kept' ≡ list) → without_sweeps kept' ≡ without_sweeps kept ++ job ∷ []
-without_added limit kept job kept' plain (inl a) = ap without_sweeps a.1 ∙ without_more kept job plain
-without_added limit kept job kept' plain (inr a) =
+without_added : (limit : ℕ) (kept : List Entry) (entry : Entry) (kept' : List Entry) → is_sweep entry.operation ≡ false → Adds limit kept entry (λ list. kept' ≡ list) → without_sweeps kept' ≡ without_sweeps kept ++ entry ∷ []
+without_added limit kept entry kept' plain (inl a) = ap without_sweeps a.1 ∙ without_more kept entry plain
+without_added limit kept entry kept' plain (inr a) =
     let moment = a.0.message.received in
-    ap without_sweeps a.1 ∙ (without_more (cleaned moment kept) job plain ∙ ap (λ l. l ++ job ∷ []) (without_cleaned moment kept))
+    ap without_sweeps a.1 ∙ (without_more (cleaned moment kept) entry plain ∙ ap (λ l. l ++ entry ∷ []) (without_cleaned moment kept))
 
-without_swept : (limit : ℕ) (kept : List Entry) (job : Entry) (kept' : List Entry) → IsSweptAtMost limit kept job kept' → without_sweeps kept' ≡ without_sweeps kept
-without_swept limit kept job kept' (inl same) = ap without_sweeps same
-without_swept limit kept job kept' (inr s) = ap without_sweeps s.1 ∙ without_cleaned s.0.message.received kept
+without_swept : (limit : ℕ) (kept : List Entry) (entry : Entry) (kept' : List Entry) → IsSweptAtMost limit kept entry kept' → without_sweeps kept' ≡ without_sweeps kept
+without_swept limit kept entry kept' (inl same) = ap without_sweeps same
+without_swept limit kept entry kept' (inr s) = ap without_sweeps s.1 ∙ without_cleaned s.0.message.received kept
 
-without_done : (limit : ℕ) (kept : List Entry) (job : Entry) (answer : Answer) (kept' : List Entry) → is_sweep job.operation ≡ false → IsDone limit kept job answer kept'
-    → without_sweeps kept' ≡ without_sweeps kept ++ accepted (job ∷ []) (answer ∷ [])
-without_done limit kept job answer kept' plain is = go (is_refused answer) refl
+without_done : (limit : ℕ) (kept : List Entry) (entry : Entry) (answer : Answer) (kept' : List Entry) → is_sweep entry.operation ≡ false → IsDone limit kept entry answer kept'
+    → without_sweeps kept' ≡ without_sweeps kept ++ accepted (entry ∷ []) (answer ∷ [])
+without_done limit kept entry answer kept' plain is = go (is_refused answer) refl
   where
-    go : (b : Bool) → is_refused answer ≡ b → without_sweeps kept' ≡ without_sweeps kept ++ cond b [] (job ∷ [])
-    go false stays = without_added limit kept job kept' plain (adds_if_done limit kept job answer kept' is stays)
-    go true goes = without_swept limit kept job kept' (swept_if_done limit kept job answer kept' is goes) ∙ sym (append-nil (without_sweeps kept))
+    go : (b : Bool) → is_refused answer ≡ b → without_sweeps kept' ≡ without_sweeps kept ++ cond b [] (entry ∷ [])
+    go false stays = without_added limit kept entry kept' plain (adds_if_done limit kept entry answer kept' is stays)
+    go true goes = without_swept limit kept entry kept' (swept_if_done limit kept entry answer kept' is goes) ∙ sym (append-nil (without_sweeps kept))
 
--- more jobs
-done_append : (limit : ℕ) (first jobs : List Entry) (told : List Answer) (kept more : List Entry) (behind : List Answer) (kept' : List Entry)
-    → AreDone limit first jobs told kept → AreDone limit kept more behind kept' → AreDone limit first (jobs ++ more) (told ++ behind) kept'
+-- more entries
+done_append : (limit : ℕ) (first entries : List Entry) (answers : List Answer) (kept more : List Entry) (behind : List Answer) (kept' : List Entry)
+    → AreDone limit first entries answers kept → AreDone limit kept more behind kept' → AreDone limit first (entries ++ more) (answers ++ behind) kept'
 done_append limit first [] [] kept more behind kept' are rest = let P : List Entry → Type 0 = λ l. AreDone limit l more behind kept' in subst P are rest
-done_append limit first [] (a ∷ told) kept more behind kept' are rest = absurd are
-done_append limit first (j ∷ jobs) [] kept more behind kept' are rest = absurd are
-done_append limit first (j ∷ jobs) (a ∷ told) kept more behind kept' are rest = (are.0, are.1, done_append limit are.0 jobs told kept more behind kept' are.2 rest)
+done_append limit first [] (a ∷ answers) kept more behind kept' are rest = absurd are
+done_append limit first (e ∷ entries) [] kept more behind kept' are rest = absurd are
+done_append limit first (e ∷ entries) (a ∷ answers) kept more behind kept' are rest = (are.0, are.1, done_append limit are.0 entries answers kept more behind kept' are.2 rest)
 
-accepted_append : (limit : ℕ) (first jobs : List Entry) (told : List Answer) (kept more : List Entry) (behind : List Answer) → AreDone limit first jobs told kept
-    → accepted (jobs ++ more) (told ++ behind) ≡ accepted jobs told ++ accepted more behind
+accepted_append : (limit : ℕ) (first entries : List Entry) (answers : List Answer) (kept more : List Entry) (behind : List Answer) → AreDone limit first entries answers kept
+    → accepted (entries ++ more) (answers ++ behind) ≡ accepted entries answers ++ accepted more behind
 accepted_append limit first [] [] kept more behind are = refl
-accepted_append limit first [] (a ∷ told) kept more behind are = absurd are
-accepted_append limit first (j ∷ jobs) [] kept more behind are = absurd are
-accepted_append limit first (j ∷ jobs) (a ∷ told) kept more behind are = go (is_refused a) (accepted_append limit are.0 jobs told kept more behind are.2)
+accepted_append limit first [] (a ∷ answers) kept more behind are = absurd are
+accepted_append limit first (e ∷ entries) [] kept more behind are = absurd are
+accepted_append limit first (e ∷ entries) (a ∷ answers) kept more behind are = go (is_refused a) (accepted_append limit are.0 entries answers kept more behind are.2)
   where
-    go : (b : Bool) → accepted (jobs ++ more) (told ++ behind) ≡ accepted jobs told ++ accepted more behind
-        → cond b (accepted (jobs ++ more) (told ++ behind)) (j ∷ accepted (jobs ++ more) (told ++ behind))
-        ≡ cond b (accepted jobs told) (j ∷ accepted jobs told) ++ accepted more behind
+    go : (b : Bool) → accepted (entries ++ more) (answers ++ behind) ≡ accepted entries answers ++ accepted more behind
+        → cond b (accepted (entries ++ more) (answers ++ behind)) (e ∷ accepted (entries ++ more) (answers ++ behind))
+        ≡ cond b (accepted entries answers) (e ∷ accepted entries answers) ++ accepted more behind
     go true same = same
-    go false same = ap (λ l. j ∷ l) same
+    go false same = ap (λ l. e ∷ l) same
 
-without_all : (limit : ℕ) (kept jobs : List Entry) (told : List Answer) (kept' : List Entry) → ArePlain jobs → AreDone limit kept jobs told kept'
-    → without_sweeps kept' ≡ without_sweeps kept ++ accepted jobs told
+without_all : (limit : ℕ) (kept entries : List Entry) (answers : List Answer) (kept' : List Entry) → ArePlain entries → AreDone limit kept entries answers kept'
+    → without_sweeps kept' ≡ without_sweeps kept ++ accepted entries answers
 without_all limit kept [] [] kept' plain are = ap without_sweeps are ∙ sym (append-nil (without_sweeps kept))
-without_all limit kept [] (a ∷ told) kept' plain are = absurd are
-without_all limit kept (j ∷ jobs) [] kept' plain are = absurd are
-without_all limit kept (j ∷ jobs) (a ∷ told) kept' plain are =
-    let one = without_done limit kept j a are.0 plain.0 are.1 in
-    let rest = without_all limit are.0 jobs told kept' plain.1 are.2 in
-    rest ∙ (ap (λ l. l ++ accepted jobs told) one ∙ (append_assoc (without_sweeps kept) (accepted (j ∷ []) (a ∷ [])) (accepted jobs told) ∙ ap (λ l. without_sweeps kept ++ l) (go (is_refused a))))
+without_all limit kept [] (a ∷ answers) kept' plain are = absurd are
+without_all limit kept (e ∷ entries) [] kept' plain are = absurd are
+without_all limit kept (e ∷ entries) (a ∷ answers) kept' plain are =
+    let one = without_done limit kept e a are.0 plain.0 are.1 in
+    let rest = without_all limit are.0 entries answers kept' plain.1 are.2 in
+    rest ∙ (ap (λ l. l ++ accepted entries answers) one ∙ (append_assoc (without_sweeps kept) (accepted (e ∷ []) (a ∷ [])) (accepted entries answers) ∙ ap (λ l. without_sweeps kept ++ l) (go (is_refused a))))
   where
-    go : (b : Bool) → cond b [] (j ∷ []) ++ accepted jobs told ≡ cond b (accepted jobs told) (j ∷ accepted jobs told)
+    go : (b : Bool) → cond b [] (e ∷ []) ++ accepted entries answers ≡ cond b (accepted entries answers) (e ∷ accepted entries answers)
     go true = refl
     go false = refl
 
--- the jobs of one job more
-pub written_all : (limit : ℕ) (jobs jobs' kept more : List Entry) (told : List Answer) (kept' : List Entry) → jobs' ≡ jobs ++ more → ArePlain more
-    → IsWritten limit jobs kept → AreDone limit kept more told kept' → IsWritten limit jobs' kept'
-written_all limit jobs jobs' kept more told kept' all plain w are =
+-- the entries of one job more
+pub written_all : (limit : ℕ) (entries entries' kept more : List Entry) (answers : List Answer) (kept' : List Entry) → entries' ≡ entries ++ more → ArePlain more
+    → IsWritten limit entries kept → AreDone limit kept more answers kept' → IsWritten limit entries' kept'
+written_all limit entries entries' kept more answers kept' all plain w are =
     let P : List Entry → Type 0 = λ l. IsWritten limit l kept' in
     subst P (sym all) (
     record {
-      told = w.told ++ told;
-      done = done_append limit [] jobs w.told kept more told kept' w.done are;
-      changes = without_all limit kept more told kept' plain are
-          ∙ (ap (λ l. l ++ accepted more told) w.changes ∙ sym (accepted_append limit [] jobs w.told kept more told w.done));
+      answers = w.answers ++ answers;
+      done = done_append limit [] entries w.answers kept more answers kept' w.done are;
+      changes = without_all limit kept more answers kept' plain are
+          ∙ (ap (λ l. l ++ accepted more answers) w.changes ∙ sym (accepted_append limit [] entries w.answers kept more answers w.done));
     }
     )
 
-pub written_same : (limit : ℕ) (jobs jobs' kept kept' : List Entry) → jobs' ≡ jobs → kept' ≡ kept → IsWritten limit jobs kept → IsWritten limit jobs' kept'
-written_same limit jobs jobs' kept kept' same alike w =
+pub written_same : (limit : ℕ) (entries entries' kept kept' : List Entry) → entries' ≡ entries → kept' ≡ kept → IsWritten limit entries kept → IsWritten limit entries' kept'
+written_same limit entries entries' kept kept' same alike w =
     let P : List Entry → Type 0 = λ l. IsWritten limit l kept' in
-    let Q : List Entry → Type 0 = λ l. IsWritten limit jobs l in
+    let Q : List Entry → Type 0 = λ l. IsWritten limit entries l in
     subst P (sym same) (subst Q (sym alike) w)
 
 -- ---- what follows for the kept list
 
--- the jobs are served, and what is kept of them and what is refused are all
+-- the entries are served, and what is kept of them and what is refused are all
 abbrev pub AreServed : ℕ → List Entry → ℕ → List Entry → ℕ → Type 0
-AreServed limit jobs refused kept all = Serves limit jobs kept × (length (without_sweeps kept) + refused ≡ all)
+AreServed limit entries refused kept all = Serves limit entries kept × (length (without_sweeps kept) + refused ≡ all)
 
-one_served : (limit : ℕ) (jobs kept : List Entry) (job : Entry) (answer : Answer) (kept' : List Entry) → Serves limit jobs kept → is_sweep job.operation ≡ false → IsDone limit kept job answer kept'
-    → AreServed limit (jobs ++ job ∷ []) (refused_in (answer ∷ [])) kept' (length (without_sweeps kept) + 1)
-one_served limit jobs kept job answer kept' s plain is = go (is_refused answer) refl
+one_served : (limit : ℕ) (entries kept : List Entry) (entry : Entry) (answer : Answer) (kept' : List Entry) → Serves limit entries kept → is_sweep entry.operation ≡ false → IsDone limit kept entry answer kept'
+    → AreServed limit (entries ++ entry ∷ []) (refused_in (answer ∷ [])) kept' (length (without_sweeps kept) + 1)
+one_served limit entries kept entry answer kept' s plain is = go (is_refused answer) refl
   where
-    go : (b : Bool) → is_refused answer ≡ b → AreServed limit (jobs ++ job ∷ []) (length (cond b (answer ∷ []) [])) kept' (length (without_sweeps kept) + 1)
-    go false stays = let o = serves_job limit jobs kept kept' job s plain (adds_if_done limit kept job answer kept' is stays) in (o.0, (let n = o.1 in omega (arith, n)))
-    go true goes = let o = serves_refused limit jobs kept kept' job s (swept_if_done limit kept job answer kept' is goes) in (o.0, (let n = o.1 in omega (arith, n)))
+    go : (b : Bool) → is_refused answer ≡ b → AreServed limit (entries ++ entry ∷ []) (length (cond b (answer ∷ []) [])) kept' (length (without_sweeps kept) + 1)
+    go false stays = let o = serves_job limit entries kept kept' entry s plain (adds_if_done limit kept entry answer kept' is stays) in (o.0, (let n = o.1 in omega (arith, n)))
+    go true goes = let o = serves_refused limit entries kept kept' entry s (swept_if_done limit kept entry answer kept' is goes) in (o.0, (let n = o.1 in omega (arith, n)))
 
-refused_more : (answer : Answer) (told : List Answer) → refused_in (answer ∷ told) ≡ refused_in (answer ∷ []) + refused_in told
-refused_more answer told = go (is_refused answer)
+refused_more : (answer : Answer) (answers : List Answer) → refused_in (answer ∷ answers) ≡ refused_in (answer ∷ []) + refused_in answers
+refused_more answer answers = go (is_refused answer)
   where
-    go : (b : Bool) → length (cond b (answer ∷ filter is_refused told) (filter is_refused told)) ≡ length (cond b (answer ∷ []) []) + refused_in told
+    go : (b : Bool) → length (cond b (answer ∷ filter is_refused answers) (filter is_refused answers)) ≡ length (cond b (answer ∷ []) []) + refused_in answers
     go true = omega arith
     go false = omega arith
 
-pub all_plain : (jobs : List Entry) → ArePlain jobs → All (λ e. is_sweep e.operation ≡ false) jobs
+pub all_plain : (entries : List Entry) → ArePlain entries → All (λ e. is_sweep e.operation ≡ false) entries
 all_plain [] plain k d lt = absurd (omega (arith, lt))
-all_plain (job ∷ jobs) plain zero d lt = plain.0
-all_plain (job ∷ jobs) plain (suc k) d lt = all_plain jobs plain.1 k d (omega (arith, lt))
+all_plain (entry ∷ entries) plain zero d lt = plain.0
+all_plain (entry ∷ entries) plain (suc k) d lt = all_plain entries plain.1 k d (omega (arith, lt))
 
-pub all_served : (limit : ℕ) (before jobs : List Entry) (told : List Answer) (kept kept' : List Entry) → Serves limit before kept → All (λ e. is_sweep e.operation ≡ false) jobs → AreDone limit kept jobs told kept'
-    → AreServed limit (before ++ jobs) (refused_in told) kept' (length (without_sweeps kept) + length jobs)
+pub all_served : (limit : ℕ) (before entries : List Entry) (answers : List Answer) (kept kept' : List Entry) → Serves limit before kept → All (λ e. is_sweep e.operation ≡ false) entries → AreDone limit kept entries answers kept'
+    → AreServed limit (before ++ entries) (refused_in answers) kept' (length (without_sweeps kept) + length entries)
 all_served limit before [] [] kept kept' s plain are =
     let P : List Entry → Type 0 = λ l. AreServed limit l 0 kept' (length (without_sweeps kept) + 0) in
     let Q : List Entry → Type 0 = λ l. AreServed limit before 0 l (length (without_sweeps kept) + 0) in
     subst P (sym (append-nil before)) (subst Q (sym are) (s, refl))
-all_served limit before [] (answer ∷ told) kept kept' s plain are = absurd are
-all_served limit before (job ∷ jobs) [] kept kept' s plain are = absurd are
-all_served limit before (job ∷ jobs) (answer ∷ told) kept kept' s plain are =
+all_served limit before [] (answer ∷ answers) kept kept' s plain are = absurd are
+all_served limit before (entry ∷ entries) [] kept kept' s plain are = absurd are
+all_served limit before (entry ∷ entries) (answer ∷ answers) kept kept' s plain are =
     let next = are.0 in
-    let one = one_served limit before kept job answer next s (plain 0 job (omega arith)) are.1 in
-    let rest = all_served limit (before ++ job ∷ []) jobs told next kept' one.0 (λ k d lt. plain (suc k) d (omega (arith, lt))) are.2 in
+    let one = one_served limit before kept entry answer next s (plain 0 entry (omega arith)) are.1 in
+    let rest = all_served limit (before ++ entry ∷ []) entries answers next kept' one.0 (λ k d lt. plain (suc k) d (omega (arith, lt))) are.2 in
     let P : List Entry → Type 0 = λ l. Serves limit l kept' in (
-      subst P (append_assoc before (job ∷ []) jobs) rest.0,
-      (let n = one.1 in let m = rest.1 in let r = refused_more answer told in omega (arith, n, m, r)),
+      subst P (append_assoc before (entry ∷ []) entries) rest.0,
+      (let n = one.1 in let m = rest.1 in let r = refused_more answer answers in omega (arith, n, m, r)),
     )
 
-pub kept_as_answered : (limit : ℕ) (jobs kept : List Entry) (told : List Answer) → All (λ e. is_sweep e.operation ≡ false) jobs → AreDone limit [] jobs told kept
-    → IsPart (without_sweeps kept) jobs × (length (without_sweeps kept) + refused_in told ≡ length jobs) × AreForJobs limit jobs kept
-kept_as_answered limit jobs kept told plain are =
-    let all = all_served limit [] jobs told [] kept (serves_start limit [] [] refl refl) plain are in
-    (all.0.part, all.1 ∙ zero-add (length jobs), all.0.sweeps)
+pub kept_as_answered : (limit : ℕ) (entries kept : List Entry) (answers : List Answer) → All (λ e. is_sweep e.operation ≡ false) entries → AreDone limit [] entries answers kept
+    → IsPart (without_sweeps kept) entries × (length (without_sweeps kept) + refused_in answers ≡ length entries) × AreForEntries limit entries kept
+kept_as_answered limit entries kept answers plain are =
+    let all = all_served limit [] entries answers [] kept (serves_start limit [] [] refl refl) plain are in
+    (all.0.part, all.1 ∙ zero-add (length entries), all.0.sweeps)
 
 -- ---- the changes of one job
 
 -- whether one of them is held
 abbrev pub has_held : List Answer → Bool
 has_held [] = false
-has_held (answer ∷ told) = is_held answer || has_held told
+has_held (answer ∷ answers) = is_held answer || has_held answers
 
-answered_snoc : (limit : ℕ) (first : Written) (jobs : List Entry) (told : List Answer) (w : Written) (job : Entry) (answer : Answer) (w' : Written)
-    → AreAnswered limit first jobs told w → IsAnswered limit w job answer w' → AreAnswered limit first (jobs ++ job ∷ []) (told ++ answer ∷ []) w'
-answered_snoc limit first [] [] w job answer w' are is = let P : Written → Type 0 = λ v. IsAnswered limit v job answer w' in (w', subst P are is, refl)
-answered_snoc limit first [] (a ∷ told) w job answer w' are is = absurd are
-answered_snoc limit first (j ∷ jobs) [] w job answer w' are is = absurd are
-answered_snoc limit first (j ∷ jobs) (a ∷ told) w job answer w' are is = (are.0, are.1, answered_snoc limit are.0 jobs told w job answer w' are.2 is)
+answered_snoc : (limit : ℕ) (first : Written) (entries : List Entry) (answers : List Answer) (w : Written) (entry : Entry) (answer : Answer) (w' : Written)
+    → AreAnswered limit first entries answers w → IsAnswered limit w entry answer w' → AreAnswered limit first (entries ++ entry ∷ []) (answers ++ answer ∷ []) w'
+answered_snoc limit first [] [] w entry answer w' are is = let P : Written → Type 0 = λ v. IsAnswered limit v entry answer w' in (w', subst P are is, refl)
+answered_snoc limit first [] (a ∷ answers) w entry answer w' are is = absurd are
+answered_snoc limit first (e ∷ entries) [] w entry answer w' are is = absurd are
+answered_snoc limit first (e ∷ entries) (a ∷ answers) w entry answer w' are is = (are.0, are.1, answered_snoc limit are.0 entries answers w entry answer w' are.2 is)
 
-replies_snoc : (limit : ℕ) (first jobs : List Entry) (told : List Answer) (kept : List Entry) (job : Entry) (answer : Answer) → AreDone limit first jobs told kept
-    → replies_to (jobs ++ job ∷ []) (told ++ answer ∷ []) ≡ replies_to jobs told ++ record { origin = job.origin; answer = answer } ∷ []
-replies_snoc limit first [] [] kept job answer are = refl
-replies_snoc limit first [] (a ∷ told) kept job answer are = absurd are
-replies_snoc limit first (j ∷ jobs) [] kept job answer are = absurd are
-replies_snoc limit first (j ∷ jobs) (a ∷ told) kept job answer are = ap (λ l. record { origin = j.origin; answer = a } ∷ l) (replies_snoc limit are.0 jobs told kept job answer are.2)
+replies_snoc : (limit : ℕ) (first entries : List Entry) (answers : List Answer) (kept : List Entry) (entry : Entry) (answer : Answer) → AreDone limit first entries answers kept
+    → replies_to (entries ++ entry ∷ []) (answers ++ answer ∷ []) ≡ replies_to entries answers ++ record { origin = entry.origin; answer = answer } ∷ []
+replies_snoc limit first [] [] kept entry answer are = refl
+replies_snoc limit first [] (a ∷ answers) kept entry answer are = absurd are
+replies_snoc limit first (e ∷ entries) [] kept entry answer are = absurd are
+replies_snoc limit first (e ∷ entries) (a ∷ answers) kept entry answer are = ap (λ l. record { origin = e.origin; answer = a } ∷ l) (replies_snoc limit are.0 entries answers kept entry answer are.2)
 
 or_left : (a b : Bool) → a ≡ true → (a || b) ≡ true
 or_left true b is = refl
@@ -228,23 +228,23 @@ or_false : (a : Bool) → (a || false) ≡ a
 or_false true = refl
 or_false false = refl
 
-has_held_snoc : (told : List Answer) (answer : Answer) → has_held (told ++ answer ∷ []) ≡ (has_held told || is_held answer)
+has_held_snoc : (answers : List Answer) (answer : Answer) → has_held (answers ++ answer ∷ []) ≡ (has_held answers || is_held answer)
 has_held_snoc [] answer = or_false (is_held answer)
-has_held_snoc (a ∷ told) answer = ap (λ b. is_held a || b) (has_held_snoc told answer) ∙ or_assoc (is_held a) (has_held told) (is_held answer)
+has_held_snoc (a ∷ answers) answer = ap (λ b. is_held a || b) (has_held_snoc answers answer) ∙ or_assoc (is_held a) (has_held answers) (is_held answer)
 
 all_snoc : {A : Type 0} (P : A → Type 0) (xs : List A) (x : A) → AllByRecursion P xs → P x → AllByRecursion P (xs ++ x ∷ [])
 all_snoc P [] x all here = (here, tt)
 all_snoc P (y ∷ xs) x all here = (all.0, all_snoc P xs x all.1 here)
 
-behind_snoc : (told : List Answer) (answer : Answer) → AreRefusedBehind told → (has_held told ≡ true → answer ≡ Err NoMemory) → AreRefusedBehind (told ++ answer ∷ [])
+behind_snoc : (answers : List Answer) (answer : Answer) → AreRefusedBehind answers → (has_held answers ≡ true → answer ≡ Err NoMemory) → AreRefusedBehind (answers ++ answer ∷ [])
 behind_snoc [] answer are here = ((λ is. tt), tt)
-behind_snoc (a ∷ told) answer are here = (
-  (λ is. all_snoc (λ (b : Answer). b ≡ Err NoMemory) told answer (are.0 is) (here (or_left (is_held a) (has_held told) is))),
-  behind_snoc told answer are.1 (λ is. here (or_right (is_held a) (has_held told) is)),
+behind_snoc (a ∷ answers) answer are here = (
+  (λ is. all_snoc (λ (b : Answer). b ≡ Err NoMemory) answers answer (are.0 is) (here (or_left (is_held a) (has_held answers) is))),
+  behind_snoc answers answer are.1 (λ is. here (or_right (is_held a) (has_held answers) is)),
 )
 
-refused_snoc : (told : List Answer) (answer : Answer) → refused_in (told ++ answer ∷ []) ≡ refused_in told + refused_in (answer ∷ [])
-refused_snoc told answer = ap length (filter-append is_refused told (answer ∷ [])) ∙ length-append (filter is_refused told) (filter is_refused (answer ∷ []))
+refused_snoc : (answers : List Answer) (answer : Answer) → refused_in (answers ++ answer ∷ []) ≡ refused_in answers + refused_in (answer ∷ [])
+refused_snoc answers answer = ap length (filter-append is_refused answers (answer ∷ [])) ∙ length-append (filter is_refused answers) (filter is_refused (answer ∷ []))
 
 pub refused_one : (answer : Answer) → refused_in (answer ∷ []) ≤ 1
 refused_one answer = go (is_refused answer)
@@ -254,38 +254,38 @@ refused_one answer = go (is_refused answer)
     go false = omega arith
 
 -- the replies to the first of the changes, and whether one of these is held
-pub record AreBegun (limit : ℕ) (w : Written) (jobs : List Entry) (replies : List ReplyValue) (refused : ℕ) (holds : Bool) (w' : Written) : Type 0 where
-  pub replied : AreReplied limit w jobs replies refused w'
-  pub holds_is : holds ≡ has_held replied.told
+pub record AreBegun (limit : ℕ) (w : Written) (entries : List Entry) (replies : List ReplyValue) (refused : ℕ) (holds : Bool) (w' : Written) : Type 0 where
+  pub replied : AreReplied limit w entries replies refused w'
+  pub holds_is : holds ≡ has_held replied.answers
 
 pub begun_none : (limit : ℕ) (w : Written) (replies : List ReplyValue) → replies ≡ [] → AreBegun limit w [] replies 0 false w
-begun_none limit w replies none = record { replied = record { told = []; done = refl; answered = refl; behind = tt; replies_are = none; refused_are = refl }; holds_is = refl }
+begun_none limit w replies none = record { replied = record { answers = []; done = refl; answered = refl; behind = tt; replies_are = none; refused_are = refl }; holds_is = refl }
 
-pub begun_more : (limit : ℕ) (w : Written) (jobs : List Entry) (replies replies' : List ReplyValue) (refused count : ℕ) (holds holds' : Bool) (w' : Written) (job : Entry) (reply : ReplyValue) (w'' : Written)
-    → AreBegun limit w jobs replies refused holds w' → IsDone limit (kept_of w') job reply.answer (kept_of w'') → reply.origin ≡ job.origin → IsAnswered limit w' job reply.answer w''
+pub begun_more : (limit : ℕ) (w : Written) (entries : List Entry) (replies replies' : List ReplyValue) (refused count : ℕ) (holds holds' : Bool) (w' : Written) (entry : Entry) (reply : ReplyValue) (w'' : Written)
+    → AreBegun limit w entries replies refused holds w' → IsDone limit (kept_of w') entry reply.answer (kept_of w'') → reply.origin ≡ entry.origin → IsAnswered limit w' entry reply.answer w''
     → (holds ≡ true → reply.answer ≡ Err NoMemory) → holds' ≡ (holds || is_held reply.answer) → count ≡ refused_in (reply.answer ∷ []) → replies' ≡ replies ++ reply ∷ []
-    → AreBegun limit w (jobs ++ job ∷ []) replies' (refused + count) holds' w''
-begun_more limit w jobs replies replies' refused count holds holds' w' job reply w'' b done origin answered behind held number more =
+    → AreBegun limit w (entries ++ entry ∷ []) replies' (refused + count) holds' w''
+begun_more limit w entries replies replies' refused count holds holds' w' entry reply w'' b done origin answered behind held number more =
     let r = b.replied in
     let answer = reply.answer in
-    let same : reply ≡ record { origin = job.origin; answer = answer } = ap (λ o. record { origin = o; answer = answer }) origin in
+    let same : reply ≡ record { origin = entry.origin; answer = answer } = ap (λ o. record { origin = o; answer = answer }) origin in
     record {
       replied = record {
-        told = r.told ++ answer ∷ [];
-        done = done_more limit (kept_of w) jobs r.told (kept_of w') job answer (kept_of w'') r.done done;
-        answered = answered_snoc limit w jobs r.told w' job answer w'' r.answered answered;
-        behind = behind_snoc r.told answer r.behind (λ is. behind (b.holds_is ∙ is));
-        replies_are = more ∙ (ap (λ l. l ++ reply ∷ []) r.replies_are ∙ (ap (λ (x : ReplyValue). replies_to jobs r.told ++ x ∷ []) same ∙ sym (replies_snoc limit (kept_of w) jobs r.told (kept_of w') job answer r.done)));
-        refused_are = ap (λ n. n + count) r.refused_are ∙ (ap (λ n. refused_in r.told + n) number ∙ sym (refused_snoc r.told answer));
+        answers = r.answers ++ answer ∷ [];
+        done = done_more limit (kept_of w) entries r.answers (kept_of w') entry answer (kept_of w'') r.done done;
+        answered = answered_snoc limit w entries r.answers w' entry answer w'' r.answered answered;
+        behind = behind_snoc r.answers answer r.behind (λ is. behind (b.holds_is ∙ is));
+        replies_are = more ∙ (ap (λ l. l ++ reply ∷ []) r.replies_are ∙ (ap (λ (x : ReplyValue). replies_to entries r.answers ++ x ∷ []) same ∙ sym (replies_snoc limit (kept_of w) entries r.answers (kept_of w') entry answer r.done)));
+        refused_are = ap (λ n. n + count) r.refused_are ∙ (ap (λ n. refused_in r.answers + n) number ∙ sym (refused_snoc r.answers answer));
       };
-      holds_is = held ∙ (ap (λ h. h || is_held answer) b.holds_is ∙ sym (has_held_snoc r.told answer));
+      holds_is = held ∙ (ap (λ h. h || is_held answer) b.holds_is ∙ sym (has_held_snoc r.answers answer));
     }
 
 -- the changes that are left rise behind what is kept
 pub record AreLeft (limit : ℕ) (kept rest : List Entry) : Type 0 where
-  pub jobs : List Entry
-  pub serves : Serves limit jobs kept
-  pub rise : SerialsRise (jobs ++ rest)
+  pub entries : List Entry
+  pub serves : Serves limit entries kept
+  pub rise : SerialsRise (entries ++ rest)
   pub plain : ArePlain rest
   pub above : AllByRecursion (λ (e : Entry). 0 < e.origin.place) rest
 
@@ -293,31 +293,31 @@ above_all : (place : ℕ) (es : List Entry) → 0 < place → AreOf place es →
 above_all place [] some of = tt
 above_all place (e ∷ es) some of = ((let same = of.0 in omega (arith, some, same)), above_all place es some of.1)
 
-pub left_all : (limit : ℕ) (kept jobs changes : List Entry) → Serves limit jobs kept → SerialsRise (jobs ++ changes) → AreChanges changes → AreLeft limit kept changes
-left_all limit kept jobs changes serves rise are =
-    record { jobs = jobs; serves = serves; rise = rise; plain = are.plain; above = above_all (place_of_all changes) changes are.above are.place }
+pub left_all : (limit : ℕ) (kept entries changes : List Entry) → Serves limit entries kept → SerialsRise (entries ++ changes) → AreChanges changes → AreLeft limit kept changes
+left_all limit kept entries changes serves rise are =
+    record { entries = entries; serves = serves; rise = rise; plain = are.plain; above = above_all (place_of_all changes) changes are.above are.place }
 
-left_first : (limit : ℕ) (kept rest left : List Entry) (job : Entry) → rest ≡ job ∷ left → AreLeft limit kept rest → AreLeft limit kept (job ∷ left)
-left_first limit kept rest left job first l = let P : List Entry → Type 0 = λ r. AreLeft limit kept r in subst P first l
+left_first : (limit : ℕ) (kept rest left : List Entry) (entry : Entry) → rest ≡ entry ∷ left → AreLeft limit kept rest → AreLeft limit kept (entry ∷ left)
+left_first limit kept rest left entry first l = let P : List Entry → Type 0 = λ r. AreLeft limit kept r in subst P first l
 
-pub left_plain : (limit : ℕ) (kept rest left : List Entry) (job : Entry) → rest ≡ job ∷ left → AreLeft limit kept rest → is_sweep job.operation ≡ false
-left_plain limit kept rest left job first l = (left_first limit kept rest left job first l).plain.0
+pub left_plain : (limit : ℕ) (kept rest left : List Entry) (entry : Entry) → rest ≡ entry ∷ left → AreLeft limit kept rest → is_sweep entry.operation ≡ false
+left_plain limit kept rest left entry first l = (left_first limit kept rest left entry first l).plain.0
 
-pub left_rises : (limit : ℕ) (kept rest left : List Entry) (job : Entry) → rest ≡ job ∷ left → 0 < job.origin.serial → AreLeft limit kept rest → SerialsRise (extended kept job)
-left_rises limit kept rest left job first serial l =
-    let f = left_first limit kept rest left job first l in
+pub left_rises : (limit : ℕ) (kept rest left : List Entry) (entry : Entry) → rest ≡ entry ∷ left → 0 < entry.origin.serial → AreLeft limit kept rest → SerialsRise (extended kept entry)
+left_rises limit kept rest left entry first serial l =
+    let f = left_first limit kept rest left entry first l in
     let P : List Entry → Type 0 = λ r. SerialsRise r in
-    let all : SerialsRise ((f.jobs ++ job ∷ []) ++ left) = subst P (sym (append_assoc f.jobs (job ∷ []) left)) f.rise in
-    job_rises limit f.jobs kept job f.serves f.above.0 serial (part_rises (f.jobs ++ job ∷ []) ((f.jobs ++ job ∷ []) ++ left) (part_front (f.jobs ++ job ∷ []) left) all)
+    let all : SerialsRise ((f.entries ++ entry ∷ []) ++ left) = subst P (sym (append_assoc f.entries (entry ∷ []) left)) f.rise in
+    job_rises limit f.entries kept entry f.serves f.above.0 serial (part_rises (f.entries ++ entry ∷ []) ((f.entries ++ entry ∷ []) ++ left) (part_front (f.entries ++ entry ∷ []) left) all)
 
-pub left_less : (limit : ℕ) (kept rest left : List Entry) (job : Entry) (answer : Answer) (kept' : List Entry) → rest ≡ job ∷ left → IsDone limit kept job answer kept' → AreLeft limit kept rest → AreLeft limit kept' left
-left_less limit kept rest left job answer kept' first is l =
-    let f = left_first limit kept rest left job first l in
+pub left_less : (limit : ℕ) (kept rest left : List Entry) (entry : Entry) (answer : Answer) (kept' : List Entry) → rest ≡ entry ∷ left → IsDone limit kept entry answer kept' → AreLeft limit kept rest → AreLeft limit kept' left
+left_less limit kept rest left entry answer kept' first is l =
+    let f = left_first limit kept rest left entry first l in
     let P : List Entry → Type 0 = λ r. SerialsRise r in
     record {
-      jobs = f.jobs ++ job ∷ [];
-      serves = (one_served limit f.jobs kept job answer kept' f.serves f.plain.0 is).0;
-      rise = subst P (sym (append_assoc f.jobs (job ∷ []) left)) f.rise;
+      entries = f.entries ++ entry ∷ [];
+      serves = (one_served limit f.entries kept entry answer kept' f.serves f.plain.0 is).0;
+      rise = subst P (sym (append_assoc f.entries (entry ∷ []) left)) f.rise;
       plain = f.plain.1;
       above = f.above.1;
     }
@@ -325,36 +325,36 @@ left_less limit kept rest left job answer kept' first is l =
 -- the answers where nothing is put
 abbrev all_refused : List Entry → List Answer
 all_refused [] = []
-all_refused (job ∷ jobs) = Err NoMemory ∷ all_refused jobs
+all_refused (entry ∷ entries) = Err NoMemory ∷ all_refused entries
 
-refused_done : (limit : ℕ) (kept jobs : List Entry) → AreDone limit kept jobs (all_refused jobs) kept
+refused_done : (limit : ℕ) (kept entries : List Entry) → AreDone limit kept entries (all_refused entries) kept
 refused_done limit kept [] = refl
-refused_done limit kept (job ∷ jobs) = (kept, inl refl, refused_done limit kept jobs)
+refused_done limit kept (entry ∷ entries) = (kept, inl refl, refused_done limit kept entries)
 
-refused_answered : (limit : ℕ) (w : Written) (jobs : List Entry) → AreAnswered limit w jobs (all_refused jobs) w
+refused_answered : (limit : ℕ) (w : Written) (entries : List Entry) → AreAnswered limit w entries (all_refused entries) w
 refused_answered limit w [] = refl
-refused_answered limit w (job ∷ jobs) = (w, inr (refl, refl), refused_answered limit w jobs)
+refused_answered limit w (entry ∷ entries) = (w, inr (refl, refl), refused_answered limit w entries)
 
-refused_behind : (jobs : List Entry) → AreRefusedBehind (all_refused jobs)
+refused_behind : (entries : List Entry) → AreRefusedBehind (all_refused entries)
 refused_behind [] = tt
-refused_behind (job ∷ jobs) = ((λ is. absurd (cc (is))), refused_behind jobs)
+refused_behind (entry ∷ entries) = ((λ is. absurd (cc (is))), refused_behind entries)
 
-refused_replies : (jobs : List Entry) → map refused_reply jobs ≡ replies_to jobs (all_refused jobs)
+refused_replies : (entries : List Entry) → map refused_reply entries ≡ replies_to entries (all_refused entries)
 refused_replies [] = refl
-refused_replies (job ∷ jobs) = ap (λ l. refused_reply job ∷ l) (refused_replies jobs)
+refused_replies (entry ∷ entries) = ap (λ l. refused_reply entry ∷ l) (refused_replies entries)
 
-refused_count : (jobs : List Entry) → length jobs ≡ refused_in (all_refused jobs)
+refused_count : (entries : List Entry) → length entries ≡ refused_in (all_refused entries)
 refused_count [] = refl
-refused_count (job ∷ jobs) = ap suc (refused_count jobs)
+refused_count (entry ∷ entries) = ap suc (refused_count entries)
 
-pub replied_refusing : (limit : ℕ) (w : Written) (jobs : List Entry) (replies : List ReplyValue) (refused : ℕ) → replies ≡ map refused_reply jobs → refused ≡ length jobs → AreReplied limit w jobs replies refused w
-replied_refusing limit w jobs replies refused are number = record {
-  told = all_refused jobs;
-  done = refused_done limit (kept_of w) jobs;
-  answered = refused_answered limit w jobs;
-  behind = refused_behind jobs;
-  replies_are = are ∙ refused_replies jobs;
-  refused_are = number ∙ refused_count jobs;
+pub replied_refusing : (limit : ℕ) (w : Written) (entries : List Entry) (replies : List ReplyValue) (refused : ℕ) → replies ≡ map refused_reply entries → refused ≡ length entries → AreReplied limit w entries replies refused w
+replied_refusing limit w entries replies refused are number = record {
+  answers = all_refused entries;
+  done = refused_done limit (kept_of w) entries;
+  answered = refused_answered limit w entries;
+  behind = refused_behind entries;
+  replies_are = are ∙ refused_replies entries;
+  refused_are = number ∙ refused_count entries;
 }
 
 -- what the writer's loop knows of what it took, kept and refused
@@ -368,17 +368,17 @@ pub record AreTold (limit : ℕ) (entries kept : List Entry) (taken refused : �
 pub told_more : (limit : ℕ) (entries entries' changes : List Entry) (replies : List ReplyValue) (w w' : Written) (taken refused count : ℕ) → entries' ≡ entries ++ changes → ArePlain changes
     → AreTold limit entries (kept_of w) taken refused → AreReplied limit w changes replies count w' → AreTold limit entries' (kept_of w') (taken + length changes) (refused + count)
 told_more limit entries entries' changes replies w w' taken refused count more plain t r =
-    let all = all_served limit entries changes r.told (kept_of w) (kept_of w') t.serves (all_plain changes plain) r.done in
+    let all = all_served limit entries changes r.answers (kept_of w) (kept_of w') t.serves (all_plain changes plain) r.done in
     let P : List Entry → Type 0 = λ l. Serves limit l (kept_of w') in
     let n = length-append entries changes in
     let m = ap length more in
     let number = t.number in
     let sum = t.sum in
     let rest = all.1 in
-    let told = r.refused_are in
+    let refusals = r.refused_are in
     record {
       serves = subst P (sym more) all.0;
       number = omega (arith, n, m, number);
-      sum = omega (arith, sum, rest, told);
-      written = written_all limit entries entries' (kept_of w) changes r.told (kept_of w') more plain t.written r.done;
+      sum = omega (arith, sum, rest, refusals);
+      written = written_all limit entries entries' (kept_of w) changes r.answers (kept_of w') more plain t.written r.done;
     }

@@ -1,10 +1,12 @@
 -- Where as many jobs were taken as sent, the queue holds none.
-use Rattle.std.proofs.Common.{◌≡◌, ◌≢◌, ◌==◌, ℕ, zero, suc, ◌+◌, ◌<◌, ◌≤◌, ◌⊎◌, inl, inr, ⊎_elim, Bool, true, false, cond, List, [], ◌∷◌, ◌++◌, length, filter, All, refl, sym, ap, ◌∙◌, arith, length-append}
+use Rattle.std.proofs.Common.{◌≡◌, ◌≢◌, ◌==◌, ℕ, zero, suc, ◌+◌, ◌<◌, ◌≤◌, ◌⊎◌, inl, inr, ⊎_elim, Bool, true, false, cond, List, [], ◌∷◌, ◌++◌, length, filter, All, refl, sym, ap, subst, ◌∙◌, arith, length-append}
 use Rattle.std.proofs.lemmas.List.{append-nil}
+use Rattle.std.specs.List.{AllByRecursion}
 use Rattle.std.proofs.lemmas.Bool.Decides.{nat_tests}
 use Rattle.rs_message.specs.declared.entry.Entry.{Entry}
 use Rattle.rs_intake.specs.declared.job.Job.{Job}
-use Rattle.rs_intake.specs.QueueRule.{of_place, entries_of, IsOutside}
+use Rattle.rs_intake.specs.declared.job.Job.TheVariants.{Put, End}
+use Rattle.rs_intake.specs.QueueRule.{of_place, entries_in, entries_of, IsOutside, IsPlaced}
 use Rattle.rs_intake.specs.Lines.{Closed}
 use Rattle.rs_intake.specs.declared.rule.SentFrom.{SentFrom}
 use Rattle.std.proofs.lemmas.List.Elements.{All-append, All-weaker, filter-append}
@@ -96,7 +98,7 @@ pub zeros : (n : ℕ) → sum_to n (λ p. 0) ≡ 0
 zeros zero = refl
 zeros (suc n) = let h = zeros n in omega (arith, h)
 
--- where no other place has an entry, the places have them all
+-- where no place beyond them has an entry, the places have them all
 by_places : (n : ℕ) (xs : List Entry) → ((place : ℕ) → IsOutside n place → of_place place xs ≡ []) → length xs ≡ sum_to n (λ p. length (of_place p xs))
 by_places n [] outside = sym (zeros n)
 by_places n (x ∷ xs) outside =
@@ -183,15 +185,20 @@ in_order places taken (end ∷ ends) learned =
     let Q : Closed → Type 0 = λ e. IsPrefix (of_place e.place taken) e.sent in
     All-weaker P Q (λ e sent. (of_place e.place rest, sym (sent ∙ filter-append (λ (z : Entry). z.origin.place == e.place) taken rest))) (end ∷ ends) balanced.1
 
-none_in_front : {A : Type 0} (xs ys : List A) → xs ++ ys ≡ [] → xs ≡ []
-none_in_front [] ys none = refl
-none_in_front (x ∷ xs) ys none = absurd (cc (none))
+-- no entry of the places is of one beyond them
+none_beyond : (places place : ℕ) (es : List Entry) → AllByRecursion (λ (e : Entry). ¬ IsOutside places e.origin.place) es → IsOutside places place → of_place place es ≡ []
+none_beyond places place [] there out = refl
+none_beyond places place (e ∷ es) there out = go (e.origin.place == place) refl (none_beyond places place es there.1 out)
+  where
+    go : (b : Bool) → (e.origin.place == place) ≡ b → of_place place es ≡ [] → cond b (e ∷ of_place place es) (of_place place es) ≡ []
+    go true is rest = let same : e.origin.place ≡ place = grind (arith, nat_tests, is) in absurd (there.0 (subst (IsOutside places) (sym same) out))
+    go false is rest = rest
 
--- what was taken is of the places alone
-pub of_places : (places : ℕ) (taken : List Entry) (items : List Job) (ends : List Closed) → BalancesWith places taken items ends → AreOfPlaces places taken
-of_places places taken items ends balanced place outside =
-    let rest = entries_of items in
-    none_in_front (of_place place taken) (of_place place rest) (sym (filter-append (λ (z : Entry). z.origin.place == place) taken rest) ∙ balanced.0 place outside)
+-- a job of the places more
+pub placed_more : (places : ℕ) (entries : List Entry) (job : Job) → AreOfPlaces places entries → IsPlaced places job → AreOfPlaces places (entries ++ entries_in job)
+placed_more places entries (Put es) all there place out =
+    filter-append (λ (z : Entry). z.origin.place == place) entries es ∙ (ap (λ l. l ++ of_place place es) (all place out) ∙ none_beyond places place es there out)
+placed_more places entries (End p) all there place out = ap (of_place place) (append-nil entries) ∙ all place out
 
 -- some end is there
 pub some_ends : (places : ℕ) (ends : List Closed) → 0 < places → EachOnce places ends → 0 < length ends

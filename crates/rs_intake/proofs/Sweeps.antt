@@ -14,7 +14,7 @@ use Rattle.rs_store.proofs.Needed.{all_needed, needed_cleaned, needed_more, need
 use Rattle.rs_version.specs.Writer.{Refuses, Written, kept_of, released, shows}
 use Rattle.rs_version.specs.declared.fault.PutFault.TheVariants.{Held, NoMemory}
 use Rattle.rs_intake.specs.Parts.{IsPart}
-use Rattle.rs_intake.specs.Sweeps.{AreForJobs, IsSweptAtMost, Serves, without_sweeps}
+use Rattle.rs_intake.specs.Sweeps.{AreForEntries, IsSweptAtMost, Serves, without_sweeps}
 use Rattle.rs_intake.proofs.Parts.{part_both, part_rises, part_skip, rises_none}
 
 -- ---- without the Sweeps
@@ -50,109 +50,109 @@ same_serials place some (e ∷ es) a = at (is_sweep e.operation) refl (same_seri
         let other : (e.origin.place == place) ≡ false = grind (arith, nat_tests) in
         rw (is, other) more
 
--- ---- what is kept against the jobs that were taken
+-- ---- what is kept against the entries that were taken
 
-among_more : (jobs : List Entry) (job e : Entry) → Contains jobs e → Contains (jobs ++ job ∷ []) e
-among_more jobs job e there = Contains-append_left jobs (job ∷ []) e there
+among_more : (entries : List Entry) (entry e : Entry) → Contains entries e → Contains (entries ++ entry ∷ []) e
+among_more entries entry e there = Contains-append_left entries (entry ∷ []) e there
 
-sweeps_more : (limit : ℕ) (jobs kept : List Entry) (job : Entry) → AreForJobs limit jobs kept → AreForJobs limit (jobs ++ job ∷ []) kept
-sweeps_more limit jobs kept job a = record { needed = needed_weaker limit (Contains jobs) (Contains (jobs ++ job ∷ [])) kept (among_more jobs job) a.needed }
+sweeps_more : (limit : ℕ) (entries kept : List Entry) (entry : Entry) → AreForEntries limit entries kept → AreForEntries limit (entries ++ entry ∷ []) kept
+sweeps_more limit entries kept entry a = record { needed = needed_weaker limit (Contains entries) (Contains (entries ++ entry ∷ [])) kept (among_more entries entry) a.needed }
 
-sweeps_with_job : (limit : ℕ) (jobs kept : List Entry) (job : Entry) → is_sweep job.operation ≡ false → AreForJobs limit jobs kept → AreForJobs limit jobs (extended kept job)
-sweeps_with_job limit jobs kept job plain a = record { needed = needed_more limit (Contains jobs) kept job plain a.needed }
+sweeps_with_job : (limit : ℕ) (entries kept : List Entry) (entry : Entry) → is_sweep entry.operation ≡ false → AreForEntries limit entries kept → AreForEntries limit entries (extended kept entry)
+sweeps_with_job limit entries kept entry plain a = record { needed = needed_more limit (Contains entries) kept entry plain a.needed }
 
-last_job : (jobs : List Entry) (job : Entry) → Contains (jobs ++ job ∷ []) job
-last_job jobs job = Contains-append_right jobs (job ∷ []) job (0, omega arith, refl)
+last_job : (entries : List Entry) (entry : Entry) → Contains (entries ++ entry ∷ []) entry
+last_job entries entry = Contains-append_right entries (entry ∷ []) entry (0, omega arith, refl)
 
-sweeps_cleaned : (limit : ℕ) (jobs kept : List Entry) (job : Entry) → AreForJobs limit jobs kept → (s : NeedsSweepAfter limit kept job) → AreForJobs limit (jobs ++ job ∷ []) (cleaned s.message.received kept)
-sweeps_cleaned limit jobs kept job a s = record { needed = needed_cleaned limit (Contains (jobs ++ job ∷ [])) kept job (last_job jobs job) s (sweeps_more limit jobs kept job a).needed }
+sweeps_cleaned : (limit : ℕ) (entries kept : List Entry) (entry : Entry) → AreForEntries limit entries kept → (s : NeedsSweepAfter limit kept entry) → AreForEntries limit (entries ++ entry ∷ []) (cleaned s.message.received kept)
+sweeps_cleaned limit entries kept entry a s = record { needed = needed_cleaned limit (Contains (entries ++ entry ∷ [])) kept entry (last_job entries entry) s (sweeps_more limit entries kept entry a).needed }
 
--- a job whose serial rises among the jobs rises among what is kept
-pub job_rises : (limit : ℕ) (jobs kept : List Entry) (job : Entry) → Serves limit jobs kept → 0 < job.origin.place → 0 < job.origin.serial → SerialsRise (jobs ++ job ∷ []) → SerialsRise (extended kept job)
-job_rises limit jobs kept job s place serial rises =
-    let part : SerialsRise (without_sweeps kept ++ job ∷ []) = part_rises (without_sweeps kept ++ job ∷ []) (jobs ++ job ∷ []) (part_both (without_sweeps kept) jobs job s.part) rises in
-    let above : last_serial job.origin.place (without_sweeps kept) < job.origin.serial = last_is_above (without_sweeps kept) job serial part in
-    let zeros = all_needed limit (Contains jobs) (λ e. e.origin.place ≡ 0) (λ history moment. refl) [] kept s.sweeps.needed in
-    let same : last_serial job.origin.place (without_sweeps kept) ≡ last_serial job.origin.place kept = ap (fold max 0) (same_serials job.origin.place place kept zeros) in
-    serials_rise_more kept job s.rises (omega (arith, above, same))
+-- an entry whose serial rises among the entries rises among what is kept
+pub job_rises : (limit : ℕ) (entries kept : List Entry) (entry : Entry) → Serves limit entries kept → 0 < entry.origin.place → 0 < entry.origin.serial → SerialsRise (entries ++ entry ∷ []) → SerialsRise (extended kept entry)
+job_rises limit entries kept entry s place serial rises =
+    let part : SerialsRise (without_sweeps kept ++ entry ∷ []) = part_rises (without_sweeps kept ++ entry ∷ []) (entries ++ entry ∷ []) (part_both (without_sweeps kept) entries entry s.part) rises in
+    let above : last_serial entry.origin.place (without_sweeps kept) < entry.origin.serial = last_is_above (without_sweeps kept) entry serial part in
+    let zeros = all_needed limit (Contains entries) (λ e. e.origin.place ≡ 0) (λ history moment. refl) [] kept s.sweeps.needed in
+    let same : last_serial entry.origin.place (without_sweeps kept) ≡ last_serial entry.origin.place kept = ap (fold max 0) (same_serials entry.origin.place place kept zeros) in
+    serials_rise_more kept entry s.rises (omega (arith, above, same))
 
-pub are_for_same : (limit : ℕ) (jobs jobs' kept kept' : List Entry) → jobs' ≡ jobs → kept' ≡ kept → AreForJobs limit jobs kept → AreForJobs limit jobs' kept'
-are_for_same limit jobs jobs' kept kept' same alike a =
-    let P : List Entry → Type 0 = λ l. AreForJobs limit l kept' in
-    let Q : List Entry → Type 0 = λ l. AreForJobs limit jobs l in
+pub are_for_same : (limit : ℕ) (entries entries' kept kept' : List Entry) → entries' ≡ entries → kept' ≡ kept → AreForEntries limit entries kept → AreForEntries limit entries' kept'
+are_for_same limit entries entries' kept kept' same alike a =
+    let P : List Entry → Type 0 = λ l. AreForEntries limit l kept' in
+    let Q : List Entry → Type 0 = λ l. AreForEntries limit entries l in
     subst P (sym same) (subst Q (sym alike) a)
 
-pub part_same : (jobs jobs' kept kept' : List Entry) → jobs' ≡ jobs → kept' ≡ kept → IsPart (without_sweeps kept) jobs → IsPart (without_sweeps kept') jobs'
-part_same jobs jobs' kept kept' same alike is =
+pub part_same : (entries entries' kept kept' : List Entry) → entries' ≡ entries → kept' ≡ kept → IsPart (without_sweeps kept) entries → IsPart (without_sweeps kept') entries'
+part_same entries entries' kept kept' same alike is =
     let P : List Entry → Type 0 = λ l. IsPart (without_sweeps kept') l in
-    let Q : List Entry → Type 0 = λ l. IsPart (without_sweeps l) jobs in
+    let Q : List Entry → Type 0 = λ l. IsPart (without_sweeps l) entries in
     subst P (sym same) (subst Q (sym alike) is)
 
--- what the jobs serve, after one more
+-- what the entries serve, after one more
 abbrev pub OneMore : ℕ → List Entry → List Entry → List Entry → Type 0
-OneMore limit jobs kept kept' = Serves limit jobs kept' × (length (without_sweeps kept') ≡ length (without_sweeps kept) + 1)
+OneMore limit entries kept kept' = Serves limit entries kept' × (length (without_sweeps kept') ≡ length (without_sweeps kept) + 1)
 
-pub serves_job : (limit : ℕ) (jobs kept kept' : List Entry) (job : Entry) → Serves limit jobs kept → is_sweep job.operation ≡ false → Adds limit kept job (λ list. kept' ≡ list) → OneMore limit (jobs ++ job ∷ []) kept kept'
-serves_job limit jobs kept kept' job s plain (inl a) =
-    let without = without_more kept job plain in
-    let P : List Entry → Type 0 = λ l. OneMore limit (jobs ++ job ∷ []) kept l in
-    let Q : List Entry → Type 0 = λ l. IsPart l (jobs ++ job ∷ []) in
+pub serves_job : (limit : ℕ) (entries kept kept' : List Entry) (entry : Entry) → Serves limit entries kept → is_sweep entry.operation ≡ false → Adds limit kept entry (λ list. kept' ≡ list) → OneMore limit (entries ++ entry ∷ []) kept kept'
+serves_job limit entries kept kept' entry s plain (inl a) =
+    let without = without_more kept entry plain in
+    let P : List Entry → Type 0 = λ l. OneMore limit (entries ++ entry ∷ []) kept l in
+    let Q : List Entry → Type 0 = λ l. IsPart l (entries ++ entry ∷ []) in
     subst P (sym a.1) (
       record {
-        part = subst Q (sym without) (part_both (without_sweeps kept) jobs job s.part);
-        sweeps = sweeps_with_job limit (jobs ++ job ∷ []) kept job plain (sweeps_more limit jobs kept job s.sweeps);
+        part = subst Q (sym without) (part_both (without_sweeps kept) entries entry s.part);
+        sweeps = sweeps_with_job limit (entries ++ entry ∷ []) kept entry plain (sweeps_more limit entries kept entry s.sweeps);
         rises = a.0.rises;
       },
-      ap length without ∙ length-append (without_sweeps kept) (job ∷ []),
+      ap length without ∙ length-append (without_sweeps kept) (entry ∷ []),
     )
-serves_job limit jobs kept kept' job s plain (inr a) =
+serves_job limit entries kept kept' entry s plain (inr a) =
     let clean = cleaned a.0.message.received kept in
-    let without : without_sweeps (extended clean job) ≡ without_sweeps kept ++ job ∷ [] = without_more clean job plain ∙ ap (λ l. l ++ job ∷ []) (without_cleaned a.0.message.received kept) in
-    let P : List Entry → Type 0 = λ l. OneMore limit (jobs ++ job ∷ []) kept l in
-    let Q : List Entry → Type 0 = λ l. IsPart l (jobs ++ job ∷ []) in
+    let without : without_sweeps (extended clean entry) ≡ without_sweeps kept ++ entry ∷ [] = without_more clean entry plain ∙ ap (λ l. l ++ entry ∷ []) (without_cleaned a.0.message.received kept) in
+    let P : List Entry → Type 0 = λ l. OneMore limit (entries ++ entry ∷ []) kept l in
+    let Q : List Entry → Type 0 = λ l. IsPart l (entries ++ entry ∷ []) in
     subst P (sym a.1) (
       record {
-        part = subst Q (sym without) (part_both (without_sweeps kept) jobs job s.part);
-        sweeps = sweeps_with_job limit (jobs ++ job ∷ []) clean job plain (sweeps_cleaned limit jobs kept job s.sweeps a.0);
+        part = subst Q (sym without) (part_both (without_sweeps kept) entries entry s.part);
+        sweeps = sweeps_with_job limit (entries ++ entry ∷ []) clean entry plain (sweeps_cleaned limit entries kept entry s.sweeps a.0);
         rises = a.0.legal.rises;
       },
-      ap length without ∙ length-append (without_sweeps kept) (job ∷ []),
+      ap length without ∙ length-append (without_sweeps kept) (entry ∷ []),
     )
 
 -- and after one that is not kept
 abbrev pub NoMore : ℕ → List Entry → List Entry → List Entry → Type 0
-NoMore limit jobs kept kept' = Serves limit jobs kept' × (length (without_sweeps kept') ≡ length (without_sweeps kept))
+NoMore limit entries kept kept' = Serves limit entries kept' × (length (without_sweeps kept') ≡ length (without_sweeps kept))
 
-pub serves_refused : (limit : ℕ) (jobs kept kept' : List Entry) (job : Entry) → Serves limit jobs kept → IsSweptAtMost limit kept job kept' → NoMore limit (jobs ++ job ∷ []) kept kept'
-serves_refused limit jobs kept kept' job s (inl same) =
-    let P : List Entry → Type 0 = λ l. NoMore limit (jobs ++ job ∷ []) kept l in
+pub serves_refused : (limit : ℕ) (entries kept kept' : List Entry) (entry : Entry) → Serves limit entries kept → IsSweptAtMost limit kept entry kept' → NoMore limit (entries ++ entry ∷ []) kept kept'
+serves_refused limit entries kept kept' entry s (inl same) =
+    let P : List Entry → Type 0 = λ l. NoMore limit (entries ++ entry ∷ []) kept l in
     subst P (sym same) (
       record {
-        part = part_skip (without_sweeps kept) jobs job s.part;
-        sweeps = sweeps_more limit jobs kept job s.sweeps;
+        part = part_skip (without_sweeps kept) entries entry s.part;
+        sweeps = sweeps_more limit entries kept entry s.sweeps;
         rises = s.rises;
       },
       refl,
     )
-serves_refused limit jobs kept kept' job s (inr a) =
+serves_refused limit entries kept kept' entry s (inr a) =
     let m = a.0.message.received in
     let without = without_cleaned m kept in
-    let clean : IsLegal limit (cleaned m kept) = legal_front limit (cleaned m kept) (extended (cleaned m kept) job) (job ∷ [], refl) a.0.legal in
-    let P : List Entry → Type 0 = λ l. NoMore limit (jobs ++ job ∷ []) kept l in
-    let Q : List Entry → Type 0 = λ l. IsPart l (jobs ++ job ∷ []) in
+    let clean : IsLegal limit (cleaned m kept) = legal_front limit (cleaned m kept) (extended (cleaned m kept) entry) (entry ∷ [], refl) a.0.legal in
+    let P : List Entry → Type 0 = λ l. NoMore limit (entries ++ entry ∷ []) kept l in
+    let Q : List Entry → Type 0 = λ l. IsPart l (entries ++ entry ∷ []) in
     subst P (sym a.1) (
       record {
-        part = subst Q (sym without) (part_skip (without_sweeps kept) jobs job s.part);
-        sweeps = sweeps_cleaned limit jobs kept job s.sweeps a.0;
+        part = subst Q (sym without) (part_skip (without_sweeps kept) entries entry s.part);
+        sweeps = sweeps_cleaned limit entries kept entry s.sweeps a.0;
         rises = clean.rises;
       },
       ap length without,
     )
 
-pub serves_start : (limit : ℕ) (jobs kept : List Entry) → jobs ≡ [] → kept ≡ [] → Serves limit jobs kept
-serves_start limit jobs kept no_jobs none =
+pub serves_start : (limit : ℕ) (entries kept : List Entry) → entries ≡ [] → kept ≡ [] → Serves limit entries kept
+serves_start limit entries kept no_jobs none =
     let start : Serves limit [] [] = record { part = tt; sweeps = record { needed = needed_none limit (Contains []) }; rises = rises_none } in
-    let Q : List Entry → Type 0 = λ k. Serves limit jobs k in
+    let Q : List Entry → Type 0 = λ k. Serves limit entries k in
     let R : List Entry → Type 0 = λ j. Serves limit j [] in
     subst Q (sym none) (subst R (sym no_jobs) start)
 

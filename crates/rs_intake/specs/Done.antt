@@ -1,4 +1,4 @@
--- What was done with the jobs that the writer took, and what their lines were told. A line is told what is sent by its way back.
+-- What was done with the entries that the writer took, and what was answered to their lines: what is sent by their ways back.
 use Rattle.std.specs.Prelude.{ℕ, ◌≡◌, ◌-◌, ◌⊎◌, Bool, true, false, cond, List, [], ◌∷◌, ◌++◌, length, slice_set, slice_index_or, Result, Ok, Err}
 use Rattle.std.specs.List.{AllByRecursion, filter}
 use Rattle.rs_message.specs.declared.entry.Entry.{Entry}
@@ -12,7 +12,7 @@ use Rattle.rs_version.specs.declared.fault.PutFault.{PutFault}
 use Rattle.rs_version.specs.declared.fault.PutFault.TheVariants.{Full, Held, NoMemory, Stale}
 use Rattle.rs_intake.specs.Sweeps.{IsSweptAtMost, without_sweeps}
 
--- what a line is told of its job: a receipt, or why there is none
+-- the answer to an entry: a receipt, or why there is none
 abbrev pub Answer : Type 0
 Answer = Result ReceiptValue PutFault
 
@@ -21,46 +21,46 @@ pub record ReplyValue : Type 0 where
   pub origin : Origin
   pub answer : Answer
 
--- the receipt is for the job, as the last entry of this list, and its token is of the list
+-- the receipt is for this entry, as the last of this list, and its token is of the list
 abbrev pub IsReceiptFor : Entry → ReceiptValue → List Entry → Type 0
-IsReceiptFor job r kept = (r.entry ≡ job) × (r.number ≡ length kept) × (r.told ≡ kept)
+IsReceiptFor entry r kept = (r.entry ≡ entry) × (r.number ≡ length kept) × (r.told ≡ kept)
 
--- What a put of the job leaves, by its answer. A receipt: the job is published, behind the Sweep that it needs, and nothing is held. A
--- refusal: what it says of the published list and of the held entry
+-- What a put of the entry leaves, by its answer. A receipt: the entry is published, behind the Sweep that it needs, and nothing is held.
+-- A refusal: what it says of the published list and of the held entry
 abbrev pub IsPut : ℕ → Written → Entry → Answer → Written → Type 0
-IsPut limit w job (Ok r) w' = Adds limit (kept_of w) job (λ list. w' ≡ shows list) × IsReceiptFor job r w'.published
-IsPut limit w job (Err f) w' = Refuses limit w job f w'
+IsPut limit w entry (Ok r) w' = Adds limit (kept_of w) entry (λ list. w' ≡ shows list) × IsReceiptFor entry r w'.published
+IsPut limit w entry (Err f) w' = Refuses limit w entry f w'
 
--- What the answer to a job says of the kept list before the job and after it. A receipt, 33: the job follows, behind the Sweep that it
--- needs, if it needs one. 30: the job may not come, and the list is the same. 32: the list is the same, or has the Sweep that the job
--- needs. 31 never comes
+-- What the answer to an entry says of the kept list before the entry and after it. A receipt, 33: the entry follows, behind the Sweep that
+-- it needs, if it needs one. 30: the entry may not come, and the list is the same. 32: the list is the same, or has the Sweep that the
+-- entry needs. 31 never comes
 abbrev pub IsDone : ℕ → List Entry → Entry → Answer → List Entry → Type 0
-IsDone limit kept job (Ok r) kept' = Adds limit kept job (λ list. kept' ≡ list) × IsReceiptFor job r kept'
-IsDone limit kept job (Err Held) kept' = Adds limit kept job (λ list. kept' ≡ list)
-IsDone limit kept job (Err Full) kept' = MayNotCome limit kept job refusal.Full × (kept' ≡ kept)
-IsDone limit kept job (Err NoMemory) kept' = IsSweptAtMost limit kept job kept'
-IsDone limit kept job (Err Stale) kept' = ⊥
+IsDone limit kept entry (Ok r) kept' = Adds limit kept entry (λ list. kept' ≡ list) × IsReceiptFor entry r kept'
+IsDone limit kept entry (Err Held) kept' = Adds limit kept entry (λ list. kept' ≡ list)
+IsDone limit kept entry (Err Full) kept' = MayNotCome limit kept entry refusal.Full × (kept' ≡ kept)
+IsDone limit kept entry (Err NoMemory) kept' = IsSweptAtMost limit kept entry kept'
+IsDone limit kept entry (Err Stale) kept' = ⊥
 
--- one answer for each job, in their order: from the first list on, each answer says what the job made of the kept list, and the last
+-- one answer for each entry, in their order: from the first list on, each answer says what the entry made of the kept list, and the last
 -- list comes of it
 abbrev pub AreDone : ℕ → List Entry → List Entry → List Answer → List Entry → Type 0
 AreDone limit kept [] [] kept' = kept' ≡ kept
-AreDone limit kept (job ∷ jobs) (answer ∷ told) kept' = (next : List Entry) × IsDone limit kept job answer next × AreDone limit next jobs told kept'
-AreDone limit kept [] (answer ∷ told) kept' = ⊥
-AreDone limit kept (job ∷ jobs) [] kept' = ⊥
+AreDone limit kept (entry ∷ entries) (answer ∷ answers) kept' = (next : List Entry) × IsDone limit kept entry answer next × AreDone limit next entries answers kept'
+AreDone limit kept [] (answer ∷ answers) kept' = ⊥
+AreDone limit kept (entry ∷ entries) [] kept' = ⊥
 
--- What was done with a job, and what is published and held then: it was put; or it was not, and is told that memory was refused
+-- What was done with an entry, and what is published and held then: it was put; or it was not, and the answer is that memory was refused
 abbrev pub IsAnswered : ℕ → Written → Entry → Answer → Written → Type 0
-IsAnswered limit w job answer w' = IsPut limit w job answer w' ⊎ ((answer ≡ Err NoMemory) × (w' ≡ w))
+IsAnswered limit w entry answer w' = IsPut limit w entry answer w' ⊎ ((answer ≡ Err NoMemory) × (w' ≡ w))
 
--- the same for these jobs, one after the other
+-- the same for these entries, one after the other
 abbrev pub AreAnswered : ℕ → Written → List Entry → List Answer → Written → Type 0
 AreAnswered limit w [] [] w' = w' ≡ w
-AreAnswered limit w (job ∷ jobs) (answer ∷ told) w' = (next : Written) × IsAnswered limit w job answer next × AreAnswered limit next jobs told w'
-AreAnswered limit w [] (answer ∷ told) w' = ⊥
-AreAnswered limit w (job ∷ jobs) [] w' = ⊥
+AreAnswered limit w (entry ∷ entries) (answer ∷ answers) w' = (next : Written) × IsAnswered limit w entry answer next × AreAnswered limit next entries answers w'
+AreAnswered limit w [] (answer ∷ answers) w' = ⊥
+AreAnswered limit w (entry ∷ entries) [] w' = ⊥
 
--- whether the answer says that the job is not kept
+-- whether the answer says that the entry is not kept
 abbrev pub is_refused : Answer → Bool
 is_refused (Ok r) = false
 is_refused (Err Held) = false
@@ -70,15 +70,15 @@ is_refused (Err Stale) = true
 
 -- how many of the answers say so
 abbrev pub refused_in : List Answer → ℕ
-refused_in told = length (filter is_refused told)
+refused_in answers = length (filter is_refused answers)
 
--- the jobs that were not refused, in their order
+-- the entries that were not refused, in their order
 abbrev pub accepted : List Entry → List Answer → List Entry
-accepted [] told = []
-accepted (job ∷ jobs) [] = []
-accepted (job ∷ jobs) (answer ∷ told) = cond (is_refused answer) (accepted jobs told) (job ∷ accepted jobs told)
+accepted [] answers = []
+accepted (entry ∷ entries) [] = []
+accepted (entry ∷ entries) (answer ∷ answers) = cond (is_refused answer) (accepted entries answers) (entry ∷ accepted entries answers)
 
--- whether the answer says that the job is held
+-- whether the answer says that the entry is held
 abbrev pub is_held : Answer → Bool
 is_held (Ok r) = false
 is_held (Err Held) = true
@@ -89,34 +89,34 @@ is_held (Err Stale) = false
 -- each answer behind one that says so is that memory was refused
 abbrev pub AreRefusedBehind : List Answer → Type 0
 AreRefusedBehind [] = Unit {0}
-AreRefusedBehind (answer ∷ told) = (is_held answer ≡ true → AllByRecursion (λ a. a ≡ Err NoMemory) told) × AreRefusedBehind told
+AreRefusedBehind (answer ∷ answers) = (is_held answer ≡ true → AllByRecursion (λ a. a ≡ Err NoMemory) answers) × AreRefusedBehind answers
 
--- There are answers, one to each job, in their order, by which this list came to be. They are the writer's; that each was sent is no part
--- of this. Without its Sweeps the list is the jobs that were not refused.
-pub record IsWritten (limit : ℕ) (jobs kept : List Entry) : Type 0 where
-  pub told : List Answer
-  pub done : AreDone limit [] jobs told kept
-  pub changes : without_sweeps kept ≡ accepted jobs told
+-- There are answers, one to each entry, in their order, by which this list came to be. They are the writer's; that each was sent is no
+-- part of this. Without its Sweeps the list is the entries that were not refused.
+pub record IsWritten (limit : ℕ) (entries kept : List Entry) : Type 0 where
+  pub answers : List Answer
+  pub done : AreDone limit [] entries answers kept
+  pub changes : without_sweeps kept ≡ accepted entries answers
 
--- the replies that have these answers, one to each job
+-- the replies that have these answers, one to each entry
 abbrev pub replies_to : List Entry → List Answer → List ReplyValue
-replies_to [] told = []
-replies_to (job ∷ jobs) [] = []
-replies_to (job ∷ jobs) (answer ∷ told) = record { origin = job.origin; answer = answer } ∷ replies_to jobs told
+replies_to [] answers = []
+replies_to (entry ∷ entries) [] = []
+replies_to (entry ∷ entries) (answer ∷ answers) = record { origin = entry.origin; answer = answer } ∷ replies_to entries answers
 
--- There are answers to these jobs, one to each, in their order, which say what was done with them, one after the other; these are the
--- replies that have them, and so many of the jobs are not kept. Behind a job that is held the others of these jobs are refused
-pub record AreReplied (limit : ℕ) (w : Written) (jobs : List Entry) (replies : List ReplyValue) (refused : ℕ) (w' : Written) : Type 0 where
-  pub told : List Answer
-  pub done : AreDone limit (kept_of w) jobs told (kept_of w')
-  pub answered : AreAnswered limit w jobs told w'
-  pub behind : AreRefusedBehind told
-  pub replies_are : replies ≡ replies_to jobs told
-  pub refused_are : refused ≡ refused_in told
+-- There are answers to these entries, one to each, in their order, which say what was done with them, one after the other; these are the
+-- replies that have them, and so many of the entries are not kept. Behind an entry that is held the others of these are refused
+pub record AreReplied (limit : ℕ) (w : Written) (entries : List Entry) (replies : List ReplyValue) (refused : ℕ) (w' : Written) : Type 0 where
+  pub answers : List Answer
+  pub done : AreDone limit (kept_of w) entries answers (kept_of w')
+  pub answered : AreAnswered limit w entries answers w'
+  pub behind : AreRefusedBehind answers
+  pub replies_are : replies ≡ replies_to entries answers
+  pub refused_are : refused ≡ refused_in answers
 
 -- the reply that memory was refused
 abbrev pub refused_reply : Entry → ReplyValue
-refused_reply job = record { origin = job.origin; answer = Err NoMemory }
+refused_reply entry = record { origin = entry.origin; answer = Err NoMemory }
 
 -- what each line was answered, once the line of this place was answered this behind all else
 abbrev pub answered_more : List (List ReplyValue) → ℕ → List ReplyValue → List (List ReplyValue)

@@ -1,4 +1,4 @@
--- What follows from the rule of the queue, and from the answers to jobs.
+-- What follows from the rule of the queue, and from the answers to entries.
 use Rattle.std.specs.Prelude.{ℕ, ◌≡◌, ◌+◌, true, false, All, List, [], length}
 use mathlib.Core.Option.{some}
 use mathlib.Core.List.{IsPrefix}
@@ -9,7 +9,7 @@ use Rattle.rs_message.specs.Messages.{is_sweep}
 use Rattle.rs_message.specs.declared.entry.Entry.{Entry}
 use Rattle.rs_intake.specs.Done.{Answer, AreDone, ReplyValue, refused_in}
 use Rattle.rs_intake.specs.Parts.{IsPart}
-use Rattle.rs_intake.specs.Sweeps.{AreForJobs, without_sweeps}
+use Rattle.rs_intake.specs.Sweeps.{AreForEntries, without_sweeps}
 use Rattle.rs_intake.specs.ReplyRule.{Replies, WayView}
 use Rattle.rs_intake.specs.QueueRule.{Delivers, Keeps, at_place, of_place}
 
@@ -35,8 +35,8 @@ HeardInOrder = (items : List (List ReplyValue)) (views : List WayView) (i j : �
     → get_elem? views j ≡ some line → line.receives ≡ true
     → IsPrefix line.replies writer.replies
 
--- whatever the answers to jobs that are no Sweeps: what is kept then, without its Sweeps, is a part of the jobs, which lacks as
--- many of them as were refused; and each Sweep is the one that a job needed there
+-- whatever the answers to entries that are no Sweeps: what is kept then, without its Sweeps, is a part of the entries, which lacks as
+-- many of them as were refused; and each Sweep is the one that an entry needed there
 abbrev pub KeptAsAnswered : Type 0
-KeptAsAnswered = (limit : ℕ) (jobs kept : List Entry) (answers : List Answer) → All (λ e. is_sweep e.operation ≡ false) jobs → AreDone limit [] jobs answers kept
-    → IsPart (without_sweeps kept) jobs × (length (without_sweeps kept) + refused_in answers ≡ length jobs) × AreForJobs limit jobs kept
+KeptAsAnswered = (limit : ℕ) (entries kept : List Entry) (answers : List Answer) → All (λ e. is_sweep e.operation ≡ false) entries → AreDone limit [] entries answers kept
+    → IsPart (without_sweeps kept) entries × (length (without_sweeps kept) + refused_in answers ≡ length entries) × AreForEntries limit entries kept

@@ -28,9 +28,9 @@ next_serial serial = min (serial + 1) (2 ^ 64 - 1)
 abbrev pub job : ℕ → ℕ → Operation → Entry
 job place serial operation = record { origin = record { place = place; serial = serial }; operation = operation }
 
--- A place, the last serial that was submitted there, what was sent from it and submitted, and the replies that were read, and those that
--- came and were not read yet; the changes that it expects; and what was sent ahead, in one job with a change that was submitted, and is not submitted itself yet. The queue took
--- what was sent and then what is ahead
+-- A place, the last serial that was submitted there, what was sent from it and submitted; the replies that were taken, read or dropped,
+-- and those that came and were not taken yet; the changes that it expects; and what was sent ahead, in one job with a change that was
+-- submitted, and is not submitted itself yet. The queue took what was sent and then what is ahead
 pub record Line : Type 0 where
   pub place : ℕ
   pub serial : ℕ

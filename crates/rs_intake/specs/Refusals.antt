@@ -15,12 +15,12 @@ fault_for put.NoMemory = submit.NoMemory
 fault_for put.Held = submit.Open
 fault_for put.Stale = submit.Strange
 
--- the fault of the answer to the job of this entry: that of a refusal, or strange if it is a receipt for another entry
+-- the fault of the answer to this entry: that of a refusal, or strange if it is a receipt for another entry
 abbrev pub IsFaultOfAnswer : Entry → Answer → SubmitFault → Type 0
 IsFaultOfAnswer e (Ok r) fault = (r.entry ≢ e) × (fault ≡ submit.Strange)
 IsFaultOfAnswer e (Err f) fault = fault ≡ fault_for f
 
--- the fault of the reply, for the line that sent this entry: that of its answer, or strange if it is a reply to another job. A reply
+-- the fault of the reply, for the line that sent this entry: that of its answer, or strange if it is a reply to another entry. A reply
 -- with a receipt for the entry has none
 abbrev pub IsFaultOfReply : Entry → ReplyValue → SubmitFault → Type 0
 IsFaultOfReply e reply fault = ((reply.origin ≢ e.origin) × (fault ≡ submit.Strange)) ⊎ ((reply.origin ≡ e.origin) × IsFaultOfAnswer e reply.answer fault)

@@ -1,4 +1,4 @@
--- When the lines and the writer agree on all jobs.
+-- When the lines and the writer agree on all that was sent.
 use Rattle.std.specs.Prelude.{ℕ, ◌≡◌, ◌==◌, ◌<◌, ◌≤◌, ◌+◌, List, [], ◌∷◌, ◌++◌, All, filter, length}
 use mathlib.Core.List.{IsPrefix}
 use Rattle.rs_message.specs.declared.entry.Entry.{Entry}
@@ -15,7 +15,7 @@ ends_at place ends = length (filter (λ e. e.place == place) ends)
 abbrev pub EachOnce : ℕ → List Closed → Type 0
 EachOnce places ends = (place : ℕ) → 0 < place → place ≤ places → ends_at place ends ≡ 1
 
--- how many jobs were sent in all
+-- how many entries were sent in all
 abbrev pub sent_in_all : List Closed → ℕ
 sent_in_all [] = 0
 sent_in_all (e ∷ es) = length e.sent + sent_in_all es

@@ -11,16 +11,16 @@ use Rattle.rs_intake.specs.Parts.{IsPart}
 abbrev pub without_sweeps : List Entry → List Entry
 without_sweeps entries = filter (λ e. not (is_sweep e.operation)) entries
 
--- each Sweep of the list is the one that a job needed there
-pub record AreForJobs (limit : ℕ) (jobs list : List Entry) : Type 0 where
-  pub needed : AreNeeded limit (Contains jobs) list
+-- each Sweep of the list is the one that one of these entries needed there
+pub record AreForEntries (limit : ℕ) (entries list : List Entry) : Type 0 where
+  pub needed : AreNeeded limit (Contains entries) list
 
 -- the list is the history, or has the Sweep that comes before the entry behind it
 abbrev pub IsSweptAtMost : ℕ → List Entry → Entry → List Entry → Type 0
 IsSweptAtMost limit history e list = (list ≡ history) ⊎ ((s : NeedsSweepAfter limit history e) × (list ≡ cleaned s.message.received history))
 
--- what is kept against the jobs that were taken
-pub record Serves (limit : ℕ) (jobs kept : List Entry) : Type 0 where
-  pub part : IsPart (without_sweeps kept) jobs
-  pub sweeps : AreForJobs limit jobs kept
+-- what is kept against the entries that were taken
+pub record Serves (limit : ℕ) (entries kept : List Entry) : Type 0 where
+  pub part : IsPart (without_sweeps kept) entries
+  pub sweeps : AreForEntries limit entries kept
   pub rises : SerialsRise kept

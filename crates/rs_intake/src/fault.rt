@@ -8,7 +8,7 @@ use thiserror::Error;
 /// Why [`settle`](crate::settle) does not say that all that was sent was taken.
 #[derive(Clone, Copy, Debug, PartialEq, Eq, Error)]
 pub enum SettleFault {
-    /// 45: a place has no end or two, or not as many jobs were taken as sent.
+    /// 45: a place has no end or two, or not as many entries were taken as sent.
     #[error("not all that was sent is known to be taken; close each line once, and settle after the writer has ended")]
     Unsettled,
 }

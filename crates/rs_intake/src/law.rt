@@ -15,7 +15,7 @@ pub fn reply_order_law()
     ensures { HeardInOrder }
 {}
 
-/// Does nothing. Its contract says what follows for the kept list from the answers to the jobs.
+/// Does nothing. Its contract says what follows for the kept list from the answers to the entries.
 pub fn answered_law()
     ensures { KeptAsAnswered }
 {}

@@ -2,7 +2,7 @@
 
 ghost use Rattle.std.specs.Prelude.{◌≡◌, ◌^◌, ◌<◌, ◌≤◌, List, MatchBool, MatchOption, IfOk, IfErr, length};
 ghost use Rattle.rs_intake.specs.declared.job.Job.{Job};
-ghost use Rattle.rs_intake.specs.Settling.{ends_at, EachOnce, sent_in_all, AreOfPlaces, AreTaken, AreTakenInOrder, BalancesWith};
+ghost use Rattle.rs_intake.specs.Settling.{ends_at, EachOnce, sent_in_all, AreTaken, AreTakenInOrder, BalancesWith};
 
 use crate::fault::SettleFault;
 use crate::line::LineEnd;
@@ -28,7 +28,7 @@ fn is_each_once<N: LineName>(ends: &Vec<LineEnd<N>>, places: u8) -> bool
     true
 }
 
-/// How many jobs the queue took from these lines. `None` if the sum is no u64.
+/// How many entries the queue took from these lines. `None` if the sum is no u64.
 fn total<N: LineName>(ends: &Vec<LineEnd<N>>) -> Option<u64>
     ensures { MatchOption result (2 ^ 64 ≤ sent_in_all ends.now.items) (λ n. n ≡ sent_in_all ends.now.items) }
 {
@@ -39,7 +39,7 @@ fn total<N: LineName>(ends: &Vec<LineEnd<N>>) -> Option<u64>
     Some(sum)
 }
 
-/// How many jobs were sent, if each place has one end and these sent as many jobs as were taken.
+/// How many entries were sent, if each place has one end and these sent as many as were taken.
 fn all_sent<N: LineName>(ends: &Vec<LineEnd<N>>, places: u8, taken: u64) -> Option<u64>
     ensures { MatchOption result (¬ (EachOnce places ends.now.items × (sent_in_all ends.now.items ≡ taken)))
         (λ n. (n ≡ taken) × (n ≡ sent_in_all ends.now.items) × EachOnce places ends.now.items) }
@@ -67,14 +67,14 @@ fn join_all<N: LineName>(taken: &mut Taken<N>, ends: Vec<LineEnd<N>>)
 }
 
 /// Whether all that was sent was taken. If so, what was taken of each place is what was sent from there, in its order and each
-/// job once, and the result is how many jobs these are. If not, what was taken of each place that has an end is a prefix of what was
-/// sent from there. If there are as many ends as places, nothing was taken of any other place.
+/// entry once, and the result is how many entries these are. If not, what was taken of each place that has an end is a prefix of what was
+/// sent from there.
 ///
 /// It takes no memory. `ended` is lent mutably since its pass of the queue learns what the lines know; nothing else of it changes.
 ///
 /// # Errors
 ///
-/// [`Unsettled`](SettleFault::Unsettled) if a place has no end or two, or not as many jobs were taken as sent.
+/// [`Unsettled`](SettleFault::Unsettled) if a place has no end or two, or not as many entries were taken as sent.
 pub fn settle<N: LineName, R: Wait + Drop>(
     ends: Vec<LineEnd<N>>,
     ended: &mut Ended<N, R>,
@@ -84,7 +84,6 @@ pub fn settle<N: LineName, R: Wait + Drop>(
     ensures once { IfOk result (λ _. EachOnce N.places ends.items) }
     ensures settled { IfOk result (λ _. AreTaken ended.old.jobs.entries ends.items) }
     ensures order { AreTakenInOrder ended.old.jobs.entries ends.items }
-    ensures placed { length ends.items ≡ N.places → AreOfPlaces N.places ended.old.jobs.entries }
     ensures unsettled { IfErr result (λ _. ¬ (EachOnce N.places ends.items × (sent_in_all ends.items ≡ ended.old.taken))) }
     ensures same { (ended.new.writer ≡ ended.old.writer) × (ended.new.taken ≡ ended.old.taken) × (ended.new.refused ≡ ended.old.refused) × (ended.new.held ≡ ended.old.held) × (ended.new.cause ≡ ended.old.cause) × (ended.new.jobs.entries ≡ ended.old.jobs.entries) × (ended.new.jobs.ends ≡ ended.old.jobs.ends) }
 {

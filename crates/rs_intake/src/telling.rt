@@ -22,16 +22,16 @@ use std::sync::Wait;
 /// Puts a change, and makes the reply to its line. A Sweep may have been appended before the change, or without it.
 fn reply_to<N: LineName, R: Wait + Drop>(
     writer: &mut VersionWriter<N, R>,
-    job: Entry,
+    entry: Entry,
 ) -> WriterReply<N>
-    requires no_sweep { is_sweep job.operation ≡ false }
-    requires rises { SerialsRise (extended (kept_of writer.old) job) }
-    ensures done { IsDone N.limit (kept_of writer.old) job result.answer (kept_of writer.new) }
-    ensures origin { result.origin ≡ job.origin }
-    ensures put { IsPut N.limit writer.old job result.answer writer.new }
+    requires no_sweep { is_sweep entry.operation ≡ false }
+    requires rises { SerialsRise (extended (kept_of writer.old) entry) }
+    ensures done { IsDone N.limit (kept_of writer.old) entry result.answer (kept_of writer.new) }
+    ensures origin { result.origin ≡ entry.origin }
+    ensures put { IsPut N.limit writer.old entry result.answer writer.new }
 {
-    let origin = job.origin;
-    let answer = writer.put(job);
+    let origin = entry.origin;
+    let answer = writer.put(entry);
     WriterReply { origin, answer }
 }
 
@@ -39,24 +39,24 @@ fn reply_to<N: LineName, R: Wait + Drop>(
 /// is whether one is held.
 fn reply_to_next<N: LineName, R: Wait + Drop>(
     writer: &mut VersionWriter<N, R>,
-    job: Entry,
+    entry: Entry,
     has_held: &mut bool,
 ) -> WriterReply<N>
-    requires no_sweep { is_sweep job.operation ≡ false }
-    requires rises { SerialsRise (extended (kept_of writer.old) job) }
-    ensures done { IsDone N.limit (kept_of writer.old) job result.answer (kept_of writer.new) }
-    ensures origin { result.origin ≡ job.origin }
-    ensures answered { IsAnswered N.limit writer.old job result.answer writer.new }
+    requires no_sweep { is_sweep entry.operation ≡ false }
+    requires rises { SerialsRise (extended (kept_of writer.old) entry) }
+    ensures done { IsDone N.limit (kept_of writer.old) entry result.answer (kept_of writer.new) }
+    ensures origin { result.origin ≡ entry.origin }
+    ensures answered { IsAnswered N.limit writer.old entry result.answer writer.new }
     ensures behind { has_held.old ≡ true → result.answer ≡ Err NoMemory }
     ensures held { has_held.new ≡ (has_held.old || is_held result.answer) }
 {
     if *has_held {
         return WriterReply {
-            origin: job.origin,
+            origin: entry.origin,
             answer: Err(PutFault::NoMemory),
         };
     }
-    let reply = reply_to(writer, job);
+    let reply = reply_to(writer, entry);
     *has_held = reply.is_held();
     reply
 }
@@ -65,21 +65,21 @@ fn reply_to_next<N: LineName, R: Wait + Drop>(
 /// also how many changes are refused.
 fn reply_to_each<N: LineName, R: Wait + Drop>(
     writer: &mut VersionWriter<N, R>,
-    jobs: Vec<Entry>,
+    entries: Vec<Entry>,
     room: Vec<WriterReply<N>>,
 ) -> (Vec<WriterReply<N>>, u64)
-    requires room { (room.items ≡ []) × (length jobs.items ≤ vec_capacity room) }
-    requires changes { AreChanges jobs.items }
-    requires rises { (before : List Entry) × Serves N.limit before (kept_of writer.old) × SerialsRise (before ++ jobs.items) }
-    ensures { AreReplied N.limit writer.old jobs.items result.0.items result.1 writer.new }
+    requires room { (room.items ≡ []) × (length entries.items ≤ vec_capacity room) }
+    requires changes { AreChanges entries.items }
+    requires rises { (before : List Entry) × Serves N.limit before (kept_of writer.old) × SerialsRise (before ++ entries.items) }
+    ensures { AreReplied N.limit writer.old entries.items result.0.items result.1 writer.new }
 {
     let mut replies = room;
     let mut refused = 0u64;
     let mut has_held = false;
-    for job in jobs {
+    for entry in entries {
         // For the proof: this call says that the serial is not 0.
-        let _serial = job.origin.serial();
-        let reply = reply_to_next(writer, job, &mut has_held);
+        let _serial = entry.origin.serial();
+        let reply = reply_to_next(writer, entry, &mut has_held);
         refused += reply.refused();
         let Ok(()) = replies.push(reply) else {
             unreachable!()
@@ -92,17 +92,17 @@ fn reply_to_each<N: LineName, R: Wait + Drop>(
 fn replies_to<N: LineName, R: Wait + Drop>(
     alloc: Global,
     writer: &mut VersionWriter<N, R>,
-    jobs: Vec<Entry>,
+    entries: Vec<Entry>,
 ) -> (WriterReplies<N>, u64)
-    requires changes { AreChanges jobs.items }
-    requires rises { (before : List Entry) × Serves N.limit before (kept_of writer.old) × SerialsRise (before ++ jobs.items) }
-    ensures { AreReplied N.limit writer.old jobs.items result.0 result.1 writer.new }
+    requires changes { AreChanges entries.items }
+    requires rises { (before : List Entry) × Serves N.limit before (kept_of writer.old) × SerialsRise (before ++ entries.items) }
+    ensures { AreReplied N.limit writer.old entries.items result.0 result.1 writer.new }
 {
-    let Ok(room) = Vec::with_capacity(alloc, jobs.len()) else {
-        let refused = jobs.len() as u64;
-        return (WriterReplies::refusing(alloc, jobs), refused);
+    let Ok(room) = Vec::with_capacity(alloc, entries.len()) else {
+        let refused = entries.len() as u64;
+        return (WriterReplies::refusing(alloc, entries), refused);
     };
-    let (replies, refused) = reply_to_each(writer, jobs, room);
+    let (replies, refused) = reply_to_each(writer, entries, room);
     (WriterReplies::of(alloc, replies), refused)
 }
 

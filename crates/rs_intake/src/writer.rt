@@ -8,7 +8,8 @@ ghost use Rattle.rs_intake.specs.Done.{IsWritten};
 ghost use Rattle.rs_intake.specs.Ending.{IsCause};
 ghost use Rattle.rs_intake.specs.Names.{IsQueue};
 ghost use Rattle.rs_intake.specs.Parts.{IsPart};
-ghost use Rattle.rs_intake.specs.Sweeps.{AreForJobs, without_sweeps};
+ghost use Rattle.rs_intake.specs.Settling.{AreOfPlaces};
+ghost use Rattle.rs_intake.specs.Sweeps.{AreForEntries, without_sweeps};
 ghost use Rattle.rs_intake.specs.declared.job.TheConstants.{MAX_CHANGES};
 
 use crate::ending::Cause;
@@ -106,12 +107,12 @@ fn has_most(taken: u64, most: u64) -> bool
 ///
 /// Then it tries once more to publish a held entry.
 ///
-/// The contract says what became of each entry that was asked for (`done`), here called a job, since it makes no difference which of them
-/// came together. There is one answer for each job that was taken, in their order. After a
-/// receipt, or an answer that the job is held, the kept list is the one before, then the Sweep that the job needs, if it needs one, then
-/// the job. After a full store the list is the same, and the job may not come. If memory was refused, the list is the same, or has the
-/// Sweep that the job needs. So what the writer keeps, without its Sweeps, is the jobs that were not refused, in their order
-/// (`IsWritten`), and each Sweep is the one that a job needed there (`sweeps`).
+/// The contract says what became of each entry that was asked for (`done`). It makes no difference which of them came in one job. There
+/// is one answer for each entry that was taken, in their order. After a receipt, or an answer that the entry is held, the kept list is
+/// the one before, then the Sweep that the entry needs, if it needs one, then the entry. After a full store the list is the same, and the
+/// entry may not come. If memory was refused, the list is the same, or has the Sweep that the entry needs. So what the writer keeps,
+/// without its Sweeps, is the entries that were not refused, in their order (`IsWritten`), and each Sweep is the one that one of these
+/// entries needed there (`sweeps`). No entry is of a place beyond 1 to the number of places (`placed`).
 pub fn run_writer<N: LineName, R: Wait + Drop, W: Wait>(
     rt: &W,
     queue: Queue<N>,
@@ -119,9 +120,10 @@ pub fn run_writer<N: LineName, R: Wait + Drop, W: Wait>(
 ) -> Ended<N, R>
     requires empty { kept_of writer ≡ [] }
     ensures part { IsPart (without_sweeps (kept_of result.writer)) result.jobs.entries }
+    ensures placed { AreOfPlaces N.places result.jobs.entries }
     ensures taken { result.taken ≡ length result.jobs.entries }
     ensures refused { length (without_sweeps (kept_of result.writer)) + result.refused ≡ result.taken }
-    ensures sweeps { AreForJobs N.limit result.jobs.entries (kept_of result.writer) }
+    ensures sweeps { AreForEntries N.limit result.jobs.entries (kept_of result.writer) }
     ensures held { result.held ≡ option_map (λ e. e.origin) result.writer.held }
     ensures done { IsWritten N.limit result.jobs.entries (kept_of result.writer) }
     ensures cause { IsCause N.places u64.MAX result.jobs result.cause }
@@ -139,9 +141,10 @@ pub fn run_writer_for<N: LineName, R: Wait + Drop, W: Wait>(
 ) -> Ended<N, R>
     requires empty { kept_of writer ≡ [] }
     ensures part { IsPart (without_sweeps (kept_of result.writer)) result.jobs.entries }
+    ensures placed { AreOfPlaces N.places result.jobs.entries }
     ensures taken { result.taken ≡ length result.jobs.entries }
     ensures refused { length (without_sweeps (kept_of result.writer)) + result.refused ≡ result.taken }
-    ensures sweeps { AreForJobs N.limit result.jobs.entries (kept_of result.writer) }
+    ensures sweeps { AreForEntries N.limit result.jobs.entries (kept_of result.writer) }
     ensures held { result.held ≡ option_map (λ e. e.origin) result.writer.held }
     ensures done { IsWritten N.limit result.jobs.entries (kept_of result.writer) }
     ensures cause { IsCause N.places most result.jobs result.cause }

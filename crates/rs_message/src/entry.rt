@@ -18,7 +18,7 @@ const _: () = prove!(MAX_PLACES == 64);
 
 /// Where an entry came from: a place, 1 to [`MAX_PLACES`], or the writer, whose place is 0; and a serial number from 1 on, which rises
 /// at each place.
-#[derive(Clone, Copy, PartialEq, Eq)]
+#[derive(Clone, Copy, Debug, PartialEq, Eq)]
 pub struct Origin {
     place: u8,
     serial: u64,
@@ -78,7 +78,7 @@ impl Origin {
 
 /// A topic and its retained message. They lie in one block of memory, which all copies share, and a reply too that is made of one.
 /// Contracts see the topic and the message.
-#[derive(Drop)]
+#[derive(Debug, Drop)]
 pub struct Found {
     retained: Retained,
 }
@@ -153,7 +153,7 @@ impl Eq for Found {
 }
 
 /// An operation on a topic's retained message (3.3.1.3), or on all that are expired.
-#[derive(Drop, PartialEq, Eq)]
+#[derive(Debug, Drop, PartialEq, Eq)]
 pub enum Operation {
     /// The message becomes the topic's retained message, in place of any other.
     Set(Found),
@@ -215,7 +215,7 @@ impl Operation {
 }
 
 /// One operation on the store and its origin.
-#[derive(Drop, PartialEq, Eq)]
+#[derive(Debug, Drop, PartialEq, Eq)]
 pub struct Entry {
     /// Where it came from.
     pub origin: Origin,

@@ -8,12 +8,14 @@ use Rattle.rs_message.specs.declared.entry.Entry.{Entry}
 use Rattle.rs_message.specs.declared.entry.Operation.{Operation}
 use Rattle.rs_message.specs.declared.fault.SubmitFault.{SubmitFault}
 use Rattle.rs_message.specs.declared.fault.SubmitFault.TheVariants.{Strange}
+use Rattle.rs_message.specs.declared.fault.SubmitFault.TheVariants as submit_fault
 use Rattle.rs_store.specs.History.{IsLegal}
 use Rattle.rs_store.proofs.Entries.{Among, among, contains}
 use Rattle.rs_version.specs.Receipts.{StandsAt}
 use Rattle.rs_version.proofs.Origins.{origins_differ}
-use Rattle.rs_session.specs.Gate.{Mark, IsHandedOver, Sends, SendsAtMost, Submits, TakesAhead, Uses, entry_by, last_origin}
+use Rattle.rs_session.specs.Gate.{Mark, IsHandedOver, Sends, SendsAtMost, Submits, TakesAhead, Uses, UsesIfOpen, entry_by, last_origin}
 use Rattle.rs_intake.specs.Lines.{AddsAtMost, IsAheadAfter, IsOther, Line, announced, job, next_serial, numbered}
+use Rattle.rs_intake.specs.Refusals.{IsRefused, IsUnsent}
 use Rattle.rs_intake.specs.declared.job.TheConstants.{MAX_CHANGES}
 use Rattle.rs_places.specs.Shared.{IsOtherAhead, SharedValue, gate_of, handed_on, mark_of, operations_of}
 
@@ -81,11 +83,29 @@ submits_ok limit operation old new seen list told e number legal at is one prefi
     let P : List Entry → Type 0 = λ l. Contains l e in
     let there : Contains list e = subst P prefix.1 (Contains-append_left told prefix.0 e (stands_contained e number told at)) in
     let Q : Entry → Type 0 = λ d. Contains list d in
-    record { handed_over = handed_over limit operation new seen list told e number legal at is one; kept = record { entry = subst Q is there; serial = above; sent = sent } }
+    record { handed_over = handed_over limit operation new seen list told e number legal at is one; kept = record { entry = subst Q is there; serial = above; sent = sent }; used = tt }
+
+-- a submit that no reply answered, or that the writer holds, used a serial
+pub used_if_open : (before after : Line) (e : Entry) (fault : SubmitFault) → IsRefused before after e fault → UsesIfOpen (mark_of before) (mark_of after) (Err fault)
+used_if_open before after e submit_fault.Full refused = tt
+used_if_open before after e submit_fault.NoMemory refused = tt
+used_if_open before after e submit_fault.Strange refused = tt
+used_if_open before after e submit_fault.Closed refused = tt
+used_if_open before after e submit_fault.Open (inl unsent) = absurd (not_unsent before.serial unsent.2)
+  where
+    not_unsent : (serial : ℕ) → IsUnsent serial submit_fault.Open → ⊥
+    not_unsent serial (inl (full, last)) = absurd (cc (full))
+    not_unsent serial (inr (inl none)) = absurd (cc (none))
+    not_unsent serial (inr (inr closed)) = absurd (cc (closed))
+used_if_open before after e submit_fault.Open (inr (inl sent)) = let next = sent.0.0 in omega (arith, next)
+used_if_open before after e submit_fault.Open (inr (inr (inl sent))) = let next = sent.0.0 in omega (arith, next)
+used_if_open before after e submit_fault.Open (inr (inr (inr mistaken))) = let strange = mistaken.4 in absurd (cc (strange))
 
 -- what a refused submit leaves
-pub submits_err : (operation : Operation) (old new : Mark) (fault : SubmitFault) (seen list : List Entry) → list ≡ seen → Submits operation old new (Err fault) seen list
-submits_err operation old new fault seen list same = record { handed_over = none_handed_over operation new seen list same; kept = tt }
+pub submits_err : (operation : Operation) (old new : Mark) (answer : Result (Unit {0}) SubmitFault) (fault : SubmitFault) (seen : List Entry) → answer ≡ Err fault → UsesIfOpen old new (Err fault) → Submits operation old new answer seen seen
+submits_err operation old new answer fault seen is used =
+    subst (λ (a : Result (Unit {0}) SubmitFault). Submits operation old new a seen seen) (sym is)
+    (record { handed_over = none_handed_over operation new seen seen refl; kept = tt; used = used })
 
 -- what the line sent, as the mark has it
 pub sends_at_most : (operation : Operation) (before : Mark) (old new : Line) → mark_of old ≡ before → new.place ≡ old.place → AddsAtMost old.sent (job old.place new.serial operation) new.sent

@@ -6,7 +6,7 @@ use Rattle.rs_message.specs.declared.entry.Operation.{Operation}
 use Rattle.rs_session.specs.Ahead.{AreChanges}
 use Rattle.rs_session.specs.Gate.{Sends}
 use Rattle.rs_session.specs.Points.{Given, Point}
-use Rattle.rs_session.specs.Run.{Turn}
+use Rattle.rs_session.specs.Run.{Exchange}
 use Rattle.rs_session.specs.State.{State}
 use Rattle.rs_server.specs.Conversation.{AreLeft}
 use Rattle.rs_places.specs.Shared.{operations_of}
@@ -25,13 +25,13 @@ changes_front (given ∷ givens) [] ys are = tt
 changes_front [] (x ∷ xs) ys are = absurd are
 changes_front (given ∷ givens) (x ∷ xs) ys are = (are.0, changes_front givens xs ys are.1)
 
-left_before : (from : Point State) (turns : List Turn) (planned : List Given) (xs ys : List Operation) → AreLeft from turns planned (xs ++ ys) → AreLeft from turns planned xs
-left_before from turns planned xs ys (inl are) = inl (changes_front planned xs ys are)
-left_before from turns planned xs ys (inr u) =
+left_before : (from : Point State) (exchanges : List Exchange) (planned : List Given) (xs ys : List Operation) → AreLeft from exchanges planned (xs ++ ys) → AreLeft from exchanges planned xs
+left_before from exchanges planned xs ys (inl are) = inl (changes_front planned xs ys are)
+left_before from exchanges planned xs ys (inr u) =
     inr (record { before = u.before; last = u.last; whole = u.whole; unused = u.unused; ended = u.ended; are = changes_front (u.last.given ∷ planned) xs ys u.are })
 
 -- the first of the changes that are left
-pub left_front : (from : Point State) (turns : List Turn) (planned : List Given) (xs all : List Operation) → IsPrefix xs all → AreLeft from turns planned all → AreLeft from turns planned xs
-left_front from turns planned xs all front are =
-    let P : List Operation → Type 0 = λ l. AreLeft from turns planned l in
-    left_before from turns planned xs front.0 (subst P (sym front.1) are)
+pub left_front : (from : Point State) (exchanges : List Exchange) (planned : List Given) (xs all : List Operation) → IsPrefix xs all → AreLeft from exchanges planned all → AreLeft from exchanges planned xs
+left_front from exchanges planned xs all front are =
+    let P : List Operation → Type 0 = λ l. AreLeft from exchanges planned l in
+    left_before from exchanges planned xs front.0 (subst P (sym front.1) are)

@@ -2,13 +2,12 @@
 use Rattle.std.proofs.Common.{◌≡◌, ℕ, Option, Some, None, List, [], ◌∷◌, ◌++◌, map, refl, sym, ap, subst, ◌∙◌, append_assoc}
 use Rattle.std.proofs.lemmas.List.{append-nil, map-append}
 use Rattle.std.specs.Prelude.{Result}
-use Rattle.std.specs.Io.KnownBytes.{Consumes, IsAtEnd}
 use Rattle.rs_intake.specs.Lines.{Closed, IsClosed}
 use Rattle.rs_message.specs.declared.entry.Entry.{Entry}
 use mathlib.Core.List.{IsPrefix}
 use Rattle.rs_session.specs.Gate.{Sends}
 use Rattle.rs_server.specs.Clock.{TellsInOrder}
-use Rattle.rs_server.specs.Conversation.{Causes, WritesTurns, assigned_of, start}
+use Rattle.rs_server.specs.Conversation.{Causes, assigned_of, start}
 use Rattle.rs_server.specs.Counts.{failures_of, inner_of}
 use Rattle.rs_server.specs.declared.counted.Counted.{Counted}
 use Rattle.rs_server.specs.declared.connection.Served.{Served}
@@ -114,8 +113,8 @@ place_served limit number first now plan told line so_far next told_is place sen
 pub one_served : {R W C : Type 0} (remaining : R → Option (List ℕ)) (contents : W → Option (List ℕ)) (moments : C → Option (ℕ → ℕ)) (limit number : ℕ) (old new : Plan) (gate after : SharedValue)
     (input : R) (output : W) (reader read : Counted R) (writer written : Counted W) (clock clock_back : C) (result : Result Served ServeFault)
     → inner_of reader ≡ input → inner_of writer ≡ output → failures_of reader ≡ 0 → failures_of writer ≡ 0
-    → IsServedAt limit (start (assigned_of gate.mark.place number) gate.known gate.mark) gate.ahead (Consumes (remaining (inner_of reader)) (remaining (inner_of read))) (IsAtEnd (remaining (inner_of read)))
-    (TellsInOrder (moments clock) (moments clock_back)) (WritesTurns result (contents (inner_of writer)) (contents (inner_of written))) result after
+    → IsServedAt limit (start (assigned_of gate.mark.place number) gate.known gate.mark) gate.ahead
+    (record { unread = remaining (inner_of reader); rest = remaining (inner_of read); written = contents (inner_of writer); more = contents (inner_of written); told = TellsInOrder (moments clock) (moments clock_back) }) result after
     → Causes result (failures_of reader) (failures_of read) (failures_of writer) (failures_of written)
     → TakesBack old (record { streams = record { unread = remaining (inner_of read); written = contents (inner_of written); moments = moments clock_back }; read_failures = failures_of read; write_failures = failures_of written; result = result }) new
     → ServesOne limit number (place_at old gate) (record { unread = remaining input; written = contents output; moments = moments clock }) (place_at new after)
@@ -127,11 +126,11 @@ one_served {R} {W} {C} remaining contents moments limit number old new gate afte
       visit = record {
         given = S (inner_of reader) (inner_of writer) clock;
         ending = record { streams = S (inner_of read) (inner_of written) clock_back; read_failures = failures_of read; write_failures = failures_of written; result = result };
-        turns = served.turns;
+        exchanges = served.exchanges;
         planned = served.planned;
         gate = after;
       };
-      served = record { connection = served; turns = refl; planned = refl; cause = subst P none_in (subst Q none_out cause) };
+      served = record { connection = served; exchanges = refl; planned = refl; cause = subst P none_in (subst Q none_out cause) };
       over = ap (λ (r : R). S r (inner_of writer) clock) same_in ∙ ap (λ (w : W). S input w clock) same_out;
       leaves = refl;
       taken_back = taken;

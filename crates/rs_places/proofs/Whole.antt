@@ -22,7 +22,7 @@ use Rattle.rs_packet.specs.declared.packet.Publish.{Publish}
 use Rattle.rs_session.specs.Gate.{Extends, Mark, Sends}
 use Rattle.rs_session.specs.Points.{Given}
 use Rattle.rs_session.specs.Kept.{AreGrowing, IsKeptIn, StandsOnce, lists_of}
-use Rattle.rs_session.specs.Run.{Turn}
+use Rattle.rs_session.specs.Run.{Exchange}
 use Rattle.rs_session.specs.Sent.{AreSentBy}
 use Rattle.rs_session.proofs.Sending.{both_sent, none_sent}
 use Rattle.rs_server.specs.Conversation.{AreLeft, assigned_of, start}
@@ -70,10 +70,10 @@ once_more limit e short list legal (more, p) once =
     let whole : list ≡ once.front ++ e ∷ (once.rest ++ more) = p ∙ (ap (λ l. l ++ more) once.whole ∙ append_assoc once.front (e ∷ once.rest) more) in
     record { front = once.front; rest = once.rest ++ more; whole = whole; before = once.before; after = none_behind limit e list once.front [] (once.rest ++ more) legal whole }
 
-kept_more : (limit : ℕ) (mark : Mark) (turn : Turn) (p : Publish) (lists : List (List Entry)) (short list : List Entry) → IsLegal limit list → Extends list short
-    → IsKeptIn mark turn p (lists ++ short ∷ []) → IsKeptIn mark turn p (list ∷ [])
-kept_more limit mark turn p lists short list legal extends kept =
-    let e : Entry = record { origin = record { place = turn.to.mark.place; serial = turn.to.mark.serial }; operation = kept.operation } in
+kept_more : (limit : ℕ) (mark : Mark) (exchange : Exchange) (p : Publish) (lists : List (List Entry)) (short list : List Entry) → IsLegal limit list → Extends list short
+    → IsKeptIn mark exchange p (lists ++ short ∷ []) → IsKeptIn mark exchange p (list ∷ [])
+kept_more limit mark exchange p lists short list legal extends kept =
+    let e : Entry = record { origin = record { place = exchange.to.mark.place; serial = exchange.to.mark.serial }; operation = kept.operation } in
     record {
       topic = kept.topic;
       operation = kept.operation;
@@ -87,13 +87,13 @@ connection_within : (limit number : ℕ) (list : List Entry) (gate : SharedValue
     → IsWithin list (start (assigned_of gate.mark.place number) gate.known gate.mark) visit
 connection_within limit number list gate visit legal one extends =
     let served = one.connection in
-    let seen = growing_last (gate.known ∷ lists_of served.turns) visit.gate.known served.lists in
-    let L : List Turn → Type 0 = λ ts. AllByRecursion (λ seen. Extends list seen) (lists_of ts) in
+    let seen = growing_last (gate.known ∷ lists_of served.exchanges) visit.gate.known served.lists in
+    let L : List Exchange → Type 0 = λ ts. AllByRecursion (λ seen. Extends list seen) (lists_of ts) in
     record {
       first = extends_more gate.known visit.gate.known list seen.0 extends;
-      lists = subst L (sym one.turns) (all_weaker (λ l. Extends visit.gate.known l) (λ l. Extends list l) (λ l h. extends_more l visit.gate.known list h extends) (lists_of served.turns) seen.1);
-      kept = λ before turn after o p answer whole is_open told.
-          kept_more limit _ turn p (turn.to.seen ∷ lists_of after) visit.gate.known list legal extends (served.kept before turn after o p answer (sym one.turns ∙ whole) is_open told);
+      lists = subst L (sym one.exchanges) (all_weaker (λ l. Extends visit.gate.known l) (λ l. Extends list l) (λ l h. extends_more l visit.gate.known list h extends) (lists_of served.exchanges) seen.1);
+      kept = λ before exchange after o p answer whole is_open told.
+          kept_more limit _ exchange p (exchange.to.seen ∷ lists_of after) visit.gate.known list legal extends (served.kept before exchange after o p answer (sym one.exchanges ∙ whole) is_open told);
     }
 
 visits_within : (limit number : ℕ) (list : List Entry) (first : SharedValue) (visits : List Visit) (last : SharedValue) → IsLegal limit list → AreConnectionsServed limit number first visits last → Extends list last.known
@@ -101,7 +101,7 @@ visits_within : (limit number : ℕ) (list : List Entry) (first : SharedValue) (
 visits_within limit number list first [] last legal same extends = let P : SharedValue → Type 0 = λ gate. Extends list gate.known in (subst P same extends, tt)
 visits_within limit number list first (visit ∷ visits) last legal (one, more) extends =
     let rest = visits_within limit (next_number number) list visit.gate visits last legal more extends in
-    let seen = growing_last (first.known ∷ lists_of one.connection.turns) visit.gate.known one.connection.lists in
+    let seen = growing_last (first.known ∷ lists_of one.connection.exchanges) visit.gate.known one.connection.lists in
     (extends_more first.known visit.gate.known list seen.0 rest.0, (connection_within limit number list first visit legal one rest.0, rest.1))
 
 -- ---- what the writer took
@@ -131,23 +131,23 @@ part_filter {A} f (x ∷ xs) (y ∷ ys) p = ⊎_elim
     more true h = part_behind (filter f (x ∷ xs)) (filter f ys) y h
     more false h = h
 
-published_part : (w : Written) (jobs : List Entry) (place : ℕ) → IsPart (without_sweeps (kept_of w)) jobs → IsPart (of_place place (without_sweeps w.published)) (of_place place jobs)
-published_part w jobs place part =
-    let P : List Entry → Type 0 = λ l. IsPart l jobs in
+published_part : (w : Written) (entries : List Entry) (place : ℕ) → IsPart (without_sweeps (kept_of w)) entries → IsPart (of_place place (without_sweeps w.published)) (of_place place entries)
+published_part w entries place part =
+    let P : List Entry → Type 0 = λ l. IsPart l entries in
     let split = subst P (filter-append _ w.published (listed w.held)) part in
-    part_filter (λ e. e.origin.place == place) (without_sweeps w.published) jobs (part_front_of (without_sweeps w.published) (without_sweeps (listed w.held)) jobs split)
+    part_filter (λ e. e.origin.place == place) (without_sweeps w.published) entries (part_front_of (without_sweeps w.published) (without_sweeps (listed w.held)) entries split)
 
-accepted_part : (jobs : List Entry) (told : List Answer) → IsPart (accepted jobs told) jobs
-accepted_part [] told = tt
-accepted_part (job ∷ jobs) [] = tt
-accepted_part (job ∷ jobs) (answer ∷ told) = go (is_refused answer) (accepted_part jobs told)
+accepted_part : (entries : List Entry) (answers : List Answer) → IsPart (accepted entries answers) entries
+accepted_part [] answers = tt
+accepted_part (entry ∷ entries) [] = tt
+accepted_part (entry ∷ entries) (answer ∷ answers) = go (is_refused answer) (accepted_part entries answers)
   where
-    go : (b : Bool) → IsPart (accepted jobs told) jobs → IsPart (cond b (accepted jobs told) (job ∷ accepted jobs told)) (job ∷ jobs)
-    go true h = part_behind (accepted jobs told) jobs job h
+    go : (b : Bool) → IsPart (accepted entries answers) entries → IsPart (cond b (accepted entries answers) (entry ∷ accepted entries answers)) (entry ∷ entries)
+    go true h = part_behind (accepted entries answers) entries entry h
     go false h = inl (refl, h)
 
-written_part : (limit : ℕ) (jobs kept : List Entry) → IsWritten limit jobs kept → IsPart (without_sweeps kept) jobs
-written_part limit jobs kept w = let P : List Entry → Type 0 = λ l. IsPart l jobs in subst P (sym w.changes) (accepted_part jobs w.told)
+written_part : (limit : ℕ) (entries kept : List Entry) → IsWritten limit entries kept → IsPart (without_sweeps kept) entries
+written_part limit entries kept w = let P : List Entry → Type 0 = λ l. IsPart l entries in subst P (sym w.changes) (accepted_part entries w.answers)
 
 part_of_front : {A : Type 0} (xs ys zs : List A) → IsPart xs ys → IsPart xs (ys ++ zs)
 part_of_front [] ys zs part = tt
@@ -164,13 +164,13 @@ visits_send limit number gate (visit ∷ visits) last none (one, rest) =
     let own = c.publications in
     let from = start (assigned_of gate.mark.place number) gate.known gate.mark in
     let (more, sends, later) = visits_send limit (next_number number) visit.gate visits last c.none_ahead rest in
-    let P : List Turn → Type 0 = λ turns. AreSentBy from turns own.entries in
-    let Q : List Turn → Type 0 = λ turns. AreLeft from turns visit.planned (operations_of c.tail) in
-    let R : List Given → Type 0 = λ planned. AreLeft from c.turns planned (operations_of c.tail) in
+    let P : List Exchange → Type 0 = λ exchanges. AreSentBy from exchanges own.entries in
+    let Q : List Exchange → Type 0 = λ exchanges. AreLeft from exchanges visit.planned (operations_of c.tail) in
+    let R : List Given → Type 0 = λ planned. AreLeft from c.exchanges planned (operations_of c.tail) in
     let behind = both_sent c.mark.sent visit.gate.mark.sent last.mark.sent c.tail more c.handed_on.sent sends in (
       own.entries ++ (c.tail ++ more),
       both_sent gate.mark.sent c.mark.sent last.mark.sent own.entries (c.tail ++ more) own.sent behind,
-      (own.entries, c.tail, more, refl, subst P (sym one.turns) own.publications, subst Q (sym one.turns) (subst R (sym one.planned) (c.tail_is none)), later),
+      (own.entries, c.tail, more, refl, subst P (sym one.exchanges) own.publications, subst Q (sym one.exchanges) (subst R (sym one.planned) (c.tail_is none)), later),
     )
 
 place_sends : (limit : ℕ) (place : Place) (left : Left) → place.gate.mark.sent ≡ Some [] → place.gate.ahead ≡ [] → (served : IsPlaceServed limit place left) → ArePublications 1 place.gate served.visits left.line.sent
@@ -184,13 +184,13 @@ place_sends limit place left fresh none served =
 
 -- ---- the places
 
-each_of_store : (limit : ℕ) (history jobs : List Entry) (places : List Place) (left : List Left) → IsLegal limit history → ((place : ℕ) → IsPart (of_place place (without_sweeps history)) (of_place place jobs))
+each_of_store : (limit : ℕ) (history entries : List Entry) (places : List Place) (left : List Left) → IsLegal limit history → ((place : ℕ) → IsPart (of_place place (without_sweeps history)) (of_place place entries))
     → AllByRecursion (λ place. (place.gate.mark.sent ≡ Some []) × (place.gate.ahead ≡ [])) places → AreEachServed limit places left
-    → AllByRecursion (λ end. Extends history end.told) left → AllByRecursion (λ end. Extends end.line.sent (of_place end.line.place jobs)) left → ArePlacesOf limit history jobs places left
-each_of_store limit history jobs [] [] legal part fresh each told taken = tt
-each_of_store limit history jobs [] (end ∷ left) legal part fresh each told taken = absurd each
-each_of_store limit history jobs (place ∷ places) [] legal part fresh each told taken = absurd each
-each_of_store limit history jobs (place ∷ places) (end ∷ left) legal part fresh each told taken =
+    → AllByRecursion (λ end. Extends history end.told) left → AllByRecursion (λ end. Extends end.line.sent (of_place end.line.place entries)) left → ArePlacesOf limit history entries places left
+each_of_store limit history entries [] [] legal part fresh each told taken = tt
+each_of_store limit history entries [] (end ∷ left) legal part fresh each told taken = absurd each
+each_of_store limit history entries (place ∷ places) [] legal part fresh each told taken = absurd each
+each_of_store limit history entries (place ∷ places) (end ∷ left) legal part fresh each told taken =
     let served : IsPlaceServed limit place end = each.0 in
     let P : List Entry → Type 0 = λ l. Extends history l in
     let own = of_place end.line.place (without_sweeps history) in
@@ -201,9 +201,9 @@ each_of_store limit history jobs (place ∷ places) (end ∷ left) legal part fr
         known = told.0;
         publications = place_sends limit place end fresh.0.0 fresh.0.1 served;
         taken = taken.0;
-        part = subst Q (sym taken.0.1) (part_of_front own (of_place end.line.place jobs) taken.0.0 (part end.line.place));
+        part = subst Q (sym taken.0.1) (part_of_front own (of_place end.line.place entries) taken.0.0 (part end.line.place));
       },
-      each_of_store limit history jobs places left legal part fresh.1 each.1 told.1 taken.1,
+      each_of_store limit history entries places left legal part fresh.1 each.1 told.1 taken.1,
     )
 
 new_lines_length : (places : ℕ) → length (new_lines places) ≡ places
@@ -258,28 +258,28 @@ places_fresh (plan ∷ plans) [] fresh = tt
 places_fresh (plan ∷ plans) (line ∷ lines) fresh = ((ap (λ (l : List Entry). Some l) fresh.0, refl), places_fresh plans lines fresh.1)
 
 -- the whole run
-store_run : (limit places : ℕ) (before after : List Plan) (gates : List SharedValue) (left : List Left) (w : Written) (jobs : List Entry) (version : ℕ) (changes : Option ℕ)
-    → gates ≡ new_gates places → length before ≡ places → AreEachServed limit (places_of before gates) left → IsWritten limit jobs (kept_of w) → IsLegal limit w.published
-    → AllByRecursion (λ end. Extends w.published end.told) left → AllByRecursion (λ end. Extends end.line.sent (of_place end.line.place jobs)) left
-    → IfSome changes (IsSettled jobs left) → (length left ≡ places → AreOfPlaces places jobs) → version ≡ length w.published → after ≡ map (λ end. end.plan) left → IsStoreRun limit places before after version changes
-store_run limit places before after gates left w jobs version changes new turns served written legal known taken settled placed version_is after_is =
+store_run : (limit places : ℕ) (before after : List Plan) (gates : List SharedValue) (left : List Left) (w : Written) (entries : List Entry) (version : ℕ) (changes : Option ℕ)
+    → gates ≡ new_gates places → length before ≡ places → AreEachServed limit (places_of before gates) left → IsWritten limit entries (kept_of w) → IsLegal limit w.published
+    → AllByRecursion (λ end. Extends w.published end.told) left → AllByRecursion (λ end. Extends end.line.sent (of_place end.line.place entries)) left
+    → IfSome changes (IsSettled entries left) → AreOfPlaces places entries → version ≡ length w.published → after ≡ map (λ end. end.plan) left → IsStoreRun limit places before after version changes
+store_run limit places before after gates left w entries version changes new turns served written legal known taken settled placed version_is after_is =
     let gates_count : length gates ≡ places = ap length new ∙ new_gates_length places in
     let all = places_length before gates (turns ∙ sym gates_count) in
     let each = each_length limit (places_of before gates) left served in
     let count : length left ≡ places = omega (arith, each, all, gates_count) in
     let P : List SharedValue → Type 0 = λ l. AreEachServed limit (places_of before l) left in
-    let part = written_part limit jobs (kept_of w) written in
+    let part = written_part limit entries (kept_of w) written in
     record {
       history = w.published;
       legal = legal;
       entries = version_is;
-      jobs = jobs;
+      taken = entries;
       held = w.held;
       written = written;
-      placed = placed count;
+      placed = placed;
       accepted_of = λ place. ap (of_place place) written.changes;
       left = left;
-      each = each_of_store limit w.published jobs (places_of before (new_gates places)) left legal (λ place. published_part w jobs place part)
+      each = each_of_store limit w.published entries (places_of before (new_gates places)) left legal (λ place. published_part w entries place part)
           (places_fresh before (new_lines places) (lines_fresh places)) (subst P new served) known taken;
       count = count;
       turns = after_is;
@@ -337,13 +337,13 @@ if_ordered b P None m = tt
 if_ordered true P (Some n) m = refl
 if_ordered false P (Some n) m = absurd (cc (m))
 
-settled_so : {E : Type 0} (h : E → Left) (line : E → Closed) (jobs : List Entry) (ends : List E) (n : ℕ) → ((e : E) → (h e).line ≡ line e)
-    → AreTaken jobs (map line ends) × (n ≡ length jobs) × (n ≡ sent_in_all (map line ends)) → IsSettled jobs (map h ends) n
-settled_so {E} h line jobs ends n is (taken, counted, sent) =
-    let P : Closed → Type 0 = λ e. of_place e.place jobs ≡ e.sent in
+settled_so : {E : Type 0} (h : E → Left) (line : E → Closed) (entries : List Entry) (ends : List E) (n : ℕ) → ((e : E) → (h e).line ≡ line e)
+    → AreTaken entries (map line ends) × (n ≡ length entries) × (n ≡ sent_in_all (map line ends)) → IsSettled entries (map h ends) n
+settled_so {E} h line entries ends n is (taken, counted, sent) =
+    let P : Closed → Type 0 = λ e. of_place e.place entries ≡ e.sent in
     record {
-      taken = all_at line h P (λ end. of_place end.line.place jobs ≡ end.line.sent) (λ e t. subst P (sym (is e)) t) ends (recursion_from_All P (map line ends) taken);
-      jobs_are = counted;
+      taken = all_at line h P (λ end. of_place end.line.place entries ≡ end.line.sent) (λ e t. subst P (sym (is e)) t) ends (recursion_from_All P (map line ends) taken);
+      entries_are = counted;
       sent = sent ∙ ap sent_in_all (lines_same h line is ends);
     }
   where
@@ -356,14 +356,14 @@ if_some_more None P Q to h = tt
 if_some_more (Some x) P Q to h = to x h
 
 pub whole_run : {T E : Type 0} (turns : List T) (ends : List E) (plan : T → Plan) (turn : E → T) (told : E → List Entry) (line : E → Closed) (own limit places : ℕ) (turns_left : List T)
-    (seats : List (List Entry)) (lines : List Line) (gates : List SharedValue) (w : Written) (jobs : List Entry) (version : ℕ) (changes : Option ℕ) (ordered : Bool)
+    (seats : List (List Entry)) (lines : List Line) (gates : List SharedValue) (w : Written) (entries : List Entry) (version : ℕ) (changes : Option ℕ) (ordered : Bool)
     → own ≡ limit → length seats ≡ places → All (λ seat. seat ≡ []) seats → lines ≡ new_lines places → gates ≡ gates_of seats lines → length turns ≡ places
     → AreEachServed limit (places_of (map plan turns) gates) (map (λ e. left_at (plan (turn e)) (told e) (line e)) ends)
-    → IsWritten limit jobs (kept_of w) → IsLegal limit w.published → MatchBool ordered (All (λ e. IsPrefix (told e) w.published) ends) (changes ≡ None)
-    → AreTakenInOrder jobs (map line ends) → IfSome changes (λ n. AreTaken jobs (map line ends) × (n ≡ length jobs) × (n ≡ sent_in_all (map line ends)))
-    → (length ends ≡ places → AreOfPlaces places jobs) → version ≡ length w.published → turns_left ≡ map turn ends → IsTrue ordered
+    → IsWritten limit entries (kept_of w) → IsLegal limit w.published → MatchBool ordered (All (λ e. IsPrefix (told e) w.published) ends) (changes ≡ None)
+    → AreTakenInOrder entries (map line ends) → IfSome changes (λ n. AreTaken entries (map line ends) × (n ≡ length entries) × (n ≡ sent_in_all (map line ends)))
+    → AreOfPlaces places entries → version ≡ length w.published → turns_left ≡ map turn ends → IsTrue ordered
     → IsStoreRun own places (map plan turns) (map plan turns_left) version changes
-whole_run {T} {E} turns ends plan turn told line own limit places turns_left seats lines gates w jobs version changes ordered same count none lines_is gates_is turns_count served written legal known taken settled placed version_is left_is is_ordered =
+whole_run {T} {E} turns ends plan turn told line own limit places turns_left seats lines gates w entries version changes ordered same count none lines_is gates_is turns_count served written legal known taken settled placed version_is left_is is_ordered =
     let h : E → Left = λ e. left_at (plan (turn e)) (told e) (line e) in
     let left = map h ends in
     let new : gates ≡ new_gates places =
@@ -373,9 +373,9 @@ whole_run {T} {E} turns ends plan turn told line own limit places turns_left sea
     let K : E → Type 0 = λ e. IsPrefix (told e) w.published in
     let all_known : AllByRecursion (λ end. Extends w.published end.told) left =
     all_seen h K (λ end. Extends w.published end.told) (λ e k. (k.0, sym k.1)) ends (recursion_from_All K ends (matched ordered (All K ends) (changes ≡ None) known is_ordered)) in
-    let C : Closed → Type 0 = λ e. IsPrefix (of_place e.place jobs) e.sent in
-    let all_taken : AllByRecursion (λ end. Extends end.line.sent (of_place end.line.place jobs)) left =
-    all_at line h C (λ end. Extends end.line.sent (of_place end.line.place jobs)) (λ e k. (k.0, sym k.1)) ends (recursion_from_All C (map line ends) taken) in
-    let so = if_some_more changes _ (IsSettled jobs left) (λ n s. settled_so h line jobs ends n (λ e. refl) s) settled in
+    let C : Closed → Type 0 = λ e. IsPrefix (of_place e.place entries) e.sent in
+    let all_taken : AllByRecursion (λ end. Extends end.line.sent (of_place end.line.place entries)) left =
+    all_at line h C (λ end. Extends end.line.sent (of_place end.line.place entries)) (λ e k. (k.0, sym k.1)) ends (recursion_from_All C (map line ends) taken) in
+    let so = if_some_more changes _ (IsSettled entries left) (λ n s. settled_so h line entries ends n (λ e. refl) s) settled in
     let R : ℕ → Type 0 = λ l. IsStoreRun l places (map plan turns) (map plan turns_left) version changes in
-    subst R (sym same) (store_run limit places (map plan turns) (map plan turns_left) gates left w jobs version changes new (length-map turns plan ∙ turns_count) served written legal all_known all_taken so (λ count. placed (sym (length-map ends h) ∙ count)) version_is after)
+    subst R (sym same) (store_run limit places (map plan turns) (map plan turns_left) gates left w entries version changes new (length-map turns plan ∙ turns_count) served written legal all_known all_taken so placed version_is after)

@@ -1,12 +1,11 @@
 -- The connections of a place, one after the other, and the places of a store.
 use Rattle.std.specs.Prelude.{◌≡◌, ℕ, ◌+◌, ◌-◌, ◌^◌, min, List, [], ◌∷◌, map, Some}
-use Rattle.std.specs.Io.KnownBytes.{Consumes, IsAtEnd}
 use Rattle.rs_intake.specs.Lines.{Closed, IsClosed}
 use Rattle.rs_message.specs.declared.entry.Entry.{Entry}
 use Rattle.rs_session.specs.Points.{Given}
-use Rattle.rs_session.specs.Run.{Turn}
+use Rattle.rs_session.specs.Run.{Exchange}
 use Rattle.rs_server.specs.Clock.{TellsInOrder}
-use Rattle.rs_server.specs.Conversation.{Causes, WritesTurns, assigned_of, start}
+use Rattle.rs_server.specs.Conversation.{Causes, Transfer, assigned_of, start}
 use Rattle.rs_places.specs.Serving.{IsServedAt}
 use Rattle.rs_places.specs.Shared.{SharedValue}
 use Rattle.rs_places.specs.Turns.{AreAll, Ending, Plan, Streams, TakesBack, TookBack}
@@ -15,22 +14,30 @@ use Rattle.rs_places.specs.Turns.{AreAll, Ending, Plan, Streams, TakesBack, Took
 abbrev pub next_number : ℕ → ℕ
 next_number number = min (number + 1) (2 ^ 64 - 1)
 
--- a connection that was served: what was known of it before and after, the turns of its session, what was decoded behind them and not
+-- a connection that was served: what was known of it before and after, the exchanges of its session, what was decoded behind them and not
 -- handled, and what the gate knew after it
 pub record Visit : Type 0 where
   pub given : Streams
   pub ending : Ending
-  pub turns : List Turn
+  pub exchanges : List Exchange
   pub planned : List Given
   pub gate : SharedValue
+
+-- what a connection transferred, by what is known of its streams before and after
+abbrev pub transfer_of : Streams → Streams → Transfer
+transfer_of before after = record {
+  unread = before.unread;
+  rest = after.unread;
+  written = before.written;
+  more = after.written;
+  told = TellsInOrder before.moments after.moments;
+}
 
 -- It was served under this number, from what the gate knew before, over these streams.
 pub record IsConnectionServed (limit number : ℕ) (before : SharedValue) (visit : Visit) : Type 0 where
   pub connection : IsServedAt limit (start (assigned_of before.mark.place number) before.known before.mark) before.ahead
-      (Consumes visit.given.unread visit.ending.streams.unread) (IsAtEnd visit.ending.streams.unread)
-      (TellsInOrder visit.given.moments visit.ending.streams.moments)
-      (WritesTurns visit.ending.result visit.given.written visit.ending.streams.written) visit.ending.result visit.gate
-  pub turns : visit.turns ≡ connection.turns
+      (transfer_of visit.given visit.ending.streams) visit.ending.result visit.gate
+  pub exchanges : visit.exchanges ≡ connection.exchanges
   pub planned : visit.planned ≡ connection.planned
   -- its reader and its writer had not failed before; a fault says which of them did, or that memory was refused and none did
   pub cause : Causes visit.ending.result 0 visit.ending.read_failures 0 visit.ending.write_failures

@@ -15,7 +15,7 @@ use Rattle.rs_intake.specs.Sweeps.{without_sweeps}
 use Rattle.rs_session.specs.Gate.{Extends}
 use Rattle.rs_session.specs.Kept.{IsKeptIn, IsToldKept, lists_of, point_after}
 use Rattle.rs_session.specs.Points.{Point}
-use Rattle.rs_session.specs.Run.{Turn}
+use Rattle.rs_session.specs.Run.{Exchange}
 use Rattle.rs_session.specs.Sent.{AreSentBy}
 use Rattle.rs_session.specs.State.{State}
 use Rattle.rs_session.specs.declared.open.Open.{Open}
@@ -39,10 +39,10 @@ new_gates places = map (λ line. handed_on [] line) (new_lines places)
 -- which each retained publication that the client was told is kept stands once.
 pub record IsWithin (list : List Entry) (from : Point State) (visit : Visit) : Type 0 where
   pub first : Extends list from.seen
-  pub lists : AllByRecursion (λ seen. Extends list seen) (lists_of visit.turns)
-  pub kept : (before : List Turn) (turn : Turn) (after : List Turn) (o : Open) (p : Publish) (answer : Reply) → visit.turns ≡ before ++ turn ∷ after
-      → (point_after from before).state.phase ≡ phase.Open o → IsToldKept o turn p answer
-      → IsKeptIn (point_after from before).mark turn p (list ∷ [])
+  pub lists : AllByRecursion (λ seen. Extends list seen) (lists_of visit.exchanges)
+  pub kept : (before : List Exchange) (exchange : Exchange) (after : List Exchange) (o : Open) (p : Publish) (answer : Reply) → visit.exchanges ≡ before ++ exchange ∷ after
+      → (point_after from before).state.phase ≡ phase.Open o → IsToldKept o exchange p answer
+      → IsKeptIn (point_after from before).mark exchange p (list ∷ [])
 
 -- the same of connections one after the other, numbered from this number on
 abbrev pub AreWithin : List Entry → ℕ → SharedValue → List Visit → Type 0
@@ -50,19 +50,19 @@ AreWithin list number first [] = Unit {0}
 AreWithin list number first (visit ∷ visits) =
     IsWithin list (start (assigned_of first.mark.place number) first.known first.mark) visit × AreWithin list (next_number number) visit.gate visits
 
--- What these connections send, one after the other: what their turns send, and behind that of each connection a tail. It is of changes of
--- publications that the connection's bytes hold behind the last packet that was handled, or of that one too, if it sent nothing and
--- ended the session.
+-- What these connections send, one after the other: what their exchanges send, and behind that of each connection a tail. It is of
+-- changes of publications that the connection's bytes hold behind the last packet that was handled, or of that one too, if it sent
+-- nothing and ended the session.
 abbrev pub ArePublications : ℕ → SharedValue → List Visit → List Entry → Type 0
 ArePublications number first [] entries = entries ≡ []
 ArePublications number first (visit ∷ visits) entries =
     (own : List Entry) × (tail : List Entry) × (rest : List Entry) × (entries ≡ own ++ (tail ++ rest))
-    × AreSentBy (start (assigned_of first.mark.place number) first.known first.mark) visit.turns own
-    × AreLeft (start (assigned_of first.mark.place number) first.known first.mark) visit.turns visit.planned (operations_of tail)
+    × AreSentBy (start (assigned_of first.mark.place number) first.known first.mark) visit.exchanges own
+    × AreLeft (start (assigned_of first.mark.place number) first.known first.mark) visit.exchanges visit.planned (operations_of tail)
     × ArePublications (next_number number) visit.gate visits rest
 
--- A place was served its turn, over a store with this history, whose writer took these jobs.
-pub record IsPlaceOf (limit : ℕ) (history jobs : List Entry) (place : Place) (left : Left) : Type 0 where
+-- A place was served its turn, over a store with this history, whose writer took these entries.
+pub record IsPlaceOf (limit : ℕ) (history entries : List Entry) (place : Place) (left : Left) : Type 0 where
   -- all its connections were served, in their order, and each was taken back as it ended
   pub served : IsPlaceServed limit place left
   -- Each list that a filter of a connection was answered from is a prefix of the history. Each retained publication that its client
@@ -74,21 +74,21 @@ pub record IsPlaceOf (limit : ℕ) (history jobs : List Entry) (place : Place) (
   -- told is kept; and behind those of each connection at most publications that its bytes hold behind the last one handled.
   pub publications : ArePublications 1 place.gate served.visits left.line.sent
   -- what the writer took of the place is a prefix of that
-  pub taken : Extends left.line.sent (of_place left.line.place jobs)
+  pub taken : Extends left.line.sent (of_place left.line.place entries)
   -- what the history has of the place, but for the Sweeps, is a part of what it sent, in order, each at most once
   pub part : IsPart (of_place left.line.place (without_sweeps history)) left.line.sent
 
 -- of each place this is left
 abbrev pub ArePlacesOf : ℕ → List Entry → List Entry → List Place → List Left → Type 0
-ArePlacesOf limit history jobs [] [] = Unit {0}
-ArePlacesOf limit history jobs [] (left ∷ more) = ⊥
-ArePlacesOf limit history jobs (place ∷ places) [] = ⊥
-ArePlacesOf limit history jobs (place ∷ places) (left ∷ more) = IsPlaceOf limit history jobs place left × ArePlacesOf limit history jobs places more
+ArePlacesOf limit history entries [] [] = Unit {0}
+ArePlacesOf limit history entries [] (left ∷ more) = ⊥
+ArePlacesOf limit history entries (place ∷ places) [] = ⊥
+ArePlacesOf limit history entries (place ∷ places) (left ∷ more) = IsPlaceOf limit history entries place left × ArePlacesOf limit history entries places more
 
 -- so many changes are settled: all that each place sent was taken, and these are all that were taken
-pub record IsSettled (jobs : List Entry) (left : List Left) (changes : ℕ) : Type 0 where
-  pub taken : AllByRecursion (λ end. of_place end.line.place jobs ≡ end.line.sent) left
-  pub jobs_are : changes ≡ length jobs
+pub record IsSettled (entries : List Entry) (left : List Left) (changes : ℕ) : Type 0 where
+  pub taken : AllByRecursion (λ end. of_place end.line.place entries ≡ end.line.sent) left
+  pub entries_are : changes ≡ length entries
   pub sent : changes ≡ sent_in_all (map (λ end. end.line) left)
 
 -- A store of so many new places was run. Each place served its turn, from that before to that after; the writer published so many
@@ -98,19 +98,19 @@ pub record IsStoreRun (limit places : ℕ) (before after : List Plan) (version :
   pub history : List Entry
   pub legal : IsLegal limit history
   pub entries : version ≡ length history
-  -- The writer took these jobs, and answered each. By its answers the history came to be, and an entry behind it that is not
-  -- published, if one is held. All of it but the Sweeps are the jobs that were not refused.
-  pub jobs : List Entry
+  -- The writer took these entries, and answered each. By its answers the history came to be, and an entry behind it that is not
+  -- published, if one is held. All of it but the Sweeps are the entries that were not refused.
+  pub taken : List Entry
   pub held : Option Entry
-  pub written : IsWritten limit jobs (history ++ listed held)
-  -- they are of these places alone
-  pub placed : AreOfPlaces places jobs
+  pub written : IsWritten limit taken (history ++ listed held)
+  -- the entries that it took are of these places alone
+  pub placed : AreOfPlaces places taken
   -- so of each place it has what was taken of the place less what was refused
-  pub accepted_of : (place : ℕ) → of_place place (without_sweeps (history ++ listed held)) ≡ of_place place (accepted jobs written.told)
+  pub accepted_of : (place : ℕ) → of_place place (without_sweeps (history ++ listed held)) ≡ of_place place (accepted taken written.answers)
   -- of each place: its connections, what they saw, what they sent, and what became of that
   pub left : List Left
-  pub each : ArePlacesOf limit history jobs (places_of before (new_gates places)) left
+  pub each : ArePlacesOf limit history taken (places_of before (new_gates places)) left
   pub count : length left ≡ places
   pub turns : after ≡ map (λ end. end.plan) left
   -- all that the places sent was taken, once
-  pub settled : IfSome changes (IsSettled jobs left)
+  pub settled : IfSome changes (IsSettled taken left)

@@ -1,9 +1,8 @@
 //! One connection of a place over a store that other places use too.
 
 ghost use Rattle.std.specs.Prelude.{◌<◌, ◌-◌, ◌^◌};
-ghost use Rattle.std.specs.Io.KnownBytes.{Consumes, IsAtEnd};
 ghost use Rattle.rs_server.specs.Clock.{TellsInOrder};
-ghost use Rattle.rs_server.specs.Conversation.{Causes, WritesTurns, assigned_of, start};
+ghost use Rattle.rs_server.specs.Conversation.{Causes, assigned_of, start};
 ghost use Rattle.rs_server.specs.Counts.{failures_of, inner_of};
 ghost use Rattle.rs_places.specs.Serving.{IsServedAt};
 
@@ -21,7 +20,7 @@ use std::sync::Wait;
 /// - Each filter was answered from a legal list (`legal`), of which every list before is a prefix, the one that the seat knew
 ///   first too. All of them are prefixes of the list that the seat knows after the call (`lists`).
 /// - A retained publication that the client was told is kept stands once in every later list (`kept`).
-/// - What the turns of the session sent are the client's retained publications, in their order, each at most once, and each that the
+/// - What the exchanges of the session sent are the client's retained publications, in their order, each at most once, and each that the
 ///   client was told is kept (`publications`). If the gate expected nothing before, the gate's line sent beyond that at most publications
 ///   that the bytes hold behind the last one that it handled, or that one, if it sent nothing and ended the session (`tail`).
 /// - The replay sends what the filters were answered, in order, each message once (`sent`).
@@ -41,9 +40,13 @@ pub fn serve_place<T: Wait, N: LineName, H: Wait + Copy, R: Read, W: Write, C: C
     requires reader_room { failures_of reader.old < 2 ^ 64 - 1 }
     requires writer_room { failures_of writer.old < 2 ^ 64 - 1 }
     ensures connection { IsServedAt N.limit (start (assigned_of gate.mark.place number) gate.known gate.mark) gate.ahead
-        (Consumes (R.remaining (inner_of reader.old)) (R.remaining (inner_of reader.new))) (IsAtEnd (R.remaining (inner_of reader.new)))
-        (TellsInOrder (C.moments clock.old) (C.moments clock.new))
-        (WritesTurns result.0 (W.contents (inner_of writer.old)) (W.contents (inner_of writer.new))) result.0 result.1 }
+        (record {
+          unread = R.remaining (inner_of reader.old);
+          rest = R.remaining (inner_of reader.new);
+          written = W.contents (inner_of writer.old);
+          more = W.contents (inner_of writer.new);
+          told = TellsInOrder (C.moments clock.old) (C.moments clock.new);
+        }) result.0 result.1 }
     ensures cause { Causes result.0 (failures_of reader.old) (failures_of reader.new) (failures_of writer.old) (failures_of writer.new) }
 {
     // For the proof: this call says that the known list is legal.

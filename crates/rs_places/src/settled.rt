@@ -4,7 +4,7 @@ ghost use Rattle.std.specs.Prelude.{◌≡◌, ◌<◌, ◌≤◌, ◌++◌, ◌
 ghost use Rattle.std.specs.List.{HoldsAt};
 ghost use mathlib.Core.List.{IsPrefix};
 ghost use Rattle.rs_store.specs.History.{IsLegal};
-ghost use Rattle.rs_intake.specs.Settling.{AreOfPlaces, AreTaken, AreTakenInOrder, sent_in_all};
+ghost use Rattle.rs_intake.specs.Settling.{AreTaken, AreTakenInOrder, sent_in_all};
 
 use crate::running::{PlaceEnd, PlacesEnd};
 use crate::store::StoreEnd;
@@ -89,7 +89,6 @@ pub(crate) fn settled<N: LineName, T: Turn + Drop, R: Wait + Drop>(
     ensures legal { IsLegal N.limit ended.writer.published }
     ensures ordered { MatchBool result.ordered (All (λ end. IsPrefix end.told ended.writer.published) end.ends.items) (result.changes ≡ None) }
     ensures order { AreTakenInOrder ended.jobs.entries (map (λ end. end.line) end.ends.items) }
-    ensures placed { length end.ends.items ≡ N.places → AreOfPlaces N.places ended.jobs.entries }
     ensures settled { IfSome result.changes (λ changes. AreTaken ended.jobs.entries (map (λ end. end.line) end.ends.items)
         × (changes ≡ length ended.jobs.entries) × (changes ≡ sent_in_all (map (λ end. end.line) end.ends.items))) }
 {

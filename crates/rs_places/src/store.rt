@@ -57,15 +57,17 @@ pub fn open_gates<N: LineName, H: Wait + Copy>(
     Ok(gates)
 }
 
-/// What the writer's thread promises: the list that it keeps came to be by its answers to the jobs that it took.
+/// What the writer's thread promises: the list that it keeps came to be by its answers to the entries that it took, and these are of
+/// its places alone.
 #[derive(Drop)]
 struct AnswersJobs;
 
 impl<N: LineName, R: Wait + Drop> Promise<Ended<N, R>> for AnswersJobs {
     ghost use Rattle.rs_intake.specs.Done.{IsWritten};
+    ghost use Rattle.rs_intake.specs.Settling.{AreOfPlaces};
     ghost use Rattle.rs_version.specs.Writer.{kept_of};
 
-    ghost kept_by = { λ promise ended. IsWritten N.limit ended.jobs.entries (kept_of ended.writer) };
+    ghost kept_by = { λ promise ended. IsWritten N.limit ended.jobs.entries (kept_of ended.writer) × AreOfPlaces N.places ended.jobs.entries };
 }
 
 /// The writer's thread.
@@ -84,11 +86,11 @@ fn start_writer<
 /// Runs a store that is empty at first: serves a turn at each of its places, each place on a thread of its own, as
 /// [`run_places`] does, with the writer on one more, and settles. The first turn goes with place 1, and so on.
 ///
-/// The contract is one statement about the run, `IsStoreRun`: there is one legal history, which the
-/// writer made by its answers of the jobs that it took, all from these places; all lists that any connection of any place was answered from are prefixes of
-/// it; each retained publication that any client was told is kept stands in it once; each place served all connections of its turn,
-/// over their own bytes and at their own times; what a place sent are their retained publications, in order; and if the changes are
-/// known, all of it was taken, once.
+/// The contract is one statement about the run, `IsStoreRun`: there is one legal history, which the writer made by its answers to the
+/// entries that it took, all from these places; all lists that any connection of any place was answered from are prefixes of it; each
+/// retained publication that any client was told is kept stands in it once; each place served all connections of its turn, over their
+/// own bytes and at their own times; what a place sent are their retained publications, in order; and if the changes are known, all of
+/// it was taken, once.
 ///
 /// # Errors
 ///

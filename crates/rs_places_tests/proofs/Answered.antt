@@ -4,7 +4,7 @@ use Rattle.std.specs.Prelude.{IfOk, Result, Ok, Err}
 use Rattle.std.specs.List.{AllByRecursion}
 use Rattle.rs_session.specs.Gate.{Extends}
 use Rattle.rs_session.specs.Kept.{lists_of}
-use Rattle.rs_session.specs.Run.{Turn}
+use Rattle.rs_session.specs.Run.{Exchange}
 use Rattle.rs_places.proofs.Whole.{new_gates_length}
 use Rattle.rs_message.specs.declared.entry.Entry.{Entry}
 use Rattle.rs_places.specs.Places.{AreConnectionsServed, Left, Place, Visit, next_number, places_of}
@@ -13,8 +13,8 @@ use Rattle.rs_places.specs.Store.{ArePlacesOf, AreWithin, IsPlaceOf, IsStoreRun,
 use Rattle.rs_places.specs.Turns.{AreAll, Ending, Plan, Streams, TookBack}
 use Rattle.rs_places_tests.specs.Answered.{AreAnswered, ArePlacesAnswered, EachAnswered, IsPlaceAnswered}
 
-abbrev AllOf : List Entry → List Turn → Type 0
-AllOf history turns = AllByRecursion (λ list. Extends history list) (lists_of turns)
+abbrev AllOf : List Entry → List Exchange → Type 0
+AllOf history exchanges = AllByRecursion (λ list. Extends history list) (lists_of exchanges)
 
 visits_answered : (limit number : ℕ) (history : List Entry) (gate : SharedValue) (visits : List Visit) (last : SharedValue) → AreConnectionsServed limit number gate visits last → AreWithin history number gate visits
     → EachAnswered history (map (λ visit. visit.given) visits) (map (λ visit. visit.ending) visits)
@@ -26,7 +26,7 @@ visits_answered limit number history gate (visit ∷ visits) last (one, rest) (h
         seen = gate.known;
         mark = gate.mark;
         to = _;
-        turns = c.turns;
+        exchanges = c.exchanges;
         bytes = c.bytes;
         held = c.held;
         planned = c.planned;
@@ -38,7 +38,7 @@ visits_answered limit number history gate (visit ∷ visits) last (one, rest) (h
         moments = c.moments;
         replies = c.replies;
         first = here.first;
-        lists = subst (AllOf history) one.turns here.lists;
+        lists = subst (AllOf history) one.exchanges here.lists;
         cause = one.cause;
       },
       visits_answered limit (next_number number) history visit.gate visits last rest more,
@@ -53,21 +53,21 @@ answered_by history (Some waiting) (Some before) (Some ended) given endings some
     let E : List Streams → Type 0 = λ l. EachAnswered history l endings in
     (endings, took, subst E (sym all) each)
 
-place_answered : (limit : ℕ) (history jobs : List Entry) (place : Place) (left : Left) → is_some place.plan.waiting ≡ true → IsPlaceOf limit history jobs place left
+place_answered : (limit : ℕ) (history entries : List Entry) (place : Place) (left : Left) → is_some place.plan.waiting ≡ true → IsPlaceOf limit history entries place left
     → IsPlaceAnswered history place.plan.waiting place.plan.ended left.plan.ended
-place_answered limit history jobs place left some p =
+place_answered limit history entries place left some p =
     let visits = p.served.visits in
     answered_by history place.plan.waiting place.plan.ended left.plan.ended _ _ some p.served.all p.served.ended
     (visits_answered limit 1 history place.gate visits p.served.last p.served.connections p.within)
 
-places_answered : (limit : ℕ) (history jobs : List Entry) (before : List Plan) (gates : List SharedValue) (left : List Left) → length before ≡ length gates
-    → AllByRecursion (λ plan. is_some plan.waiting ≡ true) before → ArePlacesOf limit history jobs (places_of before gates) left → ArePlacesAnswered history before (map (λ end. end.plan) left)
-places_answered limit history jobs [] gates [] same known each = tt
-places_answered limit history jobs [] gates (end ∷ left) same known each = absurd each
-places_answered limit history jobs (plan ∷ plans) [] left same known each = absurd (omega (arith, same))
-places_answered limit history jobs (plan ∷ plans) (gate ∷ gates) [] same known each = absurd each
-places_answered limit history jobs (plan ∷ plans) (gate ∷ gates) (end ∷ left) same known each =
-    (place_answered limit history jobs (record { plan = plan; gate = gate }) end known.0 each.0, places_answered limit history jobs plans gates left (omega (arith, same)) known.1 each.1)
+places_answered : (limit : ℕ) (history entries : List Entry) (before : List Plan) (gates : List SharedValue) (left : List Left) → length before ≡ length gates
+    → AllByRecursion (λ plan. is_some plan.waiting ≡ true) before → ArePlacesOf limit history entries (places_of before gates) left → ArePlacesAnswered history before (map (λ end. end.plan) left)
+places_answered limit history entries [] gates [] same known each = tt
+places_answered limit history entries [] gates (end ∷ left) same known each = absurd each
+places_answered limit history entries (plan ∷ plans) [] left same known each = absurd (omega (arith, same))
+places_answered limit history entries (plan ∷ plans) (gate ∷ gates) [] same known each = absurd each
+places_answered limit history entries (plan ∷ plans) (gate ∷ gates) (end ∷ left) same known each =
+    (place_answered limit history entries (record { plan = plan; gate = gate }) end known.0 each.0, places_answered limit history entries plans gates left (omega (arith, same)) known.1 each.1)
 
 pub run_answered : (limit places : ℕ) (before after : List Plan) (version : ℕ) (changes : Option ℕ) → length before ≡ places → AllByRecursion (λ plan. is_some plan.waiting ≡ true) before → IsStoreRun limit places before after version changes → AreAnswered limit before after version
 run_answered limit places before after version changes count known run =
@@ -76,7 +76,7 @@ run_answered limit places before after version changes count known run =
       history = run.history;
       legal = run.legal;
       entries = run.entries;
-      places = subst P (sym run.turns) (places_answered limit run.history run.jobs before (new_gates places) run.left (count ∙ sym (new_gates_length places)) known run.each);
+      places = subst P (sym run.turns) (places_answered limit run.history run.taken before (new_gates places) run.left (count ∙ sym (new_gates_length places)) known run.each);
     }
 
 pub if_ok_more : {A E : Type 0} (r : Result A E) (P Q : A → Type 0) → ((x : A) → P x → Q x) → IfOk r P → IfOk r Q

@@ -7,10 +7,10 @@ use Rattle.rs_store.specs.History.{IsLegal}
 use Rattle.rs_session.specs.Gate.{Extends, Mark}
 use Rattle.rs_session.specs.Kept.{lists_of}
 use Rattle.rs_session.specs.Points.{Given, Point}
-use Rattle.rs_session.specs.Run.{Run, Turn}
+use Rattle.rs_session.specs.Run.{Run, Exchange}
 use Rattle.rs_session.specs.State.{State}
 use Rattle.rs_server.specs.Clock.{TellsInOrder}
-use Rattle.rs_server.specs.Conversation.{Causes, InputsOf, WritesTurns, inputs_of, moments_of, planned_inputs, planned_moments, start}
+use Rattle.rs_server.specs.Conversation.{Causes, InputsOf, WritesReplies, inputs_of, moments_of, planned_inputs, planned_moments, start}
 use Rattle.rs_places.specs.Turns.{Ending, Plan, Streams}
 
 -- The connection was answered by a session: what its client was written are the session's replies to the bytes that it sent. The list
@@ -20,20 +20,20 @@ pub record IsAnswered (history : List Entry) (given : Streams) (ending : Ending)
   pub seen : List Entry
   pub mark : Mark
   pub to : Point State
-  pub turns : List Turn
+  pub exchanges : List Exchange
   pub bytes : List ℕ
   pub held : List ℕ
   pub planned : List Given
   pub left : List ℕ
-  pub run : Run (start assigned seen mark) turns to
+  pub run : Run (start assigned seen mark) exchanges to
   pub read : Consumes given.unread ending.streams.unread bytes
-  pub inputs : InputsOf (inputs_of turns) bytes held
-  -- what was decoded behind the last turn's packet and not handled
+  pub inputs : InputsOf (inputs_of exchanges) bytes held
+  -- what was decoded behind the last exchange's packet and not handled
   pub whole : InputsOf (planned_inputs planned) held left
-  pub moments : TellsInOrder given.moments ending.streams.moments (moments_of turns ++ planned_moments planned)
-  pub replies : WritesTurns ending.result given.written ending.streams.written turns
+  pub moments : TellsInOrder given.moments ending.streams.moments (moments_of exchanges ++ planned_moments planned)
+  pub replies : WritesReplies ending.result given.written ending.streams.written exchanges
   pub first : Extends history seen
-  pub lists : AllByRecursion (λ list. Extends history list) (lists_of turns)
+  pub lists : AllByRecursion (λ list. Extends history list) (lists_of exchanges)
   pub cause : Causes ending.result 0 ending.read_failures 0 ending.write_failures
 
 -- each was answered, one after the other

@@ -6,7 +6,7 @@ use Rattle.rs_store.specs.History.{IsLegal, last_serial}
 use Rattle.rs_store.specs.Needed.{AreNeeded}
 use Rattle.rs_session.specs.Gate.{Mark}
 use Rattle.rs_session.specs.Points.{Point}
-use Rattle.rs_session.specs.Run.{Turn, Run, AreOfGate}
+use Rattle.rs_session.specs.Run.{Exchange, Run, AreOfGate}
 use Rattle.rs_session.specs.State.{State}
 use Rattle.rs_server.specs.declared.connection.Served.{Served}
 use Rattle.rs_program.specs.OwnStores.{IsOfOwnPlace, IsOwnEntry}
@@ -22,19 +22,19 @@ pub record IsOfMark (mark : Mark) (list : List Entry) : Type 0 where
   pub serial : last_serial 1 list ≡ mark.serial
 
 -- From an empty store, as connection 1 at place 1, a session was run over the packets of a prefix of the
--- input, each at this time. The output is its replies, and it ended so. The lists of each turn have no entry
+-- input, each at this time. The output is its replies, and it ended so. The lists of each exchange have no entry
 -- of a later one.
 pub record IsServed (input : List ℕ) (now : ℕ) (served : Served) (output : List ℕ) : Type 0 where
-  pub turns : List Turn
+  pub exchanges : List Exchange
   pub to : Point State
   pub taken : List ℕ
   pub held : List ℕ
   pub rest : List ℕ
-  pub run : Run (start (assigned_of 1 1) [] (record { place = 1; serial = 0; sent = None })) turns to
+  pub run : Run (start (assigned_of 1 1) [] (record { place = 1; serial = 0; sent = None })) exchanges to
   pub split : input ≡ taken ++ rest
-  pub inputs : InputsOf (inputs_of turns) taken held
-  pub moments : All (λ moment. moment ≡ now) (moments_of turns)
-  pub replies : output ≡ replies_of turns
+  pub inputs : InputsOf (inputs_of exchanges) taken held
+  pub moments : All (λ moment. moment ≡ now) (moments_of exchanges)
+  pub replies : output ≡ replies_of exchanges
   pub closes : ClosesAs served to.state held (rest ≡ [])
-  pub each : AreOfGate IsOfMark turns
+  pub each : AreOfGate IsOfMark exchanges
   pub last : IsOfMark to.mark to.seen

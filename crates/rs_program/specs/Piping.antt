@@ -1,14 +1,11 @@
 -- One connection from an input to an output.
 use Rattle.std.specs.Prelude.{◌≡◌, ◌≤◌, ℕ, Bool, true, false, Option, None, Result, Ok, Err, List, length}
-use Rattle.std.specs.List.{All}
 use Rattle.std.specs.Io.KnownBytes.{append_known}
 use Rattle.rs_hex.specs.Lines.{read_bytes, written_bytes}
-use Rattle.rs_message.specs.declared.entry.Entry.{Entry}
 use Rattle.rs_message.specs.declared.entry.Operation.{Operation}
-use Rattle.rs_session.specs.Gate.{Mark}
 use Rattle.rs_session.specs.Points.{Point}
 use Rattle.rs_session.specs.State.{State}
-use Rattle.rs_server.specs.Conversation.{IsConnection}
+use Rattle.rs_server.specs.Conversation.{GateView, IsConnection, Transfer}
 use Rattle.rs_server.specs.declared.connection.Served.{Served}
 use Rattle.rs_program.specs.declared.piping.PipeFault.{PipeFault}
 use Rattle.rs_server.specs.declared.writing.ServeFault.{ServeFault}
@@ -44,14 +41,14 @@ abbrev pub piped : Result Served ServeFault → Option ℕ → Result Served Pip
 piped (Ok served) line = Ok served
 piped (Err fault) line = Err (pipe_fault fault line)
 
--- There was a connection whose every moment was `at`, over what the input and the output stand for. Its outcome
--- was answered so.
-pub record IsPiped (hex : Bool) (at : ℕ) (from : Point State) (stands_at : Mark → List Entry → Type 0) (stands : List Entry → Type 0) (mark : Mark) (most : ℕ) (unread rest written more : Option (List ℕ)) (first ahead : List Operation) (answered : Result Served PipeFault) : Type 0 where
+-- There was a connection over what the input and the output stand for. Its outcome was answered so.
+pub record IsPiped (hex : Bool) (from : Point State) (first : List Operation) (most : ℕ) (gate : GateView) (transfer : Transfer) (answered : Result Served PipeFault) : Type 0 where
   pub outcome : Result Served ServeFault
   pub left : Option (List ℕ)
   pub held : Option (List ℕ)
   pub line : Option ℕ
-  pub connection : IsConnection from stands_at stands mark most (All (λ moment. moment ≡ at)) (input_bytes hex unread) left (output_bytes hex written) held first ahead outcome
-  pub left_is : IsLeft hex rest left
-  pub held_is : IsHeld hex more held
+  pub connection : IsConnection from first most gate
+      (record { unread = input_bytes hex transfer.unread; rest = left; written = output_bytes hex transfer.written; more = held; told = transfer.told }) outcome
+  pub left_is : IsLeft hex transfer.rest left
+  pub held_is : IsHeld hex transfer.more held
   pub answer : answered ≡ piped outcome (if_hex hex line)

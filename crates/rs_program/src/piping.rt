@@ -1,9 +1,9 @@
 //! One connection from an input to an output.
 
 ghost use Rattle.std.specs.Prelude.{◌≡◌, List, true, false};
+ghost use Rattle.std.specs.List.{All};
 ghost use Rattle.rs_message.specs.declared.entry.Entry.{Entry};
-ghost use Rattle.rs_server.specs.Conversation.{assigned_of, start};
-ghost use Rattle.rs_session.specs.Gate.{StandsAt};
+ghost use Rattle.rs_server.specs.Conversation.{assigned_of, gate_view, start};
 ghost use Rattle.rs_program.specs.Piping.{IsPiped, piped};
 ghost use Rattle.rs_program.specs.Statuses.{pipe_fault, pipe_status};
 
@@ -78,8 +78,14 @@ pub fn pipe<H: Wait, R: Read + Drop, W: Write + Drop, G: Gate>(
     at: u64,
 ) -> Piped<R, W, G>
     ensures { (seen : List Entry) → G.stands gate seen
-        → IsPiped hex at (start (assigned_of 1 1) seen (G.mark gate)) (StandsAt G.stands G.mark) (G.stands result.gate) (G.mark result.gate) G.most
-        (R.remaining input) (R.remaining result.input) (W.contents output) (W.contents result.output) (G.ahead gate) (G.ahead result.gate) result.served }
+        → IsPiped hex (start (assigned_of 1 1) seen (G.mark gate)) (G.ahead gate) G.most (gate_view G.stands G.mark G.ahead result.gate)
+        (record {
+          unread = R.remaining input;
+          rest = R.remaining result.input;
+          written = W.contents output;
+          more = W.contents result.output;
+          told = All (λ moment. moment ≡ at);
+        }) result.served }
 {
     if hex {
         pipe_lines(rt, alloc, input, output, gate, at)
@@ -97,8 +103,14 @@ fn pipe_bytes<H: Wait, R: Read + Drop, W: Write + Drop, G: Gate>(
     at: u64,
 ) -> Piped<R, W, G>
     ensures { (seen : List Entry) → G.stands gate seen
-        → IsPiped false at (start (assigned_of 1 1) seen (G.mark gate)) (StandsAt G.stands G.mark) (G.stands result.gate) (G.mark result.gate) G.most
-        (R.remaining input) (R.remaining result.input) (W.contents output) (W.contents result.output) (G.ahead gate) (G.ahead result.gate) result.served }
+        → IsPiped false (start (assigned_of 1 1) seen (G.mark gate)) (G.ahead gate) G.most (gate_view G.stands G.mark G.ahead result.gate)
+        (record {
+          unread = R.remaining input;
+          rest = R.remaining result.input;
+          written = W.contents output;
+          more = W.contents result.output;
+          told = All (λ moment. moment ≡ at);
+        }) result.served }
 {
     let mut reader = Counted::new(input);
     let mut writer = Counted::new(output);
@@ -121,8 +133,14 @@ fn pipe_lines<H: Wait, R: Read + Drop, W: Write + Drop, G: Gate>(
     at: u64,
 ) -> Piped<R, W, G>
     ensures { (seen : List Entry) → G.stands gate seen
-        → IsPiped true at (start (assigned_of 1 1) seen (G.mark gate)) (StandsAt G.stands G.mark) (G.stands result.gate) (G.mark result.gate) G.most
-        (R.remaining input) (R.remaining result.input) (W.contents output) (W.contents result.output) (G.ahead gate) (G.ahead result.gate) result.served }
+        → IsPiped true (start (assigned_of 1 1) seen (G.mark gate)) (G.ahead gate) G.most (gate_view G.stands G.mark G.ahead result.gate)
+        (record {
+          unread = R.remaining input;
+          rest = R.remaining result.input;
+          written = W.contents output;
+          more = W.contents result.output;
+          told = All (λ moment. moment ≡ at);
+        }) result.served }
 {
     let mut reader = Counted::new(HexReader::new(alloc, input));
     let mut writer = Counted::new(HexWriter::new(output));

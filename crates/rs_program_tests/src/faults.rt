@@ -48,7 +48,7 @@ fn both_are_served<H: Wait, G: Gate + Drop>(
     pace: Pace,
 ) -> bool {
     let written = first_replies(fault, pace.at);
-    let (first, gate) = is_served(rt, alloc, gate, (FIRST, pace), fault.3, written);
+    let (first, gate) = is_served(rt, alloc, gate, (FIRST, pace), fault.ends, written);
     let none = Pace { at: 0, ..pace };
     let end = Ok(Served::EndOfInput);
     let got = second_replies(fault);
@@ -62,8 +62,8 @@ fn local_gate(alloc: Global) -> Result<LocalGate<MapCatalogue>, Fail> {
 }
 
 fn check<H: Abort + Wait>(rt: &H, alloc: Global, step: usize, fault: &Fault) -> Result<(), Fail> {
-    let (call, first, last, _, _, _) = *fault;
-    for at in first..=last {
+    let call = fault.call;
+    for at in fault.first..=fault.last {
         let pace = Pace { step, call, at };
         let own = both_are_served(rt, alloc, OwnGate::new(alloc)?, fault, pace);
         assert!(rt; own, "{call:?} {at}");
@@ -85,7 +85,7 @@ fn one_call_fails(rt: HostRuntime) -> Result<(), Fail> {
 #[test]
 fn one_write_or_flush_fails_behind_one_read(rt: HostRuntime) -> Result<(), Fail> {
     for fault in &FAULTS {
-        if fault.0 != Call::Read {
+        if fault.call != Call::Read {
             check(&rt, rt.alloc(), FIRST.len(), fault)?;
         }
     }

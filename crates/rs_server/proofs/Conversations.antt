@@ -9,7 +9,7 @@ use Rattle.rs_message.specs.declared.entry.Entry.{Entry}
 use Rattle.rs_message.specs.declared.entry.Operation.{Operation}
 use Rattle.rs_session.specs.declared.phase.Input.{Input}
 use Rattle.rs_session.specs.declared.phase.Input.TheVariants.{Whole, Broken}
-use Rattle.rs_session.specs.Gate.{Mark, GrowsAnswering, StandsAt}
+use Rattle.rs_session.specs.Gate.{Mark, GrowsAnswering}
 use Rattle.rs_session.specs.declared.phase.Closing.{Closing}
 use Rattle.rs_session.specs.declared.phase.Closing.TheVariants as closing
 use Rattle.rs_session.specs.declared.phase.Phase.{Phase}
@@ -20,7 +20,7 @@ use Rattle.rs_session.specs.Kept.{point_after}
 use Rattle.rs_session.specs.State.{State, fresh, closing_of, step_of}
 use Rattle.rs_session.specs.Table.{Answers}
 use Rattle.rs_session.specs.Points.{Given, Point, point_at}
-use Rattle.rs_session.specs.Run.{Turn, Run, GivesAll}
+use Rattle.rs_session.specs.Run.{Exchange, Run, GivesAll}
 use Rattle.rs_session.proofs.Runs.{run_more, of_gate_more}
 use Rattle.rs_server.specs.declared.connection.Served.{Served}
 use Rattle.rs_server.specs.declared.connection.Served.TheVariants.{ClientClosed, EndOfInput, CutInput, ServerClosed, Dropped}
@@ -28,7 +28,7 @@ use Rattle.rs_server.specs.declared.writing.ServeFault.{ServeFault}
 use Rattle.rs_server.specs.declared.writing.ServeFault.TheVariants.{Read, Write, NoMemory}
 use Rattle.rs_server.specs.Clock.{TellsAll, TellsInOrder}
 use Rattle.rs_server.specs.Writing.{Writes, AppendsFront, IsWriteCause, all_reply_bytes}
-use Rattle.rs_server.specs.Conversation.{InputsOf, AreLeft, IsHandled, Plans, inputs_of, moments_of, replies_of, planned_inputs, planned_moments, start, served_as, AppendsReplies, AppendsIntoLast, WritesTurns, Talks, TakesTurn, TakesInput, IsReadCause, IsConnection, Ends}
+use Rattle.rs_server.specs.Conversation.{InputsOf, AreLeft, IsHandled, Plans, inputs_of, moments_of, replies_of, planned_inputs, planned_moments, start, served_as, AppendsReplies, AppendsIntoLast, WritesReplies, GateView, Traffic, Transfer, Talks, MakesExchange, TakesInput, IsReadCause, IsConnection, Ends, gate_view}
 
 -- ---- the clock
 
@@ -77,42 +77,42 @@ first_input (Broken f) inputs held left (a, h) = (held, (a, refl), h)
 
 -- ---- the conversation
 
--- if a row was taken and its replies were written, there was a turn
-pub takes_turn : {G : Type 0} (stands : G → List Entry → Type 0) (mark : G → Mark) (old mid new : G) (from : State) (given : Given) (due : Option Reply) (between to : State) (written : List ℕ → Type 0)
+-- if a row was taken and its replies were written, there was an exchange
+pub makes_exchange : {G : Type 0} (stands : G → List Entry → Type 0) (mark : G → Mark) (ahead : G → List Operation) (old mid new : G) (from : State) (given : Given) (due : Option Reply) (between to : State) (written : List ℕ → Type 0)
     → GrowsAnswering stands mark old mid (λ seen answered list. Answers given (point_at from seen (mark old)) answered due (point_at between list (mark mid)))
     → closing_of from.phase ≡ None
     → new ≡ mid
     → (replies : List Reply) × GivesAll given.now due between replies to × written (all_reply_bytes replies)
-    → (seen : List Entry) → stands old seen → TakesTurn (point_at from seen (mark old)) given (StandsAt stands mark) (stands new) (mark new) to written
-takes_turn {G} stands mark old mid new from given due between to written grows ongoing same (replies, all_given, all) = λ seen s.
+    → (seen : List Entry) → stands old seen → MakesExchange (point_at from seen (mark old)) given (gate_view stands mark ahead new) to written
+makes_exchange {G} stands mark ahead old mid new from given due between to written grows ongoing same (replies, all_given, all) = λ seen s.
     let (list, stood, begins, (answered, each, (case, row))) = grows seen s in
-    let made : TakesTurn (point_at from seen (mark old)) given (StandsAt stands mark) (stands mid) (mark mid) to written =
+    let made : MakesExchange (point_at from seen (mark old)) given (gate_view stands mark ahead mid) to written =
     record {
-      turn = record { given = given; answered = answered; replies = replies; to = point_at to list (mark mid) };
+      exchange = record { given = given; answered = answered; replies = replies; to = point_at to list (mark mid) };
       seen = list;
-      is_turn = record { goes_on = ongoing; case = case; due = due; mid = between; grows = begins; row = row; all_given = all_given };
+      is_exchange = record { goes_on = ongoing; case = case; due = due; mid = between; grows = begins; row = row; all_given = all_given };
       of_gate = record { answered = each; seen = (mid, stood, refl) };
       given_is = refl;
       to_is = refl;
       stood_for = stood;
       replies = all;
     } in
-    subst (λ (g : G). TakesTurn (point_at from seen (mark old)) given (StandsAt stands mark) (stands g) (mark g) to written) (sym same) made
+    subst (λ (g : G). MakesExchange (point_at from seen (mark old)) given (gate_view stands mark ahead g) to written) (sym same) made
 
--- one turn's replies are written behind those of all turns before
-all_written : (a b c : Option (List ℕ)) (turns : List Turn) (turn : Turn) → AppendsReplies a b turns → Appends b c (all_reply_bytes turn.replies) → AppendsReplies a c (turns ++ turn ∷ [])
-all_written a b c turns turn p q = subst (Appends a c) (flat_map_more (λ (x : Turn). all_reply_bytes x.replies) [] turns turn) (Appends-trans a b c _ _ p q)
+-- one exchange's replies are written behind those of all exchanges before
+all_written : (a b c : Option (List ℕ)) (exchanges : List Exchange) (exchange : Exchange) → AppendsReplies a b exchanges → Appends b c (all_reply_bytes exchange.replies) → AppendsReplies a c (exchanges ++ exchange ∷ [])
+all_written a b c exchanges exchange p q = subst (Appends a c) (flat_map_more (λ (x : Exchange). all_reply_bytes x.replies) [] exchanges exchange) (Appends-trans a b c _ _ p q)
 
-front_written : (a b c : Option (List ℕ)) (turns : List Turn) (turn : Turn) → AppendsReplies a b turns → AppendsFront b c (all_reply_bytes turn.replies) → AppendsIntoLast a c (turns ++ turn ∷ [])
-front_written a b c turns turn p (front, back, e, q) = (turns, turn ∷ [], refl, omega arith, front, back, append-nil _ ∙ e, Appends-trans a b c _ front p q)
+front_written : (a b c : Option (List ℕ)) (exchanges : List Exchange) (exchange : Exchange) → AppendsReplies a b exchanges → AppendsFront b c (all_reply_bytes exchange.replies) → AppendsIntoLast a c (exchanges ++ exchange ∷ [])
+front_written a b c exchanges exchange p (front, back, e, q) = (exchanges, exchange ∷ [], refl, omega arith, front, back, append-nil _ ∙ e, Appends-trans a b c _ front p q)
 
-writes_turn : {T : Type 0} (r : Result T ServeFault) (a b c : Option (List ℕ)) (turns : List Turn) (turn : Turn) → AppendsReplies a b turns → Writes r b c (all_reply_bytes turn.replies) → WritesTurns r a c (turns ++ turn ∷ [])
-writes_turn (Ok x) a b c turns turn p q = all_written a b c turns turn p q
-writes_turn (Err Read) a b c turns turn p q = all_written a b c turns turn p q
-writes_turn (Err Write) a b c turns turn p q = front_written a b c turns turn p q
-writes_turn (Err NoMemory) a b c turns turn p q = front_written a b c turns turn p q
+writes_exchange : {T : Type 0} (r : Result T ServeFault) (a b c : Option (List ℕ)) (exchanges : List Exchange) (exchange : Exchange) → AppendsReplies a b exchanges → Writes r b c (all_reply_bytes exchange.replies) → WritesReplies r a c (exchanges ++ exchange ∷ [])
+writes_exchange (Ok x) a b c exchanges exchange p q = all_written a b c exchanges exchange p q
+writes_exchange (Err Read) a b c exchanges exchange p q = all_written a b c exchanges exchange p q
+writes_exchange (Err Write) a b c exchanges exchange p q = front_written a b c exchanges exchange p q
+writes_exchange (Err NoMemory) a b c exchanges exchange p q = front_written a b c exchanges exchange p q
 
--- what was planned and expected is left, but for the turn's input, or that is the first of it too
+-- what was planned and expected is left, but for the exchange's input, or that is the first of it too
 expected_after : (given : Given) (planned : List Given) (old new : List Operation) (Unused : Type 0) → AreChanges (given ∷ planned) old → LeavesAhead given old new Unused → AreChanges planned new ⊎ ((new ≡ old) × Unused)
 expected_after given planned [] new Unused h e = inl (subst (AreChanges planned) (sym e) tt)
 expected_after given planned (operation ∷ operations) new Unused h l =
@@ -142,79 +142,82 @@ pub none_expected : (planned : List Given) (changes : List Operation) → AreCha
 none_expected planned [] h = tt
 none_expected planned (operation ∷ operations) h = absurd h
 
-run_point : (from to : Point State) (turns : List Turn) → Run from turns to → point_after from turns ≡ to
+run_point : (from to : Point State) (exchanges : List Exchange) → Run from exchanges to → point_after from exchanges ≡ to
 run_point from to [] e = sym e
-run_point from to (turn ∷ turns) h = run_point turn.to to turns h.1
+run_point from to (exchange ∷ exchanges) h = run_point exchange.to to exchanges h.1
+
+abbrev pub traffic : (List ℕ → Type 0) → (List ℕ → Type 0) → (List Exchange → Type 0) → Traffic
+traffic consumed told written = record { consumed = consumed; told = told; written = written }
 
 -- a conversation goes on by the first of what is planned
-pub talks_turn : {T : Type 0} (from : Point State) (stands_at : Mark → List Entry → Type 0) (s1 s2 : List Entry → Type 0) (m1 m2 : Mark) (st1 st2 : State) (consumed : List ℕ → Type 0) (planned : List Given) (left : List ℕ) (told : List ℕ → Type 0) (r : Result T ServeFault) (wrote w1 w2 : Option (List ℕ)) (given : Given) (first a1 a2 : List Operation)
-    → ((seen : List Entry) → s1 seen → TakesTurn (point_at st1 seen m1) given stands_at s2 m2 st2 (Writes r w1 w2))
-    → (first ≡ [] → AreChanges (given ∷ planned) a1)
-    → LeavesAhead given a1 a2 ((m2 ≡ m1) × (step_of st2.phase ≡ End))
-    → Talks from stands_at s1 m1 st1 consumed (given ∷ planned) left told (AppendsReplies wrote w1) first a1
-    → Talks from stands_at s2 m2 st2 consumed planned left told (WritesTurns r wrote w2) first a2
-talks_turn from stands_at s1 s2 m1 m2 st1 st2 consumed planned left told r wrote w1 w2 given first a1 a2 turn changes leaves talk =
+pub talks_exchange : {T G : Type 0} (stands : G → List Entry → Type 0) (mark : G → Mark) (ahead : G → List Operation) (old new : G) (from : Point State) (first : List Operation) (st1 st2 : State) (consumed told : List ℕ → Type 0) (planned : List Given) (left : List ℕ) (r : Result T ServeFault) (wrote w1 w2 : Option (List ℕ)) (given : Given)
+    → ((seen : List Entry) → stands old seen → MakesExchange (point_at st1 seen (mark old)) given (gate_view stands mark ahead new) st2 (Writes r w1 w2))
+    → (first ≡ [] → AreChanges (given ∷ planned) (ahead old))
+    → LeavesAhead given (ahead old) (ahead new) ((mark new ≡ mark old) × (step_of st2.phase ≡ End))
+    → Talks from first (gate_view stands mark ahead old) st1 (traffic consumed told (AppendsReplies wrote w1)) (given ∷ planned) left
+    → Talks from first (gate_view stands mark ahead new) st2 (traffic consumed told (WritesReplies r wrote w2)) planned left
+talks_exchange {T} {G} stands mark ahead old new from first st1 st2 consumed told planned left r wrote w1 w2 given exchange changes leaves talk =
     let before = talk.conversation in
-    let t = turn before.seen before.stood_for in
+    let t = exchange before.seen before.stood_for in
     let (next, one, rest) = first_input given.input (planned_inputs planned) talk.held left talk.whole in
-    let is : inputs_of (before.turns ++ t.turn ∷ []) ≡ inputs_of before.turns ++ given.input ∷ [] = map-append (λ (x : Turn). x.given.input) before.turns (t.turn ∷ []) ∙ ap (λ (x : Given). inputs_of before.turns ++ x.input ∷ []) t.given_is in
-    let ms : moments_of (before.turns ++ t.turn ∷ []) ≡ moments_of before.turns ++ given.now ∷ [] = map-append (λ (x : Turn). x.given.now) before.turns (t.turn ∷ []) ∙ ap (λ (x : Given). moments_of before.turns ++ x.now ∷ []) t.given_is in
-    let all : moments_of (before.turns ++ t.turn ∷ []) ++ planned_moments planned ≡ moments_of before.turns ++ given.now ∷ planned_moments planned = ap (λ (l : List ℕ). l ++ planned_moments planned) ms ∙ append_assoc (moments_of before.turns) (given.now ∷ []) (planned_moments planned) in
-    let mid : point_after from before.turns ≡ point_at st1 before.seen m1 = run_point from _ before.turns before.run in
+    let is : inputs_of (before.exchanges ++ t.exchange ∷ []) ≡ inputs_of before.exchanges ++ given.input ∷ [] = map-append (λ (x : Exchange). x.given.input) before.exchanges (t.exchange ∷ []) ∙ ap (λ (x : Given). inputs_of before.exchanges ++ x.input ∷ []) t.given_is in
+    let ms : moments_of (before.exchanges ++ t.exchange ∷ []) ≡ moments_of before.exchanges ++ given.now ∷ [] = map-append (λ (x : Exchange). x.given.now) before.exchanges (t.exchange ∷ []) ∙ ap (λ (x : Given). moments_of before.exchanges ++ x.now ∷ []) t.given_is in
+    let all : moments_of (before.exchanges ++ t.exchange ∷ []) ++ planned_moments planned ≡ moments_of before.exchanges ++ given.now ∷ planned_moments planned = ap (λ (l : List ℕ). l ++ planned_moments planned) ms ∙ append_assoc (moments_of before.exchanges) (given.now ∷ []) (planned_moments planned) in
+    let mid : point_after from before.exchanges ≡ point_at st1 before.seen (mark old) = run_point from _ before.exchanges before.run in
     record {
       held = next;
       conversation = record {
-        turns = before.turns ++ t.turn ∷ [];
+        exchanges = before.exchanges ++ t.exchange ∷ [];
         seen = t.seen;
         bytes = before.bytes;
-        run = subst (Run from (before.turns ++ t.turn ∷ [])) t.to_is (run_more from _ before.turns t.turn before.run t.is_turn);
-        of_gate = of_gate_more stands_at before.turns t.turn before.of_gate t.of_gate;
+        run = subst (Run from (before.exchanges ++ t.exchange ∷ [])) t.to_is (run_more from _ before.exchanges t.exchange before.run t.is_exchange);
+        of_gate = of_gate_more _ before.exchanges t.exchange before.of_gate t.of_gate;
         stood_for = t.stood_for;
         read = before.read;
         inputs = subst (λ (l : List Input). InputsOf l before.bytes next) (sym is) (inputs_join _ (given.input ∷ []) before.bytes talk.held next before.inputs one);
         moments = subst told (sym all) before.moments;
-        replies = writes_turn r wrote w1 w2 before.turns t.turn before.replies t.replies;
+        replies = writes_exchange r wrote w1 w2 before.exchanges t.exchange before.replies t.replies;
       };
       whole = rest;
       expected = λ e.
-          elim (expected_after given planned a1 a2 ((m2 ≡ m1) × (step_of st2.phase ≡ End)) (changes e) leaves) as (λ x. AreLeft from (before.turns ++ t.turn ∷ []) planned a2) [
+          elim (expected_after given planned (ahead old) (ahead new) ((mark new ≡ mark old) × (step_of st2.phase ≡ End)) (changes e) leaves) as (λ x. AreLeft from (before.exchanges ++ t.exchange ∷ []) planned (ahead new)) [
             | inl k ↦ inl k
             | inr k ↦ inr (record {
-              before = before.turns;
-              last = t.turn;
+              before = before.exchanges;
+              last = t.exchange;
               whole = refl;
               unused = ap (λ (p : Point State). p.mark) t.to_is ∙ k.1.0 ∙ sym (ap (λ (p : Point State). p.mark) mid);
               ended = ap (λ (p : Point State). step_of p.state.phase) t.to_is ∙ k.1.1;
-              are = subst (λ (x : Given). AreChanges (x ∷ planned) a2) (sym t.given_is) (subst (AreChanges (given ∷ planned)) (sym k.0) (changes e));
+              are = subst (λ (x : Given). AreChanges (x ∷ planned) (ahead new)) (sym t.given_is) (subst (AreChanges (given ∷ planned)) (sym k.0) (changes e));
             })
           ];
     }
 
-writes_none : {T : Type 0} (r : Result T ServeFault) (a b : Option (List ℕ)) (turns : List Turn) (before after : ℕ) → IsReadCause r before after → AppendsReplies a b turns → WritesTurns r a b turns
-writes_none (Ok x) a b turns before after c h = h
-writes_none (Err Read) a b turns before after c h = h
-writes_none (Err Write) a b turns before after c h = absurd c
-writes_none (Err NoMemory) a b turns before after c h = (turns, [], sym (append-nil turns), omega arith, [], [], refl, subst (Appends a b) (sym (append-nil (replies_of turns))) h)
+writes_none : {T : Type 0} (r : Result T ServeFault) (a b : Option (List ℕ)) (exchanges : List Exchange) (before after : ℕ) → IsReadCause r before after → AppendsReplies a b exchanges → WritesReplies r a b exchanges
+writes_none (Ok x) a b exchanges before after c h = h
+writes_none (Err Read) a b exchanges before after c h = h
+writes_none (Err Write) a b exchanges before after c h = absurd c
+writes_none (Err NoMemory) a b exchanges before after c h = (exchanges, [], sym (append-nil exchanges), omega arith, [], [], refl, subst (Appends a b) (sym (append-nil (replies_of exchanges))) h)
 
 -- a conversation in which nothing is planned goes on by one read
-pub talks_read : {T : Type 0} (from : Point State) (stands_at : Mark → List Entry → Type 0) (stands : List Entry → Type 0) (mark : Mark) (state : State) (read r1 r2 : Option (List ℕ)) (left1 left2 more : List ℕ) (told : List ℕ → Type 0) (r : Result T ServeFault) (wrote w : Option (List ℕ)) (before after : ℕ) (first ahead : List Operation)
+pub talks_read : {T : Type 0} (from : Point State) (first : List Operation) (gate : GateView) (state : State) (read r1 r2 : Option (List ℕ)) (left1 left2 more : List ℕ) (told : List ℕ → Type 0) (r : Result T ServeFault) (wrote w : Option (List ℕ)) (before after : ℕ)
     → Consumes r1 r2 more → left2 ≡ left1 ++ more → IsReadCause r before after
-    → Talks from stands_at stands mark state (Consumes read r1) [] left1 told (AppendsReplies wrote w) first ahead
-    → Talks from stands_at stands mark state (Consumes read r2) [] left2 told (WritesTurns r wrote w) first ahead
-talks_read from stands_at stands mark state read r1 r2 left1 left2 more told r wrote w before after first ahead taken grown cause talk =
+    → Talks from first gate state (traffic (Consumes read r1) told (AppendsReplies wrote w)) [] left1
+    → Talks from first gate state (traffic (Consumes read r2) told (WritesReplies r wrote w)) [] left2
+talks_read from first gate state read r1 r2 left1 left2 more told r wrote w before after taken grown cause talk =
     let talked = talk.conversation in
     let is : left2 ≡ talk.held ++ more = grown ∙ ap (λ (l : List ℕ). l ++ more) (sym talk.whole) in
     record {
       held = left2;
       conversation = record {
-        turns = talked.turns;
+        exchanges = talked.exchanges;
         seen = talked.seen;
         bytes = talked.bytes ++ more;
         run = talked.run;
         of_gate = talked.of_gate;
         stood_for = talked.stood_for;
         read = Consumes-trans read r1 r2 talked.bytes more talked.read taken;
-        inputs = subst (InputsOf (inputs_of talked.turns) (talked.bytes ++ more)) (sym is) (inputs_with_more _ talked.bytes talk.held more talked.inputs);
+        inputs = subst (InputsOf (inputs_of talked.exchanges) (talked.bytes ++ more)) (sym is) (inputs_with_more _ talked.bytes talk.held more talked.inputs);
         moments = talked.moments;
         replies = writes_none r wrote w _ before after cause talked.replies;
       };
@@ -223,22 +226,22 @@ talks_read from stands_at stands mark state read r1 r2 left1 left2 more told r w
     }
 
 -- what comes next is planned, and the gate may be told what to expect
-pub talks_planned : (from : Point State) (stands_at : Mark → List Entry → Type 0) (s1 s2 : List Entry → Type 0) (m1 m2 : Mark) (st1 st2 : State) (consumed : List ℕ → Type 0) (p1 p2 : List Given) (left1 left2 : List ℕ) (told c1 c2 : Option (ℕ → ℕ)) (written : List Turn → Type 0) (first a1 a2 : List Operation)
-    → ((seen : List Entry) → s1 seen → s2 seen) → m2 ≡ m1 → st2 ≡ st1 → Plans p1 p2 left1 left2 c1 c2 → (first ≡ [] → AreChanges p2 a2)
-    → Talks from stands_at s1 m1 st1 consumed p1 left1 (TellsInOrder told c1) written first a1
-    → Talks from stands_at s2 m2 st2 consumed p2 left2 (TellsInOrder told c2) written first a2
-talks_planned from stands_at s1 s2 m1 m2 st1 st2 consumed p1 p2 left1 left2 told c1 c2 written first a1 a2 stood m s (more, grown, inputs, moments) changes talk =
+pub talks_planned : {G : Type 0} (stands : G → List Entry → Type 0) (mark : G → Mark) (ahead : G → List Operation) (old new : G) (from : Point State) (first : List Operation) (st1 st2 : State) (consumed : List ℕ → Type 0) (p1 p2 : List Given) (left1 left2 : List ℕ) (told c1 c2 : Option (ℕ → ℕ)) (written : List Exchange → Type 0)
+    → ((seen : List Entry) → stands old seen → stands new seen) → mark new ≡ mark old → st2 ≡ st1 → Plans p1 p2 left1 left2 c1 c2 → (first ≡ [] → AreChanges p2 (ahead new))
+    → Talks from first (gate_view stands mark ahead old) st1 (traffic consumed (TellsInOrder told c1) written) p1 left1
+    → Talks from first (gate_view stands mark ahead new) st2 (traffic consumed (TellsInOrder told c2) written) p2 left2
+talks_planned {G} stands mark ahead old new from first st1 st2 consumed p1 p2 left1 left2 told c1 c2 written stood m s (more, grown, inputs, moments) changes talk =
     let talked = talk.conversation in
     let all : planned_inputs p2 ≡ planned_inputs p1 ++ planned_inputs more = ap planned_inputs grown ∙ map-append (λ (x : Given). x.input) p1 more in
-    let times : (moments_of talked.turns ++ planned_moments p1) ++ planned_moments more ≡ moments_of talked.turns ++ planned_moments p2 =
-    append_assoc (moments_of talked.turns) (planned_moments p1) (planned_moments more) ∙ ap (λ (l : List ℕ). moments_of talked.turns ++ l) (sym (map-append (λ (x : Given). x.now) p1 more) ∙ sym (ap planned_moments grown)) in
+    let times : (moments_of talked.exchanges ++ planned_moments p1) ++ planned_moments more ≡ moments_of talked.exchanges ++ planned_moments p2 =
+    append_assoc (moments_of talked.exchanges) (planned_moments p1) (planned_moments more) ∙ ap (λ (l : List ℕ). moments_of talked.exchanges ++ l) (sym (map-append (λ (x : Given). x.now) p1 more) ∙ sym (ap planned_moments grown)) in
     record {
       held = talk.held;
       conversation = record {
-        turns = talked.turns;
+        exchanges = talked.exchanges;
         seen = talked.seen;
         bytes = talked.bytes;
-        run = subst (λ (x : State). Run from talked.turns (point_at x talked.seen m2)) (sym s) (subst (λ (x : Mark). Run from talked.turns (point_at st1 talked.seen x)) (sym m) talked.run);
+        run = subst (λ (x : State). Run from talked.exchanges (point_at x talked.seen (mark new))) (sym s) (subst (λ (x : Mark). Run from talked.exchanges (point_at st1 talked.seen x)) (sym m) talked.run);
         of_gate = talked.of_gate;
         stood_for = stood talked.seen talked.stood_for;
         read = talked.read;
@@ -256,12 +259,12 @@ first_expected ahead gate kept planned e first = subst (AreChanges planned) (sym
 -- at first nothing was written
 pub talks_first : {G : Type 0} (stands : G → List Entry → Type 0) (mark : G → Mark) (ahead : G → List Operation) (gate kept : G) (state : State) (planned : List Given) (held : List ℕ) (assigned : List ℕ) (read : Option (List ℕ)) (told : Option (ℕ → ℕ)) (wrote : Option (List ℕ))
     → kept ≡ gate → state ≡ fresh assigned → held ≡ [] → planned ≡ []
-    → (seen : List Entry) → stands gate seen → Talks (start assigned seen (mark gate)) (StandsAt stands mark) (stands kept) (mark kept) state (Consumes read read) planned held (TellsInOrder told told) (AppendsReplies wrote wrote) (ahead gate) (ahead kept)
+    → (seen : List Entry) → stands gate seen → Talks (start assigned seen (mark gate)) (ahead gate) (gate_view stands mark ahead kept) state (traffic (Consumes read read) (TellsInOrder told told) (AppendsReplies wrote wrote)) planned held
 talks_first {G} stands mark ahead gate kept state planned held assigned read told wrote e f h none = λ seen s.
     record {
       held = held;
       conversation = record {
-        turns = [];
+        exchanges = [];
         seen = seen;
         bytes = [];
         run = ap (λ (x : State). point_at x seen (mark kept)) f ∙ ap (λ (g : G). start assigned seen (mark g)) e;
@@ -277,55 +280,55 @@ talks_first {G} stands mark ahead gate kept state planned held assigned read tol
     }
 
 -- a fault says the same in a result of another type
-writes_as : (T U : Type 0) (f : ServeFault) (a b : Option (List ℕ)) (turns : List Turn) → WritesTurns {T = T} (Err f) a b turns → WritesTurns {T = U} (Err f) a b turns
-writes_as T U Read a b turns h = h
-writes_as T U Write a b turns h = h
-writes_as T U NoMemory a b turns h = h
+writes_as : (T U : Type 0) (f : ServeFault) (a b : Option (List ℕ)) (exchanges : List Exchange) → WritesReplies {T = T} (Err f) a b exchanges → WritesReplies {T = U} (Err f) a b exchanges
+writes_as T U Read a b exchanges h = h
+writes_as T U Write a b exchanges h = h
+writes_as T U NoMemory a b exchanges h = h
 
 -- the same of what was written
-talks_written : (from : Point State) (stands_at : Mark → List Entry → Type 0) (stands : List Entry → Type 0) (mark : Mark) (state : State) (consumed : List ℕ → Type 0) (planned : List Given) (left : List ℕ) (told : List ℕ → Type 0) (P Q : List Turn → Type 0) (first ahead : List Operation)
-    → ((turns : List Turn) → P turns → Q turns) → Talks from stands_at stands mark state consumed planned left told P first ahead → Talks from stands_at stands mark state consumed planned left told Q first ahead
-talks_written from stands_at stands mark state consumed planned left told P Q first ahead f talk =
+talks_written : (from : Point State) (first : List Operation) (gate : GateView) (state : State) (consumed told : List ℕ → Type 0) (planned : List Given) (left : List ℕ) (P Q : List Exchange → Type 0)
+    → ((exchanges : List Exchange) → P exchanges → Q exchanges) → Talks from first gate state (traffic consumed told P) planned left → Talks from first gate state (traffic consumed told Q) planned left
+talks_written from first gate state consumed told planned left P Q f talk =
     let c = talk.conversation in
     record {
       held = talk.held;
-      conversation = record { turns = c.turns; seen = c.seen; bytes = c.bytes; run = c.run; of_gate = c.of_gate; stood_for = c.stood_for; read = c.read; inputs = c.inputs; moments = c.moments; replies = f _ c.replies };
+      conversation = record { exchanges = c.exchanges; seen = c.seen; bytes = c.bytes; run = c.run; of_gate = c.of_gate; stood_for = c.stood_for; read = c.read; inputs = c.inputs; moments = c.moments; replies = f _ c.replies };
       whole = talk.whole;
       expected = talk.expected;
     }
 
-pub talks_as : (T U : Type 0) (f : ServeFault) (from : Point State) (stands_at : Mark → List Entry → Type 0) (stands : List Entry → Type 0) (mark : Mark) (state : State) (consumed : List ℕ → Type 0) (planned : List Given) (left : List ℕ) (told : List ℕ → Type 0) (a b : Option (List ℕ)) (first ahead : List Operation)
-    → Talks from stands_at stands mark state consumed planned left told (WritesTurns {T = T} (Err f) a b) first ahead → Talks from stands_at stands mark state consumed planned left told (WritesTurns {T = U} (Err f) a b) first ahead
-talks_as T U f from stands_at stands mark state consumed planned left told a b first ahead talk =
-    talks_written from stands_at stands mark state consumed planned left told (WritesTurns {T = T} (Err f) a b) (WritesTurns {T = U} (Err f) a b) first ahead (λ turns h. writes_as T U f a b turns h) talk
+pub talks_as : (T U : Type 0) (f : ServeFault) (from : Point State) (first : List Operation) (gate : GateView) (state : State) (consumed told : List ℕ → Type 0) (planned : List Given) (left : List ℕ) (a b : Option (List ℕ))
+    → Talks from first gate state (traffic consumed told (WritesReplies {T = T} (Err f) a b)) planned left → Talks from first gate state (traffic consumed told (WritesReplies {T = U} (Err f) a b)) planned left
+talks_as T U f from first gate state consumed told planned left a b talk =
+    talks_written from first gate state consumed told planned left (WritesReplies {T = T} (Err f) a b) (WritesReplies {T = U} (Err f) a b) (λ exchanges h. writes_as T U f a b exchanges h) talk
 
 -- memory was refused before anything was handled
-pub talks_refused : (T : Type 0) (f : ServeFault) (from : Point State) (stands_at : Mark → List Entry → Type 0) (stands : List Entry → Type 0) (mark : Mark) (state : State) (consumed : List ℕ → Type 0) (planned : List Given) (left : List ℕ) (told : List ℕ → Type 0) (a b : Option (List ℕ)) (first ahead : List Operation)
-    → f ≡ NoMemory → Talks from stands_at stands mark state consumed planned left told (AppendsReplies a b) first ahead → Talks from stands_at stands mark state consumed planned left told (WritesTurns {T = T} (Err f) a b) first ahead
-talks_refused T f from stands_at stands mark state consumed planned left told a b first ahead is talk =
-    talks_written from stands_at stands mark state consumed planned left told (AppendsReplies a b) (WritesTurns {T = T} (Err f) a b) first ahead
-    (λ turns h. subst (λ (x : ServeFault). WritesTurns {T = T} (Err x) a b turns) (sym is) (writes_none {T = T} (Err NoMemory) a b turns 0 0 refl h)) talk
+pub talks_refused : (T : Type 0) (f : ServeFault) (from : Point State) (first : List Operation) (gate : GateView) (state : State) (consumed told : List ℕ → Type 0) (planned : List Given) (left : List ℕ) (a b : Option (List ℕ))
+    → f ≡ NoMemory → Talks from first gate state (traffic consumed told (AppendsReplies a b)) planned left → Talks from first gate state (traffic consumed told (WritesReplies {T = T} (Err f) a b)) planned left
+talks_refused T f from first gate state consumed told planned left a b is talk =
+    talks_written from first gate state consumed told planned left (AppendsReplies a b) (WritesReplies {T = T} (Err f) a b)
+    (λ exchanges h. subst (λ (x : ServeFault). WritesReplies {T = T} (Err x) a b exchanges) (sym is) (writes_none {T = T} (Err NoMemory) a b exchanges 0 0 refl h)) talk
 
 -- the same of an equal plan
-pub talks_equal : (from : Point State) (stands_at : Mark → List Entry → Type 0) (stands : List Entry → Type 0) (mark : Mark) (state : State) (consumed : List ℕ → Type 0) (p q : List Given) (left : List ℕ) (told : List ℕ → Type 0) (written : List Turn → Type 0) (first ahead : List Operation)
-    → p ≡ q → Talks from stands_at stands mark state consumed p left told written first ahead → Talks from stands_at stands mark state consumed q left told written first ahead
-talks_equal from stands_at stands mark state consumed p q left told written first ahead e talk = subst (λ (l : List Given). Talks from stands_at stands mark state consumed l left told written first ahead) e talk
+pub talks_equal : (from : Point State) (first : List Operation) (gate : GateView) (state : State) (t : Traffic) (p q : List Given) (left : List ℕ)
+    → p ≡ q → Talks from first gate state t p left → Talks from first gate state t q left
+talks_equal from first gate state t p q left e talk = subst (λ (l : List Given). Talks from first gate state t l left) e talk
 
 -- the gate comes back as it is
-pub talks_kept : {G : Type 0} (stands : G → List Entry → Type 0) (mark : G → Mark) (ahead : G → List Operation) (gate kept : G) (from : Point State) (stands_at : Mark → List Entry → Type 0) (state : State) (consumed : List ℕ → Type 0) (planned : List Given) (left : List ℕ) (told : List ℕ → Type 0) (written : List Turn → Type 0) (first : List Operation) (at_end : List ℕ → Type 0)
-    → kept ≡ gate → (talk : Talks from stands_at (stands gate) (mark gate) state consumed planned left told written first (ahead gate)) × at_end talk.held
-    → (talk : Talks from stands_at (stands kept) (mark kept) state consumed planned left told written first (ahead kept)) × at_end talk.held
-talks_kept {G} stands mark ahead gate kept from stands_at state consumed planned left told written first at_end e t =
-    subst (λ (g : G). (talk : Talks from stands_at (stands g) (mark g) state consumed planned left told written first (ahead g)) × at_end talk.held) (sym e) t
+pub talks_kept : {G : Type 0} (stands : G → List Entry → Type 0) (mark : G → Mark) (ahead : G → List Operation) (gate kept : G) (from : Point State) (first : List Operation) (state : State) (t : Traffic) (planned : List Given) (left : List ℕ) (at_end : List ℕ → Type 0)
+    → kept ≡ gate → (talk : Talks from first (gate_view stands mark ahead gate) state t planned left) × at_end talk.held
+    → (talk : Talks from first (gate_view stands mark ahead kept) state t planned left) × at_end talk.held
+talks_kept {G} stands mark ahead gate kept from first state t planned left at_end e talk =
+    subst (λ (g : G). (talk : Talks from first (gate_view stands mark ahead g) state t planned left) × at_end talk.held) (sym e) talk
 
 -- if there is no memory for the identifier, nothing is read
-pub talks_none : (T : Type 0) (stands_at : Mark → List Entry → Type 0) (stands : List Entry → Type 0) (mark : Mark) (assigned : List ℕ) (read : Option (List ℕ)) (told : Option (ℕ → ℕ)) (wrote : Option (List ℕ)) (first : List Operation) (seen : List Entry)
-    → stands seen → Talks (start assigned seen mark) stands_at stands mark (fresh assigned) (Consumes read read) [] [] (TellsInOrder told told) (WritesTurns {T = T} (Err NoMemory) wrote wrote) first first
-talks_none T stands_at stands mark assigned read told wrote first seen s =
+pub talks_none : (T : Type 0) (gate : GateView) (assigned : List ℕ) (read : Option (List ℕ)) (told : Option (ℕ → ℕ)) (wrote : Option (List ℕ)) (seen : List Entry)
+    → gate.stands seen → Talks (start assigned seen gate.mark) gate.ahead gate (fresh assigned) (traffic (Consumes read read) (TellsInOrder told told) (WritesReplies {T = T} (Err NoMemory) wrote wrote)) [] []
+talks_none T gate assigned read told wrote seen s =
     record {
       held = [];
       conversation = record {
-        turns = [];
+        exchanges = [];
         seen = seen;
         bytes = [];
         run = refl;
@@ -372,11 +375,11 @@ handled_fault T NoMemory before after h = tt
 
 -- ---- a connection
 
--- the same over equal streams
-pub connection_as : (from : Point State) (stands_at : Mark → List Entry → Type 0) (stands : List Entry → Type 0) (mark : Mark) (most : ℕ) (told other : List ℕ → Type 0) (u v r q w x m n : Option (List ℕ)) (first ahead : List Operation) (result : Result Served ServeFault)
-    → u ≡ v → r ≡ q → w ≡ x → m ≡ n → ((ms : List ℕ) → told ms → other ms)
-    → IsConnection from stands_at stands mark most told u r w m first ahead result → IsConnection from stands_at stands mark most other v q x n first ahead result
-connection_as from stands_at stands mark most told other u v r q w x m n first ahead result e f g h t (state, planned, left, few, talk, ends) =
+-- the same of equal bytes, and of what follows of the times
+pub connection_as : (from : Point State) (first : List Operation) (most : ℕ) (gate : GateView) (old new : Transfer) (result : Result Served ServeFault)
+    → old.unread ≡ new.unread → old.rest ≡ new.rest → old.written ≡ new.written → old.more ≡ new.more → ((ms : List ℕ) → old.told ms → new.told ms)
+    → IsConnection from first most gate old result → IsConnection from first most gate new result
+connection_as from first most gate old new result e f g h t (state, planned, left, few, talk, ends) =
     let c = talk.conversation in (
       state,
       planned,
@@ -385,16 +388,16 @@ connection_as from stands_at stands mark most told other u v r q w x m n first a
       record {
         held = talk.held;
         conversation = record {
-          turns = c.turns;
+          exchanges = c.exchanges;
           seen = c.seen;
           bytes = c.bytes;
           run = c.run;
           of_gate = c.of_gate;
           stood_for = c.stood_for;
-          read = subst (λ (o : Option (List ℕ)). Consumes v o c.bytes) f (subst (λ (o : Option (List ℕ)). Consumes o r c.bytes) e c.read);
+          read = subst (λ (o : Option (List ℕ)). Consumes new.unread o c.bytes) f (subst (λ (o : Option (List ℕ)). Consumes o old.rest c.bytes) e c.read);
           inputs = c.inputs;
           moments = t _ c.moments;
-          replies = subst (λ (o : Option (List ℕ)). WritesTurns result x o c.turns) h (subst (λ (o : Option (List ℕ)). WritesTurns result o m c.turns) g c.replies);
+          replies = subst (λ (o : Option (List ℕ)). WritesReplies result new.written o c.exchanges) h (subst (λ (o : Option (List ℕ)). WritesReplies result o old.more c.exchanges) g c.replies);
         };
         whole = talk.whole;
         expected = talk.expected;

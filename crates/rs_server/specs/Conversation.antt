@@ -13,12 +13,12 @@ use Rattle.rs_session.specs.declared.phase.Input.TheVariants.{Whole, Broken}
 use Rattle.rs_session.specs.declared.phase.Closing.{Closing}
 use Rattle.rs_session.specs.declared.phase.Closing.TheVariants as closing
 use Rattle.rs_session.specs.Ahead.{AreChanges}
-use Rattle.rs_session.specs.Gate.{Mark}
+use Rattle.rs_session.specs.Gate.{Mark, StandsAt}
 use Rattle.rs_session.specs.Kept.{point_after}
 use Rattle.rs_session.specs.State.{State, fresh, closing_of, step_of}
 use Rattle.rs_session.specs.declared.phase.Step.TheVariants.{End}
 use Rattle.rs_session.specs.Points.{Given, Point, point_at}
-use Rattle.rs_session.specs.Run.{Turn, IsTurn, Run, IsOfGate, AreOfGate}
+use Rattle.rs_session.specs.Run.{Exchange, IsExchange, Run, IsOfGate, AreOfGate}
 use Rattle.rs_server.specs.declared.connection.Served.{Served}
 use Rattle.rs_server.specs.declared.connection.Served.TheVariants.{ClientClosed, EndOfInput, CutInput, ServerClosed, Dropped}
 use Rattle.rs_server.specs.declared.writing.ServeFault.{ServeFault}
@@ -75,81 +75,98 @@ Plans planned new_planned held new_held told new_told =
 abbrev pub assigned_of : ℕ → ℕ → List ℕ
 assigned_of place number = codes "rs" ++ (decimal place ++ (codes "-" ++ decimal number))
 
-abbrev pub inputs_of : List Turn → List Input
-inputs_of turns = map (λ turn. turn.given.input) turns
+abbrev pub inputs_of : List Exchange → List Input
+inputs_of exchanges = map (λ exchange. exchange.given.input) exchanges
 
-abbrev pub moments_of : List Turn → List ℕ
-moments_of turns = map (λ turn. turn.given.now) turns
+abbrev pub moments_of : List Exchange → List ℕ
+moments_of exchanges = map (λ exchange. exchange.given.now) exchanges
 
-abbrev pub replies_of : List Turn → List ℕ
-replies_of turns = flat_map (λ turn. all_reply_bytes turn.replies) turns
+abbrev pub replies_of : List Exchange → List ℕ
+replies_of exchanges = flat_map (λ exchange. all_reply_bytes exchange.replies) exchanges
 
 -- the first point of a connection
 abbrev pub start : List ℕ → List Entry → Mark → Point State
 start assigned seen mark = point_at (fresh assigned) seen mark
 
--- known bytes grow by the replies of all turns
-abbrev pub AppendsReplies : Option (List ℕ) → Option (List ℕ) → List Turn → Type 0
-AppendsReplies old new turns = Appends old new (replies_of turns)
+-- known bytes grow by the replies of all exchanges
+abbrev pub AppendsReplies : Option (List ℕ) → Option (List ℕ) → List Exchange → Type 0
+AppendsReplies old new exchanges = Appends old new (replies_of exchanges)
 
--- known bytes grow by the replies of every turn but the last, and by a prefix of the last one's
-abbrev pub AppendsIntoLast : Option (List ℕ) → Option (List ℕ) → List Turn → Type 0
-AppendsIntoLast old new turns = (before : List Turn) × (last : List Turn) × (turns ≡ before ++ last) × (length last ≤ 1)
+-- known bytes grow by the replies of every exchange but the last, and by a prefix of the last one's
+abbrev pub AppendsIntoLast : Option (List ℕ) → Option (List ℕ) → List Exchange → Type 0
+AppendsIntoLast old new exchanges = (before : List Exchange) × (last : List Exchange) × (exchanges ≡ before ++ last) × (length last ≤ 1)
     × (front : List ℕ) × (back : List ℕ) × (replies_of last ≡ front ++ back) × Appends old new (replies_of before ++ front)
 
--- All replies were written, or the last turn's only in part before the writer or memory failed.
-abbrev pub WritesTurns : {T : Type 0} → Result T ServeFault → Option (List ℕ) → Option (List ℕ) → List Turn → Type 0
-WritesTurns (Ok x) old new turns = AppendsReplies old new turns
-WritesTurns (Err Read) old new turns = AppendsReplies old new turns
-WritesTurns (Err Write) old new turns = AppendsIntoLast old new turns
-WritesTurns (Err NoMemory) old new turns = AppendsIntoLast old new turns
+-- All replies were written, or the last exchange's only in part before the writer or memory failed.
+abbrev pub WritesReplies : {T : Type 0} → Result T ServeFault → Option (List ℕ) → Option (List ℕ) → List Exchange → Type 0
+WritesReplies (Ok x) old new exchanges = AppendsReplies old new exchanges
+WritesReplies (Err Read) old new exchanges = AppendsReplies old new exchanges
+WritesReplies (Err Write) old new exchanges = AppendsIntoLast old new exchanges
+WritesReplies (Err NoMemory) old new exchanges = AppendsIntoLast old new exchanges
 
--- From this point there was a run of a session, whose lists and marks are those of a gate. It ends in this
--- state, at a list that the gate stands for, with the gate's mark. The bytes that were consumed are its inputs and what is held; the times that
--- were told are its times, one for each input; what was written is the replies of its turns.
-pub record Conversation (from : Point State) (stands_at : Mark → List Entry → Type 0) (stands : List Entry → Type 0) (mark : Mark) (state : State) (consumed : List ℕ → Type 0) (held : List ℕ) (told : List ℕ → Type 0) (written : List Turn → Type 0) : Type 0 where
-  pub turns : List Turn
+-- What is known of a gate: the lists for which some gate of its type stands at a mark, those for which it stands itself, its mark, and
+-- the changes that it expects.
+pub record GateView : Type 1 where
+  pub stands_at : Mark → List Entry → Type 0
+  pub stands : List Entry → Type 0
+  pub mark : Mark
+  pub ahead : List Operation
+
+abbrev pub gate_view : {G : Type 0} → (G → List Entry → Type 0) → (G → Mark) → (G → List Operation) → G → GateView
+gate_view stands mark ahead gate = record { stands_at = StandsAt stands mark; stands = stands gate; mark = mark gate; ahead = ahead gate }
+
+-- what holds of the bytes that were consumed, of the times that were told, and of the exchanges whose replies were written
+pub record Traffic : Type 1 where
+  pub consumed : List ℕ → Type 0
+  pub told : List ℕ → Type 0
+  pub written : List Exchange → Type 0
+
+-- From this point there was a run of a session, whose lists and marks are those of gates of this gate's type. It ends in this
+-- state, at a list that the gate stands for, with the gate's mark. The bytes that were consumed are its inputs and what is held; the
+-- times that were told are its times, one for each input; what was written is the replies of its exchanges.
+pub record Conversation (from : Point State) (gate : GateView) (state : State) (traffic : Traffic) (held : List ℕ) : Type 0 where
+  pub exchanges : List Exchange
   pub seen : List Entry
   pub bytes : List ℕ
-  pub run : Run from turns (point_at state seen mark)
-  pub of_gate : AreOfGate stands_at turns
-  pub stood_for : stands seen
-  pub read : consumed bytes
-  pub inputs : InputsOf (inputs_of turns) bytes held
-  pub moments : told (moments_of turns)
-  pub replies : written turns
+  pub run : Run from exchanges (point_at state seen gate.mark)
+  pub of_gate : AreOfGate gate.stands_at exchanges
+  pub stood_for : gate.stands seen
+  pub read : traffic.consumed bytes
+  pub inputs : InputsOf (inputs_of exchanges) bytes held
+  pub moments : traffic.told (moments_of exchanges)
+  pub replies : traffic.written exchanges
 
--- These changes are those of the last turn's input, which sent nothing and ended the session, and of what is planned behind it.
-pub record IsUnsent (from : Point State) (turns : List Turn) (planned : List Given) (changes : List Operation) : Type 0 where
-  pub before : List Turn
-  pub last : Turn
-  pub whole : turns ≡ before ++ last ∷ []
+-- These changes are those of the last exchange's input, which sent nothing and ended the session, and of what is planned behind it.
+pub record IsUnsent (from : Point State) (exchanges : List Exchange) (planned : List Given) (changes : List Operation) : Type 0 where
+  pub before : List Exchange
+  pub last : Exchange
+  pub whole : exchanges ≡ before ++ last ∷ []
   pub unused : last.to.mark ≡ (point_after from before).mark
   pub ended : step_of last.to.state.phase ≡ End
   pub are : AreChanges (last.given ∷ planned) changes
 
--- the changes that are still expected: of what is planned, or of the last turn's input too
-abbrev pub AreLeft : Point State → List Turn → List Given → List Operation → Type 0
-AreLeft from turns planned changes = AreChanges planned changes ⊎ IsUnsent from turns planned changes
+-- the changes that are still expected: of what is planned, or of the last exchange's input too
+abbrev pub AreLeft : Point State → List Exchange → List Given → List Operation → Type 0
+AreLeft from exchanges planned changes = AreChanges planned changes ⊎ IsUnsent from exchanges planned changes
 
 -- Such a conversation, and what was decoded and not handled: it follows the last input that was handled, and then come the bytes
--- that are left. Its times were told after those of the turns. If the gate expected nothing first, it expects only changes of these.
-pub record Talks (from : Point State) (stands_at : Mark → List Entry → Type 0) (stands : List Entry → Type 0) (mark : Mark) (state : State) (consumed : List ℕ → Type 0) (planned : List Given) (left : List ℕ) (told : List ℕ → Type 0) (written : List Turn → Type 0) (first ahead : List Operation) : Type 0 where
+-- that are left. Its times were told after those of the exchanges. If the gate expected nothing first, it expects only changes of these.
+pub record Talks (from : Point State) (first : List Operation) (gate : GateView) (state : State) (traffic : Traffic) (planned : List Given) (left : List ℕ) : Type 0 where
   pub held : List ℕ
-  pub conversation : Conversation from stands_at stands mark state consumed held (λ moments. told (moments ++ planned_moments planned)) written
+  pub conversation : Conversation from gate state (record traffic { told = λ moments. traffic.told (moments ++ planned_moments planned) }) held
   pub whole : InputsOf (planned_inputs planned) held left
-  pub expected : first ≡ [] → AreLeft from conversation.turns planned ahead
+  pub expected : first ≡ [] → AreLeft from conversation.exchanges planned gate.ahead
 
--- one turn of it
-pub record TakesTurn (from : Point State) (given : Given) (stands_at : Mark → List Entry → Type 0) (stands : List Entry → Type 0) (mark : Mark) (state : State) (written : List ℕ → Type 0) : Type 0 where
-  pub turn : Turn
+-- one exchange of it
+pub record MakesExchange (from : Point State) (given : Given) (gate : GateView) (state : State) (written : List ℕ → Type 0) : Type 0 where
+  pub exchange : Exchange
   pub seen : List Entry
-  pub is_turn : IsTurn from turn
-  pub of_gate : IsOfGate stands_at turn
-  pub given_is : turn.given ≡ given
-  pub to_is : turn.to ≡ point_at state seen mark
-  pub stood_for : stands seen
-  pub replies : written (all_reply_bytes turn.replies)
+  pub is_exchange : IsExchange from exchange
+  pub of_gate : IsOfGate gate.stands_at exchange
+  pub given_is : exchange.given ≡ given
+  pub to_is : exchange.to ≡ point_at state seen gate.mark
+  pub stood_for : gate.stands seen
+  pub replies : written (all_reply_bytes exchange.replies)
 
 -- ---- how it ends
 
@@ -180,15 +197,26 @@ abbrev pub Ends : Result Served ServeFault → State → List ℕ → Type 0 →
 Ends (Ok served) state held at_end = ClosesAs served state held at_end
 Ends (Err fault) state held at_end = BreaksAt fault state held
 
--- From this point a session was run over the bytes that were consumed, at the times that were told: those of its turns, and then
--- those of what was whole behind them and not handled, at most as many as the gate takes at once. What was
--- written is its replies, at a fault the last turn's perhaps in part, and it ended so. The bytes that the reader
--- has left and those that the writer holds are those before and after, if they are known. The changes that the gate
--- expected are those before and after.
-abbrev pub IsConnection : Point State → (Mark → List Entry → Type 0) → (List Entry → Type 0) → Mark → ℕ → (List ℕ → Type 0) → Option (List ℕ) → Option (List ℕ) → Option (List ℕ) → Option (List ℕ) → List Operation → List Operation → Result Served ServeFault → Type 0
-IsConnection from stands_at stands mark most told unread rest written more first ahead result = (state : State) × (planned : List Given) × (left : List ℕ) × (length planned ≤ most)
-    × (talk : Talks from stands_at stands mark state (Consumes unread rest) planned left told (WritesTurns result written more) first ahead)
-    × Ends result state talk.held (IsAtEnd rest)
+-- What a connection transferred: the bytes that its reader had left before and has left after, and those that its writer held before
+-- and holds after, if they are known; and what holds of the times that its clock told.
+pub record Transfer : Type 1 where
+  pub unread : Option (List ℕ)
+  pub rest : Option (List ℕ)
+  pub written : Option (List ℕ)
+  pub more : Option (List ℕ)
+  pub told : List ℕ → Type 0
+
+-- the bytes were read, the times were told, and all replies were written, or the last exchange's only in part
+abbrev pub traffic_of : Transfer → Result Served ServeFault → Traffic
+traffic_of transfer result = record { consumed = Consumes transfer.unread transfer.rest; told = transfer.told; written = WritesReplies result transfer.written transfer.more }
+
+-- From this point, with these changes expected first, a session was run over the bytes that were read, at the times that were told: those
+-- of its exchanges, and then those of what was whole behind them and not handled, at most as many as the gate takes at once. What was
+-- written is its replies, at a fault the last exchange's perhaps in part, and it ended so, with this gate.
+abbrev pub IsConnection : Point State → List Operation → ℕ → GateView → Transfer → Result Served ServeFault → Type 0
+IsConnection from first most gate transfer result = (state : State) × (planned : List Given) × (left : List ℕ) × (length planned ≤ most)
+    × (talk : Talks from first gate state (traffic_of transfer result) planned left)
+    × Ends result state talk.held (IsAtEnd transfer.rest)
 
 abbrev pub Closes : Result (Option Served) ServeFault → State → List ℕ → Type 0 → Type 0
 Closes (Ok None) state held at_end = closing_of state.phase ≡ None

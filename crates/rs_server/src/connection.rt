@@ -5,13 +5,12 @@ ghost use Rattle.std.specs.Io.KnownBytes.{Consumes, IsAtEnd};
 ghost use Rattle.rs_message.specs.declared.entry.Entry.{Entry};
 ghost use Rattle.rs_message.specs.declared.entry.Operation.{Operation};
 ghost use Rattle.rs_session.specs.Ahead.{AreChanges, IsChange, LeavesAhead};
-ghost use Rattle.rs_session.specs.Gate.{StandsAt};
 ghost use Rattle.rs_session.specs.Points.{Point, given_at};
 ghost use Rattle.rs_session.specs.State.{session_at, state_of, due_of, gate_of, closing_of, step_of, State};
 ghost use Rattle.rs_server.specs.Clock.{TellsInOrder};
 ghost use Rattle.rs_server.specs.Counts.{inner_of, failures_of};
 ghost use Rattle.rs_server.specs.Writing.{IsWriteCause, Writes};
-ghost use Rattle.rs_server.specs.Conversation.{TakesTurn, Closes, Causes, Talks, AppendsReplies, WritesTurns, IsConnection, IsHandled, IsReadCause, IsEnd, assigned_of, start, served_as};
+ghost use Rattle.rs_server.specs.Conversation.{MakesExchange, Closes, Causes, Talks, AppendsReplies, WritesReplies, IsConnection, IsHandled, IsReadCause, IsEnd, assigned_of, gate_view, start, served_as};
 
 use crate::assigned::assigned_client;
 use crate::clock::Clock;
@@ -85,10 +84,14 @@ pub fn serve<H: Wait, R: Read, W: Write, G: Gate, C: Clock>(
 
     // What was written are the replies of a session to the packets that the bytes read encode.
     ensures conversation { (seen : List Entry) → G.stands gate seen
-        → IsConnection (start (assigned_of id.place id.number) seen (G.mark gate)) (StandsAt G.stands G.mark) (G.stands result.1) (G.mark result.1) G.most
-        (TellsInOrder (C.moments clock.old) (C.moments clock.new))
-        (R.remaining (inner_of reader.old)) (R.remaining (inner_of reader.new))
-        (W.contents (inner_of writer.old)) (W.contents (inner_of writer.new)) (G.ahead gate) (G.ahead result.1) result.0 }
+        → IsConnection (start (assigned_of id.place id.number) seen (G.mark gate)) (G.ahead gate) G.most (gate_view G.stands G.mark G.ahead result.1)
+        (record {
+          unread = R.remaining (inner_of reader.old);
+          rest = R.remaining (inner_of reader.new);
+          written = W.contents (inner_of writer.old);
+          more = W.contents (inner_of writer.new);
+          told = TellsInOrder (C.moments clock.old) (C.moments clock.new);
+        }) result.0 }
 
     // A fault names what failed.
     ensures cause { Causes result.0 (failures_of reader.old) (failures_of reader.new)
@@ -100,7 +103,7 @@ pub fn serve<H: Wait, R: Read, W: Write, G: Gate, C: Clock>(
     let mut session = Session::new(alloc, gate, assigned);
     let mut held = BytesMut::new(alloc);
     let mut planned = VecDeque::new(alloc);
-    'turns: for _ in rt.forever() {
+    'serving: for _ in rt.forever() {
         match serve_once(
             alloc,
             reader,
@@ -136,14 +139,18 @@ fn serve_once<R: Read, W: Write, G: Gate, C: Clock>(
     // Extends every conversation that led to the state before.
     ensures conversation { (from : Point State) (read wrote : Option (List ℕ)) (told : Option (ℕ → ℕ)) (first : List Operation)
         → (first ≡ [] → AreChanges planned.old.items (G.ahead (gate_of session.old)))
-        → Talks from (StandsAt G.stands G.mark) (G.stands (gate_of session.old)) (G.mark (gate_of session.old)) (state_of session.old)
-        (Consumes read (R.remaining (inner_of reader.old))) planned.old.items held.old.items
-        (TellsInOrder told (C.moments clock.old))
-        (AppendsReplies wrote (W.contents (inner_of writer.old))) first (G.ahead (gate_of session.old))
-        → Talks from (StandsAt G.stands G.mark) (G.stands (gate_of session.new)) (G.mark (gate_of session.new)) (state_of session.new)
-        (Consumes read (R.remaining (inner_of reader.new))) planned.new.items held.new.items
-        (TellsInOrder told (C.moments clock.new))
-        (WritesTurns result wrote (W.contents (inner_of writer.new))) first (G.ahead (gate_of session.new)) }
+        → Talks from first (gate_view G.stands G.mark G.ahead (gate_of session.old)) (state_of session.old)
+        (record {
+          consumed = Consumes read (R.remaining (inner_of reader.old));
+          told = TellsInOrder told (C.moments clock.old);
+          written = AppendsReplies wrote (W.contents (inner_of writer.old));
+        }) planned.old.items held.old.items
+        → Talks from first (gate_view G.stands G.mark G.ahead (gate_of session.new)) (state_of session.new)
+        (record {
+          consumed = Consumes read (R.remaining (inner_of reader.new));
+          told = TellsInOrder told (C.moments clock.new);
+          written = WritesReplies result wrote (W.contents (inner_of writer.new));
+        }) planned.new.items held.new.items }
     ensures expected { closing_of (state_of session.new).phase ≡ None → AreChanges planned.old.items (G.ahead (gate_of session.old))
         → AreChanges planned.new.items (G.ahead (gate_of session.new)) }
     ensures few { length planned.old.items ≤ G.most → length planned.new.items ≤ G.most }
@@ -160,7 +167,7 @@ fn serve_once<R: Read, W: Write, G: Gate, C: Clock>(
         return read_more(reader, held);
     };
     let Planned { input, now, change } = next;
-    match take_turn(alloc, session, writer, input, change, now) {
+    match make_exchange(alloc, session, writer, input, change, now) {
         Ok(()) => Ok(outcome(session.closing())),
         Err(fault) => Err(fault),
     }
@@ -192,8 +199,8 @@ fn read_more<R: Read>(
     Ok(Some(Served::CutInput))
 }
 
-/// One turn of the session: hands over an input, with its change if that was made before, and writes all replies to it.
-fn take_turn<G: Gate, W: Write>(
+/// One exchange of the session: hands over an input, with its change if that was made before, and writes all replies to it.
+fn make_exchange<G: Gate, W: Write>(
     alloc: Global,
     session: &mut Session<G>,
     writer: &mut Counted<W>,
@@ -205,9 +212,8 @@ fn take_turn<G: Gate, W: Write>(
     requires none_due { due_of session.old ≡ None }
     requires goes_on { closing_of (state_of session.old).phase ≡ None }
     requires change { IfSome change (λ operation. IsChange (given_at input now) operation) }
-    ensures turn { (seen : List Entry) → G.stands (gate_of session.old) seen
-        → TakesTurn (session_at G.mark session.old seen) (given_at input now) (StandsAt G.stands G.mark)
-        (G.stands (gate_of session.new)) (G.mark (gate_of session.new)) (state_of session.new)
+    ensures exchange { (seen : List Entry) → G.stands (gate_of session.old) seen
+        → MakesExchange (session_at G.mark session.old seen) (given_at input now) (gate_view G.stands G.mark G.ahead (gate_of session.new)) (state_of session.new)
         (Writes result (W.contents (inner_of writer.old)) (W.contents (inner_of writer.new))) }
     ensures ahead { LeavesAhead (given_at input now) (G.ahead (gate_of session.old)) (G.ahead (gate_of session.new))
         ((G.mark (gate_of session.new) ≡ G.mark (gate_of session.old)) × (step_of (state_of session.new).phase ≡ Step.End)) }

@@ -4,7 +4,8 @@ ghost use Rattle.std.specs.Prelude.{◌≢◌, ◌≤◌, [], length};
 
 use bytes::Bytes;
 use rs_message::{
-    Entry, Found, MAX_PLACES, Message, Operation, Origin, Remaining, SubmitFault, is_same,
+    Entry, Found, MAX_PLACES, Message, Operation, Origin, PlaceCount, Remaining, SubmitFault,
+    is_same,
 };
 use rs_packet::{Properties, Qos};
 use rs_topic::TopicName;
@@ -56,6 +57,15 @@ fn origins(rt: HostRuntime) -> Result<(), Fail> {
     let origin = Origin::new(MAX_PLACES, u64::MAX).ok_or("it is a place")?;
     assert!(rt; origin.place() == MAX_PLACES);
     assert!(rt; origin.serial() == u64::MAX);
+    Ok(())
+}
+
+#[test]
+fn place_counts(rt: HostRuntime) -> Result<(), Fail> {
+    assert!(rt; PlaceCount::new(0).is_none());
+    assert!(rt; PlaceCount::new(MAX_PLACES + 1).is_none());
+    assert!(rt; PlaceCount::new(1).ok_or("the least")?.get() == 1);
+    assert!(rt; PlaceCount::new(MAX_PLACES).ok_or("the greatest")?.get() == MAX_PLACES);
     Ok(())
 }
 

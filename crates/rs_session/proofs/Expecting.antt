@@ -81,7 +81,8 @@ pub all_left : (given : Given) (old new : List Operation) (S : Type 0) → new �
 all_left given [] new S e f = e
 all_left given (operation ∷ operations) new S e f = λ is. inr (inr (e, f operation is))
 
-abbrev IsNoPublish : Packet → Type 0
+-- another packet
+abbrev pub IsNoPublish : Packet → Type 0
 IsNoPublish (packet.Publish p) = ⊥
 IsNoPublish p = Unit {0}
 

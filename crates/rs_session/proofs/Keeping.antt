@@ -42,7 +42,7 @@ use Rattle.rs_session.specs.declared.reason.ReasonCode.TheVariants.{Success, Quo
 use Rattle.rs_session.specs.State.{State}
 use Rattle.rs_session.specs.Table.{acknowledged_by, acknowledgement_of, change, due_for, held_id, is_held, state_after, Grants, OpenCase, OpenRow, AnsweredInOpen, AnsweredIn, Case, SessionRow, With_method, With_will, Connect_refused, Accepted, Connack_too_long, Other_version, Unexpected, In_session, Over, Faulty, With_alias, Bad_topic, Sent_again, Too_many_held, Not_retained, Kept, Topic_unread, Not_kept, Uncertain, Gate_closed, Released, Wrong_acknowledgement, Acknowledged, Shared_no_local, Not_subscribed, Subscribed, Not_unsubscribed, Unsubscribed, Connected_twice, Pinged, Disconnected}
 use Rattle.rs_session.specs.Points.{Given, Point, with_state}
-use Rattle.rs_session.specs.Run.{Turn, GivesAll, IsTurn, Run}
+use Rattle.rs_session.specs.Run.{Exchange, GivesAll, IsExchange, Run}
 use Rattle.rs_session.specs.Replay.{listed}
 use Rattle.rs_session.specs.Kept.{MarkGrows, lists_of, AreGrowing, point_after, SerialsRiseIn, IsToldKept, StandsOnce, IsKeptIn}
 use Rattle.rs_session.proofs.Rows.{prefix_trans}
@@ -77,7 +77,7 @@ grants_chain now [] identifier from codes answered to (c, a, seen, same) =
 grants_chain now (asked ∷ more) identifier from codes answered to (code, rest, later, between, c, a, begins, granted, grants) =
     subst (λ (ls : List (List Entry)). Chain from.seen ls to.seen) (sym a) (begins, grants_chain now more identifier between rest later to grants)
 
--- ---- the lists of a turn
+-- ---- the lists of an exchange
 
 unanswered : (seen : List Entry) (answered : List (List Entry)) (list : List Entry) → answered ≡ [] → Extends list seen → Chain seen answered list
 unanswered seen answered list none grows = subst (λ (ls : List (List Entry)). Chain seen ls list) (sym none) grows
@@ -87,20 +87,20 @@ row_chain : (case : OpenCase) (given : Given) (from : Point Open) (answered : Li
 row_chain Subscribed given from answered outcome to a (s, codes, i, n, grants, out, u) g = grants_chain given.now s.filters s.subscription from codes answered to grants
 row_chain case given from answered outcome to none row g = unanswered from.seen answered to.seen none g
 
-turn_chain : (case : Case) (given : Given) (from : Point State) (answered : List (List Entry)) (due : Option Reply) (to : Point State)
+exchange_chain : (case : Case) (given : Given) (from : Point State) (answered : List (List Entry)) (due : Option Reply) (to : Point State)
     → AnsweredIn case answered → SessionRow case given from answered due to → Extends to.seen from.seen → Chain from.seen answered to.seen
-turn_chain In_session given from answered due to a (o, left, outcome, is, (case, by_case, row), d, same) g =
+exchange_chain In_session given from answered due to a (o, left, outcome, is, (case, by_case, row), d, same) g =
     row_chain case given (with_state from o) answered outcome (with_state to left) by_case row g
-turn_chain case given from answered due to none row g = unanswered from.seen answered to.seen none g
+exchange_chain case given from answered due to none row g = unanswered from.seen answered to.seen none g
 
-run_chain : (from to : Point State) (turns : List Turn) → Run from turns to → Chain from.seen (lists_of turns) to.seen
+run_chain : (from to : Point State) (exchanges : List Exchange) → Run from exchanges to → Chain from.seen (lists_of exchanges) to.seen
 run_chain from to [] e = ([], ap (λ (p : Point State). p.seen) e ∙ sym (append-nil from.seen))
-run_chain from to (turn ∷ turns) (t, rest) =
-    let here = turn_chain t.case turn.given from turn.answered t.due (with_state turn.to t.mid) t.row.0 t.row.1 t.grows in
-    chain_append from.seen turn.answered turn.to.seen (lists_of turns) to.seen here (run_chain turn.to to turns rest)
+run_chain from to (exchange ∷ exchanges) (t, rest) =
+    let here = exchange_chain t.case exchange.given from exchange.answered t.due (with_state exchange.to t.mid) t.row.0 t.row.1 t.grows in
+    chain_append from.seen exchange.answered exchange.to.seen (lists_of exchanges) to.seen here (run_chain exchange.to to exchanges rest)
 
-pub run_lists : (from to : Point State) (turns : List Turn) → Run from turns to → AreGrowing (from.seen ∷ (lists_of turns ++ to.seen ∷ []))
-run_lists from to turns run = chain_grows from.seen (lists_of turns) to.seen (run_chain from to turns run)
+pub run_lists : (from to : Point State) (exchanges : List Exchange) → Run from exchanges to → AreGrowing (from.seen ∷ (lists_of exchanges ++ to.seen ∷ []))
+run_lists from to exchanges run = chain_grows from.seen (lists_of exchanges) to.seen (run_chain from to exchanges run)
 
 -- ---- an origin that stands once
 
@@ -225,20 +225,20 @@ due_is maximum (Closes code) r ack h = by_case (leb (length (reply_bytes (reply.
     by_case false none = absurd none
 due_is maximum Leaves r ack h = absurd h
 
-replied_by : (turn : Turn) (maximum : ℕ) (outcome : Outcome) (left : Open) (old mid : State) (due : Option Reply) (r : Reply) → due ≡ due_for maximum outcome → mid ≡ state_after outcome old left
-    → GivesAll turn.given.now due mid turn.replies turn.to.state → IsAck r → Among r turn.replies → outcome ≡ Replies (Some r)
-replied_by turn maximum (Replies answer) left old mid due r d same g ack h =
-    let (given, n, is, run, whole) = given_calls turn.given.now due mid left turn.replies g.left g.last turn.to.state (phase_of mid _ same) g.given g.none_left in
+replied_by : (exchange : Exchange) (maximum : ℕ) (outcome : Outcome) (left : Open) (old mid : State) (due : Option Reply) (r : Reply) → due ≡ due_for maximum outcome → mid ≡ state_after outcome old left
+    → GivesAll exchange.given.now due mid exchange.replies exchange.to.state → IsAck r → Among r exchange.replies → outcome ≡ Replies (Some r)
+replied_by exchange maximum (Replies answer) left old mid due r d same g ack h =
+    let (given, n, is, run, whole) = given_calls exchange.given.now due mid left exchange.replies g.left g.last exchange.to.state (phase_of mid _ same) g.given g.none_left in
     by_case given (among_append r (listed due) (map reply_of given) (subst (λ (rs : List Reply). Among r rs) whole h))
   where
     by_case : (given : List OutgoingValue) → Among r (listed due) ⊎ Among r (map reply_of given) → Replies answer ≡ Replies (Some r)
     by_case given (inl a) = due_is maximum (Replies answer) r ack (subst (λ (o : Option Reply). Among r (listed o)) d a)
     by_case given (inr b) = absurd (no_ack_given r given ack b)
-replied_by turn maximum (Closes code) left old mid due r d same g ack h =
-    let whole = (left_replies turn.given.now due mid (ByServer (code_of code)) turn.replies g.left g.last turn.to.state (phase_of mid _ same) g.given g.none_left).1 in
+replied_by exchange maximum (Closes code) left old mid due r d same g ack h =
+    let whole = (left_replies exchange.given.now due mid (ByServer (code_of code)) exchange.replies g.left g.last exchange.to.state (phase_of mid _ same) g.given g.none_left).1 in
     due_is maximum (Closes code) r ack (subst (λ (o : Option Reply). Among r (listed o)) d (subst (λ (rs : List Reply). Among r rs) whole h))
-replied_by turn maximum Leaves left old mid due r d same g ack h =
-    let whole = (left_replies turn.given.now due mid ByClient turn.replies g.left g.last turn.to.state (phase_of mid _ same) g.given g.none_left).1 in
+replied_by exchange maximum Leaves left old mid due r d same g ack h =
+    let whole = (left_replies exchange.given.now due mid ByClient exchange.replies g.left g.last exchange.to.state (phase_of mid _ same) g.given g.none_left).1 in
     due_is maximum Leaves r ack (subst (λ (o : Option Reply). Among r (listed o)) d (subst (λ (rs : List Reply). Among r rs) whole h))
 
 -- ---- the row that keeps it
@@ -322,30 +322,30 @@ open_or other (phase.Open o) = o
 open_or other (phase.Ended closing) = other
 
 -- the row of a publication that the client was told is kept
-pub told_row : (from : Point State) (turn : Turn) (o : Open) (p : Publish) (answer : Reply) (at left : Open) (outcome : Outcome) (due : Option Reply) (mid : State) (case : OpenCase)
-    → from.state.phase ≡ phase.Open o → IsToldKept o turn p answer → from.state.phase ≡ phase.Open at
-    → OpenRow case turn.given (with_state from at) turn.answered outcome (with_state turn.to left) → due ≡ due_for at.window.packet_maximum outcome → mid ≡ state_after outcome from.state left
-    → GivesAll turn.given.now due mid turn.replies turn.to.state → IsKept case × IsEntered p turn.given.now from.mark turn.to.mark turn.to.seen
-told_row from turn o p answer at left outcome due mid case is told here row d same g =
+pub told_row : (from : Point State) (exchange : Exchange) (o : Open) (p : Publish) (answer : Reply) (at left : Open) (outcome : Outcome) (due : Option Reply) (mid : State) (case : OpenCase)
+    → from.state.phase ≡ phase.Open o → IsToldKept o exchange p answer → from.state.phase ≡ phase.Open at
+    → OpenRow case exchange.given (with_state from at) exchange.answered outcome (with_state exchange.to left) → due ≡ due_for at.window.packet_maximum outcome → mid ≡ state_after outcome from.state left
+    → GivesAll exchange.given.now due mid exchange.replies exchange.to.state → IsKept case × IsEntered p exchange.given.now from.mark exchange.to.mark exchange.to.seen
+told_row from exchange o p answer at left outcome due mid case is told here row d same g =
     let same_open : o ≡ at = ap (open_or o) (sym is ∙ here) in
     let new : is_held (held_id p.qos p.id) at.inbound ≡ false = subst (λ (x : Open). is_held (held_id p.qos p.id) x.inbound ≡ false) same_open told.new in
     let out : outcome ≡ Replies (Some answer) =
-    replied_by turn at.window.packet_maximum outcome left from.state mid due answer d same g (ack_by p.qos p.id Success answer told.code) (among answer turn.replies told.replied) in
-    row_kept case turn.given (with_state from at) turn.answered outcome (with_state turn.to left) p answer row told.input told.retained new told.code out
+    replied_by exchange at.window.packet_maximum outcome left from.state mid due answer d same g (ack_by p.qos p.id Success answer told.code) (among answer exchange.replies told.replied) in
+    row_kept case exchange.given (with_state from at) exchange.answered outcome (with_state exchange.to left) p answer row told.input told.retained new told.code out
 
-turn_kept : (from : Point State) (turn : Turn) (o : Open) (p : Publish) (answer : Reply) (case : Case) (due : Option Reply) (mid : State) → from.state.phase ≡ phase.Open o → IsToldKept o turn p answer
-    → SessionRow case turn.given from turn.answered due (with_state turn.to mid) → GivesAll turn.given.now due mid turn.replies turn.to.state
-    → IsEntered p turn.given.now from.mark turn.to.mark turn.to.seen
-turn_kept from turn o p answer With_method due mid is told (c, i, before, m, refused) g = shut (phase.Open o) phase.Before (sym is ∙ before) tt (λ n. n)
-turn_kept from turn o p answer With_will due mid is told (c, i, before, m, k, refused) g = shut (phase.Open o) phase.Before (sym is ∙ before) tt (λ n. n)
-turn_kept from turn o p answer Connect_refused due mid is told (c, i, before, m, k, refused) g = shut (phase.Open o) phase.Before (sym is ∙ before) tt (λ n. n)
-turn_kept from turn o p answer Accepted due mid is told (c, i, before, m, k, short, u, d, same) g = shut (phase.Open o) phase.Before (sym is ∙ before) tt (λ n. n)
-turn_kept from turn o p answer Connack_too_long due mid is told (c, i, before, m, k, long, u, d, same) g = shut (phase.Open o) phase.Before (sym is ∙ before) tt (λ n. n)
-turn_kept from turn o p answer Other_version due mid is told (i, before, u, d, same) g = shut (phase.Open o) phase.Before (sym is ∙ before) tt (λ n. n)
-turn_kept from turn o p answer Unexpected due mid is told (i, before, u, d, same) g = shut (phase.Open o) phase.Before (sym is ∙ before) tt (λ n. n)
-turn_kept from turn o p answer In_session due mid is told (at, left, outcome, here, (case, none, row), d, same) g =
-    (told_row from turn o p answer at left outcome due mid case is told here row d same g).1
-turn_kept from turn o p answer Over due mid is told (closing, ended, u, d, same) g = shut (phase.Open o) (phase.Ended closing) (sym is ∙ ended) tt (λ n. n)
+exchange_kept : (from : Point State) (exchange : Exchange) (o : Open) (p : Publish) (answer : Reply) (case : Case) (due : Option Reply) (mid : State) → from.state.phase ≡ phase.Open o → IsToldKept o exchange p answer
+    → SessionRow case exchange.given from exchange.answered due (with_state exchange.to mid) → GivesAll exchange.given.now due mid exchange.replies exchange.to.state
+    → IsEntered p exchange.given.now from.mark exchange.to.mark exchange.to.seen
+exchange_kept from exchange o p answer With_method due mid is told (c, i, before, m, refused) g = shut (phase.Open o) phase.Before (sym is ∙ before) tt (λ n. n)
+exchange_kept from exchange o p answer With_will due mid is told (c, i, before, m, k, refused) g = shut (phase.Open o) phase.Before (sym is ∙ before) tt (λ n. n)
+exchange_kept from exchange o p answer Connect_refused due mid is told (c, i, before, m, k, refused) g = shut (phase.Open o) phase.Before (sym is ∙ before) tt (λ n. n)
+exchange_kept from exchange o p answer Accepted due mid is told (c, i, before, m, k, short, u, d, same) g = shut (phase.Open o) phase.Before (sym is ∙ before) tt (λ n. n)
+exchange_kept from exchange o p answer Connack_too_long due mid is told (c, i, before, m, k, long, u, d, same) g = shut (phase.Open o) phase.Before (sym is ∙ before) tt (λ n. n)
+exchange_kept from exchange o p answer Other_version due mid is told (i, before, u, d, same) g = shut (phase.Open o) phase.Before (sym is ∙ before) tt (λ n. n)
+exchange_kept from exchange o p answer Unexpected due mid is told (i, before, u, d, same) g = shut (phase.Open o) phase.Before (sym is ∙ before) tt (λ n. n)
+exchange_kept from exchange o p answer In_session due mid is told (at, left, outcome, here, (case, none, row), d, same) g =
+    (told_row from exchange o p answer at left outcome due mid case is told here row d same g).1
+exchange_kept from exchange o p answer Over due mid is told (closing, ended, u, d, same) g = shut (phase.Open o) (phase.Ended closing) (sym is ∙ ended) tt (λ n. n)
 
 -- ---- the lists of a gate
 
@@ -357,14 +357,14 @@ all_append : {A : Type 0} (P : A → Type 0) (xs ys : List A) → AllByRecursion
 all_append P [] ys h g = g
 all_append P (x ∷ xs) ys (first, h) g = (first, all_append P xs ys h g)
 
-lists_rise : (from to : Point State) (turns : List Turn) → Run from turns to
-    → SerialsRiseIn turns → SerialsRise from.seen → AllByRecursion SerialsRise (lists_of turns ++ to.seen ∷ [])
+lists_rise : (from to : Point State) (exchanges : List Exchange) → Run from exchanges to
+    → SerialsRiseIn exchanges → SerialsRise from.seen → AllByRecursion SerialsRise (lists_of exchanges ++ to.seen ∷ [])
 lists_rise from to [] e of_gate rises = (subst (λ (p : Point State). SerialsRise p.seen) (sym e) rises, tt)
-lists_rise from to (turn ∷ turns) (t, rest) (here, later) rises =
-    let after : SerialsRise turn.to.seen = here.seen in
-    let more = lists_rise turn.to to turns rest later after in
-    subst (AllByRecursion SerialsRise) (sym (append_assoc turn.answered (turn.to.seen ∷ lists_of turns) (to.seen ∷ [])))
-    (all_append SerialsRise turn.answered (turn.to.seen ∷ (lists_of turns ++ to.seen ∷ [])) (all_each SerialsRise turn.answered here.answered) (after, more))
+lists_rise from to (exchange ∷ exchanges) (t, rest) (here, later) rises =
+    let after : SerialsRise exchange.to.seen = here.seen in
+    let more = lists_rise exchange.to to exchanges rest later after in
+    subst (AllByRecursion SerialsRise) (sym (append_assoc exchange.answered (exchange.to.seen ∷ lists_of exchanges) (to.seen ∷ [])))
+    (all_append SerialsRise exchange.answered (exchange.to.seen ∷ (lists_of exchanges ++ to.seen ∷ [])) (all_each SerialsRise exchange.answered here.answered) (after, more))
 
 all_once : (e : Entry) (seen : List Entry) (lists : List (List Entry)) → Contains seen e → AllByRecursion (λ later. Extends later seen) lists → AllByRecursion SerialsRise lists → AllByRecursion (StandsOnce e) lists
 all_once e seen [] there begin rise = tt
@@ -372,31 +372,31 @@ all_once e seen (list ∷ lists) there ((more, whole), begin) (rises, rise) =
     let here : Contains list e = subst (λ (l : List Entry). Contains l e) (sym whole) (Contains-append_left seen more e there) in
     (once e list (rises e.origin.place) (among e list here), all_once e seen lists there begin rise)
 
-run_cut : (from to : Point State) (before : List Turn) (turn : Turn) (after : List Turn) → Run from (before ++ turn ∷ after) to → IsTurn (point_after from before) turn × Run turn.to after to
-run_cut from to [] turn after run = run
-run_cut from to (first ∷ before) turn after (t, rest) = run_cut first.to to before turn after rest
+run_cut : (from to : Point State) (before : List Exchange) (exchange : Exchange) (after : List Exchange) → Run from (before ++ exchange ∷ after) to → IsExchange (point_after from before) exchange × Run exchange.to after to
+run_cut from to [] exchange after run = run
+run_cut from to (first ∷ before) exchange after (t, rest) = run_cut first.to to before exchange after rest
 
-rising_cut : (before : List Turn) (turn : Turn) (after : List Turn) → SerialsRiseIn (before ++ turn ∷ after) → SerialsRiseIn (turn ∷ after)
-rising_cut [] turn after h = h
-rising_cut (first ∷ before) turn after (t, rest) = rising_cut before turn after rest
+rising_cut : (before : List Exchange) (exchange : Exchange) (after : List Exchange) → SerialsRiseIn (before ++ exchange ∷ after) → SerialsRiseIn (exchange ∷ after)
+rising_cut [] exchange after h = h
+rising_cut (first ∷ before) exchange after (t, rest) = rising_cut before exchange after rest
 
-pub run_keeps : (from to : Point State) (before : List Turn) (turn : Turn) (after : List Turn) (o : Open) (p : Publish) (answer : Reply)
-    → Run from (before ++ turn ∷ after) to → SerialsRiseIn (before ++ turn ∷ after) → (point_after from before).state.phase ≡ phase.Open o → IsToldKept o turn p answer
-    → IsKeptIn (point_after from before).mark turn p (turn.to.seen ∷ (lists_of after ++ to.seen ∷ []))
-run_keeps from to before turn after o p answer run rising is told =
-    let (t, rest) = run_cut from to before turn after run in
-    let (here, later) = rising_cut before turn after rising in
-    let rises : SerialsRise turn.to.seen = here.seen in
-    let (topic, operation, is_topic, changes, submitted) = turn_kept (point_after from before) turn o p answer t.case t.due t.mid is told t.row.1 t.all_given in
-    let begin = chain_all turn.to.seen turn.to.seen (lists_of after) to.seen (prefix_itself turn.to.seen) (run_chain turn.to to after rest) in
-    let rise = lists_rise turn.to to after rest later rises in
+pub run_keeps : (from to : Point State) (before : List Exchange) (exchange : Exchange) (after : List Exchange) (o : Open) (p : Publish) (answer : Reply)
+    → Run from (before ++ exchange ∷ after) to → SerialsRiseIn (before ++ exchange ∷ after) → (point_after from before).state.phase ≡ phase.Open o → IsToldKept o exchange p answer
+    → IsKeptIn (point_after from before).mark exchange p (exchange.to.seen ∷ (lists_of after ++ to.seen ∷ []))
+run_keeps from to before exchange after o p answer run rising is told =
+    let (t, rest) = run_cut from to before exchange after run in
+    let (here, later) = rising_cut before exchange after rising in
+    let rises : SerialsRise exchange.to.seen = here.seen in
+    let (topic, operation, is_topic, changes, submitted) = exchange_kept (point_after from before) exchange o p answer t.case t.due t.mid is told t.row.1 t.all_given in
+    let begin = chain_all exchange.to.seen exchange.to.seen (lists_of after) to.seen (prefix_itself exchange.to.seen) (run_chain exchange.to to after rest) in
+    let rise = lists_rise exchange.to to after rest later rises in
     record {
       topic = topic;
       operation = operation;
       is_topic = is_topic;
       changes = changes;
       used = submitted.serial;
-      kept = all_once _ turn.to.seen (turn.to.seen ∷ (lists_of after ++ to.seen ∷ [])) submitted.entry (prefix_itself turn.to.seen, begin) (rises, rise);
+      kept = all_once _ exchange.to.seen (exchange.to.seen ∷ (lists_of after ++ to.seen ∷ [])) submitted.entry (prefix_itself exchange.to.seen, begin) (rises, rise);
     }
 
 -- ---- the marks
@@ -432,21 +432,21 @@ row_marks Unsubscribed given from answered outcome to (u, i, out, m, same) = gro
 row_marks Pinged given from answered outcome to (i, out, unchanged) = grows_itself from.mark to.mark unchanged.none_used
 row_marks Disconnected given from answered outcome to (code, i, out, unchanged) = grows_itself from.mark to.mark unchanged.none_used
 
-turn_marks : (case : Case) (given : Given) (from : Point State) (answered : List (List Entry)) (due : Option Reply) (to : Point State)
+exchange_marks : (case : Case) (given : Given) (from : Point State) (answered : List (List Entry)) (due : Option Reply) (to : Point State)
     → SessionRow case given from answered due to → MarkGrows from.mark to.mark
-turn_marks With_method given from answered due to (c, i, before, m, refused) = grows_itself from.mark to.mark refused.none_used
-turn_marks With_will given from answered due to (c, i, before, m, w, refused) = grows_itself from.mark to.mark refused.none_used
-turn_marks Connect_refused given from answered due to (c, i, before, m, w, refused) = grows_itself from.mark to.mark refused.none_used
-turn_marks Accepted given from answered due to (c, i, before, m, w, short, u, d, same) = grows_itself from.mark to.mark u
-turn_marks Connack_too_long given from answered due to (c, i, before, m, w, long, u, d, same) = grows_itself from.mark to.mark u
-turn_marks Other_version given from answered due to (i, before, u, d, same) = grows_itself from.mark to.mark u
-turn_marks Unexpected given from answered due to (i, before, u, d, same) = grows_itself from.mark to.mark u
-turn_marks In_session given from answered due to (o, left, outcome, is, (case, none, row), d, same) = row_marks case given (with_state from o) answered outcome (with_state to left) row
-turn_marks Over given from answered due to (closing, is, u, d, same) = grows_itself from.mark to.mark u
+exchange_marks With_method given from answered due to (c, i, before, m, refused) = grows_itself from.mark to.mark refused.none_used
+exchange_marks With_will given from answered due to (c, i, before, m, w, refused) = grows_itself from.mark to.mark refused.none_used
+exchange_marks Connect_refused given from answered due to (c, i, before, m, w, refused) = grows_itself from.mark to.mark refused.none_used
+exchange_marks Accepted given from answered due to (c, i, before, m, w, short, u, d, same) = grows_itself from.mark to.mark u
+exchange_marks Connack_too_long given from answered due to (c, i, before, m, w, long, u, d, same) = grows_itself from.mark to.mark u
+exchange_marks Other_version given from answered due to (i, before, u, d, same) = grows_itself from.mark to.mark u
+exchange_marks Unexpected given from answered due to (i, before, u, d, same) = grows_itself from.mark to.mark u
+exchange_marks In_session given from answered due to (o, left, outcome, is, (case, none, row), d, same) = row_marks case given (with_state from o) answered outcome (with_state to left) row
+exchange_marks Over given from answered due to (closing, is, u, d, same) = grows_itself from.mark to.mark u
 
-pub run_marks : (from to : Point State) (turns : List Turn) → Run from turns to → MarkGrows from.mark to.mark
+pub run_marks : (from to : Point State) (exchanges : List Exchange) → Run from exchanges to → MarkGrows from.mark to.mark
 run_marks from to [] e = grows_itself from.mark to.mark (ap (λ (p : Point State). p.mark) e)
-run_marks from to (turn ∷ turns) (t, rest) =
-    let here = turn_marks t.case turn.given from turn.answered t.due (with_state turn.to t.mid) t.row.1 in
-    let later = run_marks turn.to to turns rest in
+run_marks from to (exchange ∷ exchanges) (t, rest) =
+    let here = exchange_marks t.case exchange.given from exchange.answered t.due (with_state exchange.to t.mid) t.row.1 in
+    let later = run_marks exchange.to to exchanges rest in
     record { place = later.place ∙ here.place; serial = omega (arith, here.serial, later.serial) }

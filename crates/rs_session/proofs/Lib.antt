@@ -7,3 +7,4 @@ pub mod Replaying
 pub mod Keeping
 pub mod Sending
 pub mod Expecting
+pub mod Certain

@@ -28,7 +28,7 @@ use Rattle.rs_session.specs.declared.subscriptions.TheConstants.{MAX_SUBSCRIPTIO
 use Rattle.rs_session.specs.State.{State, fresh, IsGiven, IsReplayed}
 use Rattle.rs_session.specs.Table.{subscription_for, held_id, held_with, is_one_too_many, holding, open_for, IsTaken, IsSubscribed, IsQueued, IsGrantedTo, Grants, without, without_all, OpenCase, OpenRow, Case, SessionRow, state_after, With_method, With_will, Connect_refused, Accepted, Connack_too_long, Other_version, Unexpected, In_session, Over, Faulty, With_alias, Bad_topic, Sent_again, Too_many_held, Not_retained, Kept, Topic_unread, Not_kept, Uncertain, Gate_closed, Released, Wrong_acknowledgement, Acknowledged, Shared_no_local, Not_subscribed, Subscribed, Not_unsubscribed, Unsubscribed, Connected_twice, Pinged, Disconnected}
 use Rattle.rs_session.specs.Points.{Given, Point, with_state}
-use Rattle.rs_session.specs.Run.{Turn, Gives, IsTurn, Run, IsWithinLimits}
+use Rattle.rs_session.specs.Run.{Exchange, Gives, IsExchange, Run, IsWithinLimits}
 use Rattle.rs_session.proofs.SubscriptionLemmas.{len_inserted, len_removed}
 
 -- ---- identifiers of QoS 2
@@ -192,15 +192,15 @@ gives_within now due old [] left new (d, same) h = same_within old new same h
 gives_within now due old (reply ∷ replies) left new (later, mid, given, rest) h =
     gives_within now later mid replies left new rest (given_within now due old (Some reply) later mid given h)
 
-turn_within : (from : Point State) (turn : Turn) → IsTurn from turn → PhaseWithin from.state.phase → PhaseWithin turn.to.state.phase
-turn_within from turn t h =
-    let after = answer_within t.case turn.given from turn.answered t.due (with_state turn.to t.mid) t.row.1 h in
-    let given = gives_within turn.given.now t.due t.mid turn.replies t.all_given.left t.all_given.last t.all_given.given after in
-    given_within turn.given.now t.all_given.left t.all_given.last None None turn.to.state t.all_given.none_left given
+exchange_within : (from : Point State) (exchange : Exchange) → IsExchange from exchange → PhaseWithin from.state.phase → PhaseWithin exchange.to.state.phase
+exchange_within from exchange t h =
+    let after = answer_within t.case exchange.given from exchange.answered t.due (with_state exchange.to t.mid) t.row.1 h in
+    let given = gives_within exchange.given.now t.due t.mid exchange.replies t.all_given.left t.all_given.last t.all_given.given after in
+    given_within exchange.given.now t.all_given.left t.all_given.last None None exchange.to.state t.all_given.none_left given
 
-turns_within : (from to : Point State) (turns : List Turn) → Run from turns to → PhaseWithin from.state.phase → PhaseWithin to.state.phase
-turns_within from to [] e h = same_within from.state to.state (ap (λ (p : Point State). p.state) e) h
-turns_within from to (turn ∷ turns) (first, rest) h = turns_within turn.to to turns rest (turn_within from turn first h)
+exchanges_within : (from to : Point State) (exchanges : List Exchange) → Run from exchanges to → PhaseWithin from.state.phase → PhaseWithin to.state.phase
+exchanges_within from to [] e h = same_within from.state to.state (ap (λ (p : Point State). p.state) e) h
+exchanges_within from to (exchange ∷ exchanges) (first, rest) h = exchanges_within exchange.to to exchanges rest (exchange_within from exchange first h)
 
-pub run_within : (assigned : List ℕ) (from to : Point State) (turns : List Turn) (o : Open) → from.state ≡ fresh assigned → Run from turns to → to.state.phase ≡ phase.Open o → IsWithinLimits o
-run_within assigned from to turns o begun run is = subst PhaseWithin is (turns_within from to turns run (same_within (fresh assigned) from.state begun tt))
+pub run_within : (assigned : List ℕ) (from to : Point State) (exchanges : List Exchange) (o : Open) → from.state ≡ fresh assigned → Run from exchanges to → to.state.phase ≡ phase.Open o → IsWithinLimits o
+run_within assigned from to exchanges o begun run is = subst PhaseWithin is (exchanges_within from to exchanges run (same_within (fresh assigned) from.state begun tt))

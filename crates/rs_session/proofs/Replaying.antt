@@ -52,7 +52,7 @@ use Rattle.rs_session.specs.State.{State, fresh, closing_of, IsGiven, IsReplayed
 use Rattle.rs_session.specs.Table.{subscription_for, acknowledged_by, acknowledgement_of, released_by, IsSubscribed, IsGrantedTo, Grants, OpenCase, OpenRow, Case, SessionRow, due_for, state_after, connack, open_for, packet_maximum, receive_maximum, With_method, With_will, Connect_refused, Accepted, Connack_too_long, Other_version, Unexpected, In_session, Over, Faulty, With_alias, Bad_topic, Sent_again, Too_many_held, Not_retained, Kept, Topic_unread, Not_kept, Uncertain, Gate_closed, Wrong_acknowledgement, Acknowledged, Shared_no_local, Not_subscribed, Subscribed, Not_unsubscribed, Unsubscribed, Connected_twice, Pinged, Disconnected}
 use Rattle.rs_session.specs.Table as table
 use Rattle.rs_session.specs.Points.{Given, Point, with_state}
-use Rattle.rs_session.specs.Run.{Turn, Gives, GivesAll, IsTurn, Run}
+use Rattle.rs_session.specs.Run.{Exchange, Gives, GivesAll, IsExchange, Run}
 use Rattle.rs_session.specs.Replay.{is_granted, subscribed_by, IsQueuedAt, IsQueuedFor, AreQueued, IsAcknowledged, AreCalledBy, acknowledgement_in, IsRefused, giving, listed, publications, IsNoPublish, IsServed, IsLast, AreMade, subscriptions_of, AreCalls, window_of, window_after, window_for, IsOpen, Opens, IsReplaying, AreSentOrDropped, AreSent, IsWithinQuota, IsSentInOrder}
 
 -- ---- a SUBSCRIBE
@@ -299,7 +299,7 @@ left_replies now None old closing (answer ∷ replies) left last new e (later, m
     let (given, is) : IsReplayed now (phase.Ended closing) (Some answer) mid.phase = subst (λ (p : Phase). IsReplayed now p (Some answer) mid.phase) e r in
     absurd (none-some answer (sym given))
 
--- ---- a turn
+-- ---- an exchange
 
 run_maximum : (from : window_state.State) (made : List Call) (to : window_state.State) → calls.Run from made to → to.packet_maximum ≡ from.packet_maximum
 run_maximum from [] to e = ap (λ (s : window_state.State). s.packet_maximum) e
@@ -309,20 +309,20 @@ run_quota : (from : window_state.State) (made : List Call) (to : window_state.St
 run_quota from [] to e = ap (λ (s : window_state.State). s.quota) e
 run_quota from (call ∷ made) to (mid, step, rest) = run_quota mid made to rest ∙ (step_limits from call mid step).0
 
--- the calls of a turn, from the window of an open session to that in this phase
-abbrev IsMadeTo : Open → Turn → Phase → Type 0
-IsMadeTo o turn to = (made : List Call) × calls.Run o.window made (window_of o.window to) × AreMade o.subscriptions turn to made
+-- the calls of an exchange, from the window of an open session to that in this phase
+abbrev IsMadeTo : Open → Exchange → Phase → Type 0
+IsMadeTo o exchange to = (made : List Call) × calls.Run o.window made (window_of o.window to) × AreMade o.subscriptions exchange to made
 
 none_within : (b : Bool) (code : ℕ) → publications (listed (cond b (Some (reply.Disconnect code)) None)) ≡ []
 none_within true code = refl
 none_within false code = refl
 
-led_made : (turn : Turn) (o left : Open) (outcome : Outcome) (old mid : State) (due : Option Reply) → IsLed turn.given.input turn.given.now turn.answered o outcome left → due ≡ due_for o.window.packet_maximum outcome
-    → mid ≡ state_after outcome old left → GivesAll turn.given.now due mid turn.replies turn.to.state → IsMadeTo o turn turn.to.state.phase
-led_made turn o left (Replies answer) old mid due (own, run, called, no_publish) d same g =
-    let (given, n, is, runs, whole) = given_calls turn.given.now due mid left turn.replies g.left g.last turn.to.state (ap (λ (s : State). s.phase) same) g.given g.none_left in
-    let all : calls.Run o.window (own ++ giving turn.given.now given) n.window = run_append o.window left.window own (giving turn.given.now given) n.window run runs in
-    let served : IsServed o.subscriptions n.window.packet_maximum turn (own ++ giving turn.given.now given) = record {
+led_made : (exchange : Exchange) (o left : Open) (outcome : Outcome) (old mid : State) (due : Option Reply) → IsLed exchange.given.input exchange.given.now exchange.answered o outcome left → due ≡ due_for o.window.packet_maximum outcome
+    → mid ≡ state_after outcome old left → GivesAll exchange.given.now due mid exchange.replies exchange.to.state → IsMadeTo o exchange exchange.to.state.phase
+led_made exchange o left (Replies answer) old mid due (own, run, called, no_publish) d same g =
+    let (given, n, is, runs, whole) = given_calls exchange.given.now due mid left exchange.replies g.left g.last exchange.to.state (ap (λ (s : State). s.phase) same) g.given g.none_left in
+    let all : calls.Run o.window (own ++ giving exchange.given.now given) n.window = run_append o.window left.window own (giving exchange.given.now given) n.window run runs in
+    let served : IsServed o.subscriptions n.window.packet_maximum exchange (own ++ giving exchange.given.now given) = record {
       answer = answer;
       own = own;
       given = given;
@@ -330,73 +330,73 @@ led_made turn o left (Replies answer) old mid due (own, run, called, no_publish)
       no_publish = no_publish;
       whole = refl;
       replies = whole ∙ ap (λ (r : Option Reply). listed r ++ map reply_of given) d
-          ∙ ap (λ (maximum : ℕ). listed (due_for maximum (Replies answer)) ++ map reply_of given) (sym (run_maximum o.window (own ++ giving turn.given.now given) n.window all));
+          ∙ ap (λ (maximum : ℕ). listed (due_for maximum (Replies answer)) ++ map reply_of given) (sym (run_maximum o.window (own ++ giving exchange.given.now given) n.window all));
     } in
-    subst (λ (p : Phase). IsMadeTo o turn p) (sym is) (own ++ giving turn.given.now given, all, served)
-led_made turn o left (Closes code) old mid due (own, run, refused) d same g =
-    let (is, whole) = left_replies turn.given.now due mid (ByServer (code_of code)) turn.replies g.left g.last turn.to.state (ap (λ (s : State). s.phase) same) g.given g.none_left in
-    let last : IsLast turn own = record {
+    subst (λ (p : Phase). IsMadeTo o exchange p) (sym is) (own ++ giving exchange.given.now given, all, served)
+led_made exchange o left (Closes code) old mid due (own, run, refused) d same g =
+    let (is, whole) = left_replies exchange.given.now due mid (ByServer (code_of code)) exchange.replies g.left g.last exchange.to.state (ap (λ (s : State). s.phase) same) g.given g.none_left in
+    let last : IsLast exchange own = record {
       refused = refused;
       none_given = ap publications whole ∙ ap (λ (r : Option Reply). publications (listed r)) d ∙ none_within (leb (length (reply_bytes (reply.Disconnect (code_of code)))) o.window.packet_maximum) (code_of code);
     } in
-    subst (λ (p : Phase). IsMadeTo o turn p) (sym is) (own, run, last)
-led_made turn o left Leaves old mid due (own, run, refused) d same g =
-    let (is, whole) = left_replies turn.given.now due mid ByClient turn.replies g.left g.last turn.to.state (ap (λ (s : State). s.phase) same) g.given g.none_left in
-    let last : IsLast turn own = record { refused = refused; none_given = ap publications whole ∙ ap (λ (r : Option Reply). publications (listed r)) d } in
-    subst (λ (p : Phase). IsMadeTo o turn p) (sym is) (own, run, last)
+    subst (λ (p : Phase). IsMadeTo o exchange p) (sym is) (own, run, last)
+led_made exchange o left Leaves old mid due (own, run, refused) d same g =
+    let (is, whole) = left_replies exchange.given.now due mid ByClient exchange.replies g.left g.last exchange.to.state (ap (λ (s : State). s.phase) same) g.given g.none_left in
+    let last : IsLast exchange own = record { refused = refused; none_given = ap publications whole ∙ ap (λ (r : Option Reply). publications (listed r)) d } in
+    subst (λ (p : Phase). IsMadeTo o exchange p) (sym is) (own, run, last)
 
 -- from whatever phase
-abbrev IsMade : window_state.State → Phase → Turn → Type 0
-IsMade w from turn =
-    (made : List Call) × calls.Run (window_of w from) made (window_of (window_of w from) turn.to.state.phase) × AreMade (subscriptions_of from) turn turn.to.state.phase made
+abbrev IsMade : window_state.State → Phase → Exchange → Type 0
+IsMade w from exchange =
+    (made : List Call) × calls.Run (window_of w from) made (window_of (window_of w from) exchange.to.state.phase) × AreMade (subscriptions_of from) exchange exchange.to.state.phase made
 
 pub shut : {A : Type 0} (a b : Phase) → a ≡ b → IsOpen a → (IsOpen b → ⊥) → A
 shut a b e h closed = absurd (closed (subst IsOpen e h))
 
-open_made : (w : window_state.State) (from : Point State) (turn : Turn) (case : Case) (due : Option Reply) (mid : State) → IsOpen from.state.phase
-    → SessionRow case turn.given from turn.answered due (with_state turn.to mid) → GivesAll turn.given.now due mid turn.replies turn.to.state → IsMade w from.state.phase turn
-open_made w from turn With_method due mid h (c, i, before, m, refused) g = shut from.state.phase phase.Before before h (λ n. n)
-open_made w from turn With_will due mid h (c, i, before, m, k, refused) g = shut from.state.phase phase.Before before h (λ n. n)
-open_made w from turn Connect_refused due mid h (c, i, before, m, k, refused) g = shut from.state.phase phase.Before before h (λ n. n)
-open_made w from turn Accepted due mid h (c, i, before, m, k, short, u, d, same) g = shut from.state.phase phase.Before before h (λ n. n)
-open_made w from turn Connack_too_long due mid h (c, i, before, m, k, long, u, d, same) g = shut from.state.phase phase.Before before h (λ n. n)
-open_made w from turn Other_version due mid h (i, before, u, d, same) g = shut from.state.phase phase.Before before h (λ n. n)
-open_made w from turn Unexpected due mid h (i, before, u, d, same) g = shut from.state.phase phase.Before before h (λ n. n)
-open_made w from turn In_session due mid h (o, left, outcome, is, (case, a, row), d, same) g =
-    let led : IsLed turn.given.input turn.given.now turn.answered o outcome left = row_calls case turn.given (with_state from o) turn.answered outcome (with_state turn.to left) row in
-    subst (λ (p : Phase). IsMade w p turn) (sym is) (led_made turn o left outcome from.state mid due led d same g)
-open_made w from turn Over due mid h (closing, is, u, d, same) g = shut from.state.phase (phase.Ended closing) is h (λ n. n)
+open_made : (w : window_state.State) (from : Point State) (exchange : Exchange) (case : Case) (due : Option Reply) (mid : State) → IsOpen from.state.phase
+    → SessionRow case exchange.given from exchange.answered due (with_state exchange.to mid) → GivesAll exchange.given.now due mid exchange.replies exchange.to.state → IsMade w from.state.phase exchange
+open_made w from exchange With_method due mid h (c, i, before, m, refused) g = shut from.state.phase phase.Before before h (λ n. n)
+open_made w from exchange With_will due mid h (c, i, before, m, k, refused) g = shut from.state.phase phase.Before before h (λ n. n)
+open_made w from exchange Connect_refused due mid h (c, i, before, m, k, refused) g = shut from.state.phase phase.Before before h (λ n. n)
+open_made w from exchange Accepted due mid h (c, i, before, m, k, short, u, d, same) g = shut from.state.phase phase.Before before h (λ n. n)
+open_made w from exchange Connack_too_long due mid h (c, i, before, m, k, long, u, d, same) g = shut from.state.phase phase.Before before h (λ n. n)
+open_made w from exchange Other_version due mid h (i, before, u, d, same) g = shut from.state.phase phase.Before before h (λ n. n)
+open_made w from exchange Unexpected due mid h (i, before, u, d, same) g = shut from.state.phase phase.Before before h (λ n. n)
+open_made w from exchange In_session due mid h (o, left, outcome, is, (case, a, row), d, same) g =
+    let led : IsLed exchange.given.input exchange.given.now exchange.answered o outcome left = row_calls case exchange.given (with_state from o) exchange.answered outcome (with_state exchange.to left) row in
+    subst (λ (p : Phase). IsMade w p exchange) (sym is) (led_made exchange o left outcome from.state mid due led d same g)
+open_made w from exchange Over due mid h (closing, is, u, d, same) g = shut from.state.phase (phase.Ended closing) is h (λ n. n)
 
--- the first turn, if it opens the session
+-- the first exchange, if it opens the session
 abbrev connect_in : Connect → Input → Connect
 connect_in other (Whole (packet.Connect c)) = c
 connect_in other input = other
 
-ended_first : {A : Type 0} (turn : Turn) (due : Option Reply) (mid : State) (closing : Closing) → mid.phase ≡ phase.Ended closing → GivesAll turn.given.now due mid turn.replies turn.to.state → IsOpen turn.to.state.phase → A
-ended_first turn due mid closing is g h =
-    shut turn.to.state.phase (phase.Ended closing) (left_replies turn.given.now due mid closing turn.replies g.left g.last turn.to.state is g.given g.none_left).0 h (λ n. n)
+ended_first : {A : Type 0} (exchange : Exchange) (due : Option Reply) (mid : State) (closing : Closing) → mid.phase ≡ phase.Ended closing → GivesAll exchange.given.now due mid exchange.replies exchange.to.state → IsOpen exchange.to.state.phase → A
+ended_first exchange due mid closing is g h =
+    shut exchange.to.state.phase (phase.Ended closing) (left_replies exchange.given.now due mid closing exchange.replies g.left g.last exchange.to.state is g.given g.none_left).0 h (λ n. n)
 
 pub phase_of : (a b : State) → a ≡ b → a.phase ≡ b.phase
 phase_of a b e = ap (λ (s : State). s.phase) e
 
-first_made : (from : Point State) (turn : Turn) (c : Connect) (case : Case) (due : Option Reply) (mid : State) → from.state.phase ≡ phase.Before → turn.given.input ≡ Whole (packet.Connect c) → IsOpen turn.to.state.phase
-    → SessionRow case turn.given from turn.answered due (with_state turn.to mid) → GivesAll turn.given.now due mid turn.replies turn.to.state
-    → IsMadeTo (open_for c) turn turn.to.state.phase
-first_made from turn c With_method due mid begun is h (d, i, before, m, refused) g = ended_first turn due mid (ByServer (code_of BadAuthenticationMethod)) (phase_of mid _ refused.end) g h
-first_made from turn c With_will due mid begun is h (d, i, before, m, k, refused) g = ended_first turn due mid (ByServer (code_of ImplementationSpecificError)) (phase_of mid _ refused.end) g h
-first_made from turn c Connect_refused due mid begun is h (d, i, before, m, k, refused) g = ended_first turn due mid (ByServer (code_of QuotaExceeded)) (phase_of mid _ refused.end) g h
-first_made from turn c Accepted due mid begun is h (d, i, before, m, k, short, u, e, same) g =
+first_made : (from : Point State) (exchange : Exchange) (c : Connect) (case : Case) (due : Option Reply) (mid : State) → from.state.phase ≡ phase.Before → exchange.given.input ≡ Whole (packet.Connect c) → IsOpen exchange.to.state.phase
+    → SessionRow case exchange.given from exchange.answered due (with_state exchange.to mid) → GivesAll exchange.given.now due mid exchange.replies exchange.to.state
+    → IsMadeTo (open_for c) exchange exchange.to.state.phase
+first_made from exchange c With_method due mid begun is h (d, i, before, m, refused) g = ended_first exchange due mid (ByServer (code_of BadAuthenticationMethod)) (phase_of mid _ refused.end) g h
+first_made from exchange c With_will due mid begun is h (d, i, before, m, k, refused) g = ended_first exchange due mid (ByServer (code_of ImplementationSpecificError)) (phase_of mid _ refused.end) g h
+first_made from exchange c Connect_refused due mid begun is h (d, i, before, m, k, refused) g = ended_first exchange due mid (ByServer (code_of QuotaExceeded)) (phase_of mid _ refused.end) g h
+first_made from exchange c Accepted due mid begun is h (d, i, before, m, k, short, u, e, same) g =
     let o : Open = open_for d in
     let answer : Reply = connack d from.state in
     let sent : due ≡ due_for o.window.packet_maximum (Replies (Some answer)) = e ∙ sym (ap (λ (b : Bool). cond b (Some answer) None) (le-leb (length (reply_bytes answer)) o.window.packet_maximum short)) in
-    let led : IsLed turn.given.input turn.given.now turn.answered o (Replies (Some answer)) o =
-    answers turn.given.input (Whole (packet.Connect d)) turn.given.now turn.answered o (Replies (Some answer)) (Some answer) o i refl refl refl tt in
-    subst (λ (x : Connect). IsMadeTo (open_for x) turn turn.to.state.phase) (ap (connect_in c) (sym i ∙ is)) (led_made turn o o (Replies (Some answer)) from.state mid due led sent same g)
-first_made from turn c Connack_too_long due mid begun is h (d, i, before, m, k, long, u, e, same) g = ended_first turn due mid (ByServer (code_of Success)) (phase_of mid _ same) g h
-first_made from turn c Other_version due mid begun is h (i, before, u, e, same) g = ended_first turn due mid (ByServer (code_of UnsupportedProtocolVersion)) (phase_of mid _ same) g h
-first_made from turn c Unexpected due mid begun is h (i, before, u, e, same) g = ended_first turn due mid Dropped (phase_of mid _ same) g h
-first_made from turn c In_session due mid begun is h (o, left, outcome, at, row, e, same) g = shut (phase.Open o) phase.Before (sym at ∙ begun) tt (λ n. n)
-first_made from turn c Over due mid begun is h (closing, at, u, e, same) g = ended_first turn due mid closing (phase_of mid from.state same ∙ at) g h
+    let led : IsLed exchange.given.input exchange.given.now exchange.answered o (Replies (Some answer)) o =
+    answers exchange.given.input (Whole (packet.Connect d)) exchange.given.now exchange.answered o (Replies (Some answer)) (Some answer) o i refl refl refl tt in
+    subst (λ (x : Connect). IsMadeTo (open_for x) exchange exchange.to.state.phase) (ap (connect_in c) (sym i ∙ is)) (led_made exchange o o (Replies (Some answer)) from.state mid due led sent same g)
+first_made from exchange c Connack_too_long due mid begun is h (d, i, before, m, k, long, u, e, same) g = ended_first exchange due mid (ByServer (code_of Success)) (phase_of mid _ same) g h
+first_made from exchange c Other_version due mid begun is h (i, before, u, e, same) g = ended_first exchange due mid (ByServer (code_of UnsupportedProtocolVersion)) (phase_of mid _ same) g h
+first_made from exchange c Unexpected due mid begun is h (i, before, u, e, same) g = ended_first exchange due mid Dropped (phase_of mid _ same) g h
+first_made from exchange c In_session due mid begun is h (o, left, outcome, at, row, e, same) g = shut (phase.Open o) phase.Before (sym at ∙ begun) tt (λ n. n)
+first_made from exchange c Over due mid begun is h (closing, at, u, e, same) g = ended_first exchange due mid closing (phase_of mid from.state same ∙ at) g h
 
 -- ---- a run
 
@@ -410,33 +410,33 @@ is_open phase.Before h e = absurd h
 is_open (phase.Open o) h e = tt
 is_open (phase.Ended closing) h e = absurd (none-some closing (sym e))
 
-has_begun : (there : Subscriptions) (turn : Turn) (p : Phase) (made : List Call) → AreMade there turn p made → HasBegun p
-has_begun there turn phase.Before made h = h
-has_begun there turn (phase.Open o) made h = tt
-has_begun there turn (phase.Ended closing) made h = tt
+has_begun : (there : Subscriptions) (exchange : Exchange) (p : Phase) (made : List Call) → AreMade there exchange p made → HasBegun p
+has_begun there exchange phase.Before made h = h
+has_begun there exchange (phase.Open o) made h = tt
+has_begun there exchange (phase.Ended closing) made h = tt
 
-turns_made : (w : window_state.State) (from to : Point State) (turns : List Turn) → Run from turns to → HasBegun from.state.phase
-    → (made : List Call) × calls.Run (window_of w from.state.phase) made (window_after (window_of w from.state.phase) turns) × AreCalls from.state.phase turns made
-turns_made w from to [] e h = ([], refl, refl)
-turns_made w from to (turn ∷ turns) (t, rest) h =
-    let (own, run, made) = open_made w from turn t.case t.due t.mid (is_open from.state.phase h t.goes_on) t.row.1 t.all_given in
+exchanges_made : (w : window_state.State) (from to : Point State) (exchanges : List Exchange) → Run from exchanges to → HasBegun from.state.phase
+    → (made : List Call) × calls.Run (window_of w from.state.phase) made (window_after (window_of w from.state.phase) exchanges) × AreCalls from.state.phase exchanges made
+exchanges_made w from to [] e h = ([], refl, refl)
+exchanges_made w from to (exchange ∷ exchanges) (t, rest) h =
+    let (own, run, made) = open_made w from exchange t.case t.due t.mid (is_open from.state.phase h t.goes_on) t.row.1 t.all_given in
     let at : window_state.State = window_of w from.state.phase in
-    let (more, runs, are) = turns_made at turn.to to turns rest (has_begun (subscriptions_of from.state.phase) turn turn.to.state.phase own made) in (
+    let (more, runs, are) = exchanges_made at exchange.to to exchanges rest (has_begun (subscriptions_of from.state.phase) exchange exchange.to.state.phase own made) in (
       own ++ more,
-      run_append at (window_of at turn.to.state.phase) own more (window_after (window_of at turn.to.state.phase) turns) run runs,
+      run_append at (window_of at exchange.to.state.phase) own more (window_after (window_of at exchange.to.state.phase) exchanges) run runs,
       (own, more, refl, made, are),
     )
 
-pub run_replays : (assigned : List ℕ) (from to : Point State) (turns : List Turn) (c : Connect) → from.state ≡ fresh assigned → Run from turns to → Opens c turns → IsReplaying c turns
+pub run_replays : (assigned : List ℕ) (from to : Point State) (exchanges : List Exchange) (c : Connect) → from.state ≡ fresh assigned → Run from exchanges to → Opens c exchanges → IsReplaying c exchanges
 run_replays assigned from to [] c begun run opens = absurd opens
-run_replays assigned from to (turn ∷ turns) c begun (t, rest) (is, h) =
-    let (own, run, made) = first_made from turn c t.case t.due t.mid (phase_of from.state (fresh assigned) begun) is h t.row.1 t.all_given in
+run_replays assigned from to (exchange ∷ exchanges) c begun (t, rest) (is, h) =
+    let (own, run, made) = first_made from exchange c t.case t.due t.mid (phase_of from.state (fresh assigned) begun) is h t.row.1 t.all_given in
     let at : window_state.State = window_for c in
-    let (more, runs, are) = turns_made at turn.to to turns rest (has_begun none turn turn.to.state.phase own made) in
+    let (more, runs, are) = exchanges_made at exchange.to to exchanges rest (has_begun none exchange exchange.to.state.phase own made) in
     record {
       made = own ++ more;
-      run = run_append at (window_of at turn.to.state.phase) own more (window_after (window_of at turn.to.state.phase) turns) run runs;
-      by_turns = (own, more, refl, made, are);
+      run = run_append at (window_of at exchange.to.state.phase) own more (window_after (window_of at exchange.to.state.phase) exchanges) run runs;
+      by_exchanges = (own, more, refl, made, are);
     }
 
 -- ---- what the calls send
@@ -530,25 +530,25 @@ answer_first maximum (Some r) rs h = by_case (leb (length (reply_bytes r)) maxim
     by_case true = other_first r rs h
     by_case false = refl
 
-turn_sends : (packet_maximum : ℕ) (there : Subscriptions) (turn : Turn) (to : Phase) (made rest : List Call) (front : List Waiting) → AreMade there turn to made → calls.HasLeft packet_maximum (made ++ rest) front
-    → (gone : List Waiting) × (more : List Waiting) × (front ≡ gone ++ more) × AreSentOrDropped packet_maximum turn.given.now gone (publications turn.replies) × calls.HasLeft packet_maximum rest more
-turn_sends packet_maximum there turn phase.Before made rest front h is = absurd h
-turn_sends packet_maximum there turn (phase.Open o) made rest front s is =
-    let apart : calls.HasLeft packet_maximum (s.own ++ (giving turn.given.now s.given ++ rest)) front =
-    subst (λ (cs : List Call). calls.HasLeft packet_maximum cs front) (ap (λ (cs : List Call). cs ++ rest) s.whole ∙ append_assoc s.own (giving turn.given.now s.given) rest) is in
-    let (gone, more, e, sent, fronts) = front_given packet_maximum turn.given.now s.given rest front
-    (front_after packet_maximum s.own (giving turn.given.now s.given ++ rest) front (called_gives_none turn.given.input turn.given.now turn.answered there s.answer s.own s.called) apart) in
-    let replied : publications turn.replies ≡ map publication_of s.given = ap publications s.replies ∙ answer_first o.window.packet_maximum s.answer (map reply_of s.given) s.no_publish ∙ published s.given in
-    (gone, more, e, subst (λ (ps : List Publication). AreSentOrDropped packet_maximum turn.given.now gone ps) (sym replied) sent, fronts)
-turn_sends packet_maximum there turn (phase.Ended closing) made rest front last is =
-    ([], front, refl, last.none_given, front_after packet_maximum made rest front (refused_gives_none (acknowledgement_in turn.given.input) made last.refused) is)
+exchange_sends : (packet_maximum : ℕ) (there : Subscriptions) (exchange : Exchange) (to : Phase) (made rest : List Call) (front : List Waiting) → AreMade there exchange to made → calls.HasLeft packet_maximum (made ++ rest) front
+    → (gone : List Waiting) × (more : List Waiting) × (front ≡ gone ++ more) × AreSentOrDropped packet_maximum exchange.given.now gone (publications exchange.replies) × calls.HasLeft packet_maximum rest more
+exchange_sends packet_maximum there exchange phase.Before made rest front h is = absurd h
+exchange_sends packet_maximum there exchange (phase.Open o) made rest front s is =
+    let apart : calls.HasLeft packet_maximum (s.own ++ (giving exchange.given.now s.given ++ rest)) front =
+    subst (λ (cs : List Call). calls.HasLeft packet_maximum cs front) (ap (λ (cs : List Call). cs ++ rest) s.whole ∙ append_assoc s.own (giving exchange.given.now s.given) rest) is in
+    let (gone, more, e, sent, fronts) = front_given packet_maximum exchange.given.now s.given rest front
+    (front_after packet_maximum s.own (giving exchange.given.now s.given ++ rest) front (called_gives_none exchange.given.input exchange.given.now exchange.answered there s.answer s.own s.called) apart) in
+    let replied : publications exchange.replies ≡ map publication_of s.given = ap publications s.replies ∙ answer_first o.window.packet_maximum s.answer (map reply_of s.given) s.no_publish ∙ published s.given in
+    (gone, more, e, subst (λ (ps : List Publication). AreSentOrDropped packet_maximum exchange.given.now gone ps) (sym replied) sent, fronts)
+exchange_sends packet_maximum there exchange (phase.Ended closing) made rest front last is =
+    ([], front, refl, last.none_given, front_after packet_maximum made rest front (refused_gives_none (acknowledgement_in exchange.given.input) made last.refused) is)
 
-turns_send : (packet_maximum : ℕ) (from : Phase) (turns : List Turn) (made : List Call) (front : List Waiting) → AreCalls from turns made → calls.HasLeft packet_maximum made front → AreSent packet_maximum turns front
-turns_send packet_maximum from [] made front e is = subst (λ (cs : List Call). calls.HasLeft packet_maximum cs front) e is
-turns_send packet_maximum from (turn ∷ turns) made front (own, rest, e, here, later) is =
+exchanges_send : (packet_maximum : ℕ) (from : Phase) (exchanges : List Exchange) (made : List Call) (front : List Waiting) → AreCalls from exchanges made → calls.HasLeft packet_maximum made front → AreSent packet_maximum exchanges front
+exchanges_send packet_maximum from [] made front e is = subst (λ (cs : List Call). calls.HasLeft packet_maximum cs front) e is
+exchanges_send packet_maximum from (exchange ∷ exchanges) made front (own, rest, e, here, later) is =
     let (gone, more, whole, sent, fronts) =
-    turn_sends packet_maximum (subscriptions_of from) turn turn.to.state.phase own rest front here (subst (λ (cs : List Call). calls.HasLeft packet_maximum cs front) e is) in
-    (gone, more, whole, sent, turns_send packet_maximum turn.to.state.phase turns rest more later fronts)
+    exchange_sends packet_maximum (subscriptions_of from) exchange exchange.to.state.phase own rest front here (subst (λ (cs : List Call). calls.HasLeft packet_maximum cs front) e is) in
+    (gone, more, whole, sent, exchanges_send packet_maximum exchange.to.state.phase exchanges rest more later fronts)
 
 -- the first calls of a run are a run
 run_first : (from : window_state.State) (before after : List Call) (to : window_state.State) → calls.Run from (before ++ after) to → (mid : window_state.State) × calls.Run from before mid
@@ -562,66 +562,66 @@ within_quota c made end run before after e =
     let (mid, first) = run_first (window_for c) before after end (subst (λ (cs : List Call). calls.Run (window_for c) cs end) e run) in
     record { kinds = mid.kinds; unacknowledged = kinds_read quota maximum before mid first; few = quota_holds quota maximum before mid first }
 
-pub replay_sends : (c : Connect) (turns : List Turn) (r : IsReplaying c turns) → IsSentInOrder c turns r.made
-replay_sends c turns r =
+pub replay_sends : (c : Connect) (exchanges : List Exchange) (r : IsReplaying c exchanges) → IsSentInOrder c exchanges r.made
+replay_sends c exchanges r =
     let maximum : ℕ = packet_maximum c.packet_maximum in
     let quota : ℕ = receive_maximum c.receive_maximum in
-    let end : window_state.State = window_after (window_for c) turns in
+    let end : window_state.State = window_after (window_for c) exchanges in
     let replay : calls.IsReplayed maximum r.made end.waiting = replayed quota maximum r.made end r.run in
     record {
       front = replay.prefix;
       whole = replay.whole;
-      sent = turns_send maximum phase.Before turns r.made replay.prefix r.by_turns replay.leaves;
+      sent = exchanges_send maximum phase.Before exchanges r.made replay.prefix r.by_exchanges replay.leaves;
       quota = run_quota (window_for c) r.made end r.run;
       within = within_quota c r.made end r.run;
       unacknowledged = kinds_read quota maximum r.made end r.run;
     }
 
--- ---- which turn opens a session
+-- ---- which exchange opens a session
 
-abbrev OpensOrEnds : Turn → Type 0
-OpensOrEnds turn = ((c : Connect) × Opens c (turn ∷ [])) ⊎ ((closing : Closing) × (turn.to.state.phase ≡ phase.Ended closing))
+abbrev OpensOrEnds : Exchange → Type 0
+OpensOrEnds exchange = ((c : Connect) × Opens c (exchange ∷ [])) ⊎ ((closing : Closing) × (exchange.to.state.phase ≡ phase.Ended closing))
 
-ends_first : (turn : Turn) (due : Option Reply) (mid : State) (closing : Closing) → mid.phase ≡ phase.Ended closing → GivesAll turn.given.now due mid turn.replies turn.to.state → OpensOrEnds turn
-ends_first turn due mid closing is g = inr (closing, (left_replies turn.given.now due mid closing turn.replies g.left g.last turn.to.state is g.given g.none_left).0)
+ends_first : (exchange : Exchange) (due : Option Reply) (mid : State) (closing : Closing) → mid.phase ≡ phase.Ended closing → GivesAll exchange.given.now due mid exchange.replies exchange.to.state → OpensOrEnds exchange
+ends_first exchange due mid closing is g = inr (closing, (left_replies exchange.given.now due mid closing exchange.replies g.left g.last exchange.to.state is g.given g.none_left).0)
 
--- the first turn opens it by a CONNECT, or it ends
-first_to : (from : Point State) (turn : Turn) (case : Case) (due : Option Reply) (mid : State) → from.state.phase ≡ phase.Before
-    → SessionRow case turn.given from turn.answered due (with_state turn.to mid) → GivesAll turn.given.now due mid turn.replies turn.to.state
-    → OpensOrEnds turn
-first_to from turn With_method due mid begun (d, i, before, m, refused) g = ends_first turn due mid (ByServer (code_of BadAuthenticationMethod)) (phase_of mid _ refused.end) g
-first_to from turn With_will due mid begun (d, i, before, m, k, refused) g = ends_first turn due mid (ByServer (code_of ImplementationSpecificError)) (phase_of mid _ refused.end) g
-first_to from turn Connect_refused due mid begun (d, i, before, m, k, refused) g = ends_first turn due mid (ByServer (code_of QuotaExceeded)) (phase_of mid _ refused.end) g
-first_to from turn Accepted due mid begun (d, i, before, m, k, short, u, e, same) g =
-    let (given, n, is, run, whole) = given_calls turn.given.now due mid (open_for d) turn.replies g.left g.last turn.to.state (phase_of mid _ same) g.given g.none_left in
+-- the first exchange opens it by a CONNECT, or it ends
+first_to : (from : Point State) (exchange : Exchange) (case : Case) (due : Option Reply) (mid : State) → from.state.phase ≡ phase.Before
+    → SessionRow case exchange.given from exchange.answered due (with_state exchange.to mid) → GivesAll exchange.given.now due mid exchange.replies exchange.to.state
+    → OpensOrEnds exchange
+first_to from exchange With_method due mid begun (d, i, before, m, refused) g = ends_first exchange due mid (ByServer (code_of BadAuthenticationMethod)) (phase_of mid _ refused.end) g
+first_to from exchange With_will due mid begun (d, i, before, m, k, refused) g = ends_first exchange due mid (ByServer (code_of ImplementationSpecificError)) (phase_of mid _ refused.end) g
+first_to from exchange Connect_refused due mid begun (d, i, before, m, k, refused) g = ends_first exchange due mid (ByServer (code_of QuotaExceeded)) (phase_of mid _ refused.end) g
+first_to from exchange Accepted due mid begun (d, i, before, m, k, short, u, e, same) g =
+    let (given, n, is, run, whole) = given_calls exchange.given.now due mid (open_for d) exchange.replies g.left g.last exchange.to.state (phase_of mid _ same) g.given g.none_left in
     inl (d, (i, subst IsOpen (sym is) tt))
-first_to from turn Connack_too_long due mid begun (d, i, before, m, k, long, u, e, same) g = ends_first turn due mid (ByServer (code_of Success)) (phase_of mid _ same) g
-first_to from turn Other_version due mid begun (i, before, u, e, same) g = ends_first turn due mid (ByServer (code_of UnsupportedProtocolVersion)) (phase_of mid _ same) g
-first_to from turn Unexpected due mid begun (i, before, u, e, same) g = ends_first turn due mid Dropped (phase_of mid _ same) g
-first_to from turn In_session due mid begun (o, left, outcome, at, row, e, same) g = shut (phase.Open o) phase.Before (sym at ∙ begun) tt (λ n. n)
-first_to from turn Over due mid begun (closing, at, u, e, same) g = ends_first turn due mid closing (phase_of mid from.state same ∙ at) g
+first_to from exchange Connack_too_long due mid begun (d, i, before, m, k, long, u, e, same) g = ends_first exchange due mid (ByServer (code_of Success)) (phase_of mid _ same) g
+first_to from exchange Other_version due mid begun (i, before, u, e, same) g = ends_first exchange due mid (ByServer (code_of UnsupportedProtocolVersion)) (phase_of mid _ same) g
+first_to from exchange Unexpected due mid begun (i, before, u, e, same) g = ends_first exchange due mid Dropped (phase_of mid _ same) g
+first_to from exchange In_session due mid begun (o, left, outcome, at, row, e, same) g = shut (phase.Open o) phase.Before (sym at ∙ begun) tt (λ n. n)
+first_to from exchange Over due mid begun (closing, at, u, e, same) g = ends_first exchange due mid closing (phase_of mid from.state same ∙ at) g
 
 -- nothing follows the end
-none_follow : {A : Type 0} (from : Point State) (turn : Turn) (closing : Closing) → from.state.phase ≡ phase.Ended closing → IsTurn from turn → A
-none_follow from turn closing is t = absurd (none-some closing (sym t.goes_on ∙ ap closing_of is))
+none_follow : {A : Type 0} (from : Point State) (exchange : Exchange) (closing : Closing) → from.state.phase ≡ phase.Ended closing → IsExchange from exchange → A
+none_follow from exchange closing is t = absurd (none-some closing (sym t.goes_on ∙ ap closing_of is))
 
-first_opens : (assigned : List ℕ) (from : Point State) (turn : Turn) → from.state ≡ fresh assigned → IsTurn from turn → OpensOrEnds turn
-first_opens assigned from turn begun t = first_to from turn t.case t.due t.mid (phase_of from.state (fresh assigned) begun) t.row.1 t.all_given
+first_opens : (assigned : List ℕ) (from : Point State) (exchange : Exchange) → from.state ≡ fresh assigned → IsExchange from exchange → OpensOrEnds exchange
+first_opens assigned from exchange begun t = first_to from exchange t.case t.due t.mid (phase_of from.state (fresh assigned) begun) t.row.1 t.all_given
 
-pub run_opens : (assigned : List ℕ) (from to : Point State) (before : List Turn) (turn : Turn) (after : List Turn) → from.state ≡ fresh assigned → Run from (before ++ turn ∷ after) to → IsOpen turn.to.state.phase
-    → (c : Connect) × Opens c (before ++ turn ∷ after)
-run_opens assigned from to [] turn after begun (t, rest) h = by_case (first_opens assigned from turn begun t)
+pub run_opens : (assigned : List ℕ) (from to : Point State) (before : List Exchange) (exchange : Exchange) (after : List Exchange) → from.state ≡ fresh assigned → Run from (before ++ exchange ∷ after) to → IsOpen exchange.to.state.phase
+    → (c : Connect) × Opens c (before ++ exchange ∷ after)
+run_opens assigned from to [] exchange after begun (t, rest) h = by_case (first_opens assigned from exchange begun t)
   where
-    by_case : OpensOrEnds turn → (c : Connect) × Opens c (turn ∷ after)
+    by_case : OpensOrEnds exchange → (c : Connect) × Opens c (exchange ∷ after)
     by_case (inl (c, opens)) = (c, opens)
-    by_case (inr (closing, is)) = shut turn.to.state.phase (phase.Ended closing) is h (λ n. n)
-run_opens assigned from to (first ∷ []) turn after begun (t, (next, rest)) h = by_case (first_opens assigned from first begun t)
+    by_case (inr (closing, is)) = shut exchange.to.state.phase (phase.Ended closing) is h (λ n. n)
+run_opens assigned from to (first ∷ []) exchange after begun (t, (next, rest)) h = by_case (first_opens assigned from first begun t)
   where
-    by_case : OpensOrEnds first → (c : Connect) × Opens c (first ∷ turn ∷ after)
+    by_case : OpensOrEnds first → (c : Connect) × Opens c (first ∷ exchange ∷ after)
     by_case (inl (c, opens)) = (c, opens)
-    by_case (inr (closing, is)) = none_follow first.to turn closing is next
-run_opens assigned from to (first ∷ second ∷ before) turn after begun (t, (next, rest)) h = by_case (first_opens assigned from first begun t)
+    by_case (inr (closing, is)) = none_follow first.to exchange closing is next
+run_opens assigned from to (first ∷ second ∷ before) exchange after begun (t, (next, rest)) h = by_case (first_opens assigned from first begun t)
   where
-    by_case : OpensOrEnds first → (c : Connect) × Opens c (first ∷ second ∷ (before ++ turn ∷ after))
+    by_case : OpensOrEnds first → (c : Connect) × Opens c (first ∷ second ∷ (before ++ exchange ∷ after))
     by_case (inl (c, opens)) = (c, opens)
     by_case (inr (closing, is)) = none_follow first.to second closing is next

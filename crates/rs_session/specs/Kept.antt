@@ -10,7 +10,7 @@ use Rattle.rs_message.specs.declared.entry.Operation.{Operation}
 use Rattle.rs_store.specs.History.{SerialsRise}
 use Rattle.rs_session.specs.Gate.{Mark, Extends}
 use Rattle.rs_session.specs.Points.{Point}
-use Rattle.rs_session.specs.Run.{Turn, AreOfGate}
+use Rattle.rs_session.specs.Run.{Exchange, AreOfGate}
 use Rattle.rs_session.specs.State.{State}
 use Rattle.rs_session.specs.Table.{acknowledged_by, change, held_id, is_held}
 use Rattle.rs_session.specs.declared.open.Open.{Open}
@@ -19,10 +19,10 @@ use Rattle.rs_session.specs.declared.reason.ReasonCode.TheVariants.{Success}
 
 -- ---- the lists
 
--- in order, those by which the filters of each turn were answered, and then the one that it leaves
-abbrev pub lists_of : List Turn → List (List Entry)
+-- in order, those by which the filters of each exchange were answered, and then the one that it leaves
+abbrev pub lists_of : List Exchange → List (List Entry)
 lists_of [] = []
-lists_of (turn ∷ turns) = turn.answered ++ turn.to.seen ∷ lists_of turns
+lists_of (exchange ∷ exchanges) = exchange.answered ++ exchange.to.seen ∷ lists_of exchanges
 
 -- every list is a prefix of all lists after it
 abbrev pub AreGrowing : List (List Entry) → Type 0
@@ -30,15 +30,15 @@ AreGrowing [] = Unit {0}
 AreGrowing (list ∷ lists) = AllByRecursion (λ later. Extends later list) lists × AreGrowing lists
 
 -- the serials of each place rise in each list, as they do if the gate stands only for legal lists
-abbrev pub SerialsRiseIn : List Turn → Type 0
-SerialsRiseIn turns = AreOfGate (λ mark list. SerialsRise list) turns
+abbrev pub SerialsRiseIn : List Exchange → Type 0
+SerialsRiseIn exchanges = AreOfGate (λ mark list. SerialsRise list) exchanges
 
 -- ---- the publications
 
--- the point of the run after these turns
-abbrev pub point_after : Point State → List Turn → Point State
+-- the point of the run after these exchanges
+abbrev pub point_after : Point State → List Exchange → Point State
 point_after from [] = from
-point_after from (turn ∷ turns) = point_after turn.to turns
+point_after from (exchange ∷ exchanges) = point_after exchange.to exchanges
 
 -- the place stays, and no serial is given up
 pub record MarkGrows (old new : Mark) : Type 0 where
@@ -47,12 +47,12 @@ pub record MarkGrows (old new : Mark) : Type 0 where
 
 -- A retained publication that the client was told is kept: a PUBLISH with RETAIN 1 that is not one sent again, and a PUBACK
 -- or a PUBREC of 0x00 among the replies.
-pub record IsToldKept (o : Open) (turn : Turn) (p : Publish) (answer : Reply) : Type 0 where
-  pub input : turn.given.input ≡ Whole (packet.Publish p)
+pub record IsToldKept (o : Open) (exchange : Exchange) (p : Publish) (answer : Reply) : Type 0 where
+  pub input : exchange.given.input ≡ Whole (packet.Publish p)
   pub retained : p.retain ≡ true
   pub new : is_held (held_id p.qos p.id) o.inbound ≡ false
   pub code : acknowledged_by p.qos p.id Success ≡ Some answer
-  pub replied : Contains turn.replies answer
+  pub replied : Contains exchange.replies answer
 
 -- the entry stands in the list, and no other there has its origin
 pub record StandsOnce (e : Entry) (list : List Entry) : Type 0 where
@@ -62,11 +62,11 @@ pub record StandsOnce (e : Entry) (list : List Entry) : Type 0 where
   pub before : AllByRecursion (λ other. other.origin ≢ e.origin) front
   pub after : AllByRecursion (λ other. other.origin ≢ e.origin) rest
 
--- what it does to its topic stands once in each of these lists, under the serial that the turn used
-pub record IsKeptIn (before : Mark) (turn : Turn) (p : Publish) (lists : List (List Entry)) : Type 0 where
+-- what it does to its topic stands once in each of these lists, under the serial that the exchange used
+pub record IsKeptIn (before : Mark) (exchange : Exchange) (p : Publish) (lists : List (List Entry)) : Type 0 where
   pub topic : List ℕ
   pub operation : Operation
   pub is_topic : p.topic ≡ Ok topic
-  pub changes : change p topic turn.given.now ≡ Some operation
-  pub used : before.serial < turn.to.mark.serial
-  pub kept : AllByRecursion (StandsOnce (record { origin = record { place = turn.to.mark.place; serial = turn.to.mark.serial }; operation = operation })) lists
+  pub changes : change p topic exchange.given.now ≡ Some operation
+  pub used : before.serial < exchange.to.mark.serial
+  pub kept : AllByRecursion (StandsOnce (record { origin = record { place = exchange.to.mark.place; serial = exchange.to.mark.serial }; operation = operation })) lists

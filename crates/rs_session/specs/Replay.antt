@@ -27,7 +27,7 @@ use Rattle.rs_window.specs.declared.fault.WindowFault.TheVariants.{WrongKind}
 use Rattle.rs_session.specs.Subscriptions.{Subscriptions, none, is_subscribed, replays}
 use Rattle.rs_session.specs.declared.subscriptions.Subscription.{Subscription}
 use Rattle.rs_session.specs.Table.{receive_maximum, packet_maximum, acknowledgement_of, due_for, subscription_for}
-use Rattle.rs_session.specs.Run.{Turn}
+use Rattle.rs_session.specs.Run.{Exchange}
 use Rattle.rs_session.specs.declared.open.Outcome.TheVariants.{Replies}
 use Rattle.rs_session.specs.declared.phase.Input.{Input}
 use Rattle.rs_session.specs.declared.phase.Input.TheVariants.{Whole, Broken}
@@ -64,7 +64,7 @@ AreQueued now (asked ∷ more) identifier codes answered there made =
     × (made ≡ own ++ others) × IsQueuedFor asked.0 (subscription_for asked identifier) now list code there own
     × AreQueued now more identifier rest later (subscribed_by asked.0 (subscription_for asked identifier) code there) others
 
--- ---- the calls of a turn
+-- ---- the calls of an exchange
 
 abbrev pub IsAcknowledged : Option (window.Acknowledgement × ℕ) → List Call → Type 0
 IsAcknowledged None own = own ≡ []
@@ -107,24 +107,24 @@ IsNoPublish (Some (reply.Publish p)) = ⊥
 IsNoPublish answer = Unit {0}
 
 -- The replies are the answer to the input, if the client takes so long a packet, and then each PUBLISH that the window gave.
-pub record IsServed (there : Subscriptions) (packet_maximum : ℕ) (turn : Turn) (made : List Call) : Type 0 where
+pub record IsServed (there : Subscriptions) (packet_maximum : ℕ) (exchange : Exchange) (made : List Call) : Type 0 where
   pub answer : Option Reply
   pub own : List Call
   pub given : List OutgoingValue
-  pub called : AreCalledBy turn.given.input turn.given.now turn.answered there answer own
+  pub called : AreCalledBy exchange.given.input exchange.given.now exchange.answered there answer own
   pub no_publish : IsNoPublish answer
-  pub whole : made ≡ own ++ giving turn.given.now given
-  pub replies : turn.replies ≡ listed (due_for packet_maximum (Replies answer)) ++ map reply_of given
+  pub whole : made ≡ own ++ giving exchange.given.now given
+  pub replies : exchange.replies ≡ listed (due_for packet_maximum (Replies answer)) ++ map reply_of given
 
 -- the session ends, and no more is given
-pub record IsLast (turn : Turn) (made : List Call) : Type 0 where
-  pub refused : IsRefused (acknowledgement_in turn.given.input) made
-  pub none_given : publications turn.replies ≡ []
+pub record IsLast (exchange : Exchange) (made : List Call) : Type 0 where
+  pub refused : IsRefused (acknowledgement_in exchange.given.input) made
+  pub none_given : publications exchange.replies ≡ []
 
-abbrev pub AreMade : Subscriptions → Turn → Phase → List Call → Type 0
-AreMade there turn phase.Before made = ⊥
-AreMade there turn (phase.Open o) made = IsServed there o.window.packet_maximum turn made
-AreMade there turn (phase.Ended closing) made = IsLast turn made
+abbrev pub AreMade : Subscriptions → Exchange → Phase → List Call → Type 0
+AreMade there exchange phase.Before made = ⊥
+AreMade there exchange (phase.Open o) made = IsServed there o.window.packet_maximum exchange made
+AreMade there exchange (phase.Ended closing) made = IsLast exchange made
 
 -- ---- the calls of a run
 
@@ -133,21 +133,21 @@ subscriptions_of phase.Before = none
 subscriptions_of (phase.Open o) = o.subscriptions
 subscriptions_of (phase.Ended closing) = none
 
--- one turn after the other
-abbrev pub AreCalls : Phase → List Turn → List Call → Type 0
+-- one exchange after the other
+abbrev pub AreCalls : Phase → List Exchange → List Call → Type 0
 AreCalls from [] made = made ≡ []
-AreCalls from (turn ∷ turns) made =
-    (own : List Call) × (rest : List Call) × (made ≡ own ++ rest) × AreMade (subscriptions_of from) turn turn.to.state.phase own × AreCalls turn.to.state.phase turns rest
+AreCalls from (exchange ∷ exchanges) made =
+    (own : List Call) × (rest : List Call) × (made ≡ own ++ rest) × AreMade (subscriptions_of from) exchange exchange.to.state.phase own × AreCalls exchange.to.state.phase exchanges rest
 
 abbrev pub window_of : window_state.State → Phase → window_state.State
 window_of old phase.Before = old
 window_of old (phase.Open o) = o.window
 window_of old (phase.Ended closing) = old
 
--- the window of the session after these turns, or when it ended
-abbrev pub window_after : window_state.State → List Turn → window_state.State
+-- the window of the session after these exchanges, or when it ended
+abbrev pub window_after : window_state.State → List Exchange → window_state.State
 window_after old [] = old
-window_after old (turn ∷ turns) = window_after (window_of old turn.to.state.phase) turns
+window_after old (exchange ∷ exchanges) = window_after (window_of old exchange.to.state.phase) exchanges
 
 -- 3.1.2.11.3, 3.1.2.11.4: by the client's Receive Maximum and Maximum Packet Size
 abbrev pub window_for : Connect → window_state.State
@@ -158,16 +158,16 @@ IsOpen phase.Before = ⊥
 IsOpen (phase.Open o) = Unit {0}
 IsOpen (phase.Ended closing) = ⊥
 
--- the first turn accepts this CONNECT
-abbrev pub Opens : Connect → List Turn → Type 0
+-- the first exchange accepts this CONNECT
+abbrev pub Opens : Connect → List Exchange → Type 0
 Opens c [] = ⊥
-Opens c (turn ∷ turns) = (turn.given.input ≡ Whole (packet.Connect c)) × IsOpen turn.to.state.phase
+Opens c (exchange ∷ exchanges) = (exchange.given.input ≡ Whole (packet.Connect c)) × IsOpen exchange.to.state.phase
 
 -- the calls of a run of the window, from a new one
-pub record IsReplaying (c : Connect) (turns : List Turn) : Type 0 where
+pub record IsReplaying (c : Connect) (exchanges : List Exchange) : Type 0 where
   pub made : List Call
-  pub run : calls.Run (window_for c) made (window_after (window_for c) turns)
-  pub by_turns : AreCalls phase.Before turns made
+  pub run : calls.Run (window_for c) made (window_after (window_for c) exchanges)
+  pub by_exchanges : AreCalls phase.Before exchanges made
 
 -- ---- what was queued, and what became of it
 
@@ -179,11 +179,11 @@ AreSentOrDropped packet_maximum now (w ∷ ws) sent =
     (IsDropped packet_maximum now w × AreSentOrDropped packet_maximum now ws sent)
     ⊎ ((p : OutgoingValue) × (more : List Publication) × (sent ≡ publication_of p ∷ more) × Carries packet_maximum now w p × AreSentOrDropped packet_maximum now ws more)
 
--- turn by turn, these leave the queue, and the PUBLISH packets among the replies are what is sent of them
-abbrev pub AreSent : ℕ → List Turn → List Waiting → Type 0
+-- exchange by exchange, these leave the queue, and the PUBLISH packets among the replies are what is sent of them
+abbrev pub AreSent : ℕ → List Exchange → List Waiting → Type 0
 AreSent packet_maximum [] front = front ≡ []
-AreSent packet_maximum (turn ∷ turns) front =
-    (gone : List Waiting) × (rest : List Waiting) × (front ≡ gone ++ rest) × AreSentOrDropped packet_maximum turn.given.now gone (publications turn.replies) × AreSent packet_maximum turns rest
+AreSent packet_maximum (exchange ∷ exchanges) front =
+    (gone : List Waiting) × (rest : List Waiting) × (front ≡ gone ++ rest) × AreSentOrDropped packet_maximum exchange.given.now gone (publications exchange.replies) × AreSent packet_maximum exchanges rest
 
 -- these identifiers wait for an acknowledgement after the calls, and they are not more than the client takes
 pub record IsWithinQuota (c : Connect) (before : List Call) : Type 0 where
@@ -194,10 +194,10 @@ pub record IsWithinQuota (c : Connect) (before : List Call) : Type 0 where
 -- A prefix of what these calls queued has left the queue, and the rest waits. The PUBLISH replies of the run are this prefix, in
 -- order, each message once, less what was dropped. The quota is the lesser of the client's Receive Maximum and `MAX_QUOTA`:
 -- after each of the calls no more identifiers wait for an acknowledgement, and at the end just those of the window do.
-pub record IsSentInOrder (c : Connect) (turns : List Turn) (made : List Call) : Type 0 where
+pub record IsSentInOrder (c : Connect) (exchanges : List Exchange) (made : List Call) : Type 0 where
   pub front : List Waiting
-  pub whole : calls.queued made ≡ front ++ (window_after (window_for c) turns).waiting
-  pub sent : AreSent (packet_maximum c.packet_maximum) turns front
-  pub quota : (window_after (window_for c) turns).quota ≡ min (receive_maximum c.receive_maximum) MAX_QUOTA
+  pub whole : calls.queued made ≡ front ++ (window_after (window_for c) exchanges).waiting
+  pub sent : AreSent (packet_maximum c.packet_maximum) exchanges front
+  pub quota : (window_after (window_for c) exchanges).quota ≡ min (receive_maximum c.receive_maximum) MAX_QUOTA
   pub within : (before after : List Call) → made ≡ before ++ after → IsWithinQuota c before
-  pub unacknowledged : calls.AreUnacknowledged made (window_after (window_for c) turns).kinds
+  pub unacknowledged : calls.AreUnacknowledged made (window_after (window_for c) exchanges).kinds

@@ -17,7 +17,7 @@ use Rattle.rs_session.specs.Table.{Case, Row}
 
 -- what was given at a moment, the lists by which the filters of a SUBSCRIBE were answered, all that was replied to it,
 -- and where the run stands then
-pub record Turn : Type 0 where
+pub record Exchange : Type 0 where
   pub given : Given
   pub answered : List (List Entry)
   pub replies : List Reply
@@ -36,29 +36,29 @@ pub record GivesAll (now : ℕ) (due : Option Reply) (old : State) (replies : Li
   pub none_left : IsGiven now left last None None new
 
 -- one row of the table in a session that goes on, and then the replies that it leaves due and those that wait
-pub record IsTurn (from : Point State) (turn : Turn) : Type 0 where
+pub record IsExchange (from : Point State) (exchange : Exchange) : Type 0 where
   pub goes_on : closing_of from.state.phase ≡ None
   pub case : Case
   pub due : Option Reply
   pub mid : State
-  pub grows : Extends turn.to.seen from.seen
-  pub row : Row case turn.given from turn.answered due (with_state turn.to mid)
-  pub all_given : GivesAll turn.given.now due mid turn.replies turn.to.state
+  pub grows : Extends exchange.to.seen from.seen
+  pub row : Row case exchange.given from exchange.answered due (with_state exchange.to mid)
+  pub all_given : GivesAll exchange.given.now due mid exchange.replies exchange.to.state
 
--- one turn after the other
-abbrev pub Run : Point State → List Turn → Point State → Type 0
+-- one exchange after the other
+abbrev pub Run : Point State → List Exchange → Point State → Type 0
 Run from [] to = to ≡ from
-Run from (turn ∷ turns) to = IsTurn from turn × Run turn.to turns to
+Run from (exchange ∷ exchanges) to = IsExchange from exchange × Run exchange.to exchanges to
 
--- the list after a turn, and each by which a filter was answered, are a gate's while it has the mark after the turn
-pub record IsOfGate (stands_at : Mark → List Entry → Type 0) (turn : Turn) : Type 0 where
-  pub answered : All (stands_at turn.to.mark) turn.answered
-  pub seen : stands_at turn.to.mark turn.to.seen
+-- the list after an exchange, and each by which a filter was answered, are a gate's while it has the mark after the exchange
+pub record IsOfGate (stands_at : Mark → List Entry → Type 0) (exchange : Exchange) : Type 0 where
+  pub answered : All (stands_at exchange.to.mark) exchange.answered
+  pub seen : stands_at exchange.to.mark exchange.to.seen
 
--- the lists and the mark of each turn are those of a gate
-abbrev pub AreOfGate : (Mark → List Entry → Type 0) → List Turn → Type 0
+-- the lists and the mark of each exchange are those of a gate
+abbrev pub AreOfGate : (Mark → List Entry → Type 0) → List Exchange → Type 0
 AreOfGate stands_at [] = Unit {0}
-AreOfGate stands_at (turn ∷ turns) = IsOfGate stands_at turn × AreOfGate stands_at turns
+AreOfGate stands_at (exchange ∷ exchanges) = IsOfGate stands_at exchange × AreOfGate stands_at exchanges
 
 abbrev pub due_count : Option Reply → ℕ
 due_count None = 0

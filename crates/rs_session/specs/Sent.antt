@@ -1,4 +1,4 @@
--- What the turns of a session send to the store: section 3.3.1.3 of OASIS MQTT Version 5.0.
+-- What the exchanges of a session send to the store: section 3.3.1.3 of OASIS MQTT Version 5.0.
 use Rattle.std.specs.Prelude.{◌≡◌, ℕ, false, List, [], ◌∷◌, ◌++◌, Some, Ok}
 use Rattle.rs_packet.specs.declared.packet.Packet.TheVariants as packet
 use Rattle.rs_packet.specs.declared.packet.Publish.{Publish}
@@ -7,40 +7,40 @@ use Rattle.rs_message.specs.declared.entry.Entry.{Entry}
 use Rattle.rs_session.specs.Gate.{Sends, last_origin}
 use Rattle.rs_session.specs.Kept.{IsToldKept}
 use Rattle.rs_session.specs.Points.{Point}
-use Rattle.rs_session.specs.Run.{Turn}
+use Rattle.rs_session.specs.Run.{Exchange}
 use Rattle.rs_session.specs.State.{State}
 use Rattle.rs_session.specs.Table.{change, held_id, is_held}
 use Rattle.rs_session.specs.declared.open.Open.{Open}
 use Rattle.rs_session.specs.declared.phase.Input.TheVariants.{Whole}
 use Rattle.rs_session.specs.declared.phase.Phase.TheVariants as phase
 
--- The turn's input is a retained publication: a PUBLISH with RETAIN 1 that is not one sent again. The entry is what it does to its
--- topic, under the mark's place and serial after the turn.
-pub record IsPublication (before : Point State) (turn : Turn) (e : Entry) : Type 0 where
+-- The exchange's input is a retained publication: a PUBLISH with RETAIN 1 that is not one sent again. The entry is what it does to its
+-- topic, under the mark's place and serial after the exchange.
+pub record IsPublication (before : Point State) (exchange : Exchange) (e : Entry) : Type 0 where
   pub session : Open
   pub publish : Publish
   pub topic : List ℕ
   pub is_open : before.state.phase ≡ phase.Open session
-  pub input : turn.given.input ≡ Whole (packet.Publish publish)
+  pub input : exchange.given.input ≡ Whole (packet.Publish publish)
   pub new : is_held (held_id publish.qos publish.id) session.inbound ≡ false
   pub is_topic : publish.topic ≡ Ok topic
-  pub changes : change publish topic turn.given.now ≡ Some e.operation
-  pub origin : e.origin ≡ last_origin turn.to.mark
+  pub changes : change publish topic exchange.given.now ≡ Some e.operation
+  pub origin : e.origin ≡ last_origin exchange.to.mark
 
--- what a turn sends: its publication, once, or nothing, if the client was not told that its publication is kept
-abbrev pub IsSentBy : Point State → Turn → List Entry → Type 0
-IsSentBy before turn [] = (o : Open) (p : Publish) (answer : Reply) → before.state.phase ≡ phase.Open o → IsToldKept o turn p answer → ⊥
-IsSentBy before turn (e ∷ []) = IsPublication before turn e
-IsSentBy before turn (e ∷ d ∷ more) = ⊥
+-- what an exchange sends: its publication, once, or nothing, if the client was not told that its publication is kept
+abbrev pub IsSentBy : Point State → Exchange → List Entry → Type 0
+IsSentBy before exchange [] = (o : Open) (p : Publish) (answer : Reply) → before.state.phase ≡ phase.Open o → IsToldKept o exchange p answer → ⊥
+IsSentBy before exchange (e ∷ []) = IsPublication before exchange e
+IsSentBy before exchange (e ∷ d ∷ more) = ⊥
 
--- what the turns send, one after the other
-abbrev pub AreSentBy : Point State → List Turn → List Entry → Type 0
+-- what the exchanges send, one after the other
+abbrev pub AreSentBy : Point State → List Exchange → List Entry → Type 0
 AreSentBy from [] entries = entries ≡ []
-AreSentBy from (turn ∷ turns) entries =
-    (first : List Entry) × (rest : List Entry) × (entries ≡ first ++ rest) × IsSentBy from turn first × AreSentBy turn.to turns rest
+AreSentBy from (exchange ∷ exchanges) entries =
+    (first : List Entry) × (rest : List Entry) × (entries ≡ first ++ rest) × IsSentBy from exchange first × AreSentBy exchange.to exchanges rest
 
--- From this point to that one the gate sent what the turns send, and nothing else.
-pub record SendsPublications (from : Point State) (turns : List Turn) (to : Point State) : Type 0 where
+-- From this point to that one the gate sent what the exchanges send, and nothing else.
+pub record SendsPublications (from : Point State) (exchanges : List Exchange) (to : Point State) : Type 0 where
   pub entries : List Entry
   pub sent : Sends from.mark.sent entries to.mark.sent
-  pub publications : AreSentBy from turns entries
+  pub publications : AreSentBy from exchanges entries

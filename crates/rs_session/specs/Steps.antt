@@ -6,6 +6,7 @@ use Rattle.rs_packet.specs.declared.packet.Publish.{Publish}
 use Rattle.rs_packet.specs.declared.packet.Qos.{Qos}
 use Rattle.rs_packet.specs.declared.reply.Reply.{Reply}
 use Rattle.rs_packet.specs.Replies.{reply_bytes}
+use Rattle.rs_message.specs.declared.entry.Entry.{Entry}
 use Rattle.rs_message.specs.declared.entry.Operation.{Operation}
 use Rattle.rs_message.specs.declared.fault.SubmitFault.{SubmitFault}
 use Rattle.rs_message.specs.declared.fault.SubmitFault.TheVariants.{Full, NoMemory, Strange, Closed}
@@ -88,6 +89,10 @@ IsConcluded operation qos id from outcome to =
 abbrev pub outcome_unmade : List Operation → Qos → Option ℕ → Outcome
 outcome_unmade [] qos id = Replies (acknowledged_by qos id QuotaExceeded)
 outcome_unmade (operation ∷ operations) qos id = Closes QuotaExceeded
+
+-- No change was sent, as a gate knows that stands for some list: it expected none before, and used no serial.
+abbrev pub NoneSent : (List Entry → Type 0) → List Operation → Mark → Mark → Type 0
+NoneSent stands ahead old new = (seen : List Entry) × stands seen × (ahead ≡ []) × (new.serial ≡ old.serial)
 
 -- an outcome that ends the session
 abbrev pub IsLast : Outcome → Type 0

@@ -5,12 +5,13 @@ mod publish;
 mod subscribe;
 mod unsubscribe;
 
-ghost use Rattle.std.specs.Prelude.{◌≡◌, ℕ, List, IfSome};
+ghost use Rattle.std.specs.Prelude.{◌≡◌, ◌≢◌, ℕ, List, IfSome};
 ghost use Rattle.rs_message.specs.declared.entry.Entry.{Entry};
+ghost use Rattle.rs_packet.specs.declared.packet.Publish.{Publish};
 ghost use Rattle.rs_session.specs.Gate.{GrowsAnswering};
 ghost use Rattle.rs_session.specs.Points.{given_at, point_at};
 ghost use Rattle.rs_session.specs.Ahead.{IsChange, LeavesAhead};
-ghost use Rattle.rs_session.specs.Steps.{IsUnsent};
+ghost use Rattle.rs_session.specs.Steps.{IsUnsent, NoneSent};
 ghost use Rattle.rs_session.specs.Table.{LeadsTo, open_for};
 
 use crate::gate::Gate;
@@ -58,6 +59,7 @@ impl Open {
         ensures row { GrowsAnswering G.stands G.mark gate.old gate.new (λ seen answered list.
             LeadsTo (given_at (Input.Whole packet) now) (point_at self.old seen (G.mark gate.old)) answered result (point_at self.new list (G.mark gate.new))) }
         ensures ahead { LeavesAhead (given_at (Input.Whole packet) now) (G.ahead gate.old) (G.ahead gate.new) (IsUnsent (G.mark gate.old) (G.mark gate.new) result) }
+        ensures certain { (p : Publish) → packet ≡ Packet.Publish p → NoneSent (G.stands gate.old) (G.ahead gate.old) (G.mark gate.old) (G.mark gate.new) → result ≢ Outcome.Closes ReasonCode.QuotaExceeded }
     {
         match packet {
             Packet::Connect(_c) => Outcome::Closes(ReasonCode::ProtocolError),

@@ -36,7 +36,7 @@ pub enum Step {
 }
 
 /// What a session is given: a packet, or a fault in its place.
-#[derive(Drop)]
+#[derive(Debug, Drop)]
 pub enum Input {
     /// A packet that was decoded.
     Whole(Packet),

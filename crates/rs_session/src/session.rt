@@ -2,18 +2,21 @@
 
 mod connect;
 
-ghost use Rattle.std.specs.Prelude.{◌≡◌, ◌<◌, ◌≤◌, ◌⊎◌, ℕ, List, [], false, Some, None, IfSome, length};
+ghost use Rattle.std.specs.Prelude.{◌≡◌, ◌≢◌, ◌<◌, ◌≤◌, ◌⊎◌, ℕ, List, [], false, Some, None, IfSome, length};
 ghost use Rattle.std.specs.List.{All};
 ghost use Rattle.rs_message.specs.declared.entry.Entry.{Entry};
 ghost use Rattle.rs_packet.specs.declared.packet.Packet.{Packet};
+ghost use Rattle.rs_packet.specs.declared.packet.Publish.{Publish};
 ghost use Rattle.rs_packet.specs.declared.reply.Reply.{Reply};
 ghost use Rattle.rs_message.specs.Messages.{is_sweep};
 ghost use Rattle.rs_session.specs.Ahead.{IsChange, LeavesAhead};
 ghost use Rattle.rs_session.specs.Gate.{Grows, GrowsAnswering};
 ghost use Rattle.rs_session.specs.Points.{given_at};
+ghost use Rattle.rs_session.specs.Reasons.{code_of};
 ghost use Rattle.rs_session.specs.Run.{replies_left};
 ghost use Rattle.rs_session.specs.State.{session_at, state_of, due_of, gate_of, closing_of, is_open, step_of, fresh, ended, waiting_of, within, IsGiven, IsReplayed};
 ghost use Rattle.rs_session.specs.declared.open.Open.{Open};
+ghost use Rattle.rs_session.specs.Steps.{NoneSent};
 ghost use Rattle.rs_session.specs.Table.{Answers, due_for, fault_reason, state_after};
 
 use crate::gate::Gate;
@@ -62,6 +65,9 @@ impl<G: Gate> Session<G> {
         ensures over { (closing : Closing) → (state_of self.old).phase ≡ Phase.Ended closing → self.new ≡ self.old }
         ensures ahead { LeavesAhead (given_at (Input.Whole packet) now) (G.ahead (gate_of self.old)) (G.ahead (gate_of self.new))
             ((G.mark (gate_of self.new) ≡ G.mark (gate_of self.old)) × (step_of (state_of self.new).phase ≡ Step.End)) }
+        ensures certain { (p : Publish) (o : Open) → packet ≡ Packet.Publish p → (state_of self.old).phase ≡ Phase.Open o
+            → NoneSent (G.stands (gate_of self.old)) (G.ahead (gate_of self.old)) (G.mark (gate_of self.old)) (G.mark (gate_of self.new))
+            → (state_of self.new).phase ≢ Phase.Ended (Closing.ByServer (code_of ReasonCode.QuotaExceeded)) }
     {
         self.on_packet_with(packet, None, now)
     }
@@ -76,6 +82,9 @@ impl<G: Gate> Session<G> {
         ensures over { (closing : Closing) → (state_of self.old).phase ≡ Phase.Ended closing → self.new ≡ self.old }
         ensures ahead { LeavesAhead (given_at (Input.Whole packet) now) (G.ahead (gate_of self.old)) (G.ahead (gate_of self.new))
             ((G.mark (gate_of self.new) ≡ G.mark (gate_of self.old)) × (step_of (state_of self.new).phase ≡ Step.End)) }
+        ensures certain { (p : Publish) (o : Open) → packet ≡ Packet.Publish p → (state_of self.old).phase ≡ Phase.Open o
+            → NoneSent (G.stands (gate_of self.old)) (G.ahead (gate_of self.old)) (G.mark (gate_of self.old)) (G.mark (gate_of self.new))
+            → (state_of self.new).phase ≢ Phase.Ended (Closing.ByServer (code_of ReasonCode.QuotaExceeded)) }
     {
         match &mut self.phase {
             Phase::Before => self.first_packet(packet),
@@ -123,6 +132,9 @@ impl<G: Gate> Session<G> {
         ensures over { (closing : Closing) → (state_of self.old).phase ≡ Phase.Ended closing → self.new ≡ self.old }
         ensures ahead { LeavesAhead (given_at input now) (G.ahead (gate_of self.old)) (G.ahead (gate_of self.new))
             ((G.mark (gate_of self.new) ≡ G.mark (gate_of self.old)) × (step_of (state_of self.new).phase ≡ Step.End)) }
+        ensures certain { (p : Publish) (o : Open) → input ≡ Input.Whole (Packet.Publish p) → (state_of self.old).phase ≡ Phase.Open o
+            → NoneSent (G.stands (gate_of self.old)) (G.ahead (gate_of self.old)) (G.mark (gate_of self.old)) (G.mark (gate_of self.new))
+            → (state_of self.new).phase ≢ Phase.Ended (Closing.ByServer (code_of ReasonCode.QuotaExceeded)) }
     {
         match input {
             Input::Whole(packet) => self.on_packet_with(packet, change, now),

@@ -29,36 +29,116 @@ const WRITE: End = Err(ServeFault::Write);
 
 const CLOSED: End = Ok(Served::ClientClosed);
 
-/// Which calls of the first connection fail, from the first to the last, one in each run, if a byte goes by each call; how it ends then; how
-/// many bytes of its replies are written if the first of these calls fails, one more for each later write; and whether the PUBLISH is kept.
-pub type Fault = (Call, usize, usize, End, usize, bool);
+/// Calls of the first connection, of which one fails in each run, and what then comes of both connections.
+pub struct Fault {
+    /// A call of this kind fails.
+    pub call: Call,
+    /// The number of the first call that may, from 1 on. A byte goes by each call.
+    pub first: usize,
+    /// The number of the last one.
+    pub last: usize,
+    /// How the first connection ends.
+    pub ends: End,
+    /// How many bytes of its replies are written if the first of these calls fails, one more for each later write.
+    pub written: usize,
+    /// Whether the PUBLISH is kept.
+    pub is_kept: bool,
+}
 
 pub const FAULTS: [Fault; 10] = [
-    (Call::Read, 1, 16, READ, 0, false),
-    (Call::Read, 17, 27, READ, 15, false),
-    (Call::Read, 28, 29, READ, 19, true),
-    (Call::Read, 30, 31, CLOSED, 19, true),
-    (Call::Write, 1, 15, WRITE, 0, false),
-    (Call::Write, 16, 19, WRITE, 15, true),
-    (Call::Write, 20, 20, CLOSED, 19, true),
-    (Call::Flush, 1, 1, WRITE, 15, false),
-    (Call::Flush, 2, 2, WRITE, 19, true),
-    (Call::Flush, 3, 3, CLOSED, 19, true),
+    Fault {
+        call: Call::Read,
+        first: 1,
+        last: 16,
+        ends: READ,
+        written: 0,
+        is_kept: false,
+    },
+    Fault {
+        call: Call::Read,
+        first: 17,
+        last: 27,
+        ends: READ,
+        written: 15,
+        is_kept: false,
+    },
+    Fault {
+        call: Call::Read,
+        first: 28,
+        last: 29,
+        ends: READ,
+        written: 19,
+        is_kept: true,
+    },
+    Fault {
+        call: Call::Read,
+        first: 30,
+        last: 31,
+        ends: CLOSED,
+        written: 19,
+        is_kept: true,
+    },
+    Fault {
+        call: Call::Write,
+        first: 1,
+        last: 15,
+        ends: WRITE,
+        written: 0,
+        is_kept: false,
+    },
+    Fault {
+        call: Call::Write,
+        first: 16,
+        last: 19,
+        ends: WRITE,
+        written: 15,
+        is_kept: true,
+    },
+    Fault {
+        call: Call::Write,
+        first: 20,
+        last: 20,
+        ends: CLOSED,
+        written: 19,
+        is_kept: true,
+    },
+    Fault {
+        call: Call::Flush,
+        first: 1,
+        last: 1,
+        ends: WRITE,
+        written: 15,
+        is_kept: false,
+    },
+    Fault {
+        call: Call::Flush,
+        first: 2,
+        last: 2,
+        ends: WRITE,
+        written: 19,
+        is_kept: true,
+    },
+    Fault {
+        call: Call::Flush,
+        first: 3,
+        last: 3,
+        ends: CLOSED,
+        written: 19,
+        is_kept: true,
+    },
 ];
 
 /// What is written to the first connection if the call of this number fails.
 pub fn first_replies(fault: &Fault, at: usize) -> &'static [u8] {
-    let (call, first, _, _, written, _) = *fault;
-    let more = if call == Call::Write {
-        at.saturating_sub(first)
+    let more = if fault.call == Call::Write {
+        at.saturating_sub(fault.first)
     } else {
         0
     };
-    &FIRST_REPLIES[..written.saturating_add(more).min(19)]
+    &FIRST_REPLIES[..fault.written.saturating_add(more).min(19)]
 }
 
 /// What is written to the second one.
 pub fn second_replies(fault: &Fault) -> &'static [u8] {
-    let (_, _, _, _, _, kept) = *fault;
-    &SECOND_REPLIES[..if kept { 30 } else { 21 }]
+    &SECOND_REPLIES[..if fault.is_kept { 30 } else { 21 }]
 }

@@ -1,6 +1,6 @@
-//! A gate to a store that takes no change and never has the memory to answer.
+//! A gate to a store that takes no change and never has the memory to answer. It stands for no list, so it promises nothing of its lists.
 
-ghost use Rattle.std.specs.Prelude.{◌≡◌, [], None};
+ghost use Rattle.std.specs.Prelude.{None};
 
 use rs_message::{Found, Operation, SubmitFault};
 use rs_session::Gate;
@@ -19,7 +19,7 @@ pub const FULL: Refusing = Refusing {
 };
 
 impl Gate for Refusing {
-    ghost stands = { λ _ seen. seen ≡ [] };
+    ghost stands = { λ _ _. ⊥ };
 
     ghost mark = { λ _. record { place = 1; serial = 0; sent = None } };
 

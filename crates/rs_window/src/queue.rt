@@ -19,7 +19,7 @@ pub const MAX_WAITING: usize = 100_000;
 const _: () = prove!(MAX_WAITING == 100_000);
 
 /// A retained message that waits to be sent, and what its subscription was granted.
-#[derive(Drop)]
+#[derive(Debug, Drop)]
 pub struct Waiting {
     /// The topic and its message.
     pub found: Found,

@@ -23,7 +23,7 @@ pub const MAX_QUOTA: u16 = 1024;
 const _: () = prove!(MAX_QUOTA == 1024);
 
 /// A retained message as it is sent at a given time.
-#[derive(Drop)]
+#[derive(Debug, Drop)]
 pub struct Outgoing {
     /// The topic and its retained message.
     pub found: Found,

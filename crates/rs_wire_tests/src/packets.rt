@@ -23,6 +23,10 @@ const KEPT: &[u8] = &[
     0x31, 0x1F, 0, 1, 0x61, 0x1A, 1, 1, 2, 0, 0, 0, 10, 3, 0, 1, 0x74, 8, 0, 1, 0x72, 9, 0, 1,
     0x63, 0x26, 0, 1, 0x6B, 0, 1, 0x76, 0x78,
 ];
+// The topic `a` with an interval and a Payload Format Indicator of 0, an empty Content Type and empty Correlation Data, and the payload `x`.
+const ZEROS: &[u8] = &[
+    0x31, 0x12, 0, 1, 0x61, 0x0D, 1, 0, 2, 0, 0, 0, 0, 3, 0, 0, 9, 0, 0, 0x78,
+];
 
 // Receive Maximum 1 and Maximum Packet Size 20.
 const LIMITED: &[u8] = &[
@@ -34,13 +38,14 @@ const OPTIONS: &[u8] = &[0x82, 8, 0, 1, 2, 0x0B, 7, 0, 0, 0x1E];
 
 const UNSUBSCRIBE: &[u8] = &[0xA2, 8, 0, 2, 0, 0, 3, 0x61, 0x2F, 0x23];
 
-/// What a packet says, in plain values. A number that it does not have is 0.
+/// What a packet says, in plain values. A packet identifier, a Receive Maximum, a Maximum Packet Size or a Subscription Identifier that it
+/// does not have is 0, which none of them may be.
 #[derive(Clone, Copy, PartialEq, Eq)]
 enum Shape {
     /// Clean Start, the Keep Alive, the Receive Maximum, the Maximum Packet Size, and the length of a client identifier of `a`.
     Connect(bool, u16, u16, u32, usize),
     /// RETAIN, the QoS, the packet identifier, the fault of the topic, the interval, and the length of the payload.
-    Publish(bool, u8, u16, u8, u32, usize, Kept),
+    Publish(bool, u8, u16, u8, Option<u32>, usize, Kept),
     /// The type, the packet identifier and the code.
     Acknowledgement(u8, u16, u8),
     /// The packet identifier, the Subscription Identifier, the number of filters, and whether each asks for all options.
@@ -51,12 +56,12 @@ enum Shape {
     Disconnect(u8),
 }
 
-/// What a message keeps: the Payload Format Indicator, the first bytes of Content Type, Response Topic and Correlation Data, and the
-/// number of User Properties.
+/// What a message keeps: the Payload Format Indicator, the first bytes of Content Type, Response Topic and Correlation Data, each 0 if it is
+/// empty and none if the message does not have it, and the number of User Properties.
 #[derive(Clone, Copy, PartialEq, Eq)]
-struct Kept(u8, u8, u8, u8, usize);
+struct Kept(Option<u8>, Option<u8>, Option<u8>, Option<u8>, usize);
 
-const NOTHING: Kept = Kept(0, 0, 0, 0, 0);
+const NOTHING: Kept = Kept(None, None, None, None, 0);
 
 fn first_of(bytes: &[u8]) -> u8 {
     match bytes.first() {
@@ -65,10 +70,10 @@ fn first_of(bytes: &[u8]) -> u8 {
     }
 }
 
-fn first_of_text(text: &Option<Text>) -> u8 {
+fn first_of_text(text: &Option<Text>) -> Option<u8> {
     match text {
-        Some(text) => first_of(text.as_bytes()),
-        None => 0,
+        Some(text) => Some(first_of(text.as_bytes())),
+        None => None,
     }
 }
 
@@ -77,11 +82,11 @@ fn kept_by(properties: &Properties) -> Kept {
         return NOTHING;
     };
     let correlation = match &fields.correlation {
-        Some(correlation) => first_of(correlation.as_slice()),
-        None => 0,
+        Some(correlation) => Some(first_of(correlation.as_slice())),
+        None => None,
     };
     Kept(
-        fields.format.unwrap_or(0),
+        fields.format,
         first_of_text(&fields.content_type),
         first_of_text(&fields.response_topic),
         correlation,
@@ -128,7 +133,7 @@ fn shape_of_publish(publish: &Publish) -> Shape {
         publish.qos.level(),
         id,
         fault,
-        publish.expiry.unwrap_or(0),
+        publish.expiry,
         publish.payload.len(),
         kept_by(&publish.properties),
     )
@@ -207,16 +212,36 @@ const READ: &[(&[u8], Shape)] = &[
     (LIMITED, Shape::Connect(true, 60, 1, 20, 1)),
     (
         KEPT,
-        Shape::Publish(true, 0, 0, 0, 10, 1, Kept(1, b't', b'r', b'c', 1)),
+        Shape::Publish(
+            true,
+            0,
+            0,
+            0,
+            Some(10),
+            1,
+            Kept(Some(1), Some(b't'), Some(b'r'), Some(b'c'), 1),
+        ),
+    ),
+    (
+        ZEROS,
+        Shape::Publish(
+            true,
+            0,
+            0,
+            0,
+            Some(0),
+            1,
+            Kept(Some(0), Some(0), None, Some(0), 0),
+        ),
     ),
     (
         &[0x3D, 7, 0, 1, 0x61, 0, 5, 0, 0x31],
-        Shape::Publish(true, 2, 5, 0, 0, 1, NOTHING),
+        Shape::Publish(true, 2, 5, 0, None, 1, NOTHING),
     ),
     // A topic with a wildcard.
     (
         &[0x30, 5, 0, 1, 0x23, 0, 0x31],
-        Shape::Publish(false, 0, 0, 5, 0, 1, NOTHING),
+        Shape::Publish(false, 0, 0, 5, None, 1, NOTHING),
     ),
     (SUBSCRIBE, Shape::Subscribe(1, 0, 1, false)),
     (OPTIONS, Shape::Subscribe(1, 7, 1, true)),

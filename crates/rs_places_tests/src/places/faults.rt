@@ -13,9 +13,12 @@ const CLOSED: End = Ok(Served::ClientClosed);
 /// The connection of which a call fails, one that reads, and one that publishes. A byte goes by each call. The serial of the last one
 /// is above that of the first, else the writer would refuse it.
 fn rows(fault: &Fault, at: usize) -> [Row<'static>; 3] {
-    let mut course = ending(PLAIN, fault.3);
-    let call = fault.0;
-    course.pace = Pace { step: 1, call, at };
+    let mut course = ending(PLAIN, fault.ends);
+    course.pace = Pace {
+        step: 1,
+        call: fault.call,
+        at,
+    };
     let first = plain_row(course, FIRST, first_replies(fault, at));
     course.pace.at = 0;
     let reads = ending(course, Ok(Served::EndOfInput));
@@ -27,9 +30,9 @@ fn rows(fault: &Fault, at: usize) -> [Row<'static>; 3] {
 #[test]
 fn one_call_fails(rt: HostRuntime) -> Result<(), Fail> {
     for fault in &FAULTS {
-        let (call, first, last, _, _, kept) = *fault;
-        let changes = if kept { 2 } else { 1 };
-        for at in first..=last {
+        let call = fault.call;
+        let changes = if fault.is_kept { 2 } else { 1 };
+        for at in fault.first..=fault.last {
             let ran = play(rt, rt.alloc(), 7, 1, &rows(fault, at))?;
             assert!(rt; ran == as_wanted(1, 3, changes, changes), "{call:?} {at}");
         }

@@ -1,17 +1,18 @@
 //! The gates of two places of one store, held side by side: what they answer to a filter, and what they know.
 
-ghost use Rattle.std.specs.Prelude.{◌≡◌};
+ghost use Rattle.std.specs.Prelude.{◌≡◌, []};
+ghost use Rattle.rs_version.specs.Writer.{kept_of};
 
 use super::{answers, answers_within, check_answers};
-use rs_intake::{BlankQueue, LineName, run_writer, settle};
+use rs_intake::{BlankQueue, Ended, LineName, Queue, run_writer, settle};
 use rs_places::{SharedGate, open_gates};
 use rs_topic::TopicFilter;
-use rs_version::{Blank, Told};
+use rs_version::{Blank, Told, VersionWriter};
 use std::alloc::Global;
 use std::process::Abort;
 use std::sync::Wait;
 use std::test::Fail;
-use std::thread::{Threads, spawn};
+use std::thread::{JoinHandle, Threads, spawn};
 
 /// Whether so many entries are known to the gate, and what it knows is a prefix of the token's list, and is all of it or not.
 fn knows<N: LineName, R: Wait + Copy>(
@@ -55,6 +56,16 @@ fn check_places<N: LineName, R: Wait + Copy>(
     answered && known && second.place() == 2 && reads(second, all, &told)
 }
 
+/// Starts the writer's thread. None if it cannot be started.
+fn start_writer<
+    N: LineName + Send + Sync + 'static,
+    R: Threads + Wait + Abort + Copy + Send + Sync + 'static,
+>(rt: R, queue: Queue<N>, writer: VersionWriter<N, R>) -> Option<JoinHandle<Ended<N, R>>>
+    requires { kept_of writer ≡ [] }
+{
+    spawn(&rt, move || run_writer(&rt, queue, writer)).ok()
+}
+
 pub(super) fn check_shared_gates<
     N: LineName + Send + Sync + 'static,
     R: Threads + Wait + Abort + Copy + Send + Sync + 'static,
@@ -64,7 +75,7 @@ pub(super) fn check_shared_gates<
 {
     let (writer, seats) = blank.open::<N, R>(rt)?;
     let (intake, lines, queue) = queue.open::<N>()?;
-    let writer = spawn(&rt, move || run_writer(&rt, queue, writer))?;
+    let writer = start_writer(rt, queue, writer).ok_or("no thread was started")?;
     let mut gates = open_gates(rt, alloc, intake, seats, lines)?;
     assert!(rt; check_places(alloc, gates.as_mut_slice(), all));
     let mut ends = Vec::new(alloc);

@@ -308,42 +308,42 @@ const PUBLISHES: &[Row] = &[
     (
         0x31,
         &[TOPIC, Part::Users(64), Part::Filled(1)],
-        Shape::Publish(true, 0, 0, 0, 0, 1, Kept(0, 0, 0, 0, 64)),
+        Shape::Publish(true, 0, 0, 0, None, 1, Kept(None, None, None, None, 64)),
     ),
     (
         0x31,
         &[TOPIC, Part::Users(65), Part::Filled(1)],
-        Shape::Publish(true, 0, 0, 0, 0, 1, Kept(0, 0, 0, 0, 65)),
+        Shape::Publish(true, 0, 0, 0, None, 1, Kept(None, None, None, None, 65)),
     ),
     (
         0x31,
         &[TOPIC, Part::Users(1_000), Part::Filled(1)],
-        Shape::Publish(true, 0, 0, 0, 0, 1, Kept(0, 0, 0, 0, 1_000)),
+        Shape::Publish(true, 0, 0, 0, None, 1, Kept(None, None, None, None, 1_000)),
     ),
     (
         0x31,
         &[TOPIC, Part::Users(10_000), Part::Filled(1)],
-        Shape::Publish(true, 0, 0, 0, 0, 1, Kept(0, 0, 0, 0, 10_000)),
+        Shape::Publish(true, 0, 0, 0, None, 1, Kept(None, None, None, None, 10_000)),
     ),
     (
         0x31,
         &[TOPIC, NO_PROPERTIES, Part::Filled(65_535)],
-        Shape::Publish(true, 0, 0, 0, 0, 65_535, NOTHING),
+        Shape::Publish(true, 0, 0, 0, None, 65_535, NOTHING),
     ),
     (
         0x31,
         &[TOPIC, NO_PROPERTIES, Part::Filled(65_536)],
-        Shape::Publish(true, 0, 0, 0, 0, 65_536, NOTHING),
+        Shape::Publish(true, 0, 0, 0, None, 65_536, NOTHING),
     ),
     (
         0x31,
         &[TOPIC, NO_PROPERTIES, Part::Filled(65_537)],
-        Shape::Publish(true, 0, 0, 0, 0, 65_537, NOTHING),
+        Shape::Publish(true, 0, 0, 0, None, 65_537, NOTHING),
     ),
     (
         0x31,
         &[TOPIC, NO_PROPERTIES, Part::Filled(262_136)],
-        Shape::Publish(true, 0, 0, 0, 0, 262_136, NOTHING),
+        Shape::Publish(true, 0, 0, 0, None, 262_136, NOTHING),
     ),
     (
         0x31,
@@ -358,7 +358,15 @@ const PUBLISHES: &[Row] = &[
             Part::Long(24),
             Part::Filled(1),
         ],
-        Shape::Publish(true, 0, 0, 0, 0, 1, Kept(0, b'a', b'a', b'a', 0)),
+        Shape::Publish(
+            true,
+            0,
+            0,
+            0,
+            None,
+            1,
+            Kept(None, Some(b'a'), Some(b'a'), Some(b'a'), 0),
+        ),
     ),
     (
         0x31,
@@ -373,7 +381,15 @@ const PUBLISHES: &[Row] = &[
             Part::Long(257),
             Part::Filled(1),
         ],
-        Shape::Publish(true, 0, 0, 0, 0, 1, Kept(0, b'a', b'a', b'a', 0)),
+        Shape::Publish(
+            true,
+            0,
+            0,
+            0,
+            None,
+            1,
+            Kept(None, Some(b'a'), Some(b'a'), Some(b'a'), 0),
+        ),
     ),
     (
         0x31,
@@ -388,7 +404,15 @@ const PUBLISHES: &[Row] = &[
             Part::Long(40_000),
             Part::Filled(1),
         ],
-        Shape::Publish(true, 0, 0, 0, 0, 1, Kept(0, b'a', b'a', b'a', 0)),
+        Shape::Publish(
+            true,
+            0,
+            0,
+            0,
+            None,
+            1,
+            Kept(None, Some(b'a'), Some(b'a'), Some(b'a'), 0),
+        ),
     ),
     (
         0x31,
@@ -403,7 +427,15 @@ const PUBLISHES: &[Row] = &[
             Part::Long(65_531),
             Part::Filled(1),
         ],
-        Shape::Publish(true, 0, 0, 0, 0, 1, Kept(0, b'a', b'a', b'a', 0)),
+        Shape::Publish(
+            true,
+            0,
+            0,
+            0,
+            None,
+            1,
+            Kept(None, Some(b'a'), Some(b'a'), Some(b'a'), 0),
+        ),
     ),
 ];
 
@@ -416,7 +448,7 @@ const LEVELS: &[Row] = &[
             Part::Repeated(b"/", 127),
             NO_PROPERTIES,
         ],
-        Shape::Publish(true, 0, 0, 0, 0, 0, NOTHING),
+        Shape::Publish(true, 0, 0, 0, None, 0, NOTHING),
     ),
     (
         0x31,
@@ -425,7 +457,7 @@ const LEVELS: &[Row] = &[
             Part::Repeated(b"/", 128),
             NO_PROPERTIES,
         ],
-        Shape::Publish(true, 0, 0, 7, 0, 0, NOTHING),
+        Shape::Publish(true, 0, 0, 7, None, 0, NOTHING),
     ),
 ];
 

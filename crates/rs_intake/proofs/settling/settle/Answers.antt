@@ -1,7 +1,7 @@
-use Rattle.std.proofs.Common.{ℕ, List, sym, subst, ◌∙◌, arith}
+use Rattle.std.proofs.Common.{ℕ, List, sym, subst, ◌∙◌}
 use Rattle.rs_message.specs.declared.entry.Entry.{Entry}
-use Rattle.rs_intake.specs.Settling.{AreOfPlaces, AreTakenInOrder, BalancesWith, EachOnce}
-use Rattle.rs_intake.proofs.Sums.{in_order, of_places, settled, some_ends}
+use Rattle.rs_intake.specs.Settling.{AreTakenInOrder, BalancesWith, EachOnce}
+use Rattle.rs_intake.proofs.Sums.{in_order, settled, some_ends}
 use Rattle.rs_intake.proofs.settling.settle.Goals as goal
 
 pub returns-in-Some-clause-settled : goal.returns-in-Some-clause-settled
@@ -24,15 +24,3 @@ pub returns-in-None-clause-order : goal.returns-in-None-clause-order
 returns-in-None-clause-order g c =
     let O : List Entry → Type 0 = λ l. AreTakenInOrder l c.args.ends.items in
     subst O c.join_all.ensures.same.0 (in_order _ _ c.args.ends.items c.join_all.ensures.learned)
-
-pub returns-in-Some-clause-placed : goal.returns-in-Some-clause-placed
-returns-in-Some-clause-placed g c = λ count.
-    let learned = c.join_all.ensures.learned (omega (arith, count, c.places.ensures.0, c.places.ensures.1)) in
-    let P : List Entry → Type 0 = λ l. AreOfPlaces g.N.LineName.places l in
-    subst P c.join_all.ensures.same.0 (of_places _ _ learned.0 c.args.ends.items learned.1)
-
-pub returns-in-None-clause-placed : goal.returns-in-None-clause-placed
-returns-in-None-clause-placed g c = λ count.
-    let learned = c.join_all.ensures.learned (omega (arith, count, c.places.ensures.0, c.places.ensures.1)) in
-    let P : List Entry → Type 0 = λ l. AreOfPlaces g.N.LineName.places l in
-    subst P c.join_all.ensures.same.0 (of_places _ _ learned.0 c.args.ends.items learned.1)

@@ -4,9 +4,9 @@ use Rattle.rs_version.specs.Writer.{kept_of}
 use Rattle.rs_intake.proofs.Done.{AreLeft, begun_more, begun_none, left_all, left_less, left_plain, left_rises, refused_one}
 use Rattle.rs_intake.proofs.telling.reply_to_each.Goals as goal
 
-pub loop-job-init : goal.loop-job-init
-loop-job-init g c =
-    let is : c.into_iter-job-iterator.result.rest.items ≡ c.args.jobs.items = search rules in
+pub loop-entry-init : goal.loop-entry-init
+loop-entry-init g c =
+    let is : c.into_iter-entry-iterator.result.rest.items ≡ c.args.entries.items = search rules in
     let L : List Entry → Type 0 = λ l. AreLeft g.N.StoreName.limit (kept_of c.args.writer.now) l in
     let n = ap length is in
     let none = ap length c.requires.room.0 in
@@ -20,24 +20,24 @@ loop-job-init g c =
     )
 
 pub reply_to_next-reply-requires-clause-no_sweep : goal.reply_to_next-reply-requires-clause-no_sweep
-reply_to_next-reply-requires-clause-no_sweep g c = left_plain _ _ _ _ _ c.in-Some.ensures.steps.0 c.loop-job.invariant.0
+reply_to_next-reply-requires-clause-no_sweep g c = left_plain _ _ _ _ _ c.in-Some.ensures.steps.0 c.loop-entry.invariant.0
 
 pub reply_to_next-reply-requires-clause-rises : goal.reply_to_next-reply-requires-clause-rises
 reply_to_next-reply-requires-clause-rises g c =
     let value = c.serial-serial.ensures.value in
     let some = c.serial-serial.ensures.some in
-    left_rises _ _ _ _ _ c.in-Some.ensures.steps.0 (omega (arith, value, some)) c.loop-job.invariant.0
+    left_rises _ _ _ _ _ c.in-Some.ensures.steps.0 (omega (arith, value, some)) c.loop-entry.invariant.0
 
-pub loop-job-preserved : goal.loop-job-preserved
-loop-job-preserved g c =
-    let i = c.loop-job.invariant in
+pub loop-entry-preserved : goal.loop-entry-preserved
+loop-entry-preserved g c =
+    let i = c.loop-entry.invariant in
     let e = c.reply_to_next-reply.ensures in
-    let yielded = c.loop-job.yielded in
+    let yielded = c.loop-entry.yielded in
     let first = c.in-Some.ensures.steps.0 in
     let n = ap length first in
     let items = c.in-Ok.ensures.items in
     let m = ap length items in
-    let sum = length-append c.loop-job.replies.items (c.reply_to_next-reply.result ∷ []) in
+    let sum = length-append c.loop-entry.replies.items (c.reply_to_next-reply.result ∷ []) in
     let room = i.3 in
     let few = i.4 in
     let capacity = c.in-Ok.ensures.capacity in
@@ -45,7 +45,7 @@ loop-job-preserved g c =
     let one = refused_one c.reply_to_next-reply.result.answer in (
       left_less _ _ _ _ _ _ _ first e.done i.0,
       begun_more _ _ _ _ _ _ _ _ _ _ _ c.reply_to_next-reply.result _ i.1 e.done e.origin e.answered e.behind e.held count items,
-      append_assoc yielded (c.in-Some.job ∷ []) _ ∙ (ap (λ l. yielded ++ l) (sym first) ∙ i.2),
+      append_assoc yielded (c.in-Some.entry ∷ []) _ ∙ (ap (λ l. yielded ++ l) (sym first) ∙ i.2),
       omega (arith, n, m, sum, room, capacity),
       omega (arith, n, few, count, one),
     )

@@ -8,7 +8,9 @@ use Rattle.rs_intake.specs.QueueRule.{IsPlaced, ends_of, entries_in}
 use Rattle.rs_intake.specs.declared.ending.Cause.TheVariants.{AllEnded, MostTaken, QueueGone}
 use Rattle.rs_intake.proofs.Done.{AreTold, told_more, written_same}
 use Rattle.rs_intake.proofs.Endings.{all_ended, cause_same, placed_first}
+use Rattle.rs_intake.specs.Settling.{AreOfPlaces}
 use Rattle.rs_intake.specs.Sweeps.{without_sweeps}
+use Rattle.rs_intake.proofs.Sums.{placed_more}
 use Rattle.rs_intake.proofs.Sweeps.{are_for_same, part_same, retried_kept}
 use Rattle.rs_intake.proofs.writer.run_writer_for.Given as given
 use Rattle.rs_intake.proofs.writer.run_writer_for.Goals as goal
@@ -67,10 +69,30 @@ loop-preserved-in-Ok-Put g c =
       c.put_job-count.ensures.ways ∙ i.3,
       ap (λ (l : List ℕ). c.loop.open + length l) ends ∙ i.4,
       i.5,
+      subst (AreOfPlaces g.N.LineName.places) (sym c.in-Ok-Put.ensures.taken.0) (placed_more g.N.LineName.places entries _ i.6 c.in-Ok-Put.ensures.placed),
+    )
+
+pub loop-preserved : goal.loop-preserved
+loop-preserved g c =
+    let i = c.loop.invariant in
+    let taken = c.in-Ok-End.ensures.taken.0 in
+    let same : c.next-in-loop.new.self.entries ≡ c.loop.jobs.entries = taken ∙ (ap (λ (x : Job). c.loop.jobs.entries ++ entries_in x) c.in-Ok-End.field-0-is ∙ append-nil c.loop.jobs.entries) in
+    let ends : c.next-in-loop.new.self.ends ≡ c.loop.jobs.ends ++ ends_of (_ ∷ []) = c.in-Ok-End.ensures.ended.0 in
+    let more : length c.next-in-loop.new.self.ends ≡ length c.loop.jobs.ends + 1 = ap length ends ∙ (ap (λ (x : Job). length (c.loop.jobs.ends ++ ends_of (x ∷ []))) c.in-Ok-End.field-0-is ∙ length-append c.loop.jobs.ends _) in (
+      i.0,
+      subst (λ (l : List Entry). AreTold g.N.StoreName.limit l (kept_of c.loop.writer) c.loop.taken c.loop.refused) (sym same) i.1,
+      omega (arith, c.if-open-eq0.false),
+      i.3,
+      omega (arith, more, i.2, i.4),
+      i.5,
+      subst (AreOfPlaces g.N.LineName.places) (sym taken) (placed_more g.N.LineName.places c.loop.jobs.entries _ i.6 c.in-Ok-End.ensures.placed),
     )
 
 pub returns-clause-part : goal.returns-clause-part
 returns-clause-part g c = part_same c.loop.jobs.entries _ (kept_of c.loop.writer) _ (same_entries g c) (same_kept g c) c.loop.invariant.1.serves.part
+
+pub returns-clause-placed : goal.returns-clause-placed
+returns-clause-placed g c = subst (AreOfPlaces g.N.LineName.places) (sym (same_entries g c)) c.loop.invariant.6
 
 pub returns-clause-refused : goal.returns-clause-refused
 returns-clause-refused g c =

@@ -2,6 +2,7 @@ use Rattle.std.proofs.Common.{◌≡◌, ◌+◌, ◌<◌, length}
 use Rattle.crossbeam_channel.specs.Ends.{receives_on}
 use Rattle.rs_version.specs.Writer.{kept_of}
 use Rattle.rs_intake.specs.Names.{IsQueue}
+use Rattle.rs_intake.specs.Settling.{AreOfPlaces}
 use Rattle.rs_intake.specs.declared.ending.Cause.TheVariants.{MostTaken}
 use Rattle.rs_intake.proofs.Done.{AreTold}
 use Rattle.rs_intake.proofs.writer.run_writer_for.Given as goal
@@ -10,3 +11,4 @@ abbrev pub invariant-loop : goal.invariant-loop
 invariant-loop g l = IsQueue g.N.LineName.queue (receives_on l.receiver)
     × AreTold g.N.StoreName.limit l.jobs.entries (kept_of l.writer) l.taken l.refused × (0 < l.open)
     × (length l.ways.senders.items ≡ g.N.LineName.places) × (l.open + length l.jobs.ends ≡ g.N.LineName.places) × (l.cause ≡ MostTaken)
+    × AreOfPlaces g.N.LineName.places l.jobs.entries

@@ -1,20 +1,27 @@
-use Rattle.std.proofs.Common.{List, length, rules, ap, subst, ◌∙◌}
-use Rattle.std.proofs.lemmas.List.{length-map}
+use Rattle.std.proofs.Common.{◌≡◌, ◌∙◌, ℕ, List, rules, subst}
 use Rattle.rs_intake.specs.Lines.{Closed}
-use Rattle.rs_intake.specs.Settling.{AreTakenInOrder}
+use Rattle.rs_intake.specs.Settling.{AreTaken, AreTakenInOrder, sent_in_all}
 use Rattle.rs_places.proofs.settled.settled.Goals as goal
+use Rattle.rs_places.proofs.settled.settled.Goals.{in-Ok, in_default-2, in_default}
 
 pub returns-clause-order : goal.returns-clause-order
 returns-clause-order g c =
     let P : List Closed → Type 0 = λ l. AreTakenInOrder c.args.ended.jobs.entries l in
     subst P c.parted-lines.ensures.lines c.settle.ensures.order
 
-pub returns-clause-placed : goal.returns-clause-placed
-returns-clause-placed g c = λ count.
-    c.settle.ensures.placed (ap length c.parted-lines.ensures.lines ∙ (length-map c.args.end.ends.items (λ end. end.line) ∙ count))
-
 pub returns-clause-ordered : goal.returns-clause-ordered
 returns-clause-ordered g c = search rules
 
 pub returns-clause-settled : goal.returns-clause-settled
-returns-clause-settled g c = search rules
+returns-clause-settled g c = elim c.match-settle.branch [
+  | in-Ok w ↦
+      let n : ℕ = w.in-Ok.changes in
+      let A : List Closed → Type 0 = λ l. AreTaken c.args.ended.jobs.entries l in
+      let B : List Closed → Type 0 = λ l. n ≡ sent_in_all l in
+      let taken = rw w.in-Ok.is at c.settle.ensures.settled in
+      let count = rw w.in-Ok.is at c.settle.ensures.taken in
+      let sum = rw w.in-Ok.is at c.settle.ensures.sum in
+      rw w.changes-is (subst A c.parted-lines.ensures.lines taken, count ∙ c.args.ended.counted, subst B c.parted-lines.ensures.lines sum)
+  | in_default-2 w ↦ rw w.changes-is tt
+  | in_default w ↦ rw w.changes-is tt
+]

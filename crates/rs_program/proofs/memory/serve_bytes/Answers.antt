@@ -23,17 +23,17 @@ returns-in-Ok-0₀ g c =
     let written = rw (c.in-Ok-0₀.is, c.new-writer.ensures.inner) at conversation.replies in
     let closes = rw c.in-Ok-0₀.is at ends in
     record {
-      turns = conversation.turns;
+      exchanges = conversation.exchanges;
       to = to;
       taken = conversation.bytes;
       held = talk.held;
       rest = _;
-      run = subst (λ (m : Mark). Run (start (assigned_of 1 1) [] m) conversation.turns to) c.in-Ok.ensures.mark conversation.run;
+      run = subst (λ (m : Mark). Run (start (assigned_of 1 1) [] m) conversation.exchanges to) c.in-Ok.ensures.mark conversation.run;
       split = read;
       inputs = conversation.inputs;
-      moments = first_moments c.args.now (told_by c.new-clock.result) _ c.new-3.result.items (moments_of conversation.turns) (planned_moments planned) c.new-clock.ensures c.new-3.ensures.items conversation.moments;
-      replies = ap (λ (v : Vec ℕ Global). v.items) c.into_inner.ensures ∙ written ∙ ap (λ (l : List ℕ). l ++ replies_of conversation.turns) c.new-2.ensures.items;
+      moments = first_moments c.args.now (told_by c.new-clock.result) _ c.new-3.result.items (moments_of conversation.exchanges) (planned_moments planned) c.new-clock.ensures c.new-3.ensures.items conversation.moments;
+      replies = ap (λ (v : Vec ℕ Global). v.items) c.into_inner.ensures ∙ written ∙ ap (λ (l : List ℕ). l ++ replies_of conversation.exchanges) c.new-2.ensures.items;
       closes = closes;
-      each = of_gate_weaker _ IsOfMark conversation.turns (λ mark list h. of_mark h.0 mark list h.1 h.2) conversation.of_gate;
+      each = of_gate_weaker _ IsOfMark conversation.exchanges (λ mark list h. of_mark h.0 mark list h.1 h.2) conversation.of_gate;
       last = record { legal = conversation.stood_for.legal; places = conversation.stood_for.places; needed = conversation.stood_for.needed; serial = sym (conversation.stood_for.stands.serials 1) };
     }

@@ -14,7 +14,7 @@ returns g c = λ seen s.
       left = remaining c.into_inner.result;
       held = contents c.into_inner-2.result;
       line = None;
-      connection = connection_as (start (assigned_of 1 1) seen (g.G.Gate.mark c.args.gate)) _ _ _ _ _ _ _ _ _ _ _ _ _ _ _ _ c.serve-served.result.0
+      connection = connection_as (start (assigned_of 1 1) seen (g.G.Gate.mark c.args.gate)) _ _ _ _ _ c.serve-served.result.0
           (ap remaining c.new-reader.ensures.inner) (ap remaining (sym c.into_inner.ensures))
           (ap contents c.new-writer.ensures.inner) (ap contents (sym c.into_inner-2.ensures))
           (λ (ms : List ℕ). one_moment c.args.at (told_by c.new-clock.result) _ c.new.result.items ms c.new-clock.ensures c.new.ensures.items)

@@ -19,7 +19,7 @@ returns g c = λ seen s.
       left = remaining lines;
       held = contents written;
       line = c.not_hex.result;
-      connection = connection_as (start (assigned_of 1 1) seen (g.G.Gate.mark c.args.gate)) _ _ _ _ _ _ _ _ _ _ _ _ _ _ _ _ c.serve-served.result.0
+      connection = connection_as (start (assigned_of 1 1) seen (g.G.Gate.mark c.args.gate)) _ _ _ _ _ c.serve-served.result.0
           (ap remaining c.new-reader.ensures.inner ∙ c.new.ensures.bytes) refl
           (ap contents c.new-writer.ensures.inner ∙ c.new-2.ensures.bytes) refl
           (λ (ms : List ℕ). one_moment c.args.at (told_by c.new-clock.result) _ c.new-3.result.items ms c.new-clock.ensures c.new-3.ensures.items)

@@ -1,13 +1,14 @@
-use Rattle.std.proofs.Common.{◌≡◌, ◌<◌, ◌⊎◌, ⊎_elim, inl, inr, ◌++◌, ◌∷◌, [], ℕ, List, Ok, Err, refl, sym, ap, subst, ◌∙◌, arith}
+use Rattle.std.proofs.Common.{◌≡◌, ◌<◌, ◌⊎◌, ⊎_elim, inl, inr, ◌++◌, ◌∷◌, [], ℕ, List, Ok, Err, refl, sym, ap, subst, ◌∙◌, arith, append-nil}
 use mathlib.Core.List.{IsPrefix}
 use Rattle.std.proofs.lemmas.Result.{err_from_is_err_and}
 use Rattle.rs_message.specs.declared.entry.Entry.{Entry}
-use Rattle.rs_session.specs.Gate.{Mark, TakesAhead, Uses}
+use Rattle.rs_message.specs.declared.fault.SubmitFault.{SubmitFault}
+use Rattle.rs_session.specs.Gate.{Mark, Submits, TakesAhead, Uses}
 use Rattle.rs_message.specs.declared.fault.SubmitFault.TheVariants.{Strange}
 use Rattle.rs_intake.specs.Lines.{job, next_serial}
 use Rattle.rs_intake.proofs.Faults.{not_refused, refused_as}
 use Rattle.rs_places.specs.Shared.{IsOtherAhead, SharedValue, ahead_of, mark_of}
-use Rattle.rs_places.proofs.Receipts.{other_ahead, same_mark, sends_it, submits_ok, takes_ahead}
+use Rattle.rs_places.proofs.Receipts.{other_ahead, same_mark, sends_it, submits_err, submits_ok, takes_ahead, used_if_open}
 use Rattle.rs_places.proofs.shared_gate.SharedGateGate.submit.Goals as goal
 
 pub returns-clause-list : goal.returns-clause-list
@@ -32,6 +33,21 @@ returns-clause-list g c = λ seen knows.
       (own.0, sym own.1 ∙ ap (λ l. l ++ own.0) known),
       submits_ok g.N.StoreName.limit c.args.operation old new seen list receipt.told receipt.entry receipt.number c.in_ok-receipt.ensures.legal c.in_ok-receipt.ensures.stands is one prefix above
           (sends_it c.args.operation old c.self.inside.line line plain c.submit.ensures.place (c.in_ok-receipt.ensures.last ∙ ap (λ (e : Entry). c.self.inside.line.sent ++ e ∷ []) c.in_ok-receipt.ensures.entry)),
+    )
+
+pub returns-in_err-receipt-clause-list : goal.returns-in_err-receipt-clause-list
+returns-in_err-receipt-clause-list g c = λ seen knows.
+    let p = err_from_is_err_and c.from_residual.result c.from_residual.ensures.1 in
+    let old = c.self.inside.line in
+    let new = c.submit.new.line in
+    let plain : mark_of old ≡ c.args.self.now.mark = ap (λ (v : SharedValue). v.mark) c.self.view_is in
+    let known : c.self.inside.seat ≡ seen = ap (λ (v : SharedValue). v.known) c.self.view_is ∙ knows.known in
+    let used = used_if_open old new _ _ c.in_err-receipt.ensures.refused in
+    let is : c.from_residual.result ≡ Err _ = p.1 ∙ ap (λ (f : SubmitFault). Err f) p.2 in (
+      seen,
+      record { known = known; legal = knows.legal },
+      ([], sym (append-nil seen)),
+      subst (λ (m : Mark). Submits c.args.operation m (mark_of new) c.from_residual.result seen seen) plain (submits_err c.args.operation (mark_of old) (mark_of new) c.from_residual.result _ seen is used),
     )
 
 pub returns-clause-ahead : goal.returns-clause-ahead

@@ -13,6 +13,7 @@ use Rattle.rs_session.specs.Points.{given_at, point_at}
 use Rattle.rs_session.specs.Table.{LeadsTo}
 use Rattle.rs_session.proofs.Rows.{unmoved, topic_unread, submitted, not_made, not_retained}
 use Rattle.rs_session.proofs.Expecting.{by_refusal, by_submit, its_change, no_change_sweeps, not_retained_ahead, topic_unread_ahead}
+use Rattle.rs_session.proofs.Certain.{by_refusal_certain, replies}
 use Rattle.rs_session.proofs.open.Open.hand_over.Goals as goal
 
 pub returns-in_default-topic-clause-row : goal.returns-in_default-topic-clause-row
@@ -89,3 +90,18 @@ returns-in-Some-clause-row g c =
 
 pub returns-in-Some-clause-ahead : goal.returns-in-Some-clause-ahead
 returns-in-Some-clause-ahead g c = by_submit _ c.in-Some.made _ _ _ (g.G.Gate.ahead c.args.gate.now) (g.G.Gate.ahead c.submit.new.gate) c.submit.ensures.ahead
+
+pub returns-in_default-topic-clause-certain : goal.returns-in_default-topic-clause-certain
+returns-in_default-topic-clause-certain g c = λ none. replies _
+
+pub returns-in-Ok-Some-clause-certain : goal.returns-in-Ok-Some-clause-certain
+returns-in-Ok-Some-clause-certain g c = c.submit-in-Ok-Some.ensures.certain
+
+pub returns-in-Ok-None-clause-certain : goal.returns-in-Ok-None-clause-certain
+returns-in-Ok-None-clause-certain g c = λ none. replies _
+
+pub returns-in-Err-clause-certain : goal.returns-in-Err-clause-certain
+returns-in-Err-clause-certain g c = λ none. by_refusal_certain _ (g.G.Gate.ahead c.args.gate.now) (g.G.Gate.mark c.args.gate.now) (g.G.Gate.mark c.args.gate.now) _ _ _ c.outcome_unmade.ensures none
+
+pub returns-in-Some-clause-certain : goal.returns-in-Some-clause-certain
+returns-in-Some-clause-certain g c = c.submit.ensures.certain

@@ -10,6 +10,7 @@ use Rattle.rs_session.specs.Points.{given_at, point_at}
 use Rattle.rs_session.specs.Table.{LeadsTo}
 use Rattle.rs_session.proofs.Rows.{unmoved, connected_twice, pinged, disconnected}
 use Rattle.rs_session.proofs.Expecting.{by_another, by_publish}
+use Rattle.rs_session.proofs.Certain.{no_publish}
 use Rattle.rs_session.proofs.open.Open.handle.Goals as goal
 
 pub returns-in-Connect-clause-row : goal.returns-in-Connect-clause-row
@@ -97,3 +98,33 @@ returns-in-Publish-clause-ahead g c = by_publish c.args.packet c.in-Publish.p c.
 
 pub publish-requires : goal.publish-requires
 publish-requires g c = subst (λ (p : Packet). IfSome c.args.change (λ operation. IsChange (given_at (Whole p) c.args.now) operation)) c.in-Publish.is c.requires
+
+pub returns-in-Connect-clause-certain : goal.returns-in-Connect-clause-certain
+returns-in-Connect-clause-certain g c = λ p is. absurd (no_publish _ _ p c.in-Connect.is tt is)
+
+pub returns-in-Puback-clause-certain : goal.returns-in-Puback-clause-certain
+returns-in-Puback-clause-certain g c = λ p is. absurd (no_publish _ _ p c.in-Puback.is tt is)
+
+pub returns-in-Pubrec-clause-certain : goal.returns-in-Pubrec-clause-certain
+returns-in-Pubrec-clause-certain g c = λ p is. absurd (no_publish _ _ p c.in-Pubrec.is tt is)
+
+pub returns-in-Pubrel-clause-certain : goal.returns-in-Pubrel-clause-certain
+returns-in-Pubrel-clause-certain g c = λ p is. absurd (no_publish _ _ p c.in-Pubrel.is tt is)
+
+pub returns-in-Pubcomp-clause-certain : goal.returns-in-Pubcomp-clause-certain
+returns-in-Pubcomp-clause-certain g c = λ p is. absurd (no_publish _ _ p c.in-Pubcomp.is tt is)
+
+pub returns-in-Unsubscribe-clause-certain : goal.returns-in-Unsubscribe-clause-certain
+returns-in-Unsubscribe-clause-certain g c = λ p is. absurd (no_publish _ _ p c.in-Unsubscribe.is tt is)
+
+pub returns-in-Pingreq-clause-certain : goal.returns-in-Pingreq-clause-certain
+returns-in-Pingreq-clause-certain g c = λ p is. absurd (no_publish _ _ p c.in-Pingreq.is tt is)
+
+pub returns-in-Disconnect-clause-certain : goal.returns-in-Disconnect-clause-certain
+returns-in-Disconnect-clause-certain g c = λ p is. absurd (no_publish _ _ p c.in-Disconnect.is tt is)
+
+pub returns-in-Subscribe-clause-certain : goal.returns-in-Subscribe-clause-certain
+returns-in-Subscribe-clause-certain g c = λ p is. absurd (no_publish _ _ p c.in-Subscribe.is tt is)
+
+pub returns-in-Publish-clause-certain : goal.returns-in-Publish-clause-certain
+returns-in-Publish-clause-certain g c = λ p is. c.publish.ensures.certain

@@ -5,6 +5,7 @@ use Rattle.rs_session.specs.Points.{given_at, point_at}
 use Rattle.rs_session.specs.Table.{LeadsTo}
 use Rattle.rs_session.proofs.Rows.{unmoved, before_use}
 use Rattle.rs_session.proofs.Expecting.{before_use_ahead}
+use Rattle.rs_session.proofs.Certain.{before_use_certain}
 use Rattle.rs_session.proofs.open.Open.publish.Goals as goal
 
 pub returns-in-Some-clause-row : goal.returns-in-Some-clause-row
@@ -15,3 +16,6 @@ returns-in-Some-clause-row g c =
 
 pub returns-in-Some-clause-ahead : goal.returns-in-Some-clause-ahead
 returns-in-Some-clause-ahead g c = before_use_ahead c.args.p c.args.self.now c.in-Some.outcome c.args.now (g.G.Gate.ahead c.args.gate.now) (g.G.Gate.ahead c.args.gate.now) _ (sym c.in-Some.ensures) refl
+
+pub returns-in-Some-clause-certain : goal.returns-in-Some-clause-certain
+returns-in-Some-clause-certain g c = λ none. before_use_certain c.args.p c.args.self.now c.in-Some.outcome (sym c.in-Some.ensures)

@@ -1,10 +1,11 @@
-use Rattle.std.proofs.Common.{refl, ap, ◌∙◌}
+use Rattle.std.proofs.Common.{refl, sym, ap, ◌∙◌}
 use Rattle.rs_session.specs.declared.phase.Input.TheVariants.{Whole}
 use Rattle.rs_session.specs.Points.{given_at}
 use Rattle.rs_session.specs.State.{session_at, gate_of, state_of, step_of}
 use Rattle.rs_session.specs.declared.phase.Phase.{Phase}
 use Rattle.rs_session.proofs.Rows.{stays, took, over, after_same}
 use Rattle.rs_session.proofs.Expecting.{stays_ahead, took_ahead}
+use Rattle.rs_session.proofs.Certain.{open_before, open_ended, took_certain}
 use Rattle.rs_session.proofs.session.Session.on_packet_with.Goals as goal
 use Rattle.rs_session.proofs.session.Session.on_packet_with.Goals.{in-Before, in-Open, in-Ended}
 
@@ -32,4 +33,16 @@ returns-clause-ahead g c =
           (w.conclude.ensures.state w.handle-outcome.new.self refl ∙ after_same w.handle-outcome.result _ (state_of old) w.handle-outcome.new.self refl)
           w.handle-outcome.ensures.ahead
       | in-Ended w ↦ stays_ahead g.G.Gate.ahead g.G.Gate.mark c.args.packet c.args.now old old c.match-self.self w.self-is refl (λ p e. ap (λ (x : Phase). step_of x) w.in-Ended.is)
+    ]
+
+pub returns-clause-certain : goal.returns-clause-certain
+returns-clause-certain g c = λ p o is was.
+    let old = c.args.self.now in
+    elim c.match-self.branch [
+      | in-Before w ↦ absurd (open_before o (sym was ∙ w.in-Before.is))
+      | in-Open w ↦
+          took_certain g.G.Gate.stands g.G.Gate.ahead g.G.Gate.mark old w.conclude.new.self c.match-self.self w.handle-outcome.new.self (state_of old) w.handle-outcome.new.gate w.handle-outcome.result w.self-is w.conclude.ensures.gate
+          (w.conclude.ensures.state w.handle-outcome.new.self refl ∙ after_same w.handle-outcome.result _ (state_of old) w.handle-outcome.new.self refl)
+          (w.handle-outcome.ensures.certain p is)
+      | in-Ended w ↦ absurd (open_ended o _ (sym was ∙ w.in-Ended.is))
     ]

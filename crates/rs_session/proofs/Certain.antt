@@ -1,0 +1,136 @@
+-- Lemmas on a publication of which nothing was sent: it does not end its session as one that may become an entry.
+use Rattle.std.proofs.Common.{◌≡◌, ℕ, Bool, true, false, List, [], ◌∷◌, refl, sym, ap, subst, ◌∙◌, Option, Some, None, Result, Ok, Err, arith}
+use Rattle.std.specs.Prelude.{◌≢◌}
+use Rattle.rs_topic.specs.declared.text.TopicFault.{TopicFault}
+use Rattle.rs_topic.specs.declared.text.TopicFault.TheVariants as topic_fault
+use Rattle.rs_packet.specs.declared.packet.Packet.{Packet}
+use Rattle.rs_packet.specs.declared.packet.Packet.TheVariants as packet
+use Rattle.rs_packet.specs.declared.packet.Publish.{Publish}
+use Rattle.rs_packet.specs.declared.packet.Qos.{Qos}
+use Rattle.rs_packet.specs.declared.reply.Reply.{Reply}
+use Rattle.rs_message.specs.declared.entry.Entry.{Entry}
+use Rattle.rs_message.specs.declared.entry.Operation.{Operation}
+use Rattle.rs_message.specs.declared.fault.SubmitFault.{SubmitFault}
+use Rattle.rs_message.specs.declared.fault.SubmitFault.TheVariants as submit_fault
+use Rattle.rs_session.specs.declared.open.Open.{Open}
+use Rattle.rs_session.specs.declared.open.Outcome.{Outcome}
+use Rattle.rs_session.specs.declared.open.Outcome.TheVariants.{Replies, Closes, Leaves}
+use Rattle.rs_session.specs.declared.phase.Closing.{Closing}
+use Rattle.rs_session.specs.declared.phase.Closing.TheVariants.{ByClient, ByServer}
+use Rattle.rs_session.specs.declared.phase.Phase.{Phase}
+use Rattle.rs_session.specs.declared.phase.Phase.TheVariants as phase
+use Rattle.rs_session.specs.declared.reason.ReasonCode.{ReasonCode}
+use Rattle.rs_session.specs.declared.reason.ReasonCode.TheVariants.{Success, NoSubscriptionExisted, MalformedPacket, ProtocolError, ImplementationSpecificError, UnsupportedProtocolVersion, BadAuthenticationMethod, TopicFilterInvalid, TopicNameInvalid, PacketIdentifierNotFound, ReceiveMaximumExceeded, TopicAliasInvalid, PacketTooLarge, QuotaExceeded, SharedSubscriptionsNotSupported}
+use Rattle.rs_session.specs.declared.session.Session.{Session}
+use Rattle.rs_session.specs.Gate.{Mark, UsesIfOpen}
+use Rattle.rs_session.specs.Reasons.{code_of}
+use Rattle.rs_session.specs.State.{State, gate_of, state_of}
+use Rattle.rs_session.specs.Steps.{NoneSent, outcome_before, outcome_of_alias, outcome_of_id, outcome_of_submit, outcome_of_topic, outcome_unmade, topic_refusal}
+use Rattle.rs_session.specs.Table.{acknowledged_by, held_id, is_held, is_one_too_many, state_after}
+use Rattle.rs_session.proofs.Expecting.{IsNoPublish}
+
+pub replies : (r : Option Reply) → Replies r ≢ Closes QuotaExceeded
+replies r e = absurd (cc (e))
+
+other_code : (code : ReasonCode) → code ≢ QuotaExceeded → Closes code ≢ Closes QuotaExceeded
+other_code code other e = other (let same : code ≡ QuotaExceeded = cc (e) in same)
+
+-- ---- before the change is used
+
+no_topic_exceeds : (topic : Result (List ℕ) TopicFault) → topic_refusal topic ≢ Some QuotaExceeded
+no_topic_exceeds (Ok topic) e = absurd (cc (e))
+no_topic_exceeds (Err topic_fault.Empty) e = absurd (cc (e))
+no_topic_exceeds (Err topic_fault.TooLong) e = absurd (cc (e))
+no_topic_exceeds (Err topic_fault.NotUtf8) e = absurd (cc (e))
+no_topic_exceeds (Err topic_fault.HasNul) e = absurd (cc (e))
+no_topic_exceeds (Err topic_fault.HasWildcard) e = absurd (cc (e))
+no_topic_exceeds (Err topic_fault.BadWildcard) e = absurd (cc (e))
+no_topic_exceeds (Err topic_fault.TooManyLevels) e = absurd (cc (e))
+no_topic_exceeds (Err topic_fault.Shared) e = absurd (cc (e))
+no_topic_exceeds (Err topic_fault.NoMemory) e = absurd (cc (e))
+
+none_exceeds : (alias : Option ℕ) (refusal : Option ReasonCode) (held many : Bool) (again : Option Reply) → refusal ≢ Some QuotaExceeded
+    → outcome_of_alias alias (outcome_of_topic refusal (outcome_of_id held many again)) ≢ Some (Closes QuotaExceeded)
+none_exceeds (Some alias) refusal held many again other e = absurd (cc (e))
+none_exceeds None (Some code) held many again other e = other (ap (λ (x : ReasonCode). Some x) (let same : code ≡ QuotaExceeded = cc (e) in same))
+none_exceeds None None true many again other e = absurd (cc (e))
+none_exceeds None None false true again other e = absurd (cc (e))
+none_exceeds None None false false again other e = absurd (cc (e))
+
+pub before_use_certain : (p : Publish) (o : Open) (outcome : Outcome) → outcome_before p o ≡ Some outcome → outcome ≢ Closes QuotaExceeded
+before_use_certain p o outcome before e =
+    none_exceeds p.alias (topic_refusal p.topic) (is_held (held_id p.qos p.id) o.inbound) (is_one_too_many (held_id p.qos p.id) o.inbound) (acknowledged_by p.qos p.id Success) (no_topic_exceeds p.topic)
+    (before ∙ ap (λ (x : Outcome). Some x) e)
+
+-- ---- a submit
+
+by_answer_certain : (answer : Result (Unit {0}) SubmitFault) (qos : Qos) (id : Option ℕ) (old new : Mark) → UsesIfOpen old new answer → new.serial ≡ old.serial → outcome_of_submit answer qos id ≢ Closes QuotaExceeded
+by_answer_certain (Ok done) qos id old new used same e = replies _ e
+by_answer_certain (Err submit_fault.Full) qos id old new used same e = replies _ e
+by_answer_certain (Err submit_fault.NoMemory) qos id old new used same e = replies _ e
+by_answer_certain (Err submit_fault.Open) qos id old new used same e = absurd (omega (arith, used, same))
+by_answer_certain (Err submit_fault.Strange) qos id old new used same e = absurd (cc (e))
+by_answer_certain (Err submit_fault.Closed) qos id old new used same e = absurd (cc (e))
+
+pub by_submit_certain : (answer : Result (Unit {0}) SubmitFault) (qos : Qos) (id : Option ℕ) (old new : Mark) (outcome : Outcome) → outcome ≡ outcome_of_submit answer qos id → UsesIfOpen old new answer → new.serial ≡ old.serial
+    → outcome ≢ Closes QuotaExceeded
+by_submit_certain answer qos id old new outcome is used same e = by_answer_certain answer qos id old new used same (sym is ∙ e)
+
+-- ---- no memory for the change
+
+some_none : (operation : Operation) (operations : List Operation) → operation ∷ operations ≢ []
+some_none operation operations e = absurd (cc (e))
+
+unmade : (ahead : List Operation) (qos : Qos) (id : Option ℕ) → ahead ≡ [] → outcome_unmade ahead qos id ≢ Closes QuotaExceeded
+unmade [] qos id none e = replies _ e
+unmade (operation ∷ operations) qos id none e = some_none operation operations none
+
+pub by_refusal_certain : (stands : List Entry → Type 0) (ahead : List Operation) (old new : Mark) (qos : Qos) (id : Option ℕ) (outcome : Outcome) → outcome ≡ outcome_unmade ahead qos id → NoneSent stands ahead old new → outcome ≢ Closes QuotaExceeded
+by_refusal_certain stands ahead old new qos id outcome is none e = unmade ahead qos id none.2 (sym is ∙ e)
+
+-- ---- a session
+
+pub no_publish : (p other : Packet) (x : Publish) → p ≡ other → IsNoPublish other → p ≢ packet.Publish x
+no_publish p other x is another e = subst IsNoPublish (sym is ∙ e) another
+
+code_is : (code : ReasonCode) → code_of code ≡ code_of QuotaExceeded → code ≡ QuotaExceeded
+code_is QuotaExceeded e = refl
+code_is Success e = absurd (omega (arith, e))
+code_is NoSubscriptionExisted e = absurd (omega (arith, e))
+code_is MalformedPacket e = absurd (omega (arith, e))
+code_is ProtocolError e = absurd (omega (arith, e))
+code_is ImplementationSpecificError e = absurd (omega (arith, e))
+code_is UnsupportedProtocolVersion e = absurd (omega (arith, e))
+code_is BadAuthenticationMethod e = absurd (omega (arith, e))
+code_is TopicFilterInvalid e = absurd (omega (arith, e))
+code_is TopicNameInvalid e = absurd (omega (arith, e))
+code_is PacketIdentifierNotFound e = absurd (omega (arith, e))
+code_is ReceiveMaximumExceeded e = absurd (omega (arith, e))
+code_is TopicAliasInvalid e = absurd (omega (arith, e))
+code_is PacketTooLarge e = absurd (omega (arith, e))
+code_is SharedSubscriptionsNotSupported e = absurd (omega (arith, e))
+
+server_is : (a b : ℕ) → phase.Ended (ByServer a) ≡ phase.Ended (ByServer b) → a ≡ b
+server_is a b e = cc (e)
+
+by_client : (a : ℕ) → phase.Ended ByClient ≢ phase.Ended (ByServer a)
+by_client a e = absurd (cc (e))
+
+pub open_ended : (o : Open) (closing : Closing) → phase.Open o ≢ phase.Ended closing
+open_ended o closing e = absurd (cc (e))
+
+pub open_before : (o : Open) → phase.Open o ≢ phase.Before
+open_before o e = absurd (cc (e))
+
+not_ended : (outcome : Outcome) (s : State) (o : Open) → outcome ≢ Closes QuotaExceeded → (state_after outcome s o).phase ≢ phase.Ended (ByServer (code_of QuotaExceeded))
+not_ended (Replies r) s o other e = open_ended o _ e
+not_ended (Closes code) s o other e = other (ap (λ (x : ReasonCode). Closes x) (code_is code (server_is _ _ e)))
+not_ended Leaves s o other e = by_client _ e
+
+pub took_certain : {G : Type 0} (stands : G → List Entry → Type 0) (ahead : G → List Operation) (mark : G → Mark) (old mid new : Session G) (left : Open) (s : State) (gate : G) (outcome : Outcome)
+    → new ≡ mid → gate_of mid ≡ gate → state_of mid ≡ state_after outcome s left → (NoneSent (stands (gate_of old)) (ahead (gate_of old)) (mark (gate_of old)) (mark gate) → outcome ≢ Closes QuotaExceeded)
+    → NoneSent (stands (gate_of old)) (ahead (gate_of old)) (mark (gate_of old)) (mark (gate_of new)) → (state_of new).phase ≢ phase.Ended (ByServer (code_of QuotaExceeded))
+took_certain {G} stands ahead mark old mid new left s gate outcome e g d certain none is =
+    let same : gate_of new ≡ gate = ap (λ (x : Session G). gate_of x) e ∙ g in
+    not_ended outcome s left (certain (subst (λ (x : G). NoneSent (stands (gate_of old)) (ahead (gate_of old)) (mark (gate_of old)) (mark x)) same none))
+    (sym (ap (λ (x : State). x.phase) d) ∙ (sym (ap (λ (x : Session G). (state_of x).phase) e) ∙ is))
