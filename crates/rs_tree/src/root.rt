@@ -94,7 +94,7 @@ impl Root {
         }
     }
 
-    /// Removes the messages that are expired. The tree from before is added to the remains. If memory is refused, nothing changes.
+    /// Removes the messages that are expired. The tree from before takes the place of the remains. If memory is refused, nothing changes.
     pub fn sweep(
         &mut self,
         alloc: Global,
@@ -106,7 +106,7 @@ impl Root {
     {
         if let Some(left) = self.branch.swept(alloc, moment)? {
             let left = Arc::new(alloc, left)?;
-            remains.add(alloc, mem::replace(&mut self.branch, left));
+            remains.replace(alloc, mem::replace(&mut self.branch, left));
         }
         Ok(())
     }

@@ -11,8 +11,8 @@ use super::{Below, Branch, Child};
 use std::alloc::{AllocError, Global};
 use std::cmp::Ordering;
 
-/// How many rows may stand in one another below a branch that has too many children. As many rows of 16 hold more than there may be
-/// topics.
+/// From so many rows on that stand in one another below a branch with too many children, all of them are taken apart. More than 32 rows
+/// of 16 rows of 16 rows of 16 children hold more than there may be topics.
 const TALL: u32 = 3;
 
 /// How many rows stand in one another below some children, at most.

@@ -8,8 +8,8 @@ use std::sync::Arc;
 /// How many nodes are dropped for each entry.
 const NODES: usize = 4;
 
-/// Nodes that are out of the tree and not dropped yet. To drop a large tree takes longer than to sweep it, so each later entry drops
-/// some.
+/// Nodes of the tree before the last Sweep that are not dropped yet. To drop a large tree takes longer than to sweep it, so each later
+/// entry drops some.
 #[derive(Drop)]
 pub struct Remains {
     nodes: Vec<Child>,
@@ -37,8 +37,15 @@ impl Remains {
         }
     }
 
-    /// Adds a tree, unless something else shares it, which drops it then.
-    pub fn add(&mut self, alloc: Global, tree: Arc<Branch>) {
+    /// Keeps a tree in place of what is left of the one before, which is dropped at once: so Sweeps in a row leave no more than one tree.
+    /// If something else shares the tree, that drops it then.
+    pub fn replace(&mut self, alloc: Global, tree: Arc<Branch>) {
+        self.nodes = Vec::new(alloc);
+        self.add(alloc, tree);
+    }
+
+    /// Adds the children of a branch, unless something else shares it, which drops it then.
+    fn add(&mut self, alloc: Global, tree: Arc<Branch>) {
         let mut tree = tree;
         if let Some(branch) = Arc::get_mut(&mut tree) {
             self.take(alloc, branch);

@@ -129,3 +129,20 @@ fn later_entries_drop_what_was_swept(rt: HostRuntime) -> Result<(), Fail> {
     assert!(rt; tree.catalogue().remains() == 0);
     Ok(())
 }
+
+/// A Set that needs a Sweep finds one message to take out, again and again. What is not dropped yet does not grow.
+#[test]
+fn sweeps_in_a_row_leave_no_more(rt: HostRuntime) -> Result<(), Fail> {
+    let alloc = rt.alloc();
+    let limit = TopicLimit::new(1000).ok_or("the limit")?;
+    let mut tree: CalmCatalogue<TreeCatalogue> = CalmCatalogue::new(alloc, limit)?;
+    for i in 1..1000u64 {
+        put(alloc, &mut tree, i, name_of(alloc, i)?.as_slice(), 1)??;
+    }
+    for i in 1000..2000u64 {
+        put(alloc, &mut tree, i, name_of(alloc, i)?.as_slice(), 3)??;
+        assert!(rt; tree.catalogue().remains() < 500);
+    }
+    assert!(rt; tree.catalogue().count() == 1000);
+    Ok(())
+}
