@@ -8,7 +8,7 @@ use Rattle.rs_field.specs.declared.fault.PacketFault.{PacketFault}
 use Rattle.rs_field.specs.declared.property.Property.{Property}
 use Rattle.rs_field.specs.declared.property.Property.TheVariants as property
 use Rattle.rs_field.specs.Values.{PacketProperties, PropertiesValue}
-use Rattle.rs_field.specs.Properties.{varint_end, number, identifier, value, property_bytes, counted, nothing, gathered, IsShort, IsSubscriptionId}
+use Rattle.rs_field.specs.Properties.{varint_end, number, identifier, value, property_bytes, counted, nothing, collected, IsShort, IsSubscriptionId}
 use Rattle.rs_field.specs.Reading.{◌>>=◌, byte_at, number_at, binary_at, varint_at}
 use Rattle.rs_field.specs.Kept.{optional, user_property, replayed}
 use Rattle.rs_field.proofs.Fields.{wide32, number_again, binary_again, varint_again}
@@ -143,48 +143,48 @@ said format expiry content_type response_topic correlation subscription user = r
   packet_maximum = None;
 }
 
-format_said : (o : Option ℕ) (ps : List Property) → gathered nothing (optional property.PayloadFormatIndicator o ++ ps) ≡ gathered (said o None None None None None []) ps
-unfolding gathered
+format_said : (o : Option ℕ) (ps : List Property) → collected nothing (optional property.PayloadFormatIndicator o ++ ps) ≡ collected (said o None None None None None []) ps
+unfolding collected
 format_said None ps = refl
 format_said (Some n) ps = refl
 
 module _ (f : Option ℕ) where
-  expiry_said : (o : Option ℕ) (ps : List Property) → gathered (said f None None None None None []) (optional property.MessageExpiryInterval o ++ ps) ≡ gathered (said f o None None None None []) ps
-  unfolding gathered
+  expiry_said : (o : Option ℕ) (ps : List Property) → collected (said f None None None None None []) (optional property.MessageExpiryInterval o ++ ps) ≡ collected (said f o None None None None []) ps
+  unfolding collected
   expiry_said None ps = refl
   expiry_said (Some n) ps = refl
 
 module _ (f e : Option ℕ) where
-  content_type_said : (o : Option (List ℕ)) (ps : List Property) → gathered (said f e None None None None []) (optional property.ContentType o ++ ps) ≡ gathered (said f e o None None None []) ps
-  unfolding gathered
+  content_type_said : (o : Option (List ℕ)) (ps : List Property) → collected (said f e None None None None []) (optional property.ContentType o ++ ps) ≡ collected (said f e o None None None []) ps
+  unfolding collected
   content_type_said None ps = refl
   content_type_said (Some t) ps = refl
 
 module _ (f e : Option ℕ) (c : Option (List ℕ)) where
-  response_topic_said : (o : Option (List ℕ)) (ps : List Property) → gathered (said f e c None None None []) (optional property.ResponseTopic o ++ ps) ≡ gathered (said f e c o None None []) ps
-  unfolding gathered
+  response_topic_said : (o : Option (List ℕ)) (ps : List Property) → collected (said f e c None None None []) (optional property.ResponseTopic o ++ ps) ≡ collected (said f e c o None None []) ps
+  unfolding collected
   response_topic_said None ps = refl
   response_topic_said (Some t) ps = refl
 
 module _ (f e : Option ℕ) (c r : Option (List ℕ)) where
-  correlation_said : (o : Option (List ℕ)) (ps : List Property) → gathered (said f e c r None None []) (optional property.CorrelationData o ++ ps) ≡ gathered (said f e c r o None []) ps
-  unfolding gathered
+  correlation_said : (o : Option (List ℕ)) (ps : List Property) → collected (said f e c r None None []) (optional property.CorrelationData o ++ ps) ≡ collected (said f e c r o None []) ps
+  unfolding collected
   correlation_said None ps = refl
   correlation_said (Some b) ps = refl
 
 module _ (f e : Option ℕ) (c r b : Option (List ℕ)) where
-  subscription_said : (o : Option ℕ) (ps : List Property) → gathered (said f e c r b None []) (optional property.SubscriptionIdentifier o ++ ps) ≡ gathered (said f e c r b o []) ps
-  unfolding gathered
+  subscription_said : (o : Option ℕ) (ps : List Property) → collected (said f e c r b None []) (optional property.SubscriptionIdentifier o ++ ps) ≡ collected (said f e c r b o []) ps
+  unfolding collected
   subscription_said None ps = refl
   subscription_said (Some n) ps = refl
 
 module _ (f e : Option ℕ) (c r b : Option (List ℕ)) (s : Option ℕ) where
-  users_said : (us vs : List (List ℕ × List ℕ)) → gathered (said f e c r b s us) (map user_property vs) ≡ said f e c r b s (us ++ vs)
-  unfolding gathered
+  users_said : (us vs : List (List ℕ × List ℕ)) → collected (said f e c r b s us) (map user_property vs) ≡ said f e c r b s (us ++ vs)
+  unfolding collected
   users_said us [] = ap (said f e c r b s) (sym (append-nil us))
   users_said us ((k, v) ∷ vs) = users_said (us ++ (k, v) ∷ []) vs ∙ ap (said f e c r b s) (append_assoc us ((k, v) ∷ []) vs)
 
-all_said : (e s : Option ℕ) (p : PropertiesValue) → gathered nothing (replayed e s p) ≡ said p.format e p.content_type p.response_topic p.correlation s p.user
+all_said : (e s : Option ℕ) (p : PropertiesValue) → collected nothing (replayed e s p) ≡ said p.format e p.content_type p.response_topic p.correlation s p.user
 all_said e s p =
     format_said p.format _ ∙ expiry_said p.format e _ ∙ content_type_said p.format e p.content_type _ ∙ response_topic_said p.format e p.content_type p.response_topic _
     ∙ correlation_said p.format e p.content_type p.response_topic p.correlation _ ∙ subscription_said p.format e p.content_type p.response_topic p.correlation s _
@@ -202,7 +202,7 @@ pub section_is : (e s : Option ℕ) (p : PropertiesValue) (f t : Option ℕ) (q 
     → flat_map property_bytes (replayed e s p) ≡ flat_map property_bytes (replayed f t q) → (e ≡ f) × (s ≡ t) × (p ≡ q)
 section_is e s p f t q h k same =
     let list : replayed e s p ≡ replayed f t q = encoded_is (replayed e s p) (replayed f t q) (replayed_has e s p h) (replayed_has f t q k) same in
-    let found : said p.format e p.content_type p.response_topic p.correlation s p.user ≡ said q.format f q.content_type q.response_topic q.correlation t q.user = sym (all_said e s p) ∙ ap (gathered nothing) list ∙ all_said f t q in (
+    let found : said p.format e p.content_type p.response_topic p.correlation s p.user ≡ said q.format f q.content_type q.response_topic q.correlation t q.user = sym (all_said e s p) ∙ ap (collected nothing) list ∙ all_said f t q in (
       ap (λ (v : PacketProperties). v.expiry) found,
       ap (λ (v : PacketProperties). v.subscription) found,
       properties_is p q (ap (λ (v : PacketProperties). v.format) found) (ap (λ (v : PacketProperties). v.content_type) found) (ap (λ (v : PacketProperties). v.response_topic) found) (ap (λ (v : PacketProperties). v.correlation) found) (ap (λ (v : PacketProperties). v.user) found),

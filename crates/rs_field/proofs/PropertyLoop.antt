@@ -6,30 +6,30 @@ use Rattle.rs_field.specs.declared.fault.PacketFault.TheVariants.{Malformed, Pro
 use Rattle.rs_field.specs.declared.property.PropertyOwner.{PropertyOwner}
 use Rattle.rs_field.specs.declared.property.Property.{Property}
 use Rattle.rs_field.specs.Values.{PacketProperties}
-use Rattle.rs_field.specs.Properties.{gathered, put, number, identifier}
-use Rattle.rs_field.specs.Reading.{◌>>=◌, Fails, gather_on, properties_in, property_at}
+use Rattle.rs_field.specs.Properties.{collected, put, number, identifier}
+use Rattle.rs_field.specs.Reading.{◌>>=◌, Fails, collect_on, properties_in, property_at}
 
 -- what was found, and what the rest adds, is the total
 pub record IsOnTheWay (where_ : PropertyOwner) (found : PacketProperties) (seen : List Bool) (rest : List ℕ) (total : Result PacketProperties PacketFault) : Type 0 where
   pub fuel : ℕ
   pub enough : length rest ≤ fuel
-  pub same : gather_on found (properties_in fuel where_ seen rest) ≡ total
+  pub same : collect_on found (properties_in fuel where_ seen rest) ≡ total
 
 pub more : (where_ : PropertyOwner) (found : PacketProperties) (seen : List Bool) (rest : List ℕ) (total : Result PacketProperties PacketFault) (p : Property) (after : List ℕ)
     → IsOnTheWay where_ found seen rest total → 0 < length rest → property_at where_ seen rest ≡ Ok (p, after) → length after < length rest
     → IsOnTheWay where_ (put found p) (slice_set seen (number (identifier p)) true) after total
-unfolding gathered properties_in
+unfolding collected properties_in
 more where_ found seen [] total p after h some read shorter = absurd (omega arith)
 more where_ found seen (b ∷ bytes) total p after h some read shorter = go h.fuel h.enough h.same
   where
-    regroup : (r : Result (List Property) PacketFault) → gather_on found (r >>= λ ps. Ok (p ∷ ps)) ≡ gather_on (put found p) r
+    regroup : (r : Result (List Property) PacketFault) → collect_on found (r >>= λ ps. Ok (p ∷ ps)) ≡ collect_on (put found p) r
     regroup (Ok ps) = refl
     regroup (Err f) = refl
 
-    go : (fuel : ℕ) → length (b ∷ bytes) ≤ fuel → gather_on found (properties_in fuel where_ seen (b ∷ bytes)) ≡ total → IsOnTheWay where_ (put found p) (slice_set seen (number (identifier p)) true) after total
+    go : (fuel : ℕ) → length (b ∷ bytes) ≤ fuel → collect_on found (properties_in fuel where_ seen (b ∷ bytes)) ≡ total → IsOnTheWay where_ (put found p) (slice_set seen (number (identifier p)) true) after total
     go zero le same = absurd (omega (arith, le))
     go (suc n) le same =
-        let one : gather_on found (properties_in (suc n) where_ seen (b ∷ bytes)) ≡ gather_on (put found p) (properties_in n where_ (slice_set seen (number (identifier p)) true) after) = rw read (regroup (properties_in n where_ (slice_set seen (number (identifier p)) true) after)) in
+        let one : collect_on found (properties_in (suc n) where_ seen (b ∷ bytes)) ≡ collect_on (put found p) (properties_in n where_ (slice_set seen (number (identifier p)) true) after) = rw read (regroup (properties_in n where_ (slice_set seen (number (identifier p)) true) after)) in
         record { fuel = n; enough = omega (arith, le, shorter); same = sym one ∙ same }
 
 pub fails : (where_ : PropertyOwner) (found : PacketProperties) (seen : List Bool) (rest : List ℕ) (total : Result PacketProperties PacketFault) (e : PacketFault)
@@ -38,11 +38,11 @@ unfolding properties_in
 fails where_ found seen [] total e h some read = absurd (omega arith)
 fails where_ found seen (b ∷ bytes) total e h some read = go h.fuel h.enough h.same
   where
-    at : (f : PacketFault) (fuel : ℕ) → length (b ∷ bytes) ≤ fuel → property_at where_ seen (b ∷ bytes) ≡ Err f → gather_on found (properties_in fuel where_ seen (b ∷ bytes)) ≡ Err f
+    at : (f : PacketFault) (fuel : ℕ) → length (b ∷ bytes) ≤ fuel → property_at where_ seen (b ∷ bytes) ≡ Err f → collect_on found (properties_in fuel where_ seen (b ∷ bytes)) ≡ Err f
     at f zero le is = absurd (omega (arith, le))
     at f (suc n) le is = rw is refl
 
-    go : (fuel : ℕ) → length (b ∷ bytes) ≤ fuel → gather_on found (properties_in fuel where_ seen (b ∷ bytes)) ≡ total → Fails e total
+    go : (fuel : ℕ) → length (b ∷ bytes) ≤ fuel → collect_on found (properties_in fuel where_ seen (b ∷ bytes)) ≡ total → Fails e total
     go fuel le same = by e read
       where
         by : (e : PacketFault) → Fails e (property_at where_ seen (b ∷ bytes)) → Fails e total
@@ -53,11 +53,11 @@ fails where_ found seen (b ∷ bytes) total e h some read = go h.fuel h.enough h
         by Version read = sym same ∙ at Version fuel le read
 
 pub done : (where_ : PropertyOwner) (found : PacketProperties) (seen : List Bool) (rest : List ℕ) (total : Result PacketProperties PacketFault) → IsOnTheWay where_ found seen rest total → length rest ≡ 0 → total ≡ Ok found
-unfolding gathered properties_in
+unfolding collected properties_in
 done where_ found seen (b ∷ bytes) total h none = absurd (omega arith)
 done where_ found seen [] total h none = go h.fuel h.same
   where
-    go : (fuel : ℕ) → gather_on found (properties_in fuel where_ seen []) ≡ total → total ≡ Ok found
+    go : (fuel : ℕ) → collect_on found (properties_in fuel where_ seen []) ≡ total → total ≡ Ok found
     go zero same = sym same
     go (suc n) same = sym same
 

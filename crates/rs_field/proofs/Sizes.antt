@@ -10,7 +10,7 @@ use Rattle.rs_field.specs.declared.property.Property.{Property}
 use Rattle.rs_field.specs.declared.property.Property.TheVariants as property
 use Rattle.rs_field.specs.declared.property.PropertyOwner.{PropertyOwner}
 use Rattle.rs_field.specs.Values.{PacketProperties}
-use Rattle.rs_field.specs.Properties.{low_first, varint, property_bytes, value, IsInRange, AreAllowed, properties, nothing, put, gathered}
+use Rattle.rs_field.specs.Properties.{low_first, varint, property_bytes, value, IsInRange, AreAllowed, properties, nothing, put, collected}
 use Rattle.rs_field.specs.Kept.{kept, optional, user_property, replayed}
 use Rattle.rs_field.specs.Bounds.{AreInRange}
 use Rattle.rs_field.specs.Reading.{Gives, values_at}
@@ -61,13 +61,13 @@ put_size f (property.TopicAlias n) = omega arith
 put_size f (property.UserProperty k v) = omega (arith, sizes f, sizes (put f (property.UserProperty k v)), users_len f.user k v)
 put_size f (property.MaximumPacketSize n) = omega arith
 
-pub gathered_size : (f : PacketProperties) (ps : List Property) → size (gathered f ps) ≤ size f + length (flat_map property_bytes ps)
-unfolding gathered
-gathered_size f [] = omega arith
-gathered_size f (p ∷ ps) = omega (arith, gathered_size (put f p) ps, put_size f p, length-append (value p) (flat_map property_bytes ps))
+pub collected_size : (f : PacketProperties) (ps : List Property) → size (collected f ps) ≤ size f + length (flat_map property_bytes ps)
+unfolding collected
+collected_size f [] = omega arith
+collected_size f (p ∷ ps) = omega (arith, collected_size (put f p) ps, put_size f p, length-append (value p) (flat_map property_bytes ps))
 
-all_size : (ps : List Property) → size (gathered nothing ps) ≤ length (flat_map property_bytes ps)
-all_size ps = omega (arith, gathered_size nothing ps)
+all_size : (ps : List Property) → size (collected nothing ps) ≤ length (flat_map property_bytes ps)
+all_size ps = omega (arith, collected_size nothing ps)
 
 -- a smaller number has no longer form
 low_first_le : (k a b : ℕ) → a ≤ b → length (low_first k a) ≤ length (low_first k b)
@@ -114,10 +114,10 @@ put_found f (property.TopicAlias n) h r = record { short = h.short; maxima = h.m
 put_found f (property.UserProperty k v) h r = record { short = h.short; maxima = h.maxima }
 put_found f (property.MaximumPacketSize n) h r = record { short = h.short; maxima = record { receive_fits = h.maxima.receive_fits; packet_fits = r.0 } }
 
-gathered_found : (where_ : PropertyOwner) (f : PacketProperties) (ps : List Property) → AreInRange f → AreAllowed where_ ps → AreInRange (gathered f ps)
-unfolding gathered
-gathered_found where_ f [] h a = h
-gathered_found where_ f (p ∷ ps) h a = gathered_found where_ (put f p) ps (put_found f p h a.1) a.2
+collected_found : (where_ : PropertyOwner) (f : PacketProperties) (ps : List Property) → AreInRange f → AreAllowed where_ ps → AreInRange (collected f ps)
+unfolding collected
+collected_found where_ f [] h a = h
+collected_found where_ f (p ∷ ps) h a = collected_found where_ (put f p) ps (put_found f p h a.1) a.2
 
 nothing_found : AreInRange nothing
 nothing_found = record { short = tt; maxima = record { receive_fits = tt; packet_fits = tt } }
@@ -131,11 +131,11 @@ pub record FoundFits (bytes : List ℕ) (f : PacketProperties) (rest : List ℕ)
 pub found_fits : (where_ : PropertyOwner) (bytes : List ℕ) (f : PacketProperties) (rest : List ℕ) → IsBytes bytes → values_at where_ bytes ≡ Ok (f, rest) → FoundFits bytes f rest
 found_fits where_ bytes f rest fits e =
     let g = found_takes where_ bytes (f, rest) fits e in
-    let made : FoundFits bytes (gathered nothing g.ps) rest = record {
-      fits = gathered_found where_ nothing g.ps nothing_found g.are.allowed;
+    let made : FoundFits bytes (collected nothing g.ps) rest = record {
+      fits = collected_found where_ nothing g.ps nothing_found g.are.allowed;
       size_fits =
-          let inner : size (gathered nothing g.ps) ≤ length (flat_map property_bytes g.ps) = all_size g.ps in
-          omega (arith, properties_le (replayed (gathered nothing g.ps).expiry None (kept (gathered nothing g.ps))) g.ps inner, ap length g.takes.parts, length-append (properties g.ps) rest);
+          let inner : size (collected nothing g.ps) ≤ length (flat_map property_bytes g.ps) = all_size g.ps in
+          omega (arith, properties_le (replayed (collected nothing g.ps).expiry None (kept (collected nothing g.ps))) g.ps inner, ap length g.takes.parts, length-append (properties g.ps) rest);
     } in
     subst (λ (v : PacketProperties). FoundFits bytes v rest) (sym g.says) made
 

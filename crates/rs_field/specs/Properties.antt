@@ -201,6 +201,6 @@ put values (property.TopicAlias n) = record values { alias = Some n }
 put values (property.UserProperty k v) = record values { user = values.user ++ (k, v) ∷ [] }
 put values (property.MaximumPacketSize n) = record values { packet_maximum = Some n }
 
-unfoldable pub gathered : PacketProperties → List Property → PacketProperties
-gathered values [] = values
-gathered values (p ∷ ps) = gathered (put values p) ps
+unfoldable pub collected : PacketProperties → List Property → PacketProperties
+collected values [] = values
+collected values (p ∷ ps) = collected (put values p) ps

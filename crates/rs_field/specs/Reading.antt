@@ -14,7 +14,7 @@ use Rattle.rs_field.specs.declared.property.PropertyOwner.{PropertyOwner}
 use Rattle.rs_field.specs.declared.property.PropertyOwner.TheVariants as owner
 use Rattle.rs_topic.specs.Texts.{reads_as_text}
 use Rattle.rs_topic.specs.Topics.{is_plain}
-use Rattle.rs_field.specs.Properties.{number, identifier, may_stand, may_repeat, none_yet, nothing, gathered}
+use Rattle.rs_field.specs.Properties.{number, identifier, may_stand, may_repeat, none_yet, nothing, collected}
 use Rattle.rs_field.specs.Values.{PacketProperties}
 
 infixl 10 ◌>>=◌
@@ -156,10 +156,10 @@ properties_at where_ bytes = do
   Ok (ps, section.1)
 
 -- the values of the properties
-abbrev pub gather_on : PacketProperties → Result (List Property) PacketFault → Result PacketProperties PacketFault
-gather_on values read = read >>= λ ps. Ok (gathered values ps)
+abbrev pub collect_on : PacketProperties → Result (List Property) PacketFault → Result PacketProperties PacketFault
+collect_on values read = read >>= λ ps. Ok (collected values ps)
 
 unfoldable pub values_at : PropertyOwner → List ℕ → Result (PacketProperties × List ℕ) PacketFault
 values_at where_ bytes = do
   ps ← properties_at where_ bytes
-  Ok (gathered nothing ps.0, ps.1)
+  Ok (collected nothing ps.0, ps.1)

@@ -7,7 +7,7 @@ ghost use Rattle.rs_field.specs.Properties.{nothing, none_yet, properties, prope
 ghost use Rattle.rs_field.specs.Kept.{kept, replayed, optional, user_property};
 ghost use Rattle.rs_field.specs.Values.{no_properties};
 ghost use Rattle.rs_field.specs.Bounds.{AreInRange, SectionFits};
-ghost use Rattle.rs_field.specs.Reading.{Gives, judged, value_at, property_at, properties_in, gather_on, values_at};
+ghost use Rattle.rs_field.specs.Reading.{Gives, judged, value_at, property_at, properties_in, collect_on, values_at};
 
 use crate::binary::{put_binary, put_string, read_binary, read_part, read_string};
 use crate::fault::PacketFault;
@@ -144,7 +144,7 @@ fn values_in(
     section: Bytes,
     owner: PropertyOwner,
 ) -> Result<PropertyValues, PacketFault>
-    ensures { Gives (λ f. f) result (gather_on nothing (properties_in (length section) owner none_yet section)) }
+    ensures { Gives (λ f. f) result (collect_on nothing (properties_in (length section) owner none_yet section)) }
 {
     let mut found = PropertyValues::new(alloc);
     let mut seen = [false; IDENTIFIERS];

@@ -26,7 +26,7 @@ use Rattle.rs_topic.specs.Texts.{IsText}
 use Rattle.rs_topic.specs.Topics.{filter_of}
 use Rattle.rs_field.specs.Values.{PacketProperties}
 use Rattle.rs_packet.specs.Values.{SubscribeValue, UnsubscribeValue, Asked, Filter}
-use Rattle.rs_field.specs.Properties.{two, counted, IsShort, properties, gathered, nothing, low_first, property_bytes}
+use Rattle.rs_field.specs.Properties.{two, counted, IsShort, properties, collected, nothing, low_first, property_bytes}
 use Rattle.rs_field.specs.Reading.{◌>>=◌, number_at, byte_at, binary_at, text_at, wanting, values_at}
 use Rattle.rs_packet.specs.Grammar.{bit, level, handling, IsId, IdFits, id_bytes, publication, EncodesPublish, EncodesCode, EncodesAcknowledgement, options_byte, AreTexts, text_of, filter_bytes, asked_of, EncodesSubscribe, EncodesUnsubscribe, protocol, flags_byte, FlagsFit, EncodesIf, EncodesPayload, MethodFits, EncodesConnect}
 use Rattle.rs_packet.specs.PacketReading.{id_at, id_for, publish_at, ended, code_at, acknowledgement_at, qos_of, handling_of, options_of, asked_at, all_in, some_of, subscribe_at, filter_at, unsubscribe_at, mqtt, flags_of, past_text, past_binary, client_at, version_at, connect_at}
@@ -83,7 +83,7 @@ publish_takes duplicate qos retain body p fits e =
     let g = found_takes owner.Publish id.0.1 f.0 i.0.rest_fits f.1 in
     let fields : body ≡ counted topic.0.0 ++ (id_bytes id.0.0 ++ (properties g.ps ++ f.0.1)) =
     t.0.parts ∙ ap (λ (r : List ℕ). counted topic.0.0 ++ r) (i.0.parts ∙ ap (λ (r : List ℕ). id_bytes id.0.0 ++ r) g.takes.parts) in
-    let made : publication duplicate qos retain topic.0.0 id.0.0 f.0.0 f.0.1 ≡ publication duplicate qos retain topic.0.0 id.0.0 (gathered nothing g.ps) f.0.1 =
+    let made : publication duplicate qos retain topic.0.0 id.0.0 f.0.0 f.0.1 ≡ publication duplicate qos retain topic.0.0 id.0.0 (collected nothing g.ps) f.0.1 =
     ap (λ (v : PacketProperties). publication duplicate qos retain topic.0.0 id.0.0 v f.0.1) g.says in
     record {
       topic = topic.0.0;
@@ -137,7 +137,7 @@ code_again where_ _ _ (EncodesCode.no_properties h) = refl
 code_again where_ _ _ (EncodesCode.with_properties {code = code} {ps = ps} h are) =
     let v = varint_some 3 (length (flat_map property_bytes ps)) in
     let shape : properties ps ≡ v.0 ∷ (v.1 ++ flat_map property_bytes ps) = ap (λ (r : List ℕ). r ++ flat_map property_bytes ps) v.2 in
-    let read : values_at where_ (v.0 ∷ (v.1 ++ flat_map property_bytes ps)) ≡ Ok (gathered nothing ps, []) = ap (values_at where_) (sym shape ∙ sym (append-nil (properties ps))) ∙ found_again where_ ps [] are in
+    let read : values_at where_ (v.0 ∷ (v.1 ++ flat_map property_bytes ps)) ≡ Ok (collected nothing ps, []) = ap (values_at where_) (sym shape ∙ sym (append-nil (properties ps))) ∙ found_again where_ ps [] are in
     ap (λ (r : List ℕ). code_at where_ (code ∷ r)) shape ∙ rw read refl
 
 pub acknowledgement_takes : (body : List ℕ) (a : Acknowledgement) → IsBytes body → acknowledgement_at body ≡ Ok a → EncodesAcknowledgement body a
@@ -306,7 +306,7 @@ subscribe_takes body s fits e =
     let count : 0 < length fs.0 = not_none fs.0 f.0.1 fs.2 long in
     let fields : body ≡ two id.0.0 ++ (properties g.ps ++ flat_map filter_bytes fs.0) = t.0.parts ∙ ap (λ (r : List ℕ). two id.0.0 ++ r) (g.takes.parts ∙ ap (λ (r : List ℕ). properties g.ps ++ r) fs.2) in
     let made : SubscribeValue = record { id = id.0.0; subscription = f.0.0.subscription; filters = l.0 } in
-    let is : made ≡ record { id = id.0.0; subscription = (gathered nothing g.ps).subscription; filters = map asked_of fs.0 } = same id.0.0 f.0.0 (gathered nothing g.ps) l.0 (map asked_of fs.0) g.says fs.3 in
+    let is : made ≡ record { id = id.0.0; subscription = (collected nothing g.ps).subscription; filters = map asked_of fs.0 } = same id.0.0 f.0.0 (collected nothing g.ps) l.0 (map asked_of fs.0) g.says fs.3 in
     subst (EncodesSubscribe body) (ok_is made s l.2)
     (record { ps = g.ps; filters = fs.0; is_id = t.1; are_properties = g.are; are_texts = fs.1; some = count; fields = fields; value = is })
   where
@@ -528,8 +528,8 @@ connect_takes body c fits e =
     let byte : b.0.0 ∷ [] ≡ flags_byte fl.0 ∷ [] = ap (λ (n : ℕ). n ∷ []) (sym tf.0) in
     let fields : body ≡ protocol ++ (flags_byte fl.0 ∷ (two k.0.0 ++ (properties g.ps ++ f.0.1))) =
     tv.parts ∙ ap (λ (r : List ℕ). protocol ++ r) (tb.0.parts ∙ ap (λ (x : List ℕ). x ++ b.0.1) byte ∙ ap (λ (r : List ℕ). flags_byte fl.0 ∷ r) (tk.0.parts ∙ ap (λ (r : List ℕ). two k.0.0 ++ r) g.takes.parts)) in
-    let is : ch.0 ≡ gathered nothing g.ps = sym m.1 ∙ g.says in
-    let value : made fl.0 k.0.0 ch.0 cl.0 ≡ made fl.0 k.0.0 (gathered nothing g.ps) cl.0 = ap (λ (x : PacketProperties). made fl.0 k.0.0 x cl.0) is in
+    let is : ch.0 ≡ collected nothing g.ps = sym m.1 ∙ g.says in
+    let value : made fl.0 k.0.0 ch.0 cl.0 ≡ made fl.0 k.0.0 (collected nothing g.ps) cl.0 = ap (λ (x : PacketProperties). made fl.0 k.0.0 x cl.0) is in
     subst (EncodesConnect body) (ok_is (made fl.0 k.0.0 ch.0 cl.0) c cl.2)
     (record { flags = fl.0; ps = g.ps; payload = f.0.1; flags_fit = tf.1; keep_alive = tk.1; are_properties = g.are; method = subst MethodFits g.says m.0; has_payload = pay; fields = fields; value = value })
   where
@@ -668,7 +668,7 @@ connect_again body c h =
       flags_again h.flags h.flags_fit,
       number_again w16 (2 ^ 16) wide16 c.keep_alive (properties h.ps ++ h.payload) h.keep_alive,
       found_again owner.Connect h.ps h.payload h.are_properties,
-      method_again (gathered nothing h.ps) h.method,
+      method_again (collected nothing h.ps) h.method,
       client_again h.flags h.payload c.client h.has_payload,
     )
     (ap (λ (v : Connect). Ok v) (sym h.value)))

@@ -9,7 +9,7 @@ use Rattle.rs_packet.specs.declared.packet.Packet.TheVariants as packet
 use Rattle.rs_packet.specs.declared.packet.Decoded.TheVariants.{Whole, More}
 use Rattle.rs_packet.specs.declared.reply.Reply.TheVariants as reply
 use Rattle.rs_topic.specs.Topics.{name_of, filter_of, levels}
-use Rattle.rs_field.specs.Properties.{low_first, gathered}
+use Rattle.rs_field.specs.Properties.{low_first, collected}
 use Rattle.rs_field.specs.Reading.{digits_at, varint_at, binary_at, text_at, identifier_of, value_at, property_at, properties_in, properties_at, values_at}
 use Rattle.rs_packet.specs.PacketReading.{kind_of, id_at, publish_at, options_of, asked_at, all_in, subscribe_at, packet_at, answer, connect_at, version_at, flags_of, client_at}
 use Rattle.rs_packet.specs.Replies.{reply_bytes}
@@ -56,7 +56,7 @@ publish_row : answer (0x31 ∷ 7 ∷ 0 ∷ 3 ∷ 97 ∷ 47 ∷ 98 ∷ 0 ∷ 120 
   properties = record { format = None; content_type = None; response_topic = None; correlation = None; user = [] };
   payload = 120 ∷ [];
 })) 9)
-unfolding answer kind_of digits_at packet_at publish_at values_at text_at binary_at varint_at properties_at properties_in gathered name_of is_utf8 chars encode
+unfolding answer kind_of digits_at packet_at publish_at values_at text_at binary_at varint_at properties_at properties_in collected name_of is_utf8 chars encode
 publish_row = refl
 
 -- an identifier of 0
@@ -66,25 +66,25 @@ id_zero = refl
 
 -- an interval twice
 twice : answer (0x31 ∷ 15 ∷ 0 ∷ 1 ∷ 97 ∷ 10 ∷ 2 ∷ 0 ∷ 0 ∷ 0 ∷ 10 ∷ 2 ∷ 0 ∷ 0 ∷ 0 ∷ 10 ∷ 120 ∷ []) ≡ Err Protocol
-unfolding answer kind_of digits_at packet_at publish_at values_at text_at binary_at varint_at properties_at properties_in property_at identifier_of value_at gathered is_utf8 chars encode
+unfolding answer kind_of digits_at packet_at publish_at values_at text_at binary_at varint_at properties_at properties_in property_at identifier_of value_at collected is_utf8 chars encode
 twice = refl
 
 -- a format of 2; a subscription identifier in a PUBLISH
 bad_format : answer (0x31 ∷ 7 ∷ 0 ∷ 1 ∷ 97 ∷ 2 ∷ 1 ∷ 2 ∷ 120 ∷ []) ≡ Err Protocol
-unfolding answer kind_of digits_at packet_at publish_at values_at text_at binary_at varint_at properties_at properties_in property_at identifier_of value_at gathered is_utf8 chars encode
+unfolding answer kind_of digits_at packet_at publish_at values_at text_at binary_at varint_at properties_at properties_in property_at identifier_of value_at collected is_utf8 chars encode
 bad_format = refl
 
 misplaced_row : answer (0x31 ∷ 7 ∷ 0 ∷ 1 ∷ 97 ∷ 2 ∷ 11 ∷ 1 ∷ 120 ∷ []) ≡ Err Protocol
-unfolding answer kind_of digits_at packet_at publish_at values_at text_at binary_at varint_at properties_at properties_in property_at identifier_of value_at gathered is_utf8 chars encode
+unfolding answer kind_of digits_at packet_at publish_at values_at text_at binary_at varint_at properties_at properties_in property_at identifier_of value_at collected is_utf8 chars encode
 misplaced_row = refl
 
 -- no filter; the options 03, 30 and 40
 no_filter : answer (0x82 ∷ 3 ∷ 0 ∷ 1 ∷ 0 ∷ []) ≡ Err Protocol
-unfolding answer kind_of digits_at packet_at subscribe_at values_at id_at varint_at properties_at properties_in gathered
+unfolding answer kind_of digits_at packet_at subscribe_at values_at id_at varint_at properties_at properties_in collected
 no_filter = refl
 
 bad_options : (answer (0x82 ∷ 7 ∷ 0 ∷ 1 ∷ 0 ∷ 0 ∷ 1 ∷ 97 ∷ 0x03 ∷ []) ≡ Err Protocol) × (answer (0x82 ∷ 7 ∷ 0 ∷ 1 ∷ 0 ∷ 0 ∷ 1 ∷ 97 ∷ 0x30 ∷ []) ≡ Err Protocol) × (answer (0x82 ∷ 7 ∷ 0 ∷ 1 ∷ 0 ∷ 0 ∷ 1 ∷ 97 ∷ 0x40 ∷ []) ≡ Err Malformed)
-unfolding answer kind_of digits_at packet_at subscribe_at values_at id_at varint_at properties_at properties_in gathered text_at binary_at all_in asked_at options_of is_utf8 chars encode
+unfolding answer kind_of digits_at packet_at subscribe_at values_at id_at varint_at properties_at properties_in collected text_at binary_at all_in asked_at options_of is_utf8 chars encode
 bad_options = (refl, refl, refl)
 
 -- the filter a/#
@@ -93,7 +93,7 @@ subscribe_row : answer (0x82 ∷ 9 ∷ 0 ∷ 1 ∷ 0 ∷ 0 ∷ 3 ∷ 97 ∷ 47 �
   subscription = None;
   filters = (Ok (97 ∷ 47 ∷ 35 ∷ []), record { qos = AtMostOnce; no_local = false; retain_as_published = false; retain_handling = Always }) ∷ [];
 })) 11)
-unfolding answer kind_of digits_at packet_at subscribe_at values_at id_at varint_at properties_at properties_in gathered text_at binary_at all_in asked_at options_of filter_of is_utf8 chars encode
+unfolding answer kind_of digits_at packet_at subscribe_at values_at id_at varint_at properties_at properties_in collected text_at binary_at all_in asked_at options_of filter_of is_utf8 chars encode
 subscribe_row = refl
 
 -- the codes 8F 8F 8F 9E; an interval of 1
@@ -136,7 +136,7 @@ connect_row : connect_at (0 ∷ 4 ∷ 77 ∷ 81 ∷ 84 ∷ 84 ∷ 5 ∷ 2 ∷ 0 
   packet_maximum = None;
   client = Some (97 ∷ []);
 })
-unfolding connect_at version_at flags_of client_at values_at varint_at digits_at properties_at properties_in gathered text_at binary_at is_utf8 chars encode
+unfolding connect_at version_at flags_of client_at values_at varint_at digits_at properties_at properties_in collected text_at binary_at is_utf8 chars encode
 connect_row = refl
 
 older_row : connect_at (0 ∷ 4 ∷ 77 ∷ 81 ∷ 84 ∷ 84 ∷ 4 ∷ 2 ∷ 0 ∷ 60 ∷ 0 ∷ 1 ∷ 97 ∷ []) ≡ Err Version
@@ -153,5 +153,5 @@ will_row : connect_at (0 ∷ 4 ∷ 77 ∷ 81 ∷ 84 ∷ 84 ∷ 5 ∷ 6 ∷ 0 ∷
   packet_maximum = None;
   client = None;
 })
-unfolding connect_at version_at flags_of client_at values_at varint_at digits_at properties_at properties_in gathered text_at binary_at is_utf8 chars encode
+unfolding connect_at version_at flags_of client_at values_at varint_at digits_at properties_at properties_in collected text_at binary_at is_utf8 chars encode
 will_row = refl

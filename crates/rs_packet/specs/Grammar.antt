@@ -25,7 +25,7 @@ use Rattle.rs_topic.specs.Topics.{name_of, filter_of}
 use Rattle.rs_field.specs.Values.{PacketProperties}
 use Rattle.rs_field.specs.Kept.{kept}
 use Rattle.rs_packet.specs.Values.{SubscribeValue, UnsubscribeValue, Asked}
-use Rattle.rs_field.specs.Properties.{varint, two, counted, IsShort, AreProperties, properties, gathered, nothing}
+use Rattle.rs_field.specs.Properties.{varint, two, counted, IsShort, AreProperties, properties, collected, nothing}
 
 abbrev pub bit : Bool → ℕ
 bit true = 1
@@ -96,7 +96,7 @@ pub record EncodesPublish (duplicate : Bool) (qos : Qos) (retain : Bool) (body :
   pub has_id : IdFits qos id
   pub are_properties : AreProperties owner.Publish ps
   pub fields : body ≡ counted topic ++ (id_bytes id ++ (properties ps ++ payload))
-  pub value : publish ≡ publication duplicate qos retain topic id (gathered nothing ps) payload
+  pub value : publish ≡ publication duplicate qos retain topic id (collected nothing ps) payload
 
 -- ---- 3.4 to 3.7: PUBACK, PUBREC, PUBREL, PUBCOMP
 
@@ -145,7 +145,7 @@ pub record EncodesSubscribe (body : List ℕ) (subscribe : SubscribeValue) : Typ
   pub are_texts : AreTexts (map text_of filters)
   pub some : 0 < length filters
   pub fields : body ≡ two subscribe.id ++ (properties ps ++ flat_map filter_bytes filters)
-  pub value : subscribe ≡ record { id = subscribe.id; subscription = (gathered nothing ps).subscription; filters = map asked_of filters }
+  pub value : subscribe ≡ record { id = subscribe.id; subscription = (collected nothing ps).subscription; filters = map asked_of filters }
 
 -- ---- 3.10: UNSUBSCRIBE
 
@@ -195,10 +195,10 @@ pub record EncodesConnect (body : List ℕ) (connect : Connect) : Type 0 where
   pub flags_fit : FlagsFit flags
   pub keep_alive : connect.keep_alive < 2 ^ 16
   pub are_properties : AreProperties owner.Connect ps
-  pub method : MethodFits (gathered nothing ps)
+  pub method : MethodFits (collected nothing ps)
   pub has_payload : EncodesPayload flags payload connect.client
   pub fields : body ≡ protocol ++ (flags_byte flags ∷ (two connect.keep_alive ++ (properties ps ++ payload)))
-  pub value : let values = gathered nothing ps in connect ≡ record {
+  pub value : let values = collected nothing ps in connect ≡ record {
     clean_start = flags.clean_start;
     will = flags.will;
     keep_alive = connect.keep_alive;
