@@ -5,5 +5,5 @@ pub mod Identifiers
 pub mod PropertyLaws
 pub mod Replayed
 pub mod Written
-pub mod KeptLaws
+pub mod CarriedLaws
 pub mod Sizes

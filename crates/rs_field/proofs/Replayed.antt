@@ -5,7 +5,7 @@ use Rattle.std.specs.Prelude.{map, is_some}
 use Rattle.std.proofs.lemmas.List.Concat.{flat_map-append}
 use Rattle.rs_field.specs.declared.property.Property.TheVariants as property
 use Rattle.rs_field.specs.Values.{PropertiesValue, no_properties}
-use Rattle.rs_field.specs.Kept.{optional, user_property, replayed}
+use Rattle.rs_field.specs.Carried.{optional, user_property, replayed}
 use Rattle.rs_field.specs.Properties.{property_bytes}
 
 -- the parts of the properties, one after the other

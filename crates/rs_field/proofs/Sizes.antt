@@ -11,21 +11,21 @@ use Rattle.rs_field.specs.declared.property.Property.TheVariants as property
 use Rattle.rs_field.specs.declared.property.PropertyOwner.{PropertyOwner}
 use Rattle.rs_field.specs.Values.{PacketProperties}
 use Rattle.rs_field.specs.Properties.{low_first, varint, property_bytes, value, IsInRange, AreAllowed, properties, nothing, put, collected}
-use Rattle.rs_field.specs.Kept.{kept, optional, user_property, replayed}
+use Rattle.rs_field.specs.Carried.{carried, optional, user_property, replayed}
 use Rattle.rs_field.specs.Bounds.{AreInRange}
 use Rattle.rs_field.specs.Reading.{Gives, values_at}
 use Rattle.rs_field.proofs.Fields.{IsBytes}
 use Rattle.rs_field.proofs.PropertyLaws.{found_takes}
 use Rattle.rs_field.proofs.Replayed.{length_replayed}
 
--- how many bytes the properties that a message keeps take
+-- how many bytes the properties that a message carries take
 abbrev pub size : PacketProperties → ℕ
-size f = length (flat_map property_bytes (replayed f.expiry None (kept f)))
+size f = length (flat_map property_bytes (replayed f.expiry None (carried f)))
 
 sizes : (f : PacketProperties) → size f
     ≡ cond (is_some f.format) 2 0 + cond (is_some f.expiry) 5 0 + (length (flat_map property_bytes (optional property.ContentType f.content_type)) + length (flat_map property_bytes (optional property.ResponseTopic f.response_topic)))
     + length (flat_map property_bytes (optional property.CorrelationData f.correlation)) + length (flat_map property_bytes (map user_property f.user))
-sizes f = omega (arith, length_replayed f.expiry None (kept f))
+sizes f = omega (arith, length_replayed f.expiry None (carried f))
 
 one_len : (p : Property) → length (flat_map property_bytes (p ∷ [])) ≡ length (property_bytes p)
 one_len p = omega (arith, length-append (value p) [])
@@ -126,7 +126,7 @@ nothing_found = record { short = tt; maxima = record { receive_fits = tt; packet
 
 pub record FoundFits (bytes : List ℕ) (f : PacketProperties) (rest : List ℕ) : Type 0 where
   pub fits : AreInRange f
-  pub size_fits : length (properties (replayed f.expiry None (kept f))) + length rest ≤ length bytes
+  pub size_fits : length (properties (replayed f.expiry None (carried f))) + length rest ≤ length bytes
 
 pub found_fits : (where_ : PropertyOwner) (bytes : List ℕ) (f : PacketProperties) (rest : List ℕ) → IsBytes bytes → values_at where_ bytes ≡ Ok (f, rest) → FoundFits bytes f rest
 found_fits where_ bytes f rest fits e =
@@ -135,7 +135,7 @@ found_fits where_ bytes f rest fits e =
       fits = collected_found where_ nothing g.ps nothing_found g.are.allowed;
       size_fits =
           let inner : size (collected nothing g.ps) ≤ length (flat_map property_bytes g.ps) = all_size g.ps in
-          omega (arith, properties_le (replayed (collected nothing g.ps).expiry None (kept (collected nothing g.ps))) g.ps inner, ap length g.takes.parts, length-append (properties g.ps) rest);
+          omega (arith, properties_le (replayed (collected nothing g.ps).expiry None (carried (collected nothing g.ps))) g.ps inner, ap length g.takes.parts, length-append (properties g.ps) rest);
     } in
     subst (λ (v : PacketProperties). FoundFits bytes v rest) (sym g.says) made
 
@@ -144,6 +144,6 @@ found_is where_ bytes rest (Ok f) fits e = (found_fits where_ bytes f rest fits 
 found_is where_ bytes rest (Err d) fits e = tt
 
 pub found_size : (where_ : PropertyOwner) (bytes rest : List ℕ) (r : Result PacketProperties PacketFault) → IsBytes bytes → Gives (λ f. (f, rest)) r (values_at where_ bytes)
-    → IfOk r (λ f. length (properties (replayed f.expiry None (kept f))) + length rest ≤ length bytes)
+    → IfOk r (λ f. length (properties (replayed f.expiry None (carried f))) + length rest ≤ length bytes)
 found_size where_ bytes rest (Ok f) fits e = (found_fits where_ bytes f rest fits e).size_fits
 found_size where_ bytes rest (Err d) fits e = tt

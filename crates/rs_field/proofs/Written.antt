@@ -7,7 +7,7 @@ use Rattle.std.proofs.lemmas.List.{append-nil, length-append, map-append, map_mo
 use Rattle.std.proofs.lemmas.List.Concat.{flat_map-append}
 use Rattle.rs_field.specs.declared.property.Property.{Property}
 use Rattle.rs_field.specs.Properties.{low_first, varint, varint_end, property_bytes}
-use Rattle.rs_field.specs.Kept.{user_property}
+use Rattle.rs_field.specs.Carried.{user_property}
 
 digits_le : (k n : ℕ) → length (low_first k n) ≤ k
 unfolding low_first

@@ -5,8 +5,8 @@ use Rattle.rs_field.specs.Values.{PropertiesValue, PacketProperties}
 use Rattle.rs_field.specs.Forms.{IsShort, IsSubscriptionId}
 
 -- 3.3.2.3.6: correlation data are binary data
-abbrev pub AreKept : PropertiesValue → Type 0
-AreKept properties = IfSome properties.correlation IsShort
+abbrev pub CorrelationFits : PropertiesValue → Type 0
+CorrelationFits properties = IfSome properties.correlation IsShort
 
 abbrev pub IsSome : ℕ → Type 0
 IsSome n = 0 < n

@@ -3,7 +3,7 @@ pub mod Values
 pub mod Forms
 pub mod Properties
 pub mod Reading
-pub mod Kept
+pub mod Carried
 pub mod Bounds
 pub mod Equality
 pub mod Shared

@@ -3,7 +3,7 @@ use Rattle.std.specs.Prelude.{Option, Some, None}
 use Rattle.std.specs.declared.alloc.Global.{Global}
 use Rattle.std.specs.declared.sync.Arc.{Arc}
 use Rattle.rs_field.specs.Values.{PropertiesValue, no_properties}
-use Rattle.rs_field.specs.declared.kept.PropertyFields.{PropertyFields}
+use Rattle.rs_field.specs.declared.carried.PropertyFields.{PropertyFields}
 
 abbrev pub properties_of : Option (Arc PropertyFields Global) → PropertiesValue
 properties_of None = no_properties

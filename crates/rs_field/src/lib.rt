@@ -12,8 +12,8 @@
 #![tactic(auto)]
 
 mod binary;
+mod carried;
 mod fault;
-mod kept;
 mod limits;
 mod number;
 mod properties;
@@ -22,8 +22,8 @@ mod subscription;
 mod varint;
 
 pub use binary::{put_binary, put_string, read_binary, read_part, read_string};
+pub use carried::{Properties, PropertyFields};
 pub use fault::PacketFault;
-pub use kept::{Properties, PropertyFields};
 pub use limits::MAX_REMAINING_LENGTH;
 pub use number::{put_u16, put_u32, read_u8, read_u16, read_u32};
 pub use properties::{properties_len, put_properties, read_properties};

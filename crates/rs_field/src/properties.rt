@@ -4,14 +4,14 @@ ghost use Rattle.std.specs.Prelude.{◌≡◌, ◌+◌, ◌<◌, ◌≤◌, ◌^
 ghost use Rattle.std.specs.List.{All, flat_map};
 ghost use Rattle.rs_field.specs.Forms.{varint_end, IsShort, IsSubscriptionId};
 ghost use Rattle.rs_field.specs.Properties.{nothing, none_yet, properties, property_bytes};
-ghost use Rattle.rs_field.specs.Kept.{kept, replayed, optional, user_property};
+ghost use Rattle.rs_field.specs.Carried.{carried, replayed, optional, user_property};
 ghost use Rattle.rs_field.specs.Values.{no_properties};
 ghost use Rattle.rs_field.specs.Bounds.{AreInRange, SectionFits};
 ghost use Rattle.rs_field.specs.Reading.{Gives, judged, value_at, property_at, properties_in, collect_on, values_at};
 
 use crate::binary::{put_binary, put_string, read_binary, read_part, read_string};
+use crate::carried::{Properties, PropertyFields};
 use crate::fault::PacketFault;
-use crate::kept::{Properties, PropertyFields};
 use crate::number::{put_u32, read_u8, read_u16, read_u32};
 use crate::property::{
     CONTENT_TYPE, CORRELATION_DATA, IDENTIFIERS, Identifier, MESSAGE_EXPIRY_INTERVAL,
@@ -190,8 +190,8 @@ pub fn read_properties(
 ) -> Result<PropertyValues, PacketFault>
     ensures read { Gives (λ f. (f, rest.new)) result (values_at owner rest.old) }
     ensures fits { IfOk result (λ f. AreInRange f) }
-    // What a message keeps of them takes no more bytes than they do.
-    ensures size { IfOk result (λ f. length (properties (replayed f.expiry None (kept f))) + length rest.new ≤ length rest.old) }
+    // What a message carries of them takes no more bytes than they do.
+    ensures size { IfOk result (λ f. length (properties (replayed f.expiry None (carried f))) + length rest.new ≤ length rest.old) }
 {
     note_octets(rest.as_slice());
     read_section(alloc, rest, owner)
@@ -284,17 +284,17 @@ fn put_fields(
     out: &mut Vec<u8>,
     expiry: Option<u32>,
     subscription: Option<SubscriptionId>,
-    kept: &PropertyFields,
+    carried: &PropertyFields,
 ) -> Result<(), AllocError>
-    ensures { OnOk result (out.new.items ≡ out.old.items ++ flat_map property_bytes (replayed expiry subscription kept.now)) }
+    ensures { OnOk result (out.new.items ≡ out.old.items ++ flat_map property_bytes (replayed expiry subscription carried.now)) }
 {
-    put_format(out, kept.format)?;
+    put_format(out, carried.format)?;
     put_expiry(out, expiry)?;
-    put_content_type(out, &kept.content_type)?;
-    put_response_topic(out, &kept.response_topic)?;
-    put_correlation(out, &kept.correlation)?;
+    put_content_type(out, &carried.content_type)?;
+    put_response_topic(out, &carried.response_topic)?;
+    put_correlation(out, &carried.correlation)?;
     put_subscription(out, subscription)?;
-    put_user(out, &kept.user)?;
+    put_user(out, &carried.user)?;
     Ok(())
 }
 
@@ -317,11 +317,11 @@ pub fn put_properties(
     out: &mut Vec<u8>,
     expiry: Option<u32>,
     subscription: Option<SubscriptionId>,
-    kept: &Properties,
+    carried: &Properties,
 ) -> Result<(), AllocError>
-    ensures { OnOk result (out.new.items ≡ out.old.items ++ flat_map property_bytes (replayed expiry subscription kept.now)) }
+    ensures { OnOk result (out.new.items ≡ out.old.items ++ flat_map property_bytes (replayed expiry subscription carried.now)) }
 {
-    match kept.fields() {
+    match carried.fields() {
         Some(fields) => put_fields(out, expiry, subscription, fields)?,
         None => put_bare(out, expiry, subscription)?,
     }
@@ -398,17 +398,17 @@ fn correlation_len(correlation: &Option<Bytes>) -> usize
 fn fields_len(
     expiry: Option<u32>,
     subscription: Option<SubscriptionId>,
-    kept: &PropertyFields,
+    carried: &PropertyFields,
 ) -> usize
-    requires { length (flat_map property_bytes (replayed expiry subscription kept.now)) < varint_end }
-    ensures value { result ≡ length (flat_map property_bytes (replayed expiry subscription kept.now)) }
-    ensures fits { SectionFits expiry subscription kept.now }
+    requires { length (flat_map property_bytes (replayed expiry subscription carried.now)) < varint_end }
+    ensures value { result ≡ length (flat_map property_bytes (replayed expiry subscription carried.now)) }
+    ensures fits { SectionFits expiry subscription carried.now }
 {
-    let format = if kept.format.is_some() { 2 } else { 0 };
+    let format = if carried.format.is_some() { 2 } else { 0 };
     let expiry = expiry_len(expiry);
-    let texts = text_len(&kept.content_type) + text_len(&kept.response_topic);
-    let correlation = correlation_len(&kept.correlation) + subscription_len(subscription);
-    format + expiry + texts + correlation + user_len(&kept.user)
+    let texts = text_len(&carried.content_type) + text_len(&carried.response_topic);
+    let correlation = correlation_len(&carried.correlation) + subscription_len(subscription);
+    format + expiry + texts + correlation + user_len(&carried.user)
 }
 
 #[tactic(auto, using(crate::proofs::Replayed::length_replayed))]
@@ -424,13 +424,13 @@ fn bare_len(expiry: Option<u32>, subscription: Option<SubscriptionId>) -> usize
 pub fn properties_len(
     expiry: Option<u32>,
     subscription: Option<SubscriptionId>,
-    kept: &Properties,
+    carried: &Properties,
 ) -> usize
-    requires { length (flat_map property_bytes (replayed expiry subscription kept.now)) < varint_end }
-    ensures value { result ≡ length (flat_map property_bytes (replayed expiry subscription kept.now)) }
-    ensures fits { SectionFits expiry subscription kept.now }
+    requires { length (flat_map property_bytes (replayed expiry subscription carried.now)) < varint_end }
+    ensures value { result ≡ length (flat_map property_bytes (replayed expiry subscription carried.now)) }
+    ensures fits { SectionFits expiry subscription carried.now }
 {
-    match kept.fields() {
+    match carried.fields() {
         Some(fields) => fields_len(expiry, subscription, fields),
         None => bare_len(expiry, subscription),
     }

@@ -3,7 +3,7 @@ use Rattle.std.specs.Prelude.{ℕ, Bool, true, false, List, [], ◌∷◌, Optio
 use Rattle.rs_message.specs.Values.{MessageValue}
 use Rattle.rs_message.specs.declared.entry.Operation.{Operation}
 use Rattle.rs_message.specs.declared.entry.Operation.TheVariants.{Set, Clear, Sweep}
-pub use Rattle.rs_packet.specs.Messages.{IsKept, waited, left_of, remaining_of, is_over, is_expired}
+pub use Rattle.rs_packet.specs.Messages.{IsMessage, waited, left_of, remaining_of, is_over, is_expired}
 
 -- the message becomes the retained message of the topic
 abbrev pub set_of : List ℕ → MessageValue → Operation

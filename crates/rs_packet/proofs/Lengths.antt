@@ -13,7 +13,7 @@ use Rattle.rs_packet.specs.declared.reply.ConnackAccepted.{ConnackAccepted}
 use Rattle.rs_packet.specs.declared.reply.Publication.{Publication}
 use Rattle.rs_packet.specs.declared.reply.Reply.TheVariants as reply
 use Rattle.rs_packet.specs.Grammar.{IdFits, id_bytes, frame, level}
-use Rattle.rs_field.specs.Kept.{optional, replayed}
+use Rattle.rs_field.specs.Carried.{optional, replayed}
 use Rattle.rs_packet.specs.declared.limits.TheConstants.{MAX_PACKET_SIZE}
 use Rattle.rs_packet.specs.Replies.{message_len, publish_remaining, publication_body, reply_bytes, session_expiry_bytes, assigned_client_bytes, limit_bytes, accepting, accepted_body}
 use Rattle.rs_field.proofs.Replayed.{length_replayed}
@@ -46,47 +46,47 @@ subscription_short None = omega arith
 subscription_short (Some n) = omega (arith, varint_short n, ap length (append-nil (varint n)))
 
 -- a Subscription Identifier adds five bytes at most
-pub section_le : (expiry subscription : Option ℕ) (kept : PropertiesValue) → length (flat_map property_bytes (replayed expiry subscription kept)) ≤ 5 + length (flat_map property_bytes (replayed expiry None kept))
-section_le expiry subscription kept = omega (arith, length_replayed expiry subscription kept, length_replayed expiry None kept, subscription_short subscription)
+pub section_le : (expiry subscription : Option ℕ) (carried : PropertiesValue) → length (flat_map property_bytes (replayed expiry subscription carried)) ≤ 5 + length (flat_map property_bytes (replayed expiry None carried))
+section_le expiry subscription carried = omega (arith, length_replayed expiry subscription carried, length_replayed expiry None carried, subscription_short subscription)
 
 -- a message of a packet's size has properties of less than that
-pub message_section : (expiry subscription : Option ℕ) (kept : PropertiesValue) (payload : ℕ) → message_len expiry kept payload ≤ MAX_PACKET_SIZE
-    → payload + length (flat_map property_bytes (replayed expiry subscription kept)) ≤ 262149
-message_section expiry subscription kept payload le =
-    let section = flat_map property_bytes (replayed expiry None kept) in
-    omega (arith, le, section_le expiry subscription kept, length-append (varint (length section)) section)
+pub message_section : (expiry subscription : Option ℕ) (carried : PropertiesValue) (payload : ℕ) → message_len expiry carried payload ≤ MAX_PACKET_SIZE
+    → payload + length (flat_map property_bytes (replayed expiry subscription carried)) ≤ 262149
+message_section expiry subscription carried payload le =
+    let section = flat_map property_bytes (replayed expiry None carried) in
+    omega (arith, le, section_le expiry subscription carried, length-append (varint (length section)) section)
 
 pub two_if : (b : Bool) → cond b 2 0 ≤ 2
 two_if true = omega arith
 two_if false = omega arith
 
 -- a message whose payload and properties fit a packet has a PUBLISH
-pub message_publish : (topic : List ℕ) (qos : Qos) (expiry subscription : Option ℕ) (kept : PropertiesValue) (payload : ℕ) → length topic < 2 ^ 16 → message_len expiry kept payload ≤ MAX_PACKET_SIZE
-    → publish_remaining topic qos expiry subscription kept payload < varint_end
+pub message_publish : (topic : List ℕ) (qos : Qos) (expiry subscription : Option ℕ) (carried : PropertiesValue) (payload : ℕ) → length topic < 2 ^ 16 → message_len expiry carried payload ≤ MAX_PACKET_SIZE
+    → publish_remaining topic qos expiry subscription carried payload < varint_end
 unfolding publish_remaining
-message_publish topic qos expiry subscription kept payload lt le =
-    let section = flat_map property_bytes (replayed expiry subscription kept) in
-    omega (arith, lt, message_section expiry subscription kept payload le, varint_short (length section), length-append (varint (length section)) section, two_if (ltb 0 (level qos)))
+message_publish topic qos expiry subscription carried payload lt le =
+    let section = flat_map property_bytes (replayed expiry subscription carried) in
+    omega (arith, lt, message_section expiry subscription carried payload le, varint_short (length section), length-append (varint (length section)) section, two_if (ltb 0 (level qos)))
 
 -- an interval takes the same room, whatever it is
-pub message_len_alike : (a b : Option ℕ) (kept : PropertiesValue) (payload : ℕ) → is_some a ≡ is_some b → message_len a kept payload ≡ message_len b kept payload
-message_len_alike None None kept payload e = refl
-message_len_alike None (Some n) kept payload e = absurd (cc (e))
-message_len_alike (Some m) None kept payload e = absurd (cc (e))
-message_len_alike (Some m) (Some n) kept payload e =
-    let a = flat_map property_bytes (replayed (Some m) None kept) in
-    let b = flat_map property_bytes (replayed (Some n) None kept) in
-    let same : length a ≡ length b = omega (arith, length_replayed (Some m) None kept, length_replayed (Some n) None kept) in
+pub message_len_alike : (a b : Option ℕ) (carried : PropertiesValue) (payload : ℕ) → is_some a ≡ is_some b → message_len a carried payload ≡ message_len b carried payload
+message_len_alike None None carried payload e = refl
+message_len_alike None (Some n) carried payload e = absurd (cc (e))
+message_len_alike (Some m) None carried payload e = absurd (cc (e))
+message_len_alike (Some m) (Some n) carried payload e =
+    let a = flat_map property_bytes (replayed (Some m) None carried) in
+    let b = flat_map property_bytes (replayed (Some n) None carried) in
+    let same : length a ≡ length b = omega (arith, length_replayed (Some m) None carried, length_replayed (Some n) None carried) in
     let head : length (varint (length a)) ≡ length (varint (length b)) = ap (λ (k : ℕ). length (varint k)) same in
     omega (arith, same, head, length-append (varint (length a)) a, length-append (varint (length b)) b)
 
 -- the Remaining Length, by its parts
-pub remaining_parts : (topic : List ℕ) (qos : Qos) (expiry subscription : Option ℕ) (kept : PropertiesValue) (payload section quality : ℕ)
-    → section ≡ length (flat_map property_bytes (replayed expiry subscription kept)) → quality ≡ level qos
-    → publish_remaining topic qos expiry subscription kept payload ≡ 2 + length topic + cond (ltb 0 quality) 2 0 + length (varint section) + section + payload
+pub remaining_parts : (topic : List ℕ) (qos : Qos) (expiry subscription : Option ℕ) (carried : PropertiesValue) (payload section quality : ℕ)
+    → section ≡ length (flat_map property_bytes (replayed expiry subscription carried)) → quality ≡ level qos
+    → publish_remaining topic qos expiry subscription carried payload ≡ 2 + length topic + cond (ltb 0 quality) 2 0 + length (varint section) + section + payload
 unfolding publish_remaining
-remaining_parts topic qos expiry subscription kept payload section quality is-section is-quality =
-    let s = flat_map property_bytes (replayed expiry subscription kept) in
+remaining_parts topic qos expiry subscription carried payload section quality is-section is-quality =
+    let s = flat_map property_bytes (replayed expiry subscription carried) in
     rw (is-section, is-quality) (omega (arith, length-append (varint (length s)) s))
 
 pub section_small : (p : Publication) → length (publication_body p) < varint_end → length (flat_map property_bytes (replayed p.expiry p.subscription p.properties)) < varint_end
@@ -102,22 +102,22 @@ with_id ExactlyOnce None h = absurd h
 with_id ExactlyOnce (Some n) h = refl
 
 -- the body of a PUBLISH has the Remaining Length
-pub remaining_is : (topic : List ℕ) (qos : Qos) (id subscription expiry : Option ℕ) (kept : PropertiesValue) (payload : List ℕ) → IdFits qos id
-    → length (publication_body (record { topic = topic; qos = qos; id = id; subscription = subscription; expiry = expiry; properties = kept; payload = payload })) ≡ publish_remaining topic qos expiry subscription kept (length payload)
+pub remaining_is : (topic : List ℕ) (qos : Qos) (id subscription expiry : Option ℕ) (carried : PropertiesValue) (payload : List ℕ) → IdFits qos id
+    → length (publication_body (record { topic = topic; qos = qos; id = id; subscription = subscription; expiry = expiry; properties = carried; payload = payload })) ≡ publish_remaining topic qos expiry subscription carried (length payload)
 unfolding publish_remaining
-remaining_is topic qos id subscription expiry kept payload fits =
-    let p : Publication = record { topic = topic; qos = qos; id = id; subscription = subscription; expiry = expiry; properties = kept; payload = payload } in
-    let section = flat_map property_bytes (replayed expiry subscription kept) in
+remaining_is topic qos id subscription expiry carried payload fits =
+    let p : Publication = record { topic = topic; qos = qos; id = id; subscription = subscription; expiry = expiry; properties = carried; payload = payload } in
+    let section = flat_map property_bytes (replayed expiry subscription carried) in
     let some : ◌≡◌ {A = ℕ} (cond (is_some id) 2 0) (cond (ltb 0 (level qos)) 2 0) = ap (λ (b : Bool). cond b 2 0) (with_id qos id fits) in
     omega (arith, length_body p, some, length-append (varint (length section)) section)
 
 -- the length of a PUBLISH, by those of its parts
-pub length_publish : (topic : List ℕ) (qos : Qos) (id subscription expiry : Option ℕ) (kept : PropertiesValue) (bytes : List ℕ) (section quality payload len digits : ℕ) → IdFits qos id
-    → section ≡ length (flat_map property_bytes (replayed expiry subscription kept)) → quality ≡ level qos → length bytes ≡ payload
+pub length_publish : (topic : List ℕ) (qos : Qos) (id subscription expiry : Option ℕ) (carried : PropertiesValue) (bytes : List ℕ) (section quality payload len digits : ℕ) → IdFits qos id
+    → section ≡ length (flat_map property_bytes (replayed expiry subscription carried)) → quality ≡ level qos → length bytes ≡ payload
     → len ≡ 2 + length topic + cond (ltb 0 quality) 2 0 + length (varint section) + section + payload → digits ≡ length (varint len)
-    → 1 + digits + len ≡ length (reply_bytes (reply.Publish (record { topic = topic; qos = qos; id = id; subscription = subscription; expiry = expiry; properties = kept; payload = bytes })))
-length_publish topic qos id subscription expiry kept bytes section quality payload len digits fits is-section is-quality is-payload is-len is-digits =
-    let p : Publication = record { topic = topic; qos = qos; id = id; subscription = subscription; expiry = expiry; properties = kept; payload = bytes } in
+    → 1 + digits + len ≡ length (reply_bytes (reply.Publish (record { topic = topic; qos = qos; id = id; subscription = subscription; expiry = expiry; properties = carried; payload = bytes })))
+length_publish topic qos id subscription expiry carried bytes section quality payload len digits fits is-section is-quality is-payload is-len is-digits =
+    let p : Publication = record { topic = topic; qos = qos; id = id; subscription = subscription; expiry = expiry; properties = carried; payload = bytes } in
     let parts : 2 + length topic + cond (ltb 0 quality) 2 0 + length (varint section) + section + payload ≡ length (publication_body p) = rw (is-section, is-quality, ← is-payload, ← with_id qos id fits) (sym (length_body p)) in
     let body : len ≡ length (publication_body p) = is-len ∙ parts in
     rw (is-digits, body) (sym (length_frame (0x31 + 2 * level qos) (publication_body p)))

@@ -8,7 +8,7 @@ use Rattle.rs_field.specs.declared.fault.PacketFault.{PacketFault}
 use Rattle.rs_field.specs.Values.{PropertiesValue}
 use Rattle.rs_field.specs.Properties.{varint, varint_end, two, property_bytes, properties, IsShort}
 use Rattle.rs_field.specs.Reading.{number_at, binary_at, varint_at}
-use Rattle.rs_field.specs.Kept.{replayed}
+use Rattle.rs_field.specs.Carried.{replayed}
 use Rattle.rs_field.proofs.Fields.{wide16, number_again, binary_again, varint_again}
 use Rattle.rs_packet.specs.declared.packet.Qos.{Qos}
 use Rattle.rs_packet.specs.declared.packet.Qos.TheVariants.{AtMostOnce, AtLeastOnce, ExactlyOnce}
@@ -21,7 +21,7 @@ use Rattle.rs_packet.specs.Grammar.{IdFits, id_bytes, level}
 use Rattle.rs_packet.specs.Replies.{limit_bytes, accepting, accepted_body, acknowledging, codes_body, publication_body, first_byte, reply_body, HasEncoding, PublishFits, ReplyFits, EncodesReply}
 use Rattle.rs_packet.proofs.Lengths.{length_accepting, length_accepted, section_small}
 use Rattle.rs_packet.proofs.AnswerLaws.{pair_is, same_prefix, frame_parts}
-use Rattle.rs_field.proofs.KeptLaws.{section_is}
+use Rattle.rs_field.proofs.CarriedLaws.{section_is}
 
 -- ---- PUBLISH
 
@@ -54,8 +54,8 @@ publication_is p q h k lp lq qos e =
     let read = pair_is (length ps) (length qs) (ps ++ p.payload) (qs ++ q.payload)
     (sym (varint_again (length ps) (ps ++ p.payload) (section_small p lp)) ∙ ap varint_at tails ∙ varint_again (length qs) (qs ++ q.payload) (section_small q lq)) in
     let parts = same_prefix ps qs p.payload q.payload read.0 read.1 in
-    let kept = section_is p.expiry p.subscription p.properties q.expiry q.subscription q.properties h.section_fits k.section_fits parts.0 in
-    made topic.0 qos ids.0 kept.1 kept.0 kept.2 parts.1
+    let carried = section_is p.expiry p.subscription p.properties q.expiry q.subscription q.properties h.section_fits k.section_fits parts.0 in
+    made topic.0 qos ids.0 carried.1 carried.0 carried.2 parts.1
   where
     made : {t1 t2 : List ℕ} {o1 o2 : Qos} {i1 i2 s1 s2 e1 e2 : Option ℕ} {p1 p2 : PropertiesValue} {b1 b2 : List ℕ} → t1 ≡ t2 → o1 ≡ o2 → i1 ≡ i2 → s1 ≡ s2 → e1 ≡ e2 → p1 ≡ p2 → b1 ≡ b2
         → ◌≡◌ {A = Publication} (record { topic = t1; qos = o1; id = i1; subscription = s1; expiry = e1; properties = p1; payload = b1 }) (record { topic = t2; qos = o2; id = i2; subscription = s2; expiry = e2; properties = p2; payload = b2 })

@@ -10,7 +10,7 @@ use Rattle.rs_packet.specs.Replies.{message_size, publication_body, codes_body}
 abbrev pub IsConnect : ConnectValue → Type 0
 IsConnect connect = MaximaFit connect.receive_maximum connect.packet_maximum
 
--- 3.3.2.2: there is an identifier if QoS is 1 or 2; the payload and the properties that a message keeps are no longer than a packet
+-- 3.3.2.2: there is an identifier if QoS is 1 or 2; the payload and the properties that a message carries are no longer than a packet
 pub record IsPublish (publish : PublishValue) : Type 0 where
   pub id_fits : IdFits publish.qos publish.id
   pub message_fits : message_size publish.expiry publish.properties publish.payload ≤ MAX_PACKET_SIZE

@@ -4,4 +4,4 @@ pub use Rattle.rs_field.specs.Equality.{properties_eq, properties_eq_equiv}
 unfoldable pub use Rattle.rs_field.specs.Forms.{low_first}
 pub use Rattle.rs_field.specs.Forms.{varint, varint_end, counted}
 pub use Rattle.rs_field.specs.Properties.{properties}
-pub use Rattle.rs_field.specs.Kept.{replayed}
+pub use Rattle.rs_field.specs.Carried.{replayed}

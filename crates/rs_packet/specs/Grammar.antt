@@ -23,7 +23,7 @@ use Rattle.rs_packet.specs.declared.packet.Decoded.TheVariants.{Whole, More}
 use Rattle.rs_topic.specs.Texts.{IsText}
 use Rattle.rs_topic.specs.Topics.{name_of, filter_of}
 use Rattle.rs_field.specs.Values.{PacketProperties}
-use Rattle.rs_field.specs.Kept.{kept}
+use Rattle.rs_field.specs.Carried.{carried}
 use Rattle.rs_packet.specs.Values.{SubscribeValue, UnsubscribeValue, Asked}
 use Rattle.rs_field.specs.Properties.{varint, two, counted, IsShort, AreProperties, properties, collected, nothing}
 
@@ -83,7 +83,7 @@ publication duplicate qos retain topic id values payload = record {
   id = id;
   expiry = values.expiry;
   alias = values.alias;
-  properties = kept values;
+  properties = carried values;
   payload = payload;
 }
 

@@ -7,7 +7,7 @@ use Rattle.rs_packet.specs.declared.message.Remaining.{Remaining}
 use Rattle.rs_packet.specs.declared.message.Remaining.TheVariants.{Forever, Left, Expired}
 
 -- a retained message has a payload, which with its properties takes no more bytes than a packet may have
-pub record IsKept (m : MessageValue) : Type 0 where
+pub record IsMessage (m : MessageValue) : Type 0 where
   pub some : m.payload ≢ []
   pub fits : message_size m.expiry m.properties m.payload ≤ MAX_PACKET_SIZE
 

@@ -6,7 +6,7 @@ use Rattle.rs_packet.specs.declared.reply.Publication.{Publication}
 use Rattle.rs_packet.specs.declared.reply.Reply.{Reply}
 use Rattle.rs_packet.specs.declared.reply.Reply.TheVariants as reply
 use Rattle.rs_field.specs.Values.{PropertiesValue}
-use Rattle.rs_field.specs.Kept.{replayed}
+use Rattle.rs_field.specs.Carried.{replayed}
 use Rattle.rs_field.specs.Bounds.{SectionFits}
 use Rattle.rs_packet.specs.Values.{CodesValue}
 use Rattle.rs_field.specs.Properties.{two, four, varint, counted, properties, varint_end, IsShort}
@@ -15,10 +15,10 @@ use Rattle.rs_packet.specs.Grammar.{IdFits, frame, level, id_bytes}
 
 -- how many bytes a payload of this length and the properties of its message take in a PUBLISH without a Subscription Identifier
 abbrev pub message_len : Option ℕ → PropertiesValue → ℕ → ℕ
-message_len expiry kept payload = payload + length (properties (replayed expiry None kept))
+message_len expiry carried payload = payload + length (properties (replayed expiry None carried))
 
 abbrev pub message_size : Option ℕ → PropertiesValue → List ℕ → ℕ
-message_size expiry kept payload = message_len expiry kept (length payload)
+message_size expiry carried payload = message_len expiry carried (length payload)
 
 -- 3.2.2.3.2: an interval of 0, sent if the client asked for another
 abbrev pub session_expiry_bytes : Bool → List ℕ
@@ -64,8 +64,8 @@ publication_body publication = counted publication.topic ++ (id_bytes publicatio
 
 -- 2.1.4: the Remaining Length of a PUBLISH whose payload has this length; there is an identifier if QoS is 1 or 2 (3.3.2.2)
 unfoldable pub publish_remaining : List ℕ → Qos → Option ℕ → Option ℕ → PropertiesValue → ℕ → ℕ
-publish_remaining topic qos expiry subscription kept payload =
-    length (counted topic) + (if nat_lt 0 (level qos) then 2 else 0) + length (properties (replayed expiry subscription kept)) + payload
+publish_remaining topic qos expiry subscription carried payload =
+    length (counted topic) + (if nat_lt 0 (level qos) then 2 else 0) + length (properties (replayed expiry subscription carried)) + payload
 
 abbrev pub codes_body : CodesValue → List ℕ
 codes_body codes = two codes.id ++ 0 ∷ codes.codes

@@ -26,7 +26,7 @@ pub record ConnectValue : Type 0 where
   pub packet_maximum : Option ℕ
   pub client : Option (List ℕ)
 
--- 3.3.1.3: a retained message, with the properties that it keeps (3.3.2.3), and when it came
+-- 3.3.1.3: a retained message, with the properties that it carries (3.3.2.3), and when it came
 pub record MessageValue : Type 0 where
   pub payload : List ℕ
   pub qos : Qos

@@ -3,7 +3,7 @@
 ghost use Rattle.std.specs.Prelude.{◌≡◌, ◌≢◌, ◌≤◌, [], Some, IfOk};
 ghost use Rattle.rs_packet.specs.declared.limits.TheConstants.{MAX_PACKET_SIZE};
 ghost use Rattle.rs_packet.specs.Replies.{message_size};
-ghost use Rattle.rs_packet.specs.Messages.{left_of, remaining_of, IsKept};
+ghost use Rattle.rs_packet.specs.Messages.{left_of, remaining_of, IsMessage};
 
 use crate::packet::Qos;
 use bytes::Bytes;
@@ -27,12 +27,12 @@ impl Model for Message {
 
     ghost Value = { MessageValue };
 
-    ghost use Rattle.rs_packet.specs.Messages.{IsKept};
+    ghost use Rattle.rs_packet.specs.Messages.{IsMessage};
     ghost use Rattle.rs_packet.specs.Views.{message_view};
 
     ghost view = { message_view };
 
-    ghost invariant = { λ m. IsKept (message_view m) };
+    ghost invariant = { λ m. IsMessage (message_view m) };
 }
 
 /// The time that a message has left (3.3.2.3.3).
@@ -81,7 +81,7 @@ impl Message {
     /// The payload, which is not empty.
     pub fn payload(&self) -> &Bytes
         ensures value { result.now ≡ self.now.payload }
-        ensures kept { IsKept self.now }
+        ensures message { IsMessage self.now }
     {
         &self.payload
     }
@@ -107,7 +107,7 @@ impl Message {
         self.expiry
     }
 
-    /// The properties that it keeps (3.3.2.3), without its interval.
+    /// The properties that it carries (3.3.2.3), without its interval.
     pub fn properties(&self) -> &Properties
         ensures { result.now ≡ self.now.properties }
     {

@@ -150,7 +150,7 @@ impl TryFrom<u8> for PacketKind {
     }
 }
 
-/// A PUBLISH (3.3). It has an identifier if QoS is 1 or 2, and the payload and the properties that a message keeps,
+/// A PUBLISH (3.3). It has an identifier if QoS is 1 or 2, and the payload and the properties that a message carries,
 /// encoded as in a PUBLISH, take at most `MAX_PACKET_SIZE` bytes; callers know both once they take it apart.
 #[derive(Debug, Drop)]
 pub struct Publish {
@@ -168,7 +168,7 @@ pub struct Publish {
     pub expiry: Option<u32>,
     /// The Topic Alias (3.3.2.3.4) as sent, 0 too, which the standard forbids.
     pub alias: Option<u16>,
-    /// What a message keeps beside its interval (3.3.2.3).
+    /// What a message carries beside its interval (3.3.2.3).
     pub properties: Properties,
     /// The payload (3.3.3), of any bytes.
     pub payload: Bytes,

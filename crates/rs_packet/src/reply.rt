@@ -23,7 +23,7 @@ pub struct ConnackAccepted {
 /// its Remaining Length (2.1.4) is at most `MAX_REMAINING_LENGTH`.
 #[derive(Debug, Drop)]
 pub struct Publication {
-    /// The topic (3.3.2.1) and its message: its payload (3.3.3), of any bytes, and the properties that it keeps (3.3.2.3), sent in
+    /// The topic (3.3.2.1) and its message: its payload (3.3.3), of any bytes, and the properties that it carries (3.3.2.3), sent in
     /// rising order of identifier.
     pub retained: Retained,
     /// The QoS with which it is sent (3.3.1.2).

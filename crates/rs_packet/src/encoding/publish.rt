@@ -4,7 +4,7 @@ ghost use Rattle.std.specs.Prelude.{◌≡◌, ◌+◌, ◌*◌, ◌<◌, ◌^�
 ghost use Rattle.std.specs.List.{flat_map};
 ghost use Rattle.rs_field.specs.Forms.{varint, varint_end};
 ghost use Rattle.rs_field.specs.Properties.{property_bytes};
-ghost use Rattle.rs_field.specs.Kept.{replayed};
+ghost use Rattle.rs_field.specs.Carried.{replayed};
 ghost use Rattle.rs_packet.specs.Grammar.{IdFits, frame, id_bytes, level};
 ghost use Rattle.rs_packet.specs.Replies.{publication_body, publish_remaining, reply_bytes, PublishFits};
 

@@ -1,4 +1,4 @@
-//! The properties that a message keeps (3.3.2.3).
+//! The properties that a message carries (3.3.2.3).
 
 ghost use Rattle.std.specs.Prelude.{◌≡◌, IfOk};
 
@@ -8,7 +8,7 @@ use std::alloc::{AllocError, Global};
 use std::marker::Model;
 use std::sync::Arc;
 
-/// The values of the properties that a message keeps, one by one (3.3.2.3). The correlation data have at most as many bytes as
+/// The values of the properties that a message carries, one by one (3.3.2.3). The correlation data have at most as many bytes as
 /// two bytes of length can say, and the user properties stand in the order received.
 #[derive(Debug, Drop)]
 pub struct PropertyFields {
@@ -29,7 +29,7 @@ impl Model for PropertyFields {
 
     ghost Value = { PropertiesValue };
 
-    ghost use Rattle.rs_field.specs.Bounds.{AreKept};
+    ghost use Rattle.rs_field.specs.Bounds.{CorrelationFits};
 
     ghost view = { λ p. record {
       format = p.format;
@@ -39,7 +39,7 @@ impl Model for PropertyFields {
       user = p.user.items;
     } };
 
-    ghost invariant = { λ p. AreKept (record {
+    ghost invariant = { λ p. CorrelationFits (record {
       format = p.format;
       content_type = p.content_type;
       response_topic = p.response_topic;
@@ -81,7 +81,7 @@ impl PartialEq for PropertyFields {
     }
 }
 
-/// The properties that a message keeps (3.3.2.3). Copies share their values. Without any property it takes no memory.
+/// The properties that a message carries (3.3.2.3). Copies share their values. Without any property it takes no memory.
 #[derive(Debug, Drop)]
 pub struct Properties {
     fields: Option<Arc<PropertyFields>>,

@@ -10,7 +10,7 @@ use Rattle.rs_field.specs.declared.property.Property.TheVariants as property
 use Rattle.rs_field.specs.Values.{PacketProperties, PropertiesValue}
 use Rattle.rs_field.specs.Properties.{varint_end, number, identifier, value, property_bytes, counted, nothing, collected, IsShort, IsSubscriptionId}
 use Rattle.rs_field.specs.Reading.{◌>>=◌, byte_at, number_at, binary_at, varint_at}
-use Rattle.rs_field.specs.Kept.{optional, user_property, replayed}
+use Rattle.rs_field.specs.Carried.{optional, user_property, replayed}
 use Rattle.rs_field.proofs.Fields.{wide32, number_again, binary_again, varint_again}
 use Rattle.rs_field.specs.Bounds.{SectionFits}
 

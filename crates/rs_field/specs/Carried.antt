@@ -1,12 +1,12 @@
--- The properties that a message keeps, and sends on.
+-- The properties that a message carries, and sends on.
 use Rattle.std.specs.Prelude.{ℕ, List, [], ◌∷◌, ◌++◌, map, Option, Some, None}
 use Rattle.rs_field.specs.declared.property.Property.{Property}
 use Rattle.rs_field.specs.declared.property.Property.TheVariants as property
 use Rattle.rs_field.specs.Values.{PacketProperties, PropertiesValue}
 
--- the properties that a message keeps
-abbrev pub kept : PacketProperties → PropertiesValue
-kept values = record { format = values.format; content_type = values.content_type; response_topic = values.response_topic; correlation = values.correlation; user = values.user }
+-- the properties that a message carries
+abbrev pub carried : PacketProperties → PropertiesValue
+carried values = record { format = values.format; content_type = values.content_type; response_topic = values.response_topic; correlation = values.correlation; user = values.user }
 
 abbrev pub optional : {A : Type 0} → (A → Property) → Option A → List Property
 optional make None = []
