@@ -3,12 +3,12 @@ use Rattle.std.proofs.Common.{◌≡◌, ℕ, suc, ◌+◌, false, List, [], ◌
 use Rattle.std.proofs.Math.Seq.{take-append_seam}
 use Rattle.rs_hex.specs.Digits.{bytes_of_line}
 use Rattle.rs_hex.specs.Lines.{has_line_feed, next_line, IsLineEnd}
-use Rattle.rs_hex.specs.Ahead.{IsOver, ahead}
+use Rattle.rs_hex.specs.Coming.{IsOver, coming}
 use Rattle.rs_hex.specs.declared.digits.HexFault.{HexFault}
 use Rattle.rs_hex.specs.declared.digits.HexFault.TheVariants.{NotHex, NoMemory}
 use Rattle.rs_hex.specs.declared.line_buffer.LineBuffer.{LineBuffer}
-use Rattle.rs_hex.specs.Views.{ahead_of}
-use Rattle.rs_hex.proofs.LineLemmas.{ahead_line, ahead_bad_line, ahead_nil, ahead_last, ahead_bad_last}
+use Rattle.rs_hex.specs.Views.{coming_of}
+use Rattle.rs_hex.proofs.LineLemmas.{coming_line, coming_bad_line, coming_nil, coming_last, coming_bad_last}
 
 -- ---- the first line of the text
 
@@ -28,37 +28,37 @@ followed text more end at = ap (λ t. t ++ more) at.split ∙ append_assoc at.li
 -- the first line is taken
 pub line_taken : (stop : Option ℕ) (held bytes text rest more : List ℕ) (n m end : ℕ) → stop ≡ None → held ≡ [] → IsLineEnd text end → bytes_of_line (take end text) ≡ Some bytes
     → m ≡ next_line n → rest ≡ drop (end + 1) text
-    → ahead stop bytes m (rest ++ more) ≡ ahead stop held n (text ++ more)
+    → coming stop bytes m (rest ++ more) ≡ coming stop held n (text ++ more)
 line_taken stop held bytes text rest more n m end none empty at read counted left =
     let line : bytes_of_line at.line ≡ Some bytes = ap bytes_of_line (sym (first_line text end at)) ∙ read in
     let tail : rest ≡ at.rest = left ∙ after_line text end at in
-    rw (none, empty, counted, tail, followed text more end at) (ahead_line at.line (at.rest ++ more) bytes n at.clean line)
+    rw (none, empty, counted, tail, followed text more end at) (coming_line at.line (at.rest ++ more) bytes n at.clean line)
 
 -- the last line is taken
 pub last_taken : (stop : Option ℕ) (held bytes text left : List ℕ) (n m : ℕ) → stop ≡ None → held ≡ [] → has_line_feed text ≡ false → bytes_of_line text ≡ Some bytes → left ≡ []
-    → ahead stop bytes m (left ++ []) ≡ ahead stop held n (text ++ [])
-last_taken stop held bytes text left n m none empty clean read nothing = rw (none, empty, nothing, append-nil text) (ahead_last text bytes n m clean read)
+    → coming stop bytes m (left ++ []) ≡ coming stop held n (text ++ [])
+last_taken stop held bytes text left n m none empty clean read nothing = rw (none, empty, nothing, append-nil text) (coming_last text bytes n m clean read)
 
 -- what is over once the last line was taken
-pub last_over : (stop : Option ℕ) (bytes left : List ℕ) (m : ℕ) → stop ≡ None → bytes ≡ [] → left ≡ [] → IsOver (ahead stop bytes m (left ++ []))
+pub last_over : (stop : Option ℕ) (bytes left : List ℕ) (m : ℕ) → stop ≡ None → bytes ≡ [] → left ≡ [] → IsOver (coming stop bytes m (left ++ []))
 last_over stop bytes left m none empty nothing =
     let over : IsOver (record { bytes = []; stop = None }) = record { bytes = refl; stop = refl } in
-    rw (none, empty, nothing) (subst IsOver (sym (ahead_nil [] m)) over)
+    rw (none, empty, nothing) (subst IsOver (sym (coming_nil [] m)) over)
 
 -- a line that is not hex stops the reader, and a refusal of memory changes nothing
 pub line_stopped : (old new : LineBuffer) (fault : HexFault) (end : ℕ) (more : List ℕ) → old.not_hex ≡ None → old.bytes.items ≡ [] → IsLineEnd old.text.items end
     → (fault ≡ NotHex → bytes_of_line (take end old.text.items) ≡ None)
     → (fault ≡ NotHex → new ≡ record old { not_hex = Some old.line }) → (fault ≡ NoMemory → new ≡ old)
-    → ahead_of new more ≡ ahead_of old more
+    → coming_of new more ≡ coming_of old more
 line_stopped old new NotHex end more none empty at bad stopped kept =
     let line : bytes_of_line at.line ≡ None = ap bytes_of_line (sym (first_line old.text.items end at)) ∙ bad refl in
-    ap (λ b. ahead_of b more) (stopped refl) ∙ (rw (none, empty, followed old.text.items more end at) (ahead_bad_line at.line (at.rest ++ more) old.line at.clean line))
-line_stopped old new NoMemory end more none empty at bad stopped kept = ap (λ b. ahead_of b more) (kept refl)
+    ap (λ b. coming_of b more) (stopped refl) ∙ (rw (none, empty, followed old.text.items more end at) (coming_bad_line at.line (at.rest ++ more) old.line at.clean line))
+line_stopped old new NoMemory end more none empty at bad stopped kept = ap (λ b. coming_of b more) (kept refl)
 
 pub last_stopped : (old new : LineBuffer) (fault : HexFault) → old.not_hex ≡ None → old.bytes.items ≡ [] → has_line_feed old.text.items ≡ false
     → (fault ≡ NotHex → bytes_of_line old.text.items ≡ None)
     → (fault ≡ NotHex → new ≡ record old { not_hex = Some old.line }) → (fault ≡ NoMemory → new ≡ old)
-    → ahead_of new [] ≡ ahead_of old []
+    → coming_of new [] ≡ coming_of old []
 last_stopped old new NotHex none empty clean bad stopped kept =
-    ap (λ b. ahead_of b []) (stopped refl) ∙ (rw (none, empty, append-nil old.text.items) (ahead_bad_last old.text.items old.line clean (bad refl)))
-last_stopped old new NoMemory none empty clean bad stopped kept = ap (λ b. ahead_of b []) (kept refl)
+    ap (λ b. coming_of b []) (stopped refl) ∙ (rw (none, empty, append-nil old.text.items) (coming_bad_last old.text.items old.line clean (bad refl)))
+last_stopped old new NoMemory none empty clean bad stopped kept = ap (λ b. coming_of b []) (kept refl)

@@ -4,7 +4,7 @@ use Rattle.std.proofs.lemmas.List.{length-take-le}
 use Rattle.std.proofs.lemmas.List.Folds.{list_any-append}
 use Rattle.rs_hex.specs.Digits.{bytes_of_line}
 use Rattle.rs_hex.specs.Lines.{is_line_feed, has_line_feed, lines_of, bytes_before, bytes_of_lines, next_line, first_not_hex, not_hex_from, IsLineEnd}
-use Rattle.rs_hex.specs.Ahead.{Ahead, ahead}
+use Rattle.rs_hex.specs.Coming.{Coming, coming}
 
 -- the test on the first byte, and on the others
 or_false : (a b : Bool) → (a || b) ≡ false → (a ≡ false) × (b ≡ false)
@@ -29,7 +29,7 @@ lines_of-last (b ∷ line) h =
 
 -- ---- the first line is taken
 
-abbrev from_lines : ℕ → List (List ℕ) → Ahead
+abbrev from_lines : ℕ → List (List ℕ) → Coming
 from_lines n lines = record { bytes = bytes_of_lines lines; stop = not_hex_from n lines }
 
 first_hex : (line : List ℕ) (lines : List (List ℕ)) (bs : List ℕ) (n : ℕ) → bytes_of_line line ≡ Some bs
@@ -44,42 +44,42 @@ unfolding bytes_of_lines not_hex_from
 first_bad line lines n e =
     (ap (λ o. bytes_before o (bytes_of_lines lines)) (sym e), ap (λ o. first_not_hex o n (not_hex_from (next_line n) lines)) (sym e))
 
-same_ahead : (b c : List ℕ) (s t : Option ℕ) → b ≡ c → s ≡ t → ◌≡◌ {A = Ahead} (record { bytes = b; stop = s }) (record { bytes = c; stop = t })
-same_ahead b c s t e f = let made : List ℕ → Option ℕ → Ahead = λ x y. record { bytes = x; stop = y } in ap (λ x. made x s) e ∙ ap (made c) f
+same_coming : (b c : List ℕ) (s t : Option ℕ) → b ≡ c → s ≡ t → ◌≡◌ {A = Coming} (record { bytes = b; stop = s }) (record { bytes = c; stop = t })
+same_coming b c s t e f = let made : List ℕ → Option ℕ → Coming = λ x y. record { bytes = x; stop = y } in ap (λ x. made x s) e ∙ ap (made c) f
 
 -- a line that is hex
-pub ahead_line : (line rest bs : List ℕ) (n : ℕ) → has_line_feed line ≡ false → bytes_of_line line ≡ Some bs
-    → ahead None bs (next_line n) rest ≡ ahead None [] n (line ++ 10 ∷ rest)
-ahead_line line rest bs n clean e =
+pub coming_line : (line rest bs : List ℕ) (n : ℕ) → has_line_feed line ≡ false → bytes_of_line line ≡ Some bs
+    → coming None bs (next_line n) rest ≡ coming None [] n (line ++ 10 ∷ rest)
+coming_line line rest bs n clean e =
     let first = first_hex line (lines_of rest) bs n e in
-    same_ahead _ _ _ _ first.0 first.1 ∙ ap (from_lines n) (sym (lines_of-feed line rest clean))
+    same_coming _ _ _ _ first.0 first.1 ∙ ap (from_lines n) (sym (lines_of-feed line rest clean))
 
 -- a line that is not hex
-pub ahead_bad_line : (line rest : List ℕ) (n : ℕ) → has_line_feed line ≡ false → bytes_of_line line ≡ None
-    → ahead (Some n) [] n (line ++ 10 ∷ rest) ≡ ahead None [] n (line ++ 10 ∷ rest)
-ahead_bad_line line rest n clean e =
+pub coming_bad_line : (line rest : List ℕ) (n : ℕ) → has_line_feed line ≡ false → bytes_of_line line ≡ None
+    → coming (Some n) [] n (line ++ 10 ∷ rest) ≡ coming None [] n (line ++ 10 ∷ rest)
+coming_bad_line line rest n clean e =
     let first = first_bad line (lines_of rest) n e in
-    same_ahead _ _ _ _ first.0 first.1 ∙ ap (from_lines n) (sym (lines_of-feed line rest clean))
+    same_coming _ _ _ _ first.0 first.1 ∙ ap (from_lines n) (sym (lines_of-feed line rest clean))
 
 -- with no text, the bytes that are held are all
-pub ahead_nil : (bs : List ℕ) (n : ℕ) → ahead None bs n [] ≡ record { bytes = bs; stop = None }
+pub coming_nil : (bs : List ℕ) (n : ℕ) → coming None bs n [] ≡ record { bytes = bs; stop = None }
 unfolding lines_of bytes_of_lines not_hex_from
-ahead_nil bs n = same_ahead _ _ _ _ (append-nil bs) refl
+coming_nil bs n = same_coming _ _ _ _ (append-nil bs) refl
 
 no_lines : (bs : List ℕ) (n : ℕ) → (bs ≡ bs ++ bytes_of_lines []) × (None ≡ not_hex_from n [])
 unfolding bytes_of_lines not_hex_from
 no_lines bs n = (sym (append-nil bs), refl)
 
-pub ahead_last : (line bs : List ℕ) (n m : ℕ) → has_line_feed line ≡ false → bytes_of_line line ≡ Some bs → ahead None bs m [] ≡ ahead None [] n line
-ahead_last line bs n m clean e =
+pub coming_last : (line bs : List ℕ) (n m : ℕ) → has_line_feed line ≡ false → bytes_of_line line ≡ Some bs → coming None bs m [] ≡ coming None [] n line
+coming_last line bs n m clean e =
     let first = first_hex line [] bs n e in
     let none = no_lines bs (next_line n) in
-    ahead_nil bs m ∙ same_ahead _ _ _ _ (none.0 ∙ first.0) (none.1 ∙ first.1) ∙ ap (from_lines n) (sym (lines_of-last line clean))
+    coming_nil bs m ∙ same_coming _ _ _ _ (none.0 ∙ first.0) (none.1 ∙ first.1) ∙ ap (from_lines n) (sym (lines_of-last line clean))
 
-pub ahead_bad_last : (line : List ℕ) (n : ℕ) → has_line_feed line ≡ false → bytes_of_line line ≡ None → ahead (Some n) [] n line ≡ ahead None [] n line
-ahead_bad_last line n clean e =
+pub coming_bad_last : (line : List ℕ) (n : ℕ) → has_line_feed line ≡ false → bytes_of_line line ≡ None → coming (Some n) [] n line ≡ coming None [] n line
+coming_bad_last line n clean e =
     let first = first_bad line [] n e in
-    same_ahead _ _ _ _ first.0 first.1 ∙ ap (from_lines n) (sym (lines_of-last line clean))
+    same_coming _ _ _ _ first.0 first.1 ∙ ap (from_lines n) (sym (lines_of-last line clean))
 
 -- ---- the end of a line
 

@@ -1,4 +1,4 @@
 pub mod Digits
 pub mod Lines
-pub mod Ahead
+pub mod Coming
 pub mod Views

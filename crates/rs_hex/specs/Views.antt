@@ -2,16 +2,16 @@
 use Rattle.std.specs.Prelude.{ℕ, List, [], ◌∷◌, ◌++◌, Option, None, Some, option_map}
 use Rattle.std.specs.Io.KnownBytes.{append_known}
 use Rattle.rs_hex.specs.Lines.{written_bytes}
-use Rattle.rs_hex.specs.Ahead.{Ahead, Outlook, ahead, bytes_ahead}
+use Rattle.rs_hex.specs.Coming.{Coming, Outlook, coming, bytes_coming}
 use Rattle.rs_hex.specs.declared.line_buffer.LineBuffer.{LineBuffer}
 use Rattle.rs_hex.specs.declared.reader.HexReader.{HexReader}
 use Rattle.rs_hex.specs.declared.writer.HexWriter.{HexWriter}
 
 -- ---- a reader
 
--- what is ahead, if this text follows
-abbrev pub ahead_of : LineBuffer → List ℕ → Ahead
-ahead_of it more = ahead it.not_hex it.bytes.items it.line (it.text.items ++ more)
+-- what is coming, if this text follows
+abbrev pub coming_of : LineBuffer → List ℕ → Coming
+coming_of it more = coming it.not_hex it.bytes.items it.line (it.text.items ++ more)
 
 -- what the lines are read from
 abbrev pub input_of : {R : Type 0} → HexReader R → R
@@ -22,13 +22,13 @@ abbrev pub not_hex_of : {R : Type 0} → HexReader R → Option ℕ
 not_hex_of it = it.lines.not_hex
 
 module _ {R : Type 0} (remaining : R → Option (List ℕ)) where
-  -- what is ahead, if the text of the input is known
+  -- what is coming, if the text of the input is known
   abbrev pub outlook : HexReader R → Outlook
-  outlook it = option_map (ahead_of it.lines) (remaining it.input)
+  outlook it = option_map (coming_of it.lines) (remaining it.input)
 
-  -- the bytes that are ahead
+  -- the bytes that are coming
   abbrev pub hex_remaining : HexReader R → Option (List ℕ)
-  hex_remaining it = bytes_ahead (outlook it)
+  hex_remaining it = bytes_coming (outlook it)
 
 -- ---- a writer
 

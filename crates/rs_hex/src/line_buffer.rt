@@ -3,7 +3,7 @@
 ghost use Rattle.std.specs.Prelude.{◌≡◌, ◌<◌, ◌≤◌, ℕ, List, [], ◌++◌, None, Some, IfOk, IfSome, IfNone, OnOk, length, take, min, true, false};
 ghost use Rattle.std.specs.Io.KnownBytes.{Consumes, IsAtEnd};
 ghost use Rattle.rs_hex.specs.Lines.{has_line_feed, IsLineEnd};
-ghost use Rattle.rs_hex.specs.Ahead.{Gives, IsOver, ahead};
+ghost use Rattle.rs_hex.specs.Coming.{Gives, IsOver, coming};
 
 use crate::digits::{HexFault, read_hex};
 use bytes::BytesMut;
@@ -29,11 +29,11 @@ pub(crate) struct LineBuffer {
 }
 
 impl LineBuffer {
-    ghost use Rattle.rs_hex.specs.Views.{ahead_of};
+    ghost use Rattle.rs_hex.specs.Views.{coming_of};
 
     /// With no text yet.
     pub(crate) fn new(alloc: Global) -> LineBuffer
-        ensures ahead { (more : List ℕ) → ahead_of result more ≡ ahead None [] 1 more }
+        ensures coming { (more : List ℕ) → coming_of result more ≡ coming None [] 1 more }
         ensures not_hex { result.not_hex ≡ None }
     {
         LineBuffer {
@@ -63,7 +63,7 @@ impl LineBuffer {
     /// Gives bytes that are held.
     pub(crate) fn give(&mut self, buf: &mut [u8]) -> usize
         ensures count { result ≡ min (length buf.new) (length self.old.bytes.items) }
-        ensures ahead { (more : List ℕ) → Gives (ahead_of self.old more) (ahead_of self.new more) (take result buf.new) }
+        ensures coming { (more : List ℕ) → Gives (coming_of self.old more) (coming_of self.new more) (take result buf.new) }
     {
         let ready = self.bytes.as_slice();
         let count = buf.len().min(ready.len());
@@ -110,7 +110,7 @@ impl LineBuffer {
         requires given { self.old.bytes.items ≡ [] }
         requires ongoing { self.old.not_hex ≡ None }
         requires line { IsLineEnd self.old.text.items end }
-        ensures ahead { (more : List ℕ) → ahead_of self.new more ≡ ahead_of self.old more }
+        ensures coming { (more : List ℕ) → coming_of self.new more ≡ coming_of self.old more }
         ensures ongoing { OnOk result (self.new.not_hex ≡ None) }
     {
         match read_hex(self.alloc, &self.text.as_slice()[..end]) {
@@ -129,9 +129,9 @@ impl LineBuffer {
         requires given { self.old.bytes.items ≡ [] }
         requires ongoing { self.old.not_hex ≡ None }
         requires line { has_line_feed self.old.text.items ≡ false }
-        ensures ahead { ahead_of self.new [] ≡ ahead_of self.old [] }
+        ensures coming { coming_of self.new [] ≡ coming_of self.old [] }
         ensures ongoing { OnOk result (self.new.not_hex ≡ None) }
-        ensures end { OnOk result (self.new.bytes.items ≡ [] → IsOver (ahead_of self.new [])) }
+        ensures end { OnOk result (self.new.bytes.items ≡ [] → IsOver (coming_of self.new [])) }
     {
         match read_hex(self.alloc, self.text.as_slice()) {
             Ok(bytes) => {

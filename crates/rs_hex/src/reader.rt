@@ -4,7 +4,7 @@ ghost use Rattle.std.specs.Prelude.{◌≡◌, ◌<◌, [], None, Some, IfOk, If
 ghost use Rattle.std.specs.Io.{ReadsAtMost};
 ghost use Rattle.std.specs.Io.KnownBytes.{ReadConsumes, IsAtEnd};
 ghost use Rattle.rs_hex.specs.Lines.{has_line_feed, read_bytes, line_not_hex, IsLineEnd};
-ghost use Rattle.rs_hex.specs.Ahead.{KeepsOutlook, KeepsStop, IsAllOver, stop_ahead};
+ghost use Rattle.rs_hex.specs.Coming.{KeepsOutlook, KeepsStop, IsAllOver, stop_coming};
 
 use crate::line_buffer::LineBuffer;
 use std::alloc::Global;
@@ -30,7 +30,7 @@ impl<R: Read> HexReader<R> {
         ensures not_hex { not_hex_of result ≡ None }
         ensures bytes { hex_remaining R.remaining result ≡ read_bytes (R.remaining input) }
         ensures stop { IfSome (R.remaining input)
-            (λ text. stop_ahead (outlook R.remaining result) ≡ Some (line_not_hex text)) }
+            (λ text. stop_coming (outlook R.remaining result) ≡ Some (line_not_hex text)) }
     {
         HexReader {
             input,
@@ -127,7 +127,7 @@ impl<R: Read> Read for HexReader<R> {
         ensures bound { ReadsAtMost result buf.new }
         ensures bytes { ReadConsumes (hex_remaining R.remaining self.old) (hex_remaining R.remaining self.new) result buf.new }
         // The line that stops the reader stays the same, so `not_hex` can be no other.
-        ensures stop { KeepsStop (stop_ahead (outlook R.remaining self.old)) (stop_ahead (outlook R.remaining self.new)) }
+        ensures stop { KeepsStop (stop_coming (outlook R.remaining self.old)) (stop_coming (outlook R.remaining self.new)) }
         ensures end { IfOk result (λ n. n ≡ 0 → 0 < length buf.new → IsAllOver (outlook R.remaining self.new)) }
     {
         if self.lines.not_hex().is_some() {

@@ -1,6 +1,6 @@
--- No line stopped the reader, and the same is ahead.
+-- No line stopped the reader, and the same is coming.
 use Rattle.std.proofs.Common.{◌≡◌, [], false, None}
-use Rattle.rs_hex.specs.Ahead.{IsAllOver, KeepsOutlook}
+use Rattle.rs_hex.specs.Coming.{IsAllOver, KeepsOutlook}
 use Rattle.rs_hex.specs.Views.{outlook}
 use Rattle.rs_hex.proofs.reader.HexReader.fill.Given as goal
 

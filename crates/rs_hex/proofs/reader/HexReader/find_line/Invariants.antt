@@ -1,7 +1,7 @@
--- No line feed was met in what was scanned, and the same is ahead.
+-- No line feed was met in what was scanned, and the same is coming.
 use Rattle.std.proofs.Common.{◌≡◌, ◌≤◌, false, length, take}
 use Rattle.rs_hex.specs.Lines.{has_line_feed}
-use Rattle.rs_hex.specs.Ahead.{KeepsOutlook}
+use Rattle.rs_hex.specs.Coming.{KeepsOutlook}
 use Rattle.rs_hex.specs.Views.{outlook}
 use Rattle.rs_hex.proofs.reader.HexReader.find_line.Given as goal
 
