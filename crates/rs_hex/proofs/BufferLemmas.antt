@@ -26,18 +26,18 @@ followed : (text more : List ℕ) (end : ℕ) (at : IsLineEnd text end) → text
 followed text more end at = ap (λ t. t ++ more) at.split ∙ append_assoc at.line (10 ∷ at.rest) more
 
 -- the first line is taken
-pub line_taken : (stop : Option ℕ) (held bytes text rest more : List ℕ) (n m end : ℕ) → stop ≡ None → held ≡ [] → IsLineEnd text end → bytes_of_line (take end text) ≡ Some bytes
+pub line_taken : (stop : Option ℕ) (before bytes text rest more : List ℕ) (n m end : ℕ) → stop ≡ None → before ≡ [] → IsLineEnd text end → bytes_of_line (take end text) ≡ Some bytes
     → m ≡ next_line n → rest ≡ drop (end + 1) text
-    → coming stop bytes m (rest ++ more) ≡ coming stop held n (text ++ more)
-line_taken stop held bytes text rest more n m end none empty at read counted left =
+    → coming stop bytes m (rest ++ more) ≡ coming stop before n (text ++ more)
+line_taken stop before bytes text rest more n m end none empty at read counted left =
     let line : bytes_of_line at.line ≡ Some bytes = ap bytes_of_line (sym (first_line text end at)) ∙ read in
     let tail : rest ≡ at.rest = left ∙ after_line text end at in
     rw (none, empty, counted, tail, followed text more end at) (coming_line at.line (at.rest ++ more) bytes n at.clean line)
 
 -- the last line is taken
-pub last_taken : (stop : Option ℕ) (held bytes text left : List ℕ) (n m : ℕ) → stop ≡ None → held ≡ [] → has_line_feed text ≡ false → bytes_of_line text ≡ Some bytes → left ≡ []
-    → coming stop bytes m (left ++ []) ≡ coming stop held n (text ++ [])
-last_taken stop held bytes text left n m none empty clean read nothing = rw (none, empty, nothing, append-nil text) (coming_last text bytes n m clean read)
+pub last_taken : (stop : Option ℕ) (before bytes text left : List ℕ) (n m : ℕ) → stop ≡ None → before ≡ [] → has_line_feed text ≡ false → bytes_of_line text ≡ Some bytes → left ≡ []
+    → coming stop bytes m (left ++ []) ≡ coming stop before n (text ++ [])
+last_taken stop before bytes text left n m none empty clean read nothing = rw (none, empty, nothing, append-nil text) (coming_last text bytes n m clean read)
 
 -- what is over once the last line was taken
 pub last_over : (stop : Option ℕ) (bytes left : List ℕ) (m : ℕ) → stop ≡ None → bytes ≡ [] → left ≡ [] → IsOver (coming stop bytes m (left ++ []))

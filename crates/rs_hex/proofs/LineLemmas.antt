@@ -61,7 +61,7 @@ coming_bad_line line rest n clean e =
     let first = first_bad line (lines_of rest) n e in
     same_coming _ _ _ _ first.0 first.1 ∙ ap (from_lines n) (sym (lines_of-feed line rest clean))
 
--- with no text, the bytes that are held are all
+-- with no text, the bytes that wait are all
 pub coming_nil : (bs : List ℕ) (n : ℕ) → coming None bs n [] ≡ record { bytes = bs; stop = None }
 unfolding lines_of bytes_of_lines not_hex_from
 coming_nil bs n = same_coming _ _ _ _ (append-nil bs) refl

@@ -7,7 +7,7 @@ pub record Coming : Type 0 where
   pub bytes : List ℕ
   pub stop : Option ℕ
 
--- The bytes that are held come first, and then those of the text, whose first line has this number. Once a
+-- The bytes that wait come first, and then those of the text, whose first line has this number. Once a
 -- line stopped the reader, nothing of the text comes.
 abbrev pub coming : Option ℕ → List ℕ → ℕ → List ℕ → Coming
 coming None bytes n text = record { bytes = bytes ++ bytes_of_text text; stop = not_hex_from n (lines_of text) }

@@ -60,7 +60,7 @@ impl LineBuffer {
         self.bytes.is_empty()
     }
 
-    /// Gives bytes that are held.
+    /// Gives bytes that wait.
     pub(crate) fn give(&mut self, buf: &mut [u8]) -> usize
         ensures count { result ≡ min (length buf.new) (length self.old.bytes.items) }
         ensures coming { (more : List ℕ) → Gives (coming_of self.old more) (coming_of self.new more) (take result buf.new) }
@@ -85,7 +85,7 @@ impl LineBuffer {
         Ok(n > 0)
     }
 
-    /// How much text is held.
+    /// How much text waits.
     pub(crate) fn text_len(&self) -> usize
         ensures { result ≡ length self.now.text.items }
     {

@@ -98,7 +98,7 @@ impl<R: Read> HexReader<R> {
         }
     }
 
-    /// Takes lines until some bytes are held, or to the end.
+    /// Takes lines until some bytes wait, or to the end.
     fn fill(&mut self) -> io::Result<()>
         requires { self.old.lines.not_hex ≡ None }
         ensures keeps { KeepsOutlook (outlook R.remaining self.old) (outlook R.remaining self.new) }
