@@ -105,7 +105,7 @@ impl Bucket {
     }
 
     /// Takes one message that is left alone out of its block. If the count of its owners is full, it stays.
-    fn settle(&mut self, alloc: Global)
+    fn unbox(&mut self, alloc: Global)
         ensures { self.new ≡ self.old }
     {
         let Messages::More(leaves) = &self.messages else {
@@ -211,7 +211,7 @@ impl Bucket {
             }
             Messages::More(leaves) => {
                 let cleared = clear_in(leaves, alloc, topic, at);
-                self.settle(alloc);
+                self.unbox(alloc);
                 cleared
             }
         }
@@ -236,7 +236,7 @@ impl Bucket {
                     return Ok(None);
                 }
                 let mut bucket = Bucket::more(alloc, left)?;
-                bucket.settle(alloc);
+                bucket.unbox(alloc);
                 Ok(Some(bucket))
             }
         }
