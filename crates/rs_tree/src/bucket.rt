@@ -83,7 +83,7 @@ fn clear_in(
 
 impl Bucket {
     /// The bucket of one message.
-    pub fn of(alloc: Global, found: Shared, at: usize) -> Result<Bucket, AllocError>
+    pub fn new(alloc: Global, found: Shared, at: usize) -> Result<Bucket, AllocError>
         ensures { IfOk result (λ b. b ≡ spot_of at found ∷ []) }
     {
         match u32::try_from(at) {
@@ -91,7 +91,7 @@ impl Bucket {
                 messages: Messages::One(at, found),
             }),
             // Never: a topic has at most 65,535 bytes.
-            Err(_) => Bucket::more(alloc, Leaves::of(alloc, found, at)?),
+            Err(_) => Bucket::more(alloc, Leaves::one(alloc, found, at)?),
         }
     }
 
@@ -117,7 +117,7 @@ impl Bucket {
         let Ok(found) = leaf.found.again() else {
             return;
         };
-        if let Ok(bucket) = Bucket::of(alloc, found, leaf.at) {
+        if let Ok(bucket) = Bucket::new(alloc, found, leaf.at) {
             *self = bucket;
         }
     }
@@ -141,7 +141,7 @@ impl Bucket {
         ensures { IfOk result (λ leaves. leaves ≡ self.now) }
     {
         match &self.messages {
-            Messages::One(at, found) => Leaves::of(alloc, found.again()?, *at as usize),
+            Messages::One(at, found) => Leaves::one(alloc, found.again()?, *at as usize),
             Messages::More(leaves) => leaves.copy(alloc),
         }
     }
@@ -179,7 +179,7 @@ impl Bucket {
         ensures refused { OnErr result (self.new ≡ self.old) }
     {
         if self.is_one_at(found.topic(), at) {
-            *self = Bucket::of(alloc, found, at)?;
+            *self = Bucket::new(alloc, found, at)?;
             return Ok(true);
         }
         if let Messages::More(leaves) = &mut self.messages {
@@ -260,7 +260,7 @@ impl Bucket {
                 if !leaf.rise(chain, level) {
                     return Ok(None);
                 }
-                let higher = Bucket::of(alloc, leaf.found, leaf.at)?;
+                let higher = Bucket::new(alloc, leaf.found, leaf.at)?;
                 Ok(Some(higher))
             }
             Messages::More(leaves) => match leaves.risen(alloc, chain, level)? {

@@ -78,7 +78,12 @@ fn part(level: &[u8], found: &Shared, at: usize) -> Result<Option<Label>, AllocE
 impl Label {
     /// The level of one message alone, which stands at a byte of its topic. If it is long, it is a part of that topic, and keeps the
     /// message in memory: so whoever takes the message away from below the level also renews the label.
-    pub fn of(alloc: Global, level: &[u8], found: &Shared, at: usize) -> Result<Label, AllocError>
+    pub fn from_topic(
+        alloc: Global,
+        level: &[u8],
+        found: &Shared,
+        at: usize,
+    ) -> Result<Label, AllocError>
         ensures { IfOk result (λ l. l ≡ level.now) }
     {
         if level.len() > SHORT {

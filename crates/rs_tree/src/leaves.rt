@@ -156,7 +156,7 @@ impl Leaves {
     }
 
     /// One message.
-    pub fn of(alloc: Global, found: Shared, at: usize) -> Result<Leaves, AllocError>
+    pub fn one(alloc: Global, found: Shared, at: usize) -> Result<Leaves, AllocError>
         ensures { IfOk result (λ b. b ≡ spot_of at found ∷ []) }
     {
         let mut leaves = Leaves::new(alloc);

@@ -71,7 +71,7 @@ impl Root {
         ensures told { IfOk result (λ was. was ≡ is_there (levels_from 0 found.topic) self.old) }
         ensures refused { OnErr result (self.new ≡ self.old) }
     {
-        let shared = Shared::of(found);
+        let shared = Shared::new(found);
         let done = Branch::set_in(&mut self.branch, alloc, shared, 0);
         self.fold(alloc);
         done

@@ -21,7 +21,7 @@ impl Model for Shared {
 }
 
 impl Shared {
-    pub fn of(found: Found) -> Shared
+    pub fn new(found: Found) -> Shared
         ensures { result ≡ found }
     {
         Shared { found }

@@ -37,7 +37,7 @@ fn lone(
     let None = level_at(topic, next) else {
         return Ok(None);
     };
-    let child = Child::of(alloc, level.again()?, found.again()?, at)?;
+    let child = Child::new(alloc, level.again()?, found.again()?, at)?;
     Ok(Some(child))
 }
 

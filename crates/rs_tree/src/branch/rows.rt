@@ -51,13 +51,13 @@ fn halves(alloc: Global, level: Label, children: &[Child]) -> Result<(Child, Chi
 
 impl Child {
     /// One message below a level.
-    pub fn of(alloc: Global, level: Label, found: Shared, at: usize) -> Result<Child, AllocError>
+    pub fn new(alloc: Global, level: Label, found: Shared, at: usize) -> Result<Child, AllocError>
         ensures level { IfOk result (λ c. c.level ≡ level) }
         ensures spots { IfOk result (λ c. c.spots ≡ under level (spot_of at found ∷ [])) }
     {
         Ok(Child {
             level,
-            below: Below::Few(Bucket::of(alloc, found, at)?),
+            below: Below::Few(Bucket::new(alloc, found, at)?),
         })
     }
 

@@ -49,7 +49,7 @@ fn renewed(
     ensures { IfOk result (λ l. l ≡ level.now) }
 {
     if bucket.is_one_at(found.topic(), next) {
-        return Label::of(alloc, level.as_slice(), found, at);
+        return Label::from_topic(alloc, level.as_slice(), found, at);
     }
     level.own(alloc)
 }
@@ -230,8 +230,8 @@ impl Branch {
         match index_of(self.children.as_slice(), level) {
             Ok(i) => self.children[i].hold(alloc, found, at, next),
             Err(i) => {
-                let label = Label::of(alloc, level, &found, at)?;
-                let child = Child::of(alloc, label, found, next)?;
+                let label = Label::from_topic(alloc, level, &found, at)?;
+                let child = Child::new(alloc, label, found, next)?;
                 insert_at(&mut self.children, i, child)?;
                 Ok(false)
             }
@@ -257,8 +257,8 @@ impl Branch {
                 done
             }
             Err(i) => {
-                let label = Label::of(alloc, level, &found, at)?;
-                let child = Child::of(alloc, label, found, next)?;
+                let label = Label::from_topic(alloc, level, &found, at)?;
+                let child = Child::new(alloc, label, found, next)?;
                 insert_at(&mut self.children, i, child)?;
                 Ok(false)
             }
