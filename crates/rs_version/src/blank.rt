@@ -160,10 +160,10 @@ impl Blank {
         };
         let writer = copy_writer(alloc, first, second, places)?;
         let mut writer = informed(&rt, writer)?;
-        let list: NamedList<N> = NamedList::of(prefix);
+        let list: NamedList<N> = NamedList::new(prefix);
         match seats(alloc, &mut writer, &list, places) {
             Ok(seats) => Ok((
-                VersionWriter::over(rt, writer, HistoryWord::of(word), list),
+                VersionWriter::over(rt, writer, HistoryWord::new(word), list),
                 seats,
             )),
             Err(_) => {

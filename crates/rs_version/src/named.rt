@@ -41,7 +41,7 @@ pub struct HistoryWord<N: StoreName> {
 
 impl<N: StoreName> HistoryWord<N> {
     /// Gives the word the name.
-    pub fn of(word: Word<Entry, u64, LengthRule>) -> HistoryWord<N>
+    pub fn new(word: Word<Entry, u64, LengthRule>) -> HistoryWord<N>
         requires { word ≡ word_of N.history }
     {
         HistoryWord {
@@ -72,7 +72,7 @@ impl<N: StoreName> Model for NamedList<N> {
 
 impl<N: StoreName> NamedList<N> {
     /// Gives a prefix the name.
-    pub fn of(prefix: Prefix) -> NamedList<N>
+    pub fn new(prefix: Prefix) -> NamedList<N>
         requires { (prefix.history ≡ N.history) × IsLegal N.limit prefix.log }
         ensures { result ≡ prefix.log }
     {

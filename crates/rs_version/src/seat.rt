@@ -65,7 +65,7 @@ fn take_from<N: StoreName>(
     ensures legal { IfOk result (λ r. IsLegal N.limit r.0) }
     ensures stands { IfOk result (λ r. Stands (content_of r.1) r.0) }
 {
-    let list: NamedList<N> = NamedList::of(published.prefix.again());
+    let list: NamedList<N> = NamedList::new(published.prefix.again());
     // Never: a publish is no shorter than what was published before. The rule of the published copy says so of what was read,
     // and not of what was learned from a token.
     if !list.reaches(known) {

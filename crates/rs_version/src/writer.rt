@@ -271,7 +271,7 @@ impl<N: StoreName, R: Wait + Drop> VersionWriter<N, R> {
         ensures legal { IsLegal N.limit self.now.published }
     {
         Told {
-            list: NamedList::of(self.copies.published()),
+            list: NamedList::new(self.copies.published()),
         }
     }
 

@@ -5,5 +5,5 @@ use Rattle.rs_version.proofs.blank.Blank.open.Goals as goal
 pub copy_writer-requires-clause-sound : goal.copy_writer-requires-clause-sound
 copy_writer-requires-clause-sound g c = rw (c.self.invariant.0, ap (λ b. b.log) c.again.ensures ∙ c.self.inside.new_history.empty) (stands_empty c.self.inside.limit)
 
-pub of-list-requires : goal.of-list-requires
-of-list-requires g c = (ap (λ v. v.history) c.self.view_is ∙ c.requires.0, rw c.self.inside.new_history.empty (stands_empty g.N.StoreName.limit).legal)
+pub new-list-requires : goal.new-list-requires
+new-list-requires g c = (ap (λ v. v.history) c.self.view_is ∙ c.requires.0, rw c.self.inside.new_history.empty (stands_empty g.N.StoreName.limit).legal)
