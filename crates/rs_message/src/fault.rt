@@ -8,7 +8,7 @@ use thiserror::Error;
 /// Why a gate to the store gave no receipt for a change. If memory was refused, the Sweep that the change needs may have been made all the same.
 #[derive(Clone, Copy, Debug, PartialEq, Eq, Error)]
 pub enum SubmitFault {
-    /// 40: the change was not made: one more topic would hold a message than the limit allows, and no Sweep makes room; or the store has
+    /// 40: the change was not made: one more topic would hold a message than the limit allows, and no Sweep makes space; or the store has
     /// no number left; or the place has used its last serial.
     #[error("the store holds as many topics as it may, or has no number left; clear a topic or raise the limit")]
     Full = 40,

@@ -3,7 +3,7 @@ use Rattle.std.specs.Prelude.{◌≡◌, ◌+◌, ◌-◌, ◌^◌, ◌⊎◌, s
 use Rattle.rs_message.specs.declared.entry.Entry.{Entry}
 use Rattle.rs_message.specs.declared.entry.Operation.{Operation}
 use Rattle.rs_store.specs.declared.content.Content.{Content}
-use Rattle.rs_store.specs.Contents.{HasRoom, NeedsSweep, swept}
+use Rattle.rs_store.specs.Contents.{HasSpace, NeedsSweep, swept}
 use Rattle.rs_message.specs.declared.fault.SubmitFault.{SubmitFault}
 use Rattle.rs_message.specs.declared.fault.SubmitFault.TheVariants.{Full, NoMemory, Open, Strange, Closed}
 use Rattle.rs_session.specs.declared.local.LocalGate.{LocalGate}
@@ -22,7 +22,7 @@ next_entry c operation = record { origin = record { place = 1; serial = slice_in
 
 -- no serial is left, or the store has no room for the entry, nor would a Sweep make any
 abbrev pub IsFull : Content → Operation → Type 0
-IsFull c operation = (slice_index c.serials 1 ≡ 2 ^ 64 - 1) ⊎ ((HasRoom c (next_entry c operation) → ⊥) × (NeedsSweep c (next_entry c operation) → ⊥))
+IsFull c operation = (slice_index c.serials 1 ≡ 2 ^ 64 - 1) ⊎ ((HasSpace c (next_entry c operation) → ⊥) × (NeedsSweep c (next_entry c operation) → ⊥))
 
 -- what a refused submit leaves: what was there, or the Sweep that was to make room if memory was refused after it
 abbrev pub IsLeft : Content → Operation → SubmitFault → Content → Type 0

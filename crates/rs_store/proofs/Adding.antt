@@ -1,4 +1,4 @@
--- When a Sweep makes room for a Set, of a content and of the lists that it stands for.
+-- When a Sweep makes space for a Set, of a content and of the lists that it stands for.
 use Rattle.rs_store.proofs.Expiring.{all_counted}
 use Rattle.std.proofs.Common.{⊎_elim, ◌≡◌, ◌≢◌, ◌==◌, ℕ, ◌+◌, ◌<◌, ◌≤◌, ◌⊎◌, inl, inr, Bool, true, false, List, [], ◌∷◌, ◌++◌, length, refl, sym, ap, subst, ◌∙◌, arith, get_or, set}
 use Rattle.std.specs.Prelude.{slice_index, ◌^◌, Some, None, nat_lt, if◌then◌else◌}
@@ -13,7 +13,7 @@ use Rattle.rs_message.specs.Messages.{set_of}
 use Rattle.rs_message.specs.Values.{MessageValue}
 use Rattle.rs_message.specs.declared.entry.Entry.{Entry}
 use Rattle.rs_message.specs.declared.entry.TheConstants.{MAX_PLACES}
-use Rattle.rs_store.specs.Contents.{Accepts, HasRoom, IsAdded, IsNew, IsNotNext, NeedsSweep, NotAddedBy, after, expired_in, followed, is_gone, next_sweep, serial_count, stays, swept}
+use Rattle.rs_store.specs.Contents.{Accepts, HasSpace, IsAdded, IsNew, IsNotNext, NeedsSweep, NotAddedBy, after, expired_in, followed, is_gone, next_sweep, serial_count, stays, swept}
 use Rattle.rs_store.specs.History.{IsLegal, MayNotCome, NeedsSweepAfter, Stands, cleaned, extended, sweep_after}
 use Rattle.rs_store.specs.Adding.{Adds, NotAdds}
 use Rattle.rs_store.specs.declared.content.Content.{Content}
@@ -21,7 +21,7 @@ use Rattle.rs_store.specs.declared.fault.Refusal.{Refusal}
 use Rattle.rs_store.specs.declared.fault.Refusal.TheVariants.{Full, Stale, NoMemory}
 use Rattle.rs_store.proofs.Maps.{filter_few}
 use Rattle.rs_store.proofs.Histories.{holds_few, legal_front, never_overfull_more, same_set}
-use Rattle.rs_store.proofs.Standing.{accepts, at_most, has_room, held_more, keeps_at_most, legal_more, new_rises, rising_is_new, stands_more}
+use Rattle.rs_store.proofs.Standing.{accepts, at_most, has_space, held_more, keeps_at_most, legal_more, new_rises, rising_is_new, stands_more}
 use Rattle.std.proofs.lemmas.Bool.{cases_lt}
 use Rattle.std.proofs.lemmas.Bool.Decides.{nat_tests}
 
@@ -44,19 +44,19 @@ all_stay moment (e ∷ es) none = at (is_gone moment e) refl (all_stay moment es
     at true is more = absurd (let n : length (e ∷ filter (is_gone moment) es) ≡ 0 = rw is at none in omega (arith, n))
     at false is more = let n : length (filter (is_gone moment) es) ≡ 0 = rw is at none in rw is (ap (λ w. e ∷ w) (more n))
 
--- without an expired message no Sweep makes room
+-- without an expired message no Sweep makes space
 pub not_without : (c : Content) (e : Entry) (topic : List ℕ) (message : MessageValue) → e.operation ≡ set_of topic message → expired_in message.received c ≡ 0 → NeedsSweep c e → ⊥
 not_without c e topic message is none s =
     let same : set_of s.topic s.message ≡ set_of topic message = sym s.sets ∙ is in
     let one : s.message ≡ message = (same_set s.topic topic s.message message same).1 in
     let stay : filter (stays s.message.received) c.held ≡ c.held = all_stay s.message.received c.held (rw one none) in
-    let room : length (after (filter (stays s.message.received) c.held) e.operation) ≤ c.limit = s.fits.1.0 in
-    omega (arith, s.full, rw stay at room)
+    let space : length (after (filter (stays s.message.received) c.held) e.operation) ≤ c.limit = s.fits.1.0 in
+    omega (arith, s.full, rw stay at space)
 
--- with one, a Sweep makes room
-room_made : (c : Content) (e : Entry) (topic : List ℕ) (message : MessageValue) → length c.serials ≡ serial_count → e.operation ≡ set_of topic message → IsNew c e → ¬ HasRoom c e → length c.held ≤ c.limit → 0 < expired_in message.received c
+-- with one, a Sweep makes space
+space_made : (c : Content) (e : Entry) (topic : List ℕ) (message : MessageValue) → length c.serials ≡ serial_count → e.operation ≡ set_of topic message → IsNew c e → ¬ HasSpace c e → length c.held ≤ c.limit → 0 < expired_in message.received c
     → c.version + 2 < 2 ^ 64 → slice_index c.serials 0 + 1 < 2 ^ 64 → (e.origin.place ≡ 0 → slice_index c.serials 0 + 1 < e.origin.serial) → NeedsSweep c e
-room_made c e topic message wide is new full few some version serial above = record {
+space_made c e topic message wide is new full few some version serial above = record {
   topic = topic;
   message = message;
   sets = is;
@@ -79,10 +79,10 @@ room_made c e topic message wide is new full few some version serial above = rec
         let other : e.origin.place ≢ 0 = λ p. grind (arith, nat_tests) in
         rw (get_or-set_other c.serials 0 e.origin.place (slice_index c.serials 0 + 1) 0 other) new
 
-pub makes_room : (c : Content) (e : Entry) (topic : List ℕ) (message : MessageValue) → length c.serials ≡ serial_count → e.operation ≡ set_of topic message → IsNew c e → ¬ HasRoom c e → length c.held ≤ c.limit → 0 < expired_in message.received c
+pub makes_space : (c : Content) (e : Entry) (topic : List ℕ) (message : MessageValue) → length c.serials ≡ serial_count → e.operation ≡ set_of topic message → IsNew c e → ¬ HasSpace c e → length c.held ≤ c.limit → 0 < expired_in message.received c
     → c.version + 2 < 2 ^ 64 → slice_index c.serials 0 + 1 < 2 ^ 64 → (e.origin.place ≡ 0 → slice_index c.serials 0 + 1 < e.origin.serial) → (s : NeedsSweep c e) × (s.message ≡ message)
-unfolding room_made
-makes_room c e topic message wide is new full few some version serial above = (room_made c e topic message wide is new full few some version serial above, refl)
+unfolding space_made
+makes_space c e topic message wide is new full few some version serial above = (space_made c e topic message wide is new full few some version serial above, refl)
 
 -- nor does one whose serial is not below that of the Set, if that is the writer's too
 pub not_above : (c : Content) (e : Entry) → length c.serials ≡ serial_count → e.origin.place ≡ 0 → e.origin.serial ≤ slice_index c.serials 0 + 1 → NeedsSweep c e → ⊥
@@ -145,7 +145,7 @@ precedes c history e sweep s small p = (swept_for c history e s small p.0, p.1 �
 
 pub may_not_come : (c : Content) (history : List Entry) (e : Entry) (r : Refusal) → Stands c history → 0 < e.origin.serial → IsNotNext c e r → MayNotCome c.limit history e r
 may_not_come c history e Stale s some n = λ rises. n (rising_is_new c history e s some rises)
-may_not_come c history e Full s some n = (new_rises c history e s n.0.0, λ room. n.0.1 (has_room c history e s room), λ w. n.1 (swept_back c history e s some w))
+may_not_come c history e Full s some n = (new_rises c history e s n.0.0, λ space. n.0.1 (has_space c history e s space), λ w. n.1 (swept_back c history e s some w))
 may_not_come c history e NoMemory s some n = absurd n
 
 -- ---- what `add` makes of a content, and of its lists

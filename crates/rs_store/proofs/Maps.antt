@@ -58,17 +58,17 @@ le_true m n h = grind (arith, nat_tests)
 le_false : (m n : ℕ) → n < m → nat_le m n ≡ false
 le_false m n h = grind (arith, nat_tests)
 
-pub room_if_few : (held : Held) (k : List ℕ) (v : MessageValue) (limit : ℕ) → IsStrictlySortedBy topic_cmp (keys_of held) → length held < limit → nat_le (length (insert_entry topic_cmp held k v)) limit ≡ true
-room_if_few held k v limit sorted few = le_true (length (insert_entry topic_cmp held k v)) limit (omega (arith, few, inserted held k v (lookup (is_at (topic_cmp k)) held) refl sorted))
+pub space_if_few : (held : Held) (k : List ℕ) (v : MessageValue) (limit : ℕ) → IsStrictlySortedBy topic_cmp (keys_of held) → length held < limit → nat_le (length (insert_entry topic_cmp held k v)) limit ≡ true
+space_if_few held k v limit sorted few = le_true (length (insert_entry topic_cmp held k v)) limit (omega (arith, few, inserted held k v (lookup (is_at (topic_cmp k)) held) refl sorted))
 
-pub room_if_there : (held : Held) (k : List ℕ) (v : MessageValue) (limit : ℕ) → IsStrictlySortedBy topic_cmp (keys_of held) → length held ≤ limit → is_some (lookup (is_at (topic_cmp k)) held) ≡ true → nat_le (length (insert_entry topic_cmp held k v)) limit ≡ true
-room_if_there held k v limit sorted fits there = le_true (length (insert_entry topic_cmp held k v)) limit (omega (arith, fits, insert_old held k v (lookup (is_at (topic_cmp k)) held) refl sorted there))
+pub space_if_there : (held : Held) (k : List ℕ) (v : MessageValue) (limit : ℕ) → IsStrictlySortedBy topic_cmp (keys_of held) → length held ≤ limit → is_some (lookup (is_at (topic_cmp k)) held) ≡ true → nat_le (length (insert_entry topic_cmp held k v)) limit ≡ true
+space_if_there held k v limit sorted fits there = le_true (length (insert_entry topic_cmp held k v)) limit (omega (arith, fits, insert_old held k v (lookup (is_at (topic_cmp k)) held) refl sorted there))
 
-pub no_room : (held : Held) (k : List ℕ) (v : MessageValue) (limit : ℕ) → IsStrictlySortedBy topic_cmp (keys_of held) → limit ≤ length held → is_some (lookup (is_at (topic_cmp k)) held) ≡ false → nat_le (length (insert_entry topic_cmp held k v)) limit ≡ false
-no_room held k v limit sorted full new = le_false (length (insert_entry topic_cmp held k v)) limit (omega (arith, full, insert_new held k v (lookup (is_at (topic_cmp k)) held) refl sorted new))
+pub no_space : (held : Held) (k : List ℕ) (v : MessageValue) (limit : ℕ) → IsStrictlySortedBy topic_cmp (keys_of held) → limit ≤ length held → is_some (lookup (is_at (topic_cmp k)) held) ≡ false → nat_le (length (insert_entry topic_cmp held k v)) limit ≡ false
+no_space held k v limit sorted full new = le_false (length (insert_entry topic_cmp held k v)) limit (omega (arith, full, insert_new held k v (lookup (is_at (topic_cmp k)) held) refl sorted new))
 
-pub room_after_clear : (test : List ℕ → Bool) (held : Held) (limit : ℕ) → length held ≤ limit → nat_le (length (remove_entry test held)) limit ≡ true
-room_after_clear test held limit fits = le_true (length (remove_entry test held)) limit (omega (arith, fits, remove_le test held))
+pub space_after_clear : (test : List ℕ → Bool) (held : Held) (limit : ℕ) → length held ≤ limit → nat_le (length (remove_entry test held)) limit ≡ true
+space_after_clear test held limit fits = le_true (length (remove_entry test held)) limit (omega (arith, fits, remove_le test held))
 
 pub filter_few : {A : Type 0} (p : A → Bool) (xs : List A) → length (filter p xs) ≤ length xs
 filter_few p [] = omega arith
@@ -78,8 +78,8 @@ filter_few p (x ∷ xs) = at (p x) (filter_few p xs)
     at true few = omega (arith, few)
     at false few = omega (arith, few)
 
-pub room_after_sweep : (p : List ℕ × MessageValue → Bool) (held : Held) (limit : ℕ) → length held ≤ limit → nat_le (length (filter p held)) limit ≡ true
-room_after_sweep p held limit fits = le_true (length (filter p held)) limit (omega (arith, fits, filter_few p held))
+pub space_after_sweep : (p : List ℕ × MessageValue → Bool) (held : Held) (limit : ℕ) → length held ≤ limit → nat_le (length (filter p held)) limit ≡ true
+space_after_sweep p held limit fits = le_true (length (filter p held)) limit (omega (arith, fits, filter_few p held))
 
 -- ---- a removal
 

@@ -5,7 +5,7 @@ use Rattle.rs_store.specs.History.{IsLegal, MayNotCome, NeedsSweepAfter, cleaned
 use Rattle.rs_store.specs.declared.fault.Refusal.{Refusal}
 use Rattle.rs_store.specs.declared.fault.Refusal.TheVariants.{Full, Stale, NoMemory}
 
--- the entry follows, after a Sweep if that makes room for it; P holds of the list then
+-- the entry follows, after a Sweep if that makes space for it; P holds of the list then
 abbrev pub Adds : ℕ → List Entry → Entry → (List Entry → Type 0) → Type 0
 Adds limit history e P = (IsLegal limit (extended history e) × P (extended history e)) ⊎ ((s : NeedsSweepAfter limit history e) × P (extended (cleaned s.message.received history) e))
 

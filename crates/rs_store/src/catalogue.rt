@@ -82,7 +82,7 @@ pub trait Catalogue {
         ensures { IfOk result (λ c. content c ≡ content self.now) };
 }
 
-/// The Sweep after which a Set that is one topic too many finds room, or `None`.
+/// The Sweep after which a Set that is one topic too many finds space, or `None`.
 fn sweep_for<C: Catalogue>(catalogue: &C, calm: &mut Calm, entry: &Entry) -> Option<Entry>
     requires full { RefusedBy (C.content catalogue.now) entry.now Full }
     requires calm { NoneExpiredBefore calm.old (C.content catalogue.now) }
@@ -118,7 +118,7 @@ fn sweep_for<C: Catalogue>(catalogue: &C, calm: &mut Calm, entry: &Entry) -> Opt
 }
 
 /// Whether an entry may come next: `Ok(None)` if it may, and `Ok` with a Sweep if it may come after this Sweep and not without it.
-/// That is so for a Set that is one topic too many, if a Sweep of the moment at which its message came leaves room for it. Else it is
+/// That is so for a Set that is one topic too many, if a Sweep of the moment at which its message came leaves space for it. Else it is
 /// refused as by [`Catalogue::accepts`]. Allocates nothing.
 ///
 /// No message is looked at before the calm moment. It is found anew if a Set that is one topic too many finds nothing expired.
@@ -165,7 +165,11 @@ fn append<C: Catalogue>(catalogue: &mut C, calm: &mut Calm, entry: Entry) -> Res
 }
 
 /// Appends the Sweep that comes before an entry, if there is one.
-fn make_room<C: Catalogue>(catalogue: &mut C, calm: &mut Calm, entry: &Entry) -> Result<(), Refusal>
+fn make_space<C: Catalogue>(
+    catalogue: &mut C,
+    calm: &mut Calm,
+    entry: &Entry,
+) -> Result<(), Refusal>
     requires { NoneExpiredBefore calm.old (C.content catalogue.old) }
     ensures done { OnOk result ((Accepts (C.content catalogue.old) entry.now × (C.content catalogue.new ≡ C.content catalogue.old))
         ⊎ ((s : NeedsSweep (C.content catalogue.old) entry.now) × (C.content catalogue.new ≡ swept s.message.received (C.content catalogue.old)))) }
@@ -197,7 +201,7 @@ pub fn add<C: Catalogue>(catalogue: &mut C, calm: &mut Calm, entry: Entry) -> Re
 {
     // For the proof: these calls say which places and serials an origin may have.
     let (_place, _serial) = (entry.origin.place(), entry.origin.serial());
-    if let Err(refusal) = make_room(catalogue, calm, &entry) {
+    if let Err(refusal) = make_space(catalogue, calm, &entry) {
         return Err(refusal);
     }
     match append(catalogue, calm, entry) {

@@ -76,8 +76,8 @@ fn change(held: &mut BTreeMap<TopicName, Message>, operation: Operation) -> Resu
 }
 
 /// At most `limit` topics hold a message after the operation.
-#[tactic(auto, using(crate::proofs::Maps::room_if_few, crate::proofs::Maps::room_if_there, crate::proofs::Maps::no_room, crate::proofs::Maps::room_after_clear, crate::proofs::Maps::room_after_sweep))]
-fn has_room(held: &BTreeMap<TopicName, Message>, limit: TopicLimit, operation: &Operation) -> bool
+#[tactic(auto, using(crate::proofs::Maps::space_if_few, crate::proofs::Maps::space_if_there, crate::proofs::Maps::no_space, crate::proofs::Maps::space_after_clear, crate::proofs::Maps::space_after_sweep))]
+fn has_space(held: &BTreeMap<TopicName, Message>, limit: TopicLimit, operation: &Operation) -> bool
     requires { length held.now.entries ≤ limit }
     ensures { result ≡ nat_le (length (after held.now.entries operation.now)) limit }
 {
@@ -194,7 +194,7 @@ impl Catalogue for MapCatalogue {
         if !self.ledger.has_number() {
             return Err(Refusal::Full);
         }
-        if !has_room(&self.held, self.ledger.limit(), &entry.operation) {
+        if !has_space(&self.held, self.ledger.limit(), &entry.operation) {
             return Err(Refusal::Full);
         }
         Ok(())

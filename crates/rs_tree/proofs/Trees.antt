@@ -28,7 +28,7 @@ use Rattle.rs_topic.specs.Rests.{levels_from}
 use Rattle.rs_tree.specs.Spots.{Spot, ArePlaced, pair_of, pairs, is_there}
 use Rattle.std.specs.Prelude.{nat_le}
 use Rattle.rs_store.proofs.Entries.{sorted_none, sorted_insert, sorted_remove, sorted_filter}
-use Rattle.rs_store.proofs.Maps.{filter_few, insert_old, insert_new, no_room, remove_there, remove_absent, room_if_few, room_if_there, room_after_clear, room_after_sweep}
+use Rattle.rs_store.proofs.Maps.{filter_few, insert_old, insert_new, no_space, remove_there, remove_absent, space_if_few, space_if_there, space_after_clear, space_after_sweep}
 
 -- ---- a Set
 
@@ -144,16 +144,16 @@ pub empty_tree : (root : List Spot) (limit : ℕ) → root ≡ [] → IsTree roo
 empty_tree root limit h = rw h (record { placed = tt; sorted = sorted_none topic_cmp; counted = refl; fits = omega arith })
 
 -- a Set where there may be one more topic
-pub room_below : (root : List Spot) (t : List ℕ) (m : MessageValue) (count limit : ℕ) → IsTree root count limit → count < limit → true ≡ nat_le (length (insert_entry topic_cmp (pairs root) t m)) limit
-room_below root t m count limit tree few = sym (room_if_few (pairs root) t m limit tree.sorted (omega (arith, tree.counted, few)))
+pub space_below : (root : List Spot) (t : List ℕ) (m : MessageValue) (count limit : ℕ) → IsTree root count limit → count < limit → true ≡ nat_le (length (insert_entry topic_cmp (pairs root) t m)) limit
+space_below root t m count limit tree few = sym (space_if_few (pairs root) t m limit tree.sorted (omega (arith, tree.counted, few)))
 
 -- a Set where there may not; r is what `holds` answered
-pub room_held : (root : List Spot) (t : List ℕ) (m : MessageValue) (r : Bool) (count limit : ℕ) → IsTree root count limit → limit ≤ count → r ≡ is_there (levels_from 0 t) root → r ≡ nat_le (length (insert_entry topic_cmp (pairs root) t m)) limit
-room_held root t m true count limit tree full is = sym (room_if_there (pairs root) t m limit tree.sorted (omega (arith, tree.counted, tree.fits)) (sym (is ∙ there_pairs root (levels_from 0 t) t tree.placed (from_start t))))
-room_held root t m false count limit tree full is = sym (no_room (pairs root) t m limit tree.sorted (omega (arith, tree.counted, full)) (sym (is ∙ there_pairs root (levels_from 0 t) t tree.placed (from_start t))))
+pub space_held : (root : List Spot) (t : List ℕ) (m : MessageValue) (r : Bool) (count limit : ℕ) → IsTree root count limit → limit ≤ count → r ≡ is_there (levels_from 0 t) root → r ≡ nat_le (length (insert_entry topic_cmp (pairs root) t m)) limit
+space_held root t m true count limit tree full is = sym (space_if_there (pairs root) t m limit tree.sorted (omega (arith, tree.counted, tree.fits)) (sym (is ∙ there_pairs root (levels_from 0 t) t tree.placed (from_start t))))
+space_held root t m false count limit tree full is = sym (no_space (pairs root) t m limit tree.sorted (omega (arith, tree.counted, full)) (sym (is ∙ there_pairs root (levels_from 0 t) t tree.placed (from_start t))))
 
-pub room_cleared : (root : List Spot) (t : List ℕ) (count limit : ℕ) → IsTree root count limit → true ≡ nat_le (length (remove_entry (is_at (topic_cmp t)) (pairs root))) limit
-room_cleared root t count limit tree = sym (room_after_clear (is_at (topic_cmp t)) (pairs root) limit (omega (arith, tree.counted, tree.fits)))
+pub space_cleared : (root : List Spot) (t : List ℕ) (count limit : ℕ) → IsTree root count limit → true ≡ nat_le (length (remove_entry (is_at (topic_cmp t)) (pairs root))) limit
+space_cleared root t count limit tree = sym (space_after_clear (is_at (topic_cmp t)) (pairs root) limit (omega (arith, tree.counted, tree.fits)))
 
 -- ---- a Sweep
 
@@ -181,8 +181,8 @@ placed_swept moment (s ∷ ss) a = at (spot_stays moment s) refl (placed_swept m
     at true is more = rw is (a.0, more)
     at false is more = rw is more
 
-pub room_swept : (root : List Spot) (moment count limit : ℕ) → IsTree root count limit → true ≡ nat_le (length (filter (stays moment) (pairs root))) limit
-room_swept root moment count limit t = sym (room_after_sweep (stays moment) (pairs root) limit (omega (arith, t.counted, t.fits)))
+pub space_swept : (root : List Spot) (moment count limit : ℕ) → IsTree root count limit → true ≡ nat_le (length (filter (stays moment) (pairs root))) limit
+space_swept root moment count limit t = sym (space_after_sweep (stays moment) (pairs root) limit (omega (arith, t.counted, t.fits)))
 
 -- how many are left, as the call that counts them says it
 pub left_counted : (moment : ℕ) (ss new : List Spot) (n : ℕ) → length (pairs ss) ≤ MAX_TOPICS → new ≡ filter (spot_stays moment) ss → (length new ≤ MAX_TOPICS → n ≡ length new) → n ≡ length (filter (stays moment) (pairs ss))

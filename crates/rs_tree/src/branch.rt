@@ -213,7 +213,7 @@ fn first_behind(children: &[Child], level: &[u8]) -> usize
 fn index_of(children: &[Child], level: &[u8]) -> Result<usize, usize>
     ensures found { MatchResult result (λ i. IsIn level.now children.now i) (λ i. IsGap level.now children.now i) }
     ensures within { IfOk result (λ i. i < length children.now) }
-    ensures room { IfErr result (λ i. i ≤ length children.now) }
+    ensures up_to { IfErr result (λ i. i ≤ length children.now) }
 {
     let i = first_behind(children, level);
     if i == 0 {

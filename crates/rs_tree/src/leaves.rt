@@ -56,7 +56,7 @@ impl Model for Leaves {
 fn index_of(leaves: &[Leaf], topic: &[u8], at: usize) -> Result<usize, usize>
     ensures found { MatchResult result (λ i. IsHere (levels_from at topic.now) leaves.now i) (λ i. IsGap (levels_from at topic.now) leaves.now i) }
     ensures within { IfOk result (λ i. i < length leaves.now) }
-    ensures room { IfErr result (λ i. i ≤ length leaves.now) }
+    ensures up_to { IfErr result (λ i. i ≤ length leaves.now) }
 {
     for i in 0..leaves.len() {
         match leaves[i].compared(topic, at) {

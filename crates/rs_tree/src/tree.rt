@@ -152,8 +152,8 @@ fn change(
 }
 
 /// At most `limit` topics hold a message after the operation.
-#[tactic(auto, using(crate::proofs::Trees::room_below, crate::proofs::Trees::room_cleared, crate::proofs::Trees::room_swept))]
-fn has_room(root: &Root, count: u32, limit: TopicLimit, operation: &Operation) -> bool
+#[tactic(auto, using(crate::proofs::Trees::space_below, crate::proofs::Trees::space_cleared, crate::proofs::Trees::space_swept))]
+fn has_space(root: &Root, count: u32, limit: TopicLimit, operation: &Operation) -> bool
     requires { IsTree root.now count limit }
     ensures { result ≡ nat_le (length (after (pairs root.now) operation.now)) limit }
 {
@@ -220,7 +220,7 @@ impl Catalogue for TreeCatalogue {
         if !self.ledger.has_number() {
             return Err(Refusal::Full);
         }
-        if !has_room(
+        if !has_space(
             &self.root,
             self.count,
             self.ledger.limit(),

@@ -1,7 +1,7 @@
 //! Versions of the store: one writer publishes them, and seats read them without waiting.
 //!
 //! The history of a store is the list of its entries. It exists only in proofs. [`VersionWriter::put`] adds one entry to it
-//! and publishes the list with that entry, a version. If only a Sweep makes room for the entry, the Sweep is added and published
+//! and publishes the list with that entry, a version. If only a Sweep makes space for the entry, the Sweep is added and published
 //! first. [`Seat::answer`] answers from a version whose list has the list that the seat knows as a prefix. A token ([`Told`])
 //! names a published list; a seat that learned it ([`Seat::learn`]) never reads less from then on. A [`Receipt`] says at which
 //! number of the list an entry is. A type that implements [`StoreName`] ties the writer, the seats and the tokens of one store

@@ -70,7 +70,7 @@ impl Prefix {
     /// The prefix with one more entry, which it adds to the history. `None` if the history is longer than this prefix.
     pub fn followed(&self, word: &Word<Entry, u64, LengthRule>, entry: &Entry) -> Option<Prefix>
         requires word { word.now ≡ word_of self.now.history }
-        requires room { length self.now.log + 1 < 2 ^ 64 }
+        requires countable { length self.now.log + 1 < 2 ^ 64 }
         ensures { IfSome result (λ f. (f.history ≡ self.now.history) × (f.log ≡ extended self.now.log entry.now)) }
     {
         let mut seen = self.seen.again();

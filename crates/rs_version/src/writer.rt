@@ -186,7 +186,7 @@ impl<N: StoreName, R: Wait + Drop> VersionWriter<N, R> {
     }
 
     /// Publishes what is held, and the Sweep that comes before the entry, if there is one.
-    fn make_room(&mut self, entry: &Entry) -> Result<(), PutFault>
+    fn make_space(&mut self, entry: &Entry) -> Result<(), PutFault>
         ensures ready { OnOk result (IsReady N.limit self.old entry.now self.new) }
         ensures refused { IfErr result (λ f. Refuses N.limit self.old entry.now f self.new) }
     {
@@ -231,7 +231,7 @@ impl<N: StoreName, R: Wait + Drop> VersionWriter<N, R> {
         ensures legal { OnOk result (IsLegal N.limit self.new.published) }
         ensures refused { IfErr result (λ f. Refuses N.limit self.old entry f self.new) }
     {
-        if let Err(fault) = self.make_room(&entry) {
+        if let Err(fault) = self.make_space(&entry) {
             return Err(fault);
         }
         match self.append(entry) {

@@ -3,7 +3,7 @@ use Rattle.std.specs.Prelude.{slice_index}
 use Rattle.rs_message.specs.Values.{MessageValue, OriginValue}
 use Rattle.rs_message.specs.declared.entry.Operation.TheVariants.{Sweep}
 use Rattle.rs_store.specs.Contents.{expired_in}
-use Rattle.rs_store.proofs.Adding.{makes_room, named, not_above, not_without}
+use Rattle.rs_store.proofs.Adding.{makes_space, named, not_above, not_without}
 use Rattle.rs_store.proofs.catalogue.sweep_for.Goals as goal
 use Rattle.rs_store.proofs.catalogue.sweep_for.Goals.{else-place-eq0-via-then-place-eq0+else-serial, else-place-eq0-via-else-place-eq0}
 
@@ -31,7 +31,7 @@ returns-clause-some g c =
       | else-place-eq0-via-then-place-eq0+else-serial w ↦ omega (arith, w.if-serial.false, w.serial.ensures.value, last)
       | else-place-eq0-via-else-place-eq0 w ↦ absurd (w.if-place-eq0.false (c.place.ensures.value ∙ zero))
     ] in
-    let made = makes_room content c.args.entry.now c.in-Set.found.topic c.in-Set.found.message c.last_serial-last.ensures.wide c.in-Set.is c.requires.full.0 c.requires.full.1
+    let made = makes_space content c.args.entry.now c.in-Set.found.topic c.in-Set.found.message c.last_serial-last.ensures.wide c.in-Set.is c.requires.full.0 c.requires.full.1
     (omega (arith, c.count-count.ensures.value, c.count-count.ensures.few)) some (omega (arith, c.if-version.false, c.version.ensures)) (omega (arith, c.if-last.false, last)) above in
     let first : OriginValue = record { place = 0; serial = c.last_serial-last.result + 1 } in
     let next : OriginValue = record { place = 0; serial = slice_index content.serials 0 + 1 } in

@@ -70,7 +70,7 @@ returns-in_ok-insert_at-in-Err-clause-done c =
     let es = c.self.inside.children.items in
     let e : levels_from c.args.at c.args.found.topic ≡ c.in-Some.level.now ∷ levels_from c.in-Some.next c.args.found.topic = rw c.topic.ensures at c.in-Some.ensures.more in
     let here : IsGap c.in-Some.level.now es c.in-Err.i = rw c.as_slice.ensures.value at c.in-Err.ensures.found in
-    let small : c.in-Err.i ≤ length es = rw c.as_slice.ensures.value at c.in-Err.ensures.room in
+    let small : c.in-Err.i ≤ length es = rw c.as_slice.ensures.value at c.in-Err.ensures.up_to in
     let spots : c.in_ok-child-in-Err.child.spots ≡ (c.in-Some.level.now ∷ levels_from c.in-Some.next c.args.found.topic, c.args.found) ∷ [] = c.in_ok-child-in-Err.ensures.spots ∙ ap (λ (k : List _). under k (spot_of c.in-Some.next c.args.found ∷ [])) c.in_ok-label-in-Err.ensures in
     rw (e, ← c.self.view_is, c.in_ok-insert_at-in-Err.ensures.done) (grown_gap c.self.inside.held es c.self.invariant c.in-Some.level.now (levels_from c.in-Some.next c.args.found.topic) c.args.found c.in-Err.i c.in_ok-child-in-Err.child small here spots)
 

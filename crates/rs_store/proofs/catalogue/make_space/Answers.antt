@@ -3,7 +3,7 @@ use Rattle.std.specs.Prelude.{Option}
 use Rattle.rs_message.specs.declared.entry.Entry.{Entry}
 use Rattle.rs_store.specs.Contents.{Accepts}
 use Rattle.rs_store.proofs.Adding.{Precedes, precedes_ready}
-use Rattle.rs_store.proofs.catalogue.make_room.Goals as goal
+use Rattle.rs_store.proofs.catalogue.make_space.Goals as goal
 
 pub returns-in-Ok-clause-done : goal.returns-in-Ok-clause-done
 returns-in-Ok-clause-done g c =

@@ -4,7 +4,7 @@ use Rattle.rs_message.specs.declared.entry.Entry.{Entry}
 use Rattle.rs_store.specs.History.{IsLegal, extended}
 use Rattle.rs_version.specs.Writer.{Declines, Precedes, Written}
 use Rattle.rs_version.proofs.WriterState.{declines_refuses, precedes_legal, swept_ready, swept_refuses}
-use Rattle.rs_version.proofs.writer.VersionWriter.make_room.Goals as goal
+use Rattle.rs_version.proofs.writer.VersionWriter.make_space.Goals as goal
 
 pub put_sweep-requires-clause-legal : goal.put_sweep-requires-clause-legal
 put_sweep-requires-clause-legal g c =
