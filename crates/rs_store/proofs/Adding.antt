@@ -21,12 +21,12 @@ use Rattle.rs_store.specs.declared.fault.Refusal.{Refusal}
 use Rattle.rs_store.specs.declared.fault.Refusal.TheVariants.{Full, Stale, NoMemory}
 use Rattle.rs_store.proofs.Maps.{filter_few}
 use Rattle.rs_store.proofs.Histories.{holds_few, legal_front, never_overfull_more, same_set}
-use Rattle.rs_store.proofs.Standing.{accepts, at_most, has_space, held_more, keeps_at_most, legal_more, new_rises, rising_is_new, stands_more}
+use Rattle.rs_store.proofs.Standing.{accepts, at_most, has_space, retained_more, keeps_at_most, legal_more, new_rises, rising_is_new, stands_more}
 use Rattle.std.proofs.lemmas.Bool.{cases_lt}
 use Rattle.std.proofs.lemmas.Bool.Decides.{nat_tests}
 
 -- an insertion adds at most one
-pub insert_few : (held : List (List ℕ × MessageValue)) (t : List ℕ) (m : MessageValue) → length (insert_entry topic_cmp held t m) ≤ length held + 1
+pub insert_few : (retained : List (List ℕ × MessageValue)) (t : List ℕ) (m : MessageValue) → length (insert_entry topic_cmp retained t m) ≤ length retained + 1
 insert_few [] t m = omega arith
 insert_few (e ∷ es) t m = at (topic_cmp t e.0) (insert_few es t m)
   where
@@ -36,7 +36,7 @@ insert_few (e ∷ es) t m = at (topic_cmp t e.0) (insert_few es t m)
     at Greater few = omega (arith, few)
 
 -- if nothing is expired, all stay
-pub all_stay : (moment : ℕ) (held : List (List ℕ × MessageValue)) → length (filter (is_gone moment) held) ≡ 0 → filter (stays moment) held ≡ held
+pub all_stay : (moment : ℕ) (retained : List (List ℕ × MessageValue)) → length (filter (is_gone moment) retained) ≡ 0 → filter (stays moment) retained ≡ retained
 all_stay moment [] none = refl
 all_stay moment (e ∷ es) none = at (is_gone moment e) refl (all_stay moment es)
   where
@@ -49,12 +49,12 @@ pub not_without : (c : Content) (e : Entry) (topic : List ℕ) (message : Messag
 not_without c e topic message is none s =
     let same : set_of s.topic s.message ≡ set_of topic message = sym s.sets ∙ is in
     let one : s.message ≡ message = (same_set s.topic topic s.message message same).1 in
-    let stay : filter (stays s.message.received) c.held ≡ c.held = all_stay s.message.received c.held (rw one none) in
-    let space : length (after (filter (stays s.message.received) c.held) e.operation) ≤ c.limit = s.fits.1.0 in
+    let stay : filter (stays s.message.received) c.retained ≡ c.retained = all_stay s.message.received c.retained (rw one none) in
+    let space : length (after (filter (stays s.message.received) c.retained) e.operation) ≤ c.limit = s.fits.1.0 in
     omega (arith, s.full, rw stay at space)
 
 -- with one, a Sweep makes space
-space_made : (c : Content) (e : Entry) (topic : List ℕ) (message : MessageValue) → length c.serials ≡ serial_count → e.operation ≡ set_of topic message → IsNew c e → ¬ HasSpace c e → length c.held ≤ c.limit → 0 < expired_in message.received c
+space_made : (c : Content) (e : Entry) (topic : List ℕ) (message : MessageValue) → length c.serials ≡ serial_count → e.operation ≡ set_of topic message → IsNew c e → ¬ HasSpace c e → length c.retained ≤ c.limit → 0 < expired_in message.received c
     → c.version + 2 < 2 ^ 64 → slice_index c.serials 0 + 1 < 2 ^ 64 → (e.origin.place ≡ 0 → slice_index c.serials 0 + 1 < e.origin.serial) → NeedsSweep c e
 space_made c e topic message wide is new full few some version serial above = record {
   topic = topic;
@@ -63,12 +63,12 @@ space_made c e topic message wide is new full few some version serial above = re
   new = new;
   full = overfull;
   serial = serial;
-  sweeps = (omega arith, (omega (arith, few, filter_few (stays message.received) c.held), omega (arith, version)));
-  fits = (newer (e.origin.place == 0) refl, (rw is (omega (arith, few, some, all_counted message.received c.held, insert_few (filter (stays message.received) c.held) topic message)), omega (arith, version)));
+  sweeps = (omega arith, (omega (arith, few, filter_few (stays message.received) c.retained), omega (arith, version)));
+  fits = (newer (e.origin.place == 0) refl, (rw is (omega (arith, few, some, all_counted message.received c.retained, insert_few (filter (stays message.received) c.retained) topic message)), omega (arith, version)));
 }
   where
-    overfull : c.limit < length (after c.held e.operation)
-    overfull = ⊎_elim (λ h. h) (λ h. absurd (full (h, omega (arith, version)))) (cases_lt c.limit (length (after c.held e.operation)))
+    overfull : c.limit < length (after c.retained e.operation)
+    overfull = ⊎_elim (λ h. h) (λ h. absurd (full (h, omega (arith, version)))) (cases_lt c.limit (length (after c.retained e.operation)))
 
     newer : (b : Bool) → (e.origin.place == 0) ≡ b → get_or (set c.serials 0 (slice_index c.serials 0 + 1)) e.origin.place 0 < e.origin.serial
     newer true same =
@@ -79,7 +79,7 @@ space_made c e topic message wide is new full few some version serial above = re
         let other : e.origin.place ≢ 0 = λ p. grind (arith, nat_tests) in
         rw (get_or-set_other c.serials 0 e.origin.place (slice_index c.serials 0 + 1) 0 other) new
 
-pub makes_space : (c : Content) (e : Entry) (topic : List ℕ) (message : MessageValue) → length c.serials ≡ serial_count → e.operation ≡ set_of topic message → IsNew c e → ¬ HasSpace c e → length c.held ≤ c.limit → 0 < expired_in message.received c
+pub makes_space : (c : Content) (e : Entry) (topic : List ℕ) (message : MessageValue) → length c.serials ≡ serial_count → e.operation ≡ set_of topic message → IsNew c e → ¬ HasSpace c e → length c.retained ≤ c.limit → 0 < expired_in message.received c
     → c.version + 2 < 2 ^ 64 → slice_index c.serials 0 + 1 < 2 ^ 64 → (e.origin.place ≡ 0 → slice_index c.serials 0 + 1 < e.origin.serial) → (s : NeedsSweep c e) × (s.message ≡ message)
 unfolding space_made
 makes_space c e topic message wide is new full few some version serial above = (space_made c e topic message wide is new full few some version serial above, refl)
@@ -105,7 +105,7 @@ swept_for c history e stands small s = record {
   message = s.message;
   sets = s.sets;
   rises = new_rises c history e stands s.new;
-  overfull = λ fits. omega (arith, s.full, keeps_at_most (history ++ e ∷ []) (after c.held e.operation) c.limit (held_more history e c.held stands.held) (holds_few c.limit (history ++ e ∷ []) fits));
+  overfull = λ fits. omega (arith, s.full, keeps_at_most (history ++ e ∷ []) (after c.retained e.operation) c.limit (retained_more history e c.retained stands.retained) (holds_few c.limit (history ++ e ∷ []) fits));
   serial = rw (← stands.serials 0) s.serial;
   legal = legal_more (swept s.message.received c) (cleaned s.message.received history) e (stands_swept c history s.message.received stands s.sweeps) s.fits;
 }
@@ -119,7 +119,7 @@ swept_back c history e stands some s =
       message = s.message;
       sets = s.sets;
       new = rising_is_new c history e stands some s.rises;
-      full = ⊎_elim (λ h. h) (λ h. absurd (s.overfull (never_overfull_more c.limit history e stands.legal.fits (at_most (history ++ e ∷ []) (after c.held e.operation) c.limit (held_more history e c.held stands.held) h)))) (cases_lt c.limit (length (after c.held e.operation)));
+      full = ⊎_elim (λ h. h) (λ h. absurd (s.overfull (never_overfull_more c.limit history e stands.legal.fits (at_most (history ++ e ∷ []) (after c.retained e.operation) c.limit (retained_more history e c.retained stands.retained) h)))) (cases_lt c.limit (length (after c.retained e.operation)));
       serial = rw (stands.serials 0) s.serial;
       sweeps = sweeps;
       fits = accepts (swept s.message.received c) (cleaned s.message.received history) e (stands_swept c history s.message.received stands sweeps) some s.legal;

@@ -85,7 +85,7 @@ pub some_gone : (until : ℕ) (es : List (List ℕ × MessageValue)) → until �
 some_gone until es is small = rw is (some_at (2 ^ 64 - 1) es (omega arith) (omega (arith, is, small)))
 
 -- those that stay and those that do not are all
-pub all_counted : (moment : ℕ) (held : List (List ℕ × MessageValue)) → length (filter (stays moment) held) + length (filter (is_gone moment) held) ≡ length held
+pub all_counted : (moment : ℕ) (retained : List (List ℕ × MessageValue)) → length (filter (stays moment) retained) + length (filter (is_gone moment) retained) ≡ length retained
 all_counted moment [] = refl
 all_counted moment (e ∷ es) = at (is_gone moment e) refl (all_counted moment es)
   where
@@ -132,10 +132,10 @@ none_swept now test (e ∷ es) none = at (test e) refl (split now e es none) (no
 
 -- the moment is lowered to the end of a message that is set
 pub calm_after_set : (x y : ℕ) (topic : List ℕ) (m : MessageValue) (e : Entry) → y ≡ min x (ends_at m) → e.operation ≡ set_of topic m → (c : Content) → NoneExpiredBefore x c → NoneExpiredBefore y (followed c e)
-calm_after_set x y topic m e is sets c calm now small = rw sets (none_set now topic m c.held (fresh m.expiry m.received now y (omega (arith, is)) small) (calm now (omega (arith, is, small))))
+calm_after_set x y topic m e is sets c calm now small = rw sets (none_set now topic m c.retained (fresh m.expiry m.received now y (omega (arith, is)) small) (calm now (omega (arith, is, small))))
 
 pub calm_after_clear : (x : ℕ) (topic : List ℕ) (e : Entry) → e.operation ≡ Clear topic → (c : Content) → NoneExpiredBefore x c → NoneExpiredBefore x (followed c e)
-calm_after_clear x topic e clears c calm now small = rw clears (none_clear now (is_at (topic_cmp topic)) c.held (calm now small))
+calm_after_clear x topic e clears c calm now small = rw clears (none_clear now (is_at (topic_cmp topic)) c.retained (calm now small))
 
 pub calm_after_sweep : (x moment : ℕ) (e : Entry) → e.operation ≡ Sweep moment → (c : Content) → NoneExpiredBefore x c → NoneExpiredBefore x (followed c e)
-calm_after_sweep x moment e sweeps c calm now small = rw sweeps (none_swept now (stays moment) c.held (calm now small))
+calm_after_sweep x moment e sweeps c calm now small = rw sweeps (none_swept now (stays moment) c.retained (calm now small))

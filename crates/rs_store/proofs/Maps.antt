@@ -19,8 +19,8 @@ use Rattle.rs_topic.specs.TopicOrder.{topic_total}
 use Rattle.rs_message.specs.Values.{MessageValue}
 use Rattle.rs_store.proofs.Entries.{Among, behind}
 
-abbrev Held : Type 0
-Held = List (List ℕ × MessageValue)
+abbrev Retained : Type 0
+Retained = List (List ℕ × MessageValue)
 
 abbrev one : MessageValue → ℕ
 one m = 1
@@ -29,26 +29,26 @@ ones : (xs : List MessageValue) (n : ℕ) → fold (λ a (x : MessageValue). a +
 ones [] n = omega arith
 ones (x ∷ xs) n = omega (arith, ones xs (n + 1))
 
-many : (held : Held) → sum_by one (values_of held) ≡ length held
-many held = ones (values_of held) 0 ∙ (omega arith ∙ length-map held (λ (e : List ℕ × MessageValue). e.1))
+many : (retained : Retained) → sum_by one (values_of retained) ≡ length retained
+many retained = ones (values_of retained) 0 ∙ (omega arith ∙ length-map retained (λ (e : List ℕ × MessageValue). e.1))
 
-inserted : (held : Held) (k : List ℕ) (v : MessageValue) (o : Option MessageValue) → o ≡ lookup (is_at (topic_cmp k)) held → IsStrictlySortedBy topic_cmp (keys_of held)
-    → length (insert_entry topic_cmp held k v) + unwrap_or (option_map one o) 0 ≡ length held + 1
-inserted held k v o is sorted =
-    let P : Option MessageValue → Type 0 = λ w. sum_by one (values_of (insert_entry topic_cmp held k v)) + unwrap_or (option_map one w) 0 ≡ sum_by one (values_of held) + 1 in
-    let h : P o = subst P (sym is) (sum_by-insert_entry one topic_total held k v sorted) in
-    omega (arith, many held, many (insert_entry topic_cmp held k v), h)
+inserted : (retained : Retained) (k : List ℕ) (v : MessageValue) (o : Option MessageValue) → o ≡ lookup (is_at (topic_cmp k)) retained → IsStrictlySortedBy topic_cmp (keys_of retained)
+    → length (insert_entry topic_cmp retained k v) + unwrap_or (option_map one o) 0 ≡ length retained + 1
+inserted retained k v o is sorted =
+    let P : Option MessageValue → Type 0 = λ w. sum_by one (values_of (insert_entry topic_cmp retained k v)) + unwrap_or (option_map one w) 0 ≡ sum_by one (values_of retained) + 1 in
+    let h : P o = subst P (sym is) (sum_by-insert_entry one topic_total retained k v sorted) in
+    omega (arith, many retained, many (insert_entry topic_cmp retained k v), h)
 
-pub insert_old : (held : Held) (k : List ℕ) (v : MessageValue) (o : Option MessageValue) → o ≡ lookup (is_at (topic_cmp k)) held → IsStrictlySortedBy topic_cmp (keys_of held) → is_some o ≡ true → length (insert_entry topic_cmp held k v) ≡ length held
-insert_old held k v (Some x) is sorted there = omega (arith, inserted held k v (Some x) is sorted)
-insert_old held k v None is sorted there = absurd (cc (there))
+pub insert_old : (retained : Retained) (k : List ℕ) (v : MessageValue) (o : Option MessageValue) → o ≡ lookup (is_at (topic_cmp k)) retained → IsStrictlySortedBy topic_cmp (keys_of retained) → is_some o ≡ true → length (insert_entry topic_cmp retained k v) ≡ length retained
+insert_old retained k v (Some x) is sorted there = omega (arith, inserted retained k v (Some x) is sorted)
+insert_old retained k v None is sorted there = absurd (cc (there))
 
-pub insert_new : (held : Held) (k : List ℕ) (v : MessageValue) (o : Option MessageValue) → o ≡ lookup (is_at (topic_cmp k)) held → IsStrictlySortedBy topic_cmp (keys_of held) → is_some o ≡ false → length (insert_entry topic_cmp held k v) ≡ length held + 1
-insert_new held k v (Some x) is sorted there = absurd (cc (there))
-insert_new held k v None is sorted there = omega (arith, inserted held k v None is sorted)
+pub insert_new : (retained : Retained) (k : List ℕ) (v : MessageValue) (o : Option MessageValue) → o ≡ lookup (is_at (topic_cmp k)) retained → IsStrictlySortedBy topic_cmp (keys_of retained) → is_some o ≡ false → length (insert_entry topic_cmp retained k v) ≡ length retained + 1
+insert_new retained k v (Some x) is sorted there = absurd (cc (there))
+insert_new retained k v None is sorted there = omega (arith, inserted retained k v None is sorted)
 
-pub remove_le : (test : List ℕ → Bool) (held : Held) → length (remove_entry test held) ≤ length held
-remove_le test held = omega (arith, many held, many (remove_entry test held), sum_by-remove_entry one test held)
+pub remove_le : (test : List ℕ → Bool) (retained : Retained) → length (remove_entry test retained) ≤ length retained
+remove_le test retained = omega (arith, many retained, many (remove_entry test retained), sum_by-remove_entry one test retained)
 
 -- ---- as tests
 
@@ -58,17 +58,17 @@ le_true m n h = grind (arith, nat_tests)
 le_false : (m n : ℕ) → n < m → nat_le m n ≡ false
 le_false m n h = grind (arith, nat_tests)
 
-pub space_if_few : (held : Held) (k : List ℕ) (v : MessageValue) (limit : ℕ) → IsStrictlySortedBy topic_cmp (keys_of held) → length held < limit → nat_le (length (insert_entry topic_cmp held k v)) limit ≡ true
-space_if_few held k v limit sorted few = le_true (length (insert_entry topic_cmp held k v)) limit (omega (arith, few, inserted held k v (lookup (is_at (topic_cmp k)) held) refl sorted))
+pub space_if_few : (retained : Retained) (k : List ℕ) (v : MessageValue) (limit : ℕ) → IsStrictlySortedBy topic_cmp (keys_of retained) → length retained < limit → nat_le (length (insert_entry topic_cmp retained k v)) limit ≡ true
+space_if_few retained k v limit sorted few = le_true (length (insert_entry topic_cmp retained k v)) limit (omega (arith, few, inserted retained k v (lookup (is_at (topic_cmp k)) retained) refl sorted))
 
-pub space_if_there : (held : Held) (k : List ℕ) (v : MessageValue) (limit : ℕ) → IsStrictlySortedBy topic_cmp (keys_of held) → length held ≤ limit → is_some (lookup (is_at (topic_cmp k)) held) ≡ true → nat_le (length (insert_entry topic_cmp held k v)) limit ≡ true
-space_if_there held k v limit sorted fits there = le_true (length (insert_entry topic_cmp held k v)) limit (omega (arith, fits, insert_old held k v (lookup (is_at (topic_cmp k)) held) refl sorted there))
+pub space_if_there : (retained : Retained) (k : List ℕ) (v : MessageValue) (limit : ℕ) → IsStrictlySortedBy topic_cmp (keys_of retained) → length retained ≤ limit → is_some (lookup (is_at (topic_cmp k)) retained) ≡ true → nat_le (length (insert_entry topic_cmp retained k v)) limit ≡ true
+space_if_there retained k v limit sorted fits there = le_true (length (insert_entry topic_cmp retained k v)) limit (omega (arith, fits, insert_old retained k v (lookup (is_at (topic_cmp k)) retained) refl sorted there))
 
-pub no_space : (held : Held) (k : List ℕ) (v : MessageValue) (limit : ℕ) → IsStrictlySortedBy topic_cmp (keys_of held) → limit ≤ length held → is_some (lookup (is_at (topic_cmp k)) held) ≡ false → nat_le (length (insert_entry topic_cmp held k v)) limit ≡ false
-no_space held k v limit sorted full new = le_false (length (insert_entry topic_cmp held k v)) limit (omega (arith, full, insert_new held k v (lookup (is_at (topic_cmp k)) held) refl sorted new))
+pub no_space : (retained : Retained) (k : List ℕ) (v : MessageValue) (limit : ℕ) → IsStrictlySortedBy topic_cmp (keys_of retained) → limit ≤ length retained → is_some (lookup (is_at (topic_cmp k)) retained) ≡ false → nat_le (length (insert_entry topic_cmp retained k v)) limit ≡ false
+no_space retained k v limit sorted full new = le_false (length (insert_entry topic_cmp retained k v)) limit (omega (arith, full, insert_new retained k v (lookup (is_at (topic_cmp k)) retained) refl sorted new))
 
-pub space_after_clear : (test : List ℕ → Bool) (held : Held) (limit : ℕ) → length held ≤ limit → nat_le (length (remove_entry test held)) limit ≡ true
-space_after_clear test held limit fits = le_true (length (remove_entry test held)) limit (omega (arith, fits, remove_le test held))
+pub space_after_clear : (test : List ℕ → Bool) (retained : Retained) (limit : ℕ) → length retained ≤ limit → nat_le (length (remove_entry test retained)) limit ≡ true
+space_after_clear test retained limit fits = le_true (length (remove_entry test retained)) limit (omega (arith, fits, remove_le test retained))
 
 pub filter_few : {A : Type 0} (p : A → Bool) (xs : List A) → length (filter p xs) ≤ length xs
 filter_few p [] = omega arith
@@ -78,12 +78,12 @@ filter_few p (x ∷ xs) = at (p x) (filter_few p xs)
     at true few = omega (arith, few)
     at false few = omega (arith, few)
 
-pub space_after_sweep : (p : List ℕ × MessageValue → Bool) (held : Held) (limit : ℕ) → length held ≤ limit → nat_le (length (filter p held)) limit ≡ true
-space_after_sweep p held limit fits = le_true (length (filter p held)) limit (omega (arith, fits, filter_few p held))
+pub space_after_sweep : (p : List ℕ × MessageValue → Bool) (retained : Retained) (limit : ℕ) → length retained ≤ limit → nat_le (length (filter p retained)) limit ≡ true
+space_after_sweep p retained limit fits = le_true (length (filter p retained)) limit (omega (arith, fits, filter_few p retained))
 
 -- ---- a removal
 
-pub remove_there : (test : List ℕ → Bool) (held : Held) → is_some (lookup test held) ≡ true → length (remove_entry test held) + 1 ≡ length held
+pub remove_there : (test : List ℕ → Bool) (retained : Retained) → is_some (lookup test retained) ≡ true → length (remove_entry test retained) + 1 ≡ length retained
 remove_there test [] h = absurd (cc (h))
 remove_there test (e ∷ es) h = at (test e.0) refl h (λ k. remove_there test es k)
   where
@@ -91,7 +91,7 @@ remove_there test (e ∷ es) h = at (test e.0) refl h (λ k. remove_there test e
     at true is k more = rw is (omega arith)
     at false is k more = let m : length (remove_entry test es) + 1 ≡ length es = more (rw is at k) in rw is (omega arith)
 
-pub remove_absent : {K X : Type 0} (test : K → Bool) (held : List (K × X)) → is_some (lookup test held) ≡ false → remove_entry test held ≡ held
+pub remove_absent : {K X : Type 0} (test : K → Bool) (retained : List (K × X)) → is_some (lookup test retained) ≡ false → remove_entry test retained ≡ retained
 remove_absent test [] h = refl
 remove_absent {K = K} {X = X} test (e ∷ es) h = at (test e.0) refl h (λ k. remove_absent test es k)
   where
@@ -101,7 +101,7 @@ remove_absent {K = K} {X = X} test (e ∷ es) h = at (test e.0) refl h (λ k. re
 
 -- ---- an insertion behind all others
 
-pub insert_last : {K X : Type 0} (R : K → K → Ordering) → IsTotalOrder R → (held rest : List (K × X)) (k : K) (v : X) → IsStrictlySortedBy R (keys_of (held ++ (k, v) ∷ rest)) → insert_entry R held k v ≡ held ++ (k, v) ∷ []
+pub insert_last : {K X : Type 0} (R : K → K → Ordering) → IsTotalOrder R → (retained rest : List (K × X)) (k : K) (v : X) → IsStrictlySortedBy R (keys_of (retained ++ (k, v) ∷ rest)) → insert_entry R retained k v ≡ retained ++ (k, v) ∷ []
 insert_last R total [] rest k v sorted = refl
 insert_last {K = K} {X = X} R total (e ∷ es) rest k v sorted =
     let below : R e.0 k ≡ Less = behind R e (es ++ (k, v) ∷ rest) k v sorted (there es) in
@@ -120,7 +120,7 @@ insert_last {K = K} {X = X} R total (e ∷ es) rest k v sorted =
     at o is more = rw is (ap (λ (w : List (K × X)). e ∷ w) more)
 
 -- what was copied, and what is left to copy
-pub insert_next : {K X : Type 0} (R : K → K → Ordering) → IsTotalOrder R → (held rest whole : List (K × X)) (k : K) (v : X) → held ++ (k, v) ∷ rest ≡ whole → IsStrictlySortedBy R (keys_of whole) → insert_entry R held k v ++ rest ≡ whole
-insert_next {K = K} {X = X} R total held rest whole k v is sorted =
+pub insert_next : {K X : Type 0} (R : K → K → Ordering) → IsTotalOrder R → (retained rest whole : List (K × X)) (k : K) (v : X) → retained ++ (k, v) ∷ rest ≡ whole → IsStrictlySortedBy R (keys_of whole) → insert_entry R retained k v ++ rest ≡ whole
+insert_next {K = K} {X = X} R total retained rest whole k v is sorted =
     let P : List (K × X) → Type 0 = λ w. IsStrictlySortedBy R (keys_of w) in
-    ap (λ w. w ++ rest) (insert_last R total held rest k v (subst P (sym is) sorted)) ∙ (append_assoc held ((k, v) ∷ []) rest ∙ is)
+    ap (λ w. w ++ rest) (insert_last R total retained rest k v (subst P (sym is) sorted)) ∙ (append_assoc retained ((k, v) ∷ []) rest ∙ is)

@@ -25,7 +25,7 @@ fewer p (e ∷ es) = at (p e) (fewer p es)
     at true more = omega (arith, more)
     at false more = omega (arith, more)
 
--- there is room for an answer if there is room for all messages that are held
+-- there is room for an answer if there is room for all messages that are retained
 pub always_fits : (room : ℕ) (pattern : List ℕ) (now : ℕ) (es : List (List ℕ × MessageValue)) → length es ≤ room → None ≡ if_fits room (map found_of (filter (is_answered pattern now) es)) → ⊥
 always_fits room pattern now es few e =
     let short : length (map found_of (filter (is_answered pattern now) es)) ≤ room = omega (arith, few, fewer (is_answered pattern now) es, length-map (filter (is_answered pattern now) es) found_of) in

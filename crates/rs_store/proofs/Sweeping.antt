@@ -1,4 +1,4 @@
--- A Sweep against what is held and answered.
+-- A Sweep against what is retained and answered.
 use Rattle.std.proofs.Common.{◌≡◌, ℕ, ◌≤◌, ⊎_elim, Bool, true, false, Option, Some, None, List, refl, sym, subst, ◌∙◌, arith}
 use Rattle.std.specs.Prelude.{◌↔◌, nat_le}
 use Rattle.std.proofs.lemmas.Bool.Decides.{nat_tests}
@@ -9,7 +9,7 @@ use Rattle.rs_message.specs.declared.entry.Found.{Found}
 use Rattle.rs_message.specs.declared.entry.Operation.{Operation}
 use Rattle.rs_message.specs.declared.entry.Operation.TheVariants.{Sweep}
 use Rattle.rs_store.specs.History.{Ends, Holds, IsAnswer, extended}
-use Rattle.rs_store.proofs.Histories.{held_before, held_still}
+use Rattle.rs_store.proofs.Histories.{retained_before, retained_still}
 
 -- what is expired stays so
 over_later : (expiry : Option ℕ) (a b : ℕ) → a ≤ b → is_over (left_of expiry a) ≡ true → is_over (left_of expiry b) ≡ true
@@ -28,10 +28,10 @@ holds_before : (history : List Entry) (e : Entry) (moment : ℕ) (topic : List �
 holds_before history e moment topic message is h = ⊎_elim
     (λ t. absurd (let same : Sweep moment ≡ set_of topic message = sym is ∙ t in cc (same)))
     (λ t. t.0)
-    (held_before history e topic message h)
+    (retained_before history e topic message h)
 
 holds_after : (history : List Entry) (e : Entry) (moment now : ℕ) (topic : List ℕ) (message : MessageValue) → e.operation ≡ Sweep moment → moment ≤ now → is_expired now message ≡ false → Holds history topic message → Holds (extended history e) topic message
-holds_after history e moment now topic message is later fresh h = held_still history e topic message h
+holds_after history e moment now topic message is later fresh h = retained_still history e topic message h
     (λ ends.
     let over : is_expired now message ≡ true = expired_later message moment now later (let P : Operation → Type 0 = λ o. Ends o topic message in subst P is ends) in
     cc (over, fresh))

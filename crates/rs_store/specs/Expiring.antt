@@ -12,11 +12,11 @@ ends_of (Some expiry) received = if nat_eq expiry 0 then 0 else min (received + 
 abbrev pub ends_at : MessageValue → ℕ
 ends_at m = ends_of m.expiry m.received
 
--- the same of the messages that are held
+-- the same of the messages that are retained
 abbrev pub first_end : ℕ → List (List ℕ × MessageValue) → ℕ
 first_end bound [] = bound
 first_end bound (e ∷ es) = first_end (min bound (ends_at e.1)) es
 
--- at each moment before this one, no held message is expired
+-- at each moment before this one, no retained message is expired
 abbrev pub NoneExpiredBefore : ℕ → Content → Type 0
 NoneExpiredBefore moment c = (now : ℕ) → now < moment → expired_in now c ≡ 0

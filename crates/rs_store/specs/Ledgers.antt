@@ -20,4 +20,4 @@ counted l origin = record { limit = l.limit; serials = slice_set l.serials origi
 
 -- the content of these messages and this ledger
 abbrev pub content_of : List (List ℕ × MessageValue) → LedgerValue → Content
-content_of held l = record { limit = l.limit; held = held; serials = l.serials; version = l.version }
+content_of retained l = record { limit = l.limit; retained = retained; serials = l.serials; version = l.version }

@@ -64,7 +64,7 @@ pub trait Catalogue {
 
     /// The number of topics that hold a message, at most the limit.
     fn count(&self) -> u32
-        ensures value { result ≡ length (content self.now).held }
+        ensures value { result ≡ length (content self.now).retained }
         ensures few { result ≤ (content self.now).limit };
 
     /// The number of topics whose message is expired at a moment, in seconds.

@@ -30,46 +30,49 @@ use std::collections::BTreeMap;
 #[derive(Drop)]
 pub struct MapCatalogue {
     alloc: Global,
-    held: BTreeMap<TopicName, Message>,
+    retained: BTreeMap<TopicName, Message>,
     ledger: Ledger,
-    ghost fits: { length held.entries ≤ ledger.limit },
+    ghost fits: { length retained.entries ≤ ledger.limit },
 }
 
 /// Removes the messages that are expired.
-fn sweep(held: &mut BTreeMap<TopicName, Message>, moment: u64)
-    ensures { held.new.entries ≡ filter_list (stays moment) held.old.entries }
+fn sweep(retained: &mut BTreeMap<TopicName, Message>, moment: u64)
+    ensures { retained.new.entries ≡ filter_list (stays moment) retained.old.entries }
 {
-    held.retain(|_, message| !is_expired(message, moment));
+    retained.retain(|_, message| !is_expired(message, moment));
 }
 
 /// Sets the message of a topic. If memory is refused, nothing changes.
 fn set(
-    held: &mut BTreeMap<TopicName, Message>,
+    retained: &mut BTreeMap<TopicName, Message>,
     topic: TopicName,
     message: Message,
 ) -> Result<(), AllocError>
-    ensures done { OnOk result (held.new.entries ≡ insert_entry topic_cmp held.old.entries topic message) }
-    ensures refused { OnErr result (held.new.entries ≡ held.old.entries) }
+    ensures done { OnOk result (retained.new.entries ≡ insert_entry topic_cmp retained.old.entries topic message) }
+    ensures refused { OnErr result (retained.new.entries ≡ retained.old.entries) }
 {
-    match held.insert(topic, message) {
+    match retained.insert(topic, message) {
         Ok(_) => Ok(()),
         Err(_) => Err(AllocError),
     }
 }
 
 /// Sets or clears one topic, or removes what is expired. If memory is refused, nothing changes.
-fn change(held: &mut BTreeMap<TopicName, Message>, operation: Operation) -> Result<(), AllocError>
-    ensures done { OnOk result (held.new.entries ≡ after held.old.entries operation) }
-    ensures refused { OnErr result (held.new.entries ≡ held.old.entries) }
+fn change(
+    retained: &mut BTreeMap<TopicName, Message>,
+    operation: Operation,
+) -> Result<(), AllocError>
+    ensures done { OnOk result (retained.new.entries ≡ after retained.old.entries operation) }
+    ensures refused { OnErr result (retained.new.entries ≡ retained.old.entries) }
 {
     match operation {
-        Operation::Set(found) => set(held, found.topic().copy()?, found.message().copy()?),
+        Operation::Set(found) => set(retained, found.topic().copy()?, found.message().copy()?),
         Operation::Clear(topic) => {
-            held.remove(&topic);
+            retained.remove(&topic);
             Ok(())
         }
         Operation::Sweep(moment) => {
-            sweep(held, moment);
+            sweep(retained, moment);
             Ok(())
         }
     }
@@ -77,13 +80,17 @@ fn change(held: &mut BTreeMap<TopicName, Message>, operation: Operation) -> Resu
 
 /// At most `limit` topics hold a message after the operation.
 #[tactic(auto, using(crate::proofs::Maps::space_if_few, crate::proofs::Maps::space_if_there, crate::proofs::Maps::no_space, crate::proofs::Maps::space_after_clear, crate::proofs::Maps::space_after_sweep))]
-fn has_space(held: &BTreeMap<TopicName, Message>, limit: TopicLimit, operation: &Operation) -> bool
-    requires { length held.now.entries ≤ limit }
-    ensures { result ≡ nat_le (length (after held.now.entries operation.now)) limit }
+fn has_space(
+    retained: &BTreeMap<TopicName, Message>,
+    limit: TopicLimit,
+    operation: &Operation,
+) -> bool
+    requires { length retained.now.entries ≤ limit }
+    ensures { result ≡ nat_le (length (after retained.now.entries operation.now)) limit }
 {
     match operation {
         Operation::Set(found) => {
-            held.len() < limit.get() as usize || held.contains_key(found.topic())
+            retained.len() < limit.get() as usize || retained.contains_key(found.topic())
         }
         Operation::Clear(_) => true,
         Operation::Sweep(_) => true,
@@ -91,12 +98,12 @@ fn has_space(held: &BTreeMap<TopicName, Message>, limit: TopicLimit, operation: 
 }
 
 /// How many of the messages are expired.
-fn count_expired(held: &BTreeMap<TopicName, Message>, now: u64) -> u32
-    requires { length held.now.entries ≤ MAX_TOPICS }
-    ensures { result ≡ length (filter_list (is_gone now) held.now.entries) }
+fn count_expired(retained: &BTreeMap<TopicName, Message>, now: u64) -> u32
+    requires { length retained.now.entries ≤ MAX_TOPICS }
+    ensures { result ≡ length (filter_list (is_gone now) retained.now.entries) }
 {
     let mut count = 0;
-    for (_, message) in held {
+    for (_, message) in retained {
         if is_expired(message, now) {
             count += 1;
         }
@@ -105,11 +112,11 @@ fn count_expired(held: &BTreeMap<TopicName, Message>, now: u64) -> u32
 }
 
 /// The first moment at which a message is expired, or the greatest number if there is none.
-fn earliest_of(held: &BTreeMap<TopicName, Message>) -> u64
-    ensures { result ≡ first_end (2 ^ 64 - 1) held.now.entries }
+fn earliest_of(retained: &BTreeMap<TopicName, Message>) -> u64
+    ensures { result ≡ first_end (2 ^ 64 - 1) retained.now.entries }
 {
     let mut least = u64::MAX;
-    for (_, message) in held {
+    for (_, message) in retained {
         least = lowered(least, message);
     }
     least
@@ -124,16 +131,16 @@ fn does_match(filter: &TopicFilter, topic: &TopicName) -> bool
 /// Appends the messages that answer the filter, each in a block of its own, which shares the bytes.
 fn answer_all(
     alloc: Global,
-    held: &BTreeMap<TopicName, Message>,
+    retained: &BTreeMap<TopicName, Message>,
     filter: &TopicFilter,
     now: u64,
     answer: &mut Answer,
 ) -> Result<(), Stop>
-    ensures done { OnOk result (answer.new.found.items ≡ answer.old.found.items ++ map found_of (filter_list (is_answered filter.now now) held.now.entries)) }
-    ensures stop { IfErr result (λ stop. IsStop stop answer.old.room (answer.old.found.items ++ map found_of (filter_list (is_answered filter.now now) held.now.entries))) }
+    ensures done { OnOk result (answer.new.found.items ≡ answer.old.found.items ++ map found_of (filter_list (is_answered filter.now now) retained.now.entries)) }
+    ensures stop { IfErr result (λ stop. IsStop stop answer.old.room (answer.old.found.items ++ map found_of (filter_list (is_answered filter.now now) retained.now.entries))) }
     ensures room { answer.new.room ≡ answer.old.room }
 {
-    for (topic, message) in held {
+    for (topic, message) in retained {
         if does_match(filter, topic) && !is_expired(message, now) {
             let found = Found::new(alloc, topic.copy()?, message.copy()?)?;
             answer.push(&found)?;
@@ -145,15 +152,15 @@ fn answer_all(
 /// Copies of the messages that answer the filter, if they are at most `room`.
 fn answers(
     alloc: Global,
-    held: &BTreeMap<TopicName, Message>,
+    retained: &BTreeMap<TopicName, Message>,
     filter: &TopicFilter,
     now: u64,
     room: usize,
 ) -> Result<Option<Vec<Found>>, AllocError>
-    ensures { IfOk result (λ answer. option_map (λ found. found.items) answer ≡ if_fits room (map found_of (filter_list (is_answered filter.now now) held.now.entries))) }
+    ensures { IfOk result (λ answer. option_map (λ found. found.items) answer ≡ if_fits room (map found_of (filter_list (is_answered filter.now now) retained.now.entries))) }
 {
     let mut answer = Answer::new(alloc, room);
-    match answer_all(alloc, held, filter, now, &mut answer) {
+    match answer_all(alloc, retained, filter, now, &mut answer) {
         Ok(()) => Ok(Some(answer.into_found())),
         Err(Stop::Full) => Ok(None),
         Err(Stop::NoMemory) => Err(AllocError),
@@ -163,12 +170,12 @@ fn answers(
 /// An equal map, which shares the bytes.
 fn copy_of(
     alloc: Global,
-    held: &BTreeMap<TopicName, Message>,
+    retained: &BTreeMap<TopicName, Message>,
 ) -> Result<BTreeMap<TopicName, Message>, AllocError>
-    ensures { IfOk result (λ copy. copy.entries ≡ held.now.entries) }
+    ensures { IfOk result (λ copy. copy.entries ≡ retained.now.entries) }
 {
     let mut copy = BTreeMap::new(alloc);
-    for (topic, message) in held {
+    for (topic, message) in retained {
         set(&mut copy, topic.copy()?, message.copy()?)?;
     }
     Ok(copy)
@@ -182,7 +189,7 @@ impl Catalogue for MapCatalogue {
     fn new(alloc: Global, limit: TopicLimit) -> Result<MapCatalogue, AllocError> {
         Ok(MapCatalogue {
             alloc,
-            held: BTreeMap::new(alloc),
+            retained: BTreeMap::new(alloc),
             ledger: Ledger::new(limit),
         })
     }
@@ -194,7 +201,7 @@ impl Catalogue for MapCatalogue {
         if !self.ledger.has_number() {
             return Err(Refusal::Full);
         }
-        if !has_space(&self.held, self.ledger.limit(), &entry.operation) {
+        if !has_space(&self.retained, self.ledger.limit(), &entry.operation) {
             return Err(Refusal::Full);
         }
         Ok(())
@@ -202,15 +209,15 @@ impl Catalogue for MapCatalogue {
 
     fn apply(&mut self, entry: Entry) -> Result<(), AllocError> {
         let origin = entry.origin;
-        change(&mut self.held, entry.operation)?;
+        change(&mut self.retained, entry.operation)?;
         self.ledger.count(origin);
         Ok(())
     }
 
     fn answer(&self, filter: &TopicFilter, now: u64) -> Result<Vec<Found>, AllocError> {
-        match answers(self.alloc, &self.held, filter, now, self.held.len())? {
+        match answers(self.alloc, &self.retained, filter, now, self.retained.len())? {
             Some(found) => Ok(found),
-            // Never: no answer has more messages than are held.
+            // Never: no answer has more messages than are retained.
             None => Ok(Vec::new(self.alloc)),
         }
     }
@@ -221,7 +228,7 @@ impl Catalogue for MapCatalogue {
         now: u64,
         room: usize,
     ) -> Result<Option<Vec<Found>>, AllocError> {
-        answers(self.alloc, &self.held, filter, now, room)
+        answers(self.alloc, &self.retained, filter, now, room)
     }
 
     fn version(&self) -> u64 {
@@ -234,22 +241,22 @@ impl Catalogue for MapCatalogue {
 
     fn count(&self) -> u32 {
         let _limit = self.ledger.limit().get();
-        self.held.len() as u32
+        self.retained.len() as u32
     }
 
     fn expired(&self, now: u64) -> u32 {
         let _limit = self.ledger.limit().get();
-        count_expired(&self.held, now)
+        count_expired(&self.retained, now)
     }
 
     fn earliest(&self) -> u64 {
-        earliest_of(&self.held)
+        earliest_of(&self.retained)
     }
 
     fn copy(&self) -> Result<MapCatalogue, AllocError> {
         Ok(MapCatalogue {
             alloc: self.alloc,
-            held: copy_of(self.alloc, &self.held)?,
+            retained: copy_of(self.alloc, &self.retained)?,
             ledger: self.ledger.copy(),
         })
     }

@@ -24,7 +24,7 @@ use Rattle.rs_store.specs.declared.answer.Stop.{Stop}
 use Rattle.rs_topic.specs.Rests.{levels_from}
 use Rattle.rs_tree.specs.Spots.{is_nothing, is_there, spot_of, under}
 use Rattle.rs_store.proofs.Entries.{sorted_cons, sorted_none, sorted_insert, sorted_remove}
-use Rattle.rs_tree.proofs.Under.{Held, Path}
+use Rattle.rs_tree.proofs.Under.{Spots, Path}
 use Rattle.rs_tree.proofs.Chosen.{chosen-append}
 use Rattle.rs_store.proofs.Maps.{insert_next, remove_absent}
 use Rattle.rs_tree.proofs.Stems.{behind_is, insert_all, under_one}
@@ -33,7 +33,7 @@ use Rattle.rs_tree.proofs.Stopping.{stop_at, stop_more}
 abbrev pub path_of : Leaf → Path
 path_of l = levels_from l.at l.found.topic
 
-abbrev pub Sorted : Held → Type 0
+abbrev pub Sorted : Spots → Type 0
 Sorted w = IsStrictlySortedBy path_cmp (keys_of w)
 
 -- ---- a look at one leaf after the other
@@ -87,19 +87,19 @@ pub set_gap : (f : Found) (at : ℕ) (ls : List Leaf) (i : ℕ) → IsGap (level
 set_gap f at [] zero g = refl
 set_gap f at [] (suc i) g = absurd g
 set_gap f at (l ∷ ls) zero g = rw g refl
-set_gap f at (l ∷ ls) (suc i) g = rw g.0 (ap (λ (w : Held). spot_of l.at l.found ∷ w) (set_gap f at ls i g.1))
+set_gap f at (l ∷ ls) (suc i) g = rw g.0 (ap (λ (w : Spots). spot_of l.at l.found ∷ w) (set_gap f at ls i g.1))
 
 pub set_here : (f : Found) (at : ℕ) (ls : List Leaf) (i : ℕ) → IsHere (levels_from at f.topic) ls i → spots_in (slice_set ls i (record { found = f; at = at })) ≡ insert_entry path_cmp (spots_in ls) (levels_from at f.topic) f
 set_here f at [] i h = absurd h
 set_here f at (l ∷ ls) zero h = rw h (ap (λ (p : Path). let s : Path × Found = (p, f) in s ∷ spots_in ls) (exact_paths (levels_from at f.topic) (path_of l) h))
-set_here f at (l ∷ ls) (suc i) h = rw h.0 (ap (λ (w : Held). spot_of l.at l.found ∷ w) (set_here f at ls i h.1))
+set_here f at (l ∷ ls) (suc i) h = rw h.0 (ap (λ (w : Spots). spot_of l.at l.found ∷ w) (set_here f at ls i h.1))
 
 pub there_here : (p : Path) (ls : List Leaf) (i : ℕ) → IsHere p ls i → is_there p (spots_in ls) ≡ true
 there_here p [] i h = absurd h
 there_here p (l ∷ ls) zero h = rw h refl
 there_here p (l ∷ ls) (suc i) h = rw h.0 (there_here p ls i h.1)
 
-none_after : (p q : Path) (w : Held) → path_cmp p q ≡ Less → AllByRecursion (λ y. path_cmp q y ≡ Less) (keys_of w) → is_there p w ≡ false
+none_after : (p q : Path) (w : Spots) → path_cmp p q ≡ Less → AllByRecursion (λ y. path_cmp q y ≡ Less) (keys_of w) → is_there p w ≡ false
 none_after p q [] h a = refl
 none_after p q (s ∷ ss) h a = rw (path_total.trans p q s.0 h a.0) (none_after p q ss h a.1)
 
@@ -114,45 +114,45 @@ absent_gap p (l ∷ ls) (suc i) s g = rw g.0 (absent_gap p ls i (sorted_tail pat
 pub gone_here : (p : Path) (ls : List Leaf) (i : ℕ) → IsHere p ls i → spots_in (remove ls i) ≡ remove_entry (is_at (path_cmp p)) (spots_in ls)
 gone_here p [] i h = absurd h
 gone_here p (l ∷ ls) zero h = rw h refl
-gone_here p (l ∷ ls) (suc i) h = rw h.0 (ap (λ (w : Held). spot_of l.at l.found ∷ w) (gone_here p ls i h.1))
+gone_here p (l ∷ ls) (suc i) h = rw h.0 (ap (λ (w : Spots). spot_of l.at l.found ∷ w) (gone_here p ls i h.1))
 
 pub kept_gap : (p : Path) (ls : List Leaf) (i : ℕ) → Sorted (spots_in ls) → IsGap p ls i → remove_entry (is_at (path_cmp p)) (spots_in ls) ≡ spots_in ls
 kept_gap p ls i s g = remove_absent (is_at (path_cmp p)) (spots_in ls) (absent_gap p ls i s g)
 
 -- ---- that the messages stay in order
 
-pub sorted_set : (w new : Held) (p : Path) (f : Found) → Sorted w → new ≡ insert_entry path_cmp w p f → Sorted new
+pub sorted_set : (w new : Spots) (p : Path) (f : Found) → Sorted w → new ≡ insert_entry path_cmp w p f → Sorted new
 sorted_set w new p f s is = rw is (sorted_insert path_cmp path_total w p f s)
 
-pub sorted_clear : (w new : Held) (p : Path) → Sorted w → new ≡ remove_entry (is_at (path_cmp p)) w → Sorted new
+pub sorted_clear : (w new : Spots) (p : Path) → Sorted w → new ≡ remove_entry (is_at (path_cmp p)) w → Sorted new
 sorted_clear w new p s is = rw is (sorted_remove path_cmp (is_at (path_cmp p)) w s)
 
-all_under : (k : List ℕ) (p : Path) (w : Held) → AllByRecursion (λ y. path_cmp p y ≡ Less) (keys_of w) → AllByRecursion (λ y. path_cmp (k ∷ p) y ≡ Less) (keys_of (under k w))
+all_under : (k : List ℕ) (p : Path) (w : Spots) → AllByRecursion (λ y. path_cmp p y ≡ Less) (keys_of w) → AllByRecursion (λ y. path_cmp (k ∷ p) y ≡ Less) (keys_of (under k w))
 all_under k p [] a = tt
 all_under k p (s ∷ ss) a = (rw (tied_itself nat_list_cmp_total k) a.0, all_under k p ss a.1)
 
-sorted_under : (k : List ℕ) (w : Held) → Sorted w → Sorted (under k w)
+sorted_under : (k : List ℕ) (w : Spots) → Sorted w → Sorted (under k w)
 sorted_under k [] s = sorted_none path_cmp
 sorted_under k (x ∷ xs) s = sorted_cons path_cmp (k ∷ x.0) (keys_of (under k xs)) (all_under k x.0 xs (sorted_head path_cmp x.0 (keys_of xs) s)) (sorted_under k xs (sorted_tail path_cmp x.0 (keys_of xs) s))
 
-pub sorted_under_all : (ks : Path) (w : Held) → Sorted w → Sorted (under_all ks w)
+pub sorted_under_all : (ks : Path) (w : Spots) → Sorted w → Sorted (under_all ks w)
 sorted_under_all [] w s = s
 sorted_under_all (k ∷ ks) w s = sorted_under k (under_all ks w) (sorted_under_all ks w s)
 
-pub sorted_risen : (ks : Path) (k : List ℕ) (w new : Held) → Sorted w → new ≡ under_all ks (under k w) → Sorted new
+pub sorted_risen : (ks : Path) (k : List ℕ) (w new : Spots) → Sorted w → new ≡ under_all ks (under k w) → Sorted new
 sorted_risen ks k w new s is = rw is (sorted_under_all ks (under k w) (sorted_under k w s))
 
 -- ---- one leaf after the other
 
 pub in_two : (xs ys : List Leaf) → spots_in (xs ++ ys) ≡ spots_in xs ++ spots_in ys
 in_two [] ys = refl
-in_two (x ∷ xs) ys = ap (λ (w : Held). spot_of x.at x.found ∷ w) (in_two xs ys)
+in_two (x ∷ xs) ys = ap (λ (w : Spots). spot_of x.at x.found ∷ w) (in_two xs ys)
 
-under_two : (k : List ℕ) (v w : Held) → under k (v ++ w) ≡ under k v ++ under k w
+under_two : (k : List ℕ) (v w : Spots) → under k (v ++ w) ≡ under k v ++ under k w
 under_two k [] w = refl
-under_two k (s ∷ ss) w = ap (λ (l : Held). (k ∷ s.0, s.1) ∷ l) (under_two k ss w)
+under_two k (s ∷ ss) w = ap (λ (l : Spots). (k ∷ s.0, s.1) ∷ l) (under_two k ss w)
 
-pub under_all_two : (ks : Path) (v w : Held) → under_all ks (v ++ w) ≡ under_all ks v ++ under_all ks w
+pub under_all_two : (ks : Path) (v w : Spots) → under_all ks (v ++ w) ≡ under_all ks v ++ under_all ks w
 under_all_two [] v w = refl
 under_all_two (k ∷ ks) v w = ap (under k) (under_all_two ks v w) ∙ under_two k (under_all ks v) (under_all ks w)
 
@@ -172,26 +172,26 @@ module _ (l : Leaf) (left rest : List Leaf) (is : left ≡ l ∷ rest) where
       subst P kept (stop_at s room ((before ++ one) ++ chosen pattern now (spots_in rest)) all whole (stop_more s room (before ++ one) (chosen pattern now (spots_in rest)) h))
 
   -- a leaf that is copied
-  pub copy_turn : (done new : List Leaf) (all : Held) → new ≡ done ++ l ∷ [] → spots_in done ++ spots_in left ≡ all → spots_in new ++ spots_in rest ≡ all
+  pub copy_turn : (done new : List Leaf) (all : Spots) → new ≡ done ++ l ∷ [] → spots_in done ++ spots_in left ≡ all → spots_in new ++ spots_in rest ≡ all
   copy_turn done new all put so =
-      rw put (ap (λ (w : Held). w ++ spots_in rest) (in_two done (l ∷ [])) ∙ (append_assoc (spots_in done) (spot_of l.at l.found ∷ []) (spots_in rest) ∙ (ap (λ (w : List Leaf). spots_in done ++ spots_in w) (sym is) ∙ so)))
+      rw put (ap (λ (w : Spots). w ++ spots_in rest) (in_two done (l ∷ [])) ∙ (append_assoc (spots_in done) (spot_of l.at l.found ∷ []) (spots_in rest) ∙ (ap (λ (w : List Leaf). spots_in done ++ spots_in w) (sym is) ∙ so)))
 
   -- a leaf whose rest begins earlier
-  pub rise_turn : (ks : Path) (k : List ℕ) (higher : Leaf) (done new : List Leaf) (all : Held) → higher.found ≡ l.found → levels_from higher.at l.found.topic ≡ ks ++ k ∷ path_of l → new ≡ done ++ higher ∷ []
+  pub rise_turn : (ks : Path) (k : List ℕ) (higher : Leaf) (done new : List Leaf) (all : Spots) → higher.found ≡ l.found → levels_from higher.at l.found.topic ≡ ks ++ k ∷ path_of l → new ≡ done ++ higher ∷ []
       → spots_in done ++ under_all ks (under k (spots_in left)) ≡ all → spots_in new ++ under_all ks (under k (spots_in rest)) ≡ all
   rise_turn ks k higher done new all same path put so =
       let one : spot_of higher.at higher.found ∷ [] ≡ under_all ks ((k ∷ path_of l, l.found) ∷ []) = rw (same, path) (sym (under_one ks (k ∷ path_of l) l.found)) in
       let split : under_all ks (under k (spots_in left)) ≡ (spot_of higher.at higher.found ∷ []) ++ under_all ks (under k (spots_in rest)) =
-      ap (λ (ls : List Leaf). under_all ks (under k (spots_in ls))) is ∙ (under_all_two ks ((k ∷ path_of l, l.found) ∷ []) (under k (spots_in rest)) ∙ ap (λ (w : Held). w ++ under_all ks (under k (spots_in rest))) (sym one)) in
-      rw put (ap (λ (w : Held). w ++ under_all ks (under k (spots_in rest))) (in_two done (higher ∷ [])) ∙ (append_assoc (spots_in done) (spot_of higher.at higher.found ∷ []) (under_all ks (under k (spots_in rest))) ∙ (ap (λ (w : Held). spots_in done ++ w) (sym split) ∙ so)))
+      ap (λ (ls : List Leaf). under_all ks (under k (spots_in ls))) is ∙ (under_all_two ks ((k ∷ path_of l, l.found) ∷ []) (under k (spots_in rest)) ∙ ap (λ (w : Spots). w ++ under_all ks (under k (spots_in rest))) (sym one)) in
+      rw put (ap (λ (w : Spots). w ++ under_all ks (under k (spots_in rest))) (in_two done (higher ∷ [])) ∙ (append_assoc (spots_in done) (spot_of higher.at higher.found ∷ []) (under_all ks (under k (spots_in rest))) ∙ (ap (λ (w : Spots). spots_in done ++ w) (sym split) ∙ so)))
 
   -- a leaf that is put into a branch below a chain, behind those that came before it
-  pub part_turn : (ks q : Path) (f : Found) (b new : Held) (all : Held) → Sorted all → path_of l ≡ ks ++ q → f ≡ l.found → new ≡ insert_entry path_cmp b q f
+  pub part_turn : (ks q : Path) (f : Found) (b new : Spots) (all : Spots) → Sorted all → path_of l ≡ ks ++ q → f ≡ l.found → new ≡ insert_entry path_cmp b q f
       → under_all ks b ++ spots_in left ≡ all → under_all ks new ++ spots_in rest ≡ all
   part_turn ks q f b new all s path copy put so =
       let whole : under_all ks b ++ spot_of l.at l.found ∷ spots_in rest ≡ all = ap (λ (w : List Leaf). under_all ks b ++ spots_in w) (sym is) ∙ so in
       let one : under_all ks new ≡ insert_entry path_cmp (under_all ks b) (path_of l) l.found = rw (put, copy, path) (sym (insert_all ks q l.found b)) in
-      ap (λ (w : Held). w ++ spots_in rest) one ∙ insert_next path_cmp path_total (under_all ks b) (spots_in rest) all (path_of l) l.found whole s
+      ap (λ (w : Spots). w ++ spots_in rest) one ∙ insert_next path_cmp path_total (under_all ks b) (spots_in rest) all (path_of l) l.found whole s
 
 pub next_leaf : (ls : List Leaf) (i : ℕ) (l : Leaf) → i < length ls → l ≡ get_or ls i l → drop i ls ≡ l ∷ drop (i + 1) ls
 next_leaf ls i l small is = drop_more ls i l small ∙ ap (λ (x : Leaf). x ∷ drop (i + 1) ls) (sym is)
@@ -215,19 +215,19 @@ empty_is r n (l ∷ ls) many h = h ∙ more_is n (omega (arith, many))
 pub sorted_empty : (ls : List Leaf) → ls ≡ [] → Sorted (spots_in ls)
 sorted_empty ls h = rw h (sorted_none path_cmp)
 
-pub sorted_at : (ls : List Leaf) (w : Held) → spots_in ls ≡ w → Sorted w → Sorted (spots_in ls)
+pub sorted_at : (ls : List Leaf) (w : Spots) → spots_in ls ≡ w → Sorted w → Sorted (spots_in ls)
 sorted_at ls w is s = rw is s
 
 module _ (at i : ℕ) (t : List ℕ) (ls items : List Leaf) (same : ls ≡ items) where
-  pub there_is : (view : Held) → spots_in items ≡ view → IsHere (levels_from at t) ls i → true ≡ is_there (levels_from at t) view
+  pub there_is : (view : Spots) → spots_in items ≡ view → IsHere (levels_from at t) ls i → true ≡ is_there (levels_from at t) view
   there_is view is here = rw (← is, ← same) (sym (there_here (levels_from at t) ls i here))
 
-  pub none_is : (view : Held) → spots_in items ≡ view → Sorted (spots_in items) → IsGap (levels_from at t) ls i → false ≡ is_there (levels_from at t) view
+  pub none_is : (view : Spots) → spots_in items ≡ view → Sorted (spots_in items) → IsGap (levels_from at t) ls i → false ≡ is_there (levels_from at t) view
   none_is view is s gap =
       let P : List Leaf → Type 0 = λ w. Sorted (spots_in w) in
       rw (← is, ← same) (sym (absent_gap (levels_from at t) ls i (subst P (sym same) s) gap))
 
-  pub kept_is : (view : Held) → spots_in items ≡ view → Sorted (spots_in items) → IsGap (levels_from at t) ls i → view ≡ remove_entry (is_at (path_cmp (levels_from at t))) view
+  pub kept_is : (view : Spots) → spots_in items ≡ view → Sorted (spots_in items) → IsGap (levels_from at t) ls i → view ≡ remove_entry (is_at (path_cmp (levels_from at t))) view
   kept_is view is s gap =
       let P : List Leaf → Type 0 = λ w. Sorted (spots_in w) in
       rw (← is, ← same) (sym (kept_gap (levels_from at t) ls i (subst P (sym same) s) gap))
@@ -254,25 +254,25 @@ put_one q p f g there = at (path_cmp q p) refl
 -- ---- one step of a loop over the leaves, as the goals say it
 
 module _ (ls : List Leaf) (i : ℕ) (l : Leaf) (small : i < length ls) (is : l ≡ get_or ls i l) where
-  pub copied_step : (copy : Leaf) (done new : List Leaf) (all : Held) → copy ≡ l → new ≡ done ++ copy ∷ [] → spots_in done ++ spots_in (drop i ls) ≡ all → spots_in new ++ spots_in (drop (i + 1) ls) ≡ all
+  pub copied_step : (copy : Leaf) (done new : List Leaf) (all : Spots) → copy ≡ l → new ≡ done ++ copy ∷ [] → spots_in done ++ spots_in (drop i ls) ≡ all → spots_in new ++ spots_in (drop (i + 1) ls) ≡ all
   copied_step copy done new all same put so = copy_turn l (drop i ls) (drop (i + 1) ls) (next_leaf ls i l small is) done new all (put ∙ ap (λ (x : Leaf). done ++ x ∷ []) same) so
 
-  pub risen_step : (ks : Path) (k : List ℕ) (copy higher : Leaf) (done new : List Leaf) (all : Held) → copy ≡ l → higher.found ≡ copy.found → levels_from higher.at copy.found.topic ≡ ks ++ k ∷ path_of copy → new ≡ done ++ higher ∷ []
+  pub risen_step : (ks : Path) (k : List ℕ) (copy higher : Leaf) (done new : List Leaf) (all : Spots) → copy ≡ l → higher.found ≡ copy.found → levels_from higher.at copy.found.topic ≡ ks ++ k ∷ path_of copy → new ≡ done ++ higher ∷ []
       → spots_in done ++ under_all ks (under k (spots_in (drop i ls))) ≡ all → spots_in new ++ under_all ks (under k (spots_in (drop (i + 1) ls))) ≡ all
   risen_step ks k copy higher done new all same found path put so =
       rise_turn l (drop i ls) (drop (i + 1) ls) (next_leaf ls i l small is) ks k higher done new all (rw same at found) (rw same at path) put so
 
-  pub parted_step : (chain view t : List ℕ) (next : ℕ) (f : Found) (b new : Held) → view ≡ chain → t ≡ l.found.topic → Some (levels_from next t) ≡ behind (levels_from 1 view) (levels_from l.at t) → f ≡ l.found
+  pub parted_step : (chain view t : List ℕ) (next : ℕ) (f : Found) (b new : Spots) → view ≡ chain → t ≡ l.found.topic → Some (levels_from next t) ≡ behind (levels_from 1 view) (levels_from l.at t) → f ≡ l.found
       → new ≡ insert_entry path_cmp b (levels_from next f.topic) f → Sorted (spots_in ls) → under_all (levels_from 1 chain) b ++ spots_in (drop i ls) ≡ spots_in ls → under_all (levels_from 1 chain) new ++ spots_in (drop (i + 1) ls) ≡ spots_in ls
   parted_step chain view t next f b new same topic there copy put s so =
       let on : Some (levels_from next l.found.topic) ≡ behind (levels_from 1 chain) (path_of l) = rw (same, topic) at there in
       let path : path_of l ≡ levels_from 1 chain ++ levels_from next l.found.topic = behind_is (levels_from 1 chain) (path_of l) (levels_from next l.found.topic) (sym on) in
       part_turn l (drop i ls) (drop (i + 1) ls) (next_leaf ls i l small is) (levels_from 1 chain) (levels_from next l.found.topic) f b new (spots_in ls) s path copy (put ∙ ap (λ (g : Found). insert_entry path_cmp b (levels_from next g.topic) f) copy) so
 
-pub parted_none : (ks : Path) (b : Held) (ls : List Leaf) → b ≡ [] → under_all ks b ++ spots_in (drop 0 ls) ≡ spots_in ls
+pub parted_none : (ks : Path) (b : Spots) (ls : List Leaf) → b ≡ [] → under_all ks b ++ spots_in (drop 0 ls) ≡ spots_in ls
 parted_none ks b ls h = rw (h, none_below ks) refl
 
-pub risen_all : (ks : Path) (k : List ℕ) (ls : List Leaf) (i : ℕ) (done all : Held) → length ls ≤ i → done ++ under_all ks (under k (spots_in (drop i ls))) ≡ all → done ≡ all
+pub risen_all : (ks : Path) (k : List ℕ) (ls : List Leaf) (i : ℕ) (done all : Spots) → length ls ≤ i → done ++ under_all ks (under k (spots_in (drop i ls))) ≡ all → done ≡ all
 risen_all ks k ls i done all h so =
     let none : under_all ks (under k (spots_in (drop i ls))) ≡ [] = rw (drop_all i ls h) (none_below ks) in
-    sym (append-nil done) ∙ (ap (λ (w : Held). done ++ w) (sym none) ∙ so)
+    sym (append-nil done) ∙ (ap (λ (w : Spots). done ++ w) (sym none) ∙ so)

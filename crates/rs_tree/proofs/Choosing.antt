@@ -27,7 +27,7 @@ use Rattle.rs_tree.specs.Values.{BranchValue, ChildValue}
 use Rattle.rs_store.specs.declared.answer.Answer.{Answer}
 use Rattle.rs_store.specs.declared.answer.Stop.{Stop}
 use Rattle.rs_tree.proofs.Rows.{Ahead, gap_front, gap_rear, in_front, in_rear, parts_at, split_at, split_gap}
-use Rattle.rs_tree.proofs.Under.{Held, Path}
+use Rattle.rs_tree.proofs.Under.{Spots, Path}
 use Rattle.rs_tree.proofs.Stopping.{stop_at, stop_more}
 
 -- ---- an answer in two parts
@@ -74,7 +74,7 @@ module _ (test : Test) (now : ℕ) (old mid new : Answer) (cs : List ChildValue)
   pub so_far_end : length cs ≤ i → IsSoFar test now old mid cs i → Gives {T = Unit {0}} (Ok tt) old mid (chosen_by test now (parts cs))
   so_far_end all so =
       let none : parts (drop i cs) ≡ [] = ap parts (drop_all i cs all) in
-      (sym (append-nil mid.found.items) ∙ (ap (λ (w : Held). mid.found.items ++ chosen_by test now w) (sym none) ∙ so.0), so.1)
+      (sym (append-nil mid.found.items) ∙ (ap (λ (w : Spots). mid.found.items ++ chosen_by test now w) (sym none) ∙ so.0), so.1)
 
   here : (c : ChildValue) → i < length cs → c ≡ get_or cs i c → chosen_by test now (parts (drop i cs)) ≡ chosen_by test now c.spots ++ chosen_by test now (parts (drop (suc i) cs))
   here c small is =
@@ -106,10 +106,10 @@ pub steps_in : (c : ChildValue) (pattern rest : Path) → Steps pattern rest →
 steps_in c pattern rest s = steps_enter c.is_row c.level pattern rest s
 
 -- below a level without a dollar, and with one
-plain_child : (pattern rest : Path) (now : ℕ) (k : List ℕ) (w : Held) → Steps pattern rest → begins_with_dollar k ≡ false → chosen pattern now (under k w) ≡ chosen_by (is_plain_below rest) now (under k w)
+plain_child : (pattern rest : Path) (now : ℕ) (k : List ℕ) (w : Spots) → Steps pattern rest → begins_with_dollar k ≡ false → chosen pattern now (under k w) ≡ chosen_by (is_plain_below rest) now (under k w)
 plain_child pattern rest now k w s h = goes (fits pattern) (fits rest) now k (s k) w ∙ sym (goes (is_plain_below rest) (fits rest) now k (plain_goes rest k h) w)
 
-dollar_child : (rest : Path) (now : ℕ) (k : List ℕ) (w : Held) → begins_with_dollar k ≡ true → chosen_by (is_plain_below rest) now (under k w) ≡ []
+dollar_child : (rest : Path) (now : ℕ) (k : List ℕ) (w : Spots) → begins_with_dollar k ≡ true → chosen_by (is_plain_below rest) now (under k w) ≡ []
 dollar_child rest now k w h = stops (is_plain_below rest) now k (dollar_stops rest k h) w
 
 pub plain_below : (pattern rest : Path) (now : ℕ) (k : List ℕ) (b : Below) → ((x : Arc BranchValue Global) → b ≡ Row x → ⊥) → Steps pattern rest → begins_with_dollar k ≡ false → chosen pattern now (spots_of k b) ≡ chosen_by (is_plain_below rest) now (spots_of k b)
@@ -125,7 +125,7 @@ dollar_below rest now k (Row b) n h = absurd (n b refl)
 -- ---- a whole branch
 
 -- two tests that agree on each path with a level
-level_same : (test other : Test) (now : ℕ) → ((k : List ℕ) (p : Path) → test (k ∷ p) ≡ other (k ∷ p)) → (k : List ℕ) (w : Held) → IsFrom k w → chosen_by test now w ≡ chosen_by other now w
+level_same : (test other : Test) (now : ℕ) → ((k : List ℕ) (p : Path) → test (k ∷ p) ≡ other (k ∷ p)) → (k : List ℕ) (w : Spots) → IsFrom k w → chosen_by test now w ≡ chosen_by other now w
 level_same test other now same k [] f = refl
 level_same test other now same k (([], m) ∷ w) f = absurd (f.0 refl)
 level_same test other now same k ((h ∷ p, m) ∷ w) f = rw (same h p, level_same test other now same k w f.1) refl
@@ -138,24 +138,24 @@ parts_same test other now same (c ∷ cs) r =
 abbrev nothing : Test
 nothing p = false
 
-chosen_nothing : (now : ℕ) (w : Held) → chosen_by nothing now w ≡ []
+chosen_nothing : (now : ℕ) (w : Spots) → chosen_by nothing now w ≡ []
 chosen_nothing now [] = refl
 chosen_nothing now (s ∷ w) = chosen_nothing now w
 
-pub ended : (held : Option Found) (cs : List ChildValue) (now : ℕ) → IsRow cs → chosen [] now (own held ++ parts cs) ≡ own_chosen now held
-ended held cs now r =
-    chosen-append (fits []) now (own held) (parts cs)
-    ∙ (ap (λ (l : List Found). chosen_by (fits []) now (own held) ++ l) (parts_same (fits []) nothing now (λ k p. refl) cs r ∙ chosen_nothing now (parts cs)) ∙ (append-nil (chosen_by (fits []) now (own held)) ∙ mine held))
+pub ended : (retained : Option Found) (cs : List ChildValue) (now : ℕ) → IsRow cs → chosen [] now (own retained ++ parts cs) ≡ own_chosen now retained
+ended retained cs now r =
+    chosen-append (fits []) now (own retained) (parts cs)
+    ∙ (ap (λ (l : List Found). chosen_by (fits []) now (own retained) ++ l) (parts_same (fits []) nothing now (λ k p. refl) cs r ∙ chosen_nothing now (parts cs)) ∙ (append-nil (chosen_by (fits []) now (own retained)) ∙ mine retained))
   where
-    mine : (held : Option Found) → chosen_by (fits []) now (own held) ≡ own_chosen now held
+    mine : (retained : Option Found) → chosen_by (fits []) now (own retained) ≡ own_chosen now retained
     mine None = refl
     mine (Some f) = refl
 
-pub all_of : (pattern : Path) (level : List ℕ) (more : Path) (held : Option Found) (cs : List ChildValue) (now : ℕ) → pattern ≡ level ∷ more → fits (level ∷ more) [] ≡ true → own_chosen now held ++ chosen pattern now (parts cs) ≡ chosen pattern now (own held ++ parts cs)
-all_of pattern level more held cs now is h = rw is (ap (λ (l : List Found). l ++ chosen (level ∷ more) now (parts cs)) (sym (all_here level more now held h)) ∙ sym (chosen-append (fits (level ∷ more)) now (own held) (parts cs)))
+pub all_of : (pattern : Path) (level : List ℕ) (more : Path) (retained : Option Found) (cs : List ChildValue) (now : ℕ) → pattern ≡ level ∷ more → fits (level ∷ more) [] ≡ true → own_chosen now retained ++ chosen pattern now (parts cs) ≡ chosen pattern now (own retained ++ parts cs)
+all_of pattern level more retained cs now is h = rw is (ap (λ (l : List Found). l ++ chosen (level ∷ more) now (parts cs)) (sym (all_here level more now retained h)) ∙ sym (chosen-append (fits (level ∷ more)) now (own retained) (parts cs)))
 
-pub plus_of : (pattern : Path) (level : List ℕ) (more : Path) (held : Option Found) (cs : List ChildValue) (now : ℕ) → pattern ≡ level ∷ more → fits (level ∷ more) [] ≡ false → chosen pattern now (parts cs) ≡ chosen pattern now (own held ++ parts cs)
-plus_of pattern level more held cs now is h = rw is (ap (λ (l : List Found). l ++ chosen (level ∷ more) now (parts cs)) (sym (plus_not_here level more now held h)) ∙ sym (chosen-append (fits (level ∷ more)) now (own held) (parts cs)))
+pub plus_of : (pattern : Path) (level : List ℕ) (more : Path) (retained : Option Found) (cs : List ChildValue) (now : ℕ) → pattern ≡ level ∷ more → fits (level ∷ more) [] ≡ false → chosen pattern now (parts cs) ≡ chosen pattern now (own retained ++ parts cs)
+plus_of pattern level more retained cs now is h = rw is (ap (λ (l : List Found). l ++ chosen (level ∷ more) now (parts cs)) (sym (plus_not_here level more now retained h)) ∙ sym (chosen-append (fits (level ∷ more)) now (own retained) (parts cs)))
 
 pub hash_steps : (pattern : Path) (level : List ℕ) (more : Path) → pattern ≡ level ∷ more → fits (level ∷ more) [] ≡ true → Steps pattern pattern
 hash_steps pattern level more is h k p = rw is (hash_goes level more h k p)
@@ -172,7 +172,7 @@ module _ (q : List ℕ) (more : Path) (now : ℕ) (wild : bytes_eq q (plus ∷ [
   pub same_level : (p : Path) → fits (q ∷ more) (q ∷ p) ≡ fits more p
   same_level p = rw (ends, wild, (bytes_decides q q).1 refl) refl
 
-  behind_none : (w : Held) → IsBehind (q ∷ []) w → chosen (q ∷ more) now w ≡ []
+  behind_none : (w : Spots) → IsBehind (q ∷ []) w → chosen (q ∷ more) now w ≡ []
   behind_none [] b = refl
   behind_none (([], m) ∷ w) b = rw ends (behind_none w b.1)
   behind_none ((k ∷ p, m) ∷ w) b = rw (other k p (at (bytes_eq q k) refl p b.0)) (behind_none w b.1)
@@ -182,7 +182,7 @@ module _ (q : List ℕ) (more : Path) (now : ℕ) (wild : bytes_eq q (plus ∷ [
       at true is [] g = let same : q ≡ k = (bytes_decides q k).0 is in absurd (let e : path_cmp (k ∷ []) (k ∷ []) ≡ Greater = (rw same at g) in cc (e, tied_itself path_total (k ∷ [])))
       at true is (h ∷ p) g = let same : q ≡ k = (bytes_decides q k).0 is in absurd (let e : path_cmp (k ∷ []) (k ∷ h ∷ p) ≡ Greater = (rw same at g) in cc (e, tied_itself nat_list_cmp_total k))
 
-  ahead_none : (w : Held) → ((p : Path) → Ahead (q ∷ p) w) → chosen (q ∷ more) now w ≡ []
+  ahead_none : (w : Spots) → ((p : Path) → Ahead (q ∷ p) w) → chosen (q ∷ more) now w ≡ []
   ahead_none [] a = refl
   ahead_none (([], m) ∷ w) a = rw ends (ahead_none w (λ p. (a p).1))
   ahead_none ((k ∷ p, m) ∷ w) a = rw (other k p (at (bytes_eq q k) refl)) (ahead_none w (λ r. (a r).1))
@@ -191,23 +191,23 @@ module _ (q : List ℕ) (more : Path) (now : ℕ) (wild : bytes_eq q (plus ∷ [
       at false is = is
       at true is = let same : q ≡ k = (bytes_decides q k).0 is in absurd (let e : path_cmp (k ∷ p) (k ∷ p) ≡ Less = (rw same at (a p).0) in cc (e, tied_itself path_total (k ∷ p)))
 
-  three : (l w r : Held) → chosen (q ∷ more) now l ≡ [] → chosen (q ∷ more) now r ≡ [] → chosen (q ∷ more) now (l ++ (w ++ r)) ≡ chosen (q ∷ more) now w
+  three : (l w r : Spots) → chosen (q ∷ more) now l ≡ [] → chosen (q ∷ more) now r ≡ [] → chosen (q ∷ more) now (l ++ (w ++ r)) ≡ chosen (q ∷ more) now w
   three l w r a b =
       chosen-append (fits (q ∷ more)) now l (w ++ r)
       ∙ (ap (λ (x : List Found). x ++ chosen (q ∷ more) now (w ++ r)) a ∙ (chosen-append (fits (q ∷ more)) now w r ∙ (ap (λ (x : List Found). chosen (q ∷ more) now w ++ x) b ∙ append-nil (chosen (q ∷ more) now w))))
 
-  module _ (held : Option Found) (cs : List ChildValue) (r : IsRow cs) (i : ℕ) where
-    pub exact_in : (c : ChildValue) → i < length cs → IsIn q cs i → c ≡ get_or cs i c → chosen (q ∷ more) now c.spots ≡ chosen (q ∷ more) now (own held ++ parts cs)
+  module _ (retained : Option Found) (cs : List ChildValue) (r : IsRow cs) (i : ℕ) where
+    pub exact_in : (c : ChildValue) → i < length cs → IsIn q cs i → c ≡ get_or cs i c → chosen (q ∷ more) now c.spots ≡ chosen (q ∷ more) now (own retained ++ parts cs)
     exact_in c small e is =
         ap (λ (w : ChildValue). chosen (q ∷ more) now w.spots) is
-        ∙ (sym (three (own held ++ parts (take i cs)) (get_or cs i c).spots (parts (drop (suc i) cs)) (behind_none (own held ++ parts (take i cs)) (in_front held cs r q [] i e)) (ahead_none (parts (drop (suc i) cs)) (λ p. in_rear held cs r q p i e)))
-        ∙ ap (chosen (q ∷ more) now) (sym (split_at held cs i c small)))
+        ∙ (sym (three (own retained ++ parts (take i cs)) (get_or cs i c).spots (parts (drop (suc i) cs)) (behind_none (own retained ++ parts (take i cs)) (in_front retained cs r q [] i e)) (ahead_none (parts (drop (suc i) cs)) (λ p. in_rear retained cs r q p i e)))
+        ∙ ap (chosen (q ∷ more) now) (sym (split_at retained cs i c small)))
 
-    pub exact_gap : IsGap q cs i → chosen (q ∷ more) now (own held ++ parts cs) ≡ []
+    pub exact_gap : IsGap q cs i → chosen (q ∷ more) now (own retained ++ parts cs) ≡ []
     exact_gap e =
-        ap (chosen (q ∷ more) now) (split_gap held cs i)
-        ∙ (chosen-append (fits (q ∷ more)) now (own held ++ parts (take i cs)) (parts (drop i cs))
-        ∙ cc (behind_none (own held ++ parts (take i cs)) (gap_front held cs r q [] i e), ahead_none (parts (drop i cs)) (λ p. gap_rear held cs r q p i e)))
+        ap (chosen (q ∷ more) now) (split_gap retained cs i)
+        ∙ (chosen-append (fits (q ∷ more)) now (own retained ++ parts (take i cs)) (parts (drop i cs))
+        ∙ cc (behind_none (own retained ++ parts (take i cs)) (gap_front retained cs r q [] i e), ahead_none (parts (drop i cs)) (λ p. gap_rear retained cs r q p i e)))
 
 takes_enter : (b : Bool) (own q : List ℕ) (more : Path) → bytes_eq q (plus ∷ []) ≡ false → fits (q ∷ more) [] ≡ false → Rattle.rs_tree.specs.Rows.TakesAs b own q → EntersAs b own (q ∷ more) more
 takes_enter true own q more w e t = tt
@@ -218,7 +218,7 @@ takes_in q more c w e t = takes_enter c.is_row c.level q more w e t
 
 -- ---- the root
 
-pub own_plain : (rest : Path) (held : Option Found) (cs : List ChildValue) (now : ℕ) → chosen_by (is_plain_below rest) now (parts cs) ≡ chosen_by (is_plain_below rest) now (own held ++ parts cs)
+pub own_plain : (rest : Path) (retained : Option Found) (cs : List ChildValue) (now : ℕ) → chosen_by (is_plain_below rest) now (parts cs) ≡ chosen_by (is_plain_below rest) now (own retained ++ parts cs)
 own_plain rest None cs now = refl
 own_plain rest (Some f) cs now = refl
 
@@ -243,9 +243,9 @@ hash_wild : (level : List ℕ) (more : List (List ℕ)) → fits (level ∷ more
 hash_wild level more h = or_right (bytes_eq level (plus ∷ [])) (bytes_eq level (hash ∷ [])) (both (bytes_eq level (hash ∷ [])) (is_end more) h)
 
 -- a hash
-pub root_all : (pattern : Path) (level : List ℕ) (more : Path) (now : ℕ) (held : Option Found) (cs : List ChildValue) → IsRow cs → pattern ≡ level ∷ more → fits (level ∷ more) [] ≡ true
-    → own_chosen now held ++ chosen_by (is_plain_below pattern) now (parts cs) ≡ chosen_at_root pattern now (own held ++ parts cs)
-root_all pattern level more now held cs r whole h = rw whole (sym (chosen-append (is_matched (level ∷ more)) now (own held) (parts cs) ∙ cc (mine held, parts_same (is_matched (level ∷ more)) (is_plain_below (level ∷ more)) now same cs r)))
+pub root_all : (pattern : Path) (level : List ℕ) (more : Path) (now : ℕ) (retained : Option Found) (cs : List ChildValue) → IsRow cs → pattern ≡ level ∷ more → fits (level ∷ more) [] ≡ true
+    → own_chosen now retained ++ chosen_by (is_plain_below pattern) now (parts cs) ≡ chosen_at_root pattern now (own retained ++ parts cs)
+root_all pattern level more now retained cs r whole h = rw whole (sym (chosen-append (is_matched (level ∷ more)) now (own retained) (parts cs) ∙ cc (mine retained, parts_same (is_matched (level ∷ more)) (is_plain_below (level ∷ more)) now same cs r)))
   where
     quiet : (b : Bool) → (true && not (b && false)) ≡ true
     quiet true = refl
@@ -254,7 +254,7 @@ root_all pattern level more now held cs r whole h = rw whole (sym (chosen-append
     here : is_matched (level ∷ more) [] ≡ true
     here = rw h (quiet (is_wild (level ∷ more)))
 
-    mine : (held : Option Found) → chosen_by (is_matched (level ∷ more)) now (own held) ≡ own_chosen now held
+    mine : (retained : Option Found) → chosen_by (is_matched (level ∷ more)) now (own retained) ≡ own_chosen now retained
     mine None = refl
     mine (Some f) = by (not (is_expired now f.message)) refl
       where
@@ -266,11 +266,11 @@ root_all pattern level more now held cs r whole h = rw whole (sym (chosen-append
     same k p = ap (λ (b : Bool). b && not (is_wild (level ∷ more) && begins_with_dollar k)) (hash_goes level more h k p) ∙ swapped (fits (level ∷ more) p) (begins_with_dollar k) (is_wild (level ∷ more)) (hash_wild level more h)
 
 -- a plus
-pub root_plus : (pattern : Path) (level : List ℕ) (more : Path) (now : ℕ) (held : Option Found) (cs : List ChildValue) → IsRow cs → pattern ≡ level ∷ more → fits (level ∷ more) [] ≡ false → bytes_eq level (plus ∷ []) ≡ true
-    → chosen_by (is_plain_below more) now (parts cs) ≡ chosen_at_root pattern now (own held ++ parts cs)
-root_plus pattern level more now held cs r whole h is = rw whole (sym (chosen-append (is_matched (level ∷ more)) now (own held) (parts cs) ∙ cc (mine held, parts_same (is_matched (level ∷ more)) (is_plain_below more) now same cs r)))
+pub root_plus : (pattern : Path) (level : List ℕ) (more : Path) (now : ℕ) (retained : Option Found) (cs : List ChildValue) → IsRow cs → pattern ≡ level ∷ more → fits (level ∷ more) [] ≡ false → bytes_eq level (plus ∷ []) ≡ true
+    → chosen_by (is_plain_below more) now (parts cs) ≡ chosen_at_root pattern now (own retained ++ parts cs)
+root_plus pattern level more now retained cs r whole h is = rw whole (sym (chosen-append (is_matched (level ∷ more)) now (own retained) (parts cs) ∙ cc (mine retained, parts_same (is_matched (level ∷ more)) (is_plain_below more) now same cs r)))
   where
-    mine : (held : Option Found) → chosen_by (is_matched (level ∷ more)) now (own held) ≡ []
+    mine : (retained : Option Found) → chosen_by (is_matched (level ∷ more)) now (own retained) ≡ []
     mine None = refl
     mine (Some f) = rw h refl
 
@@ -278,8 +278,8 @@ root_plus pattern level more now held cs r whole h is = rw whole (sym (chosen-ap
     same k p = ap (λ (b : Bool). b && not (is_wild (level ∷ more) && begins_with_dollar k)) (plus_goes level more h is k p) ∙ swapped (fits more p) (begins_with_dollar k) (is_wild (level ∷ more)) (plus_wild level more is)
 
 -- no level at all
-pub root_none : (pattern : Path) (now : ℕ) (held : Option Found) (cs : List ChildValue) → IsRow cs → pattern ≡ [] → own_chosen now held ≡ chosen_at_root pattern now (own held ++ parts cs)
-root_none pattern now held cs r h = rw h (sym (chosen_same (is_matched []) (fits []) now (own held ++ parts cs) same ∙ ended held cs now r))
+pub root_none : (pattern : Path) (now : ℕ) (retained : Option Found) (cs : List ChildValue) → IsRow cs → pattern ≡ [] → own_chosen now retained ≡ chosen_at_root pattern now (own retained ++ parts cs)
+root_none pattern now retained cs r h = rw h (sym (chosen_same (is_matched []) (fits []) now (own retained ++ parts cs) same ∙ ended retained cs now r))
   where
     same : (p : Path) → is_matched [] p ≡ fits [] p
     same [] = refl

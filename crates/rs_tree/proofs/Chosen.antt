@@ -1,5 +1,5 @@
 -- What a filter chooses of messages.
-use Rattle.rs_tree.proofs.Under.{Held, Path}
+use Rattle.rs_tree.proofs.Under.{Spots, Path}
 use Rattle.std.proofs.Common.{◌≡◌, ℕ, Bool, true, false, not, ◌&&◌, List, [], ◌∷◌, ◌++◌, refl, sym, ◌∙◌, Option, Some, None}
 use Rattle.std.specs.Str.{bytes_eq}
 use Rattle.rs_message.specs.declared.entry.Found.{Found}
@@ -14,7 +14,7 @@ use Rattle.std.specs.Cmp.Lexicographic.{bytes_decides}
 abbrev pub Test : Type 0
 Test = List (List ℕ) → Bool
 
-pub chosen-append : (test : Test) (now : ℕ) (xs ys : Held) → chosen_by test now (xs ++ ys) ≡ chosen_by test now xs ++ chosen_by test now ys
+pub chosen-append : (test : Test) (now : ℕ) (xs ys : Spots) → chosen_by test now (xs ++ ys) ≡ chosen_by test now xs ++ chosen_by test now ys
 chosen-append test now [] ys = refl
 chosen-append test now (s ∷ ss) ys = at (test s.0 && not (is_expired now s.1.message)) refl (chosen-append test now ss ys)
   where
@@ -23,15 +23,15 @@ chosen-append test now (s ∷ ss) ys = at (test s.0 && not (is_expired now s.1.m
     at false is more = rw (is, more) refl
 
 -- two tests with equal results choose the same messages
-pub chosen_same : (test other : Test) (now : ℕ) (ss : Held) → ((p : List (List ℕ)) → test p ≡ other p) → chosen_by test now ss ≡ chosen_by other now ss
+pub chosen_same : (test other : Test) (now : ℕ) (ss : Spots) → ((p : List (List ℕ)) → test p ≡ other p) → chosen_by test now ss ≡ chosen_by other now ss
 chosen_same test other now [] same = refl
 chosen_same test other now (s ∷ ss) same = rw (same s.0, chosen_same test other now ss same) refl
 
-pub goes : (test further : Test) (now : ℕ) (k : List ℕ) → ((p : Path) → test (k ∷ p) ≡ further p) → (w : Held) → chosen_by test now (under k w) ≡ chosen_by further now w
+pub goes : (test further : Test) (now : ℕ) (k : List ℕ) → ((p : Path) → test (k ∷ p) ≡ further p) → (w : Spots) → chosen_by test now (under k w) ≡ chosen_by further now w
 goes test further now k same [] = refl
 goes test further now k same (s ∷ ss) = rw (same s.0, goes test further now k same ss) refl
 
-pub stops : (test : Test) (now : ℕ) (k : List ℕ) → ((p : Path) → test (k ∷ p) ≡ false) → (w : Held) → chosen_by test now (under k w) ≡ []
+pub stops : (test : Test) (now : ℕ) (k : List ℕ) → ((p : Path) → test (k ∷ p) ≡ false) → (w : Spots) → chosen_by test now (under k w) ≡ []
 stops test now k fails [] = refl
 stops test now k fails (s ∷ ss) = rw (fails s.0) (stops test now k fails ss)
 
@@ -42,11 +42,11 @@ hash_goes level more h k p = fits_here level more (k ∷ p) h ∙ sym (fits_here
 pub plus_goes : (level : List ℕ) (more : List (List ℕ)) → fits (level ∷ more) [] ≡ false → bytes_eq level (plus ∷ []) ≡ true → (k : List ℕ) (p : List (List ℕ)) → fits (level ∷ more) (k ∷ p) ≡ fits more p
 plus_goes level more h is k p = rw (h, is) refl
 
-pub plus_not_here : (level : List ℕ) (more : List (List ℕ)) (now : ℕ) (held : Option Found) → fits (level ∷ more) [] ≡ false → chosen (level ∷ more) now (own held) ≡ []
+pub plus_not_here : (level : List ℕ) (more : List (List ℕ)) (now : ℕ) (retained : Option Found) → fits (level ∷ more) [] ≡ false → chosen (level ∷ more) now (own retained) ≡ []
 plus_not_here level more now None h = refl
 plus_not_here level more now (Some f) h = rw h refl
 
-pub all_here : (level : List ℕ) (more : List (List ℕ)) (now : ℕ) (held : Option Found) → fits (level ∷ more) [] ≡ true → chosen (level ∷ more) now (own held) ≡ own_chosen now held
+pub all_here : (level : List ℕ) (more : List (List ℕ)) (now : ℕ) (retained : Option Found) → fits (level ∷ more) [] ≡ true → chosen (level ∷ more) now (own retained) ≡ own_chosen now retained
 all_here level more now None h = refl
 all_here level more now (Some f) h = by (not (is_expired now f.message)) refl
   where
@@ -68,7 +68,7 @@ both true b h = refl
 both false b h = absurd (cc (h))
 
 -- no wildcard
-pub root_exact : (pattern : List (List ℕ)) (level : List ℕ) (more : List (List ℕ)) (now : ℕ) (ss : Held) → pattern ≡ level ∷ more → fits (level ∷ more) [] ≡ false → bytes_eq level (plus ∷ []) ≡ false
+pub root_exact : (pattern : List (List ℕ)) (level : List ℕ) (more : List (List ℕ)) (now : ℕ) (ss : Spots) → pattern ≡ level ∷ more → fits (level ∷ more) [] ≡ false → bytes_eq level (plus ∷ []) ≡ false
     → chosen_at_root pattern now ss ≡ chosen pattern now ss
 root_exact pattern level more now ss whole h is = rw whole (chosen_same (is_matched (level ∷ more)) (fits (level ∷ more)) now ss same)
   where

@@ -25,7 +25,7 @@ use Rattle.rs_tree.specs.Values.{ChildValue}
 use Rattle.rs_tree.proofs.Dividing.{full_parts, level_rises, up_to_wider}
 use Rattle.rs_tree.proofs.Growing.{from_at, row_at, put_whole, row_set, same_parts}
 use Rattle.rs_tree.proofs.Rows.{Ahead, around, in_front, in_rear, split_at, there_child, there_gap, there_own}
-use Rattle.rs_tree.proofs.Under.{Held, Path}
+use Rattle.rs_tree.proofs.Under.{Spots, Path}
 
 -- ---- a bucket
 
@@ -33,7 +33,7 @@ pub length_leaves : (ls : List Leaf) → length ls ≡ length (spots_in ls)
 length_leaves [] = refl
 length_leaves (l ∷ ls) = omega (arith, length_leaves ls)
 
-pub single_cleared : (p : Path) (w : Held) → length w ≡ 1 → is_there p w ≡ true → remove_entry (is_at (path_cmp p)) w ≡ []
+pub single_cleared : (p : Path) (w : Spots) → length w ≡ 1 → is_there p w ≡ true → remove_entry (is_at (path_cmp p)) w ≡ []
 single_cleared p [] n there = absurd (omega (arith, n))
 single_cleared p (s ∷ []) n there = at (path_cmp p s.0) refl
   where
@@ -43,7 +43,7 @@ single_cleared p (s ∷ []) n there = at (path_cmp p s.0) refl
     at Greater is = absurd (let e : false ≡ true = (rw is at there) in cc (e))
 single_cleared p (s ∷ t ∷ w) n there = absurd (omega (arith, n))
 
-pub more_cleared : (p : Path) (w : Held) → length w ≢ 1 → is_there p w ≡ true → IsFull (remove_entry (is_at (path_cmp p)) w)
+pub more_cleared : (p : Path) (w : Spots) → length w ≢ 1 → is_there p w ≡ true → IsFull (remove_entry (is_at (path_cmp p)) w)
 more_cleared p [] n there = absurd (cc (there))
 more_cleared p (s ∷ []) n there = absurd (n (omega arith))
 more_cleared p (s ∷ t ∷ w) n there = at (path_cmp p s.0) refl
@@ -59,61 +59,61 @@ none_below : (ks : Path) → under_all ks [] ≡ []
 none_below [] = refl
 none_below (k ∷ ks) = ap (under k) (none_below ks)
 
-clears_as_chain : (ks p r : Path) (b : Cleared) (w w' : Held) → behind ks p ≡ Some r → ClearsAs b w w' r → ClearsAs b (under_all ks w) (under_all ks w') p
+clears_as_chain : (ks p r : Path) (b : Cleared) (w w' : Spots) → behind ks p ≡ Some r → ClearsAs b w w' r → ClearsAs b (under_all ks w) (under_all ks w') p
 clears_as_chain ks p r Missing w w' h c = (there_behind ks p r w h ∙ c.0, ap (under_all ks) c.1)
 clears_as_chain ks p r Left w w' h c = (there_behind ks p r w h ∙ c.0, removed ks p r w w' h c.1, full_below ks w' c.2)
 clears_as_chain ks p r Last w w' h c = (there_behind ks p r w h ∙ c.0, sym (removed ks p r w (remove_entry (is_at (path_cmp r)) w) h refl) ∙ (ap (under_all ks) c.1 ∙ none_below ks), ap (under_all ks) c.2)
 
-pub clears_chain : {E : Type 0} (ks p r : Path) (b : Result Cleared E) (w w' : Held) → behind ks p ≡ Some r → Clears b w w' r → Clears b (under_all ks w) (under_all ks w') p
+pub clears_chain : {E : Type 0} (ks p r : Path) (b : Result Cleared E) (w w' : Spots) → behind ks p ≡ Some r → Clears b w w' r → Clears b (under_all ks w) (under_all ks w') p
 clears_chain ks p r (Ok b) w w' h c = clears_as_chain ks p r b w w' h c
 clears_chain ks p r (Err e) w w' h c = ap (under_all ks) c
 
-pub clears_level : {E : Type 0} (k : List ℕ) (p path : Path) (b : Result Cleared E) (w w' : Held) → path ≡ k ∷ p → Clears b w w' p → Clears b (under k w) (under k w') path
+pub clears_level : {E : Type 0} (k : List ℕ) (p path : Path) (b : Result Cleared E) (w w' : Spots) → path ≡ k ∷ p → Clears b w w' p → Clears b (under k w) (under k w') path
 clears_level k p path b w w' is c = clears_chain (k ∷ []) path p b w w' (rw (is, (bytes_decides k k).1 refl) refl) c
 
-pub clears_none : (ks p : Path) (w : Held) → behind ks p ≡ None → ClearsAs Missing (under_all ks w) (under_all ks w) p
+pub clears_none : (ks p : Path) (w : Spots) → behind ks p ≡ None → ClearsAs Missing (under_all ks w) (under_all ks w) p
 clears_none ks p w h = (not_behind ks p w h, refl)
 
 -- ---- the message of the spot itself
 
-pub held_missing : (held : Option Found) (cs : List ChildValue) → IsRow cs → is_some held ≡ false → is_there [] (own held ++ parts cs) ≡ false
-held_missing held cs r none = there_own held cs r ∙ none
+pub retained_missing : (retained : Option Found) (cs : List ChildValue) → IsRow cs → is_some retained ≡ false → is_there [] (own retained ++ parts cs) ≡ false
+retained_missing retained cs r none = there_own retained cs r ∙ none
 
-pub held_last : (held : Option Found) (cs : List ChildValue) → is_some held ≡ true → length cs ≡ 0 → ClearsAs Last (own held ++ parts cs) (own held ++ parts cs) []
-held_last None cs some none = absurd (cc (some))
-held_last (Some f) [] some none = (refl, refl, refl)
-held_last (Some f) (c ∷ cs) some none = absurd (omega (arith, none))
+pub retained_last : (retained : Option Found) (cs : List ChildValue) → is_some retained ≡ true → length cs ≡ 0 → ClearsAs Last (own retained ++ parts cs) (own retained ++ parts cs) []
+retained_last None cs some none = absurd (cc (some))
+retained_last (Some f) [] some none = (refl, refl, refl)
+retained_last (Some f) (c ∷ cs) some none = absurd (omega (arith, none))
 
-pub held_left : (held : Option Found) (cs : List ChildValue) → IsRow cs → is_some held ≡ true → length cs ≢ 0 → ClearsAs Left (own held ++ parts cs) (parts cs) []
-held_left None cs r some more = absurd (cc (some))
-held_left (Some f) [] r some more = absurd (more refl)
-held_left (Some f) (c ∷ cs) r some more = (refl, refl, full_parts (c ∷ cs) r (omega arith))
+pub retained_left : (retained : Option Found) (cs : List ChildValue) → IsRow cs → is_some retained ≡ true → length cs ≢ 0 → ClearsAs Left (own retained ++ parts cs) (parts cs) []
+retained_left None cs r some more = absurd (cc (some))
+retained_left (Some f) [] r some more = absurd (more refl)
+retained_left (Some f) (c ∷ cs) r some more = (refl, refl, full_parts (c ∷ cs) r (omega arith))
 
 -- ---- a removal among what stands before, what may be the spot, and what stands behind
 
-remove_ahead : (p : Path) (r : Held) → Ahead p r → remove_entry (is_at (path_cmp p)) r ≡ r
+remove_ahead : (p : Path) (r : Spots) → Ahead p r → remove_entry (is_at (path_cmp p)) r ≡ r
 remove_ahead p [] a = refl
-remove_ahead p (s ∷ r) a = rw a.0 (ap (λ (x : Held). s ∷ x) (remove_ahead p r a.1))
+remove_ahead p (s ∷ r) a = rw a.0 (ap (λ (x : Spots). s ∷ x) (remove_ahead p r a.1))
 
-remove_front : (p : Path) (w r : Held) → Ahead p r → remove_entry (is_at (path_cmp p)) (w ++ r) ≡ remove_entry (is_at (path_cmp p)) w ++ r
+remove_front : (p : Path) (w r : Spots) → Ahead p r → remove_entry (is_at (path_cmp p)) (w ++ r) ≡ remove_entry (is_at (path_cmp p)) w ++ r
 remove_front p [] r a = remove_ahead p r a
 remove_front p (s ∷ w) r a = at (is_eq (path_cmp p s.0)) (remove_front p w r a)
   where
     at : (b : Bool) → remove_entry (is_at (path_cmp p)) (w ++ r) ≡ remove_entry (is_at (path_cmp p)) w ++ r
         → cond b (w ++ r) (s ∷ remove_entry (is_at (path_cmp p)) (w ++ r)) ≡ cond b w (s ∷ remove_entry (is_at (path_cmp p)) w) ++ r
     at true more = refl
-    at false more = ap (λ (x : Held). s ∷ x) more
+    at false more = ap (λ (x : Spots). s ∷ x) more
 
-remove_rear : (p : Path) (l w : Held) → IsBehind p l → remove_entry (is_at (path_cmp p)) (l ++ w) ≡ l ++ remove_entry (is_at (path_cmp p)) w
+remove_rear : (p : Path) (l w : Spots) → IsBehind p l → remove_entry (is_at (path_cmp p)) (l ++ w) ≡ l ++ remove_entry (is_at (path_cmp p)) w
 remove_rear p [] w b = refl
-remove_rear p (s ∷ l) w b = rw b.0 (ap (λ (x : Held). s ∷ x) (remove_rear p l w b.1))
+remove_rear p (s ∷ l) w b = rw b.0 (ap (λ (x : Spots). s ∷ x) (remove_rear p l w b.1))
 
-remove_mid : (p : Path) (l w r : Held) → IsBehind p l → Ahead p r → remove_entry (is_at (path_cmp p)) (l ++ (w ++ r)) ≡ l ++ (remove_entry (is_at (path_cmp p)) w ++ r)
-remove_mid p l w r b a = remove_rear p l (w ++ r) b ∙ ap (λ (x : Held). l ++ x) (remove_front p w r a)
+remove_mid : (p : Path) (l w r : Spots) → IsBehind p l → Ahead p r → remove_entry (is_at (path_cmp p)) (l ++ (w ++ r)) ≡ l ++ (remove_entry (is_at (path_cmp p)) w ++ r)
+remove_mid p l w r b a = remove_rear p l (w ++ r) b ∙ ap (λ (x : Spots). l ++ x) (remove_front p w r a)
 
 -- ---- rows
 
-from_remove : (k : List ℕ) (test : Path → Bool) (w : Held) → IsFrom k w → IsFrom k (remove_entry test w)
+from_remove : (k : List ℕ) (test : Path → Bool) (w : Spots) → IsFrom k w → IsFrom k (remove_entry test w)
 from_remove k test [] f = tt
 from_remove k test (s ∷ w) f = at (test s.0) (from_remove k test w f.1)
   where
@@ -121,7 +121,7 @@ from_remove k test (s ∷ w) f = at (test s.0) (from_remove k test w f.1)
     at true more = f.1
     at false more = (f.0, more)
 
-up_to_remove : (k : List ℕ) (test : Path → Bool) (w : Held) → IsUpTo k w → IsUpTo k (remove_entry test w)
+up_to_remove : (k : List ℕ) (test : Path → Bool) (w : Spots) → IsUpTo k w → IsUpTo k (remove_entry test w)
 up_to_remove k test [] f = tt
 up_to_remove k test (s ∷ w) f = at (test s.0) (up_to_remove k test w f.1)
   where
@@ -129,7 +129,7 @@ up_to_remove k test (s ∷ w) f = at (test s.0) (up_to_remove k test w f.1)
     at true more = f.1
     at false more = (f.0, more)
 
-before_removed : (w : Held) (cs : List ChildValue) (i : ℕ) → IsRow cs → IsBefore w cs → IsBefore w (remove cs i)
+before_removed : (w : Spots) (cs : List ChildValue) (i : ℕ) → IsRow cs → IsBefore w cs → IsBefore w (remove cs i)
 before_removed w [] zero r b = tt
 before_removed w [] (suc i) r b = tt
 before_removed w (c ∷ []) zero r b = tt
@@ -153,36 +153,36 @@ remove_set (d ∷ cs) (suc i) c = ap (λ (l : List ChildValue). d ∷ l) (remove
 parts_removed : (cs : List ChildValue) (i : ℕ) → i < length cs → parts (remove cs i) ≡ parts (take i cs) ++ parts (drop (suc i) cs)
 parts_removed [] i small = absurd (omega (arith, small))
 parts_removed (c ∷ cs) zero small = refl
-parts_removed (c ∷ cs) (suc i) small = ap (λ (w : Held). c.spots ++ w) (parts_removed cs i (omega (arith, small))) ∙ sym (append_assoc c.spots (parts (take i cs)) (parts (drop (suc i) cs)))
+parts_removed (c ∷ cs) (suc i) small = ap (λ (w : Spots). c.spots ++ w) (parts_removed cs i (omega (arith, small))) ∙ sym (append_assoc c.spots (parts (take i cs)) (parts (drop (suc i) cs)))
 
 pub fewer : (cs : List ChildValue) (i : ℕ) → i < length cs → length (remove cs i) + 1 ≡ length cs
 fewer [] i small = absurd (omega (arith, small))
 fewer (c ∷ cs) zero small = omega arith
 fewer (c ∷ cs) (suc i) small = omega (arith, fewer cs i (omega (arith, small)))
 
-full_own : (held : Option Found) (w : Held) → is_some held ≡ true → IsFull (own held ++ w)
+full_own : (retained : Option Found) (w : Spots) → is_some retained ≡ true → IsFull (own retained ++ w)
 full_own None w some = absurd (cc (some))
 full_own (Some f) w some = tt
 
-full_rear : (held : Option Found) (w : Held) → IsFull w → IsFull (own held ++ w)
+full_rear : (retained : Option Found) (w : Spots) → IsFull w → IsFull (own retained ++ w)
 full_rear None w full = full
 full_rear (Some f) w full = tt
 
 -- ---- the same as the calls say it
 
-module _ (held : Option Found) (cs : List ChildValue) (r : IsRow cs) (q : List ℕ) (p : Path) (i : ℕ) (c c' : ChildValue) (small : i < length cs) (e : IsIn q cs i) (is : c ≡ get_or cs i c) (lv : c'.level ≡ c.level) where
+module _ (retained : Option Found) (cs : List ChildValue) (r : IsRow cs) (q : List ℕ) (p : Path) (i : ℕ) (c c' : ChildValue) (small : i < length cs) (e : IsIn q cs i) (is : c ≡ get_or cs i c) (lv : c'.level ≡ c.level) where
   full_c : IsFull c.spots
   full_c = let P : ChildValue → Type 0 = λ w. IsFull w.spots in subst P (sym is) (row_at cs i c small r).0
 
   pub row_kept : c'.spots ≡ c.spots → IsRow (slice_set cs i c')
   row_kept same =
-      row_set (Takes q) q cs i c c' r e is lv (let P : Held → Type 0 = λ w. IsFull w in subst P (sym same) full_c) (let P : Held → Type 0 = λ w. IsFrom c.level w in subst P (sym same) (from_at cs i c small is r))
-      (λ n l u. let P : Held → Type 0 = λ w. IsUpTo n w in subst P (sym same) u)
+      row_set (Takes q) q cs i c c' r e is lv (let P : Spots → Type 0 = λ w. IsFull w in subst P (sym same) full_c) (let P : Spots → Type 0 = λ w. IsFrom c.level w in subst P (sym same) (from_at cs i c small is r))
+      (λ n l u. let P : Spots → Type 0 = λ w. IsUpTo n w in subst P (sym same) u)
 
   row_left : c'.spots ≡ remove_entry (is_at (path_cmp (q ∷ p))) c.spots → IsFull c'.spots → IsRow (slice_set cs i c')
   row_left gone full =
-      row_set (Takes q) q cs i c c' r e is lv full (let P : Held → Type 0 = λ w. IsFrom c.level w in subst P (sym gone) (from_remove c.level (is_at (path_cmp (q ∷ p))) c.spots (from_at cs i c small is r)))
-      (λ n l u. let P : Held → Type 0 = λ w. IsUpTo n w in subst P (sym gone) (up_to_remove n (is_at (path_cmp (q ∷ p))) c.spots u))
+      row_set (Takes q) q cs i c c' r e is lv full (let P : Spots → Type 0 = λ w. IsFrom c.level w in subst P (sym gone) (from_remove c.level (is_at (path_cmp (q ∷ p))) c.spots (from_at cs i c small is r)))
+      (λ n l u. let P : Spots → Type 0 = λ w. IsUpTo n w in subst P (sym gone) (up_to_remove n (is_at (path_cmp (q ∷ p))) c.spots u))
 
   pub row_cleared : {E : Type 0} (b : Result Cleared E) → Clears b c.spots c'.spots (q ∷ p) → IsRow (slice_set cs i c')
   row_cleared (Ok Missing) h = row_kept h.1
@@ -190,72 +190,72 @@ module _ (held : Option Found) (cs : List ChildValue) (r : IsRow cs) (q : List �
   row_cleared (Ok Last) h = row_kept h.2
   row_cleared (Err x) h = row_kept h
 
-  whole : remove_entry (is_at (path_cmp (q ∷ p))) (own held ++ parts cs) ≡ (own held ++ parts (take i cs)) ++ (remove_entry (is_at (path_cmp (q ∷ p))) c.spots ++ parts (drop (suc i) cs))
+  whole : remove_entry (is_at (path_cmp (q ∷ p))) (own retained ++ parts cs) ≡ (own retained ++ parts (take i cs)) ++ (remove_entry (is_at (path_cmp (q ∷ p))) c.spots ++ parts (drop (suc i) cs))
   whole =
-      ap (λ (w : Held). remove_entry (is_at (path_cmp (q ∷ p))) w) (split_at held cs i c small)
-      ∙ (remove_mid (q ∷ p) (own held ++ parts (take i cs)) (get_or cs i c).spots (parts (drop (suc i) cs)) (in_front held cs r q p i e) (in_rear held cs r q p i e)
-      ∙ ap (λ (w : ChildValue). (own held ++ parts (take i cs)) ++ (remove_entry (is_at (path_cmp (q ∷ p))) w.spots ++ parts (drop (suc i) cs))) (sym is))
+      ap (λ (w : Spots). remove_entry (is_at (path_cmp (q ∷ p))) w) (split_at retained cs i c small)
+      ∙ (remove_mid (q ∷ p) (own retained ++ parts (take i cs)) (get_or cs i c).spots (parts (drop (suc i) cs)) (in_front retained cs r q p i e) (in_rear retained cs r q p i e)
+      ∙ ap (λ (w : ChildValue). (own retained ++ parts (take i cs)) ++ (remove_entry (is_at (path_cmp (q ∷ p))) w.spots ++ parts (drop (suc i) cs))) (sym is))
 
-  there : is_there (q ∷ p) c.spots ≡ is_there (q ∷ p) (own held ++ parts cs)
-  there = there_child held cs r q p i c small e is
+  there : is_there (q ∷ p) c.spots ≡ is_there (q ∷ p) (own retained ++ parts cs)
+  there = there_child retained cs r q p i c small e is
 
-  pub clears_missing : ClearsAs Missing c.spots c'.spots (q ∷ p) → ClearsAs Missing (own held ++ parts cs) (own held ++ parts (slice_set cs i c')) (q ∷ p)
-  clears_missing h = (sym there ∙ h.0, same_parts held cs i c c' small is h.1)
+  pub clears_missing : ClearsAs Missing c.spots c'.spots (q ∷ p) → ClearsAs Missing (own retained ++ parts cs) (own retained ++ parts (slice_set cs i c')) (q ∷ p)
+  clears_missing h = (sym there ∙ h.0, same_parts retained cs i c c' small is h.1)
 
-  full_set : IsRow (slice_set cs i c') → IsFull (own held ++ parts (slice_set cs i c'))
-  full_set row = full_rear held (parts (slice_set cs i c')) (full_parts (slice_set cs i c') row (omega (arith, small, length-set cs i c')))
+  full_set : IsRow (slice_set cs i c') → IsFull (own retained ++ parts (slice_set cs i c'))
+  full_set row = full_rear retained (parts (slice_set cs i c')) (full_parts (slice_set cs i c') row (omega (arith, small, length-set cs i c')))
 
-  pub clears_left : ClearsAs Left c.spots c'.spots (q ∷ p) → ClearsAs Left (own held ++ parts cs) (own held ++ parts (slice_set cs i c')) (q ∷ p)
+  pub clears_left : ClearsAs Left c.spots c'.spots (q ∷ p) → ClearsAs Left (own retained ++ parts cs) (own retained ++ parts (slice_set cs i c')) (q ∷ p)
   clears_left h = (
     sym there ∙ h.0,
-    put_whole held cs i c' small ∙ (ap (λ (w : Held). (own held ++ parts (take i cs)) ++ (w ++ parts (drop (suc i) cs))) h.1 ∙ sym whole),
+    put_whole retained cs i c' small ∙ (ap (λ (w : Spots). (own retained ++ parts (take i cs)) ++ (w ++ parts (drop (suc i) cs))) h.1 ∙ sym whole),
     full_set (row_left h.1 h.2),
   )
 
-  pub clears_same : c'.spots ≡ c.spots → own held ++ parts (slice_set cs i c') ≡ own held ++ parts cs
-  clears_same same = same_parts held cs i c c' small is same
+  pub clears_same : c'.spots ≡ c.spots → own retained ++ parts (slice_set cs i c') ≡ own retained ++ parts cs
+  clears_same same = same_parts retained cs i c c' small is same
 
-  gone : remove_entry (is_at (path_cmp (q ∷ p))) c.spots ≡ [] → remove_entry (is_at (path_cmp (q ∷ p))) (own held ++ parts cs) ≡ own held ++ parts (remove cs i)
+  gone : remove_entry (is_at (path_cmp (q ∷ p))) c.spots ≡ [] → remove_entry (is_at (path_cmp (q ∷ p))) (own retained ++ parts cs) ≡ own retained ++ parts (remove cs i)
   gone none =
-      whole ∙ (ap (λ (w : Held). (own held ++ parts (take i cs)) ++ (w ++ parts (drop (suc i) cs))) none
-      ∙ (append_assoc (own held) (parts (take i cs)) (parts (drop (suc i) cs)) ∙ ap (λ (w : Held). own held ++ w) (sym (parts_removed cs i small))))
+      whole ∙ (ap (λ (w : Spots). (own retained ++ parts (take i cs)) ++ (w ++ parts (drop (suc i) cs))) none
+      ∙ (append_assoc (own retained) (parts (take i cs)) (parts (drop (suc i) cs)) ∙ ap (λ (w : Spots). own retained ++ w) (sym (parts_removed cs i small))))
 
   -- the child goes
-  pub clears_child : (new : List ChildValue) → new ≡ remove (slice_set cs i c') i → (is_some held ≡ false → length cs ≡ 1 → ⊥) → ClearsAs Last c.spots c'.spots (q ∷ p) → ClearsAs Left (own held ++ parts cs) (own held ++ parts new) (q ∷ p)
+  pub clears_child : (new : List ChildValue) → new ≡ remove (slice_set cs i c') i → (is_some retained ≡ false → length cs ≡ 1 → ⊥) → ClearsAs Last c.spots c'.spots (q ∷ p) → ClearsAs Left (own retained ++ parts cs) (own retained ++ parts new) (q ∷ p)
   clears_child new put more h =
       let removed : new ≡ remove cs i = put ∙ remove_set cs i c' in (
         sym there ∙ h.0,
-        ap (λ (l : List ChildValue). own held ++ parts l) removed ∙ sym (gone h.1),
-        (let P : List ChildValue → Type 0 = λ l. IsFull (own held ++ parts l) in subst P (sym removed) (at (is_some held) refl)),
+        ap (λ (l : List ChildValue). own retained ++ parts l) removed ∙ sym (gone h.1),
+        (let P : List ChildValue → Type 0 = λ l. IsFull (own retained ++ parts l) in subst P (sym removed) (at (is_some retained) refl)),
       )
     where
-      at : (b : Bool) → is_some held ≡ b → IsFull (own held ++ parts (remove cs i))
-      at true some = full_own held (parts (remove cs i)) some
-      at false none = full_rear held (parts (remove cs i)) (full_parts (remove cs i) (row_removed cs i r) (omega (arith, fewer cs i small, two (length cs == 1) refl)))
+      at : (b : Bool) → is_some retained ≡ b → IsFull (own retained ++ parts (remove cs i))
+      at true some = full_own retained (parts (remove cs i)) some
+      at false none = full_rear retained (parts (remove cs i)) (full_parts (remove cs i) (row_removed cs i r) (omega (arith, fewer cs i small, two (length cs == 1) refl)))
         where
           two : (b : Bool) → (length cs == 1) ≡ b → 1 < length cs
           two true n = absurd (more none (grind (arith, nat_tests, n)))
           two false n = let other : length cs ≢ 1 = (λ k. grind (arith, nat_tests, n)) in omega (arith, small, other)
 
   -- the branch would be left with nothing
-  pub clears_last : is_some held ≡ false → length cs ≡ 1 → ClearsAs Last c.spots c'.spots (q ∷ p) → ClearsAs Last (own held ++ parts cs) (own held ++ parts (slice_set cs i c')) (q ∷ p)
-  clears_last none one h = (sym there ∙ h.0, gone h.1 ∙ nothing held none (remove cs i) (omega (arith, fewer cs i small, one)), same_parts held cs i c c' small is h.2)
+  pub clears_last : is_some retained ≡ false → length cs ≡ 1 → ClearsAs Last c.spots c'.spots (q ∷ p) → ClearsAs Last (own retained ++ parts cs) (own retained ++ parts (slice_set cs i c')) (q ∷ p)
+  clears_last none one h = (sym there ∙ h.0, gone h.1 ∙ nothing retained none (remove cs i) (omega (arith, fewer cs i small, one)), same_parts retained cs i c c' small is h.2)
     where
       empty : (l : List ChildValue) → length l ≡ 0 → parts l ≡ []
       empty [] n = refl
       empty (d ∷ l) n = absurd (omega (arith, n))
 
-      nothing : (held : Option Found) → is_some held ≡ false → (l : List ChildValue) → length l ≡ 0 → own held ++ parts l ≡ []
+      nothing : (retained : Option Found) → is_some retained ≡ false → (l : List ChildValue) → length l ≡ 0 → own retained ++ parts l ≡ []
       nothing None none l n = empty l n
       nothing (Some f) none l n = absurd (cc (none))
 
 -- ---- nothing at the path
 
-pub none_removed : (p : Path) (w : Held) → is_there p w ≡ false → remove_entry (is_at (path_cmp p)) w ≡ w
+pub none_removed : (p : Path) (w : Spots) → is_there p w ≡ false → remove_entry (is_at (path_cmp p)) w ≡ w
 none_removed p [] n = refl
 none_removed p (s ∷ w) n = at (path_cmp p s.0) refl (none_removed p w)
   where
     at : (o : Ordering) → path_cmp p s.0 ≡ o → (is_there p w ≡ false → remove_entry (is_at (path_cmp p)) w ≡ w) → remove_entry (is_at (path_cmp p)) (s ∷ w) ≡ s ∷ w
-    at Less is more = rw is (ap (λ (x : Held). s ∷ x) (more (rw is at n)))
+    at Less is more = rw is (ap (λ (x : Spots). s ∷ x) (more (rw is at n)))
     at Equal is more = absurd (let e : true ≡ false = (rw is at n) in cc (e))
-    at Greater is more = rw is (ap (λ (x : Held). s ∷ x) (more (rw is at n)))
+    at Greater is more = rw is (ap (λ (x : Spots). s ∷ x) (more (rw is at n)))

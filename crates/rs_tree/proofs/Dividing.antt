@@ -11,19 +11,19 @@ use Rattle.rs_tree.specs.Spots.{IsFull, under}
 use Rattle.rs_tree.proofs.Stems.{full_below}
 use Rattle.rs_tree.specs.Rows.{AreHalves, IsBefore, IsFrom, IsRow, IsUpTo, parts}
 use Rattle.rs_tree.specs.Values.{ChildValue}
-use Rattle.rs_tree.proofs.Under.{Held, Path, level_cmp}
+use Rattle.rs_tree.proofs.Under.{Spots, Path, level_cmp}
 use Rattle.rs_tree.proofs.Rows.{IsReached, back, between, level_not, parts_split, reached_first, takes_reached}
 
 -- ---- one child
 
-pub from_under : (k : List ℕ) (w : Held) → IsFrom k (under k w)
+pub from_under : (k : List ℕ) (w : Spots) → IsFrom k (under k w)
 from_under k [] = tt
 from_under k (s ∷ w) = (takes_reached false k k s.0 refl, from_under k w)
 
-pub full_under : (k : List ℕ) (w : Held) → IsFull w → IsFull (under k w)
+pub full_under : (k : List ℕ) (w : Spots) → IsFull w → IsFull (under k w)
 full_under k w full = full_below (k ∷ []) w full
 
-pub row_single : (k : List ℕ) (w : Held) (c : ChildValue) (cs : List ChildValue) → cs ≡ c ∷ [] → c.level ≡ k → c.spots ≡ under k w → IsFull w → IsRow cs
+pub row_single : (k : List ℕ) (w : Spots) (c : ChildValue) (cs : List ChildValue) → cs ≡ c ∷ [] → c.level ≡ k → c.spots ≡ under k w → IsFull w → IsRow cs
 row_single k w c cs one lv is full = rw (one, lv, is) (full_under k w full, from_under k w, tt, tt)
 
 pub parts_single : (c : ChildValue) (cs : List ChildValue) → cs ≡ c ∷ [] → parts cs ≡ c.spots
@@ -31,35 +31,35 @@ parts_single c cs one = rw one (append-nil c.spots)
 
 -- ---- a front and a rear
 
-pub from_front : (k : List ℕ) (xs ys : Held) → IsFrom k (xs ++ ys) → IsFrom k xs
+pub from_front : (k : List ℕ) (xs ys : Spots) → IsFrom k (xs ++ ys) → IsFrom k xs
 from_front k [] ys f = tt
 from_front k (x ∷ xs) ys f = (f.0, from_front k xs ys f.1)
 
-pub up_to_front : (k : List ℕ) (xs ys : Held) → IsUpTo k (xs ++ ys) → IsUpTo k xs
+pub up_to_front : (k : List ℕ) (xs ys : Spots) → IsUpTo k (xs ++ ys) → IsUpTo k xs
 up_to_front k [] ys f = tt
 up_to_front k (x ∷ xs) ys f = (f.0, up_to_front k xs ys f.1)
 
-pub up_to_rear : (k : List ℕ) (xs ys : Held) → IsUpTo k (xs ++ ys) → IsUpTo k ys
+pub up_to_rear : (k : List ℕ) (xs ys : Spots) → IsUpTo k (xs ++ ys) → IsUpTo k ys
 up_to_rear k [] ys f = f
 up_to_rear k (x ∷ xs) ys f = up_to_rear k xs ys f.1
 
-pub up_to_both : (k : List ℕ) (xs ys : Held) → IsUpTo k xs → IsUpTo k ys → IsUpTo k (xs ++ ys)
+pub up_to_both : (k : List ℕ) (xs ys : Spots) → IsUpTo k xs → IsUpTo k ys → IsUpTo k (xs ++ ys)
 up_to_both k [] ys f g = g
 up_to_both k (x ∷ xs) ys f g = (f.0, up_to_both k xs ys f.1 g)
 
-from_both : (k : List ℕ) (xs ys : Held) → IsFrom k xs → IsFrom k ys → IsFrom k (xs ++ ys)
+from_both : (k : List ℕ) (xs ys : Spots) → IsFrom k xs → IsFrom k ys → IsFrom k (xs ++ ys)
 from_both k [] ys f g = g
 from_both k (x ∷ xs) ys f g = (f.0, from_both k xs ys f.1 g)
 
-full_front : (xs ys : Held) → IsFull xs → IsFull (xs ++ ys)
+full_front : (xs ys : Spots) → IsFull xs → IsFull (xs ++ ys)
 full_front [] ys full = absurd full
 full_front (x ∷ xs) ys full = tt
 
-before_rear : (xs ys : Held) (cs : List ChildValue) → IsBefore (xs ++ ys) cs → IsBefore ys cs
+before_rear : (xs ys : Spots) (cs : List ChildValue) → IsBefore (xs ++ ys) cs → IsBefore ys cs
 before_rear xs ys [] b = tt
 before_rear xs ys (c ∷ cs) b = up_to_rear c.level xs ys b
 
-before_take : (w : Held) (cs : List ChildValue) (i : ℕ) → IsBefore w cs → IsBefore w (take i cs)
+before_take : (w : Spots) (cs : List ChildValue) (i : ℕ) → IsBefore w cs → IsBefore w (take i cs)
 before_take w cs zero b = tt
 before_take w [] (suc i) b = tt
 before_take w (c ∷ cs) (suc i) b = b
@@ -80,12 +80,12 @@ rises a k b n l = at (path_cmp k b) refl
     at Equal is = absurd (n (let P : Path → Type 0 = λ w. path_cmp a w ≡ Less in subst P (sym (exact_paths k b is)) l))
     at Greater is = absurd (n (path_total.trans a b k l (back k b is)))
 
-pub level_rises : (k n : List ℕ) (w : Held) → IsFull w → IsFrom k w → IsUpTo n w → path_cmp (k ∷ []) (n ∷ []) ≡ Less
+pub level_rises : (k n : List ℕ) (w : Spots) → IsFull w → IsFrom k w → IsUpTo n w → path_cmp (k ∷ []) (n ∷ []) ≡ Less
 level_rises k n [] full f u = absurd full
 level_rises k n (s ∷ w) full f u = rises s.0 (k ∷ []) (n ∷ []) f.0 u.0
 
 -- from a level on, if the first child is
-from_lower : (k n : List ℕ) (w : Held) → path_cmp (n ∷ []) (k ∷ []) ≢ Less → IsFrom n w → IsFrom k w
+from_lower : (k n : List ℕ) (w : Spots) → path_cmp (n ∷ []) (k ∷ []) ≢ Less → IsFrom n w → IsFrom k w
 from_lower k n [] not f = tt
 from_lower k n (s ∷ w) not f = (λ l. f.0 (between s.0 (k ∷ []) (n ∷ []) l not), from_lower k n w not f.1)
 
@@ -112,7 +112,7 @@ from_least cs r = from_all [] cs r (starts cs)
     starts [] = tt
     starts (c ∷ cs) = level_not c.level [] [] (not_less c.level)
 
-pub up_to_wider : (k n : List ℕ) (w : Held) → path_cmp (n ∷ []) (k ∷ []) ≢ Less → IsUpTo k w → IsUpTo n w
+pub up_to_wider : (k n : List ℕ) (w : Spots) → path_cmp (n ∷ []) (k ∷ []) ≢ Less → IsUpTo k w → IsUpTo n w
 up_to_wider k n [] not u = tt
 up_to_wider k n (s ∷ w) not u = (between s.0 (k ∷ []) (n ∷ []) u.0 not, up_to_wider k n w not u.1)
 
@@ -156,7 +156,7 @@ pub are_halves : (first : List ℕ) (cs : List ChildValue) (i : ℕ) (d : ChildV
     → low.level ≡ first → low.spots ≡ parts (take i cs) → high.level ≡ (get_or (drop i cs) 0 d).level → high.spots ≡ parts (drop i cs) → AreHalves first (parts cs) low high
 are_halves first cs i d low high r start more small level low_is above high_is = record {
   level = level;
-  start = rw low_is (from_front first (parts (take i cs)) (parts (drop i cs)) (let P : Held → Type 0 = λ w. IsFrom first w in subst P (parts_split cs i) start));
+  start = rw low_is (from_front first (parts (take i cs)) (parts (drop i cs)) (let P : Spots → Type 0 = λ w. IsFrom first w in subst P (parts_split cs i) start));
   whole = rw (low_is, high_is) (sym (parts_split cs i));
   some = rw low_is (full_take cs i r more (omega (arith, small)));
   more = rw high_is (full_drop cs i r small);
@@ -169,10 +169,10 @@ are_halves first cs i d low high r start more small level low_is above high_is =
 pub parts_divided : (cs : List ChildValue) (i : ℕ) (c low high : ChildValue) → i < length cs → c ≡ get_or cs i c → low.spots ++ high.spots ≡ c.spots → parts (slice_set (insert cs (suc i) high) i low) ≡ parts cs
 parts_divided [] i c low high small is whole = absurd (omega (arith, small))
 parts_divided (d ∷ cs) zero c low high small is whole =
-    sym (append_assoc low.spots high.spots (parts cs)) ∙ ap (λ (w : Held). w ++ parts cs) (whole ∙ ap (λ (w : ChildValue). w.spots) is)
-parts_divided (d ∷ cs) (suc i) c low high small is whole = ap (λ (w : Held). d.spots ++ w) (parts_divided cs i c low high (omega (arith, small)) is whole)
+    sym (append_assoc low.spots high.spots (parts cs)) ∙ ap (λ (w : Spots). w ++ parts cs) (whole ∙ ap (λ (w : ChildValue). w.spots) is)
+parts_divided (d ∷ cs) (suc i) c low high small is whole = ap (λ (w : Spots). d.spots ++ w) (parts_divided cs i c low high (omega (arith, small)) is whole)
 
-before_divided : (w : Held) (cs : List ChildValue) (i : ℕ) (c low high : ChildValue) → i < length cs → c ≡ get_or cs i c → low.level ≡ c.level → IsBefore w cs → IsBefore w (slice_set (insert cs (suc i) high) i low)
+before_divided : (w : Spots) (cs : List ChildValue) (i : ℕ) (c low high : ChildValue) → i < length cs → c ≡ get_or cs i c → low.level ≡ c.level → IsBefore w cs → IsBefore w (slice_set (insert cs (suc i) high) i low)
 before_divided w [] i c low high small is lv b = absurd (omega (arith, small))
 before_divided w (d ∷ cs) zero c low high small is lv b = let P : List ℕ → Type 0 = λ k. IsUpTo k w in subst P (sym (lv ∙ ap (λ (x : ChildValue). x.level) is)) b
 before_divided w (d ∷ cs) (suc i) c low high small is lv b = b
@@ -181,16 +181,16 @@ pub row_divided : (cs : List ChildValue) (i : ℕ) (c low high : ChildValue) →
 row_divided [] i c low high small is r h = absurd (omega (arith, small))
 row_divided (d ∷ cs) zero c low high small is r h =
     let whole : d.spots ≡ low.spots ++ high.spots = sym (h.whole ∙ ap (λ (w : ChildValue). w.spots) is) in
-    let behind : IsBefore high.spots cs = before_rear low.spots high.spots cs (let P : Held → Type 0 = λ w. IsBefore w cs in subst P whole r.2) in
+    let behind : IsBefore high.spots cs = before_rear low.spots high.spots cs (let P : Spots → Type 0 = λ w. IsBefore w cs in subst P whole r.2) in
     (h.some, (let P : List ℕ → Type 0 = λ k. IsFrom k low.spots in subst P (sym h.level) h.start), h.before, (h.more, h.from, behind, r.3))
 row_divided (d ∷ cs) (suc i) c low high small is r h =
     (r.0, r.1, before_divided d.spots cs i c low high (omega (arith, small)) is h.level r.2, row_divided cs i c low high (omega (arith, small)) is r.3 h)
 
-pub row_two : (first : List ℕ) (w : Held) (low high : ChildValue) (cs : List ChildValue) → cs ≡ low ∷ high ∷ [] → AreHalves first w low high → IsRow cs
+pub row_two : (first : List ℕ) (w : Spots) (low high : ChildValue) (cs : List ChildValue) → cs ≡ low ∷ high ∷ [] → AreHalves first w low high → IsRow cs
 row_two first w low high cs two h = rw two (h.some, (let P : List ℕ → Type 0 = λ k. IsFrom k low.spots in subst P (sym h.level) h.start), h.before, (h.more, h.from, tt, tt))
 
-pub parts_two : (first : List ℕ) (w : Held) (low high : ChildValue) (cs : List ChildValue) → cs ≡ low ∷ high ∷ [] → AreHalves first w low high → parts cs ≡ w
-parts_two first w low high cs two h = rw two (ap (λ (x : Held). low.spots ++ x) (append-nil high.spots) ∙ h.whole)
+pub parts_two : (first : List ℕ) (w : Spots) (low high : ChildValue) (cs : List ChildValue) → cs ≡ low ∷ high ∷ [] → AreHalves first w low high → parts cs ≡ w
+parts_two first w low high cs two h = rw two (ap (λ (x : Spots). low.spots ++ x) (append-nil high.spots) ∙ h.whole)
 
 module _ (cs new : List ChildValue) (i : ℕ) (c low high : ChildValue) (small : i < length cs) (is : c ≡ get_or cs i c) (r : IsRow cs) (h : AreHalves c.level c.spots low high) where
   as_suc : new ≡ slice_set (insert cs (i + 1) high) i low → new ≡ slice_set (insert cs (suc i) high) i low

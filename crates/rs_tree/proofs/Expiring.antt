@@ -7,7 +7,7 @@ use Rattle.rs_tree.specs.Sweeping.{is_expired_spot}
 use Rattle.rs_tree.proofs.Ends.{earliest_both, gone_both}
 use Rattle.rs_tree.specs.Rows.{parts}
 use Rattle.rs_tree.specs.Values.{ChildValue}
-use Rattle.rs_tree.proofs.Under.{Held}
+use Rattle.rs_tree.proofs.Under.{Spots}
 use Rattle.rs_tree.proofs.Rows.{parts_at}
 
 module _ (cs : List ChildValue) (i : ℕ) (c : ChildValue) (small : i < length cs) (is : c ≡ get_or cs i c) where
@@ -18,7 +18,7 @@ module _ (cs : List ChildValue) (i : ℕ) (c : ChildValue) (small : i < length c
   earliest_turn before after all h so = ap (λ (b : ℕ). earliest b (parts (drop (i + 1) cs))) h ∙ (sym (ap (earliest before) here ∙ earliest_both before c.spots (parts (drop (i + 1) cs))) ∙ so)
 
   pub gone_turn : (now : ℕ) → length (filter (is_expired_spot now) (parts (drop i cs))) ≡ length (filter (is_expired_spot now) c.spots) + length (filter (is_expired_spot now) (parts (drop (i + 1) cs)))
-  gone_turn now = ap (λ (w : Held). length (filter (is_expired_spot now) w)) here ∙ gone_both now c.spots (parts (drop (i + 1) cs))
+  gone_turn now = ap (λ (w : Spots). length (filter (is_expired_spot now) w)) here ∙ gone_both now c.spots (parts (drop (i + 1) cs))
 
   pub many_turn : length (parts (drop i cs)) ≡ length c.spots + length (parts (drop (i + 1) cs))
   many_turn = ap length here ∙ length-append c.spots (parts (drop (i + 1) cs))

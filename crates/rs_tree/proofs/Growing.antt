@@ -9,7 +9,7 @@ use Rattle.std.specs.declared.cmp.Ordering.TheVariants.{Less, Equal, Greater}
 use Rattle.rs_message.specs.declared.entry.Found.{Found}
 use Rattle.rs_topic.specs.Order.{path_cmp}
 use Rattle.rs_tree.specs.Spots.{IsFull, is_there, own, under}
-use Rattle.rs_tree.proofs.Under.{told_by, full_insert, Held, Path, level_cmp}
+use Rattle.rs_tree.proofs.Under.{told_by, full_insert, Spots, Path, level_cmp}
 use Rattle.rs_tree.proofs.Stems.{insert_all}
 use Rattle.rs_tree.specs.Rows.{IsAhead, IsBefore, IsBehind, IsEdge, IsFrom, IsGap, IsIn, IsRow, IsUpTo, Takes, parts}
 use Rattle.rs_tree.specs.Values.{ChildValue}
@@ -17,11 +17,11 @@ use Rattle.rs_tree.proofs.Rows.{Ahead, BeforeAll, ahead_all, around, behind_up_t
 
 -- ---- an insertion among what stands before, what may be the spot, and what stands behind
 
-insert_ahead : (p : Path) (f : Found) (r : Held) → Ahead p r → insert_entry path_cmp r p f ≡ (p, f) ∷ r
+insert_ahead : (p : Path) (f : Found) (r : Spots) → Ahead p r → insert_entry path_cmp r p f ≡ (p, f) ∷ r
 insert_ahead p f [] a = refl
 insert_ahead p f (s ∷ r) a = rw a.0 refl
 
-insert_front : (p : Path) (f : Found) (w r : Held) → Ahead p r → insert_entry path_cmp (w ++ r) p f ≡ insert_entry path_cmp w p f ++ r
+insert_front : (p : Path) (f : Found) (w r : Spots) → Ahead p r → insert_entry path_cmp (w ++ r) p f ≡ insert_entry path_cmp w p f ++ r
 insert_front p f [] r a = insert_ahead p f r a
 insert_front p f (s ∷ w) r a = at (path_cmp p s.0) (insert_front p f w r a)
   where
@@ -29,33 +29,33 @@ insert_front p f (s ∷ w) r a = at (path_cmp p s.0) (insert_front p f w r a)
         → match_ordering o ((p, f) ∷ s ∷ w ++ r) ((s.0, f) ∷ w ++ r) (s ∷ insert_entry path_cmp (w ++ r) p f) ≡ match_ordering o ((p, f) ∷ s ∷ w) ((s.0, f) ∷ w) (s ∷ insert_entry path_cmp w p f) ++ r
     at Less more = refl
     at Equal more = refl
-    at Greater more = ap (λ (x : Held). s ∷ x) more
+    at Greater more = ap (λ (x : Spots). s ∷ x) more
 
-insert_rear : (p : Path) (f : Found) (l w : Held) → IsBehind p l → insert_entry path_cmp (l ++ w) p f ≡ l ++ insert_entry path_cmp w p f
+insert_rear : (p : Path) (f : Found) (l w : Spots) → IsBehind p l → insert_entry path_cmp (l ++ w) p f ≡ l ++ insert_entry path_cmp w p f
 insert_rear p f [] w b = refl
-insert_rear p f (s ∷ l) w b = rw b.0 (ap (λ (x : Held). s ∷ x) (insert_rear p f l w b.1))
+insert_rear p f (s ∷ l) w b = rw b.0 (ap (λ (x : Spots). s ∷ x) (insert_rear p f l w b.1))
 
-insert_mid : (p : Path) (f : Found) (l w r : Held) → IsBehind p l → Ahead p r → insert_entry path_cmp (l ++ (w ++ r)) p f ≡ l ++ (insert_entry path_cmp w p f ++ r)
-insert_mid p f l w r b a = insert_rear p f l (w ++ r) b ∙ ap (λ (x : Held). l ++ x) (insert_front p f w r a)
+insert_mid : (p : Path) (f : Found) (l w r : Spots) → IsBehind p l → Ahead p r → insert_entry path_cmp (l ++ (w ++ r)) p f ≡ l ++ (insert_entry path_cmp w p f ++ r)
+insert_mid p f l w r b a = insert_rear p f l (w ++ r) b ∙ ap (λ (x : Spots). l ++ x) (insert_front p f w r a)
 
-insert_between : (p : Path) (f : Found) (l r : Held) → IsBehind p l → Ahead p r → insert_entry path_cmp (l ++ r) p f ≡ l ++ ((p, f) ∷ r)
-insert_between p f l r b a = insert_rear p f l r b ∙ ap (λ (x : Held). l ++ x) (insert_ahead p f r a)
+insert_between : (p : Path) (f : Found) (l r : Spots) → IsBehind p l → Ahead p r → insert_entry path_cmp (l ++ r) p f ≡ l ++ ((p, f) ∷ r)
+insert_between p f l r b a = insert_rear p f l r b ∙ ap (λ (x : Spots). l ++ x) (insert_ahead p f r a)
 
 -- ---- the parts of the children, one of which is another or new
 
 set_split : (cs : List ChildValue) (i : ℕ) (c : ChildValue) → i < length cs → parts (slice_set cs i c) ≡ parts (take i cs) ++ (c.spots ++ parts (drop (suc i) cs))
 set_split [] i c small = absurd (omega (arith, small))
 set_split (d ∷ cs) zero c small = refl
-set_split (d ∷ cs) (suc i) c small = ap (λ (w : Held). d.spots ++ w) (set_split cs i c (omega (arith, small))) ∙ sym (append_assoc d.spots (parts (take i cs)) (c.spots ++ parts (drop (suc i) cs)))
+set_split (d ∷ cs) (suc i) c small = ap (λ (w : Spots). d.spots ++ w) (set_split cs i c (omega (arith, small))) ∙ sym (append_assoc d.spots (parts (take i cs)) (c.spots ++ parts (drop (suc i) cs)))
 
 insert_split : (cs : List ChildValue) (i : ℕ) (c : ChildValue) → i ≤ length cs → parts (insert cs i c) ≡ parts (take i cs) ++ (c.spots ++ parts (drop i cs))
 insert_split cs zero c small = refl
 insert_split [] (suc i) c small = absurd (omega (arith, small))
-insert_split (d ∷ cs) (suc i) c small = ap (λ (w : Held). d.spots ++ w) (insert_split cs i c (omega (arith, small))) ∙ sym (append_assoc d.spots (parts (take i cs)) (c.spots ++ parts (drop i cs)))
+insert_split (d ∷ cs) (suc i) c small = ap (λ (w : Spots). d.spots ++ w) (insert_split cs i c (omega (arith, small))) ∙ sym (append_assoc d.spots (parts (take i cs)) (c.spots ++ parts (drop i cs)))
 
 -- ---- a row, one child of which is another
 
-pub from_insert : (k : List ℕ) (p : Path) (f : Found) (w : Held) → path_cmp p (k ∷ []) ≢ Less → IsFrom k w → IsFrom k (insert_entry path_cmp w p f)
+pub from_insert : (k : List ℕ) (p : Path) (f : Found) (w : Spots) → path_cmp p (k ∷ []) ≢ Less → IsFrom k w → IsFrom k (insert_entry path_cmp w p f)
 from_insert k p f [] n a = (n, tt)
 from_insert k p f (s ∷ w) n a = at (path_cmp p s.0) (from_insert k p f w n a.1)
   where
@@ -64,7 +64,7 @@ from_insert k p f (s ∷ w) n a = at (path_cmp p s.0) (from_insert k p f w n a.1
     at Equal more = a
     at Greater more = (a.0, more)
 
-pub up_to_insert : (k : List ℕ) (p : Path) (f : Found) (w : Held) → path_cmp p (k ∷ []) ≡ Less → IsUpTo k w → IsUpTo k (insert_entry path_cmp w p f)
+pub up_to_insert : (k : List ℕ) (p : Path) (f : Found) (w : Spots) → path_cmp p (k ∷ []) ≡ Less → IsUpTo k w → IsUpTo k (insert_entry path_cmp w p f)
 up_to_insert k p f [] n a = (n, tt)
 up_to_insert k p f (s ∷ w) n a = at (path_cmp p s.0) (up_to_insert k p f w n a.1)
   where
@@ -73,7 +73,7 @@ up_to_insert k p f (s ∷ w) n a = at (path_cmp p s.0) (up_to_insert k p f w n a
     at Equal more = a
     at Greater more = (a.0, more)
 
-before_set : (w : Held) (cs : List ChildValue) (i : ℕ) (c c' : ChildValue) → (get_or cs i c).level ≡ c'.level → IsBefore w cs → IsBefore w (slice_set cs i c')
+before_set : (w : Spots) (cs : List ChildValue) (i : ℕ) (c c' : ChildValue) → (get_or cs i c).level ≡ c'.level → IsBefore w cs → IsBefore w (slice_set cs i c')
 before_set w [] i c c' same b = tt
 before_set w (d ∷ cs) zero c c' same b = let P : List ℕ → Type 0 = λ k. IsUpTo k w in subst P same b
 before_set w (d ∷ cs) (suc i) c c' same b = b
@@ -113,61 +113,61 @@ row_new q p f (d ∷ n ∷ cs) (suc (suc i)) c r e lv is = (r.0, r.1, r.2, row_n
 
 -- ---- the same as the calls say it
 
-pub put_whole : (held : Option Found) (cs : List ChildValue) (i : ℕ) (c : ChildValue) → i < length cs → own held ++ parts (slice_set cs i c) ≡ (own held ++ parts (take i cs)) ++ (c.spots ++ parts (drop (suc i) cs))
-put_whole held cs i c small = around (own held) (parts (take i cs)) (parts (slice_set cs i c)) c.spots (parts (drop (suc i) cs)) (set_split cs i c small)
+pub put_whole : (retained : Option Found) (cs : List ChildValue) (i : ℕ) (c : ChildValue) → i < length cs → own retained ++ parts (slice_set cs i c) ≡ (own retained ++ parts (take i cs)) ++ (c.spots ++ parts (drop (suc i) cs))
+put_whole retained cs i c small = around (own retained) (parts (take i cs)) (parts (slice_set cs i c)) c.spots (parts (drop (suc i) cs)) (set_split cs i c small)
 
-pub same_parts : (held : Option Found) (cs : List ChildValue) (i : ℕ) (c c' : ChildValue) → i < length cs → c ≡ get_or cs i c → c'.spots ≡ c.spots → own held ++ parts (slice_set cs i c') ≡ own held ++ parts cs
-same_parts held cs i c c' small is same =
+pub same_parts : (retained : Option Found) (cs : List ChildValue) (i : ℕ) (c c' : ChildValue) → i < length cs → c ≡ get_or cs i c → c'.spots ≡ c.spots → own retained ++ parts (slice_set cs i c') ≡ own retained ++ parts cs
+same_parts retained cs i c c' small is same =
     let there : c'.spots ≡ (get_or cs i c).spots = same ∙ ap (λ (w : ChildValue). w.spots) is in
-    put_whole held cs i c' small ∙ (ap (λ (w : Held). (own held ++ parts (take i cs)) ++ (w ++ parts (drop (suc i) cs))) there ∙ sym (split_at held cs i c small))
+    put_whole retained cs i c' small ∙ (ap (λ (w : Spots). (own retained ++ parts (take i cs)) ++ (w ++ parts (drop (suc i) cs))) there ∙ sym (split_at retained cs i c small))
 
-module _ (held : Option Found) (cs : List ChildValue) (r : IsRow cs) (q : List ℕ) (p : Path) (f : Found) (i : ℕ) where
+module _ (retained : Option Found) (cs : List ChildValue) (r : IsRow cs) (q : List ℕ) (p : Path) (f : Found) (i : ℕ) where
   pub full_child : (c : ChildValue) → i < length cs → c ≡ get_or cs i c → IsFull c.spots
   full_child c small is = let P : ChildValue → Type 0 = λ w. IsFull w.spots in subst P (sym is) (row_at cs i c small r).0
 
   from_child : (c : ChildValue) → i < length cs → c ≡ get_or cs i c → IsFrom c.level c.spots
   from_child c small is = let P : ChildValue → Type 0 = λ w. IsFrom w.level w.spots in subst P (sym is) (row_at cs i c small r).1
 
-  set_whole : (c : ChildValue) → i < length cs → own held ++ parts (slice_set cs i c) ≡ (own held ++ parts (take i cs)) ++ (c.spots ++ parts (drop (suc i) cs))
-  set_whole c small = around (own held) (parts (take i cs)) (parts (slice_set cs i c)) c.spots (parts (drop (suc i) cs)) (set_split cs i c small)
+  set_whole : (c : ChildValue) → i < length cs → own retained ++ parts (slice_set cs i c) ≡ (own retained ++ parts (take i cs)) ++ (c.spots ++ parts (drop (suc i) cs))
+  set_whole c small = around (own retained) (parts (take i cs)) (parts (slice_set cs i c)) c.spots (parts (drop (suc i) cs)) (set_split cs i c small)
 
-  pub same_in : (c c' : ChildValue) → i < length cs → c ≡ get_or cs i c → c'.spots ≡ c.spots → own held ++ parts (slice_set cs i c') ≡ own held ++ parts cs
+  pub same_in : (c c' : ChildValue) → i < length cs → c ≡ get_or cs i c → c'.spots ≡ c.spots → own retained ++ parts (slice_set cs i c') ≡ own retained ++ parts cs
   same_in c c' small is same =
       let there : c'.spots ≡ (get_or cs i c).spots = same ∙ ap (λ (w : ChildValue). w.spots) is in
-      set_whole c' small ∙ (ap (λ (w : Held). (own held ++ parts (take i cs)) ++ (w ++ parts (drop (suc i) cs))) there ∙ sym (split_at held cs i c small))
+      set_whole c' small ∙ (ap (λ (w : Spots). (own retained ++ parts (take i cs)) ++ (w ++ parts (drop (suc i) cs))) there ∙ sym (split_at retained cs i c small))
 
-  pub grown_in : (c c' : ChildValue) → i < length cs → IsIn q cs i → c ≡ get_or cs i c → c'.spots ≡ insert_entry path_cmp c.spots (q ∷ p) f → own held ++ parts (slice_set cs i c') ≡ insert_entry path_cmp (own held ++ parts cs) (q ∷ p) f
+  pub grown_in : (c c' : ChildValue) → i < length cs → IsIn q cs i → c ≡ get_or cs i c → c'.spots ≡ insert_entry path_cmp c.spots (q ∷ p) f → own retained ++ parts (slice_set cs i c') ≡ insert_entry path_cmp (own retained ++ parts cs) (q ∷ p) f
   grown_in c c' small e is put =
       let there : c'.spots ≡ insert_entry path_cmp (get_or cs i c).spots (q ∷ p) f = put ∙ ap (λ (w : ChildValue). insert_entry path_cmp w.spots (q ∷ p) f) is in
-      set_whole c' small ∙ (ap (λ (w : Held). (own held ++ parts (take i cs)) ++ (w ++ parts (drop (suc i) cs))) there
-      ∙ (sym (insert_mid (q ∷ p) f (own held ++ parts (take i cs)) (get_or cs i c).spots (parts (drop (suc i) cs)) (in_front held cs r q p i e) (in_rear held cs r q p i e))
-      ∙ ap (λ (w : Held). insert_entry path_cmp w (q ∷ p) f) (sym (split_at held cs i c small))))
+      set_whole c' small ∙ (ap (λ (w : Spots). (own retained ++ parts (take i cs)) ++ (w ++ parts (drop (suc i) cs))) there
+      ∙ (sym (insert_mid (q ∷ p) f (own retained ++ parts (take i cs)) (get_or cs i c).spots (parts (drop (suc i) cs)) (in_front retained cs r q p i e) (in_rear retained cs r q p i e))
+      ∙ ap (λ (w : Spots). insert_entry path_cmp w (q ∷ p) f) (sym (split_at retained cs i c small))))
 
-  pub grown_gap : (c : ChildValue) → i ≤ length cs → IsGap q cs i → c.spots ≡ (q ∷ p, f) ∷ [] → own held ++ parts (insert cs i c) ≡ insert_entry path_cmp (own held ++ parts cs) (q ∷ p) f
+  pub grown_gap : (c : ChildValue) → i ≤ length cs → IsGap q cs i → c.spots ≡ (q ∷ p, f) ∷ [] → own retained ++ parts (insert cs i c) ≡ insert_entry path_cmp (own retained ++ parts cs) (q ∷ p) f
   grown_gap c small e is =
-      around (own held) (parts (take i cs)) (parts (insert cs i c)) c.spots (parts (drop i cs)) (insert_split cs i c small)
-      ∙ (ap (λ (w : Held). (own held ++ parts (take i cs)) ++ (w ++ parts (drop i cs))) is
-      ∙ (sym (insert_between (q ∷ p) f (own held ++ parts (take i cs)) (parts (drop i cs)) (gap_front held cs r q p i e) (gap_rear held cs r q p i e))
-      ∙ ap (λ (w : Held). insert_entry path_cmp w (q ∷ p) f) (sym (split_gap held cs i))))
+      around (own retained) (parts (take i cs)) (parts (insert cs i c)) c.spots (parts (drop i cs)) (insert_split cs i c small)
+      ∙ (ap (λ (w : Spots). (own retained ++ parts (take i cs)) ++ (w ++ parts (drop i cs))) is
+      ∙ (sym (insert_between (q ∷ p) f (own retained ++ parts (take i cs)) (parts (drop i cs)) (gap_front retained cs r q p i e) (gap_rear retained cs r q p i e))
+      ∙ ap (λ (w : Spots). insert_entry path_cmp w (q ∷ p) f) (sym (split_gap retained cs i))))
 
   pub row_same : (c c' : ChildValue) → i < length cs → IsIn q cs i → c ≡ get_or cs i c → c'.level ≡ c.level → c'.spots ≡ c.spots → IsRow (slice_set cs i c')
   row_same c c' small e is lv same =
-      row_set (Takes q) q cs i c c' r e is lv (let P : Held → Type 0 = λ w. IsFull w in subst P (sym same) (full_child c small is)) (let P : Held → Type 0 = λ w. IsFrom c.level w in subst P (sym same) (from_child c small is))
-      (λ n l u. let P : Held → Type 0 = λ w. IsUpTo n w in subst P (sym same) u)
+      row_set (Takes q) q cs i c c' r e is lv (let P : Spots → Type 0 = λ w. IsFull w in subst P (sym same) (full_child c small is)) (let P : Spots → Type 0 = λ w. IsFrom c.level w in subst P (sym same) (from_child c small is))
+      (λ n l u. let P : Spots → Type 0 = λ w. IsUpTo n w in subst P (sym same) u)
 
   pub row_grown : (c c' : ChildValue) → i < length cs → IsIn q cs i → c ≡ get_or cs i c → c'.level ≡ c.level → c'.spots ≡ insert_entry path_cmp c.spots (q ∷ p) f → IsRow (slice_set cs i c')
   row_grown c c' small e is lv put =
-      let new : Held = insert_entry path_cmp c.spots (q ∷ p) f in
+      let new : Spots = insert_entry path_cmp c.spots (q ∷ p) f in
       let reached : path_cmp (q ∷ p) (c.level ∷ []) ≢ Less = takes_reached c.is_row c.level q p (let P : ChildValue → Type 0 = λ w. Takes q w in subst P (sym is) (edge_at (Takes q) q cs i c e)) in
-      row_set (Takes q) q cs i c c' r e is lv (let P : Held → Type 0 = λ w. IsFull w in subst P (sym put) (full_insert c.spots (q ∷ p) f)) (let P : Held → Type 0 = λ w. IsFrom c.level w in subst P (sym put) (from_insert c.level (q ∷ p) f c.spots reached (from_child c small is)))
-      (λ n l u. let P : Held → Type 0 = λ w. IsUpTo n w in subst P (sym put) (up_to_insert n (q ∷ p) f c.spots (level_less q n p l) u))
+      row_set (Takes q) q cs i c c' r e is lv (let P : Spots → Type 0 = λ w. IsFull w in subst P (sym put) (full_insert c.spots (q ∷ p) f)) (let P : Spots → Type 0 = λ w. IsFrom c.level w in subst P (sym put) (from_insert c.level (q ∷ p) f c.spots reached (from_child c small is)))
+      (λ n l u. let P : Spots → Type 0 = λ w. IsUpTo n w in subst P (sym put) (up_to_insert n (q ∷ p) f c.spots (level_less q n p l) u))
 
   pub row_put : {T E : Type 0} (o : Result T E) (c c' : ChildValue) → i < length cs → IsIn q cs i → c ≡ get_or cs i c → c'.level ≡ c.level → OnOk o (c'.spots ≡ insert_entry path_cmp c.spots (q ∷ p) f) → OnErr o (c'.spots ≡ c.spots) → IsRow (slice_set cs i c')
   row_put (Ok x) c c' small e is lv done kept = row_grown c c' small e is lv done
   row_put (Err x) c c' small e is lv done kept = row_same c c' small e is lv kept
 
 -- the message of the spot itself comes first
-pub own_first : (held : Option Found) (f : Found) (cs : List ChildValue) → IsRow cs → ([], f) ∷ parts cs ≡ insert_entry path_cmp (own held ++ parts cs) [] f
+pub own_first : (retained : Option Found) (f : Found) (cs : List ChildValue) → IsRow cs → ([], f) ∷ parts cs ≡ insert_entry path_cmp (own retained ++ parts cs) [] f
 own_first (Some g) f cs r = refl
 own_first None f cs r = sym (insert_ahead [] f (parts cs) (ahead_all [] cs r (first cs)))
   where
@@ -178,8 +178,8 @@ own_first None f cs r = sym (insert_ahead [] f (parts cs) (ahead_all [] cs r (fi
 -- ---- one child, below its level
 
 module _ (k : List ℕ) (p path : Path) (f : Found) (is : path ≡ k ∷ p) where
-  pub grown_under : (w w' : Held) → w' ≡ insert_entry path_cmp w p f → under k w' ≡ insert_entry path_cmp (under k w) path f
+  pub grown_under : (w w' : Spots) → w' ≡ insert_entry path_cmp w p f → under k w' ≡ insert_entry path_cmp (under k w) path f
   grown_under w w' put = rw (is, put) (sym (insert_all (k ∷ []) p f w))
 
-  pub told_under : {E : Type 0} (o : Result Bool E) (w : Held) → IfOk o (λ was. was ≡ is_there p w) → IfOk o (λ was. was ≡ is_there path (under k w))
+  pub told_under : {E : Type 0} (o : Result Bool E) (w : Spots) → IfOk o (λ was. was ≡ is_there p w) → IfOk o (λ was. was ≡ is_there path (under k w))
   told_under o w t = told_by o (is_there p w) (is_there path (under k w)) t (there_under k p path w is)

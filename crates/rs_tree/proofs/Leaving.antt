@@ -18,11 +18,11 @@ use Rattle.rs_message.specs.Messages.{is_expired}
 use Rattle.rs_store.specs.Contents.{is_gone}
 use Rattle.rs_store.proofs.Expiring.{calm_until}
 use Rattle.rs_tree.proofs.Growing.{from_at, row_at}
-use Rattle.rs_tree.proofs.Under.{Held}
+use Rattle.rs_tree.proofs.Under.{Spots}
 
 -- ---- a row that grows at its end
 
-before_one : (w : Held) (cs : List ChildValue) (c : ChildValue) → IsUpTo c.level w → IsBefore w cs → IsBefore w (cs ++ c ∷ [])
+before_one : (w : Spots) (cs : List ChildValue) (c : ChildValue) → IsUpTo c.level w → IsBefore w cs → IsBefore w (cs ++ c ∷ [])
 before_one w [] c u b = u
 before_one w (d ∷ cs) c u b = b
 
@@ -33,11 +33,11 @@ row_push (d ∷ cs) c r u full from =
 
 pub parts_push : (cs : List ChildValue) (c : ChildValue) → parts (cs ++ c ∷ []) ≡ parts cs ++ c.spots
 parts_push [] c = append-nil c.spots
-parts_push (d ∷ cs) c = ap (λ (w : Held). d.spots ++ w) (parts_push cs c) ∙ sym (append_assoc d.spots (parts cs) c.spots)
+parts_push (d ∷ cs) c = ap (λ (w : Spots). d.spots ++ w) (parts_push cs c) ∙ sym (append_assoc d.spots (parts cs) c.spots)
 
 -- ---- filters
 
-from_filter : (k : List ℕ) (moment : ℕ) (w : Held) → IsFrom k w → IsFrom k (filter (spot_stays moment) w)
+from_filter : (k : List ℕ) (moment : ℕ) (w : Spots) → IsFrom k w → IsFrom k (filter (spot_stays moment) w)
 from_filter k moment [] f = tt
 from_filter k moment (s ∷ w) f = at (spot_stays moment s) (from_filter k moment w f.1)
   where
@@ -45,7 +45,7 @@ from_filter k moment (s ∷ w) f = at (spot_stays moment s) (from_filter k momen
     at true more = (f.0, more)
     at false more = more
 
-up_to_filter : (k : List ℕ) (moment : ℕ) (w : Held) → IsUpTo k w → IsUpTo k (filter (spot_stays moment) w)
+up_to_filter : (k : List ℕ) (moment : ℕ) (w : Spots) → IsUpTo k w → IsUpTo k (filter (spot_stays moment) w)
 up_to_filter k moment [] f = tt
 up_to_filter k moment (s ∷ w) f = at (spot_stays moment s) (up_to_filter k moment w f.1)
   where
@@ -79,16 +79,16 @@ module _ (moment : ℕ) (cs left : List ChildValue) (i : ℕ) where
     pub swept_gone : IsLeft moment c None → IsSwept moment cs left (i + 1)
     swept_gone h = record {
       row = so.row;
-      same = so.same ∙ sym (more ∙ (ap (λ (w : Held). filter (spot_stays moment) (parts (take i cs)) ++ w) h ∙ append-nil (filter (spot_stays moment) (parts (take i cs)))));
+      same = so.same ∙ sym (more ∙ (ap (λ (w : Spots). filter (spot_stays moment) (parts (take i cs)) ++ w) h ∙ append-nil (filter (spot_stays moment) (parts (take i cs)))));
     }
 
     pub swept_left : (d : ChildValue) (new : List ChildValue) → new ≡ left ++ d ∷ [] → IsLeft moment c (Some d) → IsSwept moment cs new (i + 1)
     swept_left d new put h =
-        let up : IsUpTo d.level (parts left) = (let P : List ℕ → Type 0 = λ k. IsUpTo k (parts left) in subst P (sym h.0) (let Q : Held → Type 0 = λ w. IsUpTo c.level w in subst Q (sym so.same) (up_to_filter c.level moment (parts (take i cs)) (up_to_at cs i c small is r)))) in
-        let from : IsFrom d.level d.spots = (let P : List ℕ → Type 0 = λ k. IsFrom k d.spots in subst P (sym h.0) (let Q : Held → Type 0 = λ w. IsFrom c.level w in subst Q (sym h.1) (from_filter c.level moment c.spots (from_at cs i c small is r)))) in
+        let up : IsUpTo d.level (parts left) = (let P : List ℕ → Type 0 = λ k. IsUpTo k (parts left) in subst P (sym h.0) (let Q : Spots → Type 0 = λ w. IsUpTo c.level w in subst Q (sym so.same) (up_to_filter c.level moment (parts (take i cs)) (up_to_at cs i c small is r)))) in
+        let from : IsFrom d.level d.spots = (let P : List ℕ → Type 0 = λ k. IsFrom k d.spots in subst P (sym h.0) (let Q : Spots → Type 0 = λ w. IsFrom c.level w in subst Q (sym h.1) (from_filter c.level moment c.spots (from_at cs i c small is r)))) in
         record {
           row = (let P : List ChildValue → Type 0 = λ l. IsRow l in subst P (sym put) (row_push left d so.row up h.2 from));
-          same = ap parts put ∙ (parts_push left d ∙ (ap (λ (w : Held). w ++ d.spots) so.same ∙ (ap (λ (w : Held). filter (spot_stays moment) (parts (take i cs)) ++ w) h.1 ∙ sym more)));
+          same = ap parts put ∙ (parts_push left d ∙ (ap (λ (w : Spots). w ++ d.spots) so.same ∙ (ap (λ (w : Spots). filter (spot_stays moment) (parts (take i cs)) ++ w) h.1 ∙ sym more)));
         }
 
 pub take_whole : (cs : List ChildValue) (i : ℕ) → length cs ≤ i → take i cs ≡ cs
@@ -120,8 +120,8 @@ module _ (moment : ℕ) (cs : List ChildValue) (i : ℕ) (c : ChildValue) (small
   pub rest_kept : (g : Bool) (left : List ChildValue) → g ≡ false → IsRestOf moment (take i cs) g left → filter (spot_stays moment) c.spots ≡ c.spots → IsRestOf moment (take (i + 1) cs) g left
   rest_kept true left off so here = absurd (cc (off))
   rest_kept false left off so here =
-      let P : Held → Type 0 = λ w. filter (spot_stays moment) w ≡ w in
-      subst P (sym taken) (filter-append (spot_stays moment) (parts (take i cs)) c.spots ∙ (ap (λ (x : Held). x ++ filter (spot_stays moment) c.spots) so ∙ ap (λ (x : Held). parts (take i cs) ++ x) here))
+      let P : Spots → Type 0 = λ w. filter (spot_stays moment) w ≡ w in
+      subst P (sym taken) (filter-append (spot_stays moment) (parts (take i cs)) c.spots ∙ (ap (λ (x : Spots). x ++ filter (spot_stays moment) c.spots) so ∙ ap (λ (x : Spots). parts (take i cs) ++ x) here))
 
   of_swept : (g : Bool) (new : List ChildValue) → g ≡ true → IsSwept moment cs new (i + 1) → IsRestOf moment (take (i + 1) cs) g new
   of_swept false new on so = absurd (cc (on))
@@ -140,11 +140,11 @@ module _ (moment : ℕ) (cs : List ChildValue) (i : ℕ) (c : ChildValue) (small
 
 -- ---- one child
 
-pub full_not : (w : Held) → is_nothing w ≡ false → IsFull w
+pub full_not : (w : Spots) → is_nothing w ≡ false → IsFull w
 full_not [] n = absurd (cc (n))
 full_not (s ∷ w) n = tt
 
-pub none_is : (w : Held) → is_nothing w ≡ true → w ≡ []
+pub none_is : (w : Spots) → is_nothing w ≡ true → w ≡ []
 none_is [] n = refl
 none_is (s ∷ w) n = absurd (cc (n))
 
@@ -152,71 +152,71 @@ none_below : (ks : List (List ℕ)) → under_all ks [] ≡ []
 none_below [] = refl
 none_below (k ∷ ks) = ap (under k) (none_below ks)
 
-pub chain_left : (moment : ℕ) (ks : List (List ℕ)) (w w' : Held) → w' ≡ filter (spot_stays moment) w → under_all ks w' ≡ filter (spot_stays moment) (under_all ks w)
+pub chain_left : (moment : ℕ) (ks : List (List ℕ)) (w w' : Spots) → w' ≡ filter (spot_stays moment) w → under_all ks w' ≡ filter (spot_stays moment) (under_all ks w)
 chain_left moment ks w w' is = ap (under_all ks) is ∙ sym (swept_chain moment ks w)
 
-pub chain_gone : (moment : ℕ) (ks : List (List ℕ)) (w w' : Held) → w' ≡ filter (spot_stays moment) w → w' ≡ [] → filter (spot_stays moment) (under_all ks w) ≡ []
+pub chain_gone : (moment : ℕ) (ks : List (List ℕ)) (w w' : Spots) → w' ≡ filter (spot_stays moment) w → w' ≡ [] → filter (spot_stays moment) (under_all ks w) ≡ []
 chain_gone moment ks w w' is none = sym (chain_left moment ks w w' is) ∙ (ap (under_all ks) none ∙ none_below ks)
 
 -- ---- a branch
 
-pub nothing_is : (held : Option Found) (cs : List ChildValue) → IsRow cs → is_some held ≡ false → length cs ≡ 0 → is_nothing (own held ++ parts cs) ≡ true
+pub nothing_is : (retained : Option Found) (cs : List ChildValue) → IsRow cs → is_some retained ≡ false → length cs ≡ 0 → is_nothing (own retained ++ parts cs) ≡ true
 nothing_is None [] r none size = refl
 nothing_is None (c ∷ cs) r none size = absurd (omega (arith, size))
 nothing_is (Some f) cs r none size = absurd (cc (none))
 
-pub something_held : (held : Option Found) (cs : List ChildValue) → is_some held ≡ true → is_nothing (own held ++ parts cs) ≡ false
-something_held None cs some = absurd (cc (some))
-something_held (Some f) cs some = refl
+pub something_retained : (retained : Option Found) (cs : List ChildValue) → is_some retained ≡ true → is_nothing (own retained ++ parts cs) ≡ false
+something_retained None cs some = absurd (cc (some))
+something_retained (Some f) cs some = refl
 
-pub something_below : (held : Option Found) (cs : List ChildValue) → IsRow cs → length cs ≢ 0 → is_nothing (own held ++ parts cs) ≡ false
+pub something_below : (retained : Option Found) (cs : List ChildValue) → IsRow cs → length cs ≢ 0 → is_nothing (own retained ++ parts cs) ≡ false
 something_below (Some f) cs r more = refl
 something_below None [] r more = absurd (more refl)
 something_below None (c ∷ cs) r more = at (parts (c ∷ cs)) (full_parts (c ∷ cs) r (omega arith))
   where
-    at : (w : Held) → IsFull w → is_nothing w ≡ false
+    at : (w : Spots) → IsFull w → is_nothing w ≡ false
     at [] full = absurd full
     at (s ∷ w) full = refl
 
-pub branch_left : (moment : ℕ) (held held' : Option Found) (cs cs' : List ChildValue) → own held' ≡ filter (spot_stays moment) (own held) → parts cs' ≡ filter (spot_stays moment) (parts cs) → own held' ++ parts cs' ≡ filter (spot_stays moment) (own held ++ parts cs)
-branch_left moment held held' cs cs' a b = ap (λ (w : Held). w ++ parts cs') a ∙ (ap (λ (w : Held). filter (spot_stays moment) (own held) ++ w) b ∙ sym (filter-append (spot_stays moment) (own held) (parts cs)))
+pub branch_left : (moment : ℕ) (retained retained' : Option Found) (cs cs' : List ChildValue) → own retained' ≡ filter (spot_stays moment) (own retained) → parts cs' ≡ filter (spot_stays moment) (parts cs) → own retained' ++ parts cs' ≡ filter (spot_stays moment) (own retained ++ parts cs)
+branch_left moment retained retained' cs cs' a b = ap (λ (w : Spots). w ++ parts cs') a ∙ (ap (λ (w : Spots). filter (spot_stays moment) (own retained) ++ w) b ∙ sym (filter-append (spot_stays moment) (own retained) (parts cs)))
 
 -- ---- before the first moment at which one is expired, all stay
 
-none_goes : (moment : ℕ) (w : Held) → length (filter (is_gone moment) (pairs w)) ≡ 0 → filter (spot_stays moment) w ≡ w
+none_goes : (moment : ℕ) (w : Spots) → length (filter (is_gone moment) (pairs w)) ≡ 0 → filter (spot_stays moment) w ≡ w
 none_goes moment [] n = refl
 none_goes moment (s ∷ w) n = at (is_expired moment s.1.message) refl (none_goes moment w)
   where
     at : (b : Bool) → is_expired moment s.1.message ≡ b → (length (filter (is_gone moment) (pairs w)) ≡ 0 → filter (spot_stays moment) w ≡ w) → filter (spot_stays moment) (s ∷ w) ≡ s ∷ w
-    at false is more = rw is (ap (λ (x : Held). s ∷ x) (more (rw is at n)))
+    at false is more = rw is (ap (λ (x : Spots). s ∷ x) (more (rw is at n)))
     at true is more = absurd (let m : suc (length (filter (is_gone moment) (pairs w))) ≡ 0 = (rw is at n) in omega (arith, m))
 
-pub stays_all : (moment : ℕ) (w : Held) → moment < earliest (2 ^ 64 - 1) w → filter (spot_stays moment) w ≡ w
+pub stays_all : (moment : ℕ) (w : Spots) → moment < earliest (2 ^ 64 - 1) w → filter (spot_stays moment) w ≡ w
 stays_all moment w early = none_goes moment w (calm_until (earliest (2 ^ 64 - 1) w) (pairs w) (pairs_end (2 ^ 64 - 1) w) moment early)
 
-pub chain_stays : (moment : ℕ) (ks : List (List ℕ)) (w : Held) → filter (spot_stays moment) w ≡ w → filter (spot_stays moment) (under_all ks w) ≡ under_all ks w
+pub chain_stays : (moment : ℕ) (ks : List (List ℕ)) (w : Spots) → filter (spot_stays moment) w ≡ w → filter (spot_stays moment) (under_all ks w) ≡ under_all ks w
 chain_stays moment ks w stay = sym (chain_left moment ks w w (sym stay))
 
 pub full_at : (cs : List ChildValue) (i : ℕ) (c : ChildValue) → i < length cs → c ≡ get_or cs i c → IsRow cs → IsFull c.spots
 full_at cs i c small is r = let P : ChildValue → Type 0 = λ w. IsFull w.spots in subst P (sym is) (row_at cs i c small r).0
 
-pub nothing_by : (held : Option Found) (cs : List ChildValue) (n : ℕ) → IsRow cs → is_some held ≡ false → n ≡ length cs → (n == 0) ≡ is_nothing (own held ++ parts cs)
-nothing_by held cs n r none size = at (n == 0) refl
+pub nothing_by : (retained : Option Found) (cs : List ChildValue) (n : ℕ) → IsRow cs → is_some retained ≡ false → n ≡ length cs → (n == 0) ≡ is_nothing (own retained ++ parts cs)
+nothing_by retained cs n r none size = at (n == 0) refl
   where
-    at : (b : Bool) → (n == 0) ≡ b → (n == 0) ≡ is_nothing (own held ++ parts cs)
-    at true is = is ∙ sym (nothing_is held cs r none (let z : n ≡ 0 = grind (arith, nat_tests, is) in omega (arith, size, z)))
-    at false is = is ∙ sym (something_below held cs r (λ h. let z : n ≢ 0 = (λ k. grind (arith, nat_tests, is, k)) in z (omega (arith, size, h))))
+    at : (b : Bool) → (n == 0) ≡ b → (n == 0) ≡ is_nothing (own retained ++ parts cs)
+    at true is = is ∙ sym (nothing_is retained cs r none (let z : n ≡ 0 = grind (arith, nat_tests, is) in omega (arith, size, z)))
+    at false is = is ∙ sym (something_below retained cs r (λ h. let z : n ≢ 0 = (λ k. grind (arith, nat_tests, is, k)) in z (omega (arith, size, h))))
 
-pub level_left : (moment : ℕ) (k k' : List ℕ) (w w' : Held) → k' ≡ k → w' ≡ filter (spot_stays moment) w → IsFull w' → (k' ≡ k) × (under k' w' ≡ filter (spot_stays moment) (under k w)) × IsFull (under k' w')
+pub level_left : (moment : ℕ) (k k' : List ℕ) (w w' : Spots) → k' ≡ k → w' ≡ filter (spot_stays moment) w → IsFull w' → (k' ≡ k) × (under k' w' ≡ filter (spot_stays moment) (under k w)) × IsFull (under k' w')
 level_left moment k k' w w' same is full = rw same (refl, chain_left moment (k ∷ []) w w' is, full_under k w' full)
 
-pub row_left : (moment : ℕ) (k k' : List ℕ) (w w' v : Held) → k' ≡ k → v ≡ w' → w' ≡ filter (spot_stays moment) w → IsFull w' → (k' ≡ k) × (v ≡ filter (spot_stays moment) w) × IsFull v
+pub row_left : (moment : ℕ) (k k' : List ℕ) (w w' v : Spots) → k' ≡ k → v ≡ w' → w' ≡ filter (spot_stays moment) w → IsFull w' → (k' ≡ k) × (v ≡ filter (spot_stays moment) w) × IsFull v
 row_left moment k k' w w' v same put is full = rw put (same, is, full)
 
 -- a child that is put into another shape
 pub joined_left : (moment : ℕ) (c d e : ChildValue) → e.level ≡ d.level → e.spots ≡ d.spots → IsLeft moment c (Some d) → IsLeft moment c (Some e)
-joined_left moment c d e same is h = (same ∙ h.0, is ∙ h.1, let P : Held → Type 0 = λ w. IsFull w in subst P (sym is) h.2)
+joined_left moment c d e same is h = (same ∙ h.0, is ∙ h.1, let P : Spots → Type 0 = λ w. IsFull w in subst P (sym is) h.2)
 
 -- no message of a branch goes if none of its own and none of its children goes
-pub whole_stays : (moment : ℕ) (held : Option Found) (cs : List ChildValue) → filter (spot_stays moment) (own held) ≡ own held → filter (spot_stays moment) (parts cs) ≡ parts cs → filter (spot_stays moment) (own held ++ parts cs) ≡ own held ++ parts cs
-whole_stays moment held cs a b = filter-append (spot_stays moment) (own held) (parts cs) ∙ (ap (λ (w : Held). w ++ filter (spot_stays moment) (parts cs)) a ∙ ap (λ (w : Held). own held ++ w) b)
+pub whole_stays : (moment : ℕ) (retained : Option Found) (cs : List ChildValue) → filter (spot_stays moment) (own retained) ≡ own retained → filter (spot_stays moment) (parts cs) ≡ parts cs → filter (spot_stays moment) (own retained ++ parts cs) ≡ own retained ++ parts cs
+whole_stays moment retained cs a b = filter-append (spot_stays moment) (own retained) (parts cs) ∙ (ap (λ (w : Spots). w ++ filter (spot_stays moment) (parts cs)) a ∙ ap (λ (w : Spots). own retained ++ w) b)

@@ -1,5 +1,5 @@
 -- Where a path belongs among the children of a branch.
-use Rattle.rs_tree.proofs.Under.{there_one, Held, Path, level_cmp}
+use Rattle.rs_tree.proofs.Under.{there_one, Spots, Path, level_cmp}
 use Rattle.std.proofs.Common.{◌≡◌, ◌≢◌, ℕ, zero, suc, ◌+◌, ◌<◌, ◌≤◌, Bool, true, false, List, [], ◌∷◌, ◌++◌, length, get_or, take, drop, refl, sym, ap, subst, ◌∙◌, arith, append_assoc, add-one, Option, Some, None, is_some}
 use Rattle.std.specs.Cmp.Lexicographic.{bytes_decides}
 use Rattle.std.specs.Str.{bytes_eq}
@@ -53,31 +53,31 @@ not_itself q k same h = let e : level_cmp k k ≡ Less = (rw same at h) in cc (e
 
 -- ---- what stands before a path, and behind it
 
-abbrev pub Ahead : Path → Held → Type 0
+abbrev pub Ahead : Path → Spots → Type 0
 Ahead p [] = Unit {0}
 Ahead p (s ∷ ss) = (path_cmp p s.0 ≡ Less) × Ahead p ss
 
-pub behind_both : (p : Path) (xs ys : Held) → IsBehind p xs → IsBehind p ys → IsBehind p (xs ++ ys)
+pub behind_both : (p : Path) (xs ys : Spots) → IsBehind p xs → IsBehind p ys → IsBehind p (xs ++ ys)
 behind_both p [] ys a b = b
 behind_both p (x ∷ xs) ys a b = (a.0, behind_both p xs ys a.1 b)
 
-pub ahead_both : (p : Path) (xs ys : Held) → Ahead p xs → Ahead p ys → Ahead p (xs ++ ys)
+pub ahead_both : (p : Path) (xs ys : Spots) → Ahead p xs → Ahead p ys → Ahead p (xs ++ ys)
 ahead_both p [] ys a b = b
 ahead_both p (x ∷ xs) ys a b = (a.0, ahead_both p xs ys a.1 b)
 
-pub own_behind : (q : List ℕ) (p : Path) (held : Option Found) → IsBehind (q ∷ p) (own held)
+pub own_behind : (q : List ℕ) (p : Path) (retained : Option Found) → IsBehind (q ∷ p) (own retained)
 own_behind q p None = tt
 own_behind q p (Some f) = (refl, tt)
 
-up_to_behind : (p : Path) (k : List ℕ) (ss : Held) → path_cmp p (k ∷ []) ≢ Less → IsUpTo k ss → IsBehind p ss
+up_to_behind : (p : Path) (k : List ℕ) (ss : Spots) → path_cmp p (k ∷ []) ≢ Less → IsUpTo k ss → IsBehind p ss
 up_to_behind p k [] n u = tt
 up_to_behind p k (s ∷ ss) n u = (flip s.0 p (between s.0 (k ∷ []) p u.0 n), up_to_behind p k ss n u.1)
 
-pub behind_up_to : (q : List ℕ) (ss : Held) → IsBehind (q ∷ []) ss → IsUpTo q ss
+pub behind_up_to : (q : List ℕ) (ss : Spots) → IsBehind (q ∷ []) ss → IsUpTo q ss
 behind_up_to q [] b = tt
 behind_up_to q (s ∷ ss) b = (back (q ∷ []) s.0 b.0, behind_up_to q ss b.1)
 
-from_ahead : (p : Path) (k : List ℕ) (ss : Held) → path_cmp p (k ∷ []) ≡ Less → IsFrom k ss → Ahead p ss
+from_ahead : (p : Path) (k : List ℕ) (ss : Spots) → path_cmp p (k ∷ []) ≡ Less → IsFrom k ss → Ahead p ss
 from_ahead p k [] l f = tt
 from_ahead p k (s ∷ ss) l f = (between p (k ∷ []) s.0 l f.0, from_ahead p k ss l f.1)
 
@@ -86,7 +86,7 @@ abbrev pub BeforeAll : Path → List ChildValue → Type 0
 BeforeAll p [] = Unit {0}
 BeforeAll p (c ∷ cs) = path_cmp p (c.level ∷ []) ≡ Less
 
-over : (p : Path) (k n : List ℕ) (ss : Held) → IsFull ss → IsFrom k ss → IsUpTo n ss → path_cmp p (k ∷ []) ≡ Less → path_cmp p (n ∷ []) ≡ Less
+over : (p : Path) (k n : List ℕ) (ss : Spots) → IsFull ss → IsFrom k ss → IsUpTo n ss → path_cmp p (k ∷ []) ≡ Less → path_cmp p (n ∷ []) ≡ Less
 over p k n [] full f u l = absurd full
 over p k n (s ∷ ss) full f u l = path_total.trans p s.0 (n ∷ []) (between p (k ∷ []) s.0 l f.0) u.0
 
@@ -121,7 +121,7 @@ front_behind p (c ∷ []) (suc i) r a = absurd a
 front_behind p (c ∷ d ∷ cs) (suc i) r a =
     behind_both p c.spots (parts (take i (d ∷ cs))) (up_to_behind p d.level c.spots (reached_first p (d ∷ cs) i r.3 a) r.2) (front_behind p (d ∷ cs) i r.3 a)
 
-passed_reached : (p : Path) (k : List ℕ) (ss : Held) → IsFull ss → IsFrom k ss → IsBehind p ss → path_cmp p (k ∷ []) ≢ Less
+passed_reached : (p : Path) (k : List ℕ) (ss : Spots) → IsFull ss → IsFrom k ss → IsBehind p ss → path_cmp p (k ∷ []) ≢ Less
 passed_reached p k [] full f b l = absurd full
 passed_reached p k (s ∷ ss) full f b l = cc (between p (k ∷ []) s.0 l f.0, b.0)
 
@@ -176,11 +176,11 @@ take_one p [] i d small a b = tt
 take_one p (c ∷ cs) zero d small a b = behind_both p c.spots [] b tt
 take_one p (c ∷ cs) (suc i) d small a b = behind_both p c.spots (parts (take (suc i) cs)) (first p c.spots (parts (take i cs)) a) (take_one p cs i d (omega (arith, small)) (second p c.spots (parts (take i cs)) a) b)
   where
-    first : (p : Path) (xs ys : Held) → IsBehind p (xs ++ ys) → IsBehind p xs
+    first : (p : Path) (xs ys : Spots) → IsBehind p (xs ++ ys) → IsBehind p xs
     first p [] ys h = tt
     first p (x ∷ xs) ys h = (h.0, first p xs ys h.1)
 
-    second : (p : Path) (xs ys : Held) → IsBehind p (xs ++ ys) → IsBehind p ys
+    second : (p : Path) (xs ys : Spots) → IsBehind p (xs ++ ys) → IsBehind p ys
     second p [] ys h = h
     second p (x ∷ xs) ys h = second p xs ys h.1
 
@@ -192,11 +192,11 @@ gap_behind q p (c ∷ cs) (suc i) r e =
 
 -- ---- a look among what stands before, what may be the spot, and what stands behind
 
-there_none : (p : Path) (r : Held) → Ahead p r → is_there p r ≡ false
+there_none : (p : Path) (r : Spots) → Ahead p r → is_there p r ≡ false
 there_none p [] a = refl
 there_none p (s ∷ r) a = rw a.0 (there_none p r a.1)
 
-there_front : (p : Path) (w r : Held) → Ahead p r → is_there p (w ++ r) ≡ is_there p w
+there_front : (p : Path) (w r : Spots) → Ahead p r → is_there p (w ++ r) ≡ is_there p w
 there_front p [] r a = there_none p r a
 there_front p (s ∷ w) r a = at (path_cmp p s.0) refl (there_front p w r a)
   where
@@ -205,11 +205,11 @@ there_front p (s ∷ w) r a = at (path_cmp p s.0) refl (there_front p w r a)
     at Equal is more = rw is refl
     at Greater is more = rw is more
 
-there_rear : (p : Path) (l w : Held) → IsBehind p l → is_there p (l ++ w) ≡ is_there p w
+there_rear : (p : Path) (l w : Spots) → IsBehind p l → is_there p (l ++ w) ≡ is_there p w
 there_rear p [] w b = refl
 there_rear p (s ∷ l) w b = rw b.0 (there_rear p l w b.1)
 
-pub there_mid : (p : Path) (l w r : Held) → IsBehind p l → Ahead p r → is_there p (l ++ (w ++ r)) ≡ is_there p w
+pub there_mid : (p : Path) (l w r : Spots) → IsBehind p l → Ahead p r → is_there p (l ++ (w ++ r)) ≡ is_there p w
 there_mid p l w r b a = there_rear p l (w ++ r) b ∙ there_front p w r a
 
 -- ---- the parts around an index
@@ -217,22 +217,22 @@ there_mid p l w r b a = there_rear p l (w ++ r) b ∙ there_front p w r a
 pub parts_split : (cs : List ChildValue) (i : ℕ) → parts cs ≡ parts (take i cs) ++ parts (drop i cs)
 parts_split cs zero = refl
 parts_split [] (suc i) = refl
-parts_split (c ∷ cs) (suc i) = ap (λ (w : Held). c.spots ++ w) (parts_split cs i) ∙ sym (append_assoc c.spots (parts (take i cs)) (parts (drop i cs)))
+parts_split (c ∷ cs) (suc i) = ap (λ (w : Spots). c.spots ++ w) (parts_split cs i) ∙ sym (append_assoc c.spots (parts (take i cs)) (parts (drop i cs)))
 
 pub parts_at : (cs : List ChildValue) (i : ℕ) (d : ChildValue) → i < length cs → parts (drop i cs) ≡ (get_or cs i d).spots ++ parts (drop (suc i) cs)
 parts_at [] i d small = absurd (omega (arith, small))
 parts_at (c ∷ cs) zero d small = refl
 parts_at (c ∷ cs) (suc i) d small = parts_at cs i d (omega (arith, small))
 
-pub around : (h l a w r : Held) → a ≡ l ++ (w ++ r) → h ++ a ≡ (h ++ l) ++ (w ++ r)
-around h l a w r is = ap (λ (x : Held). h ++ x) is ∙ sym (append_assoc h l (w ++ r))
+pub around : (h l a w r : Spots) → a ≡ l ++ (w ++ r) → h ++ a ≡ (h ++ l) ++ (w ++ r)
+around h l a w r is = ap (λ (x : Spots). h ++ x) is ∙ sym (append_assoc h l (w ++ r))
 
-pub split_at : (held : Option Found) (cs : List ChildValue) (i : ℕ) (d : ChildValue) → i < length cs
-    → own held ++ parts cs ≡ (own held ++ parts (take i cs)) ++ ((get_or cs i d).spots ++ parts (drop (suc i) cs))
-split_at held cs i d small = around (own held) (parts (take i cs)) (parts cs) (get_or cs i d).spots (parts (drop (suc i) cs)) (parts_split cs i ∙ ap (λ (w : Held). parts (take i cs) ++ w) (parts_at cs i d small))
+pub split_at : (retained : Option Found) (cs : List ChildValue) (i : ℕ) (d : ChildValue) → i < length cs
+    → own retained ++ parts cs ≡ (own retained ++ parts (take i cs)) ++ ((get_or cs i d).spots ++ parts (drop (suc i) cs))
+split_at retained cs i d small = around (own retained) (parts (take i cs)) (parts cs) (get_or cs i d).spots (parts (drop (suc i) cs)) (parts_split cs i ∙ ap (λ (w : Spots). parts (take i cs) ++ w) (parts_at cs i d small))
 
-pub split_gap : (held : Option Found) (cs : List ChildValue) (i : ℕ) → own held ++ parts cs ≡ (own held ++ parts (take i cs)) ++ parts (drop i cs)
-split_gap held cs i = ap (λ (w : Held). own held ++ w) (parts_split cs i) ∙ sym (append_assoc (own held) (parts (take i cs)) (parts (drop i cs)))
+pub split_gap : (retained : Option Found) (cs : List ChildValue) (i : ℕ) → own retained ++ parts cs ≡ (own retained ++ parts (take i cs)) ++ parts (drop i cs)
+split_gap retained cs i = ap (λ (w : Spots). own retained ++ w) (parts_split cs i) ∙ sym (append_assoc (own retained) (parts (take i cs)) (parts (drop i cs)))
 
 takes_leads : (b : Bool) (own q : List ℕ) (p : Path) → TakesAs b own q → LeadsAs b own (q ∷ p) p
 takes_leads true own q p t = tt
@@ -248,40 +248,40 @@ deep_child cs i c small is = let P : ChildValue → Type 0 = λ w. w.depth + 1 �
 
 -- ---- a look-up, as the calls say it
 
-module _ (held : Option Found) (cs : List ChildValue) (r : IsRow cs) (q : List ℕ) (p : Path) where
-  pub in_front : (i : ℕ) → IsIn q cs i → IsBehind (q ∷ p) (own held ++ parts (take i cs))
-  in_front i e = behind_both (q ∷ p) (own held) (parts (take i cs)) (own_behind q p held) (front_behind (q ∷ p) cs i r (in_reached q p cs i e))
+module _ (retained : Option Found) (cs : List ChildValue) (r : IsRow cs) (q : List ℕ) (p : Path) where
+  pub in_front : (i : ℕ) → IsIn q cs i → IsBehind (q ∷ p) (own retained ++ parts (take i cs))
+  in_front i e = behind_both (q ∷ p) (own retained) (parts (take i cs)) (own_behind q p retained) (front_behind (q ∷ p) cs i r (in_reached q p cs i e))
 
   pub in_rear : (i : ℕ) → IsIn q cs i → Ahead (q ∷ p) (parts (drop (suc i) cs))
   in_rear i e = rear_ahead (Takes q) q p cs (suc i) r e
 
-  pub gap_front : (i : ℕ) → IsGap q cs i → IsBehind (q ∷ p) (own held ++ parts (take i cs))
-  gap_front i e = behind_both (q ∷ p) (own held) (parts (take i cs)) (own_behind q p held) (gap_behind q p cs i r e)
+  pub gap_front : (i : ℕ) → IsGap q cs i → IsBehind (q ∷ p) (own retained ++ parts (take i cs))
+  gap_front i e = behind_both (q ∷ p) (own retained) (parts (take i cs)) (own_behind q p retained) (gap_behind q p cs i r e)
 
   pub gap_rear : (i : ℕ) → IsGap q cs i → Ahead (q ∷ p) (parts (drop i cs))
   gap_rear i e = rear_ahead (Passes q) q p cs i r e
 
-  pub there_in : (i : ℕ) (d : ChildValue) → i < length cs → IsIn q cs i → is_there (q ∷ p) (own held ++ parts cs) ≡ is_there (q ∷ p) (get_or cs i d).spots
-  there_in i d small e = rw (split_at held cs i d small) (there_mid (q ∷ p) (own held ++ parts (take i cs)) (get_or cs i d).spots (parts (drop (suc i) cs)) (in_front i e) (in_rear i e))
+  pub there_in : (i : ℕ) (d : ChildValue) → i < length cs → IsIn q cs i → is_there (q ∷ p) (own retained ++ parts cs) ≡ is_there (q ∷ p) (get_or cs i d).spots
+  there_in i d small e = rw (split_at retained cs i d small) (there_mid (q ∷ p) (own retained ++ parts (take i cs)) (get_or cs i d).spots (parts (drop (suc i) cs)) (in_front i e) (in_rear i e))
 
-  pub there_child : (i : ℕ) (c : ChildValue) → i < length cs → IsIn q cs i → c ≡ get_or cs i c → is_there (q ∷ p) c.spots ≡ is_there (q ∷ p) (own held ++ parts cs)
+  pub there_child : (i : ℕ) (c : ChildValue) → i < length cs → IsIn q cs i → c ≡ get_or cs i c → is_there (q ∷ p) c.spots ≡ is_there (q ∷ p) (own retained ++ parts cs)
   there_child i c small e is = ap (λ (w : ChildValue). is_there (q ∷ p) w.spots) is ∙ sym (there_in i c small e)
 
   pub leads_child : (i : ℕ) (c : ChildValue) → IsIn q cs i → c ≡ get_or cs i c → Leads c (q ∷ p) p
   leads_child i c e is = takes_leads c.is_row c.level q p (let P : ChildValue → Type 0 = λ w. Takes q w in subst P (sym is) (edge_at (Takes q) q cs i c e))
 
-  pub there_gap : (i : ℕ) → IsGap q cs i → is_there (q ∷ p) (own held ++ parts cs) ≡ false
-  there_gap i e = rw (split_gap held cs i) (there_rear (q ∷ p) (own held ++ parts (take i cs)) (parts (drop i cs)) (gap_front i e) ∙ there_none (q ∷ p) (parts (drop i cs)) (gap_rear i e))
+  pub there_gap : (i : ℕ) → IsGap q cs i → is_there (q ∷ p) (own retained ++ parts cs) ≡ false
+  there_gap i e = rw (split_gap retained cs i) (there_rear (q ∷ p) (own retained ++ parts (take i cs)) (parts (drop i cs)) (gap_front i e) ∙ there_none (q ∷ p) (parts (drop i cs)) (gap_rear i e))
 
 -- at the spot itself is only its own message
-pub there_own : (held : Option Found) (cs : List ChildValue) → IsRow cs → is_there [] (own held ++ parts cs) ≡ is_some held
-there_own held cs r = there_front [] (own held) (parts cs) (ahead_all [] cs r (first cs)) ∙ alone held
+pub there_own : (retained : Option Found) (cs : List ChildValue) → IsRow cs → is_there [] (own retained ++ parts cs) ≡ is_some retained
+there_own retained cs r = there_front [] (own retained) (parts cs) (ahead_all [] cs r (first cs)) ∙ alone retained
   where
     first : (cs : List ChildValue) → BeforeAll [] cs
     first [] = tt
     first (c ∷ cs) = refl
 
-    alone : (held : Option Found) → is_there [] (own held) ≡ is_some held
+    alone : (retained : Option Found) → is_there [] (own retained) ≡ is_some retained
     alone None = refl
     alone (Some f) = refl
 
@@ -320,7 +320,7 @@ edge_between q (c ∷ cs) (suc (suc i)) l h = edge_between q cs (suc i) l h
 
 -- ---- a child beside a level
 
-pub under_behind : (q k : List ℕ) (p : Path) (w : Held) → level_cmp q k ≡ Greater → IsBehind (q ∷ p) (under k w)
+pub under_behind : (q k : List ℕ) (p : Path) (w : Spots) → level_cmp q k ≡ Greater → IsBehind (q ∷ p) (under k w)
 under_behind q k p [] g = tt
 under_behind q k p (s ∷ ss) g = (rw g refl, under_behind q k p ss g)
 
@@ -335,7 +335,7 @@ not_same q k own b here is nay n = at (level_cmp q k) refl
         let yea : bytes_eq own q ≡ true = (bytes_decides own q).1 same in
         absurd (cc (yea, is, nay))
 
-pub passed_under : (q k own : List ℕ) (b : Bool) (w : Held) → own ≡ k → b ≡ bytes_eq own q → level_cmp q k ≢ Less → b ≡ false → (p : Path) → IsBehind (q ∷ p) (under k w)
+pub passed_under : (q k own : List ℕ) (b : Bool) (w : Spots) → own ≡ k → b ≡ bytes_eq own q → level_cmp q k ≢ Less → b ≡ false → (p : Path) → IsBehind (q ∷ p) (under k w)
 passed_under q k own b w here is n nay p = under_behind q k p w (not_same q k own b here is nay n)
 
 -- ---- the same as the calls say it
@@ -374,5 +374,5 @@ gap_first q cs i e edge = let P : ℕ → Type 0 = λ m. IsEdge (IsNotBefore q) 
 
 -- ---- one child, below its level
 
-pub there_under : (k : List ℕ) (p path : Path) (w : Held) → path ≡ k ∷ p → is_there p w ≡ is_there path (under k w)
+pub there_under : (k : List ℕ) (p path : Path) (w : Spots) → path ≡ k ∷ p → is_there p w ≡ is_there path (under k w)
 there_under k p path w is = rw is (sym (there_one k p w))

@@ -1,5 +1,5 @@
 -- Messages below a chain of levels, level by level.
-use Rattle.rs_tree.proofs.Under.{Path, insert_one, remove_one, there_one, Held, level_cmp, other_child}
+use Rattle.rs_tree.proofs.Under.{Path, insert_one, remove_one, there_one, Spots, level_cmp, other_child}
 use Rattle.rs_tree.proofs.Chosen.{goes, stops, hash_goes}
 use Rattle.std.proofs.Common.{◌≡◌, ℕ, Bool, true, false, ◌||◌, List, [], ◌∷◌, ◌++◌, refl, sym, ap, ◌∙◌, Some, None}
 use Rattle.std.proofs.lemmas.List.{append-nil}
@@ -22,19 +22,19 @@ use Rattle.rs_topic.proofs.Rests.{fits_on, fits_not}
 
 -- ---- whether there is anything
 
-full_under : (k : List ℕ) (w : Held) → IsFull w → IsFull (under k w)
+full_under : (k : List ℕ) (w : Spots) → IsFull w → IsFull (under k w)
 full_under k [] f = f
 full_under k (s ∷ ss) f = tt
 
-pub full_below : (ks : Path) (w : Held) → IsFull w → IsFull (under_all ks w)
+pub full_below : (ks : Path) (w : Spots) → IsFull w → IsFull (under_all ks w)
 full_below [] w f = f
 full_below (k ∷ ks) w f = full_under k (under_all ks w) (full_below ks w f)
 
-full_of : (k : List ℕ) (w : Held) → IsFull (under k w) → IsFull w
+full_of : (k : List ℕ) (w : Spots) → IsFull (under k w) → IsFull w
 full_of k [] f = f
 full_of k (s ∷ ss) f = tt
 
-pub full_inside : (ks : Path) (w : Held) → IsFull (under_all ks w) → IsFull w
+pub full_inside : (ks : Path) (w : Spots) → IsFull (under_all ks w) → IsFull w
 full_inside [] w f = f
 full_inside (k ∷ ks) w f = full_inside ks w (full_of k (under_all ks w) f)
 
@@ -59,33 +59,33 @@ other_level k q h = at (level_cmp q k) refl
 
 -- ---- a Set
 
-pub insert_all : (ks p : Path) (f : Found) (w : Held) → insert_entry path_cmp (under_all ks w) (ks ++ p) f ≡ under_all ks (insert_entry path_cmp w p f)
+pub insert_all : (ks p : Path) (f : Found) (w : Spots) → insert_entry path_cmp (under_all ks w) (ks ++ p) f ≡ under_all ks (insert_entry path_cmp w p f)
 insert_all [] p f w = refl
 insert_all (k ∷ ks) p f w = insert_one k (ks ++ p) f (under_all ks w) ∙ ap (under k) (insert_all ks p f w)
 
 -- ---- a Clear
 
-remove_all : (ks p : Path) (w : Held) → remove_entry (is_at (path_cmp (ks ++ p))) (under_all ks w) ≡ under_all ks (remove_entry (is_at (path_cmp p)) w)
+remove_all : (ks p : Path) (w : Spots) → remove_entry (is_at (path_cmp (ks ++ p))) (under_all ks w) ≡ under_all ks (remove_entry (is_at (path_cmp p)) w)
 remove_all [] p w = refl
 remove_all (k ∷ ks) p w = remove_one k (ks ++ p) (under_all ks w) ∙ ap (under k) (remove_all ks p w)
 
-pub removed : (ks p r : Path) (w w' : Held) → behind ks p ≡ Some r → w' ≡ remove_entry (is_at (path_cmp r)) w → under_all ks w' ≡ remove_entry (is_at (path_cmp p)) (under_all ks w)
+pub removed : (ks p r : Path) (w w' : Spots) → behind ks p ≡ Some r → w' ≡ remove_entry (is_at (path_cmp r)) w → under_all ks w' ≡ remove_entry (is_at (path_cmp p)) (under_all ks w)
 removed ks p r w w' h is = rw (is, behind_is ks p r h) (sym (remove_all ks r w))
 
 -- ---- a look-up
 
-pub there_all : (ks p : Path) (w : Held) → is_there (ks ++ p) (under_all ks w) ≡ is_there p w
+pub there_all : (ks p : Path) (w : Spots) → is_there (ks ++ p) (under_all ks w) ≡ is_there p w
 there_all [] p w = refl
 there_all (k ∷ ks) p w = there_one k (ks ++ p) (under_all ks w) ∙ there_all ks p w
 
-no_end : (k : List ℕ) (w : Held) → is_there [] (under k w) ≡ false
+no_end : (k : List ℕ) (w : Spots) → is_there [] (under k w) ≡ false
 no_end k [] = refl
 no_end k (s ∷ ss) = no_end k ss
 
-pub there_behind : (ks p r : Path) (w : Held) → behind ks p ≡ Some r → is_there p (under_all ks w) ≡ is_there r w
+pub there_behind : (ks p r : Path) (w : Spots) → behind ks p ≡ Some r → is_there p (under_all ks w) ≡ is_there r w
 there_behind ks p r w h = rw (behind_is ks p r h) (there_all ks r w)
 
-pub not_behind : (ks p : Path) (w : Held) → behind ks p ≡ None → is_there p (under_all ks w) ≡ false
+pub not_behind : (ks p : Path) (w : Spots) → behind ks p ≡ None → is_there p (under_all ks w) ≡ false
 not_behind [] p w h = absurd (cc (h))
 not_behind (k ∷ ks) [] w h = no_end k (under_all ks w)
 not_behind (k ∷ ks) (q ∷ p) w h = at (bytes_eq k q) refl (not_behind ks p w)
@@ -98,11 +98,11 @@ not_behind (k ∷ ks) (q ∷ p) w h = at (bytes_eq k q) refl (not_behind ks p w)
 
 -- ---- an answer
 
-hash_all : (level : List ℕ) (more ks : Path) (now : ℕ) (w : Held) → fits (level ∷ more) [] ≡ true → chosen (level ∷ more) now (under_all ks w) ≡ chosen (level ∷ more) now w
+hash_all : (level : List ℕ) (more ks : Path) (now : ℕ) (w : Spots) → fits (level ∷ more) [] ≡ true → chosen (level ∷ more) now (under_all ks w) ≡ chosen (level ∷ more) now w
 hash_all level more [] now w h = refl
 hash_all level more (k ∷ ks) now w h = goes (fits (level ∷ more)) (fits (level ∷ more)) now k (hash_goes level more h k) (under_all ks w) ∙ hash_all level more ks now w h
 
-pub chosen_past : (ks pattern r : Path) (now : ℕ) (w : Held) → past ks pattern ≡ Some r → chosen pattern now (under_all ks w) ≡ chosen r now w
+pub chosen_past : (ks pattern r : Path) (now : ℕ) (w : Spots) → past ks pattern ≡ Some r → chosen pattern now (under_all ks w) ≡ chosen r now w
 chosen_past [] pattern r now w h = let same : pattern ≡ r = cc (h) in rw same refl
 chosen_past (k ∷ ks) [] r now w h = absurd (cc (h))
 chosen_past (k ∷ ks) (level ∷ more) r now w h = by (fits (level ∷ more) []) refl (chosen_past ks more r now w)
@@ -115,7 +115,7 @@ chosen_past (k ∷ ks) (level ∷ more) r now w h = by (fits (level ∷ more) []
     by true is further = let same : level ∷ more ≡ r = cc (h, is) in hash_all level more (k ∷ ks) now w is ∙ ap (λ (q : Path). chosen q now w) same
     by false is further = at (bytes_eq level (plus ∷ []) || bytes_eq level k) refl is further
 
-pub none_past : (ks pattern : Path) (now : ℕ) (w : Held) → past ks pattern ≡ None → chosen pattern now (under_all ks w) ≡ []
+pub none_past : (ks pattern : Path) (now : ℕ) (w : Spots) → past ks pattern ≡ None → chosen pattern now (under_all ks w) ≡ []
 none_past [] pattern now w h = absurd (cc (h))
 none_past (k ∷ ks) [] now w h = stops (fits []) now k (λ p. refl) (under_all ks w)
 none_past (k ∷ ks) (level ∷ more) now w h = by (fits (level ∷ more) []) refl (none_past ks more now w)
@@ -130,14 +130,14 @@ none_past (k ∷ ks) (level ∷ more) now w h = by (fits (level ∷ more) []) re
 
 -- ---- the whole stem, as the contracts of the calls say it
 
-pub set_whole : (ks p q : Path) (f : Found) (b b' old : Held) → under_all ks b ≡ old → p ≡ ks ++ q → b' ≡ insert_entry path_cmp b q f → under_all ks b' ≡ insert_entry path_cmp old p f
+pub set_whole : (ks p q : Path) (f : Found) (b b' old : Spots) → under_all ks b ≡ old → p ≡ ks ++ q → b' ≡ insert_entry path_cmp b q f → under_all ks b' ≡ insert_entry path_cmp old p f
 set_whole ks p q f b b' old same is h = rw (h, is, ← same) (sym (insert_all ks q f b))
 
-pub told_whole : (ks p q : Path) (b old : Held) → under_all ks b ≡ old → p ≡ ks ++ q → is_there q b ≡ is_there p old
+pub told_whole : (ks p q : Path) (b old : Spots) → under_all ks b ≡ old → p ≡ ks ++ q → is_there q b ≡ is_there p old
 told_whole ks p q b old same is = rw (is, ← same) (sym (there_all ks q b))
 
 -- a chain of two parts
-pub joined : (a b : Path) (w : Held) → under_all (a ++ b) w ≡ under_all a (under_all b w)
+pub joined : (a b : Path) (w : Spots) → under_all (a ++ b) w ≡ under_all a (under_all b w)
 joined [] b w = refl
 joined (k ∷ a) b w = ap (under k) (joined a b w)
 

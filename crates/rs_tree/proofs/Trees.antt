@@ -148,9 +148,9 @@ pub space_below : (root : List Spot) (t : List ℕ) (m : MessageValue) (count li
 space_below root t m count limit tree few = sym (space_if_few (pairs root) t m limit tree.sorted (omega (arith, tree.counted, few)))
 
 -- a Set where there may not; r is what `holds` answered
-pub space_held : (root : List Spot) (t : List ℕ) (m : MessageValue) (r : Bool) (count limit : ℕ) → IsTree root count limit → limit ≤ count → r ≡ is_there (levels_from 0 t) root → r ≡ nat_le (length (insert_entry topic_cmp (pairs root) t m)) limit
-space_held root t m true count limit tree full is = sym (space_if_there (pairs root) t m limit tree.sorted (omega (arith, tree.counted, tree.fits)) (sym (is ∙ there_pairs root (levels_from 0 t) t tree.placed (from_start t))))
-space_held root t m false count limit tree full is = sym (no_space (pairs root) t m limit tree.sorted (omega (arith, tree.counted, full)) (sym (is ∙ there_pairs root (levels_from 0 t) t tree.placed (from_start t))))
+pub space_retained : (root : List Spot) (t : List ℕ) (m : MessageValue) (r : Bool) (count limit : ℕ) → IsTree root count limit → limit ≤ count → r ≡ is_there (levels_from 0 t) root → r ≡ nat_le (length (insert_entry topic_cmp (pairs root) t m)) limit
+space_retained root t m true count limit tree full is = sym (space_if_there (pairs root) t m limit tree.sorted (omega (arith, tree.counted, tree.fits)) (sym (is ∙ there_pairs root (levels_from 0 t) t tree.placed (from_start t))))
+space_retained root t m false count limit tree full is = sym (no_space (pairs root) t m limit tree.sorted (omega (arith, tree.counted, full)) (sym (is ∙ there_pairs root (levels_from 0 t) t tree.placed (from_start t))))
 
 pub space_cleared : (root : List Spot) (t : List ℕ) (count limit : ℕ) → IsTree root count limit → true ≡ nat_le (length (remove_entry (is_at (topic_cmp t)) (pairs root))) limit
 space_cleared root t count limit tree = sym (space_after_clear (is_at (topic_cmp t)) (pairs root) limit (omega (arith, tree.counted, tree.fits)))

@@ -16,15 +16,15 @@ use Rattle.rs_topic.specs.Order.{path_cmp}
 abbrev pub Path : Type 0
 Path = List (List ℕ)
 
-abbrev pub Held : Type 0
-Held = List Spot
+abbrev pub Spots : Type 0
+Spots = List Spot
 
 abbrev pub level_cmp : List ℕ → List ℕ → Ordering
 level_cmp = slice_cmp nat_cmp
 
 -- ---- a Set
 
-pub insert_one : (q : List ℕ) (p : Path) (f : Found) (w : Held) → insert_entry path_cmp (under q w) (q ∷ p) f ≡ under q (insert_entry path_cmp w p f)
+pub insert_one : (q : List ℕ) (p : Path) (f : Found) (w : Spots) → insert_entry path_cmp (under q w) (q ∷ p) f ≡ under q (insert_entry path_cmp w p f)
 insert_one q p f [] = refl
 insert_one q p f (s ∷ ss) = at (path_cmp p s.0) refl (insert_one q p f ss)
   where
@@ -33,7 +33,7 @@ insert_one q p f (s ∷ ss) = at (path_cmp p s.0) refl (insert_one q p f ss)
     at Equal is more = rw (tied_itself nat_list_cmp_total q, is) refl
     at Greater is more = rw (tied_itself nat_list_cmp_total q, is, more) refl
 
-pub full_insert : (w : Held) (p : List (List ℕ)) (f : Found) → IsFull (insert_entry path_cmp w p f)
+pub full_insert : (w : Spots) (p : List (List ℕ)) (f : Found) → IsFull (insert_entry path_cmp w p f)
 full_insert [] p f = tt
 full_insert (s ∷ ss) p f = at (path_cmp p s.0) refl
   where
@@ -44,7 +44,7 @@ full_insert (s ∷ ss) p f = at (path_cmp p s.0) refl
 
 -- ---- a Clear
 
-pub remove_one : (q : List ℕ) (p : Path) (w : Held) → remove_entry (is_at (path_cmp (q ∷ p))) (under q w) ≡ under q (remove_entry (is_at (path_cmp p)) w)
+pub remove_one : (q : List ℕ) (p : Path) (w : Spots) → remove_entry (is_at (path_cmp (q ∷ p))) (under q w) ≡ under q (remove_entry (is_at (path_cmp p)) w)
 remove_one q p [] = refl
 remove_one q p (s ∷ ss) = at (path_cmp p s.0) refl (remove_one q p ss)
   where
@@ -56,7 +56,7 @@ remove_one q p (s ∷ ss) = at (path_cmp p s.0) refl (remove_one q p ss)
 -- ---- a look-up
 
 -- other children have none of a child's paths
-pub other_child : (q k : List ℕ) (p : List (List ℕ)) (w rest : Held) → is_eq (level_cmp q k) ≡ false → is_there (q ∷ p) (under k w ++ rest) ≡ is_there (q ∷ p) rest
+pub other_child : (q k : List ℕ) (p : List (List ℕ)) (w rest : Spots) → is_eq (level_cmp q k) ≡ false → is_there (q ∷ p) (under k w ++ rest) ≡ is_there (q ∷ p) rest
 other_child q k p [] rest h = refl
 other_child q k p (s ∷ ss) rest h = at (level_cmp q k) refl (other_child q k p ss rest h)
   where
@@ -65,7 +65,7 @@ other_child q k p (s ∷ ss) rest h = at (level_cmp q k) refl (other_child q k p
     at Equal is more = absurd (cc (is, h))
     at Greater is more = rw is more
 
-pub same_child : (q : List ℕ) (p : List (List ℕ)) (w rest : Held) → is_there (q ∷ p) rest ≡ false → is_there (q ∷ p) (under q w ++ rest) ≡ is_there p w
+pub same_child : (q : List ℕ) (p : List (List ℕ)) (w rest : Spots) → is_there (q ∷ p) rest ≡ false → is_there (q ∷ p) (under q w ++ rest) ≡ is_there p w
 same_child q p [] rest h = h
 same_child q p (s ∷ ss) rest h = at (path_cmp p s.0) refl (same_child q p ss rest h)
   where
@@ -74,7 +74,7 @@ same_child q p (s ∷ ss) rest h = at (path_cmp p s.0) refl (same_child q p ss r
     at Equal is more = rw (tied_itself nat_list_cmp_total q, is) refl
     at Greater is more = rw (tied_itself nat_list_cmp_total q, is) more
 
-pub there_one : (q : List ℕ) (p : Path) (w : Held) → is_there (q ∷ p) (under q w) ≡ is_there p w
+pub there_one : (q : List ℕ) (p : Path) (w : Spots) → is_there (q ∷ p) (under q w) ≡ is_there p w
 there_one q p w = ap (is_there (q ∷ p)) (sym (append-nil (under q w))) ∙ same_child q p w [] refl
 
 pub told_by : {E : Type 0} (r : Result Bool E) (a b : Bool) → IfOk r (λ w. w ≡ a) → a ≡ b → IfOk r (λ w. w ≡ b)

@@ -4,6 +4,6 @@ use Rattle.rs_tree.specs.declared.bucket.Messages.{Messages}
 use Rattle.rs_tree.specs.declared.bucket.Messages.TheVariants.{One, More}
 use Rattle.rs_tree.specs.Spots.{Spot, spot_of}
 
-abbrev pub spots_held : Messages → List Spot
-spots_held (One at f) = spot_of at f ∷ []
-spots_held (More l) = l.value
+abbrev pub spots_retained : Messages → List Spot
+spots_retained (One at f) = spot_of at f ∷ []
+spots_retained (More l) = l.value

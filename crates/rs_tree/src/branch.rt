@@ -20,8 +20,8 @@ mod set;
 mod sweep;
 
 use crate::bucket::Bucket;
-use crate::held::held_again;
 use crate::label::Label;
+use crate::retained::retained_again;
 use crate::shared::Shared;
 pub use remains::Remains;
 use std::alloc::{AllocError, Global};
@@ -33,7 +33,7 @@ use std::sync::Arc;
 #[cycle(tree)]
 #[derive(Drop)]
 pub struct Branch {
-    held: Option<Shared>,
+    retained: Option<Shared>,
     children: Vec<Child>,
 }
 
@@ -91,7 +91,7 @@ impl Model for Branch {
     ghost use Rattle.rs_tree.specs.Spots.{own};
     ghost use Rattle.rs_tree.specs.Rows.{IsRow, depth, parts};
 
-    ghost view = { λ b. record { spots = own b.held ++ parts b.children.items; depth = depth b.children.items } };
+    ghost view = { λ b. record { spots = own b.retained ++ parts b.children.items; depth = depth b.children.items } };
 
     ghost invariant = { λ b. IsRow b.children.items };
 
@@ -107,7 +107,7 @@ impl Branch {
         ensures { result.spots ≡ [] }
     {
         Branch {
-            held: None,
+            retained: None,
             children: Vec::new(alloc),
         }
     }
@@ -176,7 +176,7 @@ impl Branch {
         ensures { IfOk result (λ b. b ≡ self.now) }
     {
         Ok(Branch {
-            held: held_again(&self.held)?,
+            retained: retained_again(&self.retained)?,
             children: copies(alloc, self.children.as_slice())?,
         })
     }

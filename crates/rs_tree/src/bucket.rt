@@ -46,11 +46,11 @@ pub struct Bucket {
 impl Model for Bucket {
     ghost use Rattle.std.specs.Prelude.{List, ℕ};
     ghost use Rattle.rs_message.specs.declared.entry.Found.{Found};
-    ghost use Rattle.rs_tree.specs.Messages.{spots_held};
+    ghost use Rattle.rs_tree.specs.Messages.{spots_retained};
 
     ghost Value = { List (List (List ℕ) × Found) };
 
-    ghost view = { λ b. spots_held b.messages };
+    ghost view = { λ b. spots_retained b.messages };
 }
 
 /// The rest of a topic is that of a message.

@@ -250,7 +250,7 @@ impl Catalogue for TreeCatalogue {
     fn answer(&self, filter: &TopicFilter, now: u64) -> Result<Vec<Found>, AllocError> {
         match answers(self.alloc, &self.root, filter, now, self.count as usize)? {
             Some(found) => Ok(found),
-            // Never: no answer has more messages than are held.
+            // Never: no answer has more messages than are retained.
             None => Ok(Vec::new(self.alloc)),
         }
     }

@@ -9,7 +9,7 @@ ghost use Rattle.rs_tree.specs.Rows.{parts};
 
 use super::{Below, Branch, Child, Stem, index_of};
 use crate::chain::past;
-use crate::held::answer_held;
+use crate::retained::answer_retained;
 use rs_store::{Answer, Stop};
 use rs_topic::{begins_with_dollar, is_all_below, is_plus, level_at};
 
@@ -121,10 +121,10 @@ impl Branch {
         ensures { Gives result answer.old answer.new (chosen (levels_from at filter.now) now self.now.spots) }
     {
         let Some((level, next)) = level_at(filter, at) else {
-            return answer_held(&self.held, now, answer);
+            return answer_retained(&self.retained, now, answer);
         };
         if is_all_below(level, filter, next) {
-            if let Err(stop) = answer_held(&self.held, now, answer) {
+            if let Err(stop) = answer_retained(&self.retained, now, answer) {
                 return Err(stop);
             }
             return answer_each(self.children.as_slice(), filter, at, at, now, answer);
@@ -160,10 +160,10 @@ impl Branch {
         ensures { Gives result answer.old answer.new (chosen_at_root (levels_from 0 filter.now) now self.now.spots) }
     {
         let Some((level, next)) = level_at(filter, 0) else {
-            return answer_held(&self.held, now, answer);
+            return answer_retained(&self.retained, now, answer);
         };
         if is_all_below(level, filter, next) {
-            if let Err(stop) = answer_held(&self.held, now, answer) {
+            if let Err(stop) = answer_retained(&self.retained, now, answer) {
                 return Err(stop);
             }
             return answer_plain(self.children.as_slice(), filter, 0, 0, now, answer);

@@ -76,11 +76,11 @@ impl Stem {
 }
 
 /// There is one child, and no message beside it.
-fn is_lone(held: &Option<Shared>, children: &[Child]) -> bool
-    ensures lone { IsTrue result → (is_some held.now ≡ false) × (length children.now ≡ 1) }
-    ensures more { result ≡ false → is_some held.now ≡ false → length children.now ≡ 1 → ⊥ }
+fn is_lone(retained: &Option<Shared>, children: &[Child]) -> bool
+    ensures lone { IsTrue result → (is_some retained.now ≡ false) × (length children.now ≡ 1) }
+    ensures more { result ≡ false → is_some retained.now ≡ false → length children.now ≡ 1 → ⊥ }
 {
-    held.is_none() && children.len() == 1
+    retained.is_none() && children.len() == 1
 }
 
 /// Removes the child at an index.
@@ -93,16 +93,16 @@ fn remove_at(children: &mut Vec<Child>, i: usize)
 
 impl Branch {
     /// Removes the message of the branch itself, unless it is the only one.
-    fn clear_held(&mut self) -> Cleared
+    fn clear_retained(&mut self) -> Cleared
         ensures { ClearsAs result self.old.spots self.new.spots [] }
     {
-        if self.held.is_none() {
+        if self.retained.is_none() {
             return Cleared::Missing;
         }
         if self.children.is_empty() {
             return Cleared::Last;
         }
-        self.held = None;
+        self.retained = None;
         Cleared::Left
     }
 
@@ -112,7 +112,7 @@ impl Branch {
         ensures { Clears result self.old.spots self.new.spots (levels_from at topic.now) }
     {
         let Some((level, next)) = level_at(topic, at) else {
-            return Ok(self.clear_held());
+            return Ok(self.clear_retained());
         };
         let Ok(i) = index_of(self.children.as_slice(), level) else {
             return Ok(Cleared::Missing);
@@ -124,7 +124,7 @@ impl Branch {
                 Ok(Cleared::Left)
             }
             Ok(Cleared::Last) => {
-                if is_lone(&self.held, self.children.as_slice()) {
+                if is_lone(&self.retained, self.children.as_slice()) {
                     return Ok(Cleared::Last);
                 }
                 remove_at(&mut self.children, i);

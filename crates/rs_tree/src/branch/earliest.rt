@@ -10,10 +10,10 @@ use crate::shared::Shared;
 use rs_store::lowered;
 
 /// A bound, or the first moment at which the message of one spot is expired if that is earlier.
-fn lowered_by_held(held: &Option<Shared>, bound: u64) -> u64
-    ensures { result ≡ earliest bound (own held.now) }
+fn lowered_by_retained(retained: &Option<Shared>, bound: u64) -> u64
+    ensures { result ≡ earliest bound (own retained.now) }
 {
-    match held {
+    match retained {
         Some(found) => lowered(bound, found.message()),
         None => bound,
     }
@@ -51,7 +51,7 @@ impl Branch {
     pub fn earliest(&self, bound: u64) -> u64
         ensures { result ≡ earliest bound self.now.spots }
     {
-        let least = lowered_by_held(&self.held, bound);
+        let least = lowered_by_retained(&self.retained, bound);
         lowered_by_each(self.children.as_slice(), least)
     }
 }

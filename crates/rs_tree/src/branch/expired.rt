@@ -12,10 +12,10 @@ use crate::shared::Shared;
 use rs_store::is_expired;
 
 /// Counts the message of one spot, if it is expired.
-fn count_held(held: &Option<Shared>, now: u64, count: &mut u32)
-    ensures { count.old + length (own held.now) ≤ MAX_TOPICS → count.new ≡ count.old + length (filter (is_expired_spot now) (own held.now)) }
+fn count_retained(retained: &Option<Shared>, now: u64, count: &mut u32)
+    ensures { count.old + length (own retained.now) ≤ MAX_TOPICS → count.new ≡ count.old + length (filter (is_expired_spot now) (own retained.now)) }
 {
-    if let Some(found) = held {
+    if let Some(found) = retained {
         if is_expired(found.message(), now) {
             *count = count.saturating_add(1);
         }
@@ -52,7 +52,7 @@ impl Branch {
     pub fn expired(&self, now: u64, count: &mut u32)
         ensures { count.old + length self.now.spots ≤ MAX_TOPICS → count.new ≡ count.old + length (filter (is_expired_spot now) self.now.spots) }
     {
-        count_held(&self.held, now, count);
+        count_retained(&self.retained, now, count);
         count_each(self.children.as_slice(), now, count);
     }
 }

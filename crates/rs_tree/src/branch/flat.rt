@@ -94,7 +94,7 @@ impl Branch {
         ensures row { OnOk result (IsRow flat.new.items) }
         ensures same { OnOk result (parts flat.new.items ≡ parts flat.old.items ++ self.now.spots) }
     {
-        if self.held.is_some() {
+        if self.retained.is_some() {
             return Err(AllocError);
         }
         flat_each(self.children.as_slice(), level, flat)

@@ -45,7 +45,7 @@ impl Branch {
         ensures { result ≡ is_there (levels_from at topic.now) self.now.spots }
     {
         let Some((level, next)) = level_at(topic, at) else {
-            return self.held.is_some();
+            return self.retained.is_some();
         };
         match index_of(self.children.as_slice(), level) {
             Ok(i) => self.children[i].holds(topic, at, next),

@@ -60,7 +60,7 @@ impl Stem {
     {
         let chain = self.chain.as_slice();
         let children = self.branch.children.as_slice();
-        match &self.branch.held {
+        match &self.branch.retained {
             Some(found) => {
                 if !children.is_empty() {
                     return Ok(None);
@@ -123,17 +123,17 @@ impl Child {
         let Below::Row(row) = &self.below else {
             return Ok(None);
         };
-        row.without_held(alloc)
+        row.without_retained(alloc)
     }
 }
 
 impl Branch {
     /// Its children, if it has no message of its own.
-    fn without_held(&self, alloc: Global) -> Result<Option<Vec<Child>>, AllocError>
+    fn without_retained(&self, alloc: Global) -> Result<Option<Vec<Child>>, AllocError>
         ensures row { IfOk result (λ o. IfSome o (λ cs. IsRow cs.items)) }
         ensures same { IfOk result (λ o. IfSome o (λ cs. parts cs.items ≡ self.now.spots)) }
     {
-        if self.held.is_some() {
+        if self.retained.is_some() {
             return Ok(None);
         }
         let children = copies(alloc, self.children.as_slice())?;

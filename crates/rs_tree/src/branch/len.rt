@@ -9,10 +9,10 @@ use super::{Below, Branch, Child};
 use crate::shared::Shared;
 
 /// The number of messages of one spot.
-fn held_len(held: &Option<Shared>) -> usize
-    ensures { result ≡ length (own held.now) }
+fn retained_len(retained: &Option<Shared>) -> usize
+    ensures { result ≡ length (own retained.now) }
 {
-    match held {
+    match retained {
         Some(_) => 1,
         None => 0,
     }
@@ -50,7 +50,7 @@ impl Branch {
     pub fn len(&self) -> usize
         ensures { length self.now.spots ≤ MAX_TOPICS → result ≡ length self.now.spots }
     {
-        let own = held_len(&self.held);
+        let own = retained_len(&self.retained);
         own.saturating_add(len_of_each(self.children.as_slice()))
     }
 }

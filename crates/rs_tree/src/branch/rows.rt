@@ -27,7 +27,7 @@ pub fn single(alloc: Global, level: Label, stem: Stem) -> Result<Branch, AllocEr
         below: Below::Inner(Arc::new(alloc, stem)?),
     })?;
     Ok(Branch {
-        held: None,
+        retained: None,
         children,
     })
 }
@@ -68,7 +68,7 @@ impl Child {
         ensures spots { IfOk result (λ c. c.spots ≡ parts children.now) }
     {
         let branch = Branch {
-            held: None,
+            retained: None,
             children: copies(alloc, children)?,
         };
         Ok(Child {
@@ -109,7 +109,7 @@ impl Branch {
         requires { IsFrom level.now self.now.spots }
         ensures { IfOk result (λ o. IfSome o (λ r. AreHalves level.now self.now.spots r.0 r.1)) }
     {
-        if self.held.is_some() || self.children.len() <= MOST {
+        if self.retained.is_some() || self.children.len() <= MOST {
             return Ok(None);
         }
         let pair = halves(alloc, level.again()?, self.children.as_slice())?;

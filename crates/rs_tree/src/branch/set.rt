@@ -223,8 +223,8 @@ impl Branch {
         ensures refused { OnErr result (self.new.spots ≡ self.old.spots) }
     {
         let Some((level, next)) = level_at(found.topic(), at) else {
-            let was = self.held.is_some();
-            self.held = Some(found);
+            let was = self.retained.is_some();
+            self.retained = Some(found);
             return Ok(was);
         };
         match index_of(self.children.as_slice(), level) {
@@ -246,8 +246,8 @@ impl Branch {
         ensures refused { OnErr result (self.new.spots ≡ self.old.spots) }
     {
         let Some((level, next)) = level_at(found.topic(), at) else {
-            let was = self.held.is_some();
-            self.held = Some(found);
+            let was = self.retained.is_some();
+            self.retained = Some(found);
             return Ok(was);
         };
         match index_of(self.children.as_slice(), level) {

@@ -24,15 +24,15 @@ enum Rest {
 }
 
 /// The message of one spot, unless it is expired, and notes if it goes.
-fn held_swept(
-    held: &Option<Shared>,
+fn retained_swept(
+    retained: &Option<Shared>,
     moment: u64,
     goes: &mut bool,
 ) -> Result<Option<Shared>, AllocError>
-    ensures left { IfOk result (λ h. own h ≡ filter (spot_stays moment) (own held.now)) }
-    ensures noted { OnOk result (Notes moment (own held.now) goes.old goes.new) }
+    ensures left { IfOk result (λ h. own h ≡ filter (spot_stays moment) (own retained.now)) }
+    ensures noted { OnOk result (Notes moment (own retained.now) goes.old goes.new) }
 {
-    let Some(found) = held else {
+    let Some(found) = retained else {
         return Ok(None);
     };
     if is_expired(found.message(), moment) {
@@ -177,7 +177,7 @@ impl Branch {
     fn is_empty(&self) -> bool
         ensures { result ≡ is_nothing self.now.spots }
     {
-        if self.held.is_some() {
+        if self.retained.is_some() {
             return false;
         }
         self.children.len() == 0
@@ -189,12 +189,12 @@ impl Branch {
         ensures { IfOk result (λ rest. IsBranchRest moment self.now.spots rest) }
     {
         let mut goes = false;
-        let held = held_swept(&self.held, moment, &mut goes)?;
+        let retained = retained_swept(&self.retained, moment, &mut goes)?;
         let children = each_swept(alloc, self.children.as_slice(), moment, &mut goes)?;
         if !goes {
             return Ok(None);
         }
-        let mut left = Branch { held, children };
+        let mut left = Branch { retained, children };
         left.unfold(alloc);
         Ok(Some(left))
     }

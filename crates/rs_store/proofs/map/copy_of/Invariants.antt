@@ -5,4 +5,4 @@ use Rattle.rs_topic.specs.Order.{topic_cmp}
 use Rattle.rs_store.proofs.map.copy_of.Given as goal
 
 abbrev pub invariant-loop-topic : goal.invariant-loop-topic
-invariant-loop-topic l = (l.copy.entries ++ l.topic-iterator ≡ l.held.entries) × IsStrictlySortedBy topic_cmp (keys_of l.held.entries)
+invariant-loop-topic l = (l.copy.entries ++ l.topic-iterator ≡ l.retained.entries) × IsStrictlySortedBy topic_cmp (keys_of l.retained.entries)

@@ -14,4 +14,4 @@ returns c =
     let call = t.called.met.0.said-raw.1.1.1.0 in
     let said = t.called.met.0.said-raw.1.1.1.1 in
     (said.0 ∙ ap not (call.ensures ∙ (λ j. is_expired (i j) (t.shows.1 j))), sym t.leaves ∙ (said.1 ∙ t.shows.1), ap (λ x. x.now) t.called.met.1 ∙ i))
-    _ c.args.held.now.entries new refl c.retain.ensures.filtered
+    _ c.args.retained.now.entries new refl c.retain.ensures.filtered

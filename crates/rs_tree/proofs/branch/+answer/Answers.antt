@@ -63,15 +63,15 @@ Stem::answer-returns-in-None t c =
 
 pub Branch::answer-returns-in_default : goal.Branch::answer-returns-in_default
 Branch::answer-returns-in_default t c =
-    rw (c.in_default.ensures.ended, ← c.self.view_is) (gives_same c.answer_held.result c.args.answer.now c.answer_held.new.answer _ _ (sym (ended c.self.inside.held c.self.inside.children.items c.args.now c.self.invariant)) c.answer_held.ensures)
+    rw (c.in_default.ensures.ended, ← c.self.view_is) (gives_same c.answer_retained.result c.args.answer.now c.answer_retained.new.answer _ _ (sym (ended c.self.inside.retained c.self.inside.children.items c.args.now c.self.invariant)) c.answer_retained.ensures)
 
 pub Branch::answer-returns-in-Err : goal.Branch::answer-returns-in-Err
 Branch::answer-returns-in-Err t c =
     let filter = c.args.filter.now in
     let ends = sym c.is_all_below.ensures ∙ c.if-is_all_below.true in
     let es = c.self.inside.children.items in
-    rw (← c.self.view_is) (gives_same {T = Unit {0}} (Err c.in-Err.stop) c.args.answer.now c.answer_held-then-is_all_below.new.answer _ _ (all_of (levels_from c.args.at filter) c.in-Some.level.now (levels_from c.in-Some.next filter) c.self.inside.held es c.args.now c.in-Some.ensures.more ends)
-    (gives_stop c.in-Err.stop c.args.answer.now c.answer_held-then-is_all_below.new.answer (own_chosen c.args.now c.self.inside.held) (chosen (levels_from c.args.at filter) c.args.now (parts es)) c.in-Err.ensures))
+    rw (← c.self.view_is) (gives_same {T = Unit {0}} (Err c.in-Err.stop) c.args.answer.now c.answer_retained-then-is_all_below.new.answer _ _ (all_of (levels_from c.args.at filter) c.in-Some.level.now (levels_from c.in-Some.next filter) c.self.inside.retained es c.args.now c.in-Some.ensures.more ends)
+    (gives_stop c.in-Err.stop c.args.answer.now c.answer_retained-then-is_all_below.new.answer (own_chosen c.args.now c.self.inside.retained) (chosen (levels_from c.args.at filter) c.args.now (parts es)) c.in-Err.ensures))
 
 pub Branch::answer-answer_each-requires : goal.Branch::answer-answer_each-requires
 Branch::answer-answer_each-requires t c =
@@ -109,7 +109,7 @@ Branch::answer-returns-in-Ok t c =
     let es = c.self.inside.children.items in
     let here : IsIn c.in-Some.level.now es c.in-Ok.i = rw c.as_slice-2.ensures.value at c.in-Ok.ensures.found in
     let small : c.in-Ok.i < length es = rw c.as_slice-2.ensures.value at c.in-Ok.ensures.within in
-    rw (← c.self.view_is) (gives_same c.answer.result c.args.answer.now c.answer.new.answer _ _ (rw c.in-Some.ensures.more (exact_in c.in-Some.level.now (levels_from c.in-Some.next filter) c.args.now (sym c.is_plus.ensures ∙ c.if-is_plus.false) ends c.self.inside.held es c.self.invariant c.in-Ok.i c.index.result.now small here c.index.ensures)) c.answer.ensures)
+    rw (← c.self.view_is) (gives_same c.answer.result c.args.answer.now c.answer.new.answer _ _ (rw c.in-Some.ensures.more (exact_in c.in-Some.level.now (levels_from c.in-Some.next filter) c.args.now (sym c.is_plus.ensures ∙ c.if-is_plus.false) ends c.self.inside.retained es c.self.invariant c.in-Ok.i c.index.result.now small here c.index.ensures)) c.answer.ensures)
 
 pub Branch::answer-returns-in-Err-index_of : goal.Branch::answer-returns-in-Err-index_of
 Branch::answer-returns-in-Err-index_of t c =
@@ -118,7 +118,7 @@ Branch::answer-returns-in-Err-index_of t c =
     let ends : fits (c.in-Some.level.now ∷ more) [] ≡ false = sym c.is_all_below.ensures ∙ c.if-is_all_below.false in
     let es = c.self.inside.children.items in
     let here : IsGap c.in-Some.level.now es c.in-Err-index_of.field-0 = rw c.as_slice-2.ensures.value at c.in-Err-index_of.ensures.found in
-    rw (← c.self.view_is) (gives_none c.args.answer.now _ (rw c.in-Some.ensures.more (exact_gap c.in-Some.level.now more c.args.now (sym c.is_plus.ensures ∙ c.if-is_plus.false) ends c.self.inside.held es c.self.invariant c.in-Err-index_of.field-0 here)))
+    rw (← c.self.view_is) (gives_none c.args.answer.now _ (rw c.in-Some.ensures.more (exact_gap c.in-Some.level.now more c.args.now (sym c.is_plus.ensures ∙ c.if-is_plus.false) ends c.self.inside.retained es c.self.invariant c.in-Err-index_of.field-0 here)))
 
 pub Branch::answer-returns-then-is_all_below : goal.Branch::answer-returns-then-is_all_below
 Branch::answer-returns-then-is_all_below t c =
@@ -126,8 +126,8 @@ Branch::answer-returns-then-is_all_below t c =
     let more = levels_from c.in-Some.next filter in
     let ends : fits (c.in-Some.level.now ∷ more) [] ≡ true = sym c.is_all_below.ensures ∙ c.if-is_all_below.true in
     let es = c.self.inside.children.items in
-    rw (← c.self.view_is) (gives_same c.answer_each.result c.args.answer.now c.answer_each.new.answer _ _ (all_of (levels_from c.args.at filter) c.in-Some.level.now more c.self.inside.held es c.args.now c.in-Some.ensures.more ends)
-    (gives_then c.answer_each.result c.args.answer.now c.answer_held-then-is_all_below.new.answer c.answer_each.new.answer (own_chosen c.args.now c.self.inside.held) (chosen (levels_from c.args.at filter) c.args.now (parts es)) c.in_default-answer_held.ensures.0 c.in_default-answer_held.ensures.1
+    rw (← c.self.view_is) (gives_same c.answer_each.result c.args.answer.now c.answer_each.new.answer _ _ (all_of (levels_from c.args.at filter) c.in-Some.level.now more c.self.inside.retained es c.args.now c.in-Some.ensures.more ends)
+    (gives_then c.answer_each.result c.args.answer.now c.answer_retained-then-is_all_below.new.answer c.answer_each.new.answer (own_chosen c.args.now c.self.inside.retained) (chosen (levels_from c.args.at filter) c.args.now (parts es)) c.in_default-answer_retained.ensures.0 c.in_default-answer_retained.ensures.1
     (rw c.as_slice.ensures.value at c.answer_each.ensures)))
 
 pub Branch::answer-returns-then-is_plus : goal.Branch::answer-returns-then-is_plus
@@ -136,5 +136,5 @@ Branch::answer-returns-then-is_plus t c =
     let more = levels_from c.in-Some.next filter in
     let ends : fits (c.in-Some.level.now ∷ more) [] ≡ false = sym c.is_all_below.ensures ∙ c.if-is_all_below.false in
     let es = c.self.inside.children.items in
-    rw (← c.self.view_is) (gives_same c.answer_each-then-is_plus.result c.args.answer.now c.answer_each-then-is_plus.new.answer _ _ (plus_of (levels_from c.args.at filter) c.in-Some.level.now more c.self.inside.held es c.args.now c.in-Some.ensures.more ends)
+    rw (← c.self.view_is) (gives_same c.answer_each-then-is_plus.result c.args.answer.now c.answer_each-then-is_plus.new.answer _ _ (plus_of (levels_from c.args.at filter) c.in-Some.level.now more c.self.inside.retained es c.args.now c.in-Some.ensures.more ends)
     (rw c.as_slice-then-is_plus.ensures.value at c.answer_each-then-is_plus.ensures))

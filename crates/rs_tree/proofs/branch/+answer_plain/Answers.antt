@@ -33,7 +33,7 @@ pub Branch::answer_plain-returns : goal.Branch::answer_plain-returns
 Branch::answer_plain-returns t c =
     let rest = levels_from c.args.next c.args.filter.now in
     let es = c.self.inside.children.items in
-    rw (← c.self.view_is) (gives_same c.answer_plain.result c.args.answer.now c.answer_plain.new.answer _ _ (own_plain rest c.self.inside.held es c.args.now) (rw c.as_slice.ensures.value at c.answer_plain.ensures))
+    rw (← c.self.view_is) (gives_same c.answer_plain.result c.args.answer.now c.answer_plain.new.answer _ _ (own_plain rest c.self.inside.retained es c.args.now) (rw c.as_slice.ensures.value at c.answer_plain.ensures))
 
 pub Branch::answer_plain-answer_plain-requires : goal.Branch::answer_plain-answer_plain-requires
 Branch::answer_plain-answer_plain-requires t c =

@@ -26,9 +26,9 @@ earliest::lowered_by_each-returns t c = ap (earliest c.loop-child.least) (sym (n
 
 pub Branch::earliest-returns : goal.Branch::earliest-returns
 Branch::earliest-returns t c =
-    let held = c.self.inside.held in
+    let retained = c.self.inside.retained in
     let es = c.self.inside.children.items in
-    rw (← c.self.view_is) (c.lowered_by_each.ensures ∙ (ap (λ es. earliest c.lowered_by_held-least.result (parts es)) c.as_slice.ensures.value ∙ (ap (λ (b : ℕ). earliest b (parts es)) c.lowered_by_held-least.ensures ∙ sym (earliest_both c.args.bound (own held) (parts es)))))
+    rw (← c.self.view_is) (c.lowered_by_each.ensures ∙ (ap (λ es. earliest c.lowered_by_retained-least.result (parts es)) c.as_slice.ensures.value ∙ (ap (λ (b : ℕ). earliest b (parts es)) c.lowered_by_retained-least.ensures ∙ sym (earliest_both c.args.bound (own retained) (parts es)))))
 
 pub Branch::earliest-lowered_by_each-requires : goal.Branch::earliest-lowered_by_each-requires
 Branch::earliest-lowered_by_each-requires t c =

@@ -7,7 +7,7 @@ use Rattle.rs_tree.proofs.Ends.{gone_both, gone_chain, gone_few, many_chain}
 use Rattle.rs_tree.specs.Rows.{depth, parts}
 use Rattle.rs_tree.specs.Values.{BranchValue, ChildValue}
 use Rattle.rs_tree.proofs.Expiring.{gone_turn, many_turn, none_left}
-use Rattle.rs_tree.proofs.Under.{Held}
+use Rattle.rs_tree.proofs.Under.{Spots}
 use Rattle.rs_tree.proofs.Rows.{deep_child}
 use Rattle.rs_tree.proofs.branch.+expired.Goals as goal
 
@@ -31,20 +31,20 @@ pub expired::count_each-returns : goal.expired::count_each-returns
 expired::count_each-returns t c = λ small.
     let last = c.loop-child.invariant small in
     let none = none_left c.args.children.now c.loop-child.child-index (omega arith) in
-    omega (arith, last.0, ap (λ (w : Held). length (filter (is_expired_spot c.args.now) w)) none)
+    omega (arith, last.0, ap (λ (w : Spots). length (filter (is_expired_spot c.args.now) w)) none)
 
 pub Branch::expired-returns : goal.Branch::expired-returns
 Branch::expired-returns t c = λ small.
-    let held = c.self.inside.held in
+    let retained = c.self.inside.retained in
     let es = c.self.inside.children.items in
     let view = ap (λ (v : BranchValue). length v.spots) c.self.view_is in
-    let whole = length-append (own held) (parts es) in
+    let whole = length-append (own retained) (parts es) in
     let same = ap (λ (w : List ChildValue). length (parts w)) c.as_slice.ensures.value in
-    let own_counted = c.count_held.ensures (omega (arith, small, whole, view)) in
-    let few = gone_few c.args.now (own held) in
+    let own_counted = c.count_retained.ensures (omega (arith, small, whole, view)) in
+    let few = gone_few c.args.now (own retained) in
     let counted = c.count_each.ensures (omega (arith, small, whole, view, own_counted, few, same)) in
     let gone = ap (λ (w : List ChildValue). length (filter (is_expired_spot c.args.now) (parts w))) c.as_slice.ensures.value in
-    rw (← c.self.view_is) (omega (arith, counted, own_counted, gone, gone_both c.args.now (own held) (parts es)))
+    rw (← c.self.view_is) (omega (arith, counted, own_counted, gone, gone_both c.args.now (own retained) (parts es)))
 
 pub Branch::expired-count_each-requires : goal.Branch::expired-count_each-requires
 Branch::expired-count_each-requires t c =

@@ -9,7 +9,7 @@ use Rattle.rs_tree.proofs.Rows.{deep_child, leads_child, there_child, there_gap,
 use Rattle.rs_tree.proofs.branch.+holds.Goals as goal
 
 pub Branch::holds-returns-in_default : goal.Branch::holds-returns-in_default
-Branch::holds-returns-in_default t c = rw (c.in_default.ensures.ended, ← c.self.view_is) (c.is_some.ensures ∙ sym (there_own c.self.inside.held c.self.inside.children.items c.self.invariant))
+Branch::holds-returns-in_default t c = rw (c.in_default.ensures.ended, ← c.self.view_is) (c.is_some.ensures ∙ sym (there_own c.self.inside.retained c.self.inside.children.items c.self.invariant))
 
 pub Branch::holds-holds-requires : goal.Branch::holds-holds-requires
 Branch::holds-holds-requires t c =
@@ -18,20 +18,20 @@ Branch::holds-holds-requires t c =
     let small : c.in-Ok.i < length es = rw c.as_slice.ensures.value at c.in-Ok.ensures.within in
     let deep : c.index.result.now.depth + 1 ≤ depth es = deep_child es c.in-Ok.i c.index.result.now small c.index.ensures in
     let whole : depth es ≡ c.args.self.now.depth = ap (λ (v : BranchValue). v.depth) c.self.view_is in
-    (omega arith, rw c.in-Some.ensures.more (leads_child c.self.inside.held es c.self.invariant c.in-Some.level.now (levels_from c.in-Some.next c.args.topic.now) c.in-Ok.i c.index.result.now here c.index.ensures))
+    (omega arith, rw c.in-Some.ensures.more (leads_child c.self.inside.retained es c.self.invariant c.in-Some.level.now (levels_from c.in-Some.next c.args.topic.now) c.in-Ok.i c.index.result.now here c.index.ensures))
 
 pub Branch::holds-returns-in-Ok : goal.Branch::holds-returns-in-Ok
 Branch::holds-returns-in-Ok t c =
     let es = c.self.inside.children.items in
     let here : IsIn c.in-Some.level.now es c.in-Ok.i = rw c.as_slice.ensures.value at c.in-Ok.ensures.found in
     let small : c.in-Ok.i < length es = rw c.as_slice.ensures.value at c.in-Ok.ensures.within in
-    rw (← c.self.view_is) (c.holds.ensures ∙ rw c.in-Some.ensures.more (there_child c.self.inside.held es c.self.invariant c.in-Some.level.now (levels_from c.in-Some.next c.args.topic.now) c.in-Ok.i c.index.result.now small here c.index.ensures))
+    rw (← c.self.view_is) (c.holds.ensures ∙ rw c.in-Some.ensures.more (there_child c.self.inside.retained es c.self.invariant c.in-Some.level.now (levels_from c.in-Some.next c.args.topic.now) c.in-Ok.i c.index.result.now small here c.index.ensures))
 
 pub Branch::holds-returns-in-Err : goal.Branch::holds-returns-in-Err
 Branch::holds-returns-in-Err t c =
     let es = c.self.inside.children.items in
     let here : IsGap c.in-Some.level.now es c.in-Err.field-0 = rw c.as_slice.ensures.value at c.in-Err.ensures.found in
-    rw (c.in-Some.ensures.more, ← c.self.view_is) (sym (there_gap c.self.inside.held es c.self.invariant c.in-Some.level.now (levels_from c.in-Some.next c.args.topic.now) c.in-Err.field-0 here))
+    rw (c.in-Some.ensures.more, ← c.self.view_is) (sym (there_gap c.self.inside.retained es c.self.invariant c.in-Some.level.now (levels_from c.in-Some.next c.args.topic.now) c.in-Err.field-0 here))
 
 pub Child::holds-returns-in-Few : goal.Child::holds-returns-in-Few
 Child::holds-returns-in-Few t c =

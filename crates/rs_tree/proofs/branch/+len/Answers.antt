@@ -5,7 +5,7 @@ use Rattle.rs_tree.proofs.Ends.{many_chain}
 use Rattle.rs_tree.specs.Rows.{depth, parts}
 use Rattle.rs_tree.specs.Values.{BranchValue, ChildValue}
 use Rattle.rs_tree.proofs.Expiring.{many_turn, none_left}
-use Rattle.rs_tree.proofs.Under.{Held}
+use Rattle.rs_tree.proofs.Under.{Spots}
 use Rattle.rs_tree.proofs.Rows.{deep_child}
 use Rattle.rs_tree.proofs.branch.+len.Goals as goal
 
@@ -27,18 +27,18 @@ len::len_of_each-len-requires t c =
 pub len::len_of_each-returns : goal.len::len_of_each-returns
 len::len_of_each-returns t c = λ small.
     let last = c.loop-child.invariant small in
-    let none = ap (λ (w : Held). length w) (none_left c.args.children.now c.loop-child.child-index (omega arith)) in
+    let none = ap (λ (w : Spots). length w) (none_left c.args.children.now c.loop-child.child-index (omega arith)) in
     omega (arith, last, none)
 
 pub Branch::len-returns : goal.Branch::len-returns
 Branch::len-returns t c = λ small.
-    let held = c.self.inside.held in
+    let retained = c.self.inside.retained in
     let es = c.self.inside.children.items in
     let view = ap (λ (v : BranchValue). length v.spots) c.self.view_is in
-    let whole = length-append (own held) (parts es) in
+    let whole = length-append (own retained) (parts es) in
     let same = ap (λ (w : List ChildValue). length (parts w)) c.as_slice.ensures.value in
     let below = c.len_of_each.ensures (omega (arith, small, whole, view, same)) in
-    omega (arith, small, below, c.held_len-own.ensures, whole, view, same)
+    omega (arith, small, below, c.retained_len-own.ensures, whole, view, same)
 
 pub Branch::len-len_of_each-requires : goal.Branch::len-len_of_each-requires
 Branch::len-len_of_each-requires t c =

@@ -15,12 +15,12 @@ use Rattle.rs_tree.proofs.branch.+set.Goals as goal
 pub Branch::set-returns-in_default-clause-done : goal.Branch::set-returns-in_default-clause-done
 Branch::set-returns-in_default-clause-done t c =
     let e : levels_from c.args.at c.args.found.topic ≡ [] = rw c.topic.ensures at c.in_default.ensures.ended in
-    rw (e, ← c.self.view_is) (own_first c.self.inside.held c.args.found c.self.inside.children.items c.self.invariant)
+    rw (e, ← c.self.view_is) (own_first c.self.inside.retained c.args.found c.self.inside.children.items c.self.invariant)
 
 pub Branch::set-returns-in_default-clause-told : goal.Branch::set-returns-in_default-clause-told
 Branch::set-returns-in_default-clause-told t c =
     let e : levels_from c.args.at c.args.found.topic ≡ [] = rw c.topic.ensures at c.in_default.ensures.ended in
-    rw (e, ← c.self.view_is) (c.is_some-was.ensures ∙ sym (there_own c.self.inside.held c.self.inside.children.items c.self.invariant))
+    rw (e, ← c.self.view_is) (c.is_some-was.ensures ∙ sym (there_own c.self.inside.retained c.self.inside.children.items c.self.invariant))
 
 pub Branch::set-set-done-requires : goal.Branch::set-set-done-requires
 Branch::set-set-done-requires t c =
@@ -32,8 +32,8 @@ Branch::set-set-done-requires t c =
     let whole : depth es ≡ c.args.self.now.depth = ap (λ (v : BranchValue). v.depth) c.self.view_is in (
       omega arith,
       (
-        full_child c.self.inside.held es c.self.invariant c.in-Some.level.now (levels_from c.in-Some.next c.args.found.topic) c.args.found c.in-Ok.i c.index_mut.result.now small c.index_mut.ensures.value,
-        rw e (leads_child c.self.inside.held es c.self.invariant c.in-Some.level.now (levels_from c.in-Some.next c.args.found.topic) c.in-Ok.i c.index_mut.result.now here c.index_mut.ensures.value),
+        full_child c.self.inside.retained es c.self.invariant c.in-Some.level.now (levels_from c.in-Some.next c.args.found.topic) c.args.found c.in-Ok.i c.index_mut.result.now small c.index_mut.ensures.value,
+        rw e (leads_child c.self.inside.retained es c.self.invariant c.in-Some.level.now (levels_from c.in-Some.next c.args.found.topic) c.in-Ok.i c.index_mut.result.now here c.index_mut.ensures.value),
       ),
     )
 
@@ -43,7 +43,7 @@ Branch::set-invariant_of-self-in-Ok t c =
     let e : levels_from c.args.at c.args.found.topic ≡ c.in-Some.level.now ∷ levels_from c.in-Some.next c.args.found.topic = rw c.topic.ensures at c.in-Some.ensures.more in
     let here : IsIn c.in-Some.level.now es c.in-Ok.i = rw c.as_slice.ensures.value at c.in-Ok.ensures.found in
     let small : c.in-Ok.i < length es = rw c.as_slice.ensures.value at c.in-Ok.ensures.within in
-    row_put c.self.inside.held es c.self.invariant c.in-Some.level.now (levels_from c.in-Some.next c.args.found.topic) c.args.found c.in-Ok.i c.set-done.result c.index_mut.result.now c.set-done.new.self small here c.index_mut.ensures.value c.set-done.ensures.level
+    row_put c.self.inside.retained es c.self.invariant c.in-Some.level.now (levels_from c.in-Some.next c.args.found.topic) c.args.found c.in-Ok.i c.set-done.result c.index_mut.result.now c.set-done.new.self small here c.index_mut.ensures.value c.set-done.ensures.level
     (rw e at c.set-done.ensures.done) c.set-done.ensures.refused
 
 pub Branch::set-invariant_of-self-in-Err : goal.Branch::set-invariant_of-self-in-Err
@@ -60,7 +60,7 @@ Branch::set-returns-in-Ok-clause-done t c =
     let e : levels_from c.args.at c.args.found.topic ≡ c.in-Some.level.now ∷ levels_from c.in-Some.next c.args.found.topic = rw c.topic.ensures at c.in-Some.ensures.more in
     let here : IsIn c.in-Some.level.now es c.in-Ok.i = rw c.as_slice.ensures.value at c.in-Ok.ensures.found in
     let small : c.in-Ok.i < length es = rw c.as_slice.ensures.value at c.in-Ok.ensures.within in
-    rw (e, ← c.self.view_is) (on_ok_weaker c.set-done.result (λ h. c.divide.ensures ∙ grown_in c.self.inside.held es c.self.invariant c.in-Some.level.now (levels_from c.in-Some.next c.args.found.topic) c.args.found c.in-Ok.i c.index_mut.result.now c.set-done.new.self small here c.index_mut.ensures.value h)
+    rw (e, ← c.self.view_is) (on_ok_weaker c.set-done.result (λ h. c.divide.ensures ∙ grown_in c.self.inside.retained es c.self.invariant c.in-Some.level.now (levels_from c.in-Some.next c.args.found.topic) c.args.found c.in-Ok.i c.index_mut.result.now c.set-done.new.self small here c.index_mut.ensures.value h)
     (rw e at c.set-done.ensures.done))
 
 pub Branch::set-returns-in-Ok-clause-told : goal.Branch::set-returns-in-Ok-clause-told
@@ -69,13 +69,13 @@ Branch::set-returns-in-Ok-clause-told t c =
     let e : levels_from c.args.at c.args.found.topic ≡ c.in-Some.level.now ∷ levels_from c.in-Some.next c.args.found.topic = rw c.topic.ensures at c.in-Some.ensures.more in
     let here : IsIn c.in-Some.level.now es c.in-Ok.i = rw c.as_slice.ensures.value at c.in-Ok.ensures.found in
     let small : c.in-Ok.i < length es = rw c.as_slice.ensures.value at c.in-Ok.ensures.within in
-    rw (e, ← c.self.view_is) (told_by c.set-done.result _ _ (rw e at c.set-done.ensures.told) (there_child c.self.inside.held es c.self.invariant c.in-Some.level.now (levels_from c.in-Some.next c.args.found.topic) c.in-Ok.i c.index_mut.result.now small here c.index_mut.ensures.value))
+    rw (e, ← c.self.view_is) (told_by c.set-done.result _ _ (rw e at c.set-done.ensures.told) (there_child c.self.inside.retained es c.self.invariant c.in-Some.level.now (levels_from c.in-Some.next c.args.found.topic) c.in-Ok.i c.index_mut.result.now small here c.index_mut.ensures.value))
 
 pub Branch::set-returns-in-Ok-clause-refused : goal.Branch::set-returns-in-Ok-clause-refused
 Branch::set-returns-in-Ok-clause-refused t c =
     let es = c.self.inside.children.items in
     let small : c.in-Ok.i < length es = rw c.as_slice.ensures.value at c.in-Ok.ensures.within in
-    rw (← c.self.view_is) (on_err_weaker c.set-done.result (λ h. c.divide.ensures ∙ same_in c.self.inside.held es c.self.invariant c.in-Some.level.now (levels_from c.in-Some.next c.args.found.topic) c.args.found c.in-Ok.i c.index_mut.result.now c.set-done.new.self small c.index_mut.ensures.value h) c.set-done.ensures.refused)
+    rw (← c.self.view_is) (on_err_weaker c.set-done.result (λ h. c.divide.ensures ∙ same_in c.self.inside.retained es c.self.invariant c.in-Some.level.now (levels_from c.in-Some.next c.args.found.topic) c.args.found c.in-Ok.i c.index_mut.result.now c.set-done.new.self small c.index_mut.ensures.value h) c.set-done.ensures.refused)
 
 pub Branch::set-returns-in_ok-insert_at-in-Err-clause-done : goal.Branch::set-returns-in_ok-insert_at-in-Err-clause-done
 Branch::set-returns-in_ok-insert_at-in-Err-clause-done t c =
@@ -84,14 +84,14 @@ Branch::set-returns-in_ok-insert_at-in-Err-clause-done t c =
     let here : IsGap c.in-Some.level.now es c.in-Err.i = rw c.as_slice.ensures.value at c.in-Err.ensures.found in
     let small : c.in-Err.i ≤ length es = rw c.as_slice.ensures.value at c.in-Err.ensures.up_to in
     let spots : c.in_ok-child-in-Err.child.spots ≡ (c.in-Some.level.now ∷ levels_from c.in-Some.next c.args.found.topic, c.args.found) ∷ [] = c.in_ok-child-in-Err.ensures.spots ∙ ap (λ (k : List _). under k (spot_of c.in-Some.next c.args.found ∷ [])) c.in_ok-label-in-Err.ensures in
-    rw (e, ← c.self.view_is, c.in_ok-insert_at-in-Err.ensures.done) (grown_gap c.self.inside.held es c.self.invariant c.in-Some.level.now (levels_from c.in-Some.next c.args.found.topic) c.args.found c.in-Err.i c.in_ok-child-in-Err.child small here spots)
+    rw (e, ← c.self.view_is, c.in_ok-insert_at-in-Err.ensures.done) (grown_gap c.self.inside.retained es c.self.invariant c.in-Some.level.now (levels_from c.in-Some.next c.args.found.topic) c.args.found c.in-Err.i c.in_ok-child-in-Err.child small here spots)
 
 pub Branch::set-returns-in_ok-insert_at-in-Err-clause-told : goal.Branch::set-returns-in_ok-insert_at-in-Err-clause-told
 Branch::set-returns-in_ok-insert_at-in-Err-clause-told t c =
     let es = c.self.inside.children.items in
     let e : levels_from c.args.at c.args.found.topic ≡ c.in-Some.level.now ∷ levels_from c.in-Some.next c.args.found.topic = rw c.topic.ensures at c.in-Some.ensures.more in
     let here : IsGap c.in-Some.level.now es c.in-Err.i = rw c.as_slice.ensures.value at c.in-Err.ensures.found in
-    rw (e, ← c.self.view_is) (sym (there_gap c.self.inside.held es c.self.invariant c.in-Some.level.now (levels_from c.in-Some.next c.args.found.topic) c.in-Err.i here))
+    rw (e, ← c.self.view_is) (sym (there_gap c.self.inside.retained es c.self.invariant c.in-Some.level.now (levels_from c.in-Some.next c.args.found.topic) c.in-Err.i here))
 
 pub Child::set-returns-in-Few-clause-done : goal.Child::set-returns-in-Few-clause-done
 Child::set-returns-in-Few-clause-done t c = rw (← c.self.view_is) (on_ok_weaker c.hold-done.result (λ h. c.part.ensures.same ∙ h) c.hold-done.ensures.done)

@@ -11,7 +11,7 @@ use Rattle.rs_tree.specs.Values.{BranchValue, ChildValue}
 use Rattle.rs_tree.proofs.Leaving.{chain_gone, chain_left, chain_stays, full_at, full_not, joined_left, level_left, none_is, rest_again, rest_gone, rest_kept, rest_none, rest_put, rest_whole, stays_all}
 use Rattle.rs_tree.specs.Chains.{under_all}
 use Rattle.rs_tree.proofs.Stems.{full_below}
-use Rattle.rs_tree.proofs.Under.{Held}
+use Rattle.rs_tree.proofs.Under.{Spots}
 use Rattle.rs_tree.proofs.Rows.{deep_child}
 use Rattle.rs_tree.proofs.branch.+swept.Goals as goal
 
@@ -76,7 +76,7 @@ Child::swept-returns-in_ok-left-in-Inner t c =
     let chain : c.in_ok-chain-in-Inner.chain.items ≡ stem.chain.items = rw (c.as_slice.ensures.value, c.deref-in-Inner.ensures) at c.in_ok-chain-in-Inner.ensures.items in
     let some : IsFull branch.spots = full_not branch.spots (sym c.is_empty.ensures ∙ c.if-is_empty.false) in
     let made : stem_spots new ≡ under_all ks branch.spots = ap stem_spots c.in_ok-left-in-Inner.ensures.ok ∙ ap (λ (l : List ℕ). under_all (levels_from 1 l) branch.spots) chain in
-    let full : IsFull (stem_spots new) = (let P : Held → Type 0 = λ w. IsFull w in subst P (sym made) (full_below ks branch.spots some)) in
+    let full : IsFull (stem_spots new) = (let P : Spots → Type 0 = λ w. IsFull w in subst P (sym made) (full_below ks branch.spots some)) in
     let level = c.self.inside.level in
     let was : ChildValue = record { level = level; is_row = false; spots = under level (stem_spots stem); depth = stem.branch.depth + 1 } in
     let built : ChildValue = record { level = c.in_ok-level-in-Inner.level; is_row = false; spots = under c.in_ok-level-in-Inner.level (stem_spots new); depth = new.branch.depth + 1 } in

@@ -6,7 +6,7 @@ use Rattle.rs_store.proofs.map.MapCatalogueCatalogue.answer.Goals as goal
 
 pub returns-in-None : goal.returns-in-None
 returns-in-None c =
-    let held = c.args.self.now.held.entries in
-    let few : length held ≤ c.len.result = omega (arith, c.len.ensures.len) in
-    let none : None ≡ if_fits c.len.result (map found_of (filter (is_answered c.args.filter.now c.args.now) held)) = rw c.in-None.is at c.in_ok-found.ensures in
-    absurd (always_fits c.len.result c.args.filter.now c.args.now held few none)
+    let retained = c.args.self.now.retained.entries in
+    let few : length retained ≤ c.len.result = omega (arith, c.len.ensures.len) in
+    let none : None ≡ if_fits c.len.result (map found_of (filter (is_answered c.args.filter.now c.args.now) retained)) = rw c.in-None.is at c.in_ok-found.ensures in
+    absurd (always_fits c.len.result c.args.filter.now c.args.now retained few none)

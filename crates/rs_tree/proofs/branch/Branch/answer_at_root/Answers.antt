@@ -9,7 +9,7 @@ use Rattle.rs_tree.proofs.branch.Branch.answer_at_root.Goals as goal
 
 pub returns-in_default : goal.returns-in_default
 returns-in_default c =
-    rw (← c.self.view_is) (gives_same c.answer_held.result c.args.answer.now c.answer_held.new.answer _ _ (root_none (levels_from 0 c.args.filter.now) c.args.now c.self.inside.held c.self.inside.children.items c.self.invariant c.in_default.ensures.ended) c.answer_held.ensures)
+    rw (← c.self.view_is) (gives_same c.answer_retained.result c.args.answer.now c.answer_retained.new.answer _ _ (root_none (levels_from 0 c.args.filter.now) c.args.now c.self.inside.retained c.self.inside.children.items c.self.invariant c.in_default.ensures.ended) c.answer_retained.ensures)
 
 pub returns-in-Err : goal.returns-in-Err
 returns-in-Err c =
@@ -17,8 +17,8 @@ returns-in-Err c =
     let more = levels_from c.in-Some.next filter in
     let ends : fits (c.in-Some.level.now ∷ more) [] ≡ true = sym c.is_all_below.ensures ∙ c.if-is_all_below.true in
     let es = c.self.inside.children.items in
-    rw (← c.self.view_is) (gives_same {T = Unit {0}} (Err c.in-Err.stop) c.args.answer.now c.answer_held-then-is_all_below.new.answer _ _ (root_all (levels_from 0 filter) c.in-Some.level.now more c.args.now c.self.inside.held es c.self.invariant c.in-Some.ensures.more ends)
-    (gives_stop c.in-Err.stop c.args.answer.now c.answer_held-then-is_all_below.new.answer (own_chosen c.args.now c.self.inside.held) (chosen_by (is_plain_below (levels_from 0 filter)) c.args.now (parts es)) c.in-Err.ensures))
+    rw (← c.self.view_is) (gives_same {T = Unit {0}} (Err c.in-Err.stop) c.args.answer.now c.answer_retained-then-is_all_below.new.answer _ _ (root_all (levels_from 0 filter) c.in-Some.level.now more c.args.now c.self.inside.retained es c.self.invariant c.in-Some.ensures.more ends)
+    (gives_stop c.in-Err.stop c.args.answer.now c.answer_retained-then-is_all_below.new.answer (own_chosen c.args.now c.self.inside.retained) (chosen_by (is_plain_below (levels_from 0 filter)) c.args.now (parts es)) c.in-Err.ensures))
 
 pub answer_plain-requires : goal.answer_plain-requires
 answer_plain-requires c =
@@ -42,8 +42,8 @@ returns-then-is_all_below c =
     let more = levels_from c.in-Some.next filter in
     let ends : fits (c.in-Some.level.now ∷ more) [] ≡ true = sym c.is_all_below.ensures ∙ c.if-is_all_below.true in
     let es = c.self.inside.children.items in
-    rw (← c.self.view_is) (gives_same c.answer_plain.result c.args.answer.now c.answer_plain.new.answer _ _ (root_all (levels_from 0 filter) c.in-Some.level.now more c.args.now c.self.inside.held es c.self.invariant c.in-Some.ensures.more ends)
-    (gives_then c.answer_plain.result c.args.answer.now c.answer_held-then-is_all_below.new.answer c.answer_plain.new.answer (own_chosen c.args.now c.self.inside.held) (chosen_by (is_plain_below (levels_from 0 filter)) c.args.now (parts es)) c.in_default-answer_held.ensures.0 c.in_default-answer_held.ensures.1
+    rw (← c.self.view_is) (gives_same c.answer_plain.result c.args.answer.now c.answer_plain.new.answer _ _ (root_all (levels_from 0 filter) c.in-Some.level.now more c.args.now c.self.inside.retained es c.self.invariant c.in-Some.ensures.more ends)
+    (gives_then c.answer_plain.result c.args.answer.now c.answer_retained-then-is_all_below.new.answer c.answer_plain.new.answer (own_chosen c.args.now c.self.inside.retained) (chosen_by (is_plain_below (levels_from 0 filter)) c.args.now (parts es)) c.in_default-answer_retained.ensures.0 c.in_default-answer_retained.ensures.1
     (rw c.as_slice.ensures.value at c.answer_plain.ensures)))
 
 pub returns-then-is_plus : goal.returns-then-is_plus
@@ -52,7 +52,7 @@ returns-then-is_plus c =
     let more = levels_from c.in-Some.next filter in
     let ends : fits (c.in-Some.level.now ∷ more) [] ≡ false = sym c.is_all_below.ensures ∙ c.if-is_all_below.false in
     let es = c.self.inside.children.items in
-    rw (← c.self.view_is) (gives_same c.answer_plain-then-is_plus.result c.args.answer.now c.answer_plain-then-is_plus.new.answer _ _ (root_plus (levels_from 0 filter) c.in-Some.level.now more c.args.now c.self.inside.held es c.self.invariant c.in-Some.ensures.more ends (sym c.is_plus.ensures ∙ c.if-is_plus.true))
+    rw (← c.self.view_is) (gives_same c.answer_plain-then-is_plus.result c.args.answer.now c.answer_plain-then-is_plus.new.answer _ _ (root_plus (levels_from 0 filter) c.in-Some.level.now more c.args.now c.self.inside.retained es c.self.invariant c.in-Some.ensures.more ends (sym c.is_plus.ensures ∙ c.if-is_plus.true))
     (rw c.as_slice-then-is_plus.ensures.value at c.answer_plain-then-is_plus.ensures))
 
 pub returns : goal.returns

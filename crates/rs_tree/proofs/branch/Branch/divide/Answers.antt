@@ -3,7 +3,7 @@ use Rattle.rs_tree.specs.Spots.{own}
 use Rattle.rs_tree.specs.Rows.{AreHalves}
 use Rattle.rs_tree.proofs.Dividing.{divided}
 use Rattle.rs_tree.proofs.Growing.{from_at}
-use Rattle.rs_tree.proofs.Under.{Held}
+use Rattle.rs_tree.proofs.Under.{Spots}
 use Rattle.rs_tree.proofs.branch.Branch.divide.Goals as goal
 
 pub halved-requires : goal.halved-requires
@@ -17,5 +17,5 @@ invariant_of-self c =
 pub returns : goal.returns
 returns c =
     let halves : AreHalves c.index.result.now.level c.index.result.now.spots c.in-Ok-Some.low c.in-Ok-Some.high = rw c.in-Ok-Some.field-0-is at c.in-Ok-Some.ensures in
-    rw (← c.self.view_is) (ap (λ (w : Held). own c.self.inside.held ++ w)
+    rw (← c.self.view_is) (ap (λ (w : Spots). own c.self.inside.retained ++ w)
     (divided c.self.inside.children.items c.put_two.new.children.items c.args.i c.index.result.now c.in-Ok-Some.low c.in-Ok-Some.high (omega arith) c.index.ensures c.self.invariant halves c.put_two.result c.put_two.ensures.done c.put_two.ensures.kept).1)

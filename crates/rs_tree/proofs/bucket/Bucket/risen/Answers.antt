@@ -4,10 +4,10 @@ use Rattle.rs_tree.specs.Chains.{under_all}
 use Rattle.rs_topic.specs.Rests.{levels_from}
 use Rattle.rs_tree.specs.Spots.{spot_of, under}
 use Rattle.rs_tree.proofs.Stems.{under_one}
-use Rattle.rs_tree.proofs.Under.{Held, Path}
+use Rattle.rs_tree.proofs.Under.{Spots, Path}
 use Rattle.rs_tree.proofs.bucket.Bucket.risen.Goals as goal
 
-risen_one : (ks : Path) (k : List ℕ) (at higher : ℕ) (f g h : Found) (new : Held) → g ≡ f → h ≡ g → levels_from higher g.topic ≡ ks ++ k ∷ levels_from at g.topic → new ≡ spot_of higher h ∷ [] → new ≡ under_all ks (under k (spot_of at f ∷ []))
+risen_one : (ks : Path) (k : List ℕ) (at higher : ℕ) (f g h : Found) (new : Spots) → g ≡ f → h ≡ g → levels_from higher g.topic ≡ ks ++ k ∷ levels_from at g.topic → new ≡ spot_of higher h ∷ [] → new ≡ under_all ks (under k (spot_of at f ∷ []))
 risen_one ks k at higher f g h new same found path is =
     let there : levels_from higher f.topic ≡ ks ++ k ∷ levels_from at f.topic = rw same at path in
     is ∙ rw (found, same, there) (sym (under_one ks (k ∷ levels_from at f.topic) f))

@@ -5,7 +5,7 @@ use Rattle.rs_topic.specs.Order.{path_cmp}
 use Rattle.rs_tree.specs.Buckets.{spots_in}
 use Rattle.rs_topic.specs.Rests.{levels_from}
 use Rattle.rs_tree.proofs.Buckets.{gone_is, kept_is, none_is, sorted_clear, there_is}
-use Rattle.rs_tree.proofs.Under.{Held}
+use Rattle.rs_tree.proofs.Under.{Spots}
 use Rattle.rs_tree.proofs.leaves.Leaves.clear.Goals as goal
 
 pub invariant_of-self : goal.invariant_of-self
@@ -16,7 +16,7 @@ invariant_of-self c =
 pub returns-in-Ok-clause-done : goal.returns-in-Ok-clause-done
 returns-in-Ok-clause-done c =
     gone_is c.args.at c.in-Ok.i c.args.topic.now c.as_slice.result.now c.self.inside.leaves.items c.as_slice.ensures.value c.remove.new.self.items c.shrink_to_fit.new.self.items c.remove.ensures.items c.shrink_to_fit.ensures.items c.in-Ok.ensures.found
-    ∙ ap (λ (w : Held). remove_entry (is_at (path_cmp (levels_from c.args.at c.args.topic.now))) w) c.self.view_is
+    ∙ ap (λ (w : Spots). remove_entry (is_at (path_cmp (levels_from c.args.at c.args.topic.now))) w) c.self.view_is
 
 pub returns-in-Ok-clause-told : goal.returns-in-Ok-clause-told
 returns-in-Ok-clause-told c = there_is c.args.at c.in-Ok.i c.args.topic.now c.as_slice.result.now c.self.inside.leaves.items c.as_slice.ensures.value c.args.self.now c.self.view_is c.in-Ok.ensures.found

@@ -2,7 +2,7 @@ use Rattle.std.proofs.Common.{◌≡◌, ◌≢◌, true, length, ◌∙◌, sym
 use Rattle.rs_topic.specs.Rests.{levels_from}
 use Rattle.rs_tree.specs.Spots.{IsFull, is_there}
 use Rattle.rs_tree.proofs.Clearing.{more_cleared, single_cleared}
-use Rattle.rs_tree.proofs.Under.{Held}
+use Rattle.rs_tree.proofs.Under.{Spots}
 use Rattle.rs_tree.proofs.leaves.Leaves.clear_more.Goals as goal
 
 pub returns-then-len-eq1 : goal.returns-then-len-eq1
@@ -14,5 +14,5 @@ pub returns : goal.returns
 returns c =
     let there : is_there (levels_from c.args.at c.args.topic.now) c.args.self.now ≡ true = sym c.holds.ensures ∙ c.if-not-holds.false in
     let more : length c.args.self.now ≢ 1 = (λ h. c.if-len-eq1.false (c.len.ensures ∙ h)) in
-    let P : Held → Type 0 = λ w. IsFull w in
+    let P : Spots → Type 0 = λ w. IsFull w in
     (there, c.clear.ensures.done, subst P (sym c.clear.ensures.done) (more_cleared (levels_from c.args.at c.args.topic.now) c.args.self.now more there))

@@ -5,7 +5,7 @@ use Rattle.rs_tree.specs.Buckets.{spots_in}
 use Rattle.rs_topic.specs.Rests.{levels_from}
 use Rattle.rs_tree.specs.Spots.{is_there}
 use Rattle.rs_tree.proofs.Buckets.{new_is, none_is, put_is, sorted_set, there_is}
-use Rattle.rs_tree.proofs.Under.{Held}
+use Rattle.rs_tree.proofs.Under.{Spots}
 use Rattle.rs_tree.proofs.leaves.Leaves.set.Goals as goal
 
 pub invariant_of-self : goal.invariant_of-self
@@ -21,7 +21,7 @@ invariant_of-self-in-Err c =
 pub returns-in-Ok-clause-done : goal.returns-in-Ok-clause-done
 returns-in-Ok-clause-done c =
     put_is c.args.at c.in-Ok.i c.topic.result.now c.as_slice.result.now c.self.inside.leaves.items c.as_slice.ensures.value c.args.found c.topic.ensures c.in-Ok.ensures.found
-    ∙ ap (λ (w : Held). insert_entry path_cmp w (levels_from c.args.at c.args.found.topic) c.args.found) c.self.view_is
+    ∙ ap (λ (w : Spots). insert_entry path_cmp w (levels_from c.args.at c.args.found.topic) c.args.found) c.self.view_is
 
 pub returns-in-Ok-clause-told : goal.returns-in-Ok-clause-told
 returns-in-Ok-clause-told c =
@@ -31,7 +31,7 @@ returns-in-Ok-clause-told c =
 pub returns-in_ok-insert-in-Err-clause-done : goal.returns-in_ok-insert-in-Err-clause-done
 returns-in_ok-insert-in-Err-clause-done c =
     new_is c.args.at c.in-Err.i c.topic.result.now c.as_slice.result.now c.self.inside.leaves.items c.as_slice.ensures.value c.args.found c.reserve_exact.new.self.items c.insert.new.self.items c.topic.ensures c.reserve_exact.ensures.items c.in_ok-insert-in-Err.ensures.items c.in-Err.ensures.found
-    ∙ ap (λ (w : Held). insert_entry path_cmp w (levels_from c.args.at c.args.found.topic) c.args.found) c.self.view_is
+    ∙ ap (λ (w : Spots). insert_entry path_cmp w (levels_from c.args.at c.args.found.topic) c.args.found) c.self.view_is
 
 pub returns-in_ok-insert-in-Err-clause-told : goal.returns-in_ok-insert-in-Err-clause-told
 returns-in_ok-insert-in-Err-clause-told c =

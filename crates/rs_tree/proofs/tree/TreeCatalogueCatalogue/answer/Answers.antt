@@ -7,7 +7,7 @@ use Rattle.rs_tree.proofs.tree.TreeCatalogueCatalogue.answer.Goals as goal
 
 pub returns-in-None : goal.returns-in-None
 returns-in-None c =
-    let held = pairs c.self.inside.root in
-    let few : length held ≤ c.self.inside.count = omega (arith, c.self.invariant.counted) in
-    let none : None ≡ if_fits c.self.inside.count (map found_of (filter (is_answered c.args.filter.now c.args.now) held)) = rw c.in-None.is at c.in_ok-found.ensures in
-    absurd (always_fits c.self.inside.count c.args.filter.now c.args.now held few none)
+    let retained = pairs c.self.inside.root in
+    let few : length retained ≤ c.self.inside.count = omega (arith, c.self.invariant.counted) in
+    let none : None ≡ if_fits c.self.inside.count (map found_of (filter (is_answered c.args.filter.now c.args.now) retained)) = rw c.in-None.is at c.in_ok-found.ensures in
+    absurd (always_fits c.self.inside.count c.args.filter.now c.args.now retained few none)

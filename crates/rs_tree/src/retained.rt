@@ -9,10 +9,10 @@ use rs_store::{Answer, Stop, is_expired};
 use std::alloc::AllocError;
 
 /// Appends a copy of the message of one spot, unless it is expired.
-pub fn answer_held(held: &Option<Shared>, now: u64, answer: &mut Answer) -> Result<(), Stop>
-    ensures { Gives result answer.old answer.new (own_chosen now held.now) }
+pub fn answer_retained(retained: &Option<Shared>, now: u64, answer: &mut Answer) -> Result<(), Stop>
+    ensures { Gives result answer.old answer.new (own_chosen now retained.now) }
 {
-    let Some(found) = held else {
+    let Some(found) = retained else {
         return Ok(());
     };
     if is_expired(found.message(), now) {
@@ -22,10 +22,10 @@ pub fn answer_held(held: &Option<Shared>, now: u64, answer: &mut Answer) -> Resu
 }
 
 /// One more owner of the message of one spot, if there is one.
-pub fn held_again(held: &Option<Shared>) -> Result<Option<Shared>, AllocError>
-    ensures { IfOk result (λ h. h ≡ held.now) }
+pub fn retained_again(retained: &Option<Shared>) -> Result<Option<Shared>, AllocError>
+    ensures { IfOk result (λ h. h ≡ retained.now) }
 {
-    match held {
+    match retained {
         None => Ok(None),
         Some(found) => Ok(Some(found.again()?)),
     }
