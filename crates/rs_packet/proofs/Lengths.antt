@@ -124,7 +124,7 @@ length_publish topic qos id subscription expiry carried bytes section quality pa
 
 -- ---- an accepting CONNACK, by its parts
 
-session_expiry_length : (told : Bool) → length (session_expiry_bytes told) ≡ cond told 5 0
+session_expiry_length : (is_sent : Bool) → length (session_expiry_bytes is_sent) ≡ cond is_sent 5 0
 session_expiry_length true = refl
 session_expiry_length false = refl
 

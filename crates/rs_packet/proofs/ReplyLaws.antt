@@ -103,9 +103,9 @@ abbrev client_of : List ℕ → Option (List ℕ)
 client_of bytes = cond (eqb (slice_index_or bytes 0 0) 0x12) (client_in (binary_at (drop 1 bytes))) None
 
 abbrev accepted_of : List ℕ → ConnackAccepted
-accepted_of bytes = let told = eqb (slice_index_or bytes 0 0) 0x11 in record { session_expiry_zero = told; assigned_client = client_of (cond told (drop 5 bytes) bytes) }
+accepted_of bytes = let is_sent = eqb (slice_index_or bytes 0 0) 0x11 in record { session_expiry_zero = is_sent; assigned_client = client_of (cond is_sent (drop 5 bytes) bytes) }
 
-accepted_is : (told : Bool) (client : Option (List ℕ)) → IfSome client IsShort → let a : ConnackAccepted = record { session_expiry_zero = told; assigned_client = client } in accepted_of (accepting a) ≡ a
+accepted_is : (is_sent : Bool) (client : Option (List ℕ)) → IfSome client IsShort → let a : ConnackAccepted = record { session_expiry_zero = is_sent; assigned_client = client } in accepted_of (accepting a) ≡ a
 accepted_is true None h = refl
 accepted_is false None h = refl
 accepted_is true (Some c) h = ap (λ (r : Result (List ℕ × List ℕ) PacketFault). let a : ConnackAccepted = record { session_expiry_zero = true; assigned_client = client_in r } in a) (binary_again c limit_bytes h)

@@ -81,7 +81,7 @@ impl Message {
     /// The payload, which is not empty.
     pub fn payload(&self) -> &Bytes
         ensures value { result.now ≡ self.now.payload }
-        ensures message { IsMessage self.now }
+        ensures is_message { IsMessage self.now }
     {
         &self.payload
     }

@@ -61,7 +61,7 @@ impl Calm {
     /// and a second time if none is expired, to find the first moment at which one is.
     pub fn has_expired<C: Catalogue>(&mut self, catalogue: &C, now: u64) -> bool
         requires { NoneExpiredBefore self.old (C.content catalogue.now) }
-        ensures told { MatchBool result (0 < expired_in now (C.content catalogue.now)) (expired_in now (C.content catalogue.now) ≡ 0) }
+        ensures exact { MatchBool result (0 < expired_in now (C.content catalogue.now)) (expired_in now (C.content catalogue.now) ≡ 0) }
         ensures calm { NoneExpiredBefore self.new (C.content catalogue.now) }
     {
         if now < self.until {

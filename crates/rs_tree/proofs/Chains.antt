@@ -55,8 +55,8 @@ pub shared_more : (all before now new left : List (List ℕ)) (level : List ℕ)
 shared_more all before now new left level h is more = rw (h, is, more) (sym (append_assoc before (level ∷ []) left))
 
 -- texts for which `!=` is false are equal
-pub told_same : (a b : List ℕ) (r : Bool) → r ≡ not (bytes_eq a b) → r ≡ false → b ≡ a
-told_same a b r is h = at (bytes_eq a b) refl
+pub levels_same : (a b : List ℕ) (r : Bool) → r ≡ not (bytes_eq a b) → r ≡ false → b ≡ a
+levels_same a b r is h = at (bytes_eq a b) refl
   where
     at : (t : Bool) → bytes_eq a b ≡ t → b ≡ a
     at true e = sym ((bytes_decides a b).0 e)

@@ -9,7 +9,7 @@ use Rattle.std.specs.declared.cmp.Ordering.TheVariants.{Less, Equal, Greater}
 use Rattle.rs_message.specs.declared.entry.Found.{Found}
 use Rattle.rs_topic.specs.Order.{path_cmp}
 use Rattle.rs_tree.specs.Spots.{IsFull, is_there, own, under}
-use Rattle.rs_tree.proofs.Under.{told_by, full_insert, Spots, Path, level_cmp}
+use Rattle.rs_tree.proofs.Under.{was_by, full_insert, Spots, Path, level_cmp}
 use Rattle.rs_tree.proofs.Stems.{insert_all}
 use Rattle.rs_tree.specs.Rows.{IsAhead, IsBefore, IsBehind, IsEdge, IsFrom, IsGap, IsIn, IsRow, IsUpTo, Takes, parts}
 use Rattle.rs_tree.specs.Values.{ChildValue}
@@ -181,5 +181,5 @@ module _ (k : List ℕ) (p path : Path) (f : Found) (is : path ≡ k ∷ p) wher
   pub grown_under : (w w' : Spots) → w' ≡ insert_entry path_cmp w p f → under k w' ≡ insert_entry path_cmp (under k w) path f
   grown_under w w' put = rw (is, put) (sym (insert_all (k ∷ []) p f w))
 
-  pub told_under : {E : Type 0} (o : Result Bool E) (w : Spots) → IfOk o (λ was. was ≡ is_there p w) → IfOk o (λ was. was ≡ is_there path (under k w))
-  told_under o w t = told_by o (is_there p w) (is_there path (under k w)) t (there_under k p path w is)
+  pub was_under : {E : Type 0} (o : Result Bool E) (w : Spots) → IfOk o (λ was. was ≡ is_there p w) → IfOk o (λ was. was ≡ is_there path (under k w))
+  was_under o w t = was_by o (is_there p w) (is_there path (under k w)) t (there_under k p path w is)

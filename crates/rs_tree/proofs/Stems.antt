@@ -133,8 +133,8 @@ none_past (k ∷ ks) (level ∷ more) now w h = by (fits (level ∷ more) []) re
 pub set_whole : (ks p q : Path) (f : Found) (b b' old : Spots) → under_all ks b ≡ old → p ≡ ks ++ q → b' ≡ insert_entry path_cmp b q f → under_all ks b' ≡ insert_entry path_cmp old p f
 set_whole ks p q f b b' old same is h = rw (h, is, ← same) (sym (insert_all ks q f b))
 
-pub told_whole : (ks p q : Path) (b old : Spots) → under_all ks b ≡ old → p ≡ ks ++ q → is_there q b ≡ is_there p old
-told_whole ks p q b old same is = rw (is, ← same) (sym (there_all ks q b))
+pub was_whole : (ks p q : Path) (b old : Spots) → under_all ks b ≡ old → p ≡ ks ++ q → is_there q b ≡ is_there p old
+was_whole ks p q b old same is = rw (is, ← same) (sym (there_all ks q b))
 
 -- a chain of two parts
 pub joined : (a b : Path) (w : Spots) → under_all (a ++ b) w ≡ under_all a (under_all b w)

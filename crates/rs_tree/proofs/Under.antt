@@ -77,6 +77,6 @@ same_child q p (s ∷ ss) rest h = at (path_cmp p s.0) refl (same_child q p ss r
 pub there_one : (q : List ℕ) (p : Path) (w : Spots) → is_there (q ∷ p) (under q w) ≡ is_there p w
 there_one q p w = ap (is_there (q ∷ p)) (sym (append-nil (under q w))) ∙ same_child q p w [] refl
 
-pub told_by : {E : Type 0} (r : Result Bool E) (a b : Bool) → IfOk r (λ w. w ≡ a) → a ≡ b → IfOk r (λ w. w ≡ b)
-told_by (Ok x) a b h e = h ∙ e
-told_by (Err x) a b h e = tt
+pub was_by : {E : Type 0} (r : Result Bool E) (a b : Bool) → IfOk r (λ w. w ≡ a) → a ≡ b → IfOk r (λ w. w ≡ b)
+was_by (Ok x) a b h e = h ∙ e
+was_by (Err x) a b h e = tt

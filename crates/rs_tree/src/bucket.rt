@@ -175,7 +175,7 @@ impl Bucket {
     /// Sets the message at the rest of its topic, and returns whether there was one. If memory is refused, nothing changes.
     pub fn set(&mut self, alloc: Global, found: Shared, at: usize) -> Result<bool, AllocError>
         ensures done { OnOk result (self.new ≡ insert_entry path_cmp self.old (levels_from at found.topic) found) }
-        ensures told { IfOk result (λ was. was ≡ is_there (levels_from at found.topic) self.old) }
+        ensures existed { IfOk result (λ was. was ≡ is_there (levels_from at found.topic) self.old) }
         ensures refused { OnErr result (self.new ≡ self.old) }
     {
         if self.is_one_at(found.topic(), at) {

@@ -195,7 +195,7 @@ impl Leaves {
     /// Sets the message at the rest of its topic, and returns whether there was one. If memory is refused, nothing changes.
     pub fn set(&mut self, found: Shared, at: usize) -> Result<bool, AllocError>
         ensures done { OnOk result (self.new ≡ insert_entry path_cmp self.old (levels_from at found.topic) found) }
-        ensures told { IfOk result (λ was. was ≡ is_there (levels_from at found.topic) self.old) }
+        ensures existed { IfOk result (λ was. was ≡ is_there (levels_from at found.topic) self.old) }
         ensures refused { OnErr result (self.new ≡ self.old) }
     {
         match index_of(self.leaves.as_slice(), found.topic(), at) {
@@ -214,7 +214,7 @@ impl Leaves {
     /// Removes the message at this rest of a topic, and returns whether there was one.
     pub fn clear(&mut self, topic: &[u8], at: usize) -> bool
         ensures done { self.new ≡ remove_entry (is_at (path_cmp (levels_from at topic.now))) self.old }
-        ensures told { result ≡ is_there (levels_from at topic.now) self.old }
+        ensures existed { result ≡ is_there (levels_from at topic.now) self.old }
     {
         match index_of(self.leaves.as_slice(), topic, at) {
             Ok(i) => {

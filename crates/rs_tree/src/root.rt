@@ -68,7 +68,7 @@ impl Root {
     /// Sets the message of its topic, and returns whether there was one. If memory is refused, nothing changes.
     pub fn set(&mut self, alloc: Global, found: Found) -> Result<bool, AllocError>
         ensures done { OnOk result (self.new ≡ insert_entry path_cmp self.old (levels_from 0 found.topic) found) }
-        ensures told { IfOk result (λ was. was ≡ is_there (levels_from 0 found.topic) self.old) }
+        ensures existed { IfOk result (λ was. was ≡ is_there (levels_from 0 found.topic) self.old) }
         ensures refused { OnErr result (self.new ≡ self.old) }
     {
         let shared = Shared::new(found);
@@ -80,7 +80,7 @@ impl Root {
     /// Removes the message of a topic, and returns whether there was one. If memory is refused, nothing changes.
     pub fn clear(&mut self, alloc: Global, topic: &[u8]) -> Result<bool, AllocError>
         ensures done { OnOk result (self.new ≡ remove_entry (is_at (path_cmp (levels_from 0 topic.now))) self.old) }
-        ensures told { IfOk result (λ was. was ≡ is_there (levels_from 0 topic.now) self.old) }
+        ensures existed { IfOk result (λ was. was ≡ is_there (levels_from 0 topic.now) self.old) }
         ensures refused { OnErr result (self.new ≡ self.old) }
     {
         match Branch::clear_in(&mut self.branch, alloc, topic, 0) {

@@ -17,10 +17,10 @@ const ASSIGNED_CLIENT_IDENTIFIER: u8 = 0x12;
 const SHARED_SUBSCRIPTION_AVAILABLE: u8 = 0x2A;
 
 /// Appends a Session Expiry Interval of 0 (3.2.2.3.2), if the client is told one.
-fn put_session_expiry(out: &mut Vec<u8>, told: bool) -> Result<(), AllocError>
-    ensures { OnOk result (out.new.items ≡ out.old.items ++ session_expiry_bytes told) }
+fn put_session_expiry(out: &mut Vec<u8>, is_sent: bool) -> Result<(), AllocError>
+    ensures { OnOk result (out.new.items ≡ out.old.items ++ session_expiry_bytes is_sent) }
 {
-    if told {
+    if is_sent {
         out.push(Identifier::SessionExpiryInterval.number())?;
         put_u32(out, 0)?;
     }

@@ -66,7 +66,7 @@ impl Child {
         requires { Leads self.old (levels_from at found.topic) (levels_from next found.topic) }
         ensures level { self.new.level ≡ self.old.level }
         ensures done { OnOk result (self.new.spots ≡ insert_entry path_cmp self.old.spots (levels_from at found.topic) found) }
-        ensures told { IfOk result (λ was. was ≡ is_there (levels_from at found.topic) self.old.spots) }
+        ensures existed { IfOk result (λ was. was ≡ is_there (levels_from at found.topic) self.old.spots) }
         ensures refused { OnErr result (self.new.spots ≡ self.old.spots) }
     {
         let Below::Few(bucket) = &mut self.below else {
@@ -113,7 +113,7 @@ impl Child {
         requires leads { Leads self.old (levels_from at found.topic) (levels_from next found.topic) }
         ensures level { self.new.level ≡ self.old.level }
         ensures done { OnOk result (self.new.spots ≡ insert_entry path_cmp self.old.spots (levels_from at found.topic) found) }
-        ensures told { IfOk result (λ was. was ≡ is_there (levels_from at found.topic) self.old.spots) }
+        ensures existed { IfOk result (λ was. was ≡ is_there (levels_from at found.topic) self.old.spots) }
         ensures refused { OnErr result (self.new.spots ≡ self.old.spots) }
     {
         match &mut self.below {
@@ -167,7 +167,7 @@ impl Stem {
     fn set_beside(&mut self, alloc: Global, found: Shared, at: usize) -> Result<bool, AllocError>
         requires { IsFull self.old.branch.spots }
         ensures done { OnOk result (stem_spots self.new ≡ insert_entry path_cmp (stem_spots self.old) (levels_from at found.topic) found) }
-        ensures told { IfOk result (λ was. was ≡ is_there (levels_from at found.topic) (stem_spots self.old)) }
+        ensures existed { IfOk result (λ was. was ≡ is_there (levels_from at found.topic) (stem_spots self.old)) }
         ensures refused { OnErr result (stem_spots self.new ≡ stem_spots self.old) }
     {
         let shared = shared_levels(alloc, self.chain.as_slice(), 1, found.topic(), at)?;
@@ -180,7 +180,7 @@ impl Stem {
     fn set_here(&mut self, alloc: Global, found: Shared, at: usize) -> Result<bool, AllocError>
         requires { IsFull self.old.branch.spots }
         ensures done { OnOk result (stem_spots self.new ≡ insert_entry path_cmp (stem_spots self.old) (levels_from at found.topic) found) }
-        ensures told { IfOk result (λ was. was ≡ is_there (levels_from at found.topic) (stem_spots self.old)) }
+        ensures existed { IfOk result (λ was. was ≡ is_there (levels_from at found.topic) (stem_spots self.old)) }
         ensures refused { OnErr result (stem_spots self.new ≡ stem_spots self.old) }
     {
         let Some(next) = behind(self.chain.as_slice(), found.topic(), at) else {
@@ -201,7 +201,7 @@ impl Stem {
     ) -> Result<bool, AllocError>
         requires { IsFull (arc_value this.old).branch.spots }
         ensures done { OnOk result (stem_spots (arc_value this.new) ≡ insert_entry path_cmp (stem_spots (arc_value this.old)) (levels_from at found.topic) found) }
-        ensures told { IfOk result (λ was. was ≡ is_there (levels_from at found.topic) (stem_spots (arc_value this.old))) }
+        ensures existed { IfOk result (λ was. was ≡ is_there (levels_from at found.topic) (stem_spots (arc_value this.old))) }
         ensures refused { OnErr result (stem_spots (arc_value this.new) ≡ stem_spots (arc_value this.old)) }
     {
         if let Some(stem) = Arc::get_mut(this) {
@@ -219,7 +219,7 @@ impl Branch {
     /// changes.
     fn hold(&mut self, alloc: Global, found: Shared, at: usize) -> Result<bool, AllocError>
         ensures done { OnOk result (self.new.spots ≡ insert_entry path_cmp self.old.spots (levels_from at found.topic) found) }
-        ensures told { IfOk result (λ was. was ≡ is_there (levels_from at found.topic) self.old.spots) }
+        ensures existed { IfOk result (λ was. was ≡ is_there (levels_from at found.topic) self.old.spots) }
         ensures refused { OnErr result (self.new.spots ≡ self.old.spots) }
     {
         let Some((level, next)) = level_at(found.topic(), at) else {
@@ -242,7 +242,7 @@ impl Branch {
     #[cycle(set)]
     pub fn set(&mut self, alloc: Global, found: Shared, at: usize) -> Result<bool, AllocError>
         ensures done { OnOk result (self.new.spots ≡ insert_entry path_cmp self.old.spots (levels_from at found.topic) found) }
-        ensures told { IfOk result (λ was. was ≡ is_there (levels_from at found.topic) self.old.spots) }
+        ensures existed { IfOk result (λ was. was ≡ is_there (levels_from at found.topic) self.old.spots) }
         ensures refused { OnErr result (self.new.spots ≡ self.old.spots) }
     {
         let Some((level, next)) = level_at(found.topic(), at) else {
@@ -274,7 +274,7 @@ impl Branch {
         at: usize,
     ) -> Result<bool, AllocError>
         ensures done { OnOk result ((arc_value this.new).spots ≡ insert_entry path_cmp (arc_value this.old).spots (levels_from at found.topic) found) }
-        ensures told { IfOk result (λ was. was ≡ is_there (levels_from at found.topic) (arc_value this.old).spots) }
+        ensures existed { IfOk result (λ was. was ≡ is_there (levels_from at found.topic) (arc_value this.old).spots) }
         ensures refused { OnErr result ((arc_value this.new).spots ≡ (arc_value this.old).spots) }
     {
         if let Some(branch) = Arc::get_mut(this) {

@@ -18,7 +18,7 @@ pub returns-then-not-has_expired-clause-none : goal.returns-then-not-has_expired
 returns-then-not-has_expired-clause-none g c = λ s.
     let content = g.C.Catalogue.content c.args.catalogue.now in
     let received : c.received-moment.result ≡ c.in-Set.found.message.received = rw c.message.ensures at c.received-moment.ensures in
-    let none : expired_in c.in-Set.found.message.received content ≡ 0 = rw (← received) c.if-not-has_expired.ensures.told in
+    let none : expired_in c.in-Set.found.message.received content ≡ 0 = rw (← received) c.if-not-has_expired.ensures.exact in
     not_without content c.args.entry.now c.in-Set.found.topic c.in-Set.found.message c.in-Set.is none s
 
 pub returns-clause-some : goal.returns-clause-some
@@ -26,7 +26,7 @@ returns-clause-some g c =
     let content = g.C.Catalogue.content c.args.catalogue.now in
     let last = c.last_serial-last.ensures.value in
     let received : c.received-moment.result ≡ c.in-Set.found.message.received = rw c.message.ensures at c.received-moment.ensures in
-    let some : 0 < expired_in c.in-Set.found.message.received content = rw (← received) c.if-not-has_expired.ensures.told in
+    let some : 0 < expired_in c.in-Set.found.message.received content = rw (← received) c.if-not-has_expired.ensures.exact in
     let above : c.args.entry.now.origin.place ≡ 0 → slice_index content.serials 0 + 1 < c.args.entry.now.origin.serial = λ zero. elim c.else-place-eq0.branch [
       | else-place-eq0-via-then-place-eq0+else-serial w ↦ omega (arith, w.if-serial.false, w.serial.ensures.value, last)
       | else-place-eq0-via-else-place-eq0 w ↦ absurd (w.if-place-eq0.false (c.place.ensures.value ∙ zero))

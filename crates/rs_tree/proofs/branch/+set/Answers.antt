@@ -2,13 +2,13 @@ use Rattle.std.proofs.Common.{◌≡◌, ◌+◌, ◌<◌, ◌≤◌, ◌∷◌,
 use Rattle.std.proofs.lemmas.Result.{on_ok_weaker, on_err_weaker}
 use Rattle.rs_topic.specs.Rests.{levels_from}
 use Rattle.rs_tree.specs.Spots.{IsFull, spot_of, under}
-use Rattle.rs_tree.proofs.Under.{told_by}
+use Rattle.rs_tree.proofs.Under.{was_by}
 use Rattle.rs_tree.specs.Rows.{IsGap, IsIn, depth}
 use Rattle.rs_tree.specs.Chains.{behind, under_all}
-use Rattle.rs_tree.proofs.Stems.{behind_is, full_inside, set_whole, told_whole}
+use Rattle.rs_tree.proofs.Stems.{behind_is, full_inside, set_whole, was_whole}
 use Rattle.rs_tree.specs.Nodes.{stem_spots}
 use Rattle.rs_tree.specs.Values.{BranchValue, ChildValue}
-use Rattle.rs_tree.proofs.Growing.{full_child, grown_gap, grown_in, grown_under, told_under, own_first, row_new, row_put, same_in}
+use Rattle.rs_tree.proofs.Growing.{full_child, grown_gap, grown_in, grown_under, was_under, own_first, row_new, row_put, same_in}
 use Rattle.rs_tree.proofs.Rows.{deep_child, leads_child, there_child, there_gap, there_own}
 use Rattle.rs_tree.proofs.branch.+set.Goals as goal
 
@@ -17,8 +17,8 @@ Branch::set-returns-in_default-clause-done t c =
     let e : levels_from c.args.at c.args.found.topic ≡ [] = rw c.topic.ensures at c.in_default.ensures.ended in
     rw (e, ← c.self.view_is) (own_first c.self.inside.retained c.args.found c.self.inside.children.items c.self.invariant)
 
-pub Branch::set-returns-in_default-clause-told : goal.Branch::set-returns-in_default-clause-told
-Branch::set-returns-in_default-clause-told t c =
+pub Branch::set-returns-in_default-clause-existed : goal.Branch::set-returns-in_default-clause-existed
+Branch::set-returns-in_default-clause-existed t c =
     let e : levels_from c.args.at c.args.found.topic ≡ [] = rw c.topic.ensures at c.in_default.ensures.ended in
     rw (e, ← c.self.view_is) (c.is_some-was.ensures ∙ sym (there_own c.self.inside.retained c.self.inside.children.items c.self.invariant))
 
@@ -63,13 +63,13 @@ Branch::set-returns-in-Ok-clause-done t c =
     rw (e, ← c.self.view_is) (on_ok_weaker c.set-done.result (λ h. c.divide.ensures ∙ grown_in c.self.inside.retained es c.self.invariant c.in-Some.level.now (levels_from c.in-Some.next c.args.found.topic) c.args.found c.in-Ok.i c.index_mut.result.now c.set-done.new.self small here c.index_mut.ensures.value h)
     (rw e at c.set-done.ensures.done))
 
-pub Branch::set-returns-in-Ok-clause-told : goal.Branch::set-returns-in-Ok-clause-told
-Branch::set-returns-in-Ok-clause-told t c =
+pub Branch::set-returns-in-Ok-clause-existed : goal.Branch::set-returns-in-Ok-clause-existed
+Branch::set-returns-in-Ok-clause-existed t c =
     let es = c.self.inside.children.items in
     let e : levels_from c.args.at c.args.found.topic ≡ c.in-Some.level.now ∷ levels_from c.in-Some.next c.args.found.topic = rw c.topic.ensures at c.in-Some.ensures.more in
     let here : IsIn c.in-Some.level.now es c.in-Ok.i = rw c.as_slice.ensures.value at c.in-Ok.ensures.found in
     let small : c.in-Ok.i < length es = rw c.as_slice.ensures.value at c.in-Ok.ensures.within in
-    rw (e, ← c.self.view_is) (told_by c.set-done.result _ _ (rw e at c.set-done.ensures.told) (there_child c.self.inside.retained es c.self.invariant c.in-Some.level.now (levels_from c.in-Some.next c.args.found.topic) c.in-Ok.i c.index_mut.result.now small here c.index_mut.ensures.value))
+    rw (e, ← c.self.view_is) (was_by c.set-done.result _ _ (rw e at c.set-done.ensures.existed) (there_child c.self.inside.retained es c.self.invariant c.in-Some.level.now (levels_from c.in-Some.next c.args.found.topic) c.in-Ok.i c.index_mut.result.now small here c.index_mut.ensures.value))
 
 pub Branch::set-returns-in-Ok-clause-refused : goal.Branch::set-returns-in-Ok-clause-refused
 Branch::set-returns-in-Ok-clause-refused t c =
@@ -86,8 +86,8 @@ Branch::set-returns-in_ok-insert_at-in-Err-clause-done t c =
     let spots : c.in_ok-child-in-Err.child.spots ≡ (c.in-Some.level.now ∷ levels_from c.in-Some.next c.args.found.topic, c.args.found) ∷ [] = c.in_ok-child-in-Err.ensures.spots ∙ ap (λ (k : List _). under k (spot_of c.in-Some.next c.args.found ∷ [])) c.in_ok-label-in-Err.ensures in
     rw (e, ← c.self.view_is, c.in_ok-insert_at-in-Err.ensures.done) (grown_gap c.self.inside.retained es c.self.invariant c.in-Some.level.now (levels_from c.in-Some.next c.args.found.topic) c.args.found c.in-Err.i c.in_ok-child-in-Err.child small here spots)
 
-pub Branch::set-returns-in_ok-insert_at-in-Err-clause-told : goal.Branch::set-returns-in_ok-insert_at-in-Err-clause-told
-Branch::set-returns-in_ok-insert_at-in-Err-clause-told t c =
+pub Branch::set-returns-in_ok-insert_at-in-Err-clause-existed : goal.Branch::set-returns-in_ok-insert_at-in-Err-clause-existed
+Branch::set-returns-in_ok-insert_at-in-Err-clause-existed t c =
     let es = c.self.inside.children.items in
     let e : levels_from c.args.at c.args.found.topic ≡ c.in-Some.level.now ∷ levels_from c.in-Some.next c.args.found.topic = rw c.topic.ensures at c.in-Some.ensures.more in
     let here : IsGap c.in-Some.level.now es c.in-Err.i = rw c.as_slice.ensures.value at c.in-Err.ensures.found in
@@ -96,8 +96,8 @@ Branch::set-returns-in_ok-insert_at-in-Err-clause-told t c =
 pub Child::set-returns-in-Few-clause-done : goal.Child::set-returns-in-Few-clause-done
 Child::set-returns-in-Few-clause-done t c = rw (← c.self.view_is) (on_ok_weaker c.hold-done.result (λ h. c.part.ensures.same ∙ h) c.hold-done.ensures.done)
 
-pub Child::set-returns-in-Few-clause-told : goal.Child::set-returns-in-Few-clause-told
-Child::set-returns-in-Few-clause-told t c = rw (← c.self.view_is) c.hold-done.ensures.told
+pub Child::set-returns-in-Few-clause-existed : goal.Child::set-returns-in-Few-clause-existed
+Child::set-returns-in-Few-clause-existed t c = rw (← c.self.view_is) c.hold-done.ensures.existed
 
 pub Child::set-returns-in-Few-clause-refused : goal.Child::set-returns-in-Few-clause-refused
 Child::set-returns-in-Few-clause-refused t c = rw (← c.self.view_is) (on_err_weaker c.hold-done.result (λ h. c.part.ensures.same ∙ h) c.hold-done.ensures.refused)
@@ -107,10 +107,10 @@ Child::set-returns-in-Inner-clause-done t c =
     let leads : levels_from c.args.at c.args.found.topic ≡ c.self.inside.level ∷ levels_from c.args.next c.args.found.topic = rw (← c.self.view_is, c.in-Inner.is) at c.requires.leads in
     rw (← c.self.view_is, c.in-Inner.is) (on_ok_weaker c.set.result (grown_under c.self.inside.level (levels_from c.args.next c.args.found.topic) (levels_from c.args.at c.args.found.topic) c.args.found leads (stem_spots c.in-Inner.stem.value) (stem_spots c.set.new.this.value)) c.set.ensures.done)
 
-pub Child::set-returns-in-Inner-clause-told : goal.Child::set-returns-in-Inner-clause-told
-Child::set-returns-in-Inner-clause-told t c =
+pub Child::set-returns-in-Inner-clause-existed : goal.Child::set-returns-in-Inner-clause-existed
+Child::set-returns-in-Inner-clause-existed t c =
     let leads : levels_from c.args.at c.args.found.topic ≡ c.self.inside.level ∷ levels_from c.args.next c.args.found.topic = rw (← c.self.view_is, c.in-Inner.is) at c.requires.leads in
-    rw (← c.self.view_is, c.in-Inner.is) (told_under c.self.inside.level (levels_from c.args.next c.args.found.topic) (levels_from c.args.at c.args.found.topic) c.args.found leads c.set.result (stem_spots c.in-Inner.stem.value) c.set.ensures.told)
+    rw (← c.self.view_is, c.in-Inner.is) (was_under c.self.inside.level (levels_from c.args.next c.args.found.topic) (levels_from c.args.at c.args.found.topic) c.args.found leads c.set.result (stem_spots c.in-Inner.stem.value) c.set.ensures.existed)
 
 pub Child::set-returns-in-Inner-clause-refused : goal.Child::set-returns-in-Inner-clause-refused
 Child::set-returns-in-Inner-clause-refused t c =
@@ -132,11 +132,11 @@ Stem::set_here-returns-clause-done t c =
     let there : Some rest ≡ behind ks path = rw (c.as_slice.ensures.value, c.topic.ensures) at c.in-Some.ensures.value in
     on_ok_weaker c.set-done.result (λ h. ap (under_all ks) c.fold.ensures ∙ set_whole ks path rest c.args.found stem.branch.spots c.set-done.new.self.spots (stem_spots stem) refl (behind_is ks path rest (sym there)) h) c.set-done.ensures.done
 
-pub Stem::set_here-returns-clause-told : goal.Stem::set_here-returns-clause-told
-Stem::set_here-returns-clause-told t c =
+pub Stem::set_here-returns-clause-existed : goal.Stem::set_here-returns-clause-existed
+Stem::set_here-returns-clause-existed t c =
     let stem = c.args.self.now in
     let ks = levels_from 1 stem.chain.items in
     let path = levels_from c.args.at c.args.found.topic in
     let rest = levels_from c.in-Some.next c.args.found.topic in
     let there : Some rest ≡ behind ks path = rw (c.as_slice.ensures.value, c.topic.ensures) at c.in-Some.ensures.value in
-    told_by c.set-done.result _ _ c.set-done.ensures.told (told_whole ks path rest stem.branch.spots (stem_spots stem) refl (behind_is ks path rest (sym there)))
+    was_by c.set-done.result _ _ c.set-done.ensures.existed (was_whole ks path rest stem.branch.spots (stem_spots stem) refl (behind_is ks path rest (sym there)))

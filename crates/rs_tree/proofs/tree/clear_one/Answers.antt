@@ -15,7 +15,7 @@ returns-then-was-clause-done c =
 
 pub returns-then-was-clause-counted : goal.returns-then-was-clause-counted
 returns-then-was-clause-counted c =
-    let is : c.in_ok-was.was' ≡ is_there (levels_from 0 c.args.topic.now) c.args.root.now = rw c.as_bytes.ensures.bytes at c.in_ok-was.ensures.told in
+    let is : c.in_ok-was.was' ≡ is_there (levels_from 0 c.args.topic.now) c.args.root.now = rw c.as_bytes.ensures.bytes at c.in_ok-was.ensures.existed in
     let one = clear_old c.args.root.now c.args.topic.now c.in_ok-was.was' c.args.count c.requires.placed c.requires.counted is c.if-was.true in
     omega (arith, one)
 
@@ -29,7 +29,7 @@ returns-else-was-clause-done c =
 
 pub returns-else-was-clause-counted : goal.returns-else-was-clause-counted
 returns-else-was-clause-counted c =
-    let is : c.in_ok-was.was' ≡ is_there (levels_from 0 c.args.topic.now) c.args.root.now = rw c.as_bytes.ensures.bytes at c.in_ok-was.ensures.told in
+    let is : c.in_ok-was.was' ≡ is_there (levels_from 0 c.args.topic.now) c.args.root.now = rw c.as_bytes.ensures.bytes at c.in_ok-was.ensures.existed in
     clear_none c.args.root.now c.args.topic.now c.in_ok-was.was' c.args.count c.requires.placed c.requires.counted is c.if-was.false
 
 pub returns-else-was-clause-placed : goal.returns-else-was-clause-placed

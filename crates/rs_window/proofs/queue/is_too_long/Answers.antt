@@ -18,7 +18,7 @@ publish_len-len-requires c =
     let topic = c.args.waiting.now.found.topic in
     let properties : c.properties.result.now ≡ m.properties = rw c.message-message.ensures at c.properties.ensures in
     let payload : c.payload.result.now ≡ m.payload = rw c.message-message.ensures at c.payload.ensures.value in
-    let is_message : IsMessage m = rw c.message-message.ensures at c.payload.ensures.message in
+    let is_message : IsMessage m = rw c.message-message.ensures at c.payload.ensures.is_message in
     let is : c.as_bytes-topic.result.now ≡ topic = rw c.topic-topic.ensures at c.as_bytes-topic.ensures.bytes in
     let short : length topic < 2 ^ 16 = omega (arith, c.as_bytes-topic.ensures.short, ap (λ (bytes : List ℕ). length bytes) is) in
     rw c.topic-topic.ensures (packet_fits topic c.lesser_of.result c.args.expiry m.expiry c.args.waiting.now.subscription c.properties.result.now m.properties c.len.result (length m.payload)

@@ -9,7 +9,7 @@ returns-clause-done c =
     let leads : levels_from c.args.at c.args.found.topic ≡ c.self.inside.level ∷ levels_from c.args.next c.args.found.topic = rw (← c.self.view_is, c.in-Few.is) at c.requires in
     rw (← c.self.view_is, c.in-Few.is, c.in_ok-level.ensures) (grown_under c.self.inside.level (levels_from c.args.next c.args.found.topic) (levels_from c.args.at c.args.found.topic) c.args.found leads c.in-Few.bucket c.set.new.self c.in_ok-was.ensures.done)
 
-pub returns-clause-told : goal.returns-clause-told
-returns-clause-told c =
+pub returns-clause-existed : goal.returns-clause-existed
+returns-clause-existed c =
     let leads : levels_from c.args.at c.args.found.topic ≡ c.self.inside.level ∷ levels_from c.args.next c.args.found.topic = rw (← c.self.view_is, c.in-Few.is) at c.requires in
-    rw (← c.self.view_is, c.in-Few.is) (c.in_ok-was.ensures.told ∙ there_under c.self.inside.level (levels_from c.args.next c.args.found.topic) (levels_from c.args.at c.args.found.topic) c.in-Few.bucket leads)
+    rw (← c.self.view_is, c.in-Few.is) (c.in_ok-was.ensures.existed ∙ there_under c.self.inside.level (levels_from c.args.next c.args.found.topic) (levels_from c.args.at c.args.found.topic) c.in-Few.bucket leads)

@@ -18,11 +18,11 @@ returns-in-Ok-clause-done c =
     gone_is c.args.at c.in-Ok.i c.args.topic.now c.as_slice.result.now c.self.inside.leaves.items c.as_slice.ensures.value c.remove.new.self.items c.shrink_to_fit.new.self.items c.remove.ensures.items c.shrink_to_fit.ensures.items c.in-Ok.ensures.found
     ∙ ap (λ (w : Spots). remove_entry (is_at (path_cmp (levels_from c.args.at c.args.topic.now))) w) c.self.view_is
 
-pub returns-in-Ok-clause-told : goal.returns-in-Ok-clause-told
-returns-in-Ok-clause-told c = there_is c.args.at c.in-Ok.i c.args.topic.now c.as_slice.result.now c.self.inside.leaves.items c.as_slice.ensures.value c.args.self.now c.self.view_is c.in-Ok.ensures.found
+pub returns-in-Ok-clause-existed : goal.returns-in-Ok-clause-existed
+returns-in-Ok-clause-existed c = there_is c.args.at c.in-Ok.i c.args.topic.now c.as_slice.result.now c.self.inside.leaves.items c.as_slice.ensures.value c.args.self.now c.self.view_is c.in-Ok.ensures.found
 
 pub returns-in-Err-clause-done : goal.returns-in-Err-clause-done
 returns-in-Err-clause-done c = kept_is c.args.at c.in-Err.field-0 c.args.topic.now c.as_slice.result.now c.self.inside.leaves.items c.as_slice.ensures.value c.args.self.now c.self.view_is c.self.invariant c.in-Err.ensures.found
 
-pub returns-in-Err-clause-told : goal.returns-in-Err-clause-told
-returns-in-Err-clause-told c = none_is c.args.at c.in-Err.field-0 c.args.topic.now c.as_slice.result.now c.self.inside.leaves.items c.as_slice.ensures.value c.args.self.now c.self.view_is c.self.invariant c.in-Err.ensures.found
+pub returns-in-Err-clause-existed : goal.returns-in-Err-clause-existed
+returns-in-Err-clause-existed c = none_is c.args.at c.in-Err.field-0 c.args.topic.now c.as_slice.result.now c.self.inside.leaves.items c.as_slice.ensures.value c.args.self.now c.self.view_is c.self.invariant c.in-Err.ensures.found

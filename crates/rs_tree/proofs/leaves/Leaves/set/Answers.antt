@@ -23,8 +23,8 @@ returns-in-Ok-clause-done c =
     put_is c.args.at c.in-Ok.i c.topic.result.now c.as_slice.result.now c.self.inside.leaves.items c.as_slice.ensures.value c.args.found c.topic.ensures c.in-Ok.ensures.found
     ∙ ap (λ (w : Spots). insert_entry path_cmp w (levels_from c.args.at c.args.found.topic) c.args.found) c.self.view_is
 
-pub returns-in-Ok-clause-told : goal.returns-in-Ok-clause-told
-returns-in-Ok-clause-told c =
+pub returns-in-Ok-clause-existed : goal.returns-in-Ok-clause-existed
+returns-in-Ok-clause-existed c =
     let there : true ≡ is_there (levels_from c.args.at c.topic.result.now) c.args.self.now = there_is c.args.at c.in-Ok.i c.topic.result.now c.as_slice.result.now c.self.inside.leaves.items c.as_slice.ensures.value c.args.self.now c.self.view_is c.in-Ok.ensures.found in
     rw c.topic.ensures at there
 
@@ -33,7 +33,7 @@ returns-in_ok-insert-in-Err-clause-done c =
     new_is c.args.at c.in-Err.i c.topic.result.now c.as_slice.result.now c.self.inside.leaves.items c.as_slice.ensures.value c.args.found c.reserve_exact.new.self.items c.insert.new.self.items c.topic.ensures c.reserve_exact.ensures.items c.in_ok-insert-in-Err.ensures.items c.in-Err.ensures.found
     ∙ ap (λ (w : Spots). insert_entry path_cmp w (levels_from c.args.at c.args.found.topic) c.args.found) c.self.view_is
 
-pub returns-in_ok-insert-in-Err-clause-told : goal.returns-in_ok-insert-in-Err-clause-told
-returns-in_ok-insert-in-Err-clause-told c =
+pub returns-in_ok-insert-in-Err-clause-existed : goal.returns-in_ok-insert-in-Err-clause-existed
+returns-in_ok-insert-in-Err-clause-existed c =
     let gone : false ≡ is_there (levels_from c.args.at c.topic.result.now) c.args.self.now = none_is c.args.at c.in-Err.i c.topic.result.now c.as_slice.result.now c.self.inside.leaves.items c.as_slice.ensures.value c.args.self.now c.self.view_is c.self.invariant c.in-Err.ensures.found in
     rw c.topic.ensures at gone
