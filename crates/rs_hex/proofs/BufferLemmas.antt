@@ -50,15 +50,15 @@ pub line_stopped : (old new : LineBuffer) (fault : HexFault) (end : ℕ) (more :
     → (fault ≡ NotHex → bytes_of_line (take end old.text.items) ≡ None)
     → (fault ≡ NotHex → new ≡ record old { not_hex = Some old.line }) → (fault ≡ NoMemory → new ≡ old)
     → coming_of new more ≡ coming_of old more
-line_stopped old new NotHex end more none empty at bad stopped kept =
+line_stopped old new NotHex end more none empty at bad stopped same =
     let line : bytes_of_line at.line ≡ None = ap bytes_of_line (sym (first_line old.text.items end at)) ∙ bad refl in
     ap (λ b. coming_of b more) (stopped refl) ∙ (rw (none, empty, followed old.text.items more end at) (coming_bad_line at.line (at.rest ++ more) old.line at.clean line))
-line_stopped old new NoMemory end more none empty at bad stopped kept = ap (λ b. coming_of b more) (kept refl)
+line_stopped old new NoMemory end more none empty at bad stopped same = ap (λ b. coming_of b more) (same refl)
 
 pub last_stopped : (old new : LineBuffer) (fault : HexFault) → old.not_hex ≡ None → old.bytes.items ≡ [] → has_line_feed old.text.items ≡ false
     → (fault ≡ NotHex → bytes_of_line old.text.items ≡ None)
     → (fault ≡ NotHex → new ≡ record old { not_hex = Some old.line }) → (fault ≡ NoMemory → new ≡ old)
     → coming_of new [] ≡ coming_of old []
-last_stopped old new NotHex none empty clean bad stopped kept =
+last_stopped old new NotHex none empty clean bad stopped same =
     ap (λ b. coming_of b []) (stopped refl) ∙ (rw (none, empty, append-nil old.text.items) (coming_bad_last old.text.items old.line clean (bad refl)))
-last_stopped old new NoMemory none empty clean bad stopped kept = ap (λ b. coming_of b []) (kept refl)
+last_stopped old new NoMemory none empty clean bad stopped same = ap (λ b. coming_of b []) (same refl)

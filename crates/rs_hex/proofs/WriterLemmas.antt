@@ -24,11 +24,11 @@ is_false false h = refl
 other_digit : (d k : ℕ) → is_hex_digit d ≡ true → is_hex_digit k ≡ false → (d == k) ≡ false
 other_digit d k digit none = is_false (d == k) (λ e. let x : true ≡ false = sym digit ∙ ap is_hex_digit (eqb-true d k e) ∙ none in cc x)
 
-digits_kept : (s : List ℕ) → AllPass is_hex_digit s → without_spaces s ≡ s
-digits_kept [] h = refl
-digits_kept (d ∷ s) h =
+digits_unchanged : (s : List ℕ) → AllPass is_hex_digit s → without_spaces s ≡ s
+digits_unchanged [] h = refl
+digits_unchanged (d ∷ s) h =
     let keep = other_digit d 32 (All-head (λ x. is_hex_digit x ≡ true) d s h) refl in
-    let rest = digits_kept s (All-tail (λ x. is_hex_digit x ≡ true) d s h) in
+    let rest = digits_unchanged s (All-tail (λ x. is_hex_digit x ≡ true) d s h) in
     rw (keep, rest) refl
 
 digits_clean : (s : List ℕ) → AllPass is_hex_digit s → has_line_feed s ≡ false
@@ -56,7 +56,7 @@ digits_more (a ∷ b ∷ s) t x y e f =
 
 line_more : (line digits x y : List ℕ) → AllPass is_hex_digit digits → bytes_of_line line ≡ Some x → bytes_of_digits digits ≡ Some y → bytes_of_line (line ++ digits) ≡ Some (x ++ y)
 line_more line digits x y all e f =
-    ap bytes_of_digits (filter-append (λ b. not (b == 32)) line digits ∙ ap (λ s. without_spaces line ++ s) (digits_kept digits all)) ∙ digits_more (without_spaces line) digits x y e f
+    ap bytes_of_digits (filter-append (λ b. not (b == 32)) line digits ∙ ap (λ s. without_spaces line ++ s) (digits_unchanged digits all)) ∙ digits_more (without_spaces line) digits x y e f
 
 -- ---- lines behind lines
 
@@ -164,10 +164,10 @@ written_line (Some x) (Some y) p =
     let same : bytes_of_whole y ≡ bytes_of_whole x = ap bytes_of_whole p ∙ ap all_bytes_of (lines_end x) ∙ all_end (lines_of x) in
     subst (Keeps (bytes_of_whole x)) (sym same) (Keeps-refl (bytes_of_whole x))
 
-written_kept : (t u : Option (List ℕ)) → Keeps t u → Keeps (written_bytes t) (written_bytes u)
-written_kept None u p = tt
-written_kept (Some x) None p = absurd p
-written_kept (Some x) (Some y) p = subst (Keeps (bytes_of_whole x)) (sym (ap bytes_of_whole p)) (Keeps-refl (bytes_of_whole x))
+written_keeps : (t u : Option (List ℕ)) → Keeps t u → Keeps (written_bytes t) (written_bytes u)
+written_keeps None u p = tt
+written_keeps (Some x) None p = absurd p
+written_keeps (Some x) (Some y) p = subst (Keeps (bytes_of_whole x)) (sym (ap bytes_of_whole p)) (Keeps-refl (bytes_of_whole x))
 
 -- ---- the digit that is due
 
@@ -202,17 +202,17 @@ chunk_written (Ok n) t u digits bytes buf k is coded count h =
     subst (Appends t u) (ap (take (n + n)) coded ∙ encode_take lower_digits bytes n ∙ ap encode_lower first) h
 chunk_written (Err e) t u digits bytes buf k is coded count h = h
 
-kept_grown : (a b c : Option (List ℕ)) (bs : List ℕ) → Keeps a b → Appends b c bs → Appends a c bs
-kept_grown None b c bs p q = tt
-kept_grown (Some x) None c bs p q = absurd p
-kept_grown (Some x) (Some y) None bs p q = absurd q
-kept_grown (Some x) (Some y) (Some z) bs p q = q ∙ ap (λ l. l ++ bs) p
+keeps_grown : (a b c : Option (List ℕ)) (bs : List ℕ) → Keeps a b → Appends b c bs → Appends a c bs
+keeps_grown None b c bs p q = tt
+keeps_grown (Some x) None c bs p q = absurd p
+keeps_grown (Some x) (Some y) None bs p q = absurd q
+keeps_grown (Some x) (Some y) (Some z) bs p q = q ∙ ap (λ l. l ++ bs) p
 
 -- what was written as digits are the bytes
 pub bytes_written : {E : Type 0} (r : Result ℕ E) (a b c : Option (List ℕ)) (buf : List ℕ) → IsBytes buf → Keeps a b
     → MatchResult r (λ n. Appends b c (encode_lower (take n buf))) (λ _. Keeps b c) → WriteAppends (written_bytes a) (written_bytes c) r buf
-bytes_written (Ok n) a b c buf h p q = written_more a c (take n buf) (bytes_taken n buf h) (kept_grown a b c (encode_lower (take n buf)) p q)
-bytes_written (Err e) a b c buf h p q = written_kept a c (Keeps-trans a b c p q)
+bytes_written (Ok n) a b c buf h p q = written_more a c (take n buf) (bytes_taken n buf h) (keeps_grown a b c (encode_lower (take n buf)) p q)
+bytes_written (Err e) a b c buf h p q = written_keeps a c (Keeps-trans a b c p q)
 
 -- a line was ended, no digit being due
 pub line_ended : (due : Option ℕ) (a b c : Option (List ℕ)) → due ≡ None → Appends a b (10 ∷ []) → Keeps b c → Keeps (written_bytes (append_known a (due_digits due))) (written_bytes (append_known c (due_digits due)))

@@ -182,9 +182,9 @@ fn copy_of(
 }
 
 impl Catalogue for MapCatalogue {
-    ghost use Rattle.rs_store.specs.Maps.{kept};
+    ghost use Rattle.rs_store.specs.Maps.{content_of_map};
 
-    ghost content = { kept };
+    ghost content = { content_of_map };
 
     fn new(alloc: Global, limit: TopicLimit) -> Result<MapCatalogue, AllocError> {
         Ok(MapCatalogue {

@@ -116,8 +116,8 @@ gone_here p [] i h = absurd h
 gone_here p (l ∷ ls) zero h = rw h refl
 gone_here p (l ∷ ls) (suc i) h = rw h.0 (ap (λ (w : Spots). spot_of l.at l.found ∷ w) (gone_here p ls i h.1))
 
-pub kept_gap : (p : Path) (ls : List Leaf) (i : ℕ) → Sorted (spots_in ls) → IsGap p ls i → remove_entry (is_at (path_cmp p)) (spots_in ls) ≡ spots_in ls
-kept_gap p ls i s g = remove_absent (is_at (path_cmp p)) (spots_in ls) (absent_gap p ls i s g)
+pub unchanged_gap : (p : Path) (ls : List Leaf) (i : ℕ) → Sorted (spots_in ls) → IsGap p ls i → remove_entry (is_at (path_cmp p)) (spots_in ls) ≡ spots_in ls
+unchanged_gap p ls i s g = remove_absent (is_at (path_cmp p)) (spots_in ls) (absent_gap p ls i s g)
 
 -- ---- that the messages stay in order
 
@@ -165,11 +165,11 @@ module _ (l : Leaf) (left rest : List Leaf) (is : left ≡ l ∷ rest) where
 
   -- an answer that is given up at one leaf
   pub answer_stop : (pattern : Path) (now : ℕ) (before all : List Found) (s : Stop) (room old : ℕ) → room ≡ old → IsStop s room (before ++ chosen pattern now (spot_of l.at l.found ∷ [])) → before ++ chosen pattern now (spots_in left) ≡ all → IsStop s old all
-  answer_stop pattern now before all s room old kept h so =
+  answer_stop pattern now before all s room old unchanged h so =
       let one : List Found = chosen pattern now (spot_of l.at l.found ∷ []) in
       let whole : (before ++ one) ++ chosen pattern now (spots_in rest) ≡ all = answer_turn pattern now before (before ++ one) all refl so in
       let P : ℕ → Type 0 = λ n. IsStop s n all in
-      subst P kept (stop_at s room ((before ++ one) ++ chosen pattern now (spots_in rest)) all whole (stop_more s room (before ++ one) (chosen pattern now (spots_in rest)) h))
+      subst P unchanged (stop_at s room ((before ++ one) ++ chosen pattern now (spots_in rest)) all whole (stop_more s room (before ++ one) (chosen pattern now (spots_in rest)) h))
 
   -- a leaf that is copied
   pub copy_turn : (done new : List Leaf) (all : Spots) → new ≡ done ++ l ∷ [] → spots_in done ++ spots_in left ≡ all → spots_in new ++ spots_in rest ≡ all
@@ -227,10 +227,10 @@ module _ (at i : ℕ) (t : List ℕ) (ls items : List Leaf) (same : ls ≡ items
       let P : List Leaf → Type 0 = λ w. Sorted (spots_in w) in
       rw (← is, ← same) (sym (absent_gap (levels_from at t) ls i (subst P (sym same) s) gap))
 
-  pub kept_is : (view : Spots) → spots_in items ≡ view → Sorted (spots_in items) → IsGap (levels_from at t) ls i → view ≡ remove_entry (is_at (path_cmp (levels_from at t))) view
-  kept_is view is s gap =
+  pub unchanged_is : (view : Spots) → spots_in items ≡ view → Sorted (spots_in items) → IsGap (levels_from at t) ls i → view ≡ remove_entry (is_at (path_cmp (levels_from at t))) view
+  unchanged_is view is s gap =
       let P : List Leaf → Type 0 = λ w. Sorted (spots_in w) in
-      rw (← is, ← same) (sym (kept_gap (levels_from at t) ls i (subst P (sym same) s) gap))
+      rw (← is, ← same) (sym (unchanged_gap (levels_from at t) ls i (subst P (sym same) s) gap))
 
   pub gone_is : (rest new : List Leaf) → rest ≡ remove items i → new ≡ rest → IsHere (levels_from at t) ls i → spots_in new ≡ remove_entry (is_at (path_cmp (levels_from at t))) (spots_in items)
   gone_is rest new gone shrunk here = rw (shrunk, gone, ← same) (gone_here (levels_from at t) ls i here)
@@ -239,7 +239,7 @@ module _ (at i : ℕ) (t : List ℕ) (ls items : List Leaf) (same : ls ≡ items
   put_is f topic here = let P : List ℕ → Type 0 = λ u. IsHere (levels_from at u) ls i in rw (← same) (set_here f at ls i (subst P topic here))
 
   pub new_is : (f : Found) (mid new : List Leaf) → t ≡ f.topic → mid ≡ items → new ≡ insert mid i (record { found = f; at = at }) → IsGap (levels_from at t) ls i → spots_in new ≡ insert_entry path_cmp (spots_in items) (levels_from at f.topic) f
-  new_is f mid new topic kept put gap = let P : List ℕ → Type 0 = λ u. IsGap (levels_from at u) ls i in rw (put, kept, ← same) (set_gap f at ls i (subst P topic gap))
+  new_is f mid new topic unchanged put gap = let P : List ℕ → Type 0 = λ u. IsGap (levels_from at u) ls i in rw (put, unchanged, ← same) (set_gap f at ls i (subst P topic gap))
 
 -- ---- one message alone
 

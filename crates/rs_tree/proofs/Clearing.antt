@@ -174,8 +174,8 @@ module _ (retained : Option Found) (cs : List ChildValue) (r : IsRow cs) (q : Li
   full_c : IsFull c.spots
   full_c = let P : ChildValue → Type 0 = λ w. IsFull w.spots in subst P (sym is) (row_at cs i c small r).0
 
-  pub row_kept : c'.spots ≡ c.spots → IsRow (slice_set cs i c')
-  row_kept same =
+  pub row_unchanged : c'.spots ≡ c.spots → IsRow (slice_set cs i c')
+  row_unchanged same =
       row_set (Takes q) q cs i c c' r e is lv (let P : Spots → Type 0 = λ w. IsFull w in subst P (sym same) full_c) (let P : Spots → Type 0 = λ w. IsFrom c.level w in subst P (sym same) (from_at cs i c small is r))
       (λ n l u. let P : Spots → Type 0 = λ w. IsUpTo n w in subst P (sym same) u)
 
@@ -185,10 +185,10 @@ module _ (retained : Option Found) (cs : List ChildValue) (r : IsRow cs) (q : Li
       (λ n l u. let P : Spots → Type 0 = λ w. IsUpTo n w in subst P (sym gone) (up_to_remove n (is_at (path_cmp (q ∷ p))) c.spots u))
 
   pub row_cleared : {E : Type 0} (b : Result Cleared E) → Clears b c.spots c'.spots (q ∷ p) → IsRow (slice_set cs i c')
-  row_cleared (Ok Missing) h = row_kept h.1
+  row_cleared (Ok Missing) h = row_unchanged h.1
   row_cleared (Ok Left) h = row_left h.1 h.2
-  row_cleared (Ok Last) h = row_kept h.2
-  row_cleared (Err x) h = row_kept h
+  row_cleared (Ok Last) h = row_unchanged h.2
+  row_cleared (Err x) h = row_unchanged h
 
   whole : remove_entry (is_at (path_cmp (q ∷ p))) (own retained ++ parts cs) ≡ (own retained ++ parts (take i cs)) ++ (remove_entry (is_at (path_cmp (q ∷ p))) c.spots ++ parts (drop (suc i) cs))
   whole =

@@ -197,8 +197,8 @@ module _ (cs new : List ChildValue) (i : ℕ) (c low high : ChildValue) (small :
   as_suc put = put ∙ ap (λ (n : ℕ). slice_set (insert cs n high) i low) (add-one i)
 
   pub divided : (b : Bool) → (IsTrue b → new ≡ slice_set (insert cs (i + 1) high) i low) → (b ≡ false → new ≡ cs) → IsRow new × (parts new ≡ parts cs)
-  divided true done kept = (
+  divided true done unchanged = (
     let P : List ChildValue → Type 0 = λ w. IsRow w in subst P (sym (as_suc (done refl))) (row_divided cs i c low high small is r h),
     ap parts (as_suc (done refl)) ∙ parts_divided cs i c low high small is h.whole,
   )
-  divided false done kept = (let P : List ChildValue → Type 0 = λ w. IsRow w in subst P (sym (kept refl)) r, ap parts (kept refl))
+  divided false done unchanged = (let P : List ChildValue → Type 0 = λ w. IsRow w in subst P (sym (unchanged refl)) r, ap parts (unchanged refl))

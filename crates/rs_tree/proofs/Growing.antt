@@ -163,8 +163,8 @@ module _ (retained : Option Found) (cs : List ChildValue) (r : IsRow cs) (q : Li
       (λ n l u. let P : Spots → Type 0 = λ w. IsUpTo n w in subst P (sym put) (up_to_insert n (q ∷ p) f c.spots (level_less q n p l) u))
 
   pub row_put : {T E : Type 0} (o : Result T E) (c c' : ChildValue) → i < length cs → IsIn q cs i → c ≡ get_or cs i c → c'.level ≡ c.level → OnOk o (c'.spots ≡ insert_entry path_cmp c.spots (q ∷ p) f) → OnErr o (c'.spots ≡ c.spots) → IsRow (slice_set cs i c')
-  row_put (Ok x) c c' small e is lv done kept = row_grown c c' small e is lv done
-  row_put (Err x) c c' small e is lv done kept = row_same c c' small e is lv kept
+  row_put (Ok x) c c' small e is lv done unchanged = row_grown c c' small e is lv done
+  row_put (Err x) c c' small e is lv done unchanged = row_same c c' small e is lv unchanged
 
 -- the message of the spot itself comes first
 pub own_first : (retained : Option Found) (f : Found) (cs : List ChildValue) → IsRow cs → ([], f) ∷ parts cs ≡ insert_entry path_cmp (own retained ++ parts cs) [] f

@@ -117,9 +117,9 @@ module _ (moment : ℕ) (cs : List ChildValue) (i : ℕ) (c : ChildValue) (small
   taken : parts (take (i + 1) cs) ≡ parts (take i cs) ++ c.spots
   taken = ap parts (take_more cs i c small ∙ ap (λ (w : ChildValue). take i cs ++ w ∷ []) (sym is)) ∙ parts_push (take i cs) c
 
-  pub rest_kept : (g : Bool) (left : List ChildValue) → g ≡ false → IsRestOf moment (take i cs) g left → filter (spot_stays moment) c.spots ≡ c.spots → IsRestOf moment (take (i + 1) cs) g left
-  rest_kept true left off so here = absurd (cc (off))
-  rest_kept false left off so here =
+  pub rest_unchanged : (g : Bool) (left : List ChildValue) → g ≡ false → IsRestOf moment (take i cs) g left → filter (spot_stays moment) c.spots ≡ c.spots → IsRestOf moment (take (i + 1) cs) g left
+  rest_unchanged true left off so here = absurd (cc (off))
+  rest_unchanged false left off so here =
       let P : Spots → Type 0 = λ w. filter (spot_stays moment) w ≡ w in
       subst P (sym taken) (filter-append (spot_stays moment) (parts (take i cs)) c.spots ∙ (ap (λ (x : Spots). x ++ filter (spot_stays moment) c.spots) so ∙ ap (λ (x : Spots). parts (take i cs) ++ x) here))
 

@@ -46,7 +46,7 @@ impl Leaf {
     pub fn rise(&mut self, chain: &[u8], level: &[u8]) -> bool
         ensures same { self.new.found ≡ self.old.found }
         ensures done { IsTrue result → levels_from self.new.at self.old.found.topic ≡ levels_from 1 chain.now ++ level.now ∷ levels_from self.old.at self.old.found.topic }
-        ensures kept { result ≡ false → self.new.at ≡ self.old.at }
+        ensures unchanged { result ≡ false → self.new.at ≡ self.old.at }
     {
         let topic = self.found.topic();
         // A chain has a slash before each level, and a slash stands between the level and the rest.

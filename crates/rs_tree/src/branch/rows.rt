@@ -94,7 +94,7 @@ impl Child {
 fn put_two(children: &mut Vec<Child>, i: usize, low: Child, high: Child) -> bool
     requires { i < length children.old.items }
     ensures done { IsTrue result → children.new.items ≡ slice_set (insert children.old.items (i + 1) high) i low }
-    ensures kept { result ≡ false → children.new.items ≡ children.old.items }
+    ensures unchanged { result ≡ false → children.new.items ≡ children.old.items }
 {
     let Ok(()) = insert_at(children, i + 1, high) else {
         return false;

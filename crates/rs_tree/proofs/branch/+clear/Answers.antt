@@ -7,7 +7,7 @@ use Rattle.rs_tree.specs.Clearing.{Clears, ClearsAs}
 use Rattle.rs_tree.specs.Nodes.{stem_spots}
 use Rattle.rs_tree.specs.Rows.{IsGap, IsIn, depth, parts}
 use Rattle.rs_tree.specs.Values.{BranchValue, ChildValue}
-use Rattle.rs_tree.proofs.Clearing.{clears_chain, clears_child, clears_last, clears_left, clears_level, clears_missing, clears_none, clears_same, remove_set, row_cleared, row_kept, row_removed}
+use Rattle.rs_tree.proofs.Clearing.{clears_chain, clears_child, clears_last, clears_left, clears_level, clears_missing, clears_none, clears_same, remove_set, row_cleared, row_unchanged, row_removed}
 use Rattle.rs_tree.proofs.Under.{Spots}
 use Rattle.rs_tree.proofs.Rows.{deep_child, leads_child, there_gap}
 use Rattle.rs_tree.specs.declared.cleared.Cleared.TheVariants.{Last, Left, Missing}
@@ -143,7 +143,7 @@ Branch::clear-invariant_of-self-then-is_lone t c =
     let here : IsIn c.in-Some.level.now es c.in-Ok.i = rw c.as_slice.ensures.value at c.in-Ok.ensures.found in
     let small : c.in-Ok.i < length es = rw c.as_slice.ensures.value at c.in-Ok.ensures.within in
     let cleared : ClearsAs Last c.index_mut.result.now.spots c.clear.new.self.spots (c.in-Some.level.now ∷ levels_from c.in-Some.next c.args.topic.now) = rw (e, c.in-Ok-Last.field-0-is) at c.in-Ok-Last.ensures.cleared in
-    row_kept c.self.inside.retained es c.self.invariant c.in-Some.level.now (levels_from c.in-Some.next c.args.topic.now) c.in-Ok.i c.index_mut.result.now c.clear.new.self small here c.index_mut.ensures.value c.clear.ensures.level cleared.2
+    row_unchanged c.self.inside.retained es c.self.invariant c.in-Some.level.now (levels_from c.in-Some.next c.args.topic.now) c.in-Ok.i c.index_mut.result.now c.clear.new.self small here c.index_mut.ensures.value c.clear.ensures.level cleared.2
 
 pub Branch::clear-returns-else-is_lone : goal.Branch::clear-returns-else-is_lone
 Branch::clear-returns-else-is_lone t c =

@@ -8,7 +8,7 @@ use Rattle.rs_tree.specs.Nodes.{stem_spots}
 use Rattle.rs_tree.specs.Rests.{IsRestOf}
 use Rattle.rs_tree.specs.Rows.{depth}
 use Rattle.rs_tree.specs.Values.{BranchValue, ChildValue}
-use Rattle.rs_tree.proofs.Leaving.{chain_gone, chain_left, chain_stays, full_at, full_not, joined_left, level_left, none_is, rest_again, rest_gone, rest_kept, rest_none, rest_put, rest_whole, stays_all}
+use Rattle.rs_tree.proofs.Leaving.{chain_gone, chain_left, chain_stays, full_at, full_not, joined_left, level_left, none_is, rest_again, rest_gone, rest_unchanged, rest_none, rest_put, rest_whole, stays_all}
 use Rattle.rs_tree.specs.Chains.{under_all}
 use Rattle.rs_tree.proofs.Stems.{full_below}
 use Rattle.rs_tree.proofs.Under.{Spots}
@@ -84,7 +84,7 @@ Child::swept-returns-in_ok-left-in-Inner t c =
 
 pub sweep::one_swept-returns-then-not-goes-clause-left : goal.sweep::one_swept-returns-then-not-goes-clause-left
 sweep::one_swept-returns-then-not-goes-clause-left t c =
-    rest_kept c.args.moment c.args.children.now c.args.i c.index-children-i.result c.requires.within c.index-children-i.is c.requires.row c.args.goes.now c.args.left.now.items c.if-not-goes.true c.requires.before (rw c.in-All.is at c.in_ok-swept.ensures)
+    rest_unchanged c.args.moment c.args.children.now c.args.i c.index-children-i.result c.requires.within c.index-children-i.is c.requires.row c.args.goes.now c.args.left.now.items c.if-not-goes.true c.requires.before (rw c.in-All.is at c.in_ok-swept.ensures)
 
 pub sweep::one_swept-returns-in_ok-push-in-All-clause-left : goal.sweep::one_swept-returns-in_ok-push-in-All-clause-left
 sweep::one_swept-returns-in_ok-push-in-All-clause-left t c =

@@ -4,7 +4,7 @@ use Rattle.std.specs.Map.{remove_entry}
 use Rattle.rs_topic.specs.Order.{path_cmp}
 use Rattle.rs_tree.specs.Buckets.{spots_in}
 use Rattle.rs_topic.specs.Rests.{levels_from}
-use Rattle.rs_tree.proofs.Buckets.{gone_is, kept_is, none_is, sorted_clear, there_is}
+use Rattle.rs_tree.proofs.Buckets.{gone_is, unchanged_is, none_is, sorted_clear, there_is}
 use Rattle.rs_tree.proofs.Under.{Spots}
 use Rattle.rs_tree.proofs.leaves.Leaves.clear.Goals as goal
 
@@ -22,7 +22,7 @@ pub returns-in-Ok-clause-existed : goal.returns-in-Ok-clause-existed
 returns-in-Ok-clause-existed c = there_is c.args.at c.in-Ok.i c.args.topic.now c.as_slice.result.now c.self.inside.leaves.items c.as_slice.ensures.value c.args.self.now c.self.view_is c.in-Ok.ensures.found
 
 pub returns-in-Err-clause-done : goal.returns-in-Err-clause-done
-returns-in-Err-clause-done c = kept_is c.args.at c.in-Err.field-0 c.args.topic.now c.as_slice.result.now c.self.inside.leaves.items c.as_slice.ensures.value c.args.self.now c.self.view_is c.self.invariant c.in-Err.ensures.found
+returns-in-Err-clause-done c = unchanged_is c.args.at c.in-Err.field-0 c.args.topic.now c.as_slice.result.now c.self.inside.leaves.items c.as_slice.ensures.value c.args.self.now c.self.view_is c.self.invariant c.in-Err.ensures.found
 
 pub returns-in-Err-clause-existed : goal.returns-in-Err-clause-existed
 returns-in-Err-clause-existed c = none_is c.args.at c.in-Err.field-0 c.args.topic.now c.as_slice.result.now c.self.inside.leaves.items c.as_slice.ensures.value c.args.self.now c.self.view_is c.self.invariant c.in-Err.ensures.found
