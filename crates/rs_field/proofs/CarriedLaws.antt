@@ -202,8 +202,8 @@ pub section_is : (e s : Option ℕ) (p : PropertiesValue) (f t : Option ℕ) (q 
     → flat_map property_bytes (replayed e s p) ≡ flat_map property_bytes (replayed f t q) → (e ≡ f) × (s ≡ t) × (p ≡ q)
 section_is e s p f t q h k same =
     let list : replayed e s p ≡ replayed f t q = encoded_is (replayed e s p) (replayed f t q) (replayed_has e s p h) (replayed_has f t q k) same in
-    let found : said p.format e p.content_type p.response_topic p.correlation s p.user ≡ said q.format f q.content_type q.response_topic q.correlation t q.user = sym (all_said e s p) ∙ ap (collected nothing) list ∙ all_said f t q in (
-      ap (λ (v : PacketProperties). v.expiry) found,
-      ap (λ (v : PacketProperties). v.subscription) found,
-      properties_is p q (ap (λ (v : PacketProperties). v.format) found) (ap (λ (v : PacketProperties). v.content_type) found) (ap (λ (v : PacketProperties). v.response_topic) found) (ap (λ (v : PacketProperties). v.correlation) found) (ap (λ (v : PacketProperties). v.user) found),
+    let values : said p.format e p.content_type p.response_topic p.correlation s p.user ≡ said q.format f q.content_type q.response_topic q.correlation t q.user = sym (all_said e s p) ∙ ap (collected nothing) list ∙ all_said f t q in (
+      ap (λ (v : PacketProperties). v.expiry) values,
+      ap (λ (v : PacketProperties). v.subscription) values,
+      properties_is p q (ap (λ (v : PacketProperties). v.format) values) (ap (λ (v : PacketProperties). v.content_type) values) (ap (λ (v : PacketProperties). v.response_topic) values) (ap (λ (v : PacketProperties). v.correlation) values) (ap (λ (v : PacketProperties). v.user) values),
     )

@@ -191,25 +191,25 @@ all_again where_ ps rest h =
 
 -- ---- the properties, by what they say
 
-pub record FoundIn (where_ : PropertyOwner) (bytes : List ℕ) (x : PacketProperties × List ℕ) : Type 0 where
+pub record ValuesIn (where_ : PropertyOwner) (bytes : List ℕ) (x : PacketProperties × List ℕ) : Type 0 where
   pub ps : List Property
   pub takes : Takes bytes (properties ps) x.1
   pub are : AreProperties where_ ps
   pub says : x.0 ≡ collected nothing ps
 
-pub found_takes : (where_ : PropertyOwner) (bytes : List ℕ) (x : PacketProperties × List ℕ) → IsBytes bytes → values_at where_ bytes ≡ Ok x → FoundIn where_ bytes x
+pub values_takes : (where_ : PropertyOwner) (bytes : List ℕ) (x : PacketProperties × List ℕ) → IsBytes bytes → values_at where_ bytes ≡ Ok x → ValuesIn where_ bytes x
 unfolding values_at
-found_takes where_ bytes x fits e =
+values_takes where_ bytes x fits e =
     let b = bind_ok (properties_at where_ bytes) (λ ps. Ok (collected nothing ps.0, ps.1)) x e in
     let t = all_take where_ bytes b.0 fits b.1 in
     let made : PacketProperties × List ℕ = (collected nothing b.0.0, b.0.1) in
-    subst (FoundIn where_ bytes) (ok_is made x b.2) (record { ps = b.0.0; takes = t.0; are = t.1; says = refl })
+    subst (ValuesIn where_ bytes) (ok_is made x b.2) (record { ps = b.0.0; takes = t.0; are = t.1; says = refl })
 
-pub found_again : (where_ : PropertyOwner) (ps : List Property) (rest : List ℕ) → AreProperties where_ ps → values_at where_ (properties ps ++ rest) ≡ Ok (collected nothing ps, rest)
+pub values_again : (where_ : PropertyOwner) (ps : List Property) (rest : List ℕ) → AreProperties where_ ps → values_at where_ (properties ps ++ rest) ≡ Ok (collected nothing ps, rest)
 unfolding values_at
-found_again where_ ps rest h = rw (all_again where_ ps rest h) refl
+values_again where_ ps rest h = rw (all_again where_ ps rest h) refl
 
 -- a section of length 0 is taken at once
-pub found_none : (where_ : PropertyOwner) (bytes rest : List ℕ) → varint_at bytes ≡ Ok (0, rest) → values_at where_ bytes ≡ Ok (nothing, rest)
+pub values_none : (where_ : PropertyOwner) (bytes rest : List ℕ) → varint_at bytes ≡ Ok (0, rest) → values_at where_ bytes ≡ Ok (nothing, rest)
 unfolding values_at properties_at properties_in collected
-found_none where_ bytes rest h = rw (h, le-ltb (length rest) 0 (omega arith)) refl
+values_none where_ bytes rest h = rw (h, le-ltb (length rest) 0 (omega arith)) refl

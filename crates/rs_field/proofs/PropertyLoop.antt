@@ -10,39 +10,39 @@ use Rattle.rs_field.specs.Properties.{collected, put, number, identifier}
 use Rattle.rs_field.specs.Reading.{◌>>=◌, Fails, collect_on, properties_in, property_at}
 
 -- what was found, and what the rest adds, is the total
-pub record IsOnTheWay (where_ : PropertyOwner) (found : PacketProperties) (seen : List Bool) (rest : List ℕ) (total : Result PacketProperties PacketFault) : Type 0 where
+pub record IsOnTheWay (where_ : PropertyOwner) (values : PacketProperties) (seen : List Bool) (rest : List ℕ) (total : Result PacketProperties PacketFault) : Type 0 where
   pub fuel : ℕ
   pub enough : length rest ≤ fuel
-  pub same : collect_on found (properties_in fuel where_ seen rest) ≡ total
+  pub same : collect_on values (properties_in fuel where_ seen rest) ≡ total
 
-pub more : (where_ : PropertyOwner) (found : PacketProperties) (seen : List Bool) (rest : List ℕ) (total : Result PacketProperties PacketFault) (p : Property) (after : List ℕ)
-    → IsOnTheWay where_ found seen rest total → 0 < length rest → property_at where_ seen rest ≡ Ok (p, after) → length after < length rest
-    → IsOnTheWay where_ (put found p) (slice_set seen (number (identifier p)) true) after total
+pub more : (where_ : PropertyOwner) (values : PacketProperties) (seen : List Bool) (rest : List ℕ) (total : Result PacketProperties PacketFault) (p : Property) (after : List ℕ)
+    → IsOnTheWay where_ values seen rest total → 0 < length rest → property_at where_ seen rest ≡ Ok (p, after) → length after < length rest
+    → IsOnTheWay where_ (put values p) (slice_set seen (number (identifier p)) true) after total
 unfolding collected properties_in
-more where_ found seen [] total p after h some read shorter = absurd (omega arith)
-more where_ found seen (b ∷ bytes) total p after h some read shorter = go h.fuel h.enough h.same
+more where_ values seen [] total p after h some read shorter = absurd (omega arith)
+more where_ values seen (b ∷ bytes) total p after h some read shorter = go h.fuel h.enough h.same
   where
-    regroup : (r : Result (List Property) PacketFault) → collect_on found (r >>= λ ps. Ok (p ∷ ps)) ≡ collect_on (put found p) r
+    regroup : (r : Result (List Property) PacketFault) → collect_on values (r >>= λ ps. Ok (p ∷ ps)) ≡ collect_on (put values p) r
     regroup (Ok ps) = refl
     regroup (Err f) = refl
 
-    go : (fuel : ℕ) → length (b ∷ bytes) ≤ fuel → collect_on found (properties_in fuel where_ seen (b ∷ bytes)) ≡ total → IsOnTheWay where_ (put found p) (slice_set seen (number (identifier p)) true) after total
+    go : (fuel : ℕ) → length (b ∷ bytes) ≤ fuel → collect_on values (properties_in fuel where_ seen (b ∷ bytes)) ≡ total → IsOnTheWay where_ (put values p) (slice_set seen (number (identifier p)) true) after total
     go zero le same = absurd (omega (arith, le))
     go (suc n) le same =
-        let one : collect_on found (properties_in (suc n) where_ seen (b ∷ bytes)) ≡ collect_on (put found p) (properties_in n where_ (slice_set seen (number (identifier p)) true) after) = rw read (regroup (properties_in n where_ (slice_set seen (number (identifier p)) true) after)) in
+        let one : collect_on values (properties_in (suc n) where_ seen (b ∷ bytes)) ≡ collect_on (put values p) (properties_in n where_ (slice_set seen (number (identifier p)) true) after) = rw read (regroup (properties_in n where_ (slice_set seen (number (identifier p)) true) after)) in
         record { fuel = n; enough = omega (arith, le, shorter); same = sym one ∙ same }
 
-pub fails : (where_ : PropertyOwner) (found : PacketProperties) (seen : List Bool) (rest : List ℕ) (total : Result PacketProperties PacketFault) (e : PacketFault)
-    → IsOnTheWay where_ found seen rest total → 0 < length rest → Fails e (property_at where_ seen rest) → Fails e total
+pub fails : (where_ : PropertyOwner) (values : PacketProperties) (seen : List Bool) (rest : List ℕ) (total : Result PacketProperties PacketFault) (e : PacketFault)
+    → IsOnTheWay where_ values seen rest total → 0 < length rest → Fails e (property_at where_ seen rest) → Fails e total
 unfolding properties_in
-fails where_ found seen [] total e h some read = absurd (omega arith)
-fails where_ found seen (b ∷ bytes) total e h some read = go h.fuel h.enough h.same
+fails where_ values seen [] total e h some read = absurd (omega arith)
+fails where_ values seen (b ∷ bytes) total e h some read = go h.fuel h.enough h.same
   where
-    at : (f : PacketFault) (fuel : ℕ) → length (b ∷ bytes) ≤ fuel → property_at where_ seen (b ∷ bytes) ≡ Err f → collect_on found (properties_in fuel where_ seen (b ∷ bytes)) ≡ Err f
+    at : (f : PacketFault) (fuel : ℕ) → length (b ∷ bytes) ≤ fuel → property_at where_ seen (b ∷ bytes) ≡ Err f → collect_on values (properties_in fuel where_ seen (b ∷ bytes)) ≡ Err f
     at f zero le is = absurd (omega (arith, le))
     at f (suc n) le is = rw is refl
 
-    go : (fuel : ℕ) → length (b ∷ bytes) ≤ fuel → collect_on found (properties_in fuel where_ seen (b ∷ bytes)) ≡ total → Fails e total
+    go : (fuel : ℕ) → length (b ∷ bytes) ≤ fuel → collect_on values (properties_in fuel where_ seen (b ∷ bytes)) ≡ total → Fails e total
     go fuel le same = by e read
       where
         by : (e : PacketFault) → Fails e (property_at where_ seen (b ∷ bytes)) → Fails e total
@@ -52,20 +52,20 @@ fails where_ found seen (b ∷ bytes) total e h some read = go h.fuel h.enough h
         by TooLarge read = sym same ∙ at TooLarge fuel le read
         by Version read = sym same ∙ at Version fuel le read
 
-pub done : (where_ : PropertyOwner) (found : PacketProperties) (seen : List Bool) (rest : List ℕ) (total : Result PacketProperties PacketFault) → IsOnTheWay where_ found seen rest total → length rest ≡ 0 → total ≡ Ok found
+pub done : (where_ : PropertyOwner) (values : PacketProperties) (seen : List Bool) (rest : List ℕ) (total : Result PacketProperties PacketFault) → IsOnTheWay where_ values seen rest total → length rest ≡ 0 → total ≡ Ok values
 unfolding collected properties_in
-done where_ found seen (b ∷ bytes) total h none = absurd (omega arith)
-done where_ found seen [] total h none = go h.fuel h.same
+done where_ values seen (b ∷ bytes) total h none = absurd (omega arith)
+done where_ values seen [] total h none = go h.fuel h.same
   where
-    go : (fuel : ℕ) → collect_on found (properties_in fuel where_ seen []) ≡ total → total ≡ Ok found
+    go : (fuel : ℕ) → collect_on values (properties_in fuel where_ seen []) ≡ total → total ≡ Ok values
     go zero same = sym same
     go (suc n) same = sym same
 
 -- a step, with the new values named
-pub stepped : (where_ : PropertyOwner) (found : PacketProperties) (seen : List Bool) (rest : List ℕ) (total : Result PacketProperties PacketFault) (p : Property) (after : List ℕ) (next : PacketProperties) (n : ℕ)
-    → IsOnTheWay where_ found seen rest total → 0 < length rest → property_at where_ seen rest ≡ Ok (p, after) → length after < length rest → next ≡ put found p → n ≡ number (identifier p)
+pub stepped : (where_ : PropertyOwner) (values : PacketProperties) (seen : List Bool) (rest : List ℕ) (total : Result PacketProperties PacketFault) (p : Property) (after : List ℕ) (next : PacketProperties) (n : ℕ)
+    → IsOnTheWay where_ values seen rest total → 0 < length rest → property_at where_ seen rest ≡ Ok (p, after) → length after < length rest → next ≡ put values p → n ≡ number (identifier p)
     → IsOnTheWay where_ next (slice_set seen n true) after total
-stepped where_ found seen rest total p after next n h some read shorter is-next is-n = rw (is-next, is-n) (more where_ found seen rest total p after h some read shorter)
+stepped where_ values seen rest total p after next n h some read shorter is-next is-n = rw (is-next, is-n) (more where_ values seen rest total p after h some read shorter)
 
 pub some_left : (rest : List ℕ) (b : Bool) → b ≡ eqb (length rest) 0 → b ≡ false → 0 < length rest
 some_left rest b e f = omega (arith, eqb-false (length rest) 0 (sym e ∙ f))

@@ -15,7 +15,7 @@ use Rattle.rs_field.specs.Carried.{carried, optional, user_property, replayed}
 use Rattle.rs_field.specs.Bounds.{AreInRange}
 use Rattle.rs_field.specs.Reading.{Gives, values_at}
 use Rattle.rs_field.proofs.Fields.{IsBytes}
-use Rattle.rs_field.proofs.PropertyLaws.{found_takes}
+use Rattle.rs_field.proofs.PropertyLaws.{values_takes}
 use Rattle.rs_field.proofs.Replayed.{length_replayed}
 
 -- how many bytes the properties that a message carries take
@@ -95,55 +95,55 @@ properties_le ps qs le =
 
 -- ---- the ranges
 
-put_found : (f : PacketProperties) (p : Property) → AreInRange f → IsInRange p → AreInRange (put f p)
-put_found f (property.PayloadFormatIndicator n) h r = record { short = h.short; maxima = h.maxima }
-put_found f (property.MessageExpiryInterval n) h r = record { short = h.short; maxima = h.maxima }
-put_found f (property.ContentType t) h r = record { short = h.short; maxima = h.maxima }
-put_found f (property.ResponseTopic t) h r = record { short = h.short; maxima = h.maxima }
-put_found f (property.CorrelationData b) h r = record { short = r; maxima = h.maxima }
-put_found f (property.SubscriptionIdentifier n) h r = record { short = h.short; maxima = h.maxima }
-put_found f (property.SessionExpiryInterval n) h r = record { short = h.short; maxima = h.maxima }
-put_found f (property.AuthenticationMethod t) h r = record { short = h.short; maxima = h.maxima }
-put_found f (property.AuthenticationData b) h r = record { short = h.short; maxima = h.maxima }
-put_found f (property.RequestProblemInformation n) h r = h
-put_found f (property.RequestResponseInformation n) h r = h
-put_found f (property.ReasonString t) h r = h
-put_found f (property.ReceiveMaximum n) h r = record { short = h.short; maxima = record { receive_fits = r.0; packet_fits = h.maxima.packet_fits } }
-put_found f (property.TopicAliasMaximum n) h r = h
-put_found f (property.TopicAlias n) h r = record { short = h.short; maxima = h.maxima }
-put_found f (property.UserProperty k v) h r = record { short = h.short; maxima = h.maxima }
-put_found f (property.MaximumPacketSize n) h r = record { short = h.short; maxima = record { receive_fits = h.maxima.receive_fits; packet_fits = r.0 } }
+put_values : (f : PacketProperties) (p : Property) → AreInRange f → IsInRange p → AreInRange (put f p)
+put_values f (property.PayloadFormatIndicator n) h r = record { short = h.short; maxima = h.maxima }
+put_values f (property.MessageExpiryInterval n) h r = record { short = h.short; maxima = h.maxima }
+put_values f (property.ContentType t) h r = record { short = h.short; maxima = h.maxima }
+put_values f (property.ResponseTopic t) h r = record { short = h.short; maxima = h.maxima }
+put_values f (property.CorrelationData b) h r = record { short = r; maxima = h.maxima }
+put_values f (property.SubscriptionIdentifier n) h r = record { short = h.short; maxima = h.maxima }
+put_values f (property.SessionExpiryInterval n) h r = record { short = h.short; maxima = h.maxima }
+put_values f (property.AuthenticationMethod t) h r = record { short = h.short; maxima = h.maxima }
+put_values f (property.AuthenticationData b) h r = record { short = h.short; maxima = h.maxima }
+put_values f (property.RequestProblemInformation n) h r = h
+put_values f (property.RequestResponseInformation n) h r = h
+put_values f (property.ReasonString t) h r = h
+put_values f (property.ReceiveMaximum n) h r = record { short = h.short; maxima = record { receive_fits = r.0; packet_fits = h.maxima.packet_fits } }
+put_values f (property.TopicAliasMaximum n) h r = h
+put_values f (property.TopicAlias n) h r = record { short = h.short; maxima = h.maxima }
+put_values f (property.UserProperty k v) h r = record { short = h.short; maxima = h.maxima }
+put_values f (property.MaximumPacketSize n) h r = record { short = h.short; maxima = record { receive_fits = h.maxima.receive_fits; packet_fits = r.0 } }
 
-collected_found : (where_ : PropertyOwner) (f : PacketProperties) (ps : List Property) → AreInRange f → AreAllowed where_ ps → AreInRange (collected f ps)
+collected_values : (where_ : PropertyOwner) (f : PacketProperties) (ps : List Property) → AreInRange f → AreAllowed where_ ps → AreInRange (collected f ps)
 unfolding collected
-collected_found where_ f [] h a = h
-collected_found where_ f (p ∷ ps) h a = collected_found where_ (put f p) ps (put_found f p h a.1) a.2
+collected_values where_ f [] h a = h
+collected_values where_ f (p ∷ ps) h a = collected_values where_ (put f p) ps (put_values f p h a.1) a.2
 
-nothing_found : AreInRange nothing
-nothing_found = record { short = tt; maxima = record { receive_fits = tt; packet_fits = tt } }
+nothing_values : AreInRange nothing
+nothing_values = record { short = tt; maxima = record { receive_fits = tt; packet_fits = tt } }
 
 -- ---- what a reader of properties learns
 
-pub record FoundFits (bytes : List ℕ) (f : PacketProperties) (rest : List ℕ) : Type 0 where
+pub record ValuesFit (bytes : List ℕ) (f : PacketProperties) (rest : List ℕ) : Type 0 where
   pub fits : AreInRange f
   pub size_fits : length (properties (replayed f.expiry None (carried f))) + length rest ≤ length bytes
 
-pub found_fits : (where_ : PropertyOwner) (bytes : List ℕ) (f : PacketProperties) (rest : List ℕ) → IsBytes bytes → values_at where_ bytes ≡ Ok (f, rest) → FoundFits bytes f rest
-found_fits where_ bytes f rest fits e =
-    let g = found_takes where_ bytes (f, rest) fits e in
-    let made : FoundFits bytes (collected nothing g.ps) rest = record {
-      fits = collected_found where_ nothing g.ps nothing_found g.are.allowed;
+pub values_fits : (where_ : PropertyOwner) (bytes : List ℕ) (f : PacketProperties) (rest : List ℕ) → IsBytes bytes → values_at where_ bytes ≡ Ok (f, rest) → ValuesFit bytes f rest
+values_fits where_ bytes f rest fits e =
+    let g = values_takes where_ bytes (f, rest) fits e in
+    let made : ValuesFit bytes (collected nothing g.ps) rest = record {
+      fits = collected_values where_ nothing g.ps nothing_values g.are.allowed;
       size_fits =
           let inner : size (collected nothing g.ps) ≤ length (flat_map property_bytes g.ps) = all_size g.ps in
           omega (arith, properties_le (replayed (collected nothing g.ps).expiry None (carried (collected nothing g.ps))) g.ps inner, ap length g.takes.parts, length-append (properties g.ps) rest);
     } in
-    subst (λ (v : PacketProperties). FoundFits bytes v rest) (sym g.says) made
+    subst (λ (v : PacketProperties). ValuesFit bytes v rest) (sym g.says) made
 
-pub found_is : (where_ : PropertyOwner) (bytes rest : List ℕ) (r : Result PacketProperties PacketFault) → IsBytes bytes → Gives (λ f. (f, rest)) r (values_at where_ bytes) → IfOk r (λ f. AreInRange f)
-found_is where_ bytes rest (Ok f) fits e = (found_fits where_ bytes f rest fits e).fits
-found_is where_ bytes rest (Err d) fits e = tt
+pub values_is : (where_ : PropertyOwner) (bytes rest : List ℕ) (r : Result PacketProperties PacketFault) → IsBytes bytes → Gives (λ f. (f, rest)) r (values_at where_ bytes) → IfOk r (λ f. AreInRange f)
+values_is where_ bytes rest (Ok f) fits e = (values_fits where_ bytes f rest fits e).fits
+values_is where_ bytes rest (Err d) fits e = tt
 
-pub found_size : (where_ : PropertyOwner) (bytes rest : List ℕ) (r : Result PacketProperties PacketFault) → IsBytes bytes → Gives (λ f. (f, rest)) r (values_at where_ bytes)
+pub values_size : (where_ : PropertyOwner) (bytes rest : List ℕ) (r : Result PacketProperties PacketFault) → IsBytes bytes → Gives (λ f. (f, rest)) r (values_at where_ bytes)
     → IfOk r (λ f. length (properties (replayed f.expiry None (carried f))) + length rest ≤ length bytes)
-found_size where_ bytes rest (Ok f) fits e = (found_fits where_ bytes f rest fits e).size_fits
-found_size where_ bytes rest (Err d) fits e = tt
+values_size where_ bytes rest (Ok f) fits e = (values_fits where_ bytes f rest fits e).size_fits
+values_size where_ bytes rest (Err d) fits e = tt

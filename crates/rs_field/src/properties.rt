@@ -146,15 +146,15 @@ fn values_in(
 ) -> Result<PropertyValues, PacketFault>
     ensures { Gives (λ f. f) result (collect_on nothing (properties_in (length section) owner none_yet section)) }
 {
-    let mut found = PropertyValues::new(alloc);
+    let mut values = PropertyValues::new(alloc);
     let mut seen = [false; IDENTIFIERS];
     let mut rest = section;
     'next: while !rest.is_empty() {
         let property = read_property(&mut rest, owner, &seen)?;
         seen[usize::from(property.identifier().number())] = true;
-        found.put(property)?;
+        values.put(property)?;
     }
-    Ok(found)
+    Ok(values)
 }
 
 /// Does nothing: its contract says that bytes are below 256, which the lemmas on what was read need.

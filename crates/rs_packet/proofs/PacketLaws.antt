@@ -32,7 +32,7 @@ use Rattle.rs_packet.specs.Grammar.{bit, level, handling, IsId, IdFits, id_bytes
 use Rattle.rs_packet.specs.PacketReading.{id_at, id_for, publish_at, ended, code_at, acknowledgement_at, qos_of, handling_of, options_of, asked_at, all_in, some_of, subscribe_at, filter_at, unsubscribe_at, mqtt, flags_of, past_text, past_binary, client_at, version_at, connect_at}
 use Rattle.rs_field.proofs.Numbers.{bind_ok, ok_is}
 use Rattle.rs_field.proofs.Fields.{IsBytes, IsBytes-rest, Takes, Takes-then, wide16, number_takes, number_again, binary_takes, binary_again, text_takes, text_again}
-use Rattle.rs_field.proofs.PropertyLaws.{wanted, byte_takes, found_takes, found_again}
+use Rattle.rs_field.proofs.PropertyLaws.{wanted, byte_takes, values_takes, values_again}
 
 -- ---- packet identifiers
 
@@ -80,7 +80,7 @@ publish_takes duplicate qos retain body p fits e =
     let f = bind_ok (values_at owner.Publish id.0.1) (λ f. Ok (publication duplicate qos retain topic.0.0 id.0.0 f.0 f.1)) p id.2 in
     let t = text_takes body topic.0 fits topic.1 in
     let i = id_for_takes qos topic.0.1 id.0 t.0.rest_fits id.1 in
-    let g = found_takes owner.Publish id.0.1 f.0 i.0.rest_fits f.1 in
+    let g = values_takes owner.Publish id.0.1 f.0 i.0.rest_fits f.1 in
     let fields : body ≡ counted topic.0.0 ++ (id_bytes id.0.0 ++ (properties g.ps ++ f.0.1)) =
     t.0.parts ∙ ap (λ (r : List ℕ). counted topic.0.0 ++ r) (i.0.parts ∙ ap (λ (r : List ℕ). id_bytes id.0.0 ++ r) g.takes.parts) in
     let made : publication duplicate qos retain topic.0.0 id.0.0 f.0.0 f.0.1 ≡ publication duplicate qos retain topic.0.0 id.0.0 (collected nothing g.ps) f.0.1 =
@@ -101,7 +101,7 @@ pub publish_again : (duplicate : Bool) (qos : Qos) (retain : Bool) (body : List 
 unfolding publish_at
 publish_again duplicate qos retain body p h =
     ap (publish_at duplicate qos retain) h.fields
-    ∙ (rw (text_again h.topic (id_bytes h.id ++ (properties h.ps ++ h.payload)) h.is_text, id_for_again qos h.id (properties h.ps ++ h.payload) h.has_id, found_again owner.Publish h.ps h.payload h.are_properties)
+    ∙ (rw (text_again h.topic (id_bytes h.id ++ (properties h.ps ++ h.payload)) h.is_text, id_for_again qos h.id (properties h.ps ++ h.payload) h.has_id, values_again owner.Publish h.ps h.payload h.are_properties)
     (ap (λ (q : Publish). Ok q) (sym h.value)))
 
 -- ---- acknowledgements and DISCONNECT
@@ -117,7 +117,7 @@ code_takes where_ (c ∷ []) code fits e = subst (EncodesCode where_ (c ∷ []))
 code_takes where_ (c ∷ b ∷ bytes) code fits e =
     let f = bind_ok (values_at where_ (b ∷ bytes)) (λ f. ended c f.1) code e in
     let end = ended_is c code f.0.1 f.2 in
-    let g = found_takes where_ (b ∷ bytes) f.0 (IsBytes-rest c (b ∷ bytes) fits) f.1 in
+    let g = values_takes where_ (b ∷ bytes) f.0 (IsBytes-rest c (b ∷ bytes) fits) f.1 in
     let whole : properties g.ps ≡ b ∷ bytes = sym (g.takes.parts ∙ ap (λ (r : List ℕ). properties g.ps ++ r) end.0 ∙ append-nil (properties g.ps)) in
     let made : EncodesCode where_ (c ∷ properties g.ps) c = EncodesCode.with_properties (fits 0) g.are in
     subst (EncodesCode where_ (c ∷ b ∷ bytes)) end.1 (subst (λ (r : List ℕ). EncodesCode where_ (c ∷ r) c) whole made)
@@ -137,7 +137,7 @@ code_again where_ _ _ (EncodesCode.no_properties h) = refl
 code_again where_ _ _ (EncodesCode.with_properties {code = code} {ps = ps} h are) =
     let v = varint_some 3 (length (flat_map property_bytes ps)) in
     let shape : properties ps ≡ v.0 ∷ (v.1 ++ flat_map property_bytes ps) = ap (λ (r : List ℕ). r ++ flat_map property_bytes ps) v.2 in
-    let read : values_at where_ (v.0 ∷ (v.1 ++ flat_map property_bytes ps)) ≡ Ok (collected nothing ps, []) = ap (values_at where_) (sym shape ∙ sym (append-nil (properties ps))) ∙ found_again where_ ps [] are in
+    let read : values_at where_ (v.0 ∷ (v.1 ++ flat_map property_bytes ps)) ≡ Ok (collected nothing ps, []) = ap (values_at where_) (sym shape ∙ sym (append-nil (properties ps))) ∙ values_again where_ ps [] are in
     ap (λ (r : List ℕ). code_at where_ (code ∷ r)) shape ∙ rw read refl
 
 pub acknowledgement_takes : (body : List ℕ) (a : Acknowledgement) → IsBytes body → acknowledgement_at body ≡ Ok a → EncodesAcknowledgement body a
@@ -299,7 +299,7 @@ subscribe_takes body s fits e =
     let f = bind_ok (values_at owner.Subscribe id.0.1) (λ f. some_of asked_at f.1 >>= λ filters. Ok (record { id = id.0.0; subscription = f.0.subscription; filters = filters })) s id.2 in
     let l = bind_ok (some_of asked_at f.0.1) (λ filters. Ok (record { id = id.0.0; subscription = f.0.0.subscription; filters = filters })) s f.2 in
     let t = id_takes body id.0 fits id.1 in
-    let g = found_takes owner.Subscribe id.0.1 f.0 t.0.rest_fits f.1 in
+    let g = values_takes owner.Subscribe id.0.1 f.0 t.0.rest_fits f.1 in
     let some = tested (eqb (length f.0.1) 0) Protocol (all_in asked_at (length f.0.1) f.0.1) l.0 l.1 in
     let fs = all_asked_take (length f.0.1) f.0.1 l.0 g.takes.rest_fits (omega arith) some.1 in
     let long : 0 < length f.0.1 = omega (arith, eqb-false _ _ some.0) in
@@ -327,7 +327,7 @@ subscribe_again body s h =
     let text = flat_map filter_bytes h.filters in
     let some : eqb (length text) 0 ≡ false = ne_eqb _ _ (λ z. none h.filters h.some z) in
     ap subscribe_at h.fields
-    ∙ (rw (id_again s.id (properties h.ps ++ text) h.is_id, found_again owner.Subscribe h.ps text h.are_properties, some, all_asked_again (length text) h.filters (omega arith) h.are_texts)
+    ∙ (rw (id_again s.id (properties h.ps ++ text) h.is_id, values_again owner.Subscribe h.ps text h.are_properties, some, all_asked_again (length text) h.filters (omega arith) h.are_texts)
     (ap (λ (v : SubscribeValue). Ok v) (sym h.value)))
   where
     none : (fs : List (List ℕ × Options)) → 0 < length fs → length (flat_map filter_bytes fs) ≡ 0 → ⊥
@@ -380,7 +380,7 @@ unsubscribe_takes body u fits e =
     let f = bind_ok (values_at owner.Unsubscribe id.0.1) (λ f. some_of filter_at f.1 >>= λ filters. Ok (record { id = id.0.0; filters = filters })) u id.2 in
     let l = bind_ok (some_of filter_at f.0.1) (λ filters. Ok (record { id = id.0.0; filters = filters })) u f.2 in
     let t = id_takes body id.0 fits id.1 in
-    let g = found_takes owner.Unsubscribe id.0.1 f.0 t.0.rest_fits f.1 in
+    let g = values_takes owner.Unsubscribe id.0.1 f.0 t.0.rest_fits f.1 in
     let some = tested (eqb (length f.0.1) 0) Protocol (all_in filter_at (length f.0.1) f.0.1) l.0 l.1 in
     let ts = filters_take (length f.0.1) f.0.1 l.0 g.takes.rest_fits (omega arith) some.1 in
     let long : 0 < length f.0.1 = omega (arith, eqb-false _ _ some.0) in
@@ -404,7 +404,7 @@ unsubscribe_again body u h =
     let text = flat_map counted h.filters in
     let some : eqb (length text) 0 ≡ false = ne_eqb _ _ (λ z. none h.filters h.some z) in
     ap unsubscribe_at h.fields
-    ∙ (rw (id_again u.id (properties h.ps ++ text) h.is_id, found_again owner.Unsubscribe h.ps text h.are_properties, some, filters_again (length text) h.filters (omega arith) h.are_texts)
+    ∙ (rw (id_again u.id (properties h.ps ++ text) h.is_id, values_again owner.Unsubscribe h.ps text h.are_properties, some, filters_again (length text) h.filters (omega arith) h.are_texts)
     (ap (λ (v : UnsubscribeValue). Ok v) (sym h.value)))
   where
     none : (ts : List (List ℕ)) → 0 < length ts → length (flat_map counted ts) ≡ 0 → ⊥
@@ -514,15 +514,15 @@ connect_takes body c fits e =
     let v = bind_ok (version_at body) (λ rest. byte_at rest >>= λ b. flags_of b.0 >>= λ flags. after flags b.1) c e in
     let b = bind_ok (byte_at v.0) (λ b. flags_of b.0 >>= λ flags. after flags b.1) c v.2 in
     let fl = bind_ok (flags_of b.0.0) (λ flags. after flags b.0.1) c b.2 in
-    let k = bind_ok (number_at w16 b.0.1) (λ keep. values_at owner.Connect keep.1 >>= λ f. checked f.0 >>= λ found. client_at fl.0 f.1 >>= λ client. Ok (made fl.0 keep.0 found client)) c fl.2 in
-    let f = bind_ok (values_at owner.Connect k.0.1) (λ f. checked f.0 >>= λ found. client_at fl.0 f.1 >>= λ client. Ok (made fl.0 k.0.0 found client)) c k.2 in
-    let ch = bind_ok (checked f.0.0) (λ found. client_at fl.0 f.0.1 >>= λ client. Ok (made fl.0 k.0.0 found client)) c f.2 in
+    let k = bind_ok (number_at w16 b.0.1) (λ keep. values_at owner.Connect keep.1 >>= λ f. checked f.0 >>= λ values. client_at fl.0 f.1 >>= λ client. Ok (made fl.0 keep.0 values client)) c fl.2 in
+    let f = bind_ok (values_at owner.Connect k.0.1) (λ f. checked f.0 >>= λ values. client_at fl.0 f.1 >>= λ client. Ok (made fl.0 k.0.0 values client)) c k.2 in
+    let ch = bind_ok (checked f.0.0) (λ values. client_at fl.0 f.0.1 >>= λ client. Ok (made fl.0 k.0.0 values client)) c f.2 in
     let cl = bind_ok (client_at fl.0 f.0.1) (λ client. Ok (made fl.0 k.0.0 ch.0 client)) c ch.2 in
     let tv = version_takes body v.0 fits v.1 in
     let tb = byte_takes v.0 b.0 tv.rest_fits b.1 in
     let tf = flags_takes b.0.0 fl.0 tb.1 fl.1 in
     let tk = number_takes w16 (2 ^ 16) wide16 b.0.1 k.0 tb.0.rest_fits k.1 in
-    let g = found_takes owner.Connect k.0.1 f.0 tk.0.rest_fits f.1 in
+    let g = values_takes owner.Connect k.0.1 f.0 tk.0.rest_fits f.1 in
     let m = method_fits f.0.0 ch.0 ch.1 in
     let pay = client_takes fl.0 f.0.1 cl.0 g.takes.rest_fits cl.1 in
     let byte : b.0.0 ∷ [] ≡ flags_byte fl.0 ∷ [] = ap (λ (n : ℕ). n ∷ []) (sym tf.0) in
@@ -534,14 +534,14 @@ connect_takes body c fits e =
     (record { flags = fl.0; ps = g.ps; payload = f.0.1; flags_fit = tf.1; keep_alive = tk.1; are_properties = g.are; method = subst MethodFits g.says m.0; has_payload = pay; fields = fields; value = value })
   where
     made : ConnectFlags → ℕ → PacketProperties → Option (List ℕ) → Connect
-    made flags keep found client = record {
+    made flags keep values client = record {
       clean_start = flags.clean_start;
       will = flags.will;
       keep_alive = keep;
-      session_expiry = found.session_expiry;
-      method = found.method;
-      receive_maximum = found.receive_maximum;
-      packet_maximum = found.packet_maximum;
+      session_expiry = values.session_expiry;
+      method = values.method;
+      receive_maximum = values.receive_maximum;
+      packet_maximum = values.packet_maximum;
       client = client;
     }
 
@@ -549,7 +549,7 @@ connect_takes body c fits e =
     checked f = cond (f.authentication && is_none f.method) (Err Protocol) (Ok f)
 
     after : ConnectFlags → List ℕ → Result Connect PacketFault
-    after flags bytes = number_at w16 bytes >>= λ keep. values_at owner.Connect keep.1 >>= λ f. checked f.0 >>= λ found. client_at flags f.1 >>= λ client. Ok (made flags keep.0 found client)
+    after flags bytes = number_at w16 bytes >>= λ keep. values_at owner.Connect keep.1 >>= λ f. checked f.0 >>= λ values. client_at flags f.1 >>= λ client. Ok (made flags keep.0 values client)
 
     method_fits : (f g : PacketProperties) → checked f ≡ Ok g → MethodFits f × (f ≡ g)
     method_fits f g e = by f.authentication f.method e
@@ -667,7 +667,7 @@ connect_again body c h =
       version_again (flags_byte h.flags ∷ tail),
       flags_again h.flags h.flags_fit,
       number_again w16 (2 ^ 16) wide16 c.keep_alive (properties h.ps ++ h.payload) h.keep_alive,
-      found_again owner.Connect h.ps h.payload h.are_properties,
+      values_again owner.Connect h.ps h.payload h.are_properties,
       method_again (collected nothing h.ps) h.method,
       client_again h.flags h.payload c.client h.has_payload,
     )

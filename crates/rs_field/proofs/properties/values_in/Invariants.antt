@@ -5,7 +5,7 @@ use Rattle.rs_field.proofs.PropertyLoop.{IsOnTheWay}
 use Rattle.rs_field.proofs.properties.values_in.Given as goal
 
 abbrev pub invariant-next : goal.invariant-next
-invariant-next l = IsOnTheWay l.owner l.found l.seen l.rest (collect_on nothing (properties_in (length l.fn.section) l.owner none_yet l.fn.section))
+invariant-next l = IsOnTheWay l.owner l.values l.seen l.rest (collect_on nothing (properties_in (length l.fn.section) l.owner none_yet l.fn.section))
 
 abbrev pub decreases-next : goal.decreases-next
 decreases-next l = length l.rest
