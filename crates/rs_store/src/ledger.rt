@@ -13,7 +13,7 @@ const SERIALS: usize = MAX_PLACES as usize + 1;
 
 /// The limit of a catalogue, the last serial of each place and of the writer, and the number of entries. A catalogue is its messages
 /// and a ledger. Each call takes constant time.
-#[derive(Drop)]
+#[derive(Debug, Drop)]
 pub struct Ledger {
     limit: TopicLimit,
     // Indexed by place. The writer's is at 0.
