@@ -158,8 +158,8 @@ under_all_two (k ∷ ks) v w = ap (under k) (under_all_two ks v w) ∙ under_two
 
 module _ (l : Leaf) (left rest : List Leaf) (is : left ≡ l ∷ rest) where
   -- an answer, when one leaf is asked
-  pub answer_turn : (pattern : Path) (now : ℕ) (before after all : List Found) → after ≡ before ++ chosen pattern now (spot_of l.at l.found ∷ []) → before ++ chosen pattern now (spots_in left) ≡ all → after ++ chosen pattern now (spots_in rest) ≡ all
-  answer_turn pattern now before after all more so =
+  pub answer_step : (pattern : Path) (now : ℕ) (before after all : List Found) → after ≡ before ++ chosen pattern now (spot_of l.at l.found ∷ []) → before ++ chosen pattern now (spots_in left) ≡ all → after ++ chosen pattern now (spots_in rest) ≡ all
+  answer_step pattern now before after all more so =
       let split : chosen pattern now (spots_in left) ≡ chosen pattern now (spot_of l.at l.found ∷ []) ++ chosen pattern now (spots_in rest) = rw is (chosen-append (fits pattern) now (spot_of l.at l.found ∷ []) (spots_in rest)) in
       rw more (append_assoc before (chosen pattern now (spot_of l.at l.found ∷ [])) (chosen pattern now (spots_in rest)) ∙ (ap (λ (w : List Found). before ++ w) (sym split) ∙ so))
 
@@ -167,28 +167,28 @@ module _ (l : Leaf) (left rest : List Leaf) (is : left ≡ l ∷ rest) where
   pub answer_stop : (pattern : Path) (now : ℕ) (before all : List Found) (s : Stop) (room old : ℕ) → room ≡ old → IsStop s room (before ++ chosen pattern now (spot_of l.at l.found ∷ [])) → before ++ chosen pattern now (spots_in left) ≡ all → IsStop s old all
   answer_stop pattern now before all s room old unchanged h so =
       let one : List Found = chosen pattern now (spot_of l.at l.found ∷ []) in
-      let whole : (before ++ one) ++ chosen pattern now (spots_in rest) ≡ all = answer_turn pattern now before (before ++ one) all refl so in
+      let whole : (before ++ one) ++ chosen pattern now (spots_in rest) ≡ all = answer_step pattern now before (before ++ one) all refl so in
       let P : ℕ → Type 0 = λ n. IsStop s n all in
       subst P unchanged (stop_at s room ((before ++ one) ++ chosen pattern now (spots_in rest)) all whole (stop_more s room (before ++ one) (chosen pattern now (spots_in rest)) h))
 
   -- a leaf that is copied
-  pub copy_turn : (done new : List Leaf) (all : Spots) → new ≡ done ++ l ∷ [] → spots_in done ++ spots_in left ≡ all → spots_in new ++ spots_in rest ≡ all
-  copy_turn done new all put so =
+  pub copy_step : (done new : List Leaf) (all : Spots) → new ≡ done ++ l ∷ [] → spots_in done ++ spots_in left ≡ all → spots_in new ++ spots_in rest ≡ all
+  copy_step done new all put so =
       rw put (ap (λ (w : Spots). w ++ spots_in rest) (in_two done (l ∷ [])) ∙ (append_assoc (spots_in done) (spot_of l.at l.found ∷ []) (spots_in rest) ∙ (ap (λ (w : List Leaf). spots_in done ++ spots_in w) (sym is) ∙ so)))
 
   -- a leaf whose rest begins earlier
-  pub rise_turn : (ks : Path) (k : List ℕ) (higher : Leaf) (done new : List Leaf) (all : Spots) → higher.found ≡ l.found → levels_from higher.at l.found.topic ≡ ks ++ k ∷ path_of l → new ≡ done ++ higher ∷ []
+  pub rise_step : (ks : Path) (k : List ℕ) (higher : Leaf) (done new : List Leaf) (all : Spots) → higher.found ≡ l.found → levels_from higher.at l.found.topic ≡ ks ++ k ∷ path_of l → new ≡ done ++ higher ∷ []
       → spots_in done ++ under_all ks (under k (spots_in left)) ≡ all → spots_in new ++ under_all ks (under k (spots_in rest)) ≡ all
-  rise_turn ks k higher done new all same path put so =
+  rise_step ks k higher done new all same path put so =
       let one : spot_of higher.at higher.found ∷ [] ≡ under_all ks ((k ∷ path_of l, l.found) ∷ []) = rw (same, path) (sym (under_one ks (k ∷ path_of l) l.found)) in
       let split : under_all ks (under k (spots_in left)) ≡ (spot_of higher.at higher.found ∷ []) ++ under_all ks (under k (spots_in rest)) =
       ap (λ (ls : List Leaf). under_all ks (under k (spots_in ls))) is ∙ (under_all_two ks ((k ∷ path_of l, l.found) ∷ []) (under k (spots_in rest)) ∙ ap (λ (w : Spots). w ++ under_all ks (under k (spots_in rest))) (sym one)) in
       rw put (ap (λ (w : Spots). w ++ under_all ks (under k (spots_in rest))) (in_two done (higher ∷ [])) ∙ (append_assoc (spots_in done) (spot_of higher.at higher.found ∷ []) (under_all ks (under k (spots_in rest))) ∙ (ap (λ (w : Spots). spots_in done ++ w) (sym split) ∙ so)))
 
   -- a leaf that is put into a branch below a chain, behind those that came before it
-  pub part_turn : (ks q : Path) (f : Found) (b new : Spots) (all : Spots) → Sorted all → path_of l ≡ ks ++ q → f ≡ l.found → new ≡ insert_entry path_cmp b q f
+  pub part_step : (ks q : Path) (f : Found) (b new : Spots) (all : Spots) → Sorted all → path_of l ≡ ks ++ q → f ≡ l.found → new ≡ insert_entry path_cmp b q f
       → under_all ks b ++ spots_in left ≡ all → under_all ks new ++ spots_in rest ≡ all
-  part_turn ks q f b new all s path copy put so =
+  part_step ks q f b new all s path copy put so =
       let whole : under_all ks b ++ spot_of l.at l.found ∷ spots_in rest ≡ all = ap (λ (w : List Leaf). under_all ks b ++ spots_in w) (sym is) ∙ so in
       let one : under_all ks new ≡ insert_entry path_cmp (under_all ks b) (path_of l) l.found = rw (put, copy, path) (sym (insert_all ks q l.found b)) in
       ap (λ (w : Spots). w ++ spots_in rest) one ∙ insert_next path_cmp path_total (under_all ks b) (spots_in rest) all (path_of l) l.found whole s
@@ -255,19 +255,19 @@ put_one q p f g there = at (path_cmp q p) refl
 
 module _ (ls : List Leaf) (i : ℕ) (l : Leaf) (small : i < length ls) (is : l ≡ get_or ls i l) where
   pub copied_step : (copy : Leaf) (done new : List Leaf) (all : Spots) → copy ≡ l → new ≡ done ++ copy ∷ [] → spots_in done ++ spots_in (drop i ls) ≡ all → spots_in new ++ spots_in (drop (i + 1) ls) ≡ all
-  copied_step copy done new all same put so = copy_turn l (drop i ls) (drop (i + 1) ls) (next_leaf ls i l small is) done new all (put ∙ ap (λ (x : Leaf). done ++ x ∷ []) same) so
+  copied_step copy done new all same put so = copy_step l (drop i ls) (drop (i + 1) ls) (next_leaf ls i l small is) done new all (put ∙ ap (λ (x : Leaf). done ++ x ∷ []) same) so
 
   pub risen_step : (ks : Path) (k : List ℕ) (copy higher : Leaf) (done new : List Leaf) (all : Spots) → copy ≡ l → higher.found ≡ copy.found → levels_from higher.at copy.found.topic ≡ ks ++ k ∷ path_of copy → new ≡ done ++ higher ∷ []
       → spots_in done ++ under_all ks (under k (spots_in (drop i ls))) ≡ all → spots_in new ++ under_all ks (under k (spots_in (drop (i + 1) ls))) ≡ all
   risen_step ks k copy higher done new all same found path put so =
-      rise_turn l (drop i ls) (drop (i + 1) ls) (next_leaf ls i l small is) ks k higher done new all (rw same at found) (rw same at path) put so
+      rise_step l (drop i ls) (drop (i + 1) ls) (next_leaf ls i l small is) ks k higher done new all (rw same at found) (rw same at path) put so
 
   pub parted_step : (chain view t : List ℕ) (next : ℕ) (f : Found) (b new : Spots) → view ≡ chain → t ≡ l.found.topic → Some (levels_from next t) ≡ behind (levels_from 1 view) (levels_from l.at t) → f ≡ l.found
       → new ≡ insert_entry path_cmp b (levels_from next f.topic) f → Sorted (spots_in ls) → under_all (levels_from 1 chain) b ++ spots_in (drop i ls) ≡ spots_in ls → under_all (levels_from 1 chain) new ++ spots_in (drop (i + 1) ls) ≡ spots_in ls
   parted_step chain view t next f b new same topic there copy put s so =
       let on : Some (levels_from next l.found.topic) ≡ behind (levels_from 1 chain) (path_of l) = rw (same, topic) at there in
       let path : path_of l ≡ levels_from 1 chain ++ levels_from next l.found.topic = behind_is (levels_from 1 chain) (path_of l) (levels_from next l.found.topic) (sym on) in
-      part_turn l (drop i ls) (drop (i + 1) ls) (next_leaf ls i l small is) (levels_from 1 chain) (levels_from next l.found.topic) f b new (spots_in ls) s path copy (put ∙ ap (λ (g : Found). insert_entry path_cmp b (levels_from next g.topic) f) copy) so
+      part_step l (drop i ls) (drop (i + 1) ls) (next_leaf ls i l small is) (levels_from 1 chain) (levels_from next l.found.topic) f b new (spots_in ls) s path copy (put ∙ ap (λ (g : Found). insert_entry path_cmp b (levels_from next g.topic) f) copy) so
 
 pub parted_none : (ks : Path) (b : Spots) (ls : List Leaf) → b ≡ [] → under_all ks b ++ spots_in (drop 0 ls) ≡ spots_in ls
 parted_none ks b ls h = rw (h, none_below ks) refl

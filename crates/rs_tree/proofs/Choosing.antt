@@ -26,7 +26,7 @@ use Rattle.rs_tree.specs.Rows.{IsBehind, IsFrom, IsGap, IsIn, IsRow, Takes, part
 use Rattle.rs_tree.specs.Values.{BranchValue, ChildValue}
 use Rattle.rs_store.specs.declared.answer.Answer.{Answer}
 use Rattle.rs_store.specs.declared.answer.Stop.{Stop}
-use Rattle.rs_tree.proofs.Rows.{Ahead, gap_front, gap_rear, in_front, in_rear, parts_at, split_at, split_gap}
+use Rattle.rs_tree.proofs.Rows.{Precedes, gap_front, gap_rear, in_front, in_rear, parts_at, split_at, split_gap}
 use Rattle.rs_tree.proofs.Under.{Spots, Path}
 use Rattle.rs_tree.proofs.Stopping.{stop_at, stop_more}
 
@@ -182,10 +182,10 @@ module _ (q : List ℕ) (more : Path) (now : ℕ) (wild : bytes_eq q (plus ∷ [
       at true is [] g = let same : q ≡ k = (bytes_decides q k).0 is in absurd (let e : path_cmp (k ∷ []) (k ∷ []) ≡ Greater = (rw same at g) in cc (e, tied_itself path_total (k ∷ [])))
       at true is (h ∷ p) g = let same : q ≡ k = (bytes_decides q k).0 is in absurd (let e : path_cmp (k ∷ []) (k ∷ h ∷ p) ≡ Greater = (rw same at g) in cc (e, tied_itself nat_list_cmp_total k))
 
-  ahead_none : (w : Spots) → ((p : Path) → Ahead (q ∷ p) w) → chosen (q ∷ more) now w ≡ []
-  ahead_none [] a = refl
-  ahead_none (([], m) ∷ w) a = rw ends (ahead_none w (λ p. (a p).1))
-  ahead_none ((k ∷ p, m) ∷ w) a = rw (other k p (at (bytes_eq q k) refl)) (ahead_none w (λ r. (a r).1))
+  preceding_none : (w : Spots) → ((p : Path) → Precedes (q ∷ p) w) → chosen (q ∷ more) now w ≡ []
+  preceding_none [] a = refl
+  preceding_none (([], m) ∷ w) a = rw ends (preceding_none w (λ p. (a p).1))
+  preceding_none ((k ∷ p, m) ∷ w) a = rw (other k p (at (bytes_eq q k) refl)) (preceding_none w (λ r. (a r).1))
     where
       at : (t : Bool) → bytes_eq q k ≡ t → bytes_eq q k ≡ false
       at false is = is
@@ -200,14 +200,14 @@ module _ (q : List ℕ) (more : Path) (now : ℕ) (wild : bytes_eq q (plus ∷ [
     pub exact_in : (c : ChildValue) → i < length cs → IsIn q cs i → c ≡ get_or cs i c → chosen (q ∷ more) now c.spots ≡ chosen (q ∷ more) now (own retained ++ parts cs)
     exact_in c small e is =
         ap (λ (w : ChildValue). chosen (q ∷ more) now w.spots) is
-        ∙ (sym (three (own retained ++ parts (take i cs)) (get_or cs i c).spots (parts (drop (suc i) cs)) (behind_none (own retained ++ parts (take i cs)) (in_front retained cs r q [] i e)) (ahead_none (parts (drop (suc i) cs)) (λ p. in_rear retained cs r q p i e)))
+        ∙ (sym (three (own retained ++ parts (take i cs)) (get_or cs i c).spots (parts (drop (suc i) cs)) (behind_none (own retained ++ parts (take i cs)) (in_front retained cs r q [] i e)) (preceding_none (parts (drop (suc i) cs)) (λ p. in_rear retained cs r q p i e)))
         ∙ ap (chosen (q ∷ more) now) (sym (split_at retained cs i c small)))
 
     pub exact_gap : IsGap q cs i → chosen (q ∷ more) now (own retained ++ parts cs) ≡ []
     exact_gap e =
         ap (chosen (q ∷ more) now) (split_gap retained cs i)
         ∙ (chosen-append (fits (q ∷ more)) now (own retained ++ parts (take i cs)) (parts (drop i cs))
-        ∙ cc (behind_none (own retained ++ parts (take i cs)) (gap_front retained cs r q [] i e), ahead_none (parts (drop i cs)) (λ p. gap_rear retained cs r q p i e)))
+        ∙ cc (behind_none (own retained ++ parts (take i cs)) (gap_front retained cs r q [] i e), preceding_none (parts (drop i cs)) (λ p. gap_rear retained cs r q p i e)))
 
 takes_enter : (b : Bool) (own q : List ℕ) (more : Path) → bytes_eq q (plus ∷ []) ≡ false → fits (q ∷ more) [] ≡ false → Rattle.rs_tree.specs.Rows.TakesAs b own q → EntersAs b own (q ∷ more) more
 takes_enter true own q more w e t = tt

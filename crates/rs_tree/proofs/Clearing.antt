@@ -24,7 +24,7 @@ use Rattle.rs_tree.specs.Rows.{IsBefore, IsBehind, IsFrom, IsIn, IsRow, IsUpTo, 
 use Rattle.rs_tree.specs.Values.{ChildValue}
 use Rattle.rs_tree.proofs.Dividing.{full_parts, level_rises, up_to_wider}
 use Rattle.rs_tree.proofs.Growing.{from_at, row_at, put_whole, row_set, same_parts}
-use Rattle.rs_tree.proofs.Rows.{Ahead, around, in_front, in_rear, split_at, there_child, there_gap, there_own}
+use Rattle.rs_tree.proofs.Rows.{Precedes, around, in_front, in_rear, split_at, there_child, there_gap, there_own}
 use Rattle.rs_tree.proofs.Under.{Spots, Path}
 
 -- ---- a bucket
@@ -91,12 +91,12 @@ retained_left (Some f) (c ∷ cs) r some more = (refl, refl, full_parts (c ∷ c
 
 -- ---- a removal among what stands before, what may be the spot, and what stands behind
 
-remove_ahead : (p : Path) (r : Spots) → Ahead p r → remove_entry (is_at (path_cmp p)) r ≡ r
-remove_ahead p [] a = refl
-remove_ahead p (s ∷ r) a = rw a.0 (ap (λ (x : Spots). s ∷ x) (remove_ahead p r a.1))
+remove_preceding : (p : Path) (r : Spots) → Precedes p r → remove_entry (is_at (path_cmp p)) r ≡ r
+remove_preceding p [] a = refl
+remove_preceding p (s ∷ r) a = rw a.0 (ap (λ (x : Spots). s ∷ x) (remove_preceding p r a.1))
 
-remove_front : (p : Path) (w r : Spots) → Ahead p r → remove_entry (is_at (path_cmp p)) (w ++ r) ≡ remove_entry (is_at (path_cmp p)) w ++ r
-remove_front p [] r a = remove_ahead p r a
+remove_front : (p : Path) (w r : Spots) → Precedes p r → remove_entry (is_at (path_cmp p)) (w ++ r) ≡ remove_entry (is_at (path_cmp p)) w ++ r
+remove_front p [] r a = remove_preceding p r a
 remove_front p (s ∷ w) r a = at (is_eq (path_cmp p s.0)) (remove_front p w r a)
   where
     at : (b : Bool) → remove_entry (is_at (path_cmp p)) (w ++ r) ≡ remove_entry (is_at (path_cmp p)) w ++ r
@@ -108,7 +108,7 @@ remove_rear : (p : Path) (l w : Spots) → IsBehind p l → remove_entry (is_at 
 remove_rear p [] w b = refl
 remove_rear p (s ∷ l) w b = rw b.0 (ap (λ (x : Spots). s ∷ x) (remove_rear p l w b.1))
 
-remove_mid : (p : Path) (l w r : Spots) → IsBehind p l → Ahead p r → remove_entry (is_at (path_cmp p)) (l ++ (w ++ r)) ≡ l ++ (remove_entry (is_at (path_cmp p)) w ++ r)
+remove_mid : (p : Path) (l w r : Spots) → IsBehind p l → Precedes p r → remove_entry (is_at (path_cmp p)) (l ++ (w ++ r)) ≡ l ++ (remove_entry (is_at (path_cmp p)) w ++ r)
 remove_mid p l w r b a = remove_rear p l (w ++ r) b ∙ ap (λ (x : Spots). l ++ x) (remove_front p w r a)
 
 -- ---- rows

@@ -14,14 +14,14 @@ module _ (cs : List ChildValue) (i : ℕ) (c : ChildValue) (small : i < length c
   here : parts (drop i cs) ≡ c.spots ++ parts (drop (i + 1) cs)
   here = parts_at cs i c small ∙ (ap (λ (w : ChildValue). w.spots ++ parts (drop (suc i) cs)) (sym is) ∙ ap (λ (n : ℕ). c.spots ++ parts (drop n cs)) (sym (add-one i)))
 
-  pub earliest_turn : (before after all : ℕ) → after ≡ earliest before c.spots → earliest before (parts (drop i cs)) ≡ all → earliest after (parts (drop (i + 1) cs)) ≡ all
-  earliest_turn before after all h so = ap (λ (b : ℕ). earliest b (parts (drop (i + 1) cs))) h ∙ (sym (ap (earliest before) here ∙ earliest_both before c.spots (parts (drop (i + 1) cs))) ∙ so)
+  pub earliest_step : (before after all : ℕ) → after ≡ earliest before c.spots → earliest before (parts (drop i cs)) ≡ all → earliest after (parts (drop (i + 1) cs)) ≡ all
+  earliest_step before after all h so = ap (λ (b : ℕ). earliest b (parts (drop (i + 1) cs))) h ∙ (sym (ap (earliest before) here ∙ earliest_both before c.spots (parts (drop (i + 1) cs))) ∙ so)
 
-  pub gone_turn : (now : ℕ) → length (filter (is_expired_spot now) (parts (drop i cs))) ≡ length (filter (is_expired_spot now) c.spots) + length (filter (is_expired_spot now) (parts (drop (i + 1) cs)))
-  gone_turn now = ap (λ (w : Spots). length (filter (is_expired_spot now) w)) here ∙ gone_both now c.spots (parts (drop (i + 1) cs))
+  pub gone_step : (now : ℕ) → length (filter (is_expired_spot now) (parts (drop i cs))) ≡ length (filter (is_expired_spot now) c.spots) + length (filter (is_expired_spot now) (parts (drop (i + 1) cs)))
+  gone_step now = ap (λ (w : Spots). length (filter (is_expired_spot now) w)) here ∙ gone_both now c.spots (parts (drop (i + 1) cs))
 
-  pub many_turn : length (parts (drop i cs)) ≡ length c.spots + length (parts (drop (i + 1) cs))
-  many_turn = ap length here ∙ length-append c.spots (parts (drop (i + 1) cs))
+  pub many_step : length (parts (drop i cs)) ≡ length c.spots + length (parts (drop (i + 1) cs))
+  many_step = ap length here ∙ length-append c.spots (parts (drop (i + 1) cs))
 
 pub none_left : (cs : List ChildValue) (i : ℕ) → length cs ≤ i → parts (drop i cs) ≡ []
 none_left cs i all = ap parts (drop_all i cs all)

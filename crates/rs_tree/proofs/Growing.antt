@@ -11,18 +11,18 @@ use Rattle.rs_topic.specs.Order.{path_cmp}
 use Rattle.rs_tree.specs.Spots.{IsFull, is_there, own, under}
 use Rattle.rs_tree.proofs.Under.{was_by, full_insert, Spots, Path, level_cmp}
 use Rattle.rs_tree.proofs.Stems.{insert_all}
-use Rattle.rs_tree.specs.Rows.{IsAhead, IsBefore, IsBehind, IsEdge, IsFrom, IsGap, IsIn, IsRow, IsUpTo, Takes, parts}
+use Rattle.rs_tree.specs.Rows.{IsPreceding, IsBefore, IsBehind, IsEdge, IsFrom, IsGap, IsIn, IsRow, IsUpTo, Takes, parts}
 use Rattle.rs_tree.specs.Values.{ChildValue}
-use Rattle.rs_tree.proofs.Rows.{Ahead, BeforeAll, ahead_all, around, behind_up_to, edge_at, gap_front, gap_rear, in_front, in_rear, level_less, split_at, split_gap, takes_reached, there_under}
+use Rattle.rs_tree.proofs.Rows.{Precedes, BeforeAll, preceding_all, around, behind_up_to, edge_at, gap_front, gap_rear, in_front, in_rear, level_less, split_at, split_gap, takes_reached, there_under}
 
 -- ---- an insertion among what stands before, what may be the spot, and what stands behind
 
-insert_ahead : (p : Path) (f : Found) (r : Spots) → Ahead p r → insert_entry path_cmp r p f ≡ (p, f) ∷ r
-insert_ahead p f [] a = refl
-insert_ahead p f (s ∷ r) a = rw a.0 refl
+insert_preceding : (p : Path) (f : Found) (r : Spots) → Precedes p r → insert_entry path_cmp r p f ≡ (p, f) ∷ r
+insert_preceding p f [] a = refl
+insert_preceding p f (s ∷ r) a = rw a.0 refl
 
-insert_front : (p : Path) (f : Found) (w r : Spots) → Ahead p r → insert_entry path_cmp (w ++ r) p f ≡ insert_entry path_cmp w p f ++ r
-insert_front p f [] r a = insert_ahead p f r a
+insert_front : (p : Path) (f : Found) (w r : Spots) → Precedes p r → insert_entry path_cmp (w ++ r) p f ≡ insert_entry path_cmp w p f ++ r
+insert_front p f [] r a = insert_preceding p f r a
 insert_front p f (s ∷ w) r a = at (path_cmp p s.0) (insert_front p f w r a)
   where
     at : (o : Ordering) → insert_entry path_cmp (w ++ r) p f ≡ insert_entry path_cmp w p f ++ r
@@ -35,11 +35,11 @@ insert_rear : (p : Path) (f : Found) (l w : Spots) → IsBehind p l → insert_e
 insert_rear p f [] w b = refl
 insert_rear p f (s ∷ l) w b = rw b.0 (ap (λ (x : Spots). s ∷ x) (insert_rear p f l w b.1))
 
-insert_mid : (p : Path) (f : Found) (l w r : Spots) → IsBehind p l → Ahead p r → insert_entry path_cmp (l ++ (w ++ r)) p f ≡ l ++ (insert_entry path_cmp w p f ++ r)
+insert_mid : (p : Path) (f : Found) (l w r : Spots) → IsBehind p l → Precedes p r → insert_entry path_cmp (l ++ (w ++ r)) p f ≡ l ++ (insert_entry path_cmp w p f ++ r)
 insert_mid p f l w r b a = insert_rear p f l (w ++ r) b ∙ ap (λ (x : Spots). l ++ x) (insert_front p f w r a)
 
-insert_between : (p : Path) (f : Found) (l r : Spots) → IsBehind p l → Ahead p r → insert_entry path_cmp (l ++ r) p f ≡ l ++ ((p, f) ∷ r)
-insert_between p f l r b a = insert_rear p f l r b ∙ ap (λ (x : Spots). l ++ x) (insert_ahead p f r a)
+insert_between : (p : Path) (f : Found) (l r : Spots) → IsBehind p l → Precedes p r → insert_entry path_cmp (l ++ r) p f ≡ l ++ ((p, f) ∷ r)
+insert_between p f l r b a = insert_rear p f l r b ∙ ap (λ (x : Spots). l ++ x) (insert_preceding p f r a)
 
 -- ---- the parts of the children, one of which is another or new
 
@@ -83,7 +83,7 @@ pub row_set : (P : ChildValue → Type 0) (q : List ℕ) (cs : List ChildValue) 
 row_set P q [] i c c' r e is lv full fr up = absurd e
 row_set P q (d ∷ cs) zero c c' r e is lv full fr up = (full, (let Q : List ℕ → Type 0 = λ k. IsFrom k c'.spots in subst Q (sym lv) fr), next cs r.2 e.1, r.3)
   where
-    next : (cs : List ChildValue) → IsBefore d.spots cs → IsAhead q cs → IsBefore c'.spots cs
+    next : (cs : List ChildValue) → IsBefore d.spots cs → IsPreceding q cs → IsBefore c'.spots cs
     next [] b a = tt
     next (n ∷ cs) b a = up n.level a (let Q : ChildValue → Type 0 = λ w. IsUpTo n.level w.spots in subst Q (sym is) b)
 row_set P q (d ∷ cs) (suc i) c c' r e is lv full fr up =
@@ -103,7 +103,7 @@ row_new q p f cs zero c r e lv is = (rw is tt, rw (is, lv) (from_one, tt), first
     from_one : path_cmp (q ∷ p) (q ∷ []) ≢ Less
     from_one = takes_reached false q q p refl
 
-    first : (cs : List ChildValue) → IsAhead q cs → IsBefore c.spots cs
+    first : (cs : List ChildValue) → IsPreceding q cs → IsBefore c.spots cs
     first [] a = tt
     first (n ∷ cs) a = rw is (level_less q n.level p a, tt)
 row_new q p f [] (suc i) c r e lv is = absurd e
@@ -169,7 +169,7 @@ module _ (retained : Option Found) (cs : List ChildValue) (r : IsRow cs) (q : Li
 -- the message of the spot itself comes first
 pub own_first : (retained : Option Found) (f : Found) (cs : List ChildValue) → IsRow cs → ([], f) ∷ parts cs ≡ insert_entry path_cmp (own retained ++ parts cs) [] f
 own_first (Some g) f cs r = refl
-own_first None f cs r = sym (insert_ahead [] f (parts cs) (ahead_all [] cs r (first cs)))
+own_first None f cs r = sym (insert_preceding [] f (parts cs) (preceding_all [] cs r (first cs)))
   where
     first : (cs : List ChildValue) → BeforeAll [] cs
     first [] = tt

@@ -11,7 +11,7 @@ use Rattle.rs_message.specs.declared.entry.Found.{Found}
 use Rattle.rs_topic.specs.Order.{path_cmp}
 use Rattle.rs_topic.specs.TopicOrder.{exact_paths, path_total}
 use Rattle.rs_tree.specs.Spots.{IsFull, is_there, own, under}
-use Rattle.rs_tree.specs.Rows.{IsAhead, IsBehind, IsEdge, IsFrom, IsGap, IsIn, IsNotBefore, IsRow, IsUpTo, Leads, LeadsAs, Passes, Takes, TakesAs, depth, parts}
+use Rattle.rs_tree.specs.Rows.{IsPreceding, IsBehind, IsEdge, IsFrom, IsGap, IsIn, IsNotBefore, IsRow, IsUpTo, Leads, LeadsAs, Passes, Takes, TakesAs, depth, parts}
 use Rattle.rs_tree.specs.Values.{ChildValue}
 
 -- ---- the order of paths
@@ -53,17 +53,17 @@ not_itself q k same h = let e : level_cmp k k ≡ Less = (rw same at h) in cc (e
 
 -- ---- what stands before a path, and behind it
 
-abbrev pub Ahead : Path → Spots → Type 0
-Ahead p [] = Unit {0}
-Ahead p (s ∷ ss) = (path_cmp p s.0 ≡ Less) × Ahead p ss
+abbrev pub Precedes : Path → Spots → Type 0
+Precedes p [] = Unit {0}
+Precedes p (s ∷ ss) = (path_cmp p s.0 ≡ Less) × Precedes p ss
 
 pub behind_both : (p : Path) (xs ys : Spots) → IsBehind p xs → IsBehind p ys → IsBehind p (xs ++ ys)
 behind_both p [] ys a b = b
 behind_both p (x ∷ xs) ys a b = (a.0, behind_both p xs ys a.1 b)
 
-pub ahead_both : (p : Path) (xs ys : Spots) → Ahead p xs → Ahead p ys → Ahead p (xs ++ ys)
-ahead_both p [] ys a b = b
-ahead_both p (x ∷ xs) ys a b = (a.0, ahead_both p xs ys a.1 b)
+pub preceding_both : (p : Path) (xs ys : Spots) → Precedes p xs → Precedes p ys → Precedes p (xs ++ ys)
+preceding_both p [] ys a b = b
+preceding_both p (x ∷ xs) ys a b = (a.0, preceding_both p xs ys a.1 b)
 
 pub own_behind : (q : List ℕ) (p : Path) (retained : Option Found) → IsBehind (q ∷ p) (own retained)
 own_behind q p None = tt
@@ -77,9 +77,9 @@ pub behind_up_to : (q : List ℕ) (ss : Spots) → IsBehind (q ∷ []) ss → Is
 behind_up_to q [] b = tt
 behind_up_to q (s ∷ ss) b = (back (q ∷ []) s.0 b.0, behind_up_to q ss b.1)
 
-from_ahead : (p : Path) (k : List ℕ) (ss : Spots) → path_cmp p (k ∷ []) ≡ Less → IsFrom k ss → Ahead p ss
-from_ahead p k [] l f = tt
-from_ahead p k (s ∷ ss) l f = (between p (k ∷ []) s.0 l f.0, from_ahead p k ss l f.1)
+from_preceding : (p : Path) (k : List ℕ) (ss : Spots) → path_cmp p (k ∷ []) ≡ Less → IsFrom k ss → Precedes p ss
+from_preceding p k [] l f = tt
+from_preceding p k (s ∷ ss) l f = (between p (k ∷ []) s.0 l f.0, from_preceding p k ss l f.1)
 
 -- the path is before the first child
 abbrev pub BeforeAll : Path → List ChildValue → Type 0
@@ -94,13 +94,13 @@ pub before_next : (p : Path) (c : ChildValue) (cs : List ChildValue) → IsRow (
 before_next p c [] r l = tt
 before_next p c (d ∷ cs) r l = over p c.level d.level c.spots r.0 r.1 r.2 l
 
-pub ahead_all : (p : Path) (cs : List ChildValue) → IsRow cs → BeforeAll p cs → Ahead p (parts cs)
-ahead_all p [] r a = tt
-ahead_all p (c ∷ cs) r a = ahead_both p c.spots (parts cs) (from_ahead p c.level c.spots a r.1) (ahead_all p cs r.3 (before_next p c cs r a))
+pub preceding_all : (p : Path) (cs : List ChildValue) → IsRow cs → BeforeAll p cs → Precedes p (parts cs)
+preceding_all p [] r a = tt
+preceding_all p (c ∷ cs) r a = preceding_both p c.spots (parts cs) (from_preceding p c.level c.spots a r.1) (preceding_all p cs r.3 (before_next p c cs r a))
 
-pub ahead_level : (q : List ℕ) (p : Path) (cs : List ChildValue) → IsAhead q cs → BeforeAll (q ∷ p) cs
-ahead_level q p [] a = tt
-ahead_level q p (c ∷ cs) a = level_less q c.level p a
+pub preceding_level : (q : List ℕ) (p : Path) (cs : List ChildValue) → IsPreceding q cs → BeforeAll (q ∷ p) cs
+preceding_level q p [] a = tt
+preceding_level q p (c ∷ cs) a = level_less q c.level p a
 
 -- the path is not before the child at the index
 abbrev pub IsReached : Path → List ChildValue → ℕ → Type 0
@@ -132,10 +132,10 @@ edge_at P q [] i d e = absurd e
 edge_at P q (c ∷ cs) zero d e = e.0
 edge_at P q (c ∷ cs) (suc i) d e = edge_at P q cs i d e
 
-pub edge_turned : (P Q : ChildValue → Type 0) (q : List ℕ) (cs : List ChildValue) (i : ℕ) (d : ChildValue) → Q (get_or cs i d) → IsEdge P q cs (suc i) → IsEdge Q q cs (suc i)
-edge_turned P Q q [] i d h e = absurd e
-edge_turned P Q q (c ∷ cs) zero d h e = (h, e.1)
-edge_turned P Q q (c ∷ cs) (suc i) d h e = edge_turned P Q q cs i d h e
+pub edge_moved : (P Q : ChildValue → Type 0) (q : List ℕ) (cs : List ChildValue) (i : ℕ) (d : ChildValue) → Q (get_or cs i d) → IsEdge P q cs (suc i) → IsEdge Q q cs (suc i)
+edge_moved P Q q [] i d h e = absurd e
+edge_moved P Q q (c ∷ cs) zero d h e = (h, e.1)
+edge_moved P Q q (c ∷ cs) (suc i) d h e = edge_moved P Q q cs i d h e
 
 pub edge_small : (P : ChildValue → Type 0) (q : List ℕ) (cs : List ChildValue) (i : ℕ) → IsEdge P q cs i → i ≤ length cs
 edge_small P q cs zero e = omega arith
@@ -143,19 +143,19 @@ edge_small P q [] (suc i) e = absurd e
 edge_small P q (c ∷ cs) (suc zero) e = omega arith
 edge_small P q (c ∷ cs) (suc (suc i)) e = omega (arith, edge_small P q cs (suc i) e)
 
-edge_ahead : (P : ChildValue → Type 0) (q : List ℕ) (cs : List ChildValue) (i : ℕ) → IsEdge P q cs i → IsAhead q (drop i cs)
-edge_ahead P q cs zero e = e
-edge_ahead P q [] (suc i) e = absurd e
-edge_ahead P q (c ∷ cs) (suc zero) e = e.1
-edge_ahead P q (c ∷ cs) (suc (suc i)) e = edge_ahead P q cs (suc i) e
+edge_preceding : (P : ChildValue → Type 0) (q : List ℕ) (cs : List ChildValue) (i : ℕ) → IsEdge P q cs i → IsPreceding q (drop i cs)
+edge_preceding P q cs zero e = e
+edge_preceding P q [] (suc i) e = absurd e
+edge_preceding P q (c ∷ cs) (suc zero) e = e.1
+edge_preceding P q (c ∷ cs) (suc (suc i)) e = edge_preceding P q cs (suc i) e
 
 pub row_drop : (cs : List ChildValue) (i : ℕ) → IsRow cs → IsRow (drop i cs)
 row_drop cs zero r = r
 row_drop [] (suc i) r = r
 row_drop (c ∷ cs) (suc i) r = row_drop cs i r.3
 
-pub rear_ahead : (P : ChildValue → Type 0) (q : List ℕ) (p : Path) (cs : List ChildValue) (i : ℕ) → IsRow cs → IsEdge P q cs i → Ahead (q ∷ p) (parts (drop i cs))
-rear_ahead P q p cs i r e = ahead_all (q ∷ p) (drop i cs) (row_drop cs i r) (ahead_level q p (drop i cs) (edge_ahead P q cs i e))
+pub rear_preceding : (P : ChildValue → Type 0) (q : List ℕ) (p : Path) (cs : List ChildValue) (i : ℕ) → IsRow cs → IsEdge P q cs i → Precedes (q ∷ p) (parts (drop i cs))
+rear_preceding P q p cs i r e = preceding_all (q ∷ p) (drop i cs) (row_drop cs i r) (preceding_level q p (drop i cs) (edge_preceding P q cs i e))
 
 pub takes_reached : (b : Bool) (own q : List ℕ) (p : Path) → TakesAs b own q → path_cmp (q ∷ p) (own ∷ []) ≢ Less
 takes_reached true own q p t = level_not q own p t
@@ -192,11 +192,11 @@ gap_behind q p (c ∷ cs) (suc i) r e =
 
 -- ---- a look among what stands before, what may be the spot, and what stands behind
 
-there_none : (p : Path) (r : Spots) → Ahead p r → is_there p r ≡ false
+there_none : (p : Path) (r : Spots) → Precedes p r → is_there p r ≡ false
 there_none p [] a = refl
 there_none p (s ∷ r) a = rw a.0 (there_none p r a.1)
 
-there_front : (p : Path) (w r : Spots) → Ahead p r → is_there p (w ++ r) ≡ is_there p w
+there_front : (p : Path) (w r : Spots) → Precedes p r → is_there p (w ++ r) ≡ is_there p w
 there_front p [] r a = there_none p r a
 there_front p (s ∷ w) r a = at (path_cmp p s.0) refl (there_front p w r a)
   where
@@ -209,7 +209,7 @@ there_rear : (p : Path) (l w : Spots) → IsBehind p l → is_there p (l ++ w) �
 there_rear p [] w b = refl
 there_rear p (s ∷ l) w b = rw b.0 (there_rear p l w b.1)
 
-pub there_mid : (p : Path) (l w r : Spots) → IsBehind p l → Ahead p r → is_there p (l ++ (w ++ r)) ≡ is_there p w
+pub there_mid : (p : Path) (l w r : Spots) → IsBehind p l → Precedes p r → is_there p (l ++ (w ++ r)) ≡ is_there p w
 there_mid p l w r b a = there_rear p l (w ++ r) b ∙ there_front p w r a
 
 -- ---- the parts around an index
@@ -252,14 +252,14 @@ module _ (retained : Option Found) (cs : List ChildValue) (r : IsRow cs) (q : Li
   pub in_front : (i : ℕ) → IsIn q cs i → IsBehind (q ∷ p) (own retained ++ parts (take i cs))
   in_front i e = behind_both (q ∷ p) (own retained) (parts (take i cs)) (own_behind q p retained) (front_behind (q ∷ p) cs i r (in_reached q p cs i e))
 
-  pub in_rear : (i : ℕ) → IsIn q cs i → Ahead (q ∷ p) (parts (drop (suc i) cs))
-  in_rear i e = rear_ahead (Takes q) q p cs (suc i) r e
+  pub in_rear : (i : ℕ) → IsIn q cs i → Precedes (q ∷ p) (parts (drop (suc i) cs))
+  in_rear i e = rear_preceding (Takes q) q p cs (suc i) r e
 
   pub gap_front : (i : ℕ) → IsGap q cs i → IsBehind (q ∷ p) (own retained ++ parts (take i cs))
   gap_front i e = behind_both (q ∷ p) (own retained) (parts (take i cs)) (own_behind q p retained) (gap_behind q p cs i r e)
 
-  pub gap_rear : (i : ℕ) → IsGap q cs i → Ahead (q ∷ p) (parts (drop i cs))
-  gap_rear i e = rear_ahead (Passes q) q p cs i r e
+  pub gap_rear : (i : ℕ) → IsGap q cs i → Precedes (q ∷ p) (parts (drop i cs))
+  gap_rear i e = rear_preceding (Passes q) q p cs i r e
 
   pub there_in : (i : ℕ) (d : ChildValue) → i < length cs → IsIn q cs i → is_there (q ∷ p) (own retained ++ parts cs) ≡ is_there (q ∷ p) (get_or cs i d).spots
   there_in i d small e = rw (split_at retained cs i d small) (there_mid (q ∷ p) (own retained ++ parts (take i cs)) (get_or cs i d).spots (parts (drop (suc i) cs)) (in_front i e) (in_rear i e))
@@ -275,7 +275,7 @@ module _ (retained : Option Found) (cs : List ChildValue) (r : IsRow cs) (q : Li
 
 -- at the spot itself is only its own message
 pub there_own : (retained : Option Found) (cs : List ChildValue) → IsRow cs → is_there [] (own retained ++ parts cs) ≡ is_some retained
-there_own retained cs r = there_front [] (own retained) (parts cs) (ahead_all [] cs r (first cs)) ∙ alone retained
+there_own retained cs r = there_front [] (own retained) (parts cs) (preceding_all [] cs r (first cs)) ∙ alone retained
   where
     first : (cs : List ChildValue) → BeforeAll [] cs
     first [] = tt
@@ -294,7 +294,7 @@ IsLow q (c ∷ cs) (suc zero) = IsNotBefore q c
 IsLow q (c ∷ cs) (suc (suc i)) = IsLow q cs (suc i)
 
 abbrev pub IsHigh : List ℕ → List ChildValue → ℕ → Type 0
-IsHigh q cs zero = IsAhead q cs
+IsHigh q cs zero = IsPreceding q cs
 IsHigh q [] (suc i) = Unit {0}
 IsHigh q (c ∷ cs) (suc i) = IsHigh q cs i
 
@@ -362,12 +362,12 @@ module _ (q : List ℕ) (cs : List ChildValue) (i j : ℕ) (c : ChildValue) (e :
   index_not = let P : ChildValue → Type 0 = λ w. IsNotBefore q w in subst P (sym is) (edge_at (IsNotBefore q) q cs j c edge_suc)
 
   pub index_in : Takes q c → IsIn q cs j
-  index_in t = edge_turned (IsNotBefore q) (Takes q) q cs j c (let P : ChildValue → Type 0 = λ w. Takes q w in subst P is t) edge_suc
+  index_in t = edge_moved (IsNotBefore q) (Takes q) q cs j c (let P : ChildValue → Type 0 = λ w. Takes q w in subst P is t) edge_suc
 
   pub index_gap : Passes q c → IsGap q cs i
   index_gap p =
-      let turned : IsGap q cs (suc j) = edge_turned (IsNotBefore q) (Passes q) q cs j c (let P : ChildValue → Type 0 = λ w. Passes q w in subst P is p) edge_suc in
-      let P : ℕ → Type 0 = λ m. IsGap q cs m in subst P (sym (e ∙ add-one j)) turned
+      let moved : IsGap q cs (suc j) = edge_moved (IsNotBefore q) (Passes q) q cs j c (let P : ChildValue → Type 0 = λ w. Passes q w in subst P is p) edge_suc in
+      let P : ℕ → Type 0 = λ m. IsGap q cs m in subst P (sym (e ∙ add-one j)) moved
 
 pub gap_first : (q : List ℕ) (cs : List ChildValue) (i : ℕ) → i ≡ 0 → IsEdge (IsNotBefore q) q cs i → IsGap q cs 0
 gap_first q cs i e edge = let P : ℕ → Type 0 = λ m. IsEdge (IsNotBefore q) q cs m in subst P e edge

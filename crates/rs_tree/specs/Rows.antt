@@ -39,15 +39,15 @@ IsRow (c ∷ cs) = IsFull c.spots × IsFrom c.level c.spots × IsBefore c.spots 
 -- ---- where a level belongs
 
 -- the level is before that of the first child
-abbrev pub IsAhead : List ℕ → List ChildValue → Type 0
-IsAhead level [] = Unit {0}
-IsAhead level (c ∷ cs) = slice_cmp nat_cmp level c.level ≡ Less
+abbrev pub IsPreceding : List ℕ → List ChildValue → Type 0
+IsPreceding level [] = Unit {0}
+IsPreceding level (c ∷ cs) = slice_cmp nat_cmp level c.level ≡ Less
 
 -- the level is before that of the child at the index, and the child before that passes
 abbrev pub IsEdge : (ChildValue → Type 0) → List ℕ → List ChildValue → ℕ → Type 0
-IsEdge P level cs zero = IsAhead level cs
+IsEdge P level cs zero = IsPreceding level cs
 IsEdge P level [] (suc i) = ⊥
-IsEdge P level (c ∷ cs) (suc zero) = P c × IsAhead level cs
+IsEdge P level (c ∷ cs) (suc zero) = P c × IsPreceding level cs
 IsEdge P level (c ∷ cs) (suc (suc i)) = IsEdge P level cs (suc i)
 
 abbrev pub IsNotBefore : List ℕ → ChildValue → Type 0

@@ -75,10 +75,10 @@ all_published history limit copies copies' list calm held e writing is goes none
     let one : length (steps_of copies) ≤ 1 = rw next.1 (omega arith) in
     let follows : (s : CopyStep) → steps_of copies ≡ s ∷ [] → Follows x s = λ s at. let same : next.0 ≡ s = cc (next.1, at) in subst (Follows x) same next.3 in
     let g = goes_on x y (steps_of copies) one follows goes w.sound in
-    let turn = goes ∙ ap (λ ss. fold applied (state x) ss) next.1 in
-    let last : y.prefix ≡ next.0.after = ap (λ p. p.1) turn in
+    let step = goes ∙ ap (λ ss. fold applied (state x) ss) next.1 in
+    let last : y.prefix ≡ next.0.after = ap (λ p. p.1) step in
     let log : y.prefix.log ≡ list = ap (λ z. z.log) last ∙ (next.3.3 ∙ (ap (λ z. extended x.prefix.log z) next.2 ∙ sym w.list_is)) in
-    let content : content_of y.catalogue ≡ followed (content_of x.catalogue) e = ap (λ p. p.0) turn ∙ ap (λ z. followed (content_of x.catalogue) z) next.2 in
+    let content : content_of y.catalogue ≡ followed (content_of x.catalogue) e = ap (λ p. p.0) step ∙ ap (λ z. followed (content_of x.catalogue) z) next.2 in
     record {
       history_is = g.1.0 ∙ w.history_is;
       limit_is = g.1.1 ∙ w.limit_is;

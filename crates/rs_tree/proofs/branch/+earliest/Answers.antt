@@ -5,7 +5,7 @@ use Rattle.rs_tree.specs.Spots.{own}
 use Rattle.rs_tree.proofs.Ends.{earliest_both, earliest_chain}
 use Rattle.rs_tree.specs.Rows.{depth, parts}
 use Rattle.rs_tree.specs.Values.{BranchValue}
-use Rattle.rs_tree.proofs.Expiring.{earliest_turn, none_left}
+use Rattle.rs_tree.proofs.Expiring.{earliest_step, none_left}
 use Rattle.rs_tree.proofs.Rows.{deep_child}
 use Rattle.rs_tree.proofs.branch.+earliest.Goals as goal
 
@@ -14,7 +14,7 @@ earliest::lowered_by_each-loop-child-init t c = refl
 
 pub earliest::lowered_by_each-loop-child-preserved : goal.earliest::lowered_by_each-loop-child-preserved
 earliest::lowered_by_each-loop-child-preserved t c =
-    earliest_turn c.args.children.now c.loop-child.child-index c.child-item.result (omega arith) c.child-item.is c.loop-child.least c.earliest-least.result _ c.earliest-least.ensures c.loop-child.invariant
+    earliest_step c.args.children.now c.loop-child.child-index c.child-item.result (omega arith) c.child-item.is c.loop-child.least c.earliest-least.result _ c.earliest-least.ensures c.loop-child.invariant
 
 pub earliest::lowered_by_each-earliest-least-requires : goal.earliest::lowered_by_each-earliest-least-requires
 earliest::lowered_by_each-earliest-least-requires t c =

@@ -6,7 +6,7 @@ use Rattle.rs_tree.specs.Sweeping.{is_expired_spot}
 use Rattle.rs_tree.proofs.Ends.{gone_both, gone_chain, gone_few, many_chain}
 use Rattle.rs_tree.specs.Rows.{depth, parts}
 use Rattle.rs_tree.specs.Values.{BranchValue, ChildValue}
-use Rattle.rs_tree.proofs.Expiring.{gone_turn, many_turn, none_left}
+use Rattle.rs_tree.proofs.Expiring.{gone_step, many_step, none_left}
 use Rattle.rs_tree.proofs.Under.{Spots}
 use Rattle.rs_tree.proofs.Rows.{deep_child}
 use Rattle.rs_tree.proofs.branch.+expired.Goals as goal
@@ -17,8 +17,8 @@ expired::count_each-loop-child-init t c = λ small. (refl, small)
 pub expired::count_each-loop-child-preserved : goal.expired::count_each-loop-child-preserved
 expired::count_each-loop-child-preserved t c = λ small.
     let before = c.loop-child.invariant small in
-    let many = many_turn c.args.children.now c.loop-child.child-index c.child-item.result (omega arith) c.child-item.is in
-    let gone = gone_turn c.args.children.now c.loop-child.child-index c.child-item.result (omega arith) c.child-item.is c.args.now in
+    let many = many_step c.args.children.now c.loop-child.child-index c.child-item.result (omega arith) c.child-item.is in
+    let gone = gone_step c.args.children.now c.loop-child.child-index c.child-item.result (omega arith) c.child-item.is c.args.now in
     let counted = c.expired.ensures (omega (arith, before.1, many)) in
     (omega (arith, counted, before.0, gone), omega (arith, counted, before.1, many, gone_few c.args.now c.child-item.result.spots))
 

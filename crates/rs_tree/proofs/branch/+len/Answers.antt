@@ -4,7 +4,7 @@ use Rattle.rs_tree.specs.Spots.{own}
 use Rattle.rs_tree.proofs.Ends.{many_chain}
 use Rattle.rs_tree.specs.Rows.{depth, parts}
 use Rattle.rs_tree.specs.Values.{BranchValue, ChildValue}
-use Rattle.rs_tree.proofs.Expiring.{many_turn, none_left}
+use Rattle.rs_tree.proofs.Expiring.{many_step, none_left}
 use Rattle.rs_tree.proofs.Under.{Spots}
 use Rattle.rs_tree.proofs.Rows.{deep_child}
 use Rattle.rs_tree.proofs.branch.+len.Goals as goal
@@ -15,7 +15,7 @@ len::len_of_each-loop-child-init t c = λ small. omega arith
 pub len::len_of_each-loop-child-preserved : goal.len::len_of_each-loop-child-preserved
 len::len_of_each-loop-child-preserved t c = λ small.
     let before = c.loop-child.invariant small in
-    let many = many_turn c.args.children.now c.loop-child.child-index c.child-item.result (omega arith) c.child-item.is in
+    let many = many_step c.args.children.now c.loop-child.child-index c.child-item.result (omega arith) c.child-item.is in
     let counted = c.len.ensures (omega (arith, small, before, many)) in
     omega (arith, small, before, many, counted)
 
