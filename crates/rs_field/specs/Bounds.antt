@@ -1,4 +1,4 @@
--- What the types of properties keep, and what is known of properties that were read.
+-- What the types of properties hold, and what properties that were read have in common.
 use Rattle.std.specs.Prelude.{ℕ, ◌<◌, ◌^◌, Option, IfSome}
 use Rattle.std.specs.List.{All}
 use Rattle.rs_field.specs.Values.{PropertiesValue, PacketProperties}

@@ -152,7 +152,7 @@ no_byte = record {
   sized = λ more p m le e. absurd (omega (arith, le));
 }
 
--- a fault, of which all bytes that are held are kept
+-- a fault: all bytes that were given stay
 pub faulty : (bytes : List ℕ) (f : PacketFault) → answer bytes ≡ Err f → IsNeededLen bytes (length bytes)
 faulty bytes f e = record {
   short = λ lt. absurd (omega (arith, lt));
@@ -315,7 +315,7 @@ by_header (first ∷ bytes) fits = by (kind_of first) refl
     by (Err f) e = faulty_kind first bytes f e
     by (Ok k) e = in_header first bytes k (digits_at 4 bytes) (IsBytes-rest first bytes fits) e refl
 
--- the answer, once the header is known
+-- the answer, once the header is read
 abbrev pub by_size : List ℕ → Option Header → Result Decoded PacketFault
 by_size bytes None = Ok More
 by_size bytes (Some h) = packet_in bytes h
@@ -334,16 +334,16 @@ sized_in first bytes k (Ok n) is = by (ltb MAX_PACKET_SIZE (suc (length bytes) -
     body : slice_range (first ∷ bytes) (suc (length bytes) - length n.1) (suc (length bytes) - length n.1 + n.0) ≡ take n.0 n.1
     body = cut (first ∷ bytes) n.1 n.0 (IsEnd-next first bytes n.1 end)
 
-    held : (s t : Bool) → ltb (suc (length bytes)) (suc (length bytes) - length n.1 + n.0) ≡ s → ltb (length n.1) n.0 ≡ t → s ≡ t
-    held true true a b = refl
-    held false false a b = refl
-    held true false a b = absurd (let x = ltb-true _ _ a in let y = ltb-false _ _ b in omega (arith, x, y, end.short))
-    held false true a b = absurd (let x = ltb-false _ _ a in let y = ltb-true _ _ b in omega (arith, x, y, end.short))
+    same_test : (s t : Bool) → ltb (suc (length bytes)) (suc (length bytes) - length n.1 + n.0) ≡ s → ltb (length n.1) n.0 ≡ t → s ≡ t
+    same_test true true a b = refl
+    same_test false false a b = refl
+    same_test true false a b = absurd (let x = ltb-true _ _ a in let y = ltb-false _ _ b in omega (arith, x, y, end.short))
+    same_test false true a b = absurd (let x = ltb-false _ _ a in let y = ltb-true _ _ b in omega (arith, x, y, end.short))
 
     by : (t : Bool) → (cond t (Err TooLarge) (Ok (Some h)) >>= by_size (first ∷ bytes))
         ≡ cond t (Err TooLarge) (cond (ltb (length n.1) n.0) (Ok More) (packet_at k (take n.0 n.1) >>= λ p. Ok (Whole p (suc (length bytes) - length n.1 + n.0))))
     by true = refl
-    by false = rw (body, held _ _ refl refl) refl
+    by false = rw (body, same_test _ _ refl refl) refl
 
 -- the answer is that of the header, and then of the packet
 pub answer_by_header : (bytes : List ℕ) → (header_at bytes >>= by_size bytes) ≡ answer bytes
@@ -385,17 +385,17 @@ header_body (first ∷ bytes) h e = by (kind_of first) e
     by (Ok k) e = let b = body_of bytes k (digits_at 4 bytes) h e in record { start_fits = b.start_fits; body_fits = b.body_fits }
 
 -- the same, of the bytes as they were read
-known : (held bytes : List ℕ) (r : Result (Option Header) PacketFault) → held ≡ bytes → r ≡ header_at held → (r >>= by_size bytes) ≡ answer bytes
-known held bytes r same e = ap (λ (x : Result (Option Header) PacketFault). x >>= by_size bytes) (e ∙ ap header_at same) ∙ answer_by_header bytes
+from_given : (given bytes : List ℕ) (r : Result (Option Header) PacketFault) → given ≡ bytes → r ≡ header_at given → (r >>= by_size bytes) ≡ answer bytes
+from_given given bytes r same e = ap (λ (x : Result (Option Header) PacketFault). x >>= by_size bytes) (e ∙ ap header_at same) ∙ answer_by_header bytes
 
-pub body_known : (held bytes : List ℕ) (h : Header) → held ≡ bytes → Ok (Some h) ≡ header_at held → HasBody bytes h
-body_known held bytes h same e = header_body bytes h (sym (e ∙ ap header_at same))
+pub body_from_given : (given bytes : List ℕ) (h : Header) → given ≡ bytes → Ok (Some h) ≡ header_at given → HasBody bytes h
+body_from_given given bytes h same e = header_body bytes h (sym (e ∙ ap header_at same))
 
-pub packet_answer : (held bytes : List ℕ) (h : Header) (r : Result Decoded PacketFault) → held ≡ bytes → Ok (Some h) ≡ header_at held → Gives (λ d. d) r (packet_in bytes h) → Gives (λ d. d) r (answer bytes)
-packet_answer held bytes h r same e g = subst (λ (x : Result Decoded PacketFault). Gives (λ (d : Decoded). d) r x) (known held bytes (Ok (Some h)) same e) g
+pub packet_answer : (given bytes : List ℕ) (h : Header) (r : Result Decoded PacketFault) → given ≡ bytes → Ok (Some h) ≡ header_at given → Gives (λ d. d) r (packet_in bytes h) → Gives (λ d. d) r (answer bytes)
+packet_answer given bytes h r same e g = subst (λ (x : Result Decoded PacketFault). Gives (λ (d : Decoded). d) r x) (from_given given bytes (Ok (Some h)) same e) g
 
-pub more_answer : (held bytes : List ℕ) → held ≡ bytes → Ok None ≡ header_at held → answer bytes ≡ Ok More
-more_answer held bytes same e = sym (known held bytes (Ok None) same e)
+pub more_answer : (given bytes : List ℕ) → given ≡ bytes → Ok None ≡ header_at given → answer bytes ≡ Ok More
+more_answer given bytes same e = sym (from_given given bytes (Ok None) same e)
 
 err_fails : (f : PacketFault) (r : Result Decoded PacketFault) → r ≡ Err f → Fails f r
 err_fails NoMemory r e = tt
@@ -404,8 +404,8 @@ err_fails Protocol r e = e
 err_fails TooLarge r e = e
 err_fails Version r e = e
 
-pub fault_answer : (held bytes : List ℕ) (f : PacketFault) → held ≡ bytes → Err f ≡ header_at held → Fails f (answer bytes)
-fault_answer held bytes f same e = err_fails f (answer bytes) (sym (known held bytes (Err f) same e))
+pub fault_answer : (given bytes : List ℕ) (f : PacketFault) → given ≡ bytes → Err f ≡ header_at given → Fails f (answer bytes)
+fault_answer given bytes f same e = err_fails f (answer bytes) (sym (from_given given bytes (Err f) same e))
 
 pub needed_is : (bytes : List ℕ) (r : Result (Option Header) PacketFault) → IsBytes bytes → r ≡ header_at bytes → IsNeededLen bytes (needed bytes r)
 needed_is bytes r fits e = subst (λ (x : Result (Option Header) PacketFault). IsNeededLen bytes (needed bytes x)) (sym e) (by_header bytes fits)

@@ -21,7 +21,7 @@ pub(crate) fn is_hash(level: &[u8]) -> bool
     level == b"#".as_slice()
 }
 
-/// The level is a `#` in the last place, so it fits any rest of a topic (4.7.1.2). The next level of the text would begin at `next`.
+/// The level is a `#` and the last one, so it fits any rest of a topic (4.7.1.2). The next level of the text would begin at `next`.
 #[tactic(auto, using(crate::proofs::Rests::all_below))]
 pub fn is_all_below(level: &[u8], text: &[u8], next: usize) -> bool
     ensures { result ≡ fits (level.now ∷ levels_from next text.now) [] }
