@@ -8,7 +8,7 @@ use Rattle.rs_message.specs.declared.entry.Operation.{Operation}
 use Rattle.rs_store.specs.History.{last_serial}
 use Rattle.rs_store.proofs.Histories.{last_serial_more}
 use Rattle.rs_intake.specs.Changes.{AreChanges, AreOf, ArePlain}
-use Rattle.rs_intake.specs.Lines.{AreNext, IsAheadAfter, IsOther, IsSeatLine, job, numbered}
+use Rattle.rs_intake.specs.Lines.{AreNext, IsAheadAfter, IsOther, IsSeatLine, entry_at, numbered}
 use Rattle.rs_intake.specs.Parts.{before}
 use Rattle.rs_intake.specs.QueueRule.{AreAbove}
 use Rattle.rs_intake.specs.declared.job.TheConstants.{MAX_CHANGES}
@@ -85,13 +85,13 @@ numbered_above : (place serial : ℕ) (os : List Operation) (entries : List Entr
 numbered_above place serial [] entries low = tt
 numbered_above place serial (o ∷ os) entries low = (
   omega (arith, low),
-  numbered_above place (serial + 1) os (entries ++ job place (serial + 1) o ∷ []) (last_below place (serial + 1) entries (job place (serial + 1) o) (omega (arith, low)) (omega arith)),
+  numbered_above place (serial + 1) os (entries ++ entry_at place (serial + 1) o ∷ []) (last_below place (serial + 1) entries (entry_at place (serial + 1) o) (omega (arith, low)) (omega arith)),
 )
 
 numbered_last : (place serial : ℕ) (os : List Operation) (entries : List Entry) → last_serial place entries ≤ serial → last_serial place (entries ++ numbered place serial os) ≤ serial + length os
 numbered_last place serial [] entries low = let P : List Entry → Type 0 = λ l. last_serial place l ≤ serial + 0 in subst P (sym (append-nil entries)) (omega (arith, low))
 numbered_last place serial (o ∷ os) entries low =
-    let e = job place (serial + 1) o in
+    let e = entry_at place (serial + 1) o in
     let rest = numbered_last place (serial + 1) os (entries ++ e ∷ []) (last_below place (serial + 1) entries e (omega (arith, low)) (omega arith)) in
     let P : List Entry → Type 0 = λ l. last_serial place l ≤ serial + suc (length os) in
     subst P (append_assoc entries (e ∷ []) (numbered place (serial + 1) os)) (omega (arith, rest))
@@ -200,7 +200,7 @@ sent_behind : (place serial : ℕ) (expected : List Operation) (after : List Ent
     → (os : List Operation) × (expected ≡ operation ∷ os) × (after ≡ numbered place (serial + 1) os)
 sent_behind place serial [] after entry operation is sent = absurd (cc (sent))
 sent_behind place serial (o ∷ os) after entry operation is sent =
-    let head : job place (serial + 1) o ≡ entry = cc (sent) in
+    let head : entry_at place (serial + 1) o ≡ entry = cc (sent) in
     let tail : numbered place (serial + 1) os ≡ after = cc (sent) in
     (os, ap (λ (x : Operation). x ∷ os) (ap (λ (e : Entry). e.operation) head ∙ is), sym tail)
 

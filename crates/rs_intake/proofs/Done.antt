@@ -14,7 +14,7 @@ use Rattle.rs_intake.specs.Done.{Answer, AreAnswered, AreDone, AreRefusedBehind,
 use Rattle.rs_intake.specs.Parts.{IsPart}
 use Rattle.rs_intake.specs.Sweeps.{AreForEntries, IsSweptAtMost, Serves, without_sweeps}
 use Rattle.rs_intake.proofs.Parts.{part_front, part_rises}
-use Rattle.rs_intake.proofs.Sweeps.{job_rises, adds_kept, held_kept, no_memory_kept, serves_job, serves_refused, serves_start, released_kept, without_cleaned, without_more}
+use Rattle.rs_intake.proofs.Sweeps.{entry_rises, adds_kept, held_kept, no_memory_kept, serves_entry, serves_refused, serves_start, released_kept, without_cleaned, without_more}
 
 -- ---- a put
 
@@ -153,7 +153,7 @@ one_served : (limit : ℕ) (entries kept : List Entry) (entry : Entry) (answer :
 one_served limit entries kept entry answer kept' s plain is = go (is_refused answer) refl
   where
     go : (b : Bool) → is_refused answer ≡ b → AreServed limit (entries ++ entry ∷ []) (length (cond b (answer ∷ []) [])) kept' (length (without_sweeps kept) + 1)
-    go false stays = let o = serves_job limit entries kept kept' entry s plain (adds_if_done limit kept entry answer kept' is stays) in (o.0, (let n = o.1 in omega (arith, n)))
+    go false stays = let o = serves_entry limit entries kept kept' entry s plain (adds_if_done limit kept entry answer kept' is stays) in (o.0, (let n = o.1 in omega (arith, n)))
     go true goes = let o = serves_refused limit entries kept kept' entry s (swept_if_done limit kept entry answer kept' is goes) in (o.0, (let n = o.1 in omega (arith, n)))
 
 refused_more : (answer : Answer) (answers : List Answer) → refused_in (answer ∷ answers) ≡ refused_in (answer ∷ []) + refused_in answers
@@ -308,7 +308,7 @@ left_rises limit kept rest left entry first serial l =
     let f = left_first limit kept rest left entry first l in
     let P : List Entry → Type 0 = λ r. SerialsRise r in
     let all : SerialsRise ((f.entries ++ entry ∷ []) ++ left) = subst P (sym (append_assoc f.entries (entry ∷ []) left)) f.rise in
-    job_rises limit f.entries kept entry f.serves f.above.0 serial (part_rises (f.entries ++ entry ∷ []) ((f.entries ++ entry ∷ []) ++ left) (part_front (f.entries ++ entry ∷ []) left) all)
+    entry_rises limit f.entries kept entry f.serves f.above.0 serial (part_rises (f.entries ++ entry ∷ []) ((f.entries ++ entry ∷ []) ++ left) (part_front (f.entries ++ entry ∷ []) left) all)
 
 pub left_less : (limit : ℕ) (kept rest left : List Entry) (entry : Entry) (answer : Answer) (kept' : List Entry) → rest ≡ entry ∷ left → IsDone limit kept entry answer kept' → AreLeft limit kept rest → AreLeft limit kept' left
 left_less limit kept rest left entry answer kept' first is l =

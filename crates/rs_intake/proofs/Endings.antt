@@ -47,10 +47,10 @@ all_ended places ends are count =
     let all : length ends ≡ sum_to places f = ends_by_places places ends (λ place out. (are place).1 out) in
     each_one places f (λ p. (are p).0) (sym all ∙ count)
 
-pub cause_same : (places most : ℕ) (jobs jobs' : Received) (cause cause' : Cause) → jobs' ≡ jobs → cause' ≡ cause → IsCause places most jobs cause → IsCause places most jobs' cause'
-cause_same places most jobs jobs' cause cause' same alike is =
+pub cause_same : (places most : ℕ) (received received' : Received) (cause cause' : Cause) → received' ≡ received → cause' ≡ cause → IsCause places most received cause → IsCause places most received' cause'
+cause_same places most received received' cause cause' same alike is =
     let P : Received → Type 0 = λ j. IsCause places most j cause' in
-    let Q : Cause → Type 0 = λ k. IsCause places most jobs k in
+    let Q : Cause → Type 0 = λ k. IsCause places most received k in
     subst P (sym same) (subst Q (sym alike) is)
 
 -- the place of changes that are of places which have a line

@@ -88,7 +88,7 @@ puts_with : (n pass : ℕ) (v : PassView) (x : Job) → v.sends ≡ true → v.t
     → ((place : ℕ) → place ≢ v.from → of_place place (entries_in x) ≡ [])
     → ((entries : List Entry) → of_place v.from entries ≡ v.entries → SerialsRise entries → SerialsRise (entries ++ entries_in x))
     → Pushes Delivers n pass v x (Sends v x)
-puts_with n pass v x sends takes own others rising items views room h at =
+puts_with n pass v x sends takes own others rising items views capacity h at =
     let es = entries_in x in
     let writer = h.0 in
     let line = h.1 in
@@ -464,9 +464,9 @@ closes_more pass v x items views sends takes from fresh at others c =
     )
 
 pub puts : (n pass : ℕ) (v : PassView) (x : Job) → v.sends ≡ true → v.takes ≡ false → IsOf v.from x → IsAbove v.entries x → v.ends ≡ [] → Pushes Keeps n pass v x (Sends v x)
-puts n pass v x sends takes from above fresh items views room h at =
+puts n pass v x sends takes from above fresh items views capacity h at =
     let dl = h.0 in
-    let d = puts_delivers n pass v x sends takes from above items views room dl at in
+    let d = puts_delivers n pass v x sends takes from above items views capacity dl at in
     let D : PassView → Type 0 = λ w. Delivers (items ++ x ∷ []) (set views pass w) in
     let mine = (dl.5 pass v at).0 sends in (
       job_more v x,

@@ -177,9 +177,9 @@ settled places taken items ends b once count =
 
 -- what was taken of each place is a prefix of what its line sent
 pub in_order : (places : ℕ) (taken : List Entry) (ends : List Closed) → (0 < length ends → (items : List Job) × BalancesWith places taken items ends) → AreTakenInOrder taken ends
-in_order places taken [] learned = all_none (λ (e : Closed). IsPrefix (of_place e.place taken) e.sent)
-in_order places taken (end ∷ ends) learned =
-    let (items, balanced) = learned (omega arith) in
+in_order places taken [] balance = all_none (λ (e : Closed). IsPrefix (of_place e.place taken) e.sent)
+in_order places taken (end ∷ ends) balance =
+    let (items, balanced) = balance (omega arith) in
     let rest = entries_of items in
     let P : Closed → Type 0 = λ e. e.sent ≡ of_place e.place (taken ++ rest) in
     let Q : Closed → Type 0 = λ e. IsPrefix (of_place e.place taken) e.sent in

@@ -58,18 +58,18 @@ among_more entries entry e there = Contains-append_left entries (entry ∷ []) e
 sweeps_more : (limit : ℕ) (entries kept : List Entry) (entry : Entry) → AreForEntries limit entries kept → AreForEntries limit (entries ++ entry ∷ []) kept
 sweeps_more limit entries kept entry a = record { needed = needed_weaker limit (Contains entries) (Contains (entries ++ entry ∷ [])) kept (among_more entries entry) a.needed }
 
-sweeps_with_job : (limit : ℕ) (entries kept : List Entry) (entry : Entry) → is_sweep entry.operation ≡ false → AreForEntries limit entries kept → AreForEntries limit entries (extended kept entry)
-sweeps_with_job limit entries kept entry plain a = record { needed = needed_more limit (Contains entries) kept entry plain a.needed }
+sweeps_with_entry : (limit : ℕ) (entries kept : List Entry) (entry : Entry) → is_sweep entry.operation ≡ false → AreForEntries limit entries kept → AreForEntries limit entries (extended kept entry)
+sweeps_with_entry limit entries kept entry plain a = record { needed = needed_more limit (Contains entries) kept entry plain a.needed }
 
-last_job : (entries : List Entry) (entry : Entry) → Contains (entries ++ entry ∷ []) entry
-last_job entries entry = Contains-append_right entries (entry ∷ []) entry (0, omega arith, refl)
+last_entry : (entries : List Entry) (entry : Entry) → Contains (entries ++ entry ∷ []) entry
+last_entry entries entry = Contains-append_right entries (entry ∷ []) entry (0, omega arith, refl)
 
 sweeps_cleaned : (limit : ℕ) (entries kept : List Entry) (entry : Entry) → AreForEntries limit entries kept → (s : NeedsSweepAfter limit kept entry) → AreForEntries limit (entries ++ entry ∷ []) (cleaned s.message.received kept)
-sweeps_cleaned limit entries kept entry a s = record { needed = needed_cleaned limit (Contains (entries ++ entry ∷ [])) kept entry (last_job entries entry) s (sweeps_more limit entries kept entry a).needed }
+sweeps_cleaned limit entries kept entry a s = record { needed = needed_cleaned limit (Contains (entries ++ entry ∷ [])) kept entry (last_entry entries entry) s (sweeps_more limit entries kept entry a).needed }
 
 -- an entry whose serial rises among the entries rises among what is kept
-pub job_rises : (limit : ℕ) (entries kept : List Entry) (entry : Entry) → Serves limit entries kept → 0 < entry.origin.place → 0 < entry.origin.serial → SerialsRise (entries ++ entry ∷ []) → SerialsRise (extended kept entry)
-job_rises limit entries kept entry s place serial rises =
+pub entry_rises : (limit : ℕ) (entries kept : List Entry) (entry : Entry) → Serves limit entries kept → 0 < entry.origin.place → 0 < entry.origin.serial → SerialsRise (entries ++ entry ∷ []) → SerialsRise (extended kept entry)
+entry_rises limit entries kept entry s place serial rises =
     let part : SerialsRise (without_sweeps kept ++ entry ∷ []) = part_rises (without_sweeps kept ++ entry ∷ []) (entries ++ entry ∷ []) (part_both (without_sweeps kept) entries entry s.part) rises in
     let above : last_serial entry.origin.place (without_sweeps kept) < entry.origin.serial = last_is_above (without_sweeps kept) entry serial part in
     let zeros = all_needed limit (Contains entries) (λ e. e.origin.place ≡ 0) (λ history moment. refl) [] kept s.sweeps.needed in
@@ -92,20 +92,20 @@ part_same entries entries' kept kept' same alike is =
 abbrev pub OneMore : ℕ → List Entry → List Entry → List Entry → Type 0
 OneMore limit entries kept kept' = Serves limit entries kept' × (length (without_sweeps kept') ≡ length (without_sweeps kept) + 1)
 
-pub serves_job : (limit : ℕ) (entries kept kept' : List Entry) (entry : Entry) → Serves limit entries kept → is_sweep entry.operation ≡ false → Adds limit kept entry (λ list. kept' ≡ list) → OneMore limit (entries ++ entry ∷ []) kept kept'
-serves_job limit entries kept kept' entry s plain (inl a) =
+pub serves_entry : (limit : ℕ) (entries kept kept' : List Entry) (entry : Entry) → Serves limit entries kept → is_sweep entry.operation ≡ false → Adds limit kept entry (λ list. kept' ≡ list) → OneMore limit (entries ++ entry ∷ []) kept kept'
+serves_entry limit entries kept kept' entry s plain (inl a) =
     let without = without_more kept entry plain in
     let P : List Entry → Type 0 = λ l. OneMore limit (entries ++ entry ∷ []) kept l in
     let Q : List Entry → Type 0 = λ l. IsPart l (entries ++ entry ∷ []) in
     subst P (sym a.1) (
       record {
         part = subst Q (sym without) (part_both (without_sweeps kept) entries entry s.part);
-        sweeps = sweeps_with_job limit (entries ++ entry ∷ []) kept entry plain (sweeps_more limit entries kept entry s.sweeps);
+        sweeps = sweeps_with_entry limit (entries ++ entry ∷ []) kept entry plain (sweeps_more limit entries kept entry s.sweeps);
         rises = a.0.rises;
       },
       ap length without ∙ length-append (without_sweeps kept) (entry ∷ []),
     )
-serves_job limit entries kept kept' entry s plain (inr a) =
+serves_entry limit entries kept kept' entry s plain (inr a) =
     let clean = cleaned a.0.message.received kept in
     let without : without_sweeps (extended clean entry) ≡ without_sweeps kept ++ entry ∷ [] = without_more clean entry plain ∙ ap (λ l. l ++ entry ∷ []) (without_cleaned a.0.message.received kept) in
     let P : List Entry → Type 0 = λ l. OneMore limit (entries ++ entry ∷ []) kept l in
@@ -113,7 +113,7 @@ serves_job limit entries kept kept' entry s plain (inr a) =
     subst P (sym a.1) (
       record {
         part = subst Q (sym without) (part_both (without_sweeps kept) entries entry s.part);
-        sweeps = sweeps_with_job limit (entries ++ entry ∷ []) clean entry plain (sweeps_cleaned limit entries kept entry s.sweeps a.0);
+        sweeps = sweeps_with_entry limit (entries ++ entry ∷ []) clean entry plain (sweeps_cleaned limit entries kept entry s.sweeps a.0);
         rises = a.0.legal.rises;
       },
       ap length without ∙ length-append (without_sweeps kept) (entry ∷ []),

@@ -16,7 +16,7 @@ joined_more : (items : List (List ReplyValue)) (x : List ReplyValue) → joined 
 joined_more items x = flat_map-append (λ (l : List ReplyValue). l) items (x ∷ []) ∙ ap (λ l. joined items ++ l) (append-nil x)
 
 pub sends_reply : (n pass : ℕ) (v : WayView) (x : List ReplyValue) → v.sends ≡ true → v.receives ≡ false → Pushes Replies n pass v x (Counts v x)
-sends_reply n pass v x sends deaf items views room h at =
+sends_reply n pass v x sends deaf items views capacity h at =
     let received = h.2 in
     let mine = (h.3 pass v at).0 sends in (
       replies_more v x,

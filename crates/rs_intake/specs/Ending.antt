@@ -13,6 +13,6 @@ HaveEnded places ends = (place : ℕ) → 0 < place → place ≤ places → len
 -- Why the loop ended: one End of each place was taken; or as many entries as may be, or so many that one more job could have more
 -- than can be counted; or a receive failed, of which no more is known
 abbrev pub IsCause : ℕ → ℕ → Received → Cause → Type 0
-IsCause places most jobs AllEnded = HaveEnded places jobs.ends
-IsCause places most jobs MostTaken = (most ≤ length jobs.entries) ⊎ (2 ^ 64 ≤ length jobs.entries + MAX_CHANGES)
-IsCause places most jobs (QueueGone gone) = Unit {0}
+IsCause places most received AllEnded = HaveEnded places received.ends
+IsCause places most received MostTaken = (most ≤ length received.entries) ⊎ (2 ^ 64 ≤ length received.entries + MAX_CHANGES)
+IsCause places most received (QueueGone gone) = Unit {0}

@@ -25,8 +25,8 @@ abbrev pub next_serial : ℕ → ℕ
 next_serial serial = min (serial + 1) (2 ^ 64 - 1)
 
 -- the entry of this place and serial that does this
-abbrev pub job : ℕ → ℕ → Operation → Entry
-job place serial operation = record { origin = record { place = place; serial = serial }; operation = operation }
+abbrev pub entry_at : ℕ → ℕ → Operation → Entry
+entry_at place serial operation = record { origin = record { place = place; serial = serial }; operation = operation }
 
 -- A place, the last serial that was submitted there, what was sent from it and submitted; the replies that were taken, read or dropped,
 -- and those that came and were not taken yet; the changes that it expects; and what was sent ahead, in one job with a change that was
@@ -43,7 +43,7 @@ pub record Line : Type 0 where
 -- the entries of this place that do this one after the other, under the serials behind this one
 abbrev pub numbered : ℕ → ℕ → List Operation → List Entry
 numbered place serial [] = []
-numbered place serial (o ∷ os) = job place (serial + 1) o ∷ numbered place (serial + 1) os
+numbered place serial (o ∷ os) = entry_at place (serial + 1) o ∷ numbered place (serial + 1) os
 
 -- the entries are of this place, and their serials are those behind this one, one after the other
 abbrev pub AreNext : ℕ → ℕ → List Entry → Type 0
@@ -98,7 +98,7 @@ IsClosed place ends (Some gone) = ends ≡ []
 -- the pass is that of a line of this queue
 pub record IsLine {Q M L A : Type 0} (name : QueueName) (places : ℕ) (c : Rows (Badge (Key Job)) (Doing Job PassView) Q M (Key Job) L A) (pass : Pass Job PassView) (place sent : ℕ) : Type 0 where
   pub queue : IsQueue name c
-  pub seat : IsIn name pass
+  pub is_of_queue : IsIn name pass
   pub sends : (view pass).sends ≡ true
   pub takes : (view pass).takes ≡ false
   pub place_is : (view pass).from ≡ place
@@ -124,7 +124,7 @@ pub record Received : Type 0 where
 
 -- the pass takes from this queue, whose lines are made
 pub record IsTaker (name : QueueName) (places : ℕ) (pass : Pass Job PassView) : Type 0 where
-  pub seat : IsIn name pass
+  pub is_of_queue : IsIn name pass
   pub sends : (view pass).sends ≡ false
   pub takes : (view pass).takes ≡ true
   pub made : (view pass).made ≡ places

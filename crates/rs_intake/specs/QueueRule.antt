@@ -150,7 +150,7 @@ abbrev pub SumsUp : (ℕ → List Entry) → List SentFrom → Type 0
 SumsUp sent [] = Unit {0}
 SumsUp sent (k ∷ ks) = (k.entries ≡ sent k.place) × SumsUp sent ks
 
--- what the writer's pass learns
+-- what the rule says of the writer's pass
 abbrev pub Balances : PassView → List Job → Type 0
 Balances v items =
     ((place : ℕ) → IsOutside v.made place → of_place place (v.entries ++ entries_of items) ≡ [])

@@ -79,7 +79,7 @@ fn line<N: LineName>(
     requires place { (place ≤ N.places) × (N.places ≤ MAX_PLACES) }
     ensures line { IfOk result (λ r. r.0 ≡ record { place = place; serial = 0; sent = []; heard = []; came = []; expected = []; ahead = [] }) }
     ensures told { IfOk result (λ r. r.1 ≡ []) }
-    ensures seat { IfOk result (λ _. IsIn N.queue pass.new) }
+    ensures queue { IfOk result (λ _. IsIn N.queue pass.new) }
     ensures pass { IfOk result (λ _. ((known_by pass.new).takes ≡ true) × ((known_by pass.new).sends ≡ false) × ((known_by pass.new).known ≡ []) × ((known_by pass.new).entries ≡ (known_by pass.old).entries) × ((known_by pass.new).ends ≡ (known_by pass.old).ends) × ((known_by pass.new).made ≡ place)) }
 {
     let (to, from) = way_back(alloc)?;

@@ -5,7 +5,7 @@ ghost use Rattle.rs_message.specs.Messages.{is_sweep};
 ghost use Rattle.rs_message.specs.declared.fault.SubmitFault.TheVariants.{Closed, Strange};
 ghost use Rattle.rs_store.specs.History.{IsLegal};
 ghost use Rattle.rs_version.specs.Receipts.{StandsAt};
-ghost use Rattle.rs_intake.specs.Lines.{AddsAtMost, IsAheadAfter, IsOther, job, next_serial};
+ghost use Rattle.rs_intake.specs.Lines.{AddsAtMost, IsAheadAfter, IsOther, entry_at, next_serial};
 ghost use Rattle.rs_intake.specs.Refusals.{IsFaultOfReply, IsRefused, fault_for};
 
 use crate::line::SeatLine;
@@ -96,10 +96,10 @@ impl<N: LineName> Intake<N> {
         ensures place { line.new.place ≡ line.old.place }
         ensures serial { (line.new.serial ≡ next_serial line.old.serial) ⊎ IsOther line.old.ahead operation }
         ensures other { IsOther line.old.ahead operation → (result ≡ Err Strange) × (line.new.serial ≡ line.old.serial) × (line.new.sent ≡ line.old.sent) }
-        ensures sent { AddsAtMost line.old.sent (job line.old.place line.new.serial operation) line.new.sent }
-        ensures refused { IfErr result (λ f. IsRefused line.old line.new (job line.old.place line.new.serial operation) f) }
+        ensures sent { AddsAtMost line.old.sent (entry_at line.old.place line.new.serial operation) line.new.sent }
+        ensures refused { IfErr result (λ f. IsRefused line.old line.new (entry_at line.old.place line.new.serial operation) f) }
         ensures closed { IfErr result (λ f. f ≡ Closed → line.new.sent ≡ line.old.sent) }
-        ensures entry { IfOk result (λ r. r.entry ≡ job line.old.place line.new.serial operation) }
+        ensures entry { IfOk result (λ r. r.entry ≡ entry_at line.old.place line.new.serial operation) }
         ensures above { IfOk result (λ r. line.new.serial ≡ line.old.serial + 1) }
         ensures last { IfOk result (λ r. line.new.sent ≡ line.old.sent ++ r.entry ∷ []) }
         ensures heard { IfOk result (λ r. line.new.heard ≡ line.old.heard ++ record { origin = r.entry.origin; answer = Ok r } ∷ []) }

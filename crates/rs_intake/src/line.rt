@@ -12,7 +12,7 @@ ghost use Rattle.rs_message.specs.declared.fault.SubmitFault.TheVariants.{Strang
 ghost use Rattle.rs_store.specs.History.{last_serial};
 ghost use Rattle.rs_intake.specs.Changes.{AreOf};
 ghost use Rattle.rs_intake.specs.Names.{IsQueue, IsIn};
-ghost use Rattle.rs_intake.specs.Lines.{AreNext, IsAheadAfter, IsClosed, IsOther, announced, job, next_serial, numbered};
+ghost use Rattle.rs_intake.specs.Lines.{AreNext, IsAheadAfter, IsClosed, IsOther, announced, entry_at, next_serial, numbered};
 ghost use Rattle.rs_intake.specs.QueueRule.{AreAbove};
 ghost use Rattle.rs_intake.specs.Refusals.{IsUnsent};
 ghost use Rattle.rs_intake.specs.declared.job.TheConstants.{MAX_CHANGES};
@@ -83,7 +83,7 @@ impl<N: LineName> OpenLine<N> {
     fn send_changes<R: Wait>(&mut self, rt: &R, changes: Changes) -> bool
         requires place { AreOf self.old.place changes }
         requires above { AreAbove self.old.sent changes }
-        requires room { length self.old.sent + length changes < 2 ^ 64 }
+        requires fits { length self.old.sent + length changes < 2 ^ 64 }
         ensures place { self.new.place ≡ self.old.place }
         ensures sent { MatchBool result (self.new.sent ≡ self.old.sent ++ changes) (self.new.sent ≡ self.old.sent) }
     {
@@ -435,7 +435,7 @@ impl<N: LineName> SeatLine<N> {
         ensures place { self.new.place ≡ self.old.place }
         ensures serial { (self.new.serial ≡ next_serial self.old.serial) ⊎ IsOther self.old.ahead operation }
         ensures other { IsOther self.old.ahead operation → (result ≡ Err Strange) × (self.new.serial ≡ self.old.serial) × (self.new.sent ≡ self.old.sent) }
-        ensures entry { IfOk result (λ e. (e ≡ job self.old.place self.new.serial operation) × (self.new.serial ≡ self.old.serial + 1)) }
+        ensures entry { IfOk result (λ e. (e ≡ entry_at self.old.place self.new.serial operation) × (self.new.serial ≡ self.old.serial + 1)) }
         ensures sent { MatchResult result (λ e. self.new.sent ≡ self.old.sent ++ e ∷ []) (λ _. self.new.sent ≡ self.old.sent) }
         ensures heard { self.new.heard ≡ self.old.heard }
         ensures unsent { IfErr result (λ f. IsUnsent self.old.serial f ⊎ ((f ≡ Strange) × (self.new.serial ≡ self.old.serial) × IsOther self.old.ahead operation)) }

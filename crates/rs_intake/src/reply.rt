@@ -89,7 +89,7 @@ impl<N: StoreName> WriterReplies<N> {
     }
 
     /// These replies.
-    pub(crate) fn of(alloc: Global, replies: Vec<WriterReply<N>>) -> WriterReplies<N>
+    pub(crate) fn new(alloc: Global, replies: Vec<WriterReply<N>>) -> WriterReplies<N>
         ensures { result ≡ replies.items }
     {
         WriterReplies {
@@ -220,7 +220,7 @@ impl<N: StoreName> Model for ReplyReceiver<N> {
     ghost invariant = { λ r. IsSeatAt (receives_on r.from) r.pass × ((known_by r.pass).receives ≡ true) × ((known_by r.pass).sends ≡ false) × ((known_by r.pass).replies ≡ before (known_by r.pass).replies r.came ++ r.came) };
 }
 
-/// The two ends of the way back to one line, by which nothing was sent. It has room for the replies to one job, since a line waits for
+/// The two ends of the way back to one line, by which nothing was sent. It can carry the replies to one job, since a line waits for
 /// those to one at most.
 pub fn way_back<N: StoreName>(
     alloc: Global,

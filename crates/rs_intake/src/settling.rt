@@ -57,7 +57,7 @@ fn all_sent<N: LineName>(ends: &Vec<LineEnd<N>>, places: u8, taken: u64) -> Opti
 /// Joins all lines' passes, and compares them with what was taken.
 fn join_all<N: LineName>(taken: &mut Taken<N>, ends: Vec<LineEnd<N>>)
     ensures same { (taken.new.entries ≡ taken.old.entries) × (taken.new.ends ≡ taken.old.ends) }
-    ensures learned { 0 < length ends.items → (items : List Job) × BalancesWith N.places taken.new.entries items ends.items }
+    ensures balance { 0 < length ends.items → (items : List Job) × BalancesWith N.places taken.new.entries items ends.items }
 {
     for end in ends {
         let (sender, pass) = end.into_parts();
@@ -70,7 +70,7 @@ fn join_all<N: LineName>(taken: &mut Taken<N>, ends: Vec<LineEnd<N>>)
 /// entry once, and the result is how many entries these are. If not, what was taken of each place that has an end is a prefix of what was
 /// sent from there.
 ///
-/// It takes no memory. `ended` is lent mutably since its pass of the queue learns what the lines know; nothing else of it changes.
+/// It takes no memory. `ended` is lent mutably since its pass of the queue takes in those of the lines; nothing else of it changes.
 ///
 /// # Errors
 ///
@@ -82,13 +82,13 @@ pub fn settle<N: LineName, R: Wait + Drop>(
     ensures taken { IfOk result (λ n. n ≡ ended.old.taken) }
     ensures sum { IfOk result (λ n. n ≡ sent_in_all ends.items) }
     ensures once { IfOk result (λ _. EachOnce N.places ends.items) }
-    ensures settled { IfOk result (λ _. AreTaken ended.old.jobs.entries ends.items) }
-    ensures order { AreTakenInOrder ended.old.jobs.entries ends.items }
+    ensures settled { IfOk result (λ _. AreTaken ended.old.received.entries ends.items) }
+    ensures order { AreTakenInOrder ended.old.received.entries ends.items }
     ensures unsettled { IfErr result (λ _. ¬ (EachOnce N.places ends.items × (sent_in_all ends.items ≡ ended.old.taken))) }
-    ensures same { (ended.new.writer ≡ ended.old.writer) × (ended.new.taken ≡ ended.old.taken) × (ended.new.refused ≡ ended.old.refused) × (ended.new.held ≡ ended.old.held) × (ended.new.cause ≡ ended.old.cause) × (ended.new.jobs.entries ≡ ended.old.jobs.entries) × (ended.new.jobs.ends ≡ ended.old.jobs.ends) }
+    ensures same { (ended.new.writer ≡ ended.old.writer) × (ended.new.taken ≡ ended.old.taken) × (ended.new.refused ≡ ended.old.refused) × (ended.new.held ≡ ended.old.held) × (ended.new.cause ≡ ended.old.cause) × (ended.new.received.entries ≡ ended.old.received.entries) × (ended.new.received.ends ≡ ended.old.received.ends) }
 {
-    let all = all_sent(&ends, ended.jobs.places(), ended.taken);
-    join_all(&mut ended.jobs, ends);
+    let all = all_sent(&ends, ended.received.places(), ended.taken);
+    join_all(&mut ended.received, ends);
     match all {
         Some(sum) => Ok(sum),
         None => Err(SettleFault::Unsettled),

@@ -72,7 +72,7 @@ pub fn compare(to: &JobSender, pass: &mut Pass<Job, PassView>)
     requires takes { (view pass.old).takes ≡ true }
     ensures channel { IsSeatAt (sends_on to.now) pass.new }
     ensures same { view pass.new ≡ view pass.old }
-    ensures learned { (items : List Job) × Balances (view pass.old) items }
+    ensures balance { (items : List Job) × Balances (view pass.old) items }
 {
     to.learn_as::<LinePass>(pass);
 }

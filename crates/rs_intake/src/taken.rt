@@ -85,7 +85,7 @@ impl<N: LineName> Taken<N> {
     pub(crate) fn compare(&mut self, by: &JobSender)
         requires { IsQueue N.queue (sends_on by.now) }
         ensures same { self.new ≡ self.old }
-        ensures learned { (items : List Job) × IsBalanced N.places self.new items }
+        ensures balance { (items : List Job) × IsBalanced N.places self.new items }
     {
         compare(by, &mut self.pass);
     }

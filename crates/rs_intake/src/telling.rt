@@ -61,19 +61,19 @@ fn reply_to_next<N: LineName, R: Wait + Drop>(
     reply
 }
 
-/// Puts the changes of a job, one after the other, and makes a reply to each. What is passed has room for the replies. The result is
-/// also how many changes are refused.
+/// Puts the changes of a job, one after the other, and makes a reply to each. What is passed has the capacity for the replies. The
+/// result is also how many changes are refused.
 fn reply_to_each<N: LineName, R: Wait + Drop>(
     writer: &mut VersionWriter<N, R>,
     entries: Vec<Entry>,
-    room: Vec<WriterReply<N>>,
+    reserved: Vec<WriterReply<N>>,
 ) -> (Vec<WriterReply<N>>, u64)
-    requires room { (room.items ≡ []) × (length entries.items ≤ vec_capacity room) }
+    requires reserved { (reserved.items ≡ []) × (length entries.items ≤ vec_capacity reserved) }
     requires changes { AreChanges entries.items }
     requires rises { (before : List Entry) × Serves N.limit before (kept_of writer.old) × SerialsRise (before ++ entries.items) }
     ensures { AreReplied N.limit writer.old entries.items result.0.items result.1 writer.new }
 {
-    let mut replies = room;
+    let mut replies = reserved;
     let mut refused = 0u64;
     let mut has_held = false;
     for entry in entries {
@@ -98,12 +98,12 @@ fn replies_to<N: LineName, R: Wait + Drop>(
     requires rises { (before : List Entry) × Serves N.limit before (kept_of writer.old) × SerialsRise (before ++ entries.items) }
     ensures { AreReplied N.limit writer.old entries.items result.0 result.1 writer.new }
 {
-    let Ok(room) = Vec::with_capacity(alloc, entries.len()) else {
+    let Ok(reserved) = Vec::with_capacity(alloc, entries.len()) else {
         let refused = entries.len() as u64;
         return (WriterReplies::refusing(alloc, entries), refused);
     };
-    let (replies, refused) = reply_to_each(writer, entries, room);
-    (WriterReplies::of(alloc, replies), refused)
+    let (replies, refused) = reply_to_each(writer, entries, reserved);
+    (WriterReplies::new(alloc, replies), refused)
 }
 
 /// The writer's ends of the ways back to the lines, that of place 1 first. What a line is told is what is sent by its way back, and

@@ -60,10 +60,10 @@ pub struct Ended<N: LineName, R: Wait + Drop> {
     /// The origin of the held entry, which is appended and not published.
     pub held: Option<Origin>,
     /// What was taken.
-    pub jobs: Taken<N>,
+    pub received: Taken<N>,
     /// Why the loop ended.
     pub cause: Cause,
-    pub ghost counted: { taken ≡ length jobs.entries },
+    pub ghost counted: { taken ≡ length received.entries },
 }
 
 impl<N: LineName, R: Wait + Drop> Ended<N, R> {
@@ -71,13 +71,13 @@ impl<N: LineName, R: Wait + Drop> Ended<N, R> {
         writer: VersionWriter<N, R>,
         taken: u64,
         refused: u64,
-        jobs: Taken<N>,
+        received: Taken<N>,
         cause: Cause,
     ) -> Ended<N, R>
-        requires { taken ≡ length jobs.entries }
+        requires { taken ≡ length received.entries }
         ensures values { (result.writer ≡ writer) × (result.taken ≡ taken) × (result.refused ≡ refused) }
         ensures held { result.held ≡ option_map (λ e. e.origin) writer.held }
-        ensures jobs { (result.jobs ≡ jobs) × (result.cause ≡ cause) }
+        ensures received { (result.received ≡ received) × (result.cause ≡ cause) }
     {
         let held = writer.held();
         Ended {
@@ -85,7 +85,7 @@ impl<N: LineName, R: Wait + Drop> Ended<N, R> {
             taken,
             refused,
             held,
-            jobs,
+            received,
             cause,
         }
     }
@@ -119,14 +119,14 @@ pub fn run_writer<N: LineName, R: Wait + Drop, W: Wait>(
     writer: VersionWriter<N, R>,
 ) -> Ended<N, R>
     requires empty { kept_of writer ≡ [] }
-    ensures part { IsPart (without_sweeps (kept_of result.writer)) result.jobs.entries }
-    ensures placed { AreOfPlaces N.places result.jobs.entries }
-    ensures taken { result.taken ≡ length result.jobs.entries }
+    ensures part { IsPart (without_sweeps (kept_of result.writer)) result.received.entries }
+    ensures placed { AreOfPlaces N.places result.received.entries }
+    ensures taken { result.taken ≡ length result.received.entries }
     ensures refused { length (without_sweeps (kept_of result.writer)) + result.refused ≡ result.taken }
-    ensures sweeps { AreForEntries N.limit result.jobs.entries (kept_of result.writer) }
+    ensures sweeps { AreForEntries N.limit result.received.entries (kept_of result.writer) }
     ensures held { result.held ≡ option_map (λ e. e.origin) result.writer.held }
-    ensures done { IsWritten N.limit result.jobs.entries (kept_of result.writer) }
-    ensures cause { IsCause N.places u64.MAX result.jobs result.cause }
+    ensures done { IsWritten N.limit result.received.entries (kept_of result.writer) }
+    ensures cause { IsCause N.places u64.MAX result.received result.cause }
 {
     run_writer_for(rt, queue, writer, u64::MAX)
 }
@@ -140,31 +140,31 @@ pub fn run_writer_for<N: LineName, R: Wait + Drop, W: Wait>(
     most: u64,
 ) -> Ended<N, R>
     requires empty { kept_of writer ≡ [] }
-    ensures part { IsPart (without_sweeps (kept_of result.writer)) result.jobs.entries }
-    ensures placed { AreOfPlaces N.places result.jobs.entries }
-    ensures taken { result.taken ≡ length result.jobs.entries }
+    ensures part { IsPart (without_sweeps (kept_of result.writer)) result.received.entries }
+    ensures placed { AreOfPlaces N.places result.received.entries }
+    ensures taken { result.taken ≡ length result.received.entries }
     ensures refused { length (without_sweeps (kept_of result.writer)) + result.refused ≡ result.taken }
-    ensures sweeps { AreForEntries N.limit result.jobs.entries (kept_of result.writer) }
+    ensures sweeps { AreForEntries N.limit result.received.entries (kept_of result.writer) }
     ensures held { result.held ≡ option_map (λ e. e.origin) result.writer.held }
-    ensures done { IsWritten N.limit result.jobs.entries (kept_of result.writer) }
-    ensures cause { IsCause N.places most result.jobs result.cause }
+    ensures done { IsWritten N.limit result.received.entries (kept_of result.writer) }
+    ensures cause { IsCause N.places most result.received result.cause }
 {
     let Queue {
         receiver,
-        taken: mut jobs,
+        taken: mut received,
         mut ways,
     } = queue;
     let mut writer = writer;
     let mut taken = 0u64;
     let mut refused = 0u64;
-    let mut open = jobs.places();
+    let mut open = received.places();
     let mut cause = Cause::MostTaken;
     let mut patience = Patience::new();
     for _ in rt.forever() {
         if has_most(taken, most) {
             break;
         }
-        match jobs.next(rt, &receiver, &mut patience) {
+        match received.next(rt, &receiver, &mut patience) {
             Ok(Job::Put(changes)) => {
                 taken += changes.len() as u64;
                 let (count, _sent) = ways.put_job(rt, &mut writer, changes);
@@ -184,5 +184,5 @@ pub fn run_writer_for<N: LineName, R: Wait + Drop, W: Wait>(
         }
     }
     drop(writer.retry());
-    Ended::new(writer, taken, refused, jobs, cause)
+    Ended::new(writer, taken, refused, received, cause)
 }

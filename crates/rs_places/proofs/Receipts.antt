@@ -14,7 +14,7 @@ use Rattle.rs_store.proofs.Entries.{Among, among, contains}
 use Rattle.rs_version.specs.Receipts.{StandsAt}
 use Rattle.rs_version.proofs.Origins.{origins_differ}
 use Rattle.rs_session.specs.Gate.{Mark, IsHandedOver, Sends, SendsAtMost, Submits, TakesAhead, Uses, UsesIfOpen, entry_by, last_origin}
-use Rattle.rs_intake.specs.Lines.{AddsAtMost, IsAheadAfter, IsOther, Line, announced, job, next_serial, numbered}
+use Rattle.rs_intake.specs.Lines.{AddsAtMost, IsAheadAfter, IsOther, Line, announced, entry_at, next_serial, numbered}
 use Rattle.rs_intake.specs.Refusals.{IsRefused, IsUnsent}
 use Rattle.rs_intake.specs.declared.job.TheConstants.{MAX_CHANGES}
 use Rattle.rs_places.specs.Shared.{IsOtherAhead, SharedValue, gate_of, handed_on, mark_of, operations_of}
@@ -108,19 +108,19 @@ submits_err operation old new answer fault seen is used =
     (record { handed_over = none_handed_over operation new seen seen refl; kept = tt; used = used })
 
 -- what the line sent, as the mark has it
-pub sends_at_most : (operation : Operation) (before : Mark) (old new : Line) → mark_of old ≡ before → new.place ≡ old.place → AddsAtMost old.sent (job old.place new.serial operation) new.sent
+pub sends_at_most : (operation : Operation) (before : Mark) (old new : Line) → mark_of old ≡ before → new.place ≡ old.place → AddsAtMost old.sent (entry_at old.place new.serial operation) new.sent
     → SendsAtMost before.sent (entry_by operation (mark_of new)) (mark_of new).sent
 sends_at_most operation before old new is place adds =
     let e = entry_by operation (mark_of new) in
     let P : Mark → Type 0 = λ m. SendsAtMost m.sent e (Some new.sent) in
-    let Q : ℕ → Type 0 = λ p. AddsAtMost old.sent (job p new.serial operation) new.sent in
+    let Q : ℕ → Type 0 = λ p. AddsAtMost old.sent (entry_at p new.serial operation) new.sent in
     subst P is (⊎_elim (λ (t : new.sent ≡ old.sent). inl (t ∙ sym (append-nil old.sent))) (λ (t : new.sent ≡ old.sent ++ e ∷ []). inr t) (subst Q (sym place) adds))
 
-pub sends_it : (operation : Operation) (before : Mark) (old new : Line) → mark_of old ≡ before → new.place ≡ old.place → new.sent ≡ old.sent ++ job old.place new.serial operation ∷ []
+pub sends_it : (operation : Operation) (before : Mark) (old new : Line) → mark_of old ≡ before → new.place ≡ old.place → new.sent ≡ old.sent ++ entry_at old.place new.serial operation ∷ []
     → Sends before.sent (entry_by operation (mark_of new) ∷ []) (mark_of new).sent
 sends_it operation before old new is place adds =
     let P : Mark → Type 0 = λ m. Sends m.sent (entry_by operation (mark_of new) ∷ []) (Some new.sent) in
-    let Q : ℕ → Type 0 = λ p. new.sent ≡ old.sent ++ job p new.serial operation ∷ [] in
+    let Q : ℕ → Type 0 = λ p. new.sent ≡ old.sent ++ entry_at p new.serial operation ∷ [] in
     subst P is (subst Q (sym place) adds)
 
 -- ---- what is ahead

@@ -88,9 +88,9 @@ pub(crate) fn settled<N: LineName, T: Turn + Drop, R: Wait + Drop>(
     ensures version { result.version ≡ length ended.writer.published }
     ensures legal { IsLegal N.limit ended.writer.published }
     ensures ordered { MatchBool result.ordered (All (λ end. IsPrefix end.told ended.writer.published) end.ends.items) (result.changes ≡ None) }
-    ensures order { AreTakenInOrder ended.jobs.entries (map (λ end. end.line) end.ends.items) }
-    ensures settled { IfSome result.changes (λ changes. AreTaken ended.jobs.entries (map (λ end. end.line) end.ends.items)
-        × (changes ≡ length ended.jobs.entries) × (changes ≡ sent_in_all (map (λ end. end.line) end.ends.items))) }
+    ensures order { AreTakenInOrder ended.received.entries (map (λ end. end.line) end.ends.items) }
+    ensures settled { IfSome result.changes (λ changes. AreTaken ended.received.entries (map (λ end. end.line) end.ends.items)
+        × (changes ≡ length ended.received.entries) × (changes ≡ sent_in_all (map (λ end. end.line) end.ends.items))) }
 {
     let version = ended.writer.tell().version();
     let PlacesEnd { ends, threads } = end;

@@ -67,7 +67,7 @@ impl<N: LineName, R: Wait + Drop> Promise<Ended<N, R>> for AnswersJobs {
     ghost use Rattle.rs_intake.specs.Settling.{AreOfPlaces};
     ghost use Rattle.rs_version.specs.Writer.{kept_of};
 
-    ghost kept_by = { λ promise ended. IsWritten N.limit ended.jobs.entries (kept_of ended.writer) × AreOfPlaces N.places ended.jobs.entries };
+    ghost kept_by = { λ promise ended. IsWritten N.limit ended.received.entries (kept_of ended.writer) × AreOfPlaces N.places ended.received.entries };
 }
 
 /// The writer's thread.

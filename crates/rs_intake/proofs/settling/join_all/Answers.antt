@@ -17,13 +17,13 @@ loop-end-preserved g c =
     let W : List SentFrom → Type 0 = λ w. Covers w (yielded ++ end ∷ []) in (
       ap (λ r. r.entries) same ∙ (c.join.ensures.0 ∙ i.0),
       subst W (sym whole) (covers_more c.loop-end.taken.whole yielded _ end sent.1 sent.2 i.1),
-      (λ some. c.compare.ensures.learned),
+      (λ some. c.compare.ensures.balance),
       append_assoc yielded (end ∷ []) _ ∙ (ap (λ l. yielded ++ l) (sym c.in-Some.ensures.steps.0) ∙ i.3),
       ap (λ r. r.ends) same ∙ (c.join.ensures.1 ∙ i.4),
     )
 
-pub returns-clause-learned : goal.returns-clause-learned
-returns-clause-learned g c =
+pub returns-clause-balance : goal.returns-clause-balance
+returns-clause-balance g c =
     let i = c.loop-end.invariant in
     let none : c.loop-end.end-iterator.rest.items ≡ [] = no_more _ (sym c.loop-end.end-iterator.rest.ok.0 ∙ c.in-None.ensures.steps.0) in
     let all : c.loop-end.yielded ≡ c.args.ends.items = sym (append-nil c.loop-end.yielded) ∙ (ap (λ l. c.loop-end.yielded ++ l) (sym none) ∙ i.3) in

@@ -8,19 +8,19 @@ pub returns-in-Some-clause-settled : goal.returns-in-Some-clause-settled
 returns-in-Some-clause-settled g c =
     let all = c.in-Some.ensures in
     let ends = c.args.ends.items in
-    let taken = c.args.ended.now.jobs.entries in
-    let learned = c.join_all.ensures.learned (some_ends _ ends c.places.ensures.1 all.2) in
+    let taken = c.args.ended.now.received.entries in
+    let balance = c.join_all.ensures.balance (some_ends _ ends c.places.ensures.1 all.2) in
     let E : ℕ → Type 0 = λ n. EachOnce n ends in
     let each = subst E c.places.ensures.0 all.2 in
-    let B : List Entry → Type 0 = λ l. BalancesWith g.N.LineName.places l learned.0 ends in
-    settled _ taken learned.0 ends (subst B c.join_all.ensures.same.0 learned.1) each (sym all.1 ∙ (all.0 ∙ c.args.ended.now.counted))
+    let B : List Entry → Type 0 = λ l. BalancesWith g.N.LineName.places l balance.0 ends in
+    settled _ taken balance.0 ends (subst B c.join_all.ensures.same.0 balance.1) each (sym all.1 ∙ (all.0 ∙ c.args.ended.now.counted))
 
 pub returns-in-Some-clause-order : goal.returns-in-Some-clause-order
 returns-in-Some-clause-order g c =
     let O : List Entry → Type 0 = λ l. AreTakenInOrder l c.args.ends.items in
-    subst O c.join_all.ensures.same.0 (in_order _ _ c.args.ends.items c.join_all.ensures.learned)
+    subst O c.join_all.ensures.same.0 (in_order _ _ c.args.ends.items c.join_all.ensures.balance)
 
 pub returns-in-None-clause-order : goal.returns-in-None-clause-order
 returns-in-None-clause-order g c =
     let O : List Entry → Type 0 = λ l. AreTakenInOrder l c.args.ends.items in
-    subst O c.join_all.ensures.same.0 (in_order _ _ c.args.ends.items c.join_all.ensures.learned)
+    subst O c.join_all.ensures.same.0 (in_order _ _ c.args.ends.items c.join_all.ensures.balance)

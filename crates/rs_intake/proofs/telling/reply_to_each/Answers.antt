@@ -9,13 +9,13 @@ loop-entry-init g c =
     let is : c.into_iter-entry-iterator.result.rest.items ≡ c.args.entries.items = search rules in
     let L : List Entry → Type 0 = λ l. AreLeft g.N.StoreName.limit (kept_of c.args.writer.now) l in
     let n = ap length is in
-    let none = ap length c.requires.room.0 in
-    let room = c.requires.room.1 in
+    let none = ap length c.requires.reserved.0 in
+    let reserved = c.requires.reserved.1 in
     let few = c.requires.changes.few in (
       subst L (sym is) (left_all _ _ c.requires.rises.0 _ c.requires.rises.1 c.requires.rises.2 c.requires.changes),
-      begun_none _ _ _ c.requires.room.0,
+      begun_none _ _ _ c.requires.reserved.0,
       is,
-      omega (arith, n, none, room),
+      omega (arith, n, none, reserved),
       omega (arith, n, few),
     )
 
@@ -38,7 +38,7 @@ loop-entry-preserved g c =
     let items = c.in-Ok.ensures.items in
     let m = ap length items in
     let sum = length-append c.loop-entry.replies.items (c.reply_to_next-reply.result ∷ []) in
-    let room = i.3 in
+    let reserved = i.3 in
     let few = i.4 in
     let capacity = c.in-Ok.ensures.capacity in
     let count = c.refused-refused.ensures in
@@ -46,6 +46,6 @@ loop-entry-preserved g c =
       left_less _ _ _ _ _ _ _ first e.done i.0,
       begun_more _ _ _ _ _ _ _ _ _ _ _ c.reply_to_next-reply.result _ i.1 e.done e.origin e.answered e.behind e.held count items,
       append_assoc yielded (c.in-Some.entry ∷ []) _ ∙ (ap (λ l. yielded ++ l) (sym first) ∙ i.2),
-      omega (arith, n, m, sum, room, capacity),
+      omega (arith, n, m, sum, reserved, capacity),
       omega (arith, n, few, count, one),
     )

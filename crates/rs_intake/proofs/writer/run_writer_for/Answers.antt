@@ -16,14 +16,14 @@ use Rattle.rs_intake.proofs.writer.run_writer_for.Given as given
 use Rattle.rs_intake.proofs.writer.run_writer_for.Goals as goal
 use Rattle.rs_intake.proofs.writer.run_writer_for.Goals.{in-None, in-Some+then-has_most, in-Some+else-has_most+in-Ok-End+then-open-eq0, in-Some+else-has_most+in-Err}
 
-same_entries : (g : given.Over) (c : goal.After-drop-receiver g) → c.new.result.jobs.entries ≡ c.loop.jobs.entries
+same_entries : (g : given.Over) (c : goal.After-drop-receiver g) → c.new.result.received.entries ≡ c.loop.received.entries
 same_entries g c = elim c.match-next.branch [
-  | in-None w ↦ cc (c.new.ensures.jobs.0, w.jobs-is)
-  | in-Some+then-has_most w ↦ cc (c.new.ensures.jobs.0, w.jobs-is)
+  | in-None w ↦ cc (c.new.ensures.received.0, w.received-is)
+  | in-Some+then-has_most w ↦ cc (c.new.ensures.received.0, w.received-is)
   | in-Some+else-has_most+in-Ok-End+then-open-eq0 w ↦
-      let more : w.next-in-loop.new.self.entries ≡ c.loop.jobs.entries = w.in-Ok-End.ensures.taken.0 ∙ (ap (λ (x : Job). c.loop.jobs.entries ++ entries_in x) w.in-Ok-End.field-0-is ∙ append-nil c.loop.jobs.entries) in
-      cc (c.new.ensures.jobs.0, w.jobs-is, more)
-  | in-Some+else-has_most+in-Err w ↦ cc (c.new.ensures.jobs.0, w.jobs-is, w.in-Err.ensures.taken)
+      let more : w.next-in-loop.new.self.entries ≡ c.loop.received.entries = w.in-Ok-End.ensures.taken.0 ∙ (ap (λ (x : Job). c.loop.received.entries ++ entries_in x) w.in-Ok-End.field-0-is ∙ append-nil c.loop.received.entries) in
+      cc (c.new.ensures.received.0, w.received-is, more)
+  | in-Some+else-has_most+in-Err w ↦ cc (c.new.ensures.received.0, w.received-is, w.in-Err.ensures.taken)
 ]
 
 same_kept : (g : given.Over) (c : goal.After-drop-receiver g) → kept_of c.new.result.writer ≡ kept_of c.loop.writer
@@ -37,28 +37,28 @@ put_job-count-requires-clause-place g c =
 
 pub put_job-count-requires-clause-rises : goal.put_job-count-requires-clause-rises
 put_job-count-requires-clause-rises g c =
-    let entries = c.loop.jobs.entries in
+    let entries = c.loop.received.entries in
     let more : c.next-in-loop.new.self.entries ≡ entries ++ c.in-Ok-Put.changes = c.in-Ok-Put.ensures.taken.0 ∙ ap (λ (x : Job). entries ++ entries_in x) c.in-Ok-Put.field-0-is in
     let P : List Entry → Type 0 = λ l. SerialsRise l in
     (entries, c.loop.invariant.1.serves, subst P more c.in-Ok-Put.ensures.taken.1)
 
 pub overflow_add-refused : goal.overflow_add-refused
 overflow_add-refused g c =
-    let entries = c.loop.jobs.entries in
+    let entries = c.loop.received.entries in
     let more : c.next-in-loop.new.self.entries ≡ entries ++ c.in-Ok-Put.changes = c.in-Ok-Put.ensures.taken.0 ∙ ap (λ (x : Job). entries ++ entries_in x) c.in-Ok-Put.field-0-is in
     let d = c.put_job-count.ensures.done in
     let told = told_more g.N.StoreName.limit entries c.next-in-loop.new.self.entries c.in-Ok-Put.changes d.0 c.loop.writer c.put_job-count.new.writer c.loop.taken c.loop.refused _ more c.len.ensures.changes.plain c.loop.invariant.1 d.1 in
     let sum = told.sum in
     let few = c.len.ensures.changes.few in
-    let room = c.if-has_most.ensures in
-    omega (arith, sum, few, room)
+    let fits = c.if-has_most.ensures in
+    omega (arith, sum, few, fits)
 
 pub loop-preserved-in-Ok-Put : goal.loop-preserved-in-Ok-Put
 loop-preserved-in-Ok-Put g c =
     let i = c.loop.invariant in
-    let entries = c.loop.jobs.entries in
+    let entries = c.loop.received.entries in
     let more : c.next-in-loop.new.self.entries ≡ entries ++ c.in-Ok-Put.changes = c.in-Ok-Put.ensures.taken.0 ∙ ap (λ (x : Job). entries ++ entries_in x) c.in-Ok-Put.field-0-is in
-    let ends : c.next-in-loop.new.self.ends ≡ c.loop.jobs.ends = c.in-Ok-Put.ensures.ended.0 ∙ (ap (λ (x : Job). c.loop.jobs.ends ++ ends_of (x ∷ [])) c.in-Ok-Put.field-0-is ∙ append-nil c.loop.jobs.ends) in
+    let ends : c.next-in-loop.new.self.ends ≡ c.loop.received.ends = c.in-Ok-Put.ensures.ended.0 ∙ (ap (λ (x : Job). c.loop.received.ends ++ ends_of (x ∷ [])) c.in-Ok-Put.field-0-is ∙ append-nil c.loop.received.ends) in
     let d = c.put_job-count.ensures.done in
     let len : c.len.result ≡ length c.in-Ok-Put.changes = c.len.ensures.len in
     let told = told_more g.N.StoreName.limit entries c.next-in-loop.new.self.entries c.in-Ok-Put.changes d.0 c.loop.writer c.put_job-count.new.writer c.loop.taken c.loop.refused _ more c.len.ensures.changes.plain i.1 d.1 in
@@ -76,20 +76,20 @@ pub loop-preserved : goal.loop-preserved
 loop-preserved g c =
     let i = c.loop.invariant in
     let taken = c.in-Ok-End.ensures.taken.0 in
-    let same : c.next-in-loop.new.self.entries ≡ c.loop.jobs.entries = taken ∙ (ap (λ (x : Job). c.loop.jobs.entries ++ entries_in x) c.in-Ok-End.field-0-is ∙ append-nil c.loop.jobs.entries) in
-    let ends : c.next-in-loop.new.self.ends ≡ c.loop.jobs.ends ++ ends_of (_ ∷ []) = c.in-Ok-End.ensures.ended.0 in
-    let more : length c.next-in-loop.new.self.ends ≡ length c.loop.jobs.ends + 1 = ap length ends ∙ (ap (λ (x : Job). length (c.loop.jobs.ends ++ ends_of (x ∷ []))) c.in-Ok-End.field-0-is ∙ length-append c.loop.jobs.ends _) in (
+    let same : c.next-in-loop.new.self.entries ≡ c.loop.received.entries = taken ∙ (ap (λ (x : Job). c.loop.received.entries ++ entries_in x) c.in-Ok-End.field-0-is ∙ append-nil c.loop.received.entries) in
+    let ends : c.next-in-loop.new.self.ends ≡ c.loop.received.ends ++ ends_of (_ ∷ []) = c.in-Ok-End.ensures.ended.0 in
+    let more : length c.next-in-loop.new.self.ends ≡ length c.loop.received.ends + 1 = ap length ends ∙ (ap (λ (x : Job). length (c.loop.received.ends ++ ends_of (x ∷ []))) c.in-Ok-End.field-0-is ∙ length-append c.loop.received.ends _) in (
       i.0,
       subst (λ (l : List Entry). AreTold g.N.StoreName.limit l (kept_of c.loop.writer) c.loop.taken c.loop.refused) (sym same) i.1,
       omega (arith, c.if-open-eq0.false),
       i.3,
       omega (arith, more, i.2, i.4),
       i.5,
-      subst (AreOfPlaces g.N.LineName.places) (sym taken) (placed_more g.N.LineName.places c.loop.jobs.entries _ i.6 c.in-Ok-End.ensures.placed),
+      subst (AreOfPlaces g.N.LineName.places) (sym taken) (placed_more g.N.LineName.places c.loop.received.entries _ i.6 c.in-Ok-End.ensures.placed),
     )
 
 pub returns-clause-part : goal.returns-clause-part
-returns-clause-part g c = part_same c.loop.jobs.entries _ (kept_of c.loop.writer) _ (same_entries g c) (same_kept g c) c.loop.invariant.1.serves.part
+returns-clause-part g c = part_same c.loop.received.entries _ (kept_of c.loop.writer) _ (same_entries g c) (same_kept g c) c.loop.invariant.1.serves.part
 
 pub returns-clause-placed : goal.returns-clause-placed
 returns-clause-placed g c = subst (AreOfPlaces g.N.LineName.places) (sym (same_entries g c)) c.loop.invariant.6
@@ -100,10 +100,10 @@ returns-clause-refused g c =
     omega (arith, ap (λ (l : List Entry). length (without_sweeps l)) (same_kept g c), v.1, v.2, c.loop.invariant.1.sum)
 
 pub returns-clause-sweeps : goal.returns-clause-sweeps
-returns-clause-sweeps g c = are_for_same g.N.StoreName.limit c.loop.jobs.entries _ (kept_of c.loop.writer) _ (same_entries g c) (same_kept g c) c.loop.invariant.1.serves.sweeps
+returns-clause-sweeps g c = are_for_same g.N.StoreName.limit c.loop.received.entries _ (kept_of c.loop.writer) _ (same_entries g c) (same_kept g c) c.loop.invariant.1.serves.sweeps
 
 pub returns-clause-done : goal.returns-clause-done
-returns-clause-done g c = written_same g.N.StoreName.limit c.loop.jobs.entries _ (kept_of c.loop.writer) _ (same_entries g c) (same_kept g c) c.loop.invariant.1.written
+returns-clause-done g c = written_same g.N.StoreName.limit c.loop.received.entries _ (kept_of c.loop.writer) _ (same_entries g c) (same_kept g c) c.loop.invariant.1.written
 
 pub returns-clause-cause : goal.returns-clause-cause
 returns-clause-cause g c =
@@ -111,11 +111,11 @@ returns-clause-cause g c =
     let i = c.loop.invariant in
     elim c.match-next.branch [
       | in-None w ↦ let some : IsSome c.next.result = c.next.ensures.steps in let none = w.in-None.is in absurd (search rules)
-      | in-Some+then-has_most w ↦ cause_same places c.args.most c.loop.jobs _ MostTaken _ (c.new.ensures.jobs.0 ∙ w.jobs-is) (c.new.ensures.jobs.1 ∙ (w.cause-is ∙ i.5)) (⊎_elim (λ (t : c.args.most ≤ c.loop.taken). inl (let n = i.1.number in omega (arith, t, n))) (λ (t : 2 ^ 64 ≤ c.loop.taken + MAX_CHANGES). inr (let n = i.1.number in omega (arith, t, n))) w.if-has_most.ensures)
+      | in-Some+then-has_most w ↦ cause_same places c.args.most c.loop.received _ MostTaken _ (c.new.ensures.received.0 ∙ w.received-is) (c.new.ensures.received.1 ∙ (w.cause-is ∙ i.5)) (⊎_elim (λ (t : c.args.most ≤ c.loop.taken). inl (let n = i.1.number in omega (arith, t, n))) (λ (t : 2 ^ 64 ≤ c.loop.taken + MAX_CHANGES). inr (let n = i.1.number in omega (arith, t, n))) w.if-has_most.ensures)
       | in-Some+else-has_most+in-Ok-End+then-open-eq0 w ↦
           let e = w.in-Ok-End.ensures.ended in
-          let more : length w.next-in-loop.new.self.ends ≡ length c.loop.jobs.ends + 1 = ap length e.0 ∙ (ap (λ (x : Job). length (c.loop.jobs.ends ++ ends_of (x ∷ []))) w.in-Ok-End.field-0-is ∙ length-append c.loop.jobs.ends _) in
+          let more : length w.next-in-loop.new.self.ends ≡ length c.loop.received.ends + 1 = ap length e.0 ∙ (ap (λ (x : Job). length (c.loop.received.ends ++ ends_of (x ∷ []))) w.in-Ok-End.field-0-is ∙ length-append c.loop.received.ends _) in
           let last = w.if-open-eq0.true in
-          cause_same places c.args.most w.next-in-loop.new.self _ AllEnded _ (c.new.ensures.jobs.0 ∙ w.jobs-is) (c.new.ensures.jobs.1 ∙ w.cause-is) (all_ended places w.next-in-loop.new.self.ends e.1 (omega (arith, more, last, i.2, i.4)))
-      | in-Some+else-has_most+in-Err w ↦ cause_same places c.args.most c.match-next.jobs _ (QueueGone w.in-Err.gone) _ c.new.ensures.jobs.0 (c.new.ensures.jobs.1 ∙ w.cause-is) tt
+          cause_same places c.args.most w.next-in-loop.new.self _ AllEnded _ (c.new.ensures.received.0 ∙ w.received-is) (c.new.ensures.received.1 ∙ w.cause-is) (all_ended places w.next-in-loop.new.self.ends e.1 (omega (arith, more, last, i.2, i.4)))
+      | in-Some+else-has_most+in-Err w ↦ cause_same places c.args.most c.match-next.received _ (QueueGone w.in-Err.gone) _ c.new.ensures.received.0 (c.new.ensures.received.1 ∙ w.cause-is) tt
     ]

@@ -9,6 +9,6 @@ use Rattle.rs_intake.proofs.writer.run_writer_for.Given as goal
 
 abbrev pub invariant-loop : goal.invariant-loop
 invariant-loop g l = IsQueue g.N.LineName.queue (receives_on l.receiver)
-    × AreTold g.N.StoreName.limit l.jobs.entries (kept_of l.writer) l.taken l.refused × (0 < l.open)
-    × (length l.ways.senders.items ≡ g.N.LineName.places) × (l.open + length l.jobs.ends ≡ g.N.LineName.places) × (l.cause ≡ MostTaken)
-    × AreOfPlaces g.N.LineName.places l.jobs.entries
+    × AreTold g.N.StoreName.limit l.received.entries (kept_of l.writer) l.taken l.refused × (0 < l.open)
+    × (length l.ways.senders.items ≡ g.N.LineName.places) × (l.open + length l.received.ends ≡ g.N.LineName.places) × (l.cause ≡ MostTaken)
+    × AreOfPlaces g.N.LineName.places l.received.entries

@@ -6,7 +6,7 @@ use Rattle.rs_places.proofs.settled.settled.Goals.{in-Ok, in_default-2, in_defau
 
 pub returns-clause-order : goal.returns-clause-order
 returns-clause-order g c =
-    let P : List Closed → Type 0 = λ l. AreTakenInOrder c.args.ended.jobs.entries l in
+    let P : List Closed → Type 0 = λ l. AreTakenInOrder c.args.ended.received.entries l in
     subst P c.parted-lines.ensures.lines c.settle.ensures.order
 
 pub returns-clause-ordered : goal.returns-clause-ordered
@@ -16,7 +16,7 @@ pub returns-clause-settled : goal.returns-clause-settled
 returns-clause-settled g c = elim c.match-settle.branch [
   | in-Ok w ↦
       let n : ℕ = w.in-Ok.changes in
-      let A : List Closed → Type 0 = λ l. AreTaken c.args.ended.jobs.entries l in
+      let A : List Closed → Type 0 = λ l. AreTaken c.args.ended.received.entries l in
       let B : List Closed → Type 0 = λ l. n ≡ sent_in_all l in
       let taken = rw w.in-Ok.is at c.settle.ensures.settled in
       let count = rw w.in-Ok.is at c.settle.ensures.taken in

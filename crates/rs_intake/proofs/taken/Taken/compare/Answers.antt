@@ -4,9 +4,9 @@ use Rattle.rs_intake.specs.declared.rule.PassView.{PassView}
 use Rattle.rs_intake.specs.QueueRule.{Balances, IsOutside}
 use Rattle.rs_intake.proofs.taken.Taken.compare.Goals as goal
 
-pub returns-clause-learned : goal.returns-clause-learned
-returns-clause-learned g c =
-    let t = c.compare.ensures.learned in
+pub returns-clause-balance : goal.returns-clause-balance
+returns-clause-balance g c =
+    let t = c.compare.ensures.balance in
     let same = c.compare.ensures.same in
     let B : PassView → Type 0 = λ v. Balances v t.0 in
     let b : Balances (view c.compare.new.pass) t.0 = subst B (sym same) t.1 in

@@ -5,7 +5,7 @@ use Rattle.rs_message.specs.declared.entry.Entry.{Entry}
 use Rattle.rs_message.specs.declared.fault.SubmitFault.{SubmitFault}
 use Rattle.rs_session.specs.Gate.{Mark, Submits, TakesAhead, Uses}
 use Rattle.rs_message.specs.declared.fault.SubmitFault.TheVariants.{Strange}
-use Rattle.rs_intake.specs.Lines.{job, next_serial}
+use Rattle.rs_intake.specs.Lines.{entry_at, next_serial}
 use Rattle.rs_intake.proofs.Faults.{not_refused, refused_as}
 use Rattle.rs_places.specs.Shared.{IsOtherAhead, SharedValue, ahead_of, mark_of}
 use Rattle.rs_places.proofs.Receipts.{other_ahead, same_mark, sends_it, submits_err, submits_ok, takes_ahead, used_if_open}
@@ -26,7 +26,7 @@ returns-clause-list g c = λ seen knows.
     let one : (list ≡ seen) ⊎ (list ≡ receipt.told) = ⊎_elim (λ (t : list ≡ c.self.inside.seat). inl (t ∙ known)) (λ (t : list ≡ c.told.result). inr (t ∙ told)) c.learn.ensures.one in
     let P : List Entry → Type 0 = λ l. IsPrefix l list in
     let prefix : IsPrefix receipt.told list = subst P told c.learn.ensures.told in
-    let is : receipt.entry ≡ job line.place line.serial c.args.operation = c.in_ok-receipt.ensures.entry ∙ ap (λ (p : ℕ). job p line.serial c.args.operation) (sym c.submit.ensures.place) in
+    let is : receipt.entry ≡ entry_at line.place line.serial c.args.operation = c.in_ok-receipt.ensures.entry ∙ ap (λ (p : ℕ). entry_at p line.serial c.args.operation) (sym c.submit.ensures.place) in
     let above : old.serial < line.serial = omega (arith, serial, c.in_ok-receipt.ensures.above) in (
       list,
       record { known = refl; legal = c.learn.ensures.legal },
