@@ -26,7 +26,7 @@ use Rattle.rs_session.specs.Gate.{Mark, UsesIfOpen}
 use Rattle.rs_session.specs.Reasons.{code_of}
 use Rattle.rs_session.specs.State.{State, gate_of, state_of}
 use Rattle.rs_session.specs.Steps.{NoneSent, outcome_before, outcome_of_alias, outcome_of_id, outcome_of_submit, outcome_of_topic, outcome_unmade, topic_refusal}
-use Rattle.rs_session.specs.Table.{acknowledged_by, held_id, is_held, is_one_too_many, state_after}
+use Rattle.rs_session.specs.Table.{acknowledged_by, unreleased_id, is_unreleased, is_one_too_many, state_after}
 use Rattle.rs_session.proofs.Expecting.{IsNoPublish}
 
 pub replies : (r : Option Reply) → Replies r ≢ Closes QuotaExceeded
@@ -49,17 +49,17 @@ no_topic_exceeds (Err topic_fault.TooManyLevels) e = absurd (cc (e))
 no_topic_exceeds (Err topic_fault.Shared) e = absurd (cc (e))
 no_topic_exceeds (Err topic_fault.NoMemory) e = absurd (cc (e))
 
-none_exceeds : (alias : Option ℕ) (refusal : Option ReasonCode) (held many : Bool) (again : Option Reply) → refusal ≢ Some QuotaExceeded
-    → outcome_of_alias alias (outcome_of_topic refusal (outcome_of_id held many again)) ≢ Some (Closes QuotaExceeded)
-none_exceeds (Some alias) refusal held many again other e = absurd (cc (e))
-none_exceeds None (Some code) held many again other e = other (ap (λ (x : ReasonCode). Some x) (let same : code ≡ QuotaExceeded = cc (e) in same))
+none_exceeds : (alias : Option ℕ) (refusal : Option ReasonCode) (unreleased many : Bool) (again : Option Reply) → refusal ≢ Some QuotaExceeded
+    → outcome_of_alias alias (outcome_of_topic refusal (outcome_of_id unreleased many again)) ≢ Some (Closes QuotaExceeded)
+none_exceeds (Some alias) refusal unreleased many again other e = absurd (cc (e))
+none_exceeds None (Some code) unreleased many again other e = other (ap (λ (x : ReasonCode). Some x) (let same : code ≡ QuotaExceeded = cc (e) in same))
 none_exceeds None None true many again other e = absurd (cc (e))
 none_exceeds None None false true again other e = absurd (cc (e))
 none_exceeds None None false false again other e = absurd (cc (e))
 
 pub before_use_certain : (p : Publish) (o : Open) (outcome : Outcome) → outcome_before p o ≡ Some outcome → outcome ≢ Closes QuotaExceeded
 before_use_certain p o outcome before e =
-    none_exceeds p.alias (topic_refusal p.topic) (is_held (held_id p.qos p.id) o.inbound) (is_one_too_many (held_id p.qos p.id) o.inbound) (acknowledged_by p.qos p.id Success) (no_topic_exceeds p.topic)
+    none_exceeds p.alias (topic_refusal p.topic) (is_unreleased (unreleased_id p.qos p.id) o.inbound) (is_one_too_many (unreleased_id p.qos p.id) o.inbound) (acknowledged_by p.qos p.id Success) (no_topic_exceeds p.topic)
     (before ∙ ap (λ (x : Outcome). Some x) e)
 
 -- ---- a submit

@@ -23,7 +23,7 @@ use Rattle.rs_session.specs.Gate.{Mark, TakesAhead}
 use Rattle.rs_session.specs.Points.{Given, given_at}
 use Rattle.rs_session.specs.State.{State, gate_of, state_of, step_of}
 use Rattle.rs_session.specs.Steps.{IsLast, IsUnsent, TakesAheadBy, outcome_before, outcome_of_alias, outcome_of_id, outcome_of_submit, outcome_of_topic, outcome_unmade, topic_refusal}
-use Rattle.rs_session.specs.Table.{acknowledged_by, change, held_id, is_held, is_one_too_many, state_after}
+use Rattle.rs_session.specs.Table.{acknowledged_by, change, unreleased_id, is_unreleased, is_one_too_many, state_after}
 use Rattle.rs_session.proofs.Submitting.{no_sweep}
 use Rattle.rs_session.specs.Ahead.{IsChange, LeavesAhead, is_low, is_topic, may_be_announced}
 
@@ -50,7 +50,7 @@ no_change_sweeps given operation (p, topic, i, may, t, made) = no_sweep _ _ _ _ 
 -- ---- what may be announced leads to nothing before its topic is used
 
 passes : (retain : Bool) (qos : Qos) (alias : Option ℕ) (topic : Result (List ℕ) TopicFault) (id : Option ℕ) (o : Open) → (retain && (is_low qos && (not (is_some alias) && is_topic topic))) ≡ true
-    → outcome_of_alias alias (outcome_of_topic (topic_refusal topic) (outcome_of_id (is_held (held_id qos id) o.inbound) (is_one_too_many (held_id qos id) o.inbound) (acknowledged_by qos id Success))) ≡ None
+    → outcome_of_alias alias (outcome_of_topic (topic_refusal topic) (outcome_of_id (is_unreleased (unreleased_id qos id) o.inbound) (is_one_too_many (unreleased_id qos id) o.inbound) (acknowledged_by qos id Success))) ≡ None
 passes false qos alias topic id o h = absurd (cc)
 passes true ExactlyOnce alias topic id o h = absurd (cc)
 passes true AtMostOnce (Some a) topic id o h = absurd (cc)

@@ -40,7 +40,7 @@ use Rattle.rs_session.specs.Reasons.{code_of}
 use Rattle.rs_session.specs.declared.reason.ReasonCode.{ReasonCode}
 use Rattle.rs_session.specs.declared.reason.ReasonCode.TheVariants.{Success, QuotaExceeded}
 use Rattle.rs_session.specs.State.{State}
-use Rattle.rs_session.specs.Table.{acknowledged_by, acknowledgement_of, change, due_for, held_id, is_held, state_after, Grants, OpenCase, OpenRow, AnsweredInOpen, AnsweredIn, Case, SessionRow, With_method, With_will, Connect_refused, Accepted, Connack_too_long, Other_version, Unexpected, In_session, Over, Faulty, With_alias, Bad_topic, Sent_again, Too_many_held, Not_retained, Kept, Topic_unread, Not_kept, Uncertain, Gate_closed, Released, Wrong_acknowledgement, Acknowledged, Shared_no_local, Not_subscribed, Subscribed, Not_unsubscribed, Unsubscribed, Connected_twice, Pinged, Disconnected}
+use Rattle.rs_session.specs.Table.{acknowledged_by, acknowledgement_of, change, due_for, unreleased_id, is_unreleased, state_after, Grants, OpenCase, OpenRow, AnsweredInOpen, AnsweredIn, Case, SessionRow, With_method, With_will, Connect_refused, Accepted, Connack_too_long, Other_version, Unexpected, In_session, Over, Faulty, With_alias, Bad_topic, Sent_again, Too_many_unreleased, Not_retained, Kept, Topic_unread, Not_kept, Uncertain, Gate_closed, Released, Wrong_acknowledgement, Acknowledged, Shared_no_local, Not_subscribed, Subscribed, Not_unsubscribed, Unsubscribed, Connected_twice, Pinged, Disconnected}
 use Rattle.rs_session.specs.Points.{Given, Point, with_state}
 use Rattle.rs_session.specs.Run.{Exchange, GivesAll, IsExchange, Run}
 use Rattle.rs_session.specs.Replay.{listed}
@@ -284,16 +284,16 @@ abbrev IsEntered : Publish → ℕ → Mark → Mark → List Entry → Type 0
 IsEntered p now mark used list = (topic : List ℕ) × (operation : Operation) × (p.topic ≡ Ok topic) × (change p topic now ≡ Some operation) × IsSubmitted operation mark used list
 
 row_kept : (case : OpenCase) (given : Given) (from : Point Open) (answered : List (List Entry)) (outcome : Outcome) (to : Point Open) (p : Publish) (answer : Reply)
-    → OpenRow case given from answered outcome to → given.input ≡ Whole (packet.Publish p) → p.retain ≡ true → is_held (held_id p.qos p.id) from.state.inbound ≡ false
+    → OpenRow case given from answered outcome to → given.input ≡ Whole (packet.Publish p) → p.retain ≡ true → is_unreleased (unreleased_id p.qos p.id) from.state.inbound ≡ false
     → acknowledged_by p.qos p.id Success ≡ Some answer → outcome ≡ Replies (Some answer) → IsKept case × IsEntered p given.now from.mark to.mark to.seen
 row_kept Connected_twice given from answered outcome to p answer (c, i, out, unchanged) is r f a o = no_publish given.input _ p i refl is
 row_kept Faulty given from answered outcome to p answer (k, i, out, unchanged) is r f a o = no_publish given.input _ p i refl is
 row_kept With_alias given from answered outcome to p answer (q, i, al, out, unchanged) is r f a o = no_answer outcome _ answer out refl o
 row_kept Bad_topic given from answered outcome to p answer (q, k, i, al, t, other, out, unchanged) is r f a o = no_answer outcome _ answer out refl o
-row_kept Sent_again given from answered outcome to p answer (q, i, al, t, held, out, unchanged) is r f a o =
+row_kept Sent_again given from answered outcome to p answer (q, i, al, t, unreleased, out, unchanged) is r f a o =
     let same : q ≡ p = same_publish given.input p q i is in
-    true_false (is_held (held_id q.qos q.id) from.state.inbound) held (ap (λ (x : Publish). is_held (held_id x.qos x.id) from.state.inbound) same ∙ f)
-row_kept Too_many_held given from answered outcome to p answer (q, i, al, t, many, out, unchanged) is r f a o = no_answer outcome _ answer out refl o
+    true_false (is_unreleased (unreleased_id q.qos q.id) from.state.inbound) unreleased (ap (λ (x : Publish). is_unreleased (unreleased_id x.qos x.id) from.state.inbound) same ∙ f)
+row_kept Too_many_unreleased given from answered outcome to p answer (q, i, al, t, many, out, unchanged) is r f a o = no_answer outcome _ answer out refl o
 row_kept Not_retained given from answered outcome to p answer (q, topic, i, taken, t, not_retained, out, u, same) is r f a o =
     true_false p.retain r (sym (ap (λ (x : Publish). x.retain) (same_publish given.input p q i is)) ∙ not_retained)
 row_kept Kept given from answered outcome to p answer (q, topic, operation, i, s, submitted, out, same) is r f a o =
@@ -328,7 +328,7 @@ pub told_row : (from : Point State) (exchange : Exchange) (o : Open) (p : Publis
     → GivesAll exchange.given.now due mid exchange.replies exchange.to.state → IsKept case × IsEntered p exchange.given.now from.mark exchange.to.mark exchange.to.seen
 told_row from exchange o p answer at left outcome due mid case is told here row d same g =
     let same_open : o ≡ at = ap (open_or o) (sym is ∙ here) in
-    let new : is_held (held_id p.qos p.id) at.inbound ≡ false = subst (λ (x : Open). is_held (held_id p.qos p.id) x.inbound ≡ false) same_open told.new in
+    let new : is_unreleased (unreleased_id p.qos p.id) at.inbound ≡ false = subst (λ (x : Open). is_unreleased (unreleased_id p.qos p.id) x.inbound ≡ false) same_open told.new in
     let out : outcome ≡ Replies (Some answer) =
     replied_by exchange at.window.packet_maximum outcome left from.state mid due answer d same g (ack_by p.qos p.id Success answer told.code) (among answer exchange.replies told.replied) in
     row_kept case exchange.given (with_state from at) exchange.answered outcome (with_state exchange.to left) p answer row told.input told.retained new told.code out
@@ -413,8 +413,8 @@ row_marks Connected_twice given from answered outcome to (c, i, out, unchanged) 
 row_marks Faulty given from answered outcome to (f, i, out, unchanged) = grows_itself from.mark to.mark unchanged.none_used
 row_marks With_alias given from answered outcome to (p, i, a, out, unchanged) = grows_itself from.mark to.mark unchanged.none_used
 row_marks Bad_topic given from answered outcome to (p, f, i, a, t, other, out, unchanged) = grows_itself from.mark to.mark unchanged.none_used
-row_marks Sent_again given from answered outcome to (p, i, a, t, held, out, unchanged) = grows_itself from.mark to.mark unchanged.none_used
-row_marks Too_many_held given from answered outcome to (p, i, a, t, many, out, unchanged) = grows_itself from.mark to.mark unchanged.none_used
+row_marks Sent_again given from answered outcome to (p, i, a, t, unreleased, out, unchanged) = grows_itself from.mark to.mark unchanged.none_used
+row_marks Too_many_unreleased given from answered outcome to (p, i, a, t, many, out, unchanged) = grows_itself from.mark to.mark unchanged.none_used
 row_marks Not_retained given from answered outcome to (p, topic, i, taken, t, r, out, u, same) = grows_itself from.mark to.mark u
 row_marks Kept given from answered outcome to (p, topic, operation, i, s, submitted, out, same) = uses_grows from.mark to.mark s.one_used
 row_marks Topic_unread given from answered outcome to (p, i, taken, t, out, unchanged) = grows_itself from.mark to.mark unchanged.none_used

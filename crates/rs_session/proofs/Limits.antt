@@ -26,7 +26,7 @@ use Rattle.rs_session.specs.declared.subscriptions.Subscription.{Subscription}
 use Rattle.rs_session.specs.Subscriptions.{Subscriptions, is_subscribed, replays}
 use Rattle.rs_session.specs.declared.subscriptions.TheConstants.{MAX_SUBSCRIPTIONS}
 use Rattle.rs_session.specs.State.{State, fresh, IsGiven, IsReplayed}
-use Rattle.rs_session.specs.Table.{subscription_for, held_id, held_with, is_one_too_many, holding, open_for, IsTaken, IsSubscribed, IsQueued, IsGrantedTo, Grants, without, without_all, OpenCase, OpenRow, Case, SessionRow, state_after, With_method, With_will, Connect_refused, Accepted, Connack_too_long, Other_version, Unexpected, In_session, Over, Faulty, With_alias, Bad_topic, Sent_again, Too_many_held, Not_retained, Kept, Topic_unread, Not_kept, Uncertain, Gate_closed, Released, Wrong_acknowledgement, Acknowledged, Shared_no_local, Not_subscribed, Subscribed, Not_unsubscribed, Unsubscribed, Connected_twice, Pinged, Disconnected}
+use Rattle.rs_session.specs.Table.{subscription_for, unreleased_id, unreleased_with, is_one_too_many, awaiting_release, open_for, IsTaken, IsSubscribed, IsQueued, IsGrantedTo, Grants, without, without_all, OpenCase, OpenRow, Case, SessionRow, state_after, With_method, With_will, Connect_refused, Accepted, Connack_too_long, Other_version, Unexpected, In_session, Over, Faulty, With_alias, Bad_topic, Sent_again, Too_many_unreleased, Not_retained, Kept, Topic_unread, Not_kept, Uncertain, Gate_closed, Released, Wrong_acknowledgement, Acknowledged, Shared_no_local, Not_subscribed, Subscribed, Not_unsubscribed, Unsubscribed, Connected_twice, Pinged, Disconnected}
 use Rattle.rs_session.specs.Points.{Given, Point, with_state}
 use Rattle.rs_session.specs.Run.{Exchange, Gives, IsExchange, Run, IsWithinLimits}
 use Rattle.rs_session.proofs.SubscriptionLemmas.{len_inserted, len_removed}
@@ -34,25 +34,25 @@ use Rattle.rs_session.proofs.SubscriptionLemmas.{len_inserted, len_removed}
 -- ---- identifiers of QoS 2
 
 insert_within : (there : Bool) (n : ℕ) → (not there && n == RECEIVE_MAXIMUM) ≡ false → n ≤ RECEIVE_MAXIMUM → cond there n (n + 1) ≤ RECEIVE_MAXIMUM
-insert_within true n room few = few
-insert_within false n room few = grind (arith, nat_tests)
+insert_within true n fits few = few
+insert_within false n fits few = grind (arith, nat_tests)
 
-held_within : (id : Option ℕ) (held : set.FinSet nat_cmp) → is_one_too_many id held ≡ false → set.len held ≤ RECEIVE_MAXIMUM → set.len (held_with id held) ≤ RECEIVE_MAXIMUM
-held_within None held room few = few
-held_within (Some id) held room few =
-    let inserted : cond (set.contains held id) (set.len held) (set.len held + 1) ≤ RECEIVE_MAXIMUM = insert_within (set.contains held id) (set.len held) room few in
-    subst (λ n. n ≤ RECEIVE_MAXIMUM) (sym (set.len-insert nat_cmp_total held id)) inserted
+unreleased_within : (id : Option ℕ) (unreleased : set.FinSet nat_cmp) → is_one_too_many id unreleased ≡ false → set.len unreleased ≤ RECEIVE_MAXIMUM → set.len (unreleased_with id unreleased) ≤ RECEIVE_MAXIMUM
+unreleased_within None unreleased fits few = few
+unreleased_within (Some id) unreleased fits few =
+    let inserted : cond (set.contains unreleased id) (set.len unreleased) (set.len unreleased + 1) ≤ RECEIVE_MAXIMUM = insert_within (set.contains unreleased id) (set.len unreleased) fits few in
+    subst (λ n. n ≤ RECEIVE_MAXIMUM) (sym (set.len-insert nat_cmp_total unreleased id)) inserted
 
 remove_within : (there : Bool) (n : ℕ) → n ≤ RECEIVE_MAXIMUM → cond there (n - 1) n ≤ RECEIVE_MAXIMUM
 remove_within true n few = omega arith
 remove_within false n few = few
 
-released_within : (held : set.FinSet nat_cmp) (id : ℕ) → set.len held ≤ RECEIVE_MAXIMUM → set.len (set.remove held id) ≤ RECEIVE_MAXIMUM
-released_within held id few = subst (λ n. n ≤ RECEIVE_MAXIMUM) (sym (set.len-remove nat_cmp_total held id)) (remove_within (set.contains held id) (set.len held) few)
+released_within : (unreleased : set.FinSet nat_cmp) (id : ℕ) → set.len unreleased ≤ RECEIVE_MAXIMUM → set.len (set.remove unreleased id) ≤ RECEIVE_MAXIMUM
+released_within unreleased id few = subst (λ n. n ≤ RECEIVE_MAXIMUM) (sym (set.len-remove nat_cmp_total unreleased id)) (remove_within (set.contains unreleased id) (set.len unreleased) few)
 
-holding_within : (p : Publish) (o : Open) → IsTaken p o → IsWithinLimits o → IsWithinLimits (holding p o)
-holding_within p o taken h =
-    record { subscriptions = h.subscriptions; held = held_within (held_id p.qos p.id) o.inbound taken.has_room h.held; waiting = h.waiting; unacknowledged = h.unacknowledged; quota = h.quota }
+awaiting_release_within : (p : Publish) (o : Open) → IsTaken p o → IsWithinLimits o → IsWithinLimits (awaiting_release p o)
+awaiting_release_within p o taken h =
+    record { subscriptions = h.subscriptions; unreleased = unreleased_within (unreleased_id p.qos p.id) o.inbound taken.fits h.unreleased; waiting = h.waiting; unacknowledged = h.unacknowledged; quota = h.quota }
 
 -- ---- the window
 
@@ -61,7 +61,7 @@ called_within old call after step h =
     let limit : after.quota ≡ old.window.quota = (step_limits old.window call after step).0 in
     record {
       subscriptions = h.subscriptions;
-      held = h.held;
+      unreleased = h.unreleased;
       waiting = step_few old.window call after step h.waiting;
       unacknowledged = omega (arith, limit, step_quota old.window call after step h.unacknowledged);
       quota = omega (arith, limit, h.quota);
@@ -70,7 +70,7 @@ called_within old call after step h =
 -- ---- subscriptions
 
 subscriptions_within : (o : Open) (left : Subscriptions) → finite.len left ≤ MAX_SUBSCRIPTIONS → IsWithinLimits o → IsWithinLimits (record o { subscriptions = left })
-subscriptions_within o left few h = record { subscriptions = few; held = h.held; waiting = h.waiting; unacknowledged = h.unacknowledged; quota = h.quota }
+subscriptions_within o left few h = record { subscriptions = few; unreleased = h.unreleased; waiting = h.waiting; unacknowledged = h.unacknowledged; quota = h.quota }
 
 -- what waits is as before, or more waits
 queued_within : (replayed : Bool) (now : ℕ) (filter : List ℕ) (subscription : Subscription) (list : List Entry) (old new : Open)
@@ -81,10 +81,10 @@ queued_within false now filter subscription list old new same h = subst (λ (w :
 subscribed_within : (now : ℕ) (filter : List ℕ) (subscription : Subscription) (list : List Entry) (old new : Open) → IsSubscribed now filter subscription list old new → IsWithinLimits old → IsWithinLimits new
 subscribed_within now filter subscription list old new s h =
     let w = queued_within (replays subscription.options.retain_handling (is_subscribed filter old.subscriptions)) now filter subscription list old new s.replay h in
-    let few = len_inserted old.subscriptions filter subscription s.place h.subscriptions in
+    let few = len_inserted old.subscriptions filter subscription s.fits h.subscriptions in
     record {
       subscriptions = subst (λ (m : Subscriptions). finite.len m ≤ MAX_SUBSCRIPTIONS) (sym s.kept) few;
-      held = subst (λ (ids : set.FinSet nat_cmp). set.len ids ≤ RECEIVE_MAXIMUM) (sym s.inbound) h.held;
+      unreleased = subst (λ (ids : set.FinSet nat_cmp). set.len ids ≤ RECEIVE_MAXIMUM) (sym s.inbound) h.unreleased;
       waiting = w.waiting;
       unacknowledged = w.unacknowledged;
       quota = w.quota;
@@ -116,17 +116,17 @@ row_within Connected_twice given from answered outcome to (c, i, out, unchanged)
 row_within Faulty given from answered outcome to (f, i, out, unchanged) h = subst IsWithinLimits (sym unchanged.same) h
 row_within With_alias given from answered outcome to (p, i, a, out, unchanged) h = subst IsWithinLimits (sym unchanged.same) h
 row_within Bad_topic given from answered outcome to (p, f, i, a, t, other, out, unchanged) h = subst IsWithinLimits (sym unchanged.same) h
-row_within Sent_again given from answered outcome to (p, i, a, t, held, out, unchanged) h = subst IsWithinLimits (sym unchanged.same) h
-row_within Too_many_held given from answered outcome to (p, i, a, t, many, out, unchanged) h = subst IsWithinLimits (sym unchanged.same) h
-row_within Not_retained given from answered outcome to (p, topic, i, taken, t, r, out, u, same) h = subst IsWithinLimits (sym same) (holding_within p from.state taken h)
-row_within Kept given from answered outcome to (p, topic, operation, i, s, submitted, out, same) h = subst IsWithinLimits (sym same) (holding_within p from.state s.taken h)
+row_within Sent_again given from answered outcome to (p, i, a, t, unreleased, out, unchanged) h = subst IsWithinLimits (sym unchanged.same) h
+row_within Too_many_unreleased given from answered outcome to (p, i, a, t, many, out, unchanged) h = subst IsWithinLimits (sym unchanged.same) h
+row_within Not_retained given from answered outcome to (p, topic, i, taken, t, r, out, u, same) h = subst IsWithinLimits (sym same) (awaiting_release_within p from.state taken h)
+row_within Kept given from answered outcome to (p, topic, operation, i, s, submitted, out, same) h = subst IsWithinLimits (sym same) (awaiting_release_within p from.state s.taken h)
 row_within Topic_unread given from answered outcome to (p, i, taken, t, out, unchanged) h = subst IsWithinLimits (sym unchanged.same) h
 row_within Not_kept given from answered outcome to (p, topic, operation, i, s, out, same) h = subst IsWithinLimits (sym same) h
 row_within Uncertain given from answered outcome to (p, topic, operation, i, s, out, same) h = subst IsWithinLimits (sym same) h
 row_within Gate_closed given from answered outcome to (p, topic, operation, i, s, out, same) h = subst IsWithinLimits (sym same) h
 row_within Released given from answered outcome to (a, i, out, u, same) h =
     let left : IsWithinLimits (record from.state { inbound = set.remove from.state.inbound a.id }) =
-    record { subscriptions = h.subscriptions; held = released_within from.state.inbound a.id h.held; waiting = h.waiting; unacknowledged = h.unacknowledged; quota = h.quota } in
+    record { subscriptions = h.subscriptions; unreleased = released_within from.state.inbound a.id h.unreleased; waiting = h.waiting; unacknowledged = h.unacknowledged; quota = h.quota } in
     subst IsWithinLimits (sym same) left
 row_within Wrong_acknowledgement given from answered outcome to (p, ack, id, i, is, wrong, out, unchanged) h = subst IsWithinLimits (sym unchanged.same) h
 row_within Acknowledged given from answered outcome to (p, ack, id, answer, i, is, step, out, u, same) h =
@@ -150,7 +150,7 @@ PhaseWithin (phase.Ended closing) = Unit {0}
 begun_within : (c : Connect) → IsWithinLimits (open_for c)
 begun_within c = record {
   subscriptions = omega (arith, finite.len-empty (slice_cmp nat_cmp) Subscription);
-  held = omega (arith, set.len-empty nat_cmp);
+  unreleased = omega (arith, set.len-empty nat_cmp);
   waiting = lit≤ tt;
   unacknowledged = omega (arith, finite.len-empty nat_cmp Kind);
   quota = omega arith;

@@ -48,7 +48,7 @@ use Rattle.rs_session.specs.declared.subscriptions.Subscription.{Subscription}
 use Rattle.rs_session.proofs.SubscriptionLemmas.{remove_inserted, get_absent}
 use Rattle.rs_session.proofs.Submitting.{nothing_new, nothing_sent}
 use Rattle.rs_session.specs.Steps.{IsAccepted, connect_refusal, outcome_before, outcome_of_alias, outcome_of_topic, outcome_of_id, outcome_unmade, topic_refusal, IsConcluded}
-use Rattle.rs_session.specs.Table.{Answers, AnswersWithoutGate, LeadsTo, IsNeitherConnectNorVersion, fault_reason, packet_maximum, connack, open_for, change, topic_reason, acknowledged_by, held_id, is_held, is_one_too_many, holding, IsTaken, IsTopicOrUnread, IsHanded, acknowledgement_of, released_by, released_reason, is_shared_local, Grants, IsGranted, removal_reason, removal_codes, without, without_all, due_for, state_after, With_method, With_will, Connect_refused, Accepted, Connack_too_long, Other_version, Unexpected, In_session, Over, Faulty, With_alias, Bad_topic, Sent_again, Too_many_held, Not_retained, Kept, Topic_unread, Not_kept, Uncertain, Gate_closed, Released, Wrong_acknowledgement, Acknowledged, Shared_no_local, Not_subscribed, Subscribed, Not_unsubscribed, Unsubscribed, Connected_twice, Pinged, Disconnected}
+use Rattle.rs_session.specs.Table.{Answers, AnswersWithoutGate, LeadsTo, IsNeitherConnectNorVersion, fault_reason, packet_maximum, connack, open_for, change, topic_reason, acknowledged_by, unreleased_id, is_unreleased, is_one_too_many, awaiting_release, IsTaken, IsTopicOrUnread, IsHanded, acknowledgement_of, released_by, released_reason, is_shared_local, Grants, IsGranted, removal_reason, removal_codes, without, without_all, due_for, state_after, With_method, With_will, Connect_refused, Accepted, Connack_too_long, Other_version, Unexpected, In_session, Over, Faulty, With_alias, Bad_topic, Sent_again, Too_many_unreleased, Not_retained, Kept, Topic_unread, Not_kept, Uncertain, Gate_closed, Released, Wrong_acknowledgement, Acknowledged, Shared_no_local, Not_subscribed, Subscribed, Not_unsubscribed, Unsubscribed, Connected_twice, Pinged, Disconnected}
 
 pub Grows-weaker : (before after : List Entry → Type 0) (P Q : List Entry → List Entry → Type 0) → ((seen list : List Entry) → P seen list → Q seen list) → Grows before after P → Grows before after Q
 Grows-weaker before after P Q f h = λ seen s. let (list, stands, begins, p) = h seen s in (list, stands, begins, f seen list p)
@@ -174,11 +174,11 @@ bad_topic : (p : Publish) (f : TopicFault) (outcome : Outcome) (now : ℕ) (at :
     → LeadsTo (given_at (Whole (packet.Publish p)) now) at [] outcome at
 bad_topic p f outcome now at a t other e = (Bad_topic, refl, (p, f, refl, a, t, other, some_outcome _ _ e, record { none_used = refl; same = refl }))
 
-by_id : (p : Publish) (held many : Bool) (outcome : Outcome) (now : ℕ) (at : Point Open) → is_some p.alias ≡ false → IsTopicOrUnread p.topic
-    → is_held (held_id p.qos p.id) at.state.inbound ≡ held → is_one_too_many (held_id p.qos p.id) at.state.inbound ≡ many → outcome_of_id held many (acknowledged_by p.qos p.id Success) ≡ Some outcome
+by_id : (p : Publish) (unreleased many : Bool) (outcome : Outcome) (now : ℕ) (at : Point Open) → is_some p.alias ≡ false → IsTopicOrUnread p.topic
+    → is_unreleased (unreleased_id p.qos p.id) at.state.inbound ≡ unreleased → is_one_too_many (unreleased_id p.qos p.id) at.state.inbound ≡ many → outcome_of_id unreleased many (acknowledged_by p.qos p.id Success) ≡ Some outcome
     → LeadsTo (given_at (Whole (packet.Publish p)) now) at [] outcome at
 by_id p true many outcome now at a t h m e = (Sent_again, refl, (p, refl, a, t, h, some_outcome _ _ e, record { none_used = refl; same = refl }))
-by_id p false true outcome now at a t h m e = (Too_many_held, refl, (p, refl, a, t, m, some_outcome _ _ e, record { none_used = refl; same = refl }))
+by_id p false true outcome now at a t h m e = (Too_many_unreleased, refl, (p, refl, a, t, m, some_outcome _ _ e, record { none_used = refl; same = refl }))
 by_id p false false outcome now at a t h m e = absurd (cc)
 
 by_topic : (p : Publish) (topic : Result (List ℕ) TopicFault) (rest : Option Outcome) (outcome : Outcome) (now : ℕ) (at : Point Open) → is_some p.alias ≡ false → p.topic ≡ topic
@@ -208,7 +208,7 @@ before_use p outcome now at e =
     (λ a e. by_topic p p.topic _ outcome now at a refl (λ t e. by_id p _ _ outcome now at a t refl refl e) e) e
 
 -- if it leads to nothing, the PUBLISH is taken
-by_no_id : (held many : Bool) (again : Option Reply) → outcome_of_id held many again ≡ None → (held ≡ false) × (many ≡ false)
+by_no_id : (unreleased many : Bool) (again : Option Reply) → outcome_of_id unreleased many again ≡ None → (unreleased ≡ false) × (many ≡ false)
 by_no_id true many again e = absurd (cc)
 by_no_id false true again e = absurd (cc)
 by_no_id false false again e = (refl, refl)
@@ -238,10 +238,10 @@ taken p o e =
     let a = by_no_alias p.alias _ e in
     let t = by_no_topic (topic_refusal p.topic) _ a.1 in
     let i = by_no_id _ _ _ t.1 in
-    (record { no_alias = a.0; not_held = i.0; has_room = i.1 }, unread p.topic t.0)
+    (record { no_alias = a.0; new = i.0; fits = i.1 }, unread p.topic t.0)
 
-pub has_room : (p : Publish) (o : Open) → outcome_before p o ≡ None → is_one_too_many (held_id p.qos p.id) o.inbound ≡ false
-has_room p o e = (taken p o e).0.has_room
+pub id_fits : (p : Publish) (o : Open) → outcome_before p o ≡ None → is_one_too_many (unreleased_id p.qos p.id) o.inbound ≡ false
+id_fits p o e = (taken p o e).0.fits
 
 pub topic_unread : (p : Publish) (f : TopicFault) (outcome : Outcome) (now : ℕ) (at : Point Open) → outcome_before p at.state ≡ None → p.topic ≡ Err f → outcome ≡ Replies (acknowledged_by p.qos p.id QuotaExceeded)
     → LeadsTo (given_at (Whole (packet.Publish p)) now) at [] outcome at
@@ -277,7 +277,7 @@ unretained true topic m c = absurd (cc)
 unretained false topic m c = refl
 
 pub not_retained : (p : Publish) (topic : List ℕ) (outcome : Outcome) (now : ℕ) (from : Point Open) (new : Open) → outcome_before p from.state ≡ None → p.topic ≡ Ok topic → change p topic now ≡ None
-    → outcome ≡ Replies (acknowledged_by p.qos p.id Success) → new ≡ holding p from.state → LeadsTo (given_at (Whole (packet.Publish p)) now) from [] outcome (with_state from new)
+    → outcome ≡ Replies (acknowledged_by p.qos p.id Success) → new ≡ awaiting_release p from.state → LeadsTo (given_at (Whole (packet.Publish p)) now) from [] outcome (with_state from new)
 not_retained p topic outcome now from new e t c d s =
     (Not_retained, refl, (p, topic, refl, (taken p from.state e).0, t, unretained p.retain topic _ c, d, refl, s))
 

@@ -12,7 +12,7 @@ use Rattle.rs_session.specs.declared.phase.Phase.{Phase}
 use Rattle.rs_session.specs.declared.phase.Phase.TheVariants as phase
 use Rattle.rs_session.specs.Gate.{Mark, Sends, entry_by}
 use Rattle.rs_session.specs.State.{State}
-use Rattle.rs_session.specs.Table.{IsHanded, OpenCase, OpenRow, Case, SessionRow, With_method, With_will, Connect_refused, Accepted, Connack_too_long, Other_version, Unexpected, In_session, Over, Faulty, With_alias, Bad_topic, Sent_again, Too_many_held, Not_retained, Kept, Topic_unread, Not_kept, Uncertain, Gate_closed, Released, Wrong_acknowledgement, Acknowledged, Shared_no_local, Not_subscribed, Subscribed, Not_unsubscribed, Unsubscribed, Connected_twice, Pinged, Disconnected}
+use Rattle.rs_session.specs.Table.{IsHanded, OpenCase, OpenRow, Case, SessionRow, With_method, With_will, Connect_refused, Accepted, Connack_too_long, Other_version, Unexpected, In_session, Over, Faulty, With_alias, Bad_topic, Sent_again, Too_many_unreleased, Not_retained, Kept, Topic_unread, Not_kept, Uncertain, Gate_closed, Released, Wrong_acknowledgement, Acknowledged, Shared_no_local, Not_subscribed, Subscribed, Not_unsubscribed, Unsubscribed, Connected_twice, Pinged, Disconnected}
 use Rattle.rs_session.specs.Points.{Point, with_state}
 use Rattle.rs_session.specs.Run.{Exchange, GivesAll, Run}
 use Rattle.rs_session.specs.Kept.{IsToldKept}
@@ -44,7 +44,7 @@ none_told from exchange other is closed o p answer open_ told = shut (phase.Open
 publication : (from : Point State) (exchange : Exchange) (at left : Open) (p : Publish) (topic : List ℕ) (operation : Operation) → from.state.phase ≡ phase.Open at → exchange.given.input ≡ Whole (packet.Publish p)
     → IsHanded p topic operation exchange.given.now (with_state from at) (with_state exchange.to left) → IsPublication from exchange (entry_by operation exchange.to.mark)
 publication from exchange at left p topic operation here i s =
-    record { session = at; publish = p; topic = topic; is_open = here; input = i; new = s.taken.not_held; is_topic = s.is_topic; changes = s.changes; origin = refl }
+    record { session = at; publish = p; topic = topic; is_open = here; input = i; new = s.taken.new; is_topic = s.is_topic; changes = s.changes; origin = refl }
 
 abbrev Sent : Point State → Exchange → Type 0
 Sent from exchange = (first : List Entry) × Sends from.mark.sent first exchange.to.mark.sent × IsSentBy from exchange first
@@ -61,8 +61,8 @@ row_sends Connected_twice from exchange at left outcome here (c, i, out, unchang
 row_sends Faulty from exchange at left outcome here (f, i, out, unchanged) told = ([], none_sent from.mark exchange.to.mark unchanged.none_used, told)
 row_sends With_alias from exchange at left outcome here (p, i, a, out, unchanged) told = ([], none_sent from.mark exchange.to.mark unchanged.none_used, told)
 row_sends Bad_topic from exchange at left outcome here (p, f, i, a, t, other, out, unchanged) told = ([], none_sent from.mark exchange.to.mark unchanged.none_used, told)
-row_sends Sent_again from exchange at left outcome here (p, i, a, t, held, out, unchanged) told = ([], none_sent from.mark exchange.to.mark unchanged.none_used, told)
-row_sends Too_many_held from exchange at left outcome here (p, i, a, t, many, out, unchanged) told = ([], none_sent from.mark exchange.to.mark unchanged.none_used, told)
+row_sends Sent_again from exchange at left outcome here (p, i, a, t, unreleased, out, unchanged) told = ([], none_sent from.mark exchange.to.mark unchanged.none_used, told)
+row_sends Too_many_unreleased from exchange at left outcome here (p, i, a, t, many, out, unchanged) told = ([], none_sent from.mark exchange.to.mark unchanged.none_used, told)
 row_sends Not_retained from exchange at left outcome here (p, topic, i, taken, t, r, out, u, same) told = ([], none_sent from.mark exchange.to.mark u, told)
 row_sends Kept from exchange at left outcome here (p, topic, operation, i, s, submitted, out, same) told =
     (entry_by operation exchange.to.mark ∷ [], submitted.sent, publication from exchange at left p topic operation here i s)

@@ -9,7 +9,7 @@ use Rattle.std.proofs.lemmas.Cmp.{nat_list_cmp_total, nat_list_eq_equiv}
 use Rattle.std.proofs.lemmas.Map.Keys.{IsDistinct-head, IsDistinct-tail}
 use Rattle.std.specs.FinMap.{get, insert, remove, len, from_entries, find, get-from_entries, get-insert, get-remove, len-insert, len-remove, len-empty, same_map, nat_cmp-IsAntisymmetric, slice_cmp-IsAntisymmetric}
 use Rattle.rs_session.specs.declared.subscriptions.Subscription.{Subscription}
-use Rattle.rs_session.specs.Subscriptions.{Subscriptions, is_subscribed, has_place}
+use Rattle.rs_session.specs.Subscriptions.{Subscriptions, is_subscribed, can_subscribe}
 use Rattle.rs_session.specs.declared.subscriptions.TheConstants.{MAX_SUBSCRIPTIONS}
 
 abbrev Entries : Type 0
@@ -102,13 +102,13 @@ remove_inserted m k v e =
 -- ---- how many there are
 
 one_more : (b : Bool) (n most : ℕ) → b || nat_lt n most ≡ true → n ≤ most → cond b n (n + 1) ≤ most
-one_more true n most place few = few
-one_more false n most place few = omega (arith, ltb-true n most place)
+one_more true n most can few = few
+one_more false n most can few = omega (arith, ltb-true n most can)
 
--- one that has a place keeps the limit
-pub len_inserted : (m : Subscriptions) (k : List ℕ) (v : Subscription) → has_place k m ≡ true → len m ≤ MAX_SUBSCRIPTIONS → len (insert m k v) ≤ MAX_SUBSCRIPTIONS
-len_inserted m k v place few =
-    let kept : cond (is_subscribed k m) (len m) (len m + 1) ≤ MAX_SUBSCRIPTIONS = one_more (is_subscribed k m) (len m) MAX_SUBSCRIPTIONS place few in
+-- one that the session can subscribe to keeps the limit
+pub len_inserted : (m : Subscriptions) (k : List ℕ) (v : Subscription) → can_subscribe k m ≡ true → len m ≤ MAX_SUBSCRIPTIONS → len (insert m k v) ≤ MAX_SUBSCRIPTIONS
+len_inserted m k v can few =
+    let kept : cond (is_subscribed k m) (len m) (len m + 1) ≤ MAX_SUBSCRIPTIONS = one_more (is_subscribed k m) (len m) MAX_SUBSCRIPTIONS can few in
     subst (λ n. n ≤ MAX_SUBSCRIPTIONS) (sym (len-insert nat_list_cmp_total m k v)) kept
 
 one_less : (b : Bool) (n : ℕ) → cond b (n - 1) n ≤ n

@@ -12,7 +12,7 @@ use Rattle.rs_session.specs.Gate.{Mark, Extends}
 use Rattle.rs_session.specs.Points.{Point}
 use Rattle.rs_session.specs.Run.{Exchange, AreOfGate}
 use Rattle.rs_session.specs.State.{State}
-use Rattle.rs_session.specs.Table.{acknowledged_by, change, held_id, is_held}
+use Rattle.rs_session.specs.Table.{acknowledged_by, change, unreleased_id, is_unreleased}
 use Rattle.rs_session.specs.declared.open.Open.{Open}
 use Rattle.rs_session.specs.declared.phase.Input.TheVariants.{Whole}
 use Rattle.rs_session.specs.declared.reason.ReasonCode.TheVariants.{Success}
@@ -50,7 +50,7 @@ pub record MarkGrows (old new : Mark) : Type 0 where
 pub record IsToldKept (o : Open) (exchange : Exchange) (p : Publish) (answer : Reply) : Type 0 where
   pub input : exchange.given.input ≡ Whole (packet.Publish p)
   pub retained : p.retain ≡ true
-  pub new : is_held (held_id p.qos p.id) o.inbound ≡ false
+  pub new : is_unreleased (unreleased_id p.qos p.id) o.inbound ≡ false
   pub code : acknowledged_by p.qos p.id Success ≡ Some answer
   pub replied : Contains exchange.replies answer
 

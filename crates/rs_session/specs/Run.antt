@@ -72,7 +72,7 @@ replies_left due state = due_count due + length (waiting_of state.phase)
 -- of messages that are not acknowledged
 pub record IsWithinLimits (o : Open) : Type 0 where
   pub subscriptions : finite.len o.subscriptions ≤ MAX_SUBSCRIPTIONS
-  pub held : set.len o.inbound ≤ RECEIVE_MAXIMUM
+  pub unreleased : set.len o.inbound ≤ RECEIVE_MAXIMUM
   pub waiting : length o.window.waiting ≤ MAX_WAITING
   pub unacknowledged : finite.len o.window.kinds ≤ o.window.quota
   pub quota : o.window.quota ≤ MAX_QUOTA

@@ -9,7 +9,7 @@ use Rattle.rs_session.specs.Kept.{IsToldKept}
 use Rattle.rs_session.specs.Points.{Point}
 use Rattle.rs_session.specs.Run.{Exchange}
 use Rattle.rs_session.specs.State.{State}
-use Rattle.rs_session.specs.Table.{change, held_id, is_held}
+use Rattle.rs_session.specs.Table.{change, unreleased_id, is_unreleased}
 use Rattle.rs_session.specs.declared.open.Open.{Open}
 use Rattle.rs_session.specs.declared.phase.Input.TheVariants.{Whole}
 use Rattle.rs_session.specs.declared.phase.Phase.TheVariants as phase
@@ -22,7 +22,7 @@ pub record IsPublication (before : Point State) (exchange : Exchange) (e : Entry
   pub topic : List ℕ
   pub is_open : before.state.phase ≡ phase.Open session
   pub input : exchange.given.input ≡ Whole (packet.Publish publish)
-  pub new : is_held (held_id publish.qos publish.id) session.inbound ≡ false
+  pub new : is_unreleased (unreleased_id publish.qos publish.id) session.inbound ≡ false
   pub is_topic : publish.topic ≡ Ok topic
   pub changes : change publish topic exchange.given.now ≡ Some e.operation
   pub origin : e.origin ≡ last_origin exchange.to.mark

@@ -17,7 +17,7 @@ use Rattle.rs_session.specs.Reasons.{code_of}
 use Rattle.rs_session.specs.declared.reason.ReasonCode.{ReasonCode}
 use Rattle.rs_session.specs.declared.reason.ReasonCode.TheVariants.{Success, BadAuthenticationMethod, ImplementationSpecificError, QuotaExceeded, ReceiveMaximumExceeded, TopicAliasInvalid}
 use Rattle.rs_session.specs.State.{State, opened, ended}
-use Rattle.rs_session.specs.Table.{acknowledged_by, held_id, held_with, is_held, is_one_too_many, topic_reason}
+use Rattle.rs_session.specs.Table.{acknowledged_by, unreleased_id, unreleased_with, is_unreleased, is_one_too_many, topic_reason}
 use Rattle.rs_session.specs.declared.open.Open.{Open}
 use Rattle.rs_session.specs.declared.open.Outcome.{Outcome}
 use Rattle.rs_session.specs.declared.open.Outcome.TheVariants.{Replies, Closes, Leaves}
@@ -44,7 +44,7 @@ abbrev pub topic_refusal : Result (List ℕ) TopicFault → Option ReasonCode
 topic_refusal (Ok topic) = None
 topic_refusal (Err fault) = fault_refusal fault
 
--- by its identifier: one that is held, then one too many
+-- by its identifier: one that is not released yet, then one too many
 abbrev pub outcome_of_id : Bool → Bool → Option Reply → Option Outcome
 outcome_of_id true many again = Some (Replies again)
 outcome_of_id false true again = Some (Closes ReceiveMaximumExceeded)
@@ -65,7 +65,7 @@ outcome_of_alias None rest = rest
 abbrev pub outcome_before : Publish → Open → Option Outcome
 outcome_before p o =
     outcome_of_alias p.alias (outcome_of_topic (topic_refusal p.topic)
-    (outcome_of_id (is_held (held_id p.qos p.id) o.inbound) (is_one_too_many (held_id p.qos p.id) o.inbound) (acknowledged_by p.qos p.id Success)))
+    (outcome_of_id (is_unreleased (unreleased_id p.qos p.id) o.inbound) (is_one_too_many (unreleased_id p.qos p.id) o.inbound) (acknowledged_by p.qos p.id Success)))
 
 -- what a submit leads to, by what became of the change
 abbrev pub outcome_of_submit : Result (Unit {0}) SubmitFault → Qos → Option ℕ → Outcome
@@ -79,7 +79,7 @@ outcome_of_submit (Err Closed) qos id = Closes ImplementationSpecificError
 -- what a submit leads to, with what stands then
 abbrev pub IsConcluded : Operation → Qos → Option ℕ → Point Open → Outcome → Point Open → Type 0
 IsConcluded operation qos id from outcome to =
-    (IsSubmitted operation from.mark to.mark to.seen × (outcome ≡ Replies (acknowledged_by qos id Success)) × (to.state ≡ record from.state { inbound = held_with (held_id qos id) from.state.inbound }))
+    (IsSubmitted operation from.mark to.mark to.seen × (outcome ≡ Replies (acknowledged_by qos id Success)) × (to.state ≡ record from.state { inbound = unreleased_with (unreleased_id qos id) from.state.inbound }))
     ⊎ (((outcome ≡ Replies (acknowledged_by qos id QuotaExceeded)) × (to.state ≡ from.state))
     ⊎ (((outcome ≡ Closes QuotaExceeded) × (to.state ≡ from.state))
     ⊎ ((outcome ≡ Closes ImplementationSpecificError) × (to.state ≡ from.state))))

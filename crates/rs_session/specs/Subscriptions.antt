@@ -18,9 +18,9 @@ none = finite.empty
 abbrev pub is_subscribed : List ℕ → Subscriptions → Bool
 is_subscribed filter subscriptions = is_some (finite.get subscriptions filter)
 
--- it is there, or there is room for it
-abbrev pub has_place : List ℕ → Subscriptions → Bool
-has_place filter subscriptions = is_subscribed filter subscriptions || nat_lt (finite.len subscriptions) MAX_SUBSCRIPTIONS
+-- it is there, or the session may have one more
+abbrev pub can_subscribe : List ℕ → Subscriptions → Bool
+can_subscribe filter subscriptions = is_subscribed filter subscriptions || nat_lt (finite.len subscriptions) MAX_SUBSCRIPTIONS
 
 -- 3.8.3.1: whether the retained messages are sent, to a subscription that was there before or was not
 abbrev pub replays : RetainHandling → Bool → Bool

@@ -36,7 +36,7 @@ use Rattle.rs_session.specs.Points.{Given, Point, given_at, point_at, with_state
 use Rattle.rs_session.specs.Reasons.{code_of}
 use Rattle.rs_session.specs.declared.reason.ReasonCode.{ReasonCode}
 use Rattle.rs_session.specs.declared.reason.ReasonCode.TheVariants.{Success, MalformedPacket, ProtocolError, ImplementationSpecificError, UnsupportedProtocolVersion, BadAuthenticationMethod, TopicFilterInvalid, TopicNameInvalid, PacketIdentifierNotFound, ReceiveMaximumExceeded, TopicAliasInvalid, PacketTooLarge, QuotaExceeded, SharedSubscriptionsNotSupported, NoSubscriptionExisted}
-use Rattle.rs_session.specs.Subscriptions.{Subscriptions, is_subscribed, has_place, replays}
+use Rattle.rs_session.specs.Subscriptions.{Subscriptions, is_subscribed, can_subscribe, replays}
 use Rattle.rs_session.specs.declared.subscriptions.Subscription.{Subscription}
 use Rattle.rs_session.specs.State.{State, opened, ended, within}
 use Rattle.rs_session.specs.declared.open.Open.{Open}
@@ -99,34 +99,34 @@ acknowledged_by AtMostOnce id code = None
 acknowledged_by AtLeastOnce id code = option_map (λ n. reply.Puback n (code_of code)) id
 acknowledged_by ExactlyOnce id code = option_map (λ n. reply.Pubrec n (code_of code)) id
 
--- 4.3.3: the identifier of a PUBLISH of QoS 2 is held until its PUBREL
-abbrev pub held_id : Qos → Option ℕ → Option ℕ
-held_id AtMostOnce id = None
-held_id AtLeastOnce id = None
-held_id ExactlyOnce id = id
+-- 4.3.3: the identifier of a PUBLISH of QoS 2, which its PUBREL releases
+abbrev pub unreleased_id : Qos → Option ℕ → Option ℕ
+unreleased_id AtMostOnce id = None
+unreleased_id AtLeastOnce id = None
+unreleased_id ExactlyOnce id = id
 
-abbrev pub is_held : Option ℕ → set.FinSet nat_cmp → Bool
-is_held None held = false
-is_held (Some id) held = set.contains held id
+abbrev pub is_unreleased : Option ℕ → set.FinSet nat_cmp → Bool
+is_unreleased None unreleased = false
+is_unreleased (Some id) unreleased = set.contains unreleased id
 
-abbrev pub held_with : Option ℕ → set.FinSet nat_cmp → set.FinSet nat_cmp
-held_with None held = held
-held_with (Some id) held = set.insert held id
+abbrev pub unreleased_with : Option ℕ → set.FinSet nat_cmp → set.FinSet nat_cmp
+unreleased_with None unreleased = unreleased
+unreleased_with (Some id) unreleased = set.insert unreleased id
 
--- 3.3.4: as many as the server's Receive Maximum are held, and this one is another
+-- 3.3.4: as many as the server's Receive Maximum are not released, and this one is another
 abbrev pub is_one_too_many : Option ℕ → set.FinSet nat_cmp → Bool
-is_one_too_many None held = false
-is_one_too_many (Some id) held = not (set.contains held id) && set.len held == RECEIVE_MAXIMUM
+is_one_too_many None unreleased = false
+is_one_too_many (Some id) unreleased = not (set.contains unreleased id) && set.len unreleased == RECEIVE_MAXIMUM
 
 -- neither sent again, nor one too many
 pub record IsTaken (p : Publish) (o : Open) : Type 0 where
   pub no_alias : is_some p.alias ≡ false
-  pub not_held : is_held (held_id p.qos p.id) o.inbound ≡ false
-  pub has_room : is_one_too_many (held_id p.qos p.id) o.inbound ≡ false
+  pub new : is_unreleased (unreleased_id p.qos p.id) o.inbound ≡ false
+  pub fits : is_one_too_many (unreleased_id p.qos p.id) o.inbound ≡ false
 
--- its identifier is held from now on
-abbrev pub holding : Publish → Open → Open
-holding p o = record o { inbound = held_with (held_id p.qos p.id) o.inbound }
+-- its identifier awaits its PUBREL from now on
+abbrev pub awaiting_release : Publish → Open → Open
+awaiting_release p o = record o { inbound = unreleased_with (unreleased_id p.qos p.id) o.inbound }
 
 -- 3.4, 3.5, 3.7: which packets acknowledge what the server sent
 abbrev pub acknowledgement_of : Packet → Option (window.Acknowledgement × ℕ)
@@ -143,9 +143,9 @@ released_by (window.Pubrec code) id Ack.Released = Some (reply.Pubrel id (code_o
 released_by (window.Pubrec code) id Ack.Freed = None
 released_by (window.Pubrec code) id Ack.Unknown = if nat_lt code 0x80 then Some (reply.Pubrel id (code_of PacketIdentifierNotFound)) else None
 
--- 3.7.2.1: a PUBREL for an identifier that is held, or is not
+-- 3.7.2.1: a PUBREL for an identifier that awaits it, or does not
 abbrev pub released_reason : ℕ → set.FinSet nat_cmp → ReasonCode
-released_reason id held = if set.contains held id then Success else PacketIdentifierNotFound
+released_reason id unreleased = if set.contains unreleased id then Success else PacketIdentifierNotFound
 
 -- ---- 3.8, 3.9: SUBSCRIBE and SUBACK
 
@@ -169,16 +169,16 @@ abbrev pub IsQueued : ℕ → List ℕ → Subscription → List Entry → Open 
 IsQueued now filter subscription list old new =
     (found : List Found) × IsAnswer list filter now found × window.IsQueued found subscription.options.qos subscription.identifier old.window (Ok tt) new.window
 
--- The filter has a place, and its subscription is new or replaces the one before. If Retain Handling says so, the retained
+-- The session can subscribe to the filter, and its subscription is new or replaces the one before. If Retain Handling says so, the retained
 -- messages wait after the rest.
 pub record IsSubscribed (now : ℕ) (filter : List ℕ) (subscription : Subscription) (list : List Entry) (old new : Open) : Type 0 where
-  pub place : has_place filter old.subscriptions ≡ true
+  pub fits : can_subscribe filter old.subscriptions ≡ true
   pub kept : new.subscriptions ≡ finite.insert old.subscriptions filter subscription
   pub replay : MatchBool (replays subscription.options.retain_handling (is_subscribed filter old.subscriptions)) (IsQueued now filter subscription list old new) (new.window ≡ old.window)
   pub inbound : new.inbound ≡ old.inbound
 
 -- One filter: its fault, its subscription, or a refusal, after which all is as before. A refusal comes if
--- there is no place, if too many would wait, or if memory is refused, which may be at any time.
+-- the session has too many, if too many would wait, or if memory is refused, which may be at any time.
 abbrev pub IsGrantedTo : Filter → Subscription → ℕ → List Entry → Open → ℕ → Open → Type 0
 IsGrantedTo (Err fault) subscription now list old code new = (code ≡ code_of (filter_reason fault)) × (new ≡ old)
 IsGrantedTo (Ok filter) subscription now list old code new = ((code ≡ level subscription.options.qos) × IsSubscribed now filter subscription list old new) ⊎ ((code ≡ code_of QuotaExceeded) × (new ≡ old))
@@ -237,7 +237,7 @@ pub data OpenCase : Type 0 where
   With_alias : OpenCase
   Bad_topic : OpenCase
   Sent_again : OpenCase
-  Too_many_held : OpenCase
+  Too_many_unreleased : OpenCase
   Not_retained : OpenCase
   Kept : OpenCase
   Topic_unread : OpenCase
@@ -288,19 +288,19 @@ OpenRow Bad_topic given from answered outcome to =
     × (outcome ≡ Closes (topic_reason fault)) × IsUnchanged from to
 -- 4.3.3: it is the same publication
 OpenRow Sent_again given from answered outcome to =
-    (p : Publish) × (given.input ≡ Whole (packet.Publish p)) × (is_some p.alias ≡ false) × IsTopicOrUnread p.topic × (is_held (held_id p.qos p.id) from.state.inbound ≡ true)
+    (p : Publish) × (given.input ≡ Whole (packet.Publish p)) × (is_some p.alias ≡ false) × IsTopicOrUnread p.topic × (is_unreleased (unreleased_id p.qos p.id) from.state.inbound ≡ true)
     × (outcome ≡ Replies (acknowledged_by p.qos p.id Success)) × IsUnchanged from to
 -- 3.3.4
-OpenRow Too_many_held given from answered outcome to =
-    (p : Publish) × (given.input ≡ Whole (packet.Publish p)) × (is_some p.alias ≡ false) × IsTopicOrUnread p.topic × (is_one_too_many (held_id p.qos p.id) from.state.inbound ≡ true)
+OpenRow Too_many_unreleased given from answered outcome to =
+    (p : Publish) × (given.input ≡ Whole (packet.Publish p)) × (is_some p.alias ≡ false) × IsTopicOrUnread p.topic × (is_one_too_many (unreleased_id p.qos p.id) from.state.inbound ≡ true)
     × (outcome ≡ Closes ReceiveMaximumExceeded) × IsUnchanged from to
 -- 3.3.1.3: RETAIN 0 changes nothing
 OpenRow Not_retained given from answered outcome to =
     (p : Publish) × (topic : List ℕ) × (given.input ≡ Whole (packet.Publish p)) × IsTaken p from.state × (p.topic ≡ Ok topic) × (p.retain ≡ false)
-    × (outcome ≡ Replies (acknowledged_by p.qos p.id Success)) × (to.mark ≡ from.mark) × (to.state ≡ holding p from.state)
+    × (outcome ≡ Replies (acknowledged_by p.qos p.id Success)) × (to.mark ≡ from.mark) × (to.state ≡ awaiting_release p from.state)
 OpenRow Kept given from answered outcome to =
     (p : Publish) × (topic : List ℕ) × (operation : Operation) × (given.input ≡ Whole (packet.Publish p)) × IsHanded p topic operation given.now from to × IsSubmitted operation from.mark to.mark to.seen
-    × (outcome ≡ Replies (acknowledged_by p.qos p.id Success)) × (to.state ≡ holding p from.state)
+    × (outcome ≡ Replies (acknowledged_by p.qos p.id Success)) × (to.state ≡ awaiting_release p from.state)
 -- no memory for the topic, which may be at any time
 OpenRow Topic_unread given from answered outcome to =
     (p : Publish) × (given.input ≡ Whole (packet.Publish p)) × IsTaken p from.state × (p.topic ≡ Err topic_fault.NoMemory)

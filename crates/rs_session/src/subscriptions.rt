@@ -88,7 +88,7 @@ impl Subscriptions {
     /// Removes the subscription to this filter, and says whether there was one (3.10.4).
     #[tactic(auto, using(crate::proofs::SubscriptionLemmas::get_by_filter, crate::proofs::SubscriptionLemmas::removed))]
     pub fn remove(&mut self, filter: &TopicFilter) -> bool
-        ensures held { result ≡ is_subscribed filter.now self.old }
+        ensures there { result ≡ is_subscribed filter.now self.old }
         ensures removed { self.new ≡ finite.remove self.old filter.now }
     {
         self.map.swap_remove(filter).is_some()

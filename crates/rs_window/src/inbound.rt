@@ -40,7 +40,7 @@ fn is_in(ids: &[u16], id: u16) -> bool
 /// Removes an identifier from the table, and tells whether it was there.
 fn take_out(ids: &mut ArrayVec<u16, MAX_HELD>, id: u16) -> bool
     requires { IsDistinct ids.old.items }
-    ensures held { result ≡ set.contains (held_of ids.old.items) id }
+    ensures there { result ≡ set.contains (held_of ids.old.items) id }
     ensures removed { held_of ids.new.items ≡ set.remove (held_of ids.old.items) id }
     ensures distinct { IsDistinct ids.new.items }
 {
@@ -138,7 +138,7 @@ impl Inbound {
 
     /// Holds the identifier no longer, and tells whether it was held.
     pub fn release(&mut self, id: PacketId) -> bool
-        ensures held { result ≡ set.contains self.old id }
+        ensures there { result ≡ set.contains self.old id }
         ensures removed { self.new ≡ set.remove self.old id }
     {
         take_out(&mut self.ids, id.get())

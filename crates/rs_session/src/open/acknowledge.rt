@@ -49,7 +49,7 @@ impl Open {
         }
     }
 
-    /// Its identifier is held no longer.
+    /// Its identifier is released.
     pub(super) fn pubrel(&mut self, a: Acknowledgement) -> Outcome
         ensures { LeadsWithoutGate (Input.Whole (Packet.Pubrel a)) self.old result self.new }
     {

@@ -7,7 +7,7 @@ ghost use Rattle.rs_session.specs.Gate.{Grows, GrowsAnswering, IsHandedOver, Sen
 ghost use Rattle.rs_session.specs.Points.{given_at, point_at};
 ghost use Rattle.rs_session.specs.Ahead.{IsChange, LeavesAhead};
 ghost use Rattle.rs_session.specs.Steps.{IsConcluded, IsUnsent, NoneSent, TakesAheadBy, outcome_before, outcome_of_submit, outcome_of_id, outcome_unmade, topic_refusal};
-ghost use Rattle.rs_session.specs.Table.{LeadsTo, acknowledged_by, held_id, held_with, is_held, is_one_too_many};
+ghost use Rattle.rs_session.specs.Table.{LeadsTo, acknowledged_by, unreleased_id, unreleased_with, is_unreleased, is_one_too_many};
 
 use super::{Open, Outcome};
 use crate::gate::Gate;
@@ -52,13 +52,13 @@ impl Open {
         self.outcome_of_id(p.qos, p.id)
     }
 
-    /// What the identifier of a PUBLISH leads to, if it is held already or is one too many.
+    /// What the identifier of a PUBLISH leads to, if it is not released yet or is one too many.
     fn outcome_of_id(&self, qos: Qos, id: Option<PacketId>) -> Option<Outcome>
-        ensures { result ≡ outcome_of_id (is_held (held_id qos id) self.now.inbound) (is_one_too_many (held_id qos id) self.now.inbound) (acknowledged_by qos id ReasonCode.Success) }
+        ensures { result ≡ outcome_of_id (is_unreleased (unreleased_id qos id) self.now.inbound) (is_one_too_many (unreleased_id qos id) self.now.inbound) (acknowledged_by qos id ReasonCode.Success) }
     {
         let own_id = id;
-        let held = held_id(qos, id)?;
-        if self.inbound.holds(held) {
+        let unreleased = unreleased_id(qos, id)?;
+        if self.inbound.holds(unreleased) {
             return Some(Outcome::Replies(acknowledged_by(qos, own_id, ReasonCode::Success)));
         }
         if self.inbound.is_full() {
@@ -104,8 +104,8 @@ impl Open {
         match Operation::of(alloc, retain, topic, payload, qos, now, expiry, properties) {
             Ok(Some(operation)) => self.submit(gate, operation, qos, id),
             Ok(None) => {
-                let held = id;
-                self.hold(qos, held);
+                let unreleased = id;
+                self.await_release(qos, unreleased);
                 Outcome::Replies(acknowledged_by(qos, id, ReasonCode::Success))
             }
             Err(AllocError) => outcome_unmade(gate, qos, id),
@@ -119,7 +119,7 @@ impl Open {
         qos: Qos,
         id: Option<PacketId>,
     ) -> Outcome
-        requires room { is_one_too_many (held_id qos id) self.old.inbound ≡ false }
+        requires fits { is_one_too_many (unreleased_id qos id) self.old.inbound ≡ false }
         requires change { is_sweep operation ≡ false }
         ensures list { Grows (G.stands gate.old) (G.stands gate.new) (λ seen list.
             IsHandedOver operation (G.mark gate.new) seen list
@@ -131,19 +131,19 @@ impl Open {
     {
         let submitted = gate.submit(operation);
         if submitted.is_ok() {
-            let held = id;
-            self.hold(qos, held);
+            let unreleased = id;
+            self.await_release(qos, unreleased);
         }
         outcome_of_submit(submitted, qos, id)
     }
 
-    /// At QoS 2 the identifier is held from now on.
-    fn hold(&mut self, qos: Qos, id: Option<PacketId>)
-        requires { is_one_too_many (held_id qos id) self.old.inbound ≡ false }
-        ensures { self.new ≡ record self.old { inbound = held_with (held_id qos id) self.old.inbound } }
+    /// At QoS 2 the identifier awaits its PUBREL from now on.
+    fn await_release(&mut self, qos: Qos, id: Option<PacketId>)
+        requires { is_one_too_many (unreleased_id qos id) self.old.inbound ≡ false }
+        ensures { self.new ≡ record self.old { inbound = unreleased_with (unreleased_id qos id) self.old.inbound } }
     {
-        if let Some(held) = held_id(qos, id) {
-            match self.inbound.begin(held) {
+        if let Some(unreleased) = unreleased_id(qos, id) {
+            match self.inbound.begin(unreleased) {
                 Ok(()) => {}
                 Err(_) => unreachable!(),
             }
@@ -190,9 +190,9 @@ fn topic_reason(topic: &Result<TopicName, TopicFault>) -> Option<ReasonCode>
     }
 }
 
-/// The identifier that a PUBLISH of QoS 2 holds.
-fn held_id(qos: Qos, id: Option<PacketId>) -> Option<PacketId>
-    ensures { result ≡ held_id qos id }
+/// The identifier of a PUBLISH of QoS 2.
+fn unreleased_id(qos: Qos, id: Option<PacketId>) -> Option<PacketId>
+    ensures { result ≡ unreleased_id qos id }
 {
     match qos {
         Qos::AtMostOnce | Qos::AtLeastOnce => None,

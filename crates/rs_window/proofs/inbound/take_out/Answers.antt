@@ -4,8 +4,8 @@ use Rattle.rs_window.specs.Held.{held_of, IsDistinct}
 use Rattle.rs_window.proofs.HeldLemmas.{standing, not_standing, removed_none, taken_set, taken_distinct}
 use Rattle.rs_window.proofs.inbound.take_out.Goals as goal
 
-pub returns-in-Some-clause-held : goal.returns-in-Some-clause-held
-returns-in-Some-clause-held c =
+pub returns-in-Some-clause-there : goal.returns-in-Some-clause-there
+returns-in-Some-clause-there c =
     let found = c.in-Some.ensures.found in
     sym (subst (λ (xs : List ℕ). set.contains (held_of xs) c.args.id ≡ true) c.as_slice.ensures.value (standing c.as_slice.result.now c.in-Some.i c.args.id found.0 found.1))
 
@@ -19,8 +19,8 @@ returns-in-Some-clause-distinct c =
     let found = c.in-Some.ensures.found in
     subst IsDistinct (sym c.remove.ensures.items) (taken_distinct c.as_slice.result.now c.args.ids.now.items c.in-Some.i c.args.id c.as_slice.ensures.value found.0 found.1 c.requires)
 
-pub returns-in-None-clause-held : goal.returns-in-None-clause-held
-returns-in-None-clause-held c =
+pub returns-in-None-clause-there : goal.returns-in-None-clause-there
+returns-in-None-clause-there c =
     sym (subst (λ (xs : List ℕ). set.contains (held_of xs) c.args.id ≡ false) c.as_slice.ensures.value (not_standing c.as_slice.result.now c.args.id c.in-None.ensures.none))
 
 pub returns-in-None-clause-removed : goal.returns-in-None-clause-removed

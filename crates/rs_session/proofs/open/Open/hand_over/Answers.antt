@@ -39,11 +39,11 @@ pub returns-in-Ok-None-clause-row : goal.returns-in-Ok-None-clause-row
 returns-in-Ok-None-clause-row g c =
     let o = c.args.self.now in
     let outcome = Replies c.acknowledged_by-in-Ok-None.result in
-    let to = c.hold.new.self in
+    let to = c.await_release.new.self in
     let Leads : PublishValue → List Entry → List (List Entry) → List Entry → Mark → Type 0 = λ p seen answered list used. LeadsTo (given_at (Whole (packet.Publish p)) c.args.now) (point_at o seen (g.G.Gate.mark c.args.gate.now)) answered outcome (point_at to list used) in
     unmoved g.G.Gate.stands g.G.Gate.mark c.args.gate.now c.args.gate.now (Leads c.args.p) refl
     (λ list. subst (λ (p : PublishValue). outcome_before p o ≡ None → Leads p list [] list (g.G.Gate.mark c.args.gate.now)) c.p.view_is
-    (λ e. not_retained _ c.in-Ok.topic outcome c.args.now (point_at o list _) to e c.in-Ok.is (sym c.in-Ok-None.ensures.ok ∙ c.in-Ok-None.field-0-is) (ap Replies c.acknowledged_by-in-Ok-None.ensures) c.hold.ensures) c.requires.before)
+    (λ e. not_retained _ c.in-Ok.topic outcome c.args.now (point_at o list _) to e c.in-Ok.is (sym c.in-Ok-None.ensures.ok ∙ c.in-Ok-None.field-0-is) (ap Replies c.acknowledged_by-in-Ok-None.ensures) c.await_release.ensures) c.requires.before)
 
 pub returns-in-Err-clause-row : goal.returns-in-Err-clause-row
 returns-in-Err-clause-row g c =

@@ -12,7 +12,7 @@ use Rattle.rs_session.proofs.open.Open.pubrel.Goals.{then-release, else-release}
 pub returns : goal.returns
 returns c = λ now mark list.
     let code : c.if-release.reason ≡ released_reason c.args.a.id c.args.self.now.inbound = elim c.if-release.branch [
-      | then-release w ↦ w.reason-is ∙ ap (λ (b : Bool). cond b Success PacketIdentifierNotFound) w.if-release.ensures.held
-      | else-release w ↦ w.reason-is ∙ ap (λ (b : Bool). cond b Success PacketIdentifierNotFound) w.if-release.ensures.held
+      | then-release w ↦ w.reason-is ∙ ap (λ (b : Bool). cond b Success PacketIdentifierNotFound) w.if-release.ensures.there
+      | else-release w ↦ w.reason-is ∙ ap (λ (b : Bool). cond b Success PacketIdentifierNotFound) w.if-release.ensures.there
     ] in
     released c.args.a c.code.result c.if-release.reason now (point_at c.args.self.now list mark) _ c.code.ensures code (ap (λ (s : FinSet nat_cmp). let o : Open = record c.args.self.now { inbound = s } in o) c.release.ensures.removed)

@@ -19,6 +19,6 @@ invariant-filters g l = record {
   mark : g.G.Gate.mark l.gate ≡ g.G.Gate.mark l.initial.gate;
   ahead : g.G.Gate.ahead l.gate ≡ g.G.Gate.ahead l.initial.gate;
   all : l.yielded ++ into_iter_items l.asked-iterator ≡ l.fn.s.filters;
-  room : vec_len l.codes + length (into_iter_items l.asked-iterator) ≤ vec_capacity l.codes;
+  capacity : vec_len l.codes + length (into_iter_items l.asked-iterator) ≤ vec_capacity l.codes;
   few : vec_len l.codes + length (into_iter_items l.asked-iterator) ≤ MAX_PACKET_SIZE;
 }

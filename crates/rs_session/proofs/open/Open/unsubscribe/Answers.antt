@@ -20,7 +20,7 @@ loop-filter-preserved c =
       coded = removed_code (take i items) _ c.filter-item.result c.args.self.now c.loop-filter.self c.loop-filter.codes.items _ c.remove-reason.result more c.loop-filter.invariant.coded c.loop-filter.invariant.removed c.remove-reason.ensures.code (c.push_reserved.ensures.items ∙ ap (λ (n : ℕ). c.loop-filter.codes.items ++ n ∷ []) c.code.ensures);
       removed = removed_all (take i items) _ c.filter-item.result c.args.self.now c.loop-filter.self _ more c.loop-filter.invariant.removed c.remove-reason.ensures.removed;
       count = omega arith;
-      room = omega arith;
+      capacity = omega arith;
     }
 
 pub returns : goal.returns

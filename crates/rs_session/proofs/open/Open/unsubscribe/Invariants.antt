@@ -8,5 +8,5 @@ invariant-loop-filter l = record {
   coded : l.codes.items ≡ removal_codes (take l.filter-index l.filter-items) l.initial.self.subscriptions;
   removed : l.self ≡ record l.initial.self { subscriptions = without_all (take l.filter-index l.filter-items) l.initial.self.subscriptions };
   count : vec_len l.codes ≡ l.filter-index;
-  room : length l.filter-items ≤ vec_capacity l.codes;
+  capacity : length l.filter-items ≤ vec_capacity l.codes;
 }
