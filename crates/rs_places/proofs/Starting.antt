@@ -62,7 +62,7 @@ each_length limit [] (end ∷ left) each = absurd each
 each_length limit (place ∷ places) [] each = absurd each
 each_length limit (place ∷ places) (end ∷ left) each = let h = each_length limit places left each.1 in omega (arith, h)
 
--- ---- one more where there is room, in numbers alone
+-- ---- one more within a capacity, in numbers alone
 
 pub few_at_first : (threads served left all : ℕ) → threads ≡ 0 → served ≡ 0 → left ≡ all → threads + served + left ≤ all
 few_at_first threads served left all a b c = omega arith
@@ -76,14 +76,14 @@ few_threads threads more served left rest all few one next = omega arith
 pub few_so_far : (threads served left all : ℕ) → threads + served + left ≤ all → threads + served ≤ all
 few_so_far threads served left all few = omega arith
 
-pub still_room : (all room more : ℕ) → all ≤ room → room ≤ more → all ≤ more
-still_room all room more a b = omega arith
+pub still_fits : (all capacity more : ℕ) → all ≤ capacity → capacity ≤ more → all ≤ more
+still_fits all capacity more a b = omega arith
 
-pub thread_fits : (threads served left rest all room : ℕ) → threads + served + left ≤ all → left ≡ suc rest → all ≤ room → threads < room
-thread_fits threads served left rest all room few next fits = omega arith
+pub thread_fits : (threads served left rest all capacity : ℕ) → threads + served + left ≤ all → left ≡ suc rest → all ≤ capacity → threads < capacity
+thread_fits threads served left rest all capacity few next fits = omega arith
 
-pub served_fits : (threads served left rest all room : ℕ) → threads + served + left ≤ all → left ≡ suc rest → all ≤ room → served < room
-served_fits threads served left rest all room few next fits = omega arith
+pub served_fits : (threads served left rest all capacity : ℕ) → threads + served + left ≤ all → left ≡ suc rest → all ≤ capacity → served < capacity
+served_fits threads served left rest all capacity few next fits = omega arith
 
 -- ---- places that are started
 

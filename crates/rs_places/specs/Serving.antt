@@ -27,19 +27,19 @@ pub record IsServedAt (limit : ℕ) (from : Point State) (expected : List Operat
   pub state : State
   pub mark : Mark
   pub bytes : List ℕ
-  pub held : List ℕ
+  pub buffered : List ℕ
   -- what was whole behind the last packet that was handled, and decoded, and the bytes behind that
   pub planned : List Given
   pub left : List ℕ
   -- the exchanges are those of a session, and what was written are their replies
   pub run : Run from exchanges (point_at state gate.known mark)
   pub read : Consumes transfer.unread transfer.rest bytes
-  pub inputs : InputsOf (inputs_of exchanges) bytes held
-  pub whole : InputsOf (planned_inputs planned) held left
+  pub inputs : InputsOf (inputs_of exchanges) bytes buffered
+  pub whole : InputsOf (planned_inputs planned) buffered left
   -- the times that were told are those of the exchanges, and then those of what was decoded and not handled
   pub moments : transfer.told (moments_of exchanges ++ planned_moments planned)
   pub replies : WritesReplies result transfer.written transfer.more exchanges
-  pub ends : Ends result state held (IsAtEnd transfer.rest)
+  pub ends : Ends result state buffered (IsAtEnd transfer.rest)
   -- each list by which a filter was answered, and each that an exchange left, is legal
   pub legal : AreOfGate (λ mark list. IsLegal limit list) exchanges
   pub last_legal : IsLegal limit gate.known

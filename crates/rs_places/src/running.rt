@@ -193,9 +193,9 @@ fn join_places<T: Turn + Drop, N: LineName, H: Threads + Wait + Copy>(
     ends: Vec<PlaceEnd<N, T>>,
 ) -> Vec<PlaceEnd<N, T>>
     requires empty { ends.items ≡ [] }
-    requires room { length threads.items ≤ vec_capacity ends }
+    requires capacity { length threads.items ≤ vec_capacity ends }
     ensures served { AreEachServed N.limit (map (λ thread. place_at (T.plan thread.promise.turn.value) thread.promise.gate.value) threads.items) (map (λ end. left_at (T.plan end.turn) end.told end.line) result.items) }
-    ensures room { vec_capacity ends ≤ vec_capacity result }
+    ensures capacity { vec_capacity ends ≤ vec_capacity result }
 {
     let mut ends = ends;
     for thread in threads {

@@ -39,7 +39,7 @@ pub fn all_known<N: LineName, T: Turn + Drop, R: Wait + Drop>(
     true
 }
 
-/// Appends to what has room.
+/// Appends to what has the capacity.
 pub(crate) fn push_reserved<X: Drop>(items: &mut Vec<X>, item: X)
     requires { length items.old.items < vec_capacity items.old }
     ensures items { items.new.items ≡ items.old.items ++ item ∷ [] }
@@ -50,14 +50,14 @@ pub(crate) fn push_reserved<X: Drop>(items: &mut Vec<X>, item: X)
     };
 }
 
-/// The lines and the turns, in their order. What is passed has room for them, so that no memory is needed.
+/// The lines and the turns, in their order. What is passed has the capacity for them, so that no memory is needed.
 fn parted<N: LineName, T: Turn + Drop>(
     ends: Vec<PlaceEnd<N, T>>,
     lines: Vec<LineEnd<N>>,
     turns: Vec<T>,
 ) -> (Vec<LineEnd<N>>, Vec<T>)
     requires empty { (lines.items ≡ []) × (turns.items ≡ []) }
-    requires room { (length ends.items ≤ vec_capacity lines) × (length ends.items ≤ vec_capacity turns) }
+    requires capacity { (length ends.items ≤ vec_capacity lines) × (length ends.items ≤ vec_capacity turns) }
     ensures lines { result.0.items ≡ map (λ end. end.line) ends.items }
     ensures turns { result.1.items ≡ map (λ end. end.turn) ends.items }
 {
@@ -75,7 +75,7 @@ fn parted<N: LineName, T: Turn + Drop>(
     (lines, turns)
 }
 
-/// Settles, once all places and the writer have ended. What is passed has room for the lines and the turns.
+/// Settles, once all places and the writer have ended. What is passed has the capacity for the lines and the turns.
 pub(crate) fn settled<N: LineName, T: Turn + Drop, R: Wait + Drop>(
     end: PlacesEnd<N, T>,
     ended: Ended<N, R>,
@@ -83,7 +83,7 @@ pub(crate) fn settled<N: LineName, T: Turn + Drop, R: Wait + Drop>(
     turns: Vec<T>,
 ) -> StoreEnd<T>
     requires empty { (lines.items ≡ []) × (turns.items ≡ []) }
-    requires room { (length end.ends.items ≤ vec_capacity lines) × (length end.ends.items ≤ vec_capacity turns) }
+    requires capacity { (length end.ends.items ≤ vec_capacity lines) × (length end.ends.items ≤ vec_capacity turns) }
     ensures turns { result.turns.items ≡ map (λ end. end.turn) end.ends.items }
     ensures version { result.version ≡ length ended.writer.published }
     ensures legal { IsLegal N.limit ended.writer.published }

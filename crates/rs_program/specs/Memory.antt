@@ -28,13 +28,13 @@ pub record IsServed (input : List ℕ) (now : ℕ) (served : Served) (output : L
   pub exchanges : List Exchange
   pub to : Point State
   pub taken : List ℕ
-  pub held : List ℕ
+  pub buffered : List ℕ
   pub rest : List ℕ
   pub run : Run (start (assigned_of 1 1) [] (record { place = 1; serial = 0; sent = None })) exchanges to
   pub split : input ≡ taken ++ rest
-  pub inputs : InputsOf (inputs_of exchanges) taken held
+  pub inputs : InputsOf (inputs_of exchanges) taken buffered
   pub moments : All (λ moment. moment ≡ now) (moments_of exchanges)
   pub replies : output ≡ replies_of exchanges
-  pub closes : ClosesAs served to.state held (rest ≡ [])
+  pub closes : ClosesAs served to.state buffered (rest ≡ [])
   pub each : AreOfGate IsOfMark exchanges
   pub last : IsOfMark to.mark to.seen

@@ -26,10 +26,10 @@ abbrev pub IsLeft : Bool → Option (List ℕ) → Option (List ℕ) → Type 0
 IsLeft true text left = Unit {0}
 IsLeft false bytes left = left ≡ bytes
 
--- What the output holds. With hex, the second digit of the last byte may be missing.
-abbrev pub IsHeld : Bool → Option (List ℕ) → Option (List ℕ) → Type 0
-IsHeld true text held = (due : List ℕ) × (length due ≤ 1) × (held ≡ written_bytes (append_known text due))
-IsHeld false bytes held = held ≡ bytes
+-- What the output stands for at the end. With hex, the second digit of the last byte may be missing.
+abbrev pub IsOutput : Bool → Option (List ℕ) → Option (List ℕ) → Type 0
+IsOutput true text output = (due : List ℕ) × (length due ≤ 1) × (output ≡ written_bytes (append_known text due))
+IsOutput false bytes output = output ≡ bytes
 
 -- a line is named only if lines of hex digits are read
 abbrev pub if_hex : Bool → Option ℕ → Option ℕ
@@ -45,10 +45,10 @@ piped (Err fault) line = Err (pipe_fault fault line)
 pub record IsPiped (hex : Bool) (from : Point State) (first : List Operation) (most : ℕ) (gate : GateView) (transfer : Transfer) (answered : Result Served PipeFault) : Type 0 where
   pub outcome : Result Served ServeFault
   pub left : Option (List ℕ)
-  pub held : Option (List ℕ)
+  pub output : Option (List ℕ)
   pub line : Option ℕ
   pub connection : IsConnection from first most gate
-      (record { unread = input_bytes hex transfer.unread; rest = left; written = output_bytes hex transfer.written; more = held; told = transfer.told }) outcome
+      (record { unread = input_bytes hex transfer.unread; rest = left; written = output_bytes hex transfer.written; more = output; told = transfer.told }) outcome
   pub left_is : IsLeft hex transfer.rest left
-  pub held_is : IsHeld hex transfer.more held
+  pub output_is : IsOutput hex transfer.more output
   pub answer : answered ≡ piped outcome (if_hex hex line)

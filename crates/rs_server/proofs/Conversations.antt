@@ -52,28 +52,28 @@ in_order_none (Some f) = λ k. refl
 
 -- ---- the bytes
 
--- more bytes come behind what is held
-pub inputs_with_more : (inputs : List Input) (bytes held more : List ℕ) → InputsOf inputs bytes held → InputsOf inputs (bytes ++ more) (held ++ more)
-inputs_with_more [] bytes held more h = ap (λ l. l ++ more) h
-inputs_with_more (Whole p ∷ inputs) bytes held more (text, rest, e, s, h) =
-    (text, rest ++ more, ap (λ l. l ++ more) e ∙ append_assoc text rest more, s, inputs_with_more inputs rest held more h)
-inputs_with_more (Broken f ∷ inputs) bytes held more (a, h) = (fault_stays f bytes more a, inputs_with_more inputs bytes held more h)
+-- more bytes come behind what is buffered
+pub inputs_with_more : (inputs : List Input) (bytes buffered more : List ℕ) → InputsOf inputs bytes buffered → InputsOf inputs (bytes ++ more) (buffered ++ more)
+inputs_with_more [] bytes buffered more h = ap (λ l. l ++ more) h
+inputs_with_more (Whole p ∷ inputs) bytes buffered more (text, rest, e, s, h) =
+    (text, rest ++ more, ap (λ l. l ++ more) e ∙ append_assoc text rest more, s, inputs_with_more inputs rest buffered more h)
+inputs_with_more (Broken f ∷ inputs) bytes buffered more (a, h) = (fault_stays f bytes more a, inputs_with_more inputs bytes buffered more h)
 
 -- inputs behind inputs
-pub inputs_join : (inputs others : List Input) (bytes held left : List ℕ) → InputsOf inputs bytes held → InputsOf others held left → InputsOf (inputs ++ others) bytes left
-inputs_join [] others bytes held left e h = subst (λ (l : List ℕ). InputsOf others l left) (sym e) h
-inputs_join (Whole p ∷ inputs) others bytes held left (text, rest, e, s, h) k = (text, rest, e, s, inputs_join inputs others rest held left h k)
-inputs_join (Broken f ∷ inputs) others bytes held left (a, h) k = (a, inputs_join inputs others bytes held left h k)
+pub inputs_join : (inputs others : List Input) (bytes buffered left : List ℕ) → InputsOf inputs bytes buffered → InputsOf others buffered left → InputsOf (inputs ++ others) bytes left
+inputs_join [] others bytes buffered left e h = subst (λ (l : List ℕ). InputsOf others l left) (sym e) h
+inputs_join (Whole p ∷ inputs) others bytes buffered left (text, rest, e, s, h) k = (text, rest, e, s, inputs_join inputs others rest buffered left h k)
+inputs_join (Broken f ∷ inputs) others bytes buffered left (a, h) k = (a, inputs_join inputs others bytes buffered left h k)
 
--- the first input of what is held
+-- the first input of what is buffered
 pub front_inputs : (input : Input) (old new : List ℕ) → TakesInput old (Some input) new → InputsOf (input ∷ []) old new
 front_inputs (Whole p) old new (n, a, s, e) = (take n old, drop n old, sym (take-append-drop n old), s, sym e)
 front_inputs (Broken f) old new (a, e) = (a, sym e)
 
 -- the first of these inputs, and the others behind it
-first_input : (input : Input) (inputs : List Input) (held left : List ℕ) → InputsOf (input ∷ inputs) held left → (next : List ℕ) × InputsOf (input ∷ []) held next × InputsOf inputs next left
-first_input (Whole p) inputs held left (text, rest, e, s, h) = (rest, (text, rest, e, s, refl), h)
-first_input (Broken f) inputs held left (a, h) = (held, (a, refl), h)
+first_input : (input : Input) (inputs : List Input) (buffered left : List ℕ) → InputsOf (input ∷ inputs) buffered left → (next : List ℕ) × InputsOf (input ∷ []) buffered next × InputsOf inputs next left
+first_input (Whole p) inputs buffered left (text, rest, e, s, h) = (rest, (text, rest, e, s, refl), h)
+first_input (Broken f) inputs buffered left (a, h) = (buffered, (a, refl), h)
 
 -- ---- the conversation
 
@@ -159,13 +159,13 @@ pub talks_exchange : {T G : Type 0} (stands : G → List Entry → Type 0) (mark
 talks_exchange {T} {G} stands mark ahead old new from first st1 st2 consumed told planned left r wrote w1 w2 given exchange changes leaves talk =
     let before = talk.conversation in
     let t = exchange before.seen before.stood_for in
-    let (next, one, rest) = first_input given.input (planned_inputs planned) talk.held left talk.whole in
+    let (next, one, rest) = first_input given.input (planned_inputs planned) talk.buffered left talk.whole in
     let is : inputs_of (before.exchanges ++ t.exchange ∷ []) ≡ inputs_of before.exchanges ++ given.input ∷ [] = map-append (λ (x : Exchange). x.given.input) before.exchanges (t.exchange ∷ []) ∙ ap (λ (x : Given). inputs_of before.exchanges ++ x.input ∷ []) t.given_is in
     let ms : moments_of (before.exchanges ++ t.exchange ∷ []) ≡ moments_of before.exchanges ++ given.now ∷ [] = map-append (λ (x : Exchange). x.given.now) before.exchanges (t.exchange ∷ []) ∙ ap (λ (x : Given). moments_of before.exchanges ++ x.now ∷ []) t.given_is in
     let all : moments_of (before.exchanges ++ t.exchange ∷ []) ++ planned_moments planned ≡ moments_of before.exchanges ++ given.now ∷ planned_moments planned = ap (λ (l : List ℕ). l ++ planned_moments planned) ms ∙ append_assoc (moments_of before.exchanges) (given.now ∷ []) (planned_moments planned) in
     let mid : point_after from before.exchanges ≡ point_at st1 before.seen (mark old) = run_point from _ before.exchanges before.run in
     record {
-      held = next;
+      buffered = next;
       conversation = record {
         exchanges = before.exchanges ++ t.exchange ∷ [];
         seen = t.seen;
@@ -174,7 +174,7 @@ talks_exchange {T} {G} stands mark ahead old new from first st1 st2 consumed tol
         of_gate = of_gate_more _ before.exchanges t.exchange before.of_gate t.of_gate;
         stood_for = t.stood_for;
         read = before.read;
-        inputs = subst (λ (l : List Input). InputsOf l before.bytes next) (sym is) (inputs_join _ (given.input ∷ []) before.bytes talk.held next before.inputs one);
+        inputs = subst (λ (l : List Input). InputsOf l before.bytes next) (sym is) (inputs_join _ (given.input ∷ []) before.bytes talk.buffered next before.inputs one);
         moments = subst told (sym all) before.moments;
         replies = writes_exchange r wrote w1 w2 before.exchanges t.exchange before.replies t.replies;
       };
@@ -206,9 +206,9 @@ pub talks_read : {T : Type 0} (from : Point State) (first : List Operation) (gat
     → Talks from first gate state (traffic (Consumes read r2) told (WritesReplies r wrote w)) [] left2
 talks_read from first gate state read r1 r2 left1 left2 more told r wrote w before after taken grown cause talk =
     let talked = talk.conversation in
-    let is : left2 ≡ talk.held ++ more = grown ∙ ap (λ (l : List ℕ). l ++ more) (sym talk.whole) in
+    let is : left2 ≡ talk.buffered ++ more = grown ∙ ap (λ (l : List ℕ). l ++ more) (sym talk.whole) in
     record {
-      held = left2;
+      buffered = left2;
       conversation = record {
         exchanges = talked.exchanges;
         seen = talked.seen;
@@ -217,7 +217,7 @@ talks_read from first gate state read r1 r2 left1 left2 more told r wrote w befo
         of_gate = talked.of_gate;
         stood_for = talked.stood_for;
         read = Consumes-trans read r1 r2 talked.bytes more talked.read taken;
-        inputs = subst (InputsOf (inputs_of talked.exchanges) (talked.bytes ++ more)) (sym is) (inputs_with_more _ talked.bytes talk.held more talked.inputs);
+        inputs = subst (InputsOf (inputs_of talked.exchanges) (talked.bytes ++ more)) (sym is) (inputs_with_more _ talked.bytes talk.buffered more talked.inputs);
         moments = talked.moments;
         replies = writes_none r wrote w _ before after cause talked.replies;
       };
@@ -236,7 +236,7 @@ talks_planned {G} stands mark ahead old new from first st1 st2 consumed p1 p2 le
     let times : (moments_of talked.exchanges ++ planned_moments p1) ++ planned_moments more ≡ moments_of talked.exchanges ++ planned_moments p2 =
     append_assoc (moments_of talked.exchanges) (planned_moments p1) (planned_moments more) ∙ ap (λ (l : List ℕ). moments_of talked.exchanges ++ l) (sym (map-append (λ (x : Given). x.now) p1 more) ∙ sym (ap planned_moments grown)) in
     record {
-      held = talk.held;
+      buffered = talk.buffered;
       conversation = record {
         exchanges = talked.exchanges;
         seen = talked.seen;
@@ -249,7 +249,7 @@ talks_planned {G} stands mark ahead old new from first st1 st2 consumed p1 p2 le
         moments = subst (TellsInOrder told c2) times (in_order_join told c1 c2 _ _ talked.moments moments);
         replies = talked.replies;
       };
-      whole = subst (λ (l : List Input). InputsOf l talk.held left2) (sym all) (inputs_join _ _ talk.held left1 left2 talk.whole inputs);
+      whole = subst (λ (l : List Input). InputsOf l talk.buffered left2) (sym all) (inputs_join _ _ talk.buffered left1 left2 talk.whole inputs);
       expected = λ e. inl (changes e);
     }
 
@@ -257,12 +257,12 @@ pub first_expected : {G : Type 0} (ahead : G → List Operation) (gate kept : G)
 first_expected ahead gate kept planned e first = subst (AreChanges planned) (sym (ap ahead e ∙ first)) tt
 
 -- at first nothing was written
-pub talks_first : {G : Type 0} (stands : G → List Entry → Type 0) (mark : G → Mark) (ahead : G → List Operation) (gate kept : G) (state : State) (planned : List Given) (held : List ℕ) (assigned : List ℕ) (read : Option (List ℕ)) (told : Option (ℕ → ℕ)) (wrote : Option (List ℕ))
-    → kept ≡ gate → state ≡ fresh assigned → held ≡ [] → planned ≡ []
-    → (seen : List Entry) → stands gate seen → Talks (start assigned seen (mark gate)) (ahead gate) (gate_view stands mark ahead kept) state (traffic (Consumes read read) (TellsInOrder told told) (AppendsReplies wrote wrote)) planned held
-talks_first {G} stands mark ahead gate kept state planned held assigned read told wrote e f h none = λ seen s.
+pub talks_first : {G : Type 0} (stands : G → List Entry → Type 0) (mark : G → Mark) (ahead : G → List Operation) (gate kept : G) (state : State) (planned : List Given) (buffered : List ℕ) (assigned : List ℕ) (read : Option (List ℕ)) (told : Option (ℕ → ℕ)) (wrote : Option (List ℕ))
+    → kept ≡ gate → state ≡ fresh assigned → buffered ≡ [] → planned ≡ []
+    → (seen : List Entry) → stands gate seen → Talks (start assigned seen (mark gate)) (ahead gate) (gate_view stands mark ahead kept) state (traffic (Consumes read read) (TellsInOrder told told) (AppendsReplies wrote wrote)) planned buffered
+talks_first {G} stands mark ahead gate kept state planned buffered assigned read told wrote e f h none = λ seen s.
     record {
-      held = held;
+      buffered = buffered;
       conversation = record {
         exchanges = [];
         seen = seen;
@@ -275,7 +275,7 @@ talks_first {G} stands mark ahead gate kept state planned held assigned read tol
         moments = subst (λ (l : List Given). TellsInOrder told told (planned_moments l)) (sym none) (in_order_none told);
         replies = Appends-nil wrote;
       };
-      whole = subst (λ (l : List Given). InputsOf (planned_inputs l) held held) (sym none) refl;
+      whole = subst (λ (l : List Given). InputsOf (planned_inputs l) buffered buffered) (sym none) refl;
       expected = λ first. inl (first_expected ahead gate kept planned e first);
     }
 
@@ -291,7 +291,7 @@ talks_written : (from : Point State) (first : List Operation) (gate : GateView) 
 talks_written from first gate state consumed told planned left P Q f talk =
     let c = talk.conversation in
     record {
-      held = talk.held;
+      buffered = talk.buffered;
       conversation = record { exchanges = c.exchanges; seen = c.seen; bytes = c.bytes; run = c.run; of_gate = c.of_gate; stood_for = c.stood_for; read = c.read; inputs = c.inputs; moments = c.moments; replies = f _ c.replies };
       whole = talk.whole;
       expected = talk.expected;
@@ -316,17 +316,17 @@ talks_equal from first gate state t p q left e talk = subst (λ (l : List Given)
 
 -- the gate comes back as it is
 pub talks_kept : {G : Type 0} (stands : G → List Entry → Type 0) (mark : G → Mark) (ahead : G → List Operation) (gate kept : G) (from : Point State) (first : List Operation) (state : State) (t : Traffic) (planned : List Given) (left : List ℕ) (at_end : List ℕ → Type 0)
-    → kept ≡ gate → (talk : Talks from first (gate_view stands mark ahead gate) state t planned left) × at_end talk.held
-    → (talk : Talks from first (gate_view stands mark ahead kept) state t planned left) × at_end talk.held
+    → kept ≡ gate → (talk : Talks from first (gate_view stands mark ahead gate) state t planned left) × at_end talk.buffered
+    → (talk : Talks from first (gate_view stands mark ahead kept) state t planned left) × at_end talk.buffered
 talks_kept {G} stands mark ahead gate kept from first state t planned left at_end e talk =
-    subst (λ (g : G). (talk : Talks from first (gate_view stands mark ahead g) state t planned left) × at_end talk.held) (sym e) talk
+    subst (λ (g : G). (talk : Talks from first (gate_view stands mark ahead g) state t planned left) × at_end talk.buffered) (sym e) talk
 
 -- if there is no memory for the identifier, nothing is read
 pub talks_none : (T : Type 0) (gate : GateView) (assigned : List ℕ) (read : Option (List ℕ)) (told : Option (ℕ → ℕ)) (wrote : Option (List ℕ)) (seen : List Entry)
     → gate.stands seen → Talks (start assigned seen gate.mark) gate.ahead gate (fresh assigned) (traffic (Consumes read read) (TellsInOrder told told) (WritesReplies {T = T} (Err NoMemory) wrote wrote)) [] []
 talks_none T gate assigned read told wrote seen s =
     record {
-      held = [];
+      buffered = [];
       conversation = record {
         exchanges = [];
         seen = seen;
@@ -349,18 +349,18 @@ abbrev pub handled : Result Served ServeFault → Result (Option Served) ServeFa
 handled (Ok served) = Ok (Some served)
 handled (Err fault) = Err fault
 
--- the input ends, or the reader fails, only if nothing is planned; so all that is left is held then
-pub ends_held : (result : Result Served ServeFault) (state : State) (planned : List Given) (held left : List ℕ) (at_end : Type 0) → Ends result state left at_end → (planned ≡ []) ⊎ IsHandled (handled result) → InputsOf (planned_inputs planned) held left → Ends result state held at_end
-ends_held result state planned held left at_end ends (inl none) whole =
-    subst (λ (l : List ℕ). Ends result state l at_end) (sym (subst (λ (l : List Given). InputsOf (planned_inputs l) held left) none whole)) ends
-ends_held (Ok ClientClosed) state planned held left at_end ends (inr h) whole = ends
-ends_held (Ok EndOfInput) state planned held left at_end ends (inr h) whole = absurd h
-ends_held (Ok CutInput) state planned held left at_end ends (inr h) whole = absurd h
-ends_held (Ok (ServerClosed code)) state planned held left at_end ends (inr h) whole = ends
-ends_held (Ok Dropped) state planned held left at_end ends (inr h) whole = ends
-ends_held (Err Read) state planned held left at_end ends (inr h) whole = absurd h
-ends_held (Err Write) state planned held left at_end ends (inr h) whole = tt
-ends_held (Err NoMemory) state planned held left at_end ends (inr h) whole = tt
+-- the input ends, or the reader fails, only if nothing is planned; so all that is left is buffered then
+pub ends_buffered : (result : Result Served ServeFault) (state : State) (planned : List Given) (buffered left : List ℕ) (at_end : Type 0) → Ends result state left at_end → (planned ≡ []) ⊎ IsHandled (handled result) → InputsOf (planned_inputs planned) buffered left → Ends result state buffered at_end
+ends_buffered result state planned buffered left at_end ends (inl none) whole =
+    subst (λ (l : List ℕ). Ends result state l at_end) (sym (subst (λ (l : List Given). InputsOf (planned_inputs l) buffered left) none whole)) ends
+ends_buffered (Ok ClientClosed) state planned buffered left at_end ends (inr h) whole = ends
+ends_buffered (Ok EndOfInput) state planned buffered left at_end ends (inr h) whole = absurd h
+ends_buffered (Ok CutInput) state planned buffered left at_end ends (inr h) whole = absurd h
+ends_buffered (Ok (ServerClosed code)) state planned buffered left at_end ends (inr h) whole = ends
+ends_buffered (Ok Dropped) state planned buffered left at_end ends (inr h) whole = ends
+ends_buffered (Err Read) state planned buffered left at_end ends (inr h) whole = absurd h
+ends_buffered (Err Write) state planned buffered left at_end ends (inr h) whole = tt
+ends_buffered (Err NoMemory) state planned buffered left at_end ends (inr h) whole = tt
 
 pub handled_as : (closing : Option Closing) → IsHandled (Ok (served_as closing))
 handled_as None = tt
@@ -386,7 +386,7 @@ connection_as from first most gate old new result e f g h t (state, planned, lef
       left,
       few,
       record {
-        held = talk.held;
+        buffered = talk.buffered;
         conversation = record {
           exchanges = c.exchanges;
           seen = c.seen;
@@ -402,5 +402,5 @@ connection_as from first most gate old new result e f g h t (state, planned, lef
         whole = talk.whole;
         expected = talk.expected;
       },
-      subst (λ (o : Option (List ℕ)). Ends result state talk.held (IsAtEnd o)) f ends,
+      subst (λ (o : Option (List ℕ)). Ends result state talk.buffered (IsAtEnd o)) f ends,
     )

@@ -40,15 +40,15 @@ same_fault bytes same x y f g h k e =
           ]
     ]
 
-pub inputs_agree : (inputs others : List Input) (bytes held same kept x y : List ℕ) → InputsOf inputs bytes held → InputsOf others same kept → bytes ++ x ≡ same ++ y → Agree inputs others
-inputs_agree [] others bytes held same kept x y h k e = tt
-inputs_agree (input ∷ inputs) [] bytes held same kept x y h k e = tt
-inputs_agree (Whole p ∷ inputs) (Whole q ∷ others) bytes held same kept x y (text, rest, a, s, h) (text', rest', b, t, k) e =
+pub inputs_agree : (inputs others : List Input) (bytes buffered same kept x y : List ℕ) → InputsOf inputs bytes buffered → InputsOf others same kept → bytes ++ x ≡ same ++ y → Agree inputs others
+inputs_agree [] others bytes buffered same kept x y h k e = tt
+inputs_agree (input ∷ inputs) [] bytes buffered same kept x y h k e = tt
+inputs_agree (Whole p ∷ inputs) (Whole q ∷ others) bytes buffered same kept x y (text, rest, a, s, h) (text', rest', b, t, k) e =
     let joined : text ++ (rest ++ x) ≡ text' ++ (rest' ++ y) = sym (append_assoc text rest x) ∙ sym (ap (λ (l : List ℕ). l ++ x) a) ∙ e ∙ ap (λ (l : List ℕ). l ++ y) b ∙ append_assoc text' rest' y in
     let one = one_encoding text text' (rest ++ x) (rest' ++ y) p q s t joined in
-    (one.1, inputs_agree inputs others rest held rest' kept x y h k (append_cancel_left text (rest ++ x) (rest' ++ y) (joined ∙ sym (ap (λ (l : List ℕ). l ++ (rest' ++ y)) one.0))))
-inputs_agree (Whole p ∷ inputs) (Broken f ∷ others) bytes held same kept x y (text, rest, a, s, h) (b, k) e =
+    (one.1, inputs_agree inputs others rest buffered rest' kept x y h k (append_cancel_left text (rest ++ x) (rest' ++ y) (joined ∙ sym (ap (λ (l : List ℕ). l ++ (rest' ++ y)) one.0))))
+inputs_agree (Whole p ∷ inputs) (Broken f ∷ others) bytes buffered same kept x y (text, rest, a, s, h) (b, k) e =
     only_memory text rest x same y p f s b (sym (ap (λ (l : List ℕ). l ++ x) a) ∙ e)
-inputs_agree (Broken f ∷ inputs) (Whole q ∷ others) bytes held same kept x y (a, h) (text, rest, b, t, k) e =
+inputs_agree (Broken f ∷ inputs) (Whole q ∷ others) bytes buffered same kept x y (a, h) (text, rest, b, t, k) e =
     only_memory text rest y bytes x q f t a (sym (ap (λ (l : List ℕ). l ++ y) b) ∙ sym e)
-inputs_agree (Broken f ∷ inputs) (Broken g ∷ others) bytes held same kept x y (a, h) (b, k) e = same_fault bytes same x y f g a b e
+inputs_agree (Broken f ∷ inputs) (Broken g ∷ others) bytes buffered same kept x y (a, h) (b, k) e = same_fault bytes same x y f g a b e

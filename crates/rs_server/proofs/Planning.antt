@@ -20,8 +20,8 @@ use Rattle.rs_server.proofs.Conversations.{front_inputs, in_order_join, in_order
 
 -- ---- what is planned grows
 
-pub plans_none : (planned : List Given) (held : List ℕ) (told : Option (ℕ → ℕ)) → Plans planned planned held held told told
-plans_none planned held told = ([], sym (append-nil planned), refl, in_order_none told)
+pub plans_none : (planned : List Given) (buffered : List ℕ) (told : Option (ℕ → ℕ)) → Plans planned planned buffered buffered told told
+plans_none planned buffered told = ([], sym (append-nil planned), refl, in_order_none told)
 
 pub plans_join : (p1 p2 p3 : List Given) (h1 h2 h3 : List ℕ) (c1 c2 c3 : Option (ℕ → ℕ)) → Plans p1 p2 h1 h2 c1 c2 → Plans p2 p3 h2 h3 c2 c3 → Plans p1 p3 h1 h3 c1 c3
 plans_join p1 p2 p3 h1 h2 h3 c1 c2 c3 (more, e, i, m) (next, f, j, n) = (

@@ -48,9 +48,9 @@ writes_next contents (Err NoMemory) r first old new replies reply before p w h k
     rw (k.0, k.1) (longer first _ replies reply p, w)
 
 -- the writer has not failed if nothing failed
-pub room_left : {T : Type 0} (written : Result T ServeFault) (before after : ℕ) → before < 2 ^ 64 - 1 → IsWriteCause written before after → OnOk written (after < 2 ^ 64 - 1)
-room_left (Ok x) before after h e = omega arith
-room_left (Err f) before after h e = tt
+pub can_rise_still : {T : Type 0} (written : Result T ServeFault) (before after : ℕ) → before < 2 ^ 64 - 1 → IsWriteCause written before after → OnOk written (after < 2 ^ 64 - 1)
+can_rise_still (Ok x) before after h e = omega arith
+can_rise_still (Err f) before after h e = tt
 
 -- all was written before the flush failed
 pub all_in_front : (a b c : Option (List ℕ)) (xs : List ℕ) → Appends a b xs → Keeps b c → AppendsFront a c xs

@@ -28,11 +28,11 @@ use Rattle.rs_server.specs.Writing.{all_reply_bytes}
 
 -- ---- what is read
 
--- These bytes are the inputs, one after the other, and then what is held. A fault takes no byte.
+-- These bytes are the inputs, one after the other, and then what is buffered. A fault takes no byte.
 abbrev pub InputsOf : List Input → List ℕ → List ℕ → Type 0
-InputsOf [] bytes held = bytes ≡ held
-InputsOf (Whole packet ∷ inputs) bytes held = (text : List ℕ) × (rest : List ℕ) × (bytes ≡ text ++ rest) × Encodes text packet × InputsOf inputs rest held
-InputsOf (Broken fault ∷ inputs) bytes held = IsFaulty bytes fault × InputsOf inputs bytes held
+InputsOf [] bytes buffered = bytes ≡ buffered
+InputsOf (Whole packet ∷ inputs) bytes buffered = (text : List ℕ) × (rest : List ℕ) × (bytes ≡ text ++ rest) × Encodes text packet × InputsOf inputs rest buffered
+InputsOf (Broken fault ∷ inputs) bytes buffered = IsFaulty bytes fault × InputsOf inputs bytes buffered
 
 -- The inputs are the same as far as both go, up to the first fault. Out of memory may stand in the
 -- place of any.
@@ -44,7 +44,7 @@ Agree (Whole p ∷ inputs) (Broken fault ∷ others) = fault ≡ faults.NoMemory
 Agree (Broken fault ∷ inputs) (Whole q ∷ others) = fault ≡ faults.NoMemory
 Agree (Broken fault ∷ inputs) (Broken other ∷ others) = (fault ≡ faults.NoMemory) ⊎ ((other ≡ faults.NoMemory) ⊎ (fault ≡ other))
 
--- the input that is the first part of what is held, and what is held without it
+-- the input that is the first part of what is buffered, and what is buffered without it
 abbrev pub TakesInput : List ℕ → Option Input → List ℕ → Type 0
 TakesInput old None new = IsMore old × (new ≡ old)
 TakesInput old (Some (Whole packet)) new = (n : ℕ) × (n ≤ length old) × Encodes (take n old) packet × (new ≡ drop n old)
@@ -58,16 +58,16 @@ planned_inputs planned = map (λ given. given.input) planned
 abbrev pub planned_moments : List Given → List ℕ
 planned_moments planned = map (λ given. given.now) planned
 
--- nothing more is planned, or one input more: the first of what was held, at the time that was told
+-- nothing more is planned, or one input more: the first of what was buffered, at the time that was told
 abbrev pub PlansNext : List Given → List Given → List ℕ → List ℕ → Option (ℕ → ℕ) → Option (ℕ → ℕ) → Type 0
-PlansNext planned new_planned held new_held told new_told =
-    ((new_planned ≡ planned) × (new_held ≡ held) × (new_told ≡ told))
-    ⊎ ((given : Given) × (new_planned ≡ planned ++ given ∷ []) × TakesInput held (Some given.input) new_held × TellsInOrder told new_told (given.now ∷ []))
+PlansNext planned new_planned buffered new_buffered told new_told =
+    ((new_planned ≡ planned) × (new_buffered ≡ buffered) × (new_told ≡ told))
+    ⊎ ((given : Given) × (new_planned ≡ planned ++ given ∷ []) × TakesInput buffered (Some given.input) new_buffered × TellsInOrder told new_told (given.now ∷ []))
 
--- what is planned grew by the next inputs of what was held, at the times that were told
+-- what is planned grew by the next inputs of what was buffered, at the times that were told
 abbrev pub Plans : List Given → List Given → List ℕ → List ℕ → Option (ℕ → ℕ) → Option (ℕ → ℕ) → Type 0
-Plans planned new_planned held new_held told new_told =
-    (more : List Given) × (new_planned ≡ planned ++ more) × InputsOf (planned_inputs more) held new_held × TellsInOrder told new_told (planned_moments more)
+Plans planned new_planned buffered new_buffered told new_told =
+    (more : List Given) × (new_planned ≡ planned ++ more) × InputsOf (planned_inputs more) buffered new_buffered × TellsInOrder told new_told (planned_moments more)
 
 -- ---- the run
 
@@ -122,9 +122,9 @@ pub record Traffic : Type 1 where
   pub written : List Exchange → Type 0
 
 -- From this point there was a run of a session, whose lists and marks are those of gates of this gate's type. It ends in this
--- state, at a list that the gate stands for, with the gate's mark. The bytes that were consumed are its inputs and what is held; the
+-- state, at a list that the gate stands for, with the gate's mark. The bytes that were consumed are its inputs and what is buffered; the
 -- times that were told are its times, one for each input; what was written is the replies of its exchanges.
-pub record Conversation (from : Point State) (gate : GateView) (state : State) (traffic : Traffic) (held : List ℕ) : Type 0 where
+pub record Conversation (from : Point State) (gate : GateView) (state : State) (traffic : Traffic) (buffered : List ℕ) : Type 0 where
   pub exchanges : List Exchange
   pub seen : List Entry
   pub bytes : List ℕ
@@ -132,7 +132,7 @@ pub record Conversation (from : Point State) (gate : GateView) (state : State) (
   pub of_gate : AreOfGate gate.stands_at exchanges
   pub stood_for : gate.stands seen
   pub read : traffic.consumed bytes
-  pub inputs : InputsOf (inputs_of exchanges) bytes held
+  pub inputs : InputsOf (inputs_of exchanges) bytes buffered
   pub moments : traffic.told (moments_of exchanges)
   pub replies : traffic.written exchanges
 
@@ -152,9 +152,9 @@ AreLeft from exchanges planned changes = AreChanges planned changes ⊎ IsUnsent
 -- Such a conversation, and what was decoded and not handled: it follows the last input that was handled, and then come the bytes
 -- that are left. Its times were told after those of the exchanges. If the gate expected nothing first, it expects only changes of these.
 pub record Talks (from : Point State) (first : List Operation) (gate : GateView) (state : State) (traffic : Traffic) (planned : List Given) (left : List ℕ) : Type 0 where
-  pub held : List ℕ
-  pub conversation : Conversation from gate state (record traffic { told = λ moments. traffic.told (moments ++ planned_moments planned) }) held
-  pub whole : InputsOf (planned_inputs planned) held left
+  pub buffered : List ℕ
+  pub conversation : Conversation from gate state (record traffic { told = λ moments. traffic.told (moments ++ planned_moments planned) }) buffered
+  pub whole : InputsOf (planned_inputs planned) buffered left
   pub expected : first ≡ [] → AreLeft from conversation.exchanges planned gate.ahead
 
 -- one exchange of it
@@ -181,21 +181,21 @@ served_as (Some c) = Some (served_by c)
 
 -- how the run ended
 abbrev pub ClosesAs : Served → State → List ℕ → Type 0 → Type 0
-ClosesAs ClientClosed state held at_end = closing_of state.phase ≡ Some closing.ByClient
-ClosesAs EndOfInput state held at_end = (closing_of state.phase ≡ None) × (held ≡ []) × at_end
-ClosesAs CutInput state held at_end = (closing_of state.phase ≡ None) × (held ≢ []) × IsMore held × at_end
-ClosesAs (ServerClosed code) state held at_end = closing_of state.phase ≡ Some (closing.ByServer code)
-ClosesAs Dropped state held at_end = closing_of state.phase ≡ Some closing.Dropped
+ClosesAs ClientClosed state buffered at_end = closing_of state.phase ≡ Some closing.ByClient
+ClosesAs EndOfInput state buffered at_end = (closing_of state.phase ≡ None) × (buffered ≡ []) × at_end
+ClosesAs CutInput state buffered at_end = (closing_of state.phase ≡ None) × (buffered ≢ []) × IsMore buffered × at_end
+ClosesAs (ServerClosed code) state buffered at_end = closing_of state.phase ≡ Some (closing.ByServer code)
+ClosesAs Dropped state buffered at_end = closing_of state.phase ≡ Some closing.Dropped
 
 -- the state in which a fault broke it off: all that was whole had been answered when the reader failed
 abbrev pub BreaksAt : ServeFault → State → List ℕ → Type 0
-BreaksAt Read state held = (closing_of state.phase ≡ None) × IsMore held
-BreaksAt Write state held = Unit {0}
-BreaksAt NoMemory state held = Unit {0}
+BreaksAt Read state buffered = (closing_of state.phase ≡ None) × IsMore buffered
+BreaksAt Write state buffered = Unit {0}
+BreaksAt NoMemory state buffered = Unit {0}
 
 abbrev pub Ends : Result Served ServeFault → State → List ℕ → Type 0 → Type 0
-Ends (Ok served) state held at_end = ClosesAs served state held at_end
-Ends (Err fault) state held at_end = BreaksAt fault state held
+Ends (Ok served) state buffered at_end = ClosesAs served state buffered at_end
+Ends (Err fault) state buffered at_end = BreaksAt fault state buffered
 
 -- What a connection transferred: the bytes that its reader had left before and has left after, and those that its writer held before
 -- and holds after, if they are known; and what holds of the times that its clock told.
@@ -216,12 +216,12 @@ traffic_of transfer result = record { consumed = Consumes transfer.unread transf
 abbrev pub IsConnection : Point State → List Operation → ℕ → GateView → Transfer → Result Served ServeFault → Type 0
 IsConnection from first most gate transfer result = (state : State) × (planned : List Given) × (left : List ℕ) × (length planned ≤ most)
     × (talk : Talks from first gate state (traffic_of transfer result) planned left)
-    × Ends result state talk.held (IsAtEnd transfer.rest)
+    × Ends result state talk.buffered (IsAtEnd transfer.rest)
 
 abbrev pub Closes : Result (Option Served) ServeFault → State → List ℕ → Type 0 → Type 0
-Closes (Ok None) state held at_end = closing_of state.phase ≡ None
-Closes (Ok (Some served)) state held at_end = ClosesAs served state held at_end
-Closes (Err fault) state held at_end = BreaksAt fault state held
+Closes (Ok None) state buffered at_end = closing_of state.phase ≡ None
+Closes (Ok (Some served)) state buffered at_end = ClosesAs served state buffered at_end
+Closes (Err fault) state buffered at_end = BreaksAt fault state buffered
 
 -- not an end of the input, nor a failure of the reader
 abbrev pub IsHandled : Result (Option Served) ServeFault → Type 0

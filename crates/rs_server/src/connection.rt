@@ -51,7 +51,7 @@ pub enum Served {
 }
 
 /// How many bytes one read may give.
-const READ_ROOM: usize = 8192;
+const READ_SIZE: usize = 8192;
 
 /// Serves one connection: reads packets and writes the session's replies, each of which is flushed, until
 /// the session or the input ends.
@@ -79,8 +79,8 @@ pub fn serve<H: Wait, R: Read, W: Write, G: Gate, C: Clock>(
     id: ConnectionId,
     clock: &mut C,
 ) -> (Result<Served, ServeFault>, G)
-    requires reader_room { failures_of reader.old < 2 ^ 64 - 1 }
-    requires writer_room { failures_of writer.old < 2 ^ 64 - 1 }
+    requires reader_can_rise { failures_of reader.old < 2 ^ 64 - 1 }
+    requires writer_can_rise { failures_of writer.old < 2 ^ 64 - 1 }
 
     // What was written are the replies of a session to the packets that the bytes read encode.
     ensures conversation { (seen : List Entry) → G.stands gate seen
@@ -101,7 +101,7 @@ pub fn serve<H: Wait, R: Read, W: Write, G: Gate, C: Clock>(
         return (Err(ServeFault::NoMemory), gate);
     };
     let mut session = Session::new(alloc, gate, assigned);
-    let mut held = BytesMut::new(alloc);
+    let mut buffered = BytesMut::new(alloc);
     let mut planned = VecDeque::new(alloc);
     'serving: for _ in rt.forever() {
         match serve_once(
@@ -109,7 +109,7 @@ pub fn serve<H: Wait, R: Read, W: Write, G: Gate, C: Clock>(
             reader,
             writer,
             &mut session,
-            &mut held,
+            &mut buffered,
             &mut planned,
             clock,
         ) {
@@ -127,12 +127,12 @@ fn serve_once<R: Read, W: Write, G: Gate, C: Clock>(
     reader: &mut Counted<R>,
     writer: &mut Counted<W>,
     session: &mut Session<G>,
-    held: &mut BytesMut,
+    buffered: &mut BytesMut,
     planned: &mut VecDeque<Planned>,
     clock: &mut C,
 ) -> Result<Option<Served>, ServeFault>
-    requires reader_room { failures_of reader.old < 2 ^ 64 - 1 }
-    requires writer_room { failures_of writer.old < 2 ^ 64 - 1 }
+    requires reader_can_rise { failures_of reader.old < 2 ^ 64 - 1 }
+    requires writer_can_rise { failures_of writer.old < 2 ^ 64 - 1 }
     requires none_due { due_of session.old ≡ None }
     requires goes_on { closing_of (state_of session.old).phase ≡ None }
 
@@ -144,27 +144,27 @@ fn serve_once<R: Read, W: Write, G: Gate, C: Clock>(
           consumed = Consumes read (R.remaining (inner_of reader.old));
           told = TellsInOrder told (C.moments clock.old);
           written = AppendsReplies wrote (W.contents (inner_of writer.old));
-        }) planned.old.items held.old.items
+        }) planned.old.items buffered.old.items
         → Talks from first (gate_view G.stands G.mark G.ahead (gate_of session.new)) (state_of session.new)
         (record {
           consumed = Consumes read (R.remaining (inner_of reader.new));
           told = TellsInOrder told (C.moments clock.new);
           written = WritesReplies result wrote (W.contents (inner_of writer.new));
-        }) planned.new.items held.new.items }
+        }) planned.new.items buffered.new.items }
     ensures expected { closing_of (state_of session.new).phase ≡ None → AreChanges planned.old.items (G.ahead (gate_of session.old))
         → AreChanges planned.new.items (G.ahead (gate_of session.new)) }
     ensures few { length planned.old.items ≤ G.most → length planned.new.items ≤ G.most }
-    ensures closes { Closes result (state_of session.new) held.new.items (IsAtEnd (R.remaining (inner_of reader.new))) }
+    ensures closes { Closes result (state_of session.new) buffered.new.items (IsAtEnd (R.remaining (inner_of reader.new))) }
     ensures rest { (planned.new.items ≡ []) ⊎ IsHandled result }
     ensures due { due_of session.new ≡ None }
     ensures cause { Causes result (failures_of reader.old) (failures_of reader.new)
         (failures_of writer.old) (failures_of writer.new) }
 {
-    if let Err(fault) = plan(alloc, session, held, planned, clock) {
+    if let Err(fault) = plan(alloc, session, buffered, planned, clock) {
         return Err(fault);
     }
     let Some(next) = planned.pop_front() else {
-        return read_more(reader, held);
+        return read_more(reader, buffered);
     };
     let Planned { input, now, change } = next;
     match make_exchange(alloc, session, writer, input, change, now) {
@@ -173,27 +173,27 @@ fn serve_once<R: Read, W: Write, G: Gate, C: Clock>(
     }
 }
 
-/// Reads once and appends to what is held.
+/// Reads once and appends to what is buffered.
 fn read_more<R: Read>(
     reader: &mut Counted<R>,
-    held: &mut BytesMut,
+    buffered: &mut BytesMut,
 ) -> Result<Option<Served>, ServeFault>
     requires { failures_of reader.old < 2 ^ 64 - 1 }
-    ensures bytes { (more : List ℕ) × (held.new.items ≡ held.old.items ++ more)
+    ensures bytes { (more : List ℕ) × (buffered.new.items ≡ buffered.old.items ++ more)
         × Consumes (R.remaining (inner_of reader.old)) (R.remaining (inner_of reader.new)) more }
-    ensures end { IsEnd result held.old.items held.new.items (IsAtEnd (R.remaining (inner_of reader.new))) }
+    ensures end { IsEnd result buffered.old.items buffered.new.items (IsAtEnd (R.remaining (inner_of reader.new))) }
     ensures cause { IsReadCause result (failures_of reader.old) (failures_of reader.new) }
 {
-    if held.reserve(READ_ROOM).is_err() {
+    if buffered.reserve(READ_SIZE).is_err() {
         return Err(ServeFault::NoMemory);
     }
-    let Ok(n) = reader.read_into(held) else {
+    let Ok(n) = reader.read_into(buffered) else {
         return Err(ServeFault::Read);
     };
     if n > 0 {
         return Ok(None);
     }
-    if held.is_empty() {
+    if buffered.is_empty() {
         return Ok(Some(Served::EndOfInput));
     }
     Ok(Some(Served::CutInput))
@@ -208,7 +208,7 @@ fn make_exchange<G: Gate, W: Write>(
     change: Option<Operation>,
     now: u64,
 ) -> Result<(), ServeFault>
-    requires writer_room { failures_of writer.old < 2 ^ 64 - 1 }
+    requires writer_can_rise { failures_of writer.old < 2 ^ 64 - 1 }
     requires none_due { due_of session.old ≡ None }
     requires goes_on { closing_of (state_of session.old).phase ≡ None }
     requires change { IfSome change (λ operation. IsChange (given_at input now) operation) }

@@ -43,19 +43,19 @@ impl<T> Counted<T> {
 }
 
 impl<R: Read> Counted<R> {
-    /// One read after the bytes that are held, into their spare room.
-    pub fn read_into(&mut self, held: &mut BytesMut) -> io::Result<usize>
+    /// One read behind the bytes that are buffered, into their spare capacity.
+    pub fn read_into(&mut self, buffered: &mut BytesMut) -> io::Result<usize>
         ensures ok { IfOk result (λ n. (more : List ℕ) × (length more ≡ n)
-            × (held.new.items ≡ held.old.items ++ more)
+            × (buffered.new.items ≡ buffered.old.items ++ more)
             × Consumes (R.remaining (inner_of self.old)) (R.remaining (inner_of self.new)) more) }
-        ensures end { IfOk result (λ n. 0 < held.old.spare → n ≡ 0
+        ensures end { IfOk result (λ n. 0 < buffered.old.spare → n ≡ 0
             → IsAtEnd (R.remaining (inner_of self.new))) }
-        ensures err { OnErr result ((held.new ≡ held.old)
+        ensures err { OnErr result ((buffered.new ≡ buffered.old)
             × Keeps (R.remaining (inner_of self.old)) (R.remaining (inner_of self.new))) }
         ensures count { failures_of self.new
             ≡ (if is_ok result then failures_of self.old else next_count (failures_of self.old)) }
     {
-        let result = held.read_from(&mut self.inner);
+        let result = buffered.read_from(&mut self.inner);
         if result.is_err() {
             self.failures = self.failures.saturating_add(1);
         }

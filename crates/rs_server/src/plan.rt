@@ -58,18 +58,18 @@ fn copied(change: &Option<Operation>) -> Option<Operation>
     }
 }
 
-/// Plans what comes next, if nothing is planned: the first whole input of what is held; and, in an open session, while the last one
+/// Plans what comes next, if nothing is planned: the first whole input of what is buffered; and, in an open session, while the last one
 /// is a publication that may be announced, the next, up to as many as its gate takes at once. The changes of two or more of them are
 /// announced. Nothing is read.
 pub(crate) fn plan<G: Gate, C: Clock>(
     alloc: Global,
     session: &mut Session<G>,
-    held: &mut BytesMut,
+    buffered: &mut BytesMut,
     planned: &mut VecDeque<Planned>,
     clock: &mut C,
 ) -> Result<(), ServeFault>
-    ensures plans { Plans planned.old.items planned.new.items held.old.items held.new.items (C.moments clock.old) (C.moments clock.new) }
-    ensures more { OnOk result (planned.new.items ≡ [] → IsMore held.new.items) }
+    ensures plans { Plans planned.old.items planned.new.items buffered.old.items buffered.new.items (C.moments clock.old) (C.moments clock.new) }
+    ensures more { OnOk result (planned.new.items ≡ [] → IsMore buffered.new.items) }
     ensures few { length planned.old.items ≤ G.most → length planned.new.items ≤ G.most + 1 }
     ensures none { OnErr result (planned.new.items ≡ planned.old.items) }
     ensures fault { IfErr result (λ fault. fault ≡ ServeFault.NoMemory) }
@@ -83,9 +83,9 @@ pub(crate) fn plan<G: Gate, C: Clock>(
         return Ok(());
     }
     let most = session.most_expected();
-    match plan_next(alloc, held, planned, clock, most > 1) {
+    match plan_next(alloc, buffered, planned, clock, most > 1) {
         Ok(true) => {
-            look_ahead(alloc, held, planned, clock, most);
+            look_ahead(alloc, buffered, planned, clock, most);
             announce(alloc, session, planned);
             Ok(())
         }
@@ -97,13 +97,13 @@ pub(crate) fn plan<G: Gate, C: Clock>(
 /// Plans the next input, if it is whole, with its change, if that is wanted and may be announced. Whether there is one.
 fn plan_next<C: Clock>(
     alloc: Global,
-    held: &mut BytesMut,
+    buffered: &mut BytesMut,
     planned: &mut VecDeque<Planned>,
     clock: &mut C,
     announces: bool,
 ) -> Result<bool, ServeFault>
-    ensures plans { PlansNext planned.old.items planned.new.items held.old.items held.new.items (C.moments clock.old) (C.moments clock.new) }
-    ensures more { OnOk result (planned.new.items ≡ [] → IsMore held.new.items) }
+    ensures plans { PlansNext planned.old.items planned.new.items buffered.old.items buffered.new.items (C.moments clock.old) (C.moments clock.new) }
+    ensures more { OnOk result (planned.new.items ≡ [] → IsMore buffered.new.items) }
     ensures some { result ≡ Ok true → planned.new.items ≢ [] }
     ensures none { OnErr result (planned.new.items ≡ planned.old.items) }
     ensures fault { IfErr result (λ fault. fault ≡ ServeFault.NoMemory) }
@@ -111,7 +111,7 @@ fn plan_next<C: Clock>(
     if planned.reserve(1).is_err() {
         return Err(ServeFault::NoMemory);
     }
-    let Some(input) = next_input(alloc, held) else {
+    let Some(input) = next_input(alloc, buffered) else {
         return Ok(false);
     };
     let now = clock.now();
@@ -135,16 +135,16 @@ fn change_of(alloc: Global, input: &Input, now: u64, announces: bool) -> Option<
 /// stops.
 fn look_ahead<C: Clock>(
     alloc: Global,
-    held: &mut BytesMut,
+    buffered: &mut BytesMut,
     planned: &mut VecDeque<Planned>,
     clock: &mut C,
     most: usize,
 )
-    ensures plans { Plans planned.old.items planned.new.items held.old.items held.new.items (C.moments clock.old) (C.moments clock.new) }
+    ensures plans { Plans planned.old.items planned.new.items buffered.old.items buffered.new.items (C.moments clock.old) (C.moments clock.new) }
     ensures few { length planned.new.items ≤ length planned.old.items + most }
 {
     'next: for count in 1..most {
-        let Ok(true) = plan_next(alloc, held, planned, clock, true) else {
+        let Ok(true) = plan_next(alloc, buffered, planned, clock, true) else {
             return;
         };
     }
@@ -186,17 +186,17 @@ fn changes_of(alloc: Global, planned: &VecDeque<Planned>) -> Vec<Operation>
     changes
 }
 
-/// Removes the first input from what is held. None if less than a packet is held.
-fn next_input(alloc: Global, held: &mut BytesMut) -> Option<Input>
-    ensures { TakesInput held.old.items result held.new.items }
+/// Removes the first input from what is buffered. None if less than a packet is.
+fn next_input(alloc: Global, buffered: &mut BytesMut) -> Option<Input>
+    ensures { TakesInput buffered.old.items result buffered.new.items }
 {
-    let size = needed_len(held.as_slice());
-    if held.len() < size {
+    let size = needed_len(buffered.as_slice());
+    if buffered.len() < size {
         return None;
     }
-    match decode_copy(alloc, &held.as_slice()[..size]) {
+    match decode_copy(alloc, &buffered.as_slice()[..size]) {
         Ok(Decoded::Whole(packet, used)) => {
-            held.advance(used);
+            buffered.advance(used);
             Some(Input::Whole(packet))
         }
         Ok(Decoded::More) => None,

@@ -169,8 +169,8 @@ abbrev pub IsQueued : ℕ → List ℕ → Subscription → List Entry → Open 
 IsQueued now filter subscription list old new =
     (found : List Found) × IsAnswer list filter now found × window.IsQueued found subscription.options.qos subscription.identifier old.window (Ok tt) new.window
 
--- The session can subscribe to the filter, and its subscription is new or replaces the one before. If Retain Handling says so, the retained
--- messages wait after the rest.
+-- The session can subscribe to the filter, and its subscription is new or replaces the one before. If Retain Handling says so,
+-- the retained messages wait after the rest.
 pub record IsSubscribed (now : ℕ) (filter : List ℕ) (subscription : Subscription) (list : List Entry) (old new : Open) : Type 0 where
   pub fits : can_subscribe filter old.subscriptions ≡ true
   pub kept : new.subscriptions ≡ finite.insert old.subscriptions filter subscription

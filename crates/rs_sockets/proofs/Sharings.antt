@@ -50,7 +50,7 @@ module _ {T : Type 0} (contents : T → Option (List ℕ)) where
 
   -- the half that has the writer gives it back: the one that writes, or the other with its contents kept
   back : (n port : ℕ) (v : HalfView) (x : T) (out : Bool) → v.holds ≡ true → (v.writes ≡ true) ⊎ Keeps v.known (contents x) → Pushes (IsShared contents) n port v x (λ w. w ≡ view_of v.writes false out (contents x))
-  back n port v x out holding may items views room h at =
+  back n port v x out holding may items views capacity h at =
       let w : HalfView = view_of v.writes false out (contents x) in
       let mine = h.4 port v at in
       let held = mine.1 holding in
@@ -78,8 +78,8 @@ module _ {T : Type 0} (contents : T → Option (List ℕ)) where
   gives_back n port v x = back n port v x false
 
   pub gives_back_written_out : (waiting : T → List ℕ) (n port : ℕ) (v : HalfView) (x : T) → v.holds ≡ true → (v.writes ≡ true) ⊎ Keeps v.known (contents x) → waiting x ≡ [] → Pushes (IsShared contents) n port v x (λ w. (w ≡ view_of v.writes false true (contents x)) × (waiting x ≡ []))
-  gives_back_written_out waiting n port v x holding may none items views room h at =
-      let put = back n port v x true holding may items views room h at in
+  gives_back_written_out waiting n port v x holding may none items views capacity h at =
+      let put = back n port v x true holding may items views capacity h at in
       (put.0, put.1, (put.2, none))
 
   pub forks : (port : ℕ) (v : HalfView) → Forks (IsShared contents) port v v (view_of false false false None)

@@ -10,7 +10,7 @@ use std::net::{OpenStream, Shutdown};
 use std::time::{Clock, Duration, Instant};
 
 /// How many bytes one read discards.
-const DISCARD_ROOM: usize = 16_384;
+const DISCARD_SIZE: usize = 16_384;
 
 /// Tells the peer that no more is written, and then reads and discards what it still sends: up to its end,
 /// at most [`MAX_DISCARDED`] bytes, and for about a second.
@@ -61,9 +61,9 @@ fn discard_some<H: Clock, S: Read + OpenStream>(
     if stream.set_read_timeout(Some(time)).is_err() {
         return 0;
     }
-    let mut room = [0u8; DISCARD_ROOM];
-    let size = left.min(DISCARD_ROOM);
-    stream.read(&mut room[..size]).unwrap_or(0)
+    let mut bytes = [0u8; DISCARD_SIZE];
+    let size = left.min(DISCARD_SIZE);
+    stream.read(&mut bytes[..size]).unwrap_or(0)
 }
 
 /// How much of the time is left. None if the clock cannot be read.

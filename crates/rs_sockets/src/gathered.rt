@@ -9,8 +9,8 @@ use std::alloc::Global;
 use std::io;
 use std::io::{BufWriter, Write};
 
-/// A writer that keeps up to [`MAX_GATHERED`] bytes, a `flush` or not. They are written out if there is no
-/// more room, by [`write_out`](Gathered::write_out) and by [`into_inner`](Gathered::into_inner).
+/// A writer that keeps up to [`MAX_GATHERED`] bytes, a `flush` or not. They are written out if more
+/// would not fit, by [`write_out`](Gathered::write_out) and by [`into_inner`](Gathered::into_inner).
 ///
 /// Its contents are those of the inner writer, and then what waits.
 #[derive(Drop)]

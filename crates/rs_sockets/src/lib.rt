@@ -5,7 +5,7 @@
 //! [`close`] ends a connection so that the client can still read what was written last.
 //!
 //! Replies are gathered: what is written and flushed is kept, up to [`MAX_GATHERED`] bytes, and goes out in
-//! one write if there is no more room, before the next read of the same connection, and at its end.
+//! one write if more would not fit, before the next read of the same connection, and at its end.
 //! A connection may have a limit for how long it is idle; at one that failed, [`abandon`] waits for nothing.
 //!
 //! The two halves are [`ReadHalf`] and [`WriteHalf`], over any reader and any writer, whose contracts say which bytes

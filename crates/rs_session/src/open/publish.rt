@@ -52,7 +52,7 @@ impl Open {
         self.outcome_of_id(p.qos, p.id)
     }
 
-    /// What the identifier of a PUBLISH leads to, if it is not released yet or is one too many.
+    /// What the identifier of a PUBLISH leads to, if it awaits its PUBREL or is one too many.
     fn outcome_of_id(&self, qos: Qos, id: Option<PacketId>) -> Option<Outcome>
         ensures { result ≡ outcome_of_id (is_unreleased (unreleased_id qos id) self.now.inbound) (is_one_too_many (unreleased_id qos id) self.now.inbound) (acknowledged_by qos id ReasonCode.Success) }
     {

@@ -6,11 +6,11 @@ pub unreachable-requires : goal.unreachable-requires
 unreachable-requires g c =
     let threads = as_many _ _ _ _ _ c.join_places-ends.ensures.served in
     let few = c.in_ok-threads.ensures.few in
-    let room = c.in_ok-ends.ensures.capacity in
-    let more = c.join_places-ends.ensures.room in
+    let capacity = c.in_ok-ends.ensures.capacity in
+    let more = c.join_places-ends.ensures.capacity in
     let full = c.in_default.ensures.full in
     let len = c.len.ensures in
-    omega (arith, threads, few, room, more, full, len)
+    omega (arith, threads, few, capacity, more, full, len)
 
 pub returns : goal.returns
 returns g c =

@@ -2,7 +2,7 @@ use Rattle.std.proofs.Common.{rules, ◌≡◌, ◌⊎◌, ⊎_elim, inl, inr, �
 use Rattle.std.proofs.lemmas.Bool.Decides.{nat_tests}
 use Rattle.rs_places.specs.Places.{left_at, place_at, places_of}
 use Rattle.rs_places.specs.Shared.{SharedValue}
-use Rattle.rs_places.proofs.Starting.{all_started, few_at_first, few_served, few_so_far, few_threads, length_more, next_place, no_places, same_place, served_fits, served_here, started_none, still_room, thread_fits, thread_more}
+use Rattle.rs_places.proofs.Starting.{all_started, few_at_first, few_served, few_so_far, few_threads, length_more, next_place, no_places, same_place, served_fits, served_here, started_none, still_fits, thread_fits, thread_more}
 use Rattle.rs_places.proofs.running.start_places.Goals as goal
 
 pub loop-turn-init : goal.loop-turn-init
@@ -13,8 +13,8 @@ loop-turn-init g c =
     record {
       started = started_none _ _ _ _ _ _ _ c.in_ok-threads.ensures.items c.in_ok-served.ensures.items same;
       few = few_at_first _ _ _ _ (ap length c.in_ok-threads.ensures.items) (ap length c.in_ok-served.ensures.items) (ap length gates);
-      threads_room = omega (arith, c.in_ok-threads.ensures.capacity, c.len.ensures);
-      served_room = omega (arith, c.in_ok-served.ensures.capacity, c.len-2.ensures);
+      threads_capacity = omega (arith, c.in_ok-threads.ensures.capacity, c.len.ensures);
+      served_capacity = omega (arith, c.in_ok-served.ensures.capacity, c.len-2.ensures);
     }
 
 pub loop-turn-preserved-then-not-is_empty : goal.loop-turn-preserved-then-not-is_empty
@@ -25,8 +25,8 @@ loop-turn-preserved-then-not-is_empty g c =
     record {
       started = served_here _ _ _ _ _ _ _ _ _ _ c.push_reserved.ensures.items c.serve_turns.ensures first i.started;
       few = few_served _ _ _ _ _ _ i.few (length_more _ _ _ c.push_reserved.ensures.items) (ap length steps.1.0);
-      threads_room = i.threads_room;
-      served_room = still_room _ _ _ i.served_room c.push_reserved.ensures.capacity;
+      threads_capacity = i.threads_capacity;
+      served_capacity = still_fits _ _ _ i.served_capacity c.push_reserved.ensures.capacity;
     }
 
 pub loop-turn-preserved-in-Ok : goal.loop-turn-preserved-in-Ok
@@ -39,8 +39,8 @@ loop-turn-preserved-in-Ok g c =
     record {
       started = thread_more _ _ _ _ _ _ _ _ _ _ _ c.push_reserved-in-Ok.ensures.items none (same_place g.T.Turn.plan _ _ _ _ promised.0 promised.1) first i.started;
       few = few_threads _ _ _ _ _ _ i.few (length_more _ _ _ c.push_reserved-in-Ok.ensures.items) (ap length steps.1.0);
-      threads_room = still_room _ _ _ i.threads_room c.push_reserved-in-Ok.ensures.capacity;
-      served_room = i.served_room;
+      threads_capacity = still_fits _ _ _ i.threads_capacity c.push_reserved-in-Ok.ensures.capacity;
+      served_capacity = i.served_capacity;
     }
 
 pub loop-turn-preserved : goal.loop-turn-preserved
@@ -52,18 +52,18 @@ loop-turn-preserved g c =
     record {
       started = served_here _ _ _ _ _ _ _ _ _ _ c.push_reserved-in-Err-Some.ensures.items one first i.started;
       few = few_served _ _ _ _ _ _ i.few (length_more _ _ _ c.push_reserved-in-Err-Some.ensures.items) (ap length steps.1.0);
-      threads_room = i.threads_room;
-      served_room = still_room _ _ _ i.served_room c.push_reserved-in-Err-Some.ensures.capacity;
+      threads_capacity = i.threads_capacity;
+      served_capacity = still_fits _ _ _ i.served_capacity c.push_reserved-in-Err-Some.ensures.capacity;
     }
 
 pub push_reserved-requires : goal.push_reserved-requires
-push_reserved-requires g c = served_fits _ _ _ _ _ _ c.loop-turn.invariant.few (ap length c.in-Some.ensures.steps.1.0) c.loop-turn.invariant.served_room
+push_reserved-requires g c = served_fits _ _ _ _ _ _ c.loop-turn.invariant.few (ap length c.in-Some.ensures.steps.1.0) c.loop-turn.invariant.served_capacity
 
 pub push_reserved-requires-in-Ok : goal.push_reserved-requires-in-Ok
-push_reserved-requires-in-Ok g c = thread_fits _ _ _ _ _ _ c.loop-turn.invariant.few (ap length c.in-Some.ensures.steps.1.0) c.loop-turn.invariant.threads_room
+push_reserved-requires-in-Ok g c = thread_fits _ _ _ _ _ _ c.loop-turn.invariant.few (ap length c.in-Some.ensures.steps.1.0) c.loop-turn.invariant.threads_capacity
 
 pub push_reserved-requires-in-Err-Some : goal.push_reserved-requires-in-Err-Some
-push_reserved-requires-in-Err-Some g c = served_fits _ _ _ _ _ _ c.loop-turn.invariant.few (ap length c.in-Some.ensures.steps.1.0) c.loop-turn.invariant.served_room
+push_reserved-requires-in-Err-Some g c = served_fits _ _ _ _ _ _ c.loop-turn.invariant.few (ap length c.in-Some.ensures.steps.1.0) c.loop-turn.invariant.served_capacity
 
 pub returns-clause-few : goal.returns-clause-few
 returns-clause-few g c = few_so_far _ _ _ _ c.loop-turn.invariant.few

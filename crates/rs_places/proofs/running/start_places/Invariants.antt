@@ -9,6 +9,6 @@ invariant-loop-turn g l = record {
       (map (λ end. left_at (g.T.Turn.plan end.turn) end.told end.line) l.served.items)
       (places_of (map g.T.Turn.plan l.turn-iterator.a.rest.items) l.turn-iterator.b.rest.items) (places_of (map g.T.Turn.plan l.fn.turns.items) l.fn.gates.items);
   few : length l.threads.items + length l.served.items + length l.turn-iterator.b.rest.items ≤ length l.fn.gates.items;
-  threads_room : length l.fn.gates.items ≤ vec_capacity l.threads;
-  served_room : length l.fn.gates.items ≤ vec_capacity l.served;
+  threads_capacity : length l.fn.gates.items ≤ vec_capacity l.threads;
+  served_capacity : length l.fn.gates.items ≤ vec_capacity l.served;
 }

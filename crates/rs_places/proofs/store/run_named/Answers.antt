@@ -5,8 +5,8 @@ use Rattle.rs_places.proofs.Starting.{few_ends}
 use Rattle.rs_places.proofs.Whole.{whole_run}
 use Rattle.rs_places.proofs.store.run_named.Goals as goal
 
-pub settled-requires-clause-room : goal.settled-requires-clause-room
-settled-requires-clause-room g c κs within =
+pub settled-requires-clause-capacity : goal.settled-requires-clause-capacity
+settled-requires-clause-capacity g c κs within =
     let ends = c.in_ok-served.served.ends.items in
     let all : length ends ≤ length c.in_ok-gates.gates.items = few_ends _ _ _ _ ends c.in_ok-served.ensures in
     (omega (arith, all, c.len.ensures, c.in_ok-lines.ensures.capacity), omega (arith, all, c.len-2.ensures, c.in_ok-left.ensures.capacity))

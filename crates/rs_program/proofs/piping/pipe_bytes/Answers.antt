@@ -12,7 +12,7 @@ returns g c = λ seen s.
     record {
       outcome = c.serve-served.result.0;
       left = remaining c.into_inner.result;
-      held = contents c.into_inner-2.result;
+      output = contents c.into_inner-2.result;
       line = None;
       connection = connection_as (start (assigned_of 1 1) seen (g.G.Gate.mark c.args.gate)) _ _ _ _ _ c.serve-served.result.0
           (ap remaining c.new-reader.ensures.inner) (ap remaining (sym c.into_inner.ensures))
@@ -20,6 +20,6 @@ returns g c = λ seen s.
           (λ (ms : List ℕ). one_moment c.args.at (told_by c.new-clock.result) _ c.new.result.items ms c.new-clock.ensures c.new.ensures.items)
           (c.serve-served.ensures.conversation seen s);
       left_is = refl;
-      held_is = refl;
+      output_is = refl;
       answer = c.result_of.ensures;
     }

@@ -17,7 +17,7 @@ returns g c = λ seen s.
     record {
       outcome = c.serve-served.result.0;
       left = remaining lines;
-      held = contents written;
+      output = contents written;
       line = c.not_hex.result;
       connection = connection_as (start (assigned_of 1 1) seen (g.G.Gate.mark c.args.gate)) _ _ _ _ _ c.serve-served.result.0
           (ap remaining c.new-reader.ensures.inner ∙ c.new.ensures.bytes) refl
@@ -25,6 +25,6 @@ returns g c = λ seen s.
           (λ (ms : List ℕ). one_moment c.args.at (told_by c.new-clock.result) _ c.new-3.result.items ms c.new-clock.ensures c.new-3.ensures.items)
           (c.serve-served.ensures.conversation seen s);
       left_is = tt;
-      held_is = (due_digits written.due, one_digit written.due, same_output g.W.Write.contents written _ (c.into_inner-3.ensures ∙ ap output_of c.into_inner-2.ensures));
+      output_is = (due_digits written.due, one_digit written.due, same_output g.W.Write.contents written _ (c.into_inner-3.ensures ∙ ap output_of c.into_inner-2.ensures));
       answer = c.result_of.ensures;
     }

@@ -18,7 +18,7 @@ invariant-serving g l =
             consumed = Consumes (g.R.Read.remaining (inner_of l.initial.reader)) (g.R.Read.remaining (inner_of l.reader));
             told = TellsInOrder (g.C.Clock.moments l.initial.clock) (g.C.Clock.moments l.clock);
             written = AppendsReplies (g.W.Write.contents (inner_of l.initial.writer)) (g.W.Write.contents (inner_of l.writer));
-          }) l.planned.items l.held.items;
+          }) l.planned.items l.buffered.items;
       expected : g.G.Gate.ahead l.fn.gate ≡ [] → AreChanges l.planned.items (g.G.Gate.ahead (gate_of l.session));
       few : length l.planned.items ≤ g.G.Gate.most;
       none_due : due_of l.session ≡ None;

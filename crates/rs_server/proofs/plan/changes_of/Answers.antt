@@ -17,7 +17,7 @@ made-init c = record {
   none_sweeps = subst (All (λ operation. is_sweep operation ≡ false)) (sym c.in-Ok.ensures.items) (All-nil (λ operation. is_sweep operation ≡ false));
   size = ap (λ (l : List Operation). length l) c.in-Ok.ensures.items;
   count = c.in-Ok.ensures.len;
-  room = omega (arith, c.in-Ok.ensures.capacity, c.len.ensures, c.len-i-end.ensures);
+  capacity = omega (arith, c.in-Ok.ensures.capacity, c.len.ensures, c.len-i-end.ensures);
 }
 
 pub returns-in_default-copied-clause-changes : goal.returns-in_default-copied-clause-changes
@@ -29,7 +29,7 @@ pub returns-in_default-copied-clause-none_sweeps : goal.returns-in_default-copie
 returns-in_default-copied-clause-none_sweeps c = c.made.invariant.none_sweeps
 
 pub push_reserved-requires : goal.push_reserved-requires
-push_reserved-requires c = omega (arith, c.made.invariant.count, c.made.invariant.room, c.made-test.true)
+push_reserved-requires c = omega (arith, c.made.invariant.count, c.made.invariant.capacity, c.made-test.true)
 
 pub made-preserved : goal.made-preserved
 made-preserved c =
@@ -48,7 +48,7 @@ made-preserved c =
           (All-append (λ operation. is_sweep operation ≡ false) c.made.changes.items (c.in-Some.change ∷ []) c.made.invariant.none_sweeps (All-cons (λ operation. is_sweep operation ≡ false) c.in-Some.change [] (no_change_sweeps _ c.in-Some.change made) (All-nil (λ operation. is_sweep operation ≡ false))));
       size = omega (arith, ap (λ (l : List Operation). length l) c.push_reserved.ensures.items, length-append c.made.changes.items (c.in-Some.change ∷ []), c.made.invariant.size);
       count = omega (arith, c.push_reserved.ensures.len, c.made.invariant.count);
-      room = omega (arith, c.made.invariant.room, c.push_reserved.ensures.capacity);
+      capacity = omega (arith, c.made.invariant.capacity, c.push_reserved.ensures.capacity);
     }
 
 pub returns-clause-changes : goal.returns-clause-changes

@@ -11,5 +11,5 @@ invariant-made l = record {
   none_sweeps : All (λ operation. is_sweep operation ≡ false) l.changes.items;
   size : length l.changes.items ≡ l.i;
   count : vec_len l.changes ≡ l.i;
-  room : l.i-end ≤ vec_capacity l.changes;
+  capacity : l.i-end ≤ vec_capacity l.changes;
 }

@@ -7,19 +7,19 @@ next-init g c = record { plans = plans_none _ _ _; few = omega arith; rounds = o
 
 pub returns-in_default : goal.returns-in_default
 returns-in_default g c = record {
-  plans = plans_more c.args.planned.now.items c.next.planned.items c.plan_next.new.planned.items _ c.next.held.items _ _ (g.C.Clock.moments c.next.clock) _ c.next.invariant.plans c.plan_next.ensures.plans;
+  plans = plans_more c.args.planned.now.items c.next.planned.items c.plan_next.new.planned.items _ c.next.buffered.items _ _ (g.C.Clock.moments c.next.clock) _ c.next.invariant.plans c.plan_next.ensures.plans;
   few = omega (arith, next_few c.next.planned.items c.plan_next.new.planned.items _ _ _ _ c.plan_next.ensures.plans, c.next.invariant.few, c.next-test.true);
 }
 
 pub returns-in_default-2 : goal.returns-in_default-2
 returns-in_default-2 g c = record {
-  plans = plans_more c.args.planned.now.items c.next.planned.items c.plan_next.new.planned.items _ c.next.held.items _ _ (g.C.Clock.moments c.next.clock) _ c.next.invariant.plans c.plan_next.ensures.plans;
+  plans = plans_more c.args.planned.now.items c.next.planned.items c.plan_next.new.planned.items _ c.next.buffered.items _ _ (g.C.Clock.moments c.next.clock) _ c.next.invariant.plans c.plan_next.ensures.plans;
   few = omega (arith, next_few c.next.planned.items c.plan_next.new.planned.items _ _ _ _ c.plan_next.ensures.plans, c.next.invariant.few, c.next-test.true);
 }
 
 pub next-preserved : goal.next-preserved
 next-preserved g c = record {
-  plans = plans_more c.args.planned.now.items c.next.planned.items c.plan_next.new.planned.items _ c.next.held.items _ _ (g.C.Clock.moments c.next.clock) _ c.next.invariant.plans c.plan_next.ensures.plans;
+  plans = plans_more c.args.planned.now.items c.next.planned.items c.plan_next.new.planned.items _ c.next.buffered.items _ _ (g.C.Clock.moments c.next.clock) _ c.next.invariant.plans c.plan_next.ensures.plans;
   few = omega (arith, next_few c.next.planned.items c.plan_next.new.planned.items _ _ _ _ c.plan_next.ensures.plans, c.next.invariant.few);
   rounds = omega (arith, c.next-test.true);
 }

@@ -6,13 +6,13 @@ use Rattle.rs_server.proofs.plan.plan.Goals as goal
 
 pub returns-in-Ok-true-clause-plans : goal.returns-in-Ok-true-clause-plans
 returns-in-Ok-true-clause-plans g c =
-    plans_join c.args.planned.now.items c.plan_next.new.planned.items c.look_ahead.new.planned.items _ c.plan_next.new.held.items _ _ (g.C.Clock.moments c.plan_next.new.clock) _
+    plans_join c.args.planned.now.items c.plan_next.new.planned.items c.look_ahead.new.planned.items _ c.plan_next.new.buffered.items _ _ (g.C.Clock.moments c.plan_next.new.clock) _
     (plans_next c.args.planned.now.items c.plan_next.new.planned.items _ _ _ _ c.plan_next.ensures.plans) c.look_ahead.ensures.plans
 
 pub returns-in-Ok-true-clause-ahead : goal.returns-in-Ok-true-clause-ahead
 returns-in-Ok-true-clause-ahead g c =
     announced c.args.planned.now.items c.look_ahead.new.planned.items _ _ _ _ (g.G.Gate.ahead (gate_of c.args.session.now)) (g.G.Gate.ahead (gate_of c.announce.new.session))
-    (plans_join c.args.planned.now.items c.plan_next.new.planned.items c.look_ahead.new.planned.items c.args.held.now.items c.plan_next.new.held.items c.look_ahead.new.held.items (g.C.Clock.moments c.args.clock.now) (g.C.Clock.moments c.plan_next.new.clock) (g.C.Clock.moments c.look_ahead.new.clock)
+    (plans_join c.args.planned.now.items c.plan_next.new.planned.items c.look_ahead.new.planned.items c.args.buffered.now.items c.plan_next.new.buffered.items c.look_ahead.new.buffered.items (g.C.Clock.moments c.args.clock.now) (g.C.Clock.moments c.plan_next.new.clock) (g.C.Clock.moments c.look_ahead.new.clock)
     (plans_next c.args.planned.now.items c.plan_next.new.planned.items _ _ _ _ c.plan_next.ensures.plans) c.look_ahead.ensures.plans)
     c.announce.ensures.ahead
 

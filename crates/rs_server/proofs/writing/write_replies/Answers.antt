@@ -1,10 +1,10 @@
 use Rattle.std.proofs.Common.{◌++◌, ◌∷◌, [], ◌∙◌}
 use Rattle.rs_session.proofs.Runs.{gives_more}
-use Rattle.rs_server.proofs.Written.{writes_next, room_left}
+use Rattle.rs_server.proofs.Written.{writes_next, can_rise_still}
 use Rattle.rs_server.proofs.writing.write_replies.Goals as goal
 
 pub write_next_reply-written-requires : goal.write_next_reply-written-requires
-write_next_reply-written-requires g c = room_left c.loop-reply.written _ _ c.requires c.loop-reply.invariant.2
+write_next_reply-written-requires g c = can_rise_still c.loop-reply.written _ _ c.requires c.loop-reply.invariant.2
 
 pub loop-reply-smaller : goal.loop-reply-smaller
 loop-reply-smaller g c = c.in-Some.ensures.fewer
