@@ -1,5 +1,5 @@
 """Runs the program with `--idle` and with `--log`: a silent client gives its place back, and what
-is told of each connection is true.
+the log says of each connection is true.
 
 What has to come is waited for. A connection that has to end may end late, as on a busy machine, and
 one that has to stay is only looked at by what it is answered.

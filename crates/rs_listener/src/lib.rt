@@ -2,7 +2,7 @@
 //!
 //! [`Server::bind`] binds an address and makes an empty store, [`Server::address`] tells the address, and [`Server::run`] serves
 //! clients until so many have connected. Each place has a thread, which serves one client after the other, and the store's writer
-//! has one. A connection may have a limit for how long it is idle, and the log of the handle is told when each begins and ends.
+//! has one. A connection may have a limit for how long it is idle, and the log of the handle has a line when each begins and ends.
 //!
 //! What a place does with a connection is `serve_place` of `rs_places`. The contracts of this crate do not say what a socket gives or
 //! takes, that a thread runs, or that a call returns.

@@ -88,9 +88,10 @@ impl Server {
     /// Serves clients, until all connections were accepted and have ended.
     ///
     /// If a place's thread cannot be started, and it is not the first, the caller's thread serves it and those behind it, one after
-    /// the other. A fault of a connection ends that connection alone. The log of `rt` is told when each begins and how it ended. If the changes are known, they are those of a run of the store,
-    /// as [`run_store`] says it; of its clients nothing is known, so any number meets this clause. That it is the one of this run is seen
-    /// in the code: it is what `run_store` answers.
+    /// the other. A fault of a connection ends that connection alone. The log of `rt` has a line when each begins, and one
+    /// that says how it ended. If the result has a number of changes, they are those of a run of the store, as [`run_store`] says it;
+    /// it says nothing of its clients, so any number meets this clause. That it is the one of this run is seen in the code: it is what
+    /// `run_store` answers.
     ///
     /// # Errors
     ///

@@ -10,8 +10,8 @@ use std::sync::Wait;
 use std::thread::Threads;
 use std::time::{Clock, Duration};
 
-/// Serves clients by TCP until so many have connected. The address is told before the first is accepted. A connection that is idle for
-/// as many seconds as `idle` says, if it is given, ends. With `log`, standard error is told of each connection.
+/// Serves clients by TCP until so many have connected. The address is printed before the first is accepted. A connection that is idle
+/// for as many seconds as `idle` says, if it is given, ends. With `log`, lines about each connection are written to standard error.
 ///
 /// # Errors
 ///

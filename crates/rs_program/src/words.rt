@@ -41,7 +41,7 @@ pub enum Run {
         connections: u64,
         /// After how many seconds an idle connection ends: 1 to [`MAX_IDLE`]. Never, if it is not given.
         idle: Option<u32>,
-        /// Whether standard error is told of each connection.
+        /// Whether lines about each connection are written to standard error.
         log: bool,
     },
 }

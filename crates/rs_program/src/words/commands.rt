@@ -51,8 +51,9 @@ disconnects. With --idle its connection ends once it sent nothing, or took nothi
 it, for so many seconds. A client that keeps its Keep Alive is not cut off if --idle is at least one
 and a half times that interval.
 
-With --log, standard error is told when each connection begins, and how it ended, with its place, its
-number there and the client's address, and why the server cannot listen.
+With --log, it writes a line to standard error when a connection begins and when it ends, with its
+place, its number there, the client's address and how it ended, and a line if it cannot listen, with
+the reason.
 
 The store is in memory. It is empty at the start, and lost at the end.
 
