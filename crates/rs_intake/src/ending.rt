@@ -3,7 +3,7 @@
 use crate::waiting::Gone;
 
 /// Why the writer's loop ended.
-#[derive(Drop)]
+#[derive(Debug, Drop)]
 pub enum Cause {
     /// The End of each place was taken.
     AllEnded,

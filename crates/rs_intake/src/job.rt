@@ -14,7 +14,7 @@ const _: () = prove!(MAX_CHANGES == 64);
 
 /// Entries that a line asks for in one job: 1 to [`MAX_CHANGES`], all of one place, which is not the writer's, and none a Sweep.
 /// Contracts see them as a list.
-#[derive(Drop)]
+#[derive(Debug, Drop)]
 pub struct Changes {
     entries: Vec<Entry>,
 }
@@ -69,7 +69,7 @@ impl Changes {
 }
 
 /// What a line sends to the writer.
-#[derive(Drop)]
+#[derive(Debug, Drop)]
 pub enum Job {
     /// Makes these entries, one after the other.
     Put(Changes),

@@ -12,7 +12,7 @@ use std::sync::Wait;
 
 /// A send or a receive failed: the other ends of its channel were gone. Only the two functions below make such a value, and only
 /// after a call that failed, so it stands for that call in contracts.
-#[derive(Drop)]
+#[derive(Debug, Drop)]
 pub struct Gone {
     seen: (),
 }

@@ -17,7 +17,7 @@ use std::sync::{Arc, Wait};
 use std::thread::{Promise, PromisedHandle, Threads, spawn_with};
 
 /// What a run of a store leaves.
-#[derive(Drop)]
+#[derive(Debug, Drop)]
 pub struct StoreEnd<T> {
     /// The turns of the places, in their order.
     pub turns: Vec<T>,

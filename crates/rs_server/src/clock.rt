@@ -16,7 +16,7 @@ pub trait Clock {
 }
 
 /// Times that are known. The last one is told again and again.
-#[derive(Drop)]
+#[derive(Debug, Drop)]
 pub struct Moments {
     first: u64,
     rest: VecDeque<u64>,

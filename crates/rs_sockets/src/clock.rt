@@ -6,7 +6,7 @@ ghost use Rattle.rs_sockets.specs.Clock.{last_of};
 use std::time::{Clock, SystemTime, UNIX_EPOCH};
 
 /// The system's clock, in whole seconds since 1970.
-#[derive(Drop)]
+#[derive(Debug, Drop)]
 pub struct SystemClock {
     last: u64,
 }
