@@ -1,7 +1,7 @@
 //! The connections of one place.
 
 ghost use Rattle.rs_server.specs.Counts.{failures_of, inner_of};
-ghost use Rattle.rs_places.specs.Turns.{TakesBack, unknown};
+ghost use Rattle.rs_places.specs.Turns.{TakesBack, none_given};
 
 use crate::ending::Ending;
 use log::{Log, info};
@@ -121,7 +121,7 @@ impl<H: Clock + Log + Copy + Send> Turn for ListenTurn<H> {
         connection: Connection<Counted<FromClient>, Counted<ToClient>, ListenClock<H>>,
         served: Result<Served, ServeFault>,
     )
-        ensures { TakesBack unknown (record { streams = record { unread = ⟦<FromClient as Read>⟧.remaining (inner_of connection.input); written = ⟦<ToClient as Write>⟧.contents (inner_of connection.output); moments = ⟦<ListenClock<H> as rs_server::Clock>⟧.moments connection.clock }; read_failures = failures_of connection.input; write_failures = failures_of connection.output; result = served }) unknown }
+        ensures { TakesBack none_given (record { streams = record { unread = ⟦<FromClient as Read>⟧.remaining (inner_of connection.input); written = ⟦<ToClient as Write>⟧.contents (inner_of connection.output); moments = ⟦<ListenClock<H> as rs_server::Clock>⟧.moments connection.clock }; read_failures = failures_of connection.input; write_failures = failures_of connection.output; result = served }) unknown }
     {
         let Connection {
             input,

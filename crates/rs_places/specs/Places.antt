@@ -14,7 +14,7 @@ use Rattle.rs_places.specs.Turns.{AreAll, Ending, Plan, Streams, TakesBack, Took
 abbrev pub next_number : ℕ → ℕ
 next_number number = min (number + 1) (2 ^ 64 - 1)
 
--- a connection that was served: what was known of it before and after, the exchanges of its session, what was decoded behind them and not
+-- a connection that was served: what contracts see of it before and after, the exchanges of its session, what was decoded behind them and not
 -- handled, and what the gate knew after it
 pub record Visit : Type 0 where
   pub given : Streams
@@ -23,7 +23,7 @@ pub record Visit : Type 0 where
   pub planned : List Given
   pub gate : SharedValue
 
--- what a connection transferred, by what is known of its streams before and after
+-- what a connection transferred, by what contracts see of its streams before and after
 abbrev pub transfer_of : Streams → Streams → Transfer
 transfer_of before after = record {
   unread = before.unread;
@@ -48,7 +48,7 @@ AreConnectionsServed limit number first [] last = last ≡ first
 AreConnectionsServed limit number first (visit ∷ visits) last =
     IsConnectionServed limit number first visit × AreConnectionsServed limit (next_number number) visit.gate visits last
 
--- a place: what is known of its turn, and what its gate knows
+-- a place: what contracts see of its turn and of its gate
 pub record Place : Type 0 where
   pub plan : Plan
   pub gate : SharedValue
@@ -56,7 +56,7 @@ pub record Place : Type 0 where
 abbrev pub place_at : Plan → SharedValue → Place
 place_at plan gate = record { plan = plan; gate = gate }
 
--- what is left of a place: what is known of its turn, the list that its gate knew last, and its line
+-- what is left of a place: what contracts see of its turn, the list that its gate knew last, and its line
 pub record Left : Type 0 where
   pub plan : Plan
   pub told : List Entry

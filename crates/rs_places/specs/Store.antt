@@ -92,7 +92,7 @@ pub record IsSettled (entries : List Entry) (left : List Left) (changes : ℕ) :
   pub sent : changes ≡ sent_in_all (map (λ end. end.line) left)
 
 -- A store of so many new places was run. Each place served its turn, from that before to that after; the writer published so many
--- entries; and so many changes are settled, if that is known.
+-- entries; and so many changes are settled, if a number is given.
 pub record IsStoreRun (limit places : ℕ) (before after : List Plan) (version : ℕ) (changes : Option ℕ) : Type 0 where
   -- there is one legal history, which the writer published
   pub history : List Entry

@@ -3,41 +3,41 @@ use Rattle.std.specs.Prelude.{◌≡◌, ℕ, Option, Some, None, List, [], ◌�
 use Rattle.rs_server.specs.declared.connection.Served.{Served}
 use Rattle.rs_server.specs.declared.writing.ServeFault.{ServeFault}
 
--- what is known of a connection: the bytes that its reader has left, those that its writer holds, and the times that its clock will
+-- a connection as contracts see it: the bytes that its reader has left, those that its writer holds, and the times that its clock will
 -- tell
 pub record Streams : Type 0 where
   pub unread : Option (List ℕ)
   pub written : Option (List ℕ)
   pub moments : Option (ℕ → ℕ)
 
--- a connection that was taken back: what is known of it then, how often its reader and its writer failed, and how it ended
+-- a connection that was taken back: what contracts see of it then, how often its reader and its writer failed, and how it ended
 pub record Ending : Type 0 where
   pub streams : Streams
   pub read_failures : ℕ
   pub write_failures : ℕ
   pub result : Result Served ServeFault
 
--- the connections that a turn will still give, and those that it took back, each in their order, if they are known
+-- the connections that a turn will still give, and those that it took back, each in their order, if they are given
 pub record Plan : Type 0 where
   pub waiting : Option (List Streams)
   pub ended : Option (List Ending)
 
--- nothing is known
-abbrev pub unknown : Plan
-unknown = record { waiting = None; ended = None }
+-- nothing is given
+abbrev pub none_given : Plan
+none_given = record { waiting = None; ended = None }
 
--- these are the first of the known ones that waited, and the others still wait
+-- these are the first of those that waited, and the others still wait, if they are given
 abbrev pub Gave : Option (List Streams) → List Streams → Option (List Streams) → Type 0
 Gave None given rest = ⊤
 Gave (Some waiting) given None = ⊥
 Gave (Some waiting) given (Some rest) = waiting ≡ given ++ rest
 
--- these are all that waited, if they are known
+-- these are all that waited, if they are given
 abbrev pub AreAll : Option (List Streams) → List Streams → Type 0
 AreAll None given = ⊤
 AreAll (Some waiting) given = waiting ≡ given
 
--- these were taken back after those before, if all of them are still known
+-- these were taken back after those before, if all of them are still given
 abbrev pub TookBack : Option (List Ending) → List Ending → Option (List Ending) → Type 0
 TookBack before endings None = ⊤
 TookBack None endings (Some all) = ⊥

@@ -20,10 +20,10 @@ pub struct Connection<R, W, C> {
 
 /// Gives a place its connections, one after the other, and takes them back once they have ended.
 ///
-/// The parts of a connection own what they need, since the place's thread takes them. A turn whose connections are known, as those of
-/// a test are, says so by its `plan`; one over sockets knows nothing, and promises nothing.
+/// The parts of a connection own what they need, since the place's thread takes them. A turn over given connections, as those of a
+/// test are, says so by its `plan`; one over sockets says nothing, and promises nothing.
 pub trait Turn {
-    ghost use Rattle.rs_places.specs.Turns.{Plan, unknown};
+    ghost use Rattle.rs_places.specs.Turns.{Plan, none_given};
 
     /// Reads what the client sends.
     type In: Read + Drop + Send;
@@ -34,8 +34,8 @@ pub trait Turn {
     /// Tells the time, in whole seconds.
     type Time: Clock + Drop + Send;
 
-    /// What is known of its connections. Nothing, if the type does not say.
-    ghost plan: { Self → Plan } = { λ _. unknown };
+    /// What contracts see of its connections. Nothing, if the type does not say.
+    ghost plan: { Self → Plan } = { λ _. none_given };
 
     /// The next connection of the place. `None` if there are no more; then it is not asked again.
     fn next(&mut self) -> Option<Connection<Self::In, Self::Out, Self::Time>>

@@ -11,12 +11,12 @@ use Rattle.rs_program.specs.declared.piping.PipeFault.{PipeFault}
 use Rattle.rs_server.specs.declared.writing.ServeFault.{ServeFault}
 use Rattle.rs_program.specs.Statuses.{pipe_fault}
 
--- What the known input stands for: its bytes, or with hex those of its lines, up to the first that is not hex.
+-- What the input stands for, if it is given: its bytes, or with hex those of its lines, up to the first that is not hex.
 abbrev pub input_bytes : Bool → Option (List ℕ) → Option (List ℕ)
 input_bytes true text = read_bytes text
 input_bytes false bytes = bytes
 
--- What the known output stands for: its bytes, or with hex those of its lines, if all are hex.
+-- What the output stands for, if it is given: its bytes, or with hex those of its lines, if all are hex.
 abbrev pub output_bytes : Bool → Option (List ℕ) → Option (List ℕ)
 output_bytes true text = written_bytes text
 output_bytes false bytes = bytes

@@ -88,11 +88,11 @@ replies_of exchanges = flat_map (λ exchange. all_reply_bytes exchange.replies) 
 abbrev pub start : List ℕ → List Entry → Mark → Point State
 start assigned seen mark = point_at (fresh assigned) seen mark
 
--- known bytes grow by the replies of all exchanges
+-- the bytes, if they are given, grow by the replies of all exchanges
 abbrev pub AppendsReplies : Option (List ℕ) → Option (List ℕ) → List Exchange → Type 0
 AppendsReplies old new exchanges = Appends old new (replies_of exchanges)
 
--- known bytes grow by the replies of every exchange but the last, and by a prefix of the last one's
+-- the bytes, if they are given, grow by the replies of every exchange but the last, and by a prefix of the last one's
 abbrev pub AppendsIntoLast : Option (List ℕ) → Option (List ℕ) → List Exchange → Type 0
 AppendsIntoLast old new exchanges = (before : List Exchange) × (last : List Exchange) × (exchanges ≡ before ++ last) × (length last ≤ 1)
     × (front : List ℕ) × (back : List ℕ) × (replies_of last ≡ front ++ back) × Appends old new (replies_of before ++ front)
@@ -104,7 +104,7 @@ WritesReplies (Err Read) old new exchanges = AppendsReplies old new exchanges
 WritesReplies (Err Write) old new exchanges = AppendsIntoLast old new exchanges
 WritesReplies (Err NoMemory) old new exchanges = AppendsIntoLast old new exchanges
 
--- What is known of a gate: the lists for which some gate of its type stands at a mark, those for which it stands itself, its mark, and
+-- What contracts see of a gate: the lists for which some gate of its type stands at a mark, those for which it stands itself, its mark, and
 -- the changes that it expects.
 pub record GateView : Type 1 where
   pub stands_at : Mark → List Entry → Type 0
@@ -197,8 +197,8 @@ abbrev pub Ends : Result Served ServeFault → State → List ℕ → Type 0 →
 Ends (Ok served) state buffered at_end = ClosesAs served state buffered at_end
 Ends (Err fault) state buffered at_end = BreaksAt fault state buffered
 
--- What a connection transferred: the bytes that its reader had left before and has left after, and those that its writer held before
--- and holds after, if they are known; and what holds of the times that its clock told.
+-- What a connection transferred: the bytes that its reader had left before and has left after, and those that its writer had before
+-- and has after, if they are given; and what holds of the times that its clock told.
 pub record Transfer : Type 1 where
   pub unread : Option (List ℕ)
   pub rest : Option (List ℕ)

@@ -1,4 +1,4 @@
--- What a clock of known times tells.
+-- What a clock of given times tells.
 use Rattle.std.specs.Prelude.{ℕ}
 use Rattle.rs_server.specs.Clock.{moment_at}
 use Rattle.rs_server.specs.declared.clock.Moments.{Moments}

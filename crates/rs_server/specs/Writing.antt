@@ -11,7 +11,7 @@ use Rattle.rs_server.specs.declared.writing.ServeFault.TheVariants.{Read, Write,
 abbrev pub all_reply_bytes : List Reply → List ℕ
 all_reply_bytes replies = flat_map reply_bytes replies
 
--- known bytes grow by a prefix of these
+-- the bytes, if they are given, grow by a prefix of these
 abbrev pub AppendsFront : Option (List ℕ) → Option (List ℕ) → List ℕ → Type 0
 AppendsFront old new bytes = (front : List ℕ) × (back : List ℕ) × (bytes ≡ front ++ back) × Appends old new front
 

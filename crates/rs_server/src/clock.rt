@@ -6,7 +6,7 @@ ghost use Rattle.rs_server.specs.Moments.{told_by};
 
 use std::collections::VecDeque;
 
-/// A clock, by the moments that it will tell, if they are known.
+/// A clock, by the moments that it will tell, if its type gives them.
 pub trait Clock {
     ghost moments: { Self → Option (ℕ → ℕ) } = { λ _. None };
 
@@ -15,7 +15,7 @@ pub trait Clock {
         ensures { Tells (moments self.old) (moments self.new) result };
 }
 
-/// Times that are known. The last one is told again and again.
+/// Given times. The last one is told again and again.
 #[derive(Debug, Drop)]
 pub struct Moments {
     first: u64,

@@ -1,4 +1,4 @@
--- What a session knows of the store by its gate.
+-- What contracts see of the store by a session's gate.
 use Rattle.std.specs.Prelude.{◌≡◌, ℕ, ◌+◌, ◌<◌, ◌≤◌, ◌⊎◌, List, [], ◌∷◌, ◌++◌, Contains, Option, Some, None, Result, Err, OnOk}
 use Rattle.std.specs.List.{All}
 use Rattle.rs_message.specs.Values.{OriginValue}
@@ -7,7 +7,7 @@ use Rattle.rs_message.specs.declared.entry.Operation.{Operation}
 use Rattle.rs_message.specs.declared.fault.SubmitFault.{SubmitFault}
 use Rattle.rs_message.specs.declared.fault.SubmitFault.TheVariants.{Open, Strange}
 
--- a place, the last serial that it used, and the entries that it sent to the store, in their order, if they are known
+-- a place, the last serial that it used, and the entries that it sent to the store, in their order, if they are given
 pub record Mark : Type 0 where
   pub place : ℕ
   pub serial : ℕ
@@ -21,7 +21,7 @@ last_origin mark = record { place = mark.place; serial = mark.serial }
 abbrev pub entry_by : Operation → Mark → Entry
 entry_by operation mark = record { origin = last_origin mark; operation = operation }
 
--- These entries were sent behind those before. Nothing is said if it is not known which were sent.
+-- These entries were sent behind those before. Nothing is said if they are not given.
 abbrev pub Sends : Option (List Entry) → List Entry → Option (List Entry) → Type 0
 Sends None entries None = Unit {0}
 Sends None entries (Some after) = ⊥
@@ -57,7 +57,7 @@ pub record IsSubmitted (operation : Operation) (old new : Mark) (list : List Ent
 abbrev pub IsHandedOver : Operation → Mark → List Entry → List Entry → Type 0
 IsHandedOver operation new seen list = (more : List Entry) → list ≡ seen ++ more → All (λ e. e.origin ≡ last_origin new → e.operation ≡ operation) more
 
--- if it is not known what became of the change, a serial was used
+-- if it is open what became of the change, a serial was used
 abbrev pub UsesIfOpen : Mark → Mark → Result (Unit {0}) SubmitFault → Type 0
 UsesIfOpen old new (Err Open) = old.serial < new.serial
 UsesIfOpen old new answer = Unit {0}

@@ -90,7 +90,7 @@ abbrev pub outcome_unmade : List Operation → Qos → Option ℕ → Outcome
 outcome_unmade [] qos id = Replies (acknowledged_by qos id QuotaExceeded)
 outcome_unmade (operation ∷ operations) qos id = Closes QuotaExceeded
 
--- No change was sent, as a gate knows that stands for some list: it expected none before, and used no serial.
+-- No change was sent by a gate that stands for some list: it expected none before, and used no serial.
 abbrev pub NoneSent : (List Entry → Type 0) → List Operation → Mark → Mark → Type 0
 NoneSent stands ahead old new = (seen : List Entry) × stands seen × (ahead ≡ []) × (new.serial ≡ old.serial)
 

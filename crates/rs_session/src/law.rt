@@ -58,7 +58,7 @@ pub fn kept_of_run()
     ensures marks { (from to : Point State) (exchanges : List Exchange) → Run from exchanges to → MarkGrows from.mark to.mark }
 {}
 
-/// Does nothing. Its contract says of every run what its gate sent to the store meanwhile, if that is known: in their order, the
+/// Does nothing. Its contract says of every run what its gate sent to the store meanwhile, if that is given: in their order, the
 /// retained publications among the inputs, each at most once, and each that the client was told is kept.
 #[tactic(auto, using(crate::proofs::Sending::run_sends))]
 pub fn sent_of_run()

@@ -36,7 +36,7 @@ pub(crate) fn kind_at(identifiers: &Slab<Kind>, id: PacketId) -> Option<Kind>
 
 /// Takes a number from 1 to 65,535 that is not in use.
 fn take_number(identifiers: &mut Slab<Kind>, kind: Kind) -> u16
-    requires room { HasRoomFor identifiers.old 1 }
+    requires capacity { HasRoomFor identifiers.old 1 }
     requires small { identifiers.old.capacity < 2 ^ 16 }
     ensures positive { 0 < result }
     ensures small { result < 2 ^ 16 }
@@ -78,7 +78,7 @@ pub(crate) fn take_identifier(
     quota: usize,
 ) -> Option<PacketId>
     requires within { slab_len identifiers.old ≤ quota }
-    requires room { qos ≢ Qos.AtMostOnce → slab_len identifiers.old < quota }
+    requires free { qos ≢ Qos.AtMostOnce → slab_len identifiers.old < quota }
     requires reserved { quota ≤ identifiers.old.capacity }
     requires small { identifiers.old.capacity < 2 ^ 16 }
     ensures numbered { IsNumbered (kinds_of identifiers.old) quota qos result }

@@ -55,7 +55,7 @@ fn take_out(ids: &mut ArrayVec<u16, MAX_HELD>, id: u16) -> bool
 
 /// Appends an identifier to the table.
 fn put_in(ids: &mut ArrayVec<u16, MAX_HELD>, id: u16)
-    requires room { array_vec_len ids.old < MAX_HELD }
+    requires fits { array_vec_len ids.old < MAX_HELD }
     requires distinct { IsDistinct ids.old.items }
     requires new { set.contains (held_of ids.old.items) id ≡ false }
     ensures inserted { held_of ids.new.items ≡ set.insert (held_of ids.old.items) id }

@@ -1,7 +1,7 @@
 //! Turns that play connections from memory.
 
 ghost use Rattle.rs_server.specs.Counts.{failures_of, inner_of};
-ghost use Rattle.rs_places.specs.Turns.{TakesBack, unknown};
+ghost use Rattle.rs_places.specs.Turns.{TakesBack, none_given};
 
 use super::CLOSED;
 use rs_places::{Connection, Turn};
@@ -218,7 +218,7 @@ impl Turn for Script {
         connection: Connection<Counted<Input>, Counted<Output>, ScriptClock>,
         served: Result<Served, ServeFault>,
     )
-        ensures { TakesBack unknown (record { streams = record { unread = ⟦<Input as Read>⟧.remaining (inner_of connection.input); written = ⟦<Output as Write>⟧.contents (inner_of connection.output); moments = ⟦<ScriptClock as Clock>⟧.moments connection.clock }; read_failures = failures_of connection.input; write_failures = failures_of connection.output; result = served }) unknown }
+        ensures { TakesBack none_given (record { streams = record { unread = ⟦<Input as Read>⟧.remaining (inner_of connection.input); written = ⟦<Output as Write>⟧.contents (inner_of connection.output); moments = ⟦<ScriptClock as Clock>⟧.moments connection.clock }; read_failures = failures_of connection.input; write_failures = failures_of connection.output; result = served }) unknown }
     {
         let output = connection.output.into_inner();
         if output.is_right(served) && !connection.clock.is_alone {

@@ -9,5 +9,5 @@ invariant-loop-one l = record {
   callable : (goal.iterator-loop-one).can_next l.one-iterator;
   finite : (goal.iterator-loop-one).is_finite l.one-iterator;
   joined : l.waiting.items ++ map (granted_at l.granted l.subscription) (into_iter_items l.one-iterator) ≡ l.initial.waiting.items ++ map (granted_at l.granted l.subscription) l.fn.found.items;
-  room : deque_len l.waiting + length (into_iter_items l.one-iterator) ≤ deque_capacity l.waiting;
+  capacity : deque_len l.waiting + length (into_iter_items l.one-iterator) ≤ deque_capacity l.waiting;
 }
