@@ -15,7 +15,7 @@ def one_history(count=12, topics=4, rounds=50):
     publication.
 
     Of any two reads, whoever made them, one shows of no topic less than the other, since both are
-    of one history. A read shows all that its client was told is kept, and no less than the reads
+    of one history. A read shows all that its client was told is stored, and no less than the reads
     before it.
     """
     names = [[b"h/%02d/%d" % (own, number) for number in range(topics)] for own in range(count)]

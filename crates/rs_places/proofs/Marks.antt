@@ -1,6 +1,6 @@
 -- Marks along a run.
 use Rattle.std.proofs.Common.{◌≡◌, List, [], ◌∷◌, ◌++◌, refl, sym, ap, subst, ◌∙◌, append-nil}
-use Rattle.rs_session.specs.Kept.{MarkGrows, point_after}
+use Rattle.rs_session.specs.Stored.{MarkGrows, point_after}
 use Rattle.rs_session.specs.Points.{Point}
 use Rattle.rs_session.specs.Run.{Run, Exchange}
 use Rattle.rs_session.specs.State.{State}

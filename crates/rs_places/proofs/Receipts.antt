@@ -83,7 +83,7 @@ submits_ok limit operation old new seen list told e number legal at is one prefi
     let P : List Entry → Type 0 = λ l. Contains l e in
     let there : Contains list e = subst P prefix.1 (Contains-append_left told prefix.0 e (stands_contained e number told at)) in
     let Q : Entry → Type 0 = λ d. Contains list d in
-    record { handed_over = handed_over limit operation new seen list told e number legal at is one; kept = record { entry = subst Q is there; serial = above; sent = sent }; used = tt }
+    record { handed_over = handed_over limit operation new seen list told e number legal at is one; submitted = record { entry = subst Q is there; serial = above; sent = sent }; used = tt }
 
 -- a submit that no reply answered, or that the writer holds, used a serial
 pub used_if_open : (before after : Line) (e : Entry) (fault : SubmitFault) → IsRefused before after e fault → UsesIfOpen (mark_of before) (mark_of after) (Err fault)
@@ -105,7 +105,7 @@ used_if_open before after e submit_fault.Open (inr (inr (inr mistaken))) = let s
 pub submits_err : (operation : Operation) (old new : Mark) (answer : Result (Unit {0}) SubmitFault) (fault : SubmitFault) (seen : List Entry) → answer ≡ Err fault → UsesIfOpen old new (Err fault) → Submits operation old new answer seen seen
 submits_err operation old new answer fault seen is used =
     subst (λ (a : Result (Unit {0}) SubmitFault). Submits operation old new a seen seen) (sym is)
-    (record { handed_over = none_handed_over operation new seen seen refl; kept = tt; used = used })
+    (record { handed_over = none_handed_over operation new seen seen refl; submitted = tt; used = used })
 
 -- what the line sent, as the mark has it
 pub sends_at_most : (operation : Operation) (before : Mark) (old new : Line) → mark_of old ≡ before → new.place ≡ old.place → AddsAtMost old.sent (entry_at old.place new.serial operation) new.sent

@@ -21,7 +21,7 @@ use Rattle.rs_intake.specs.Sweeps.{without_sweeps}
 use Rattle.rs_packet.specs.declared.packet.Publish.{Publish}
 use Rattle.rs_session.specs.Gate.{Extends, Mark, Sends}
 use Rattle.rs_session.specs.Points.{Given}
-use Rattle.rs_session.specs.Kept.{AreGrowing, IsKeptIn, StandsOnce, lists_of}
+use Rattle.rs_session.specs.Stored.{AreGrowing, IsStoredIn, StandsOnce, lists_of}
 use Rattle.rs_session.specs.Run.{Exchange}
 use Rattle.rs_session.specs.Sent.{AreSentBy}
 use Rattle.rs_session.proofs.Sending.{both_sent, none_sent}
@@ -70,17 +70,17 @@ once_more limit e short list legal (more, p) once =
     let whole : list ≡ once.front ++ e ∷ (once.rest ++ more) = p ∙ (ap (λ l. l ++ more) once.whole ∙ append_assoc once.front (e ∷ once.rest) more) in
     record { front = once.front; rest = once.rest ++ more; whole = whole; before = once.before; after = none_behind limit e list once.front [] (once.rest ++ more) legal whole }
 
-kept_more : (limit : ℕ) (mark : Mark) (exchange : Exchange) (p : Publish) (lists : List (List Entry)) (short list : List Entry) → IsLegal limit list → Extends list short
-    → IsKeptIn mark exchange p (lists ++ short ∷ []) → IsKeptIn mark exchange p (list ∷ [])
-kept_more limit mark exchange p lists short list legal extends kept =
-    let e : Entry = record { origin = record { place = exchange.to.mark.place; serial = exchange.to.mark.serial }; operation = kept.operation } in
+stored_more : (limit : ℕ) (mark : Mark) (exchange : Exchange) (p : Publish) (lists : List (List Entry)) (short list : List Entry) → IsLegal limit list → Extends list short
+    → IsStoredIn mark exchange p (lists ++ short ∷ []) → IsStoredIn mark exchange p (list ∷ [])
+stored_more limit mark exchange p lists short list legal extends stored =
+    let e : Entry = record { origin = record { place = exchange.to.mark.place; serial = exchange.to.mark.serial }; operation = stored.operation } in
     record {
-      topic = kept.topic;
-      operation = kept.operation;
-      is_topic = kept.is_topic;
-      changes = kept.changes;
-      used = kept.used;
-      kept = (once_more limit e short list legal extends (all_last (StandsOnce e) lists short kept.kept), tt);
+      topic = stored.topic;
+      operation = stored.operation;
+      is_topic = stored.is_topic;
+      changes = stored.changes;
+      used = stored.used;
+      stored = (once_more limit e short list legal extends (all_last (StandsOnce e) lists short stored.stored), tt);
     }
 
 connection_within : (limit number : ℕ) (list : List Entry) (gate : SharedValue) (visit : Visit) → IsLegal limit list → IsConnectionServed limit number gate visit → Extends list visit.gate.known
@@ -92,8 +92,8 @@ connection_within limit number list gate visit legal one extends =
     record {
       first = extends_more gate.known visit.gate.known list seen.0 extends;
       lists = subst L (sym one.exchanges) (all_weaker (λ l. Extends visit.gate.known l) (λ l. Extends list l) (λ l h. extends_more l visit.gate.known list h extends) (lists_of served.exchanges) seen.1);
-      kept = λ before exchange after o p answer whole is_open told.
-          kept_more limit _ exchange p (exchange.to.seen ∷ lists_of after) visit.gate.known list legal extends (served.kept before exchange after o p answer (sym one.exchanges ∙ whole) is_open told);
+      stored = λ before exchange after o p answer whole is_open told.
+          stored_more limit _ exchange p (exchange.to.seen ∷ lists_of after) visit.gate.known list legal extends (served.stored before exchange after o p answer (sym one.exchanges ∙ whole) is_open told);
     }
 
 visits_within : (limit number : ℕ) (list : List Entry) (first : SharedValue) (visits : List Visit) (last : SharedValue) → IsLegal limit list → AreConnectionsServed limit number first visits last → Extends list last.known

@@ -7,7 +7,7 @@ use Rattle.rs_packet.specs.declared.reply.Reply.{Reply}
 use Rattle.rs_message.specs.declared.entry.Entry.{Entry}
 use Rattle.rs_message.specs.declared.entry.Operation.{Operation}
 use Rattle.rs_store.specs.History.{IsLegal}
-use Rattle.rs_session.specs.Kept.{AreGrowing, IsKeptIn, IsToldKept, MarkGrows, lists_of, point_after}
+use Rattle.rs_session.specs.Stored.{AreGrowing, IsStoredIn, IsToldStored, MarkGrows, lists_of, point_after}
 use Rattle.rs_session.specs.Replay.{IsReplaying, IsSentInOrder, Opens}
 use Rattle.rs_session.specs.Gate.{Mark}
 use Rattle.rs_session.specs.Points.{Given, Point, point_at}
@@ -45,15 +45,15 @@ pub record IsServedAt (limit : ℕ) (from : Point State) (expected : List Operat
   pub last_legal : IsLegal limit gate.known
   -- of each of these lists every one before it is a prefix, from what was known first to what is known last
   pub lists : AreGrowing (from.seen ∷ (lists_of exchanges ++ gate.known ∷ []))
-  -- a retained publication that the client was told is kept stands once in every later list
-  pub kept : (before : List Exchange) (exchange : Exchange) (after : List Exchange) (o : Open) (p : Publish) (answer : Reply) → exchanges ≡ before ++ exchange ∷ after
-      → (point_after from before).state.phase ≡ phase.Open o → IsToldKept o exchange p answer
-      → IsKeptIn (point_after from before).mark exchange p (exchange.to.seen ∷ (lists_of after ++ gate.known ∷ []))
-  -- Between any two points of the run the place stays, and the serial does not fall. A publication that was told kept used a new
+  -- a retained publication that the client was told is stored stands once in every later list
+  pub stored : (before : List Exchange) (exchange : Exchange) (after : List Exchange) (o : Open) (p : Publish) (answer : Reply) → exchanges ≡ before ++ exchange ∷ after
+      → (point_after from before).state.phase ≡ phase.Open o → IsToldStored o exchange p answer
+      → IsStoredIn (point_after from before).mark exchange p (exchange.to.seen ∷ (lists_of after ++ gate.known ∷ []))
+  -- Between any two points of the run the place stays, and the serial does not fall. A publication that was told stored used a new
   -- one, so two of them are two entries.
   pub marks : (before between after : List Exchange) → exchanges ≡ before ++ (between ++ after) → MarkGrows (point_after from before).mark (point_after from (before ++ between)).mark
   -- what the exchanges sent are the client's retained publications, in their order, each at most once, and each that the client was told
-  -- is kept
+  -- is stored
   pub publications : SendsPublications from exchanges (point_at state gate.known mark)
   -- Behind that the gate's line sent these, which the gate handed on.
   pub tail : List Entry

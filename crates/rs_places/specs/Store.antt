@@ -13,7 +13,7 @@ use Rattle.rs_intake.specs.QueueRule.{of_place}
 use Rattle.rs_intake.specs.Settling.{AreOfPlaces, sent_in_all}
 use Rattle.rs_intake.specs.Sweeps.{without_sweeps}
 use Rattle.rs_session.specs.Gate.{Extends}
-use Rattle.rs_session.specs.Kept.{IsKeptIn, IsToldKept, lists_of, point_after}
+use Rattle.rs_session.specs.Stored.{IsStoredIn, IsToldStored, lists_of, point_after}
 use Rattle.rs_session.specs.Points.{Point}
 use Rattle.rs_session.specs.Run.{Exchange}
 use Rattle.rs_session.specs.Sent.{AreSentBy}
@@ -36,13 +36,13 @@ abbrev pub new_gates : ℕ → List SharedValue
 new_gates places = map (λ line. handed_on [] line) (new_lines places)
 
 -- From this point a connection was served. The list that it began with, and each that it was answered from, is a prefix of this one, in
--- which each retained publication that the client was told is kept stands once.
+-- which each retained publication that the client was told is stored stands once.
 pub record IsWithin (list : List Entry) (from : Point State) (visit : Visit) : Type 0 where
   pub first : Extends list from.seen
   pub lists : AllByRecursion (λ seen. Extends list seen) (lists_of visit.exchanges)
-  pub kept : (before : List Exchange) (exchange : Exchange) (after : List Exchange) (o : Open) (p : Publish) (answer : Reply) → visit.exchanges ≡ before ++ exchange ∷ after
-      → (point_after from before).state.phase ≡ phase.Open o → IsToldKept o exchange p answer
-      → IsKeptIn (point_after from before).mark exchange p (list ∷ [])
+  pub stored : (before : List Exchange) (exchange : Exchange) (after : List Exchange) (o : Open) (p : Publish) (answer : Reply) → visit.exchanges ≡ before ++ exchange ∷ after
+      → (point_after from before).state.phase ≡ phase.Open o → IsToldStored o exchange p answer
+      → IsStoredIn (point_after from before).mark exchange p (list ∷ [])
 
 -- the same of connections one after the other, numbered from this number on
 abbrev pub AreWithin : List Entry → ℕ → SharedValue → List Visit → Type 0
@@ -66,12 +66,12 @@ pub record IsPlaceOf (limit : ℕ) (history entries : List Entry) (place : Place
   -- all its connections were served, in their order, and each was taken back as it ended
   pub served : IsPlaceServed limit place left
   -- Each list that a filter of a connection was answered from is a prefix of the history. Each retained publication that its client
-  -- was told is kept stands there once
+  -- was told is stored stands there once
   pub within : AreWithin history 1 place.gate served.visits
   -- so is the list that the place knew last
   pub known : Extends history left.told
   -- What the place sent are the retained publications of its connections, in order, each at most once, and each that its client was
-  -- told is kept; and behind those of each connection at most publications that its bytes hold behind the last one handled.
+  -- told is stored; and behind those of each connection at most publications that its bytes hold behind the last one handled.
   pub publications : ArePublications 1 place.gate served.visits left.line.sent
   -- what the writer took of the place is a prefix of that
   pub taken : Extends left.line.sent (of_place left.line.place entries)

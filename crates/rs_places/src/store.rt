@@ -88,7 +88,7 @@ fn start_writer<
 ///
 /// The contract is one statement about the run, `IsStoreRun`: there is one legal history, which the writer made by its answers to the
 /// entries that it took, all from these places; all lists that any connection of any place was answered from are prefixes of it; each
-/// retained publication that any client was told is kept stands in it once; each place served all connections of its turn, over their
+/// retained publication that any client was told is stored stands in it once; each place served all connections of its turn, over their
 /// own bytes and at their own times; what a place sent are their retained publications, in order; and if the changes are given, all of
 /// it was taken, once.
 ///

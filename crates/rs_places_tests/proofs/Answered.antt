@@ -3,7 +3,7 @@ use Rattle.std.proofs.Common.{◌≡◌, ℕ, suc, Option, Some, None, is_some, 
 use Rattle.std.specs.Prelude.{IfOk, Result, Ok, Err}
 use Rattle.std.specs.List.{AllByRecursion}
 use Rattle.rs_session.specs.Gate.{Extends}
-use Rattle.rs_session.specs.Kept.{lists_of}
+use Rattle.rs_session.specs.Stored.{lists_of}
 use Rattle.rs_session.specs.Run.{Exchange}
 use Rattle.rs_places.proofs.Whole.{new_gates_length}
 use Rattle.rs_message.specs.declared.entry.Entry.{Entry}

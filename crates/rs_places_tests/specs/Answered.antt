@@ -5,7 +5,7 @@ use Rattle.std.specs.Io.KnownBytes.{Consumes}
 use Rattle.rs_message.specs.declared.entry.Entry.{Entry}
 use Rattle.rs_store.specs.History.{IsLegal}
 use Rattle.rs_session.specs.Gate.{Extends, Mark}
-use Rattle.rs_session.specs.Kept.{lists_of}
+use Rattle.rs_session.specs.Stored.{lists_of}
 use Rattle.rs_session.specs.Points.{Given, Point}
 use Rattle.rs_session.specs.Run.{Run, Exchange}
 use Rattle.rs_session.specs.State.{State}

@@ -66,8 +66,8 @@ own_submitted old new operation seen limit plain added o =
 -- at most a Sweep comes
 pub own_left : (old new : Content) (operation : Operation) (fault : SubmitFault) (seen : List Entry) → old.limit ≡ MAX_OWN_TOPICS → IsLeft old operation fault new → IsOwn old seen
     → (list : List Entry) × IsOwn new list × Extends list seen × Submits operation (local_mark old) (local_mark new) (Err fault) seen list
-own_left old new operation submit.Full seen limit is o = (seen, subst (λ (c : Content). IsOwn c seen) (sym is) o, ([], sym (append-nil seen)), record { handed_over = nothing_new operation (local_mark new) seen; kept = tt; used = tt })
-own_left old new operation submit.NoMemory seen limit (inl is) o = (seen, subst (λ (c : Content). IsOwn c seen) (sym is) o, ([], sym (append-nil seen)), record { handed_over = nothing_new operation (local_mark new) seen; kept = tt; used = tt })
+own_left old new operation submit.Full seen limit is o = (seen, subst (λ (c : Content). IsOwn c seen) (sym is) o, ([], sym (append-nil seen)), record { handed_over = nothing_new operation (local_mark new) seen; submitted = tt; used = tt })
+own_left old new operation submit.NoMemory seen limit (inl is) o = (seen, subst (λ (c : Content). IsOwn c seen) (sym is) o, ([], sym (append-nil seen)), record { handed_over = nothing_new operation (local_mark new) seen; submitted = tt; used = tt })
 own_left old new operation submit.NoMemory seen limit (inr w) o =
     let e = next_entry old operation in
     let P : ℕ → Type 0 = λ n. NotAdds n seen e refusal.NoMemory (Stands new) in

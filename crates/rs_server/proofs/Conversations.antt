@@ -16,7 +16,7 @@ use Rattle.rs_session.specs.declared.phase.Phase.{Phase}
 use Rattle.rs_session.specs.declared.phase.Phase.TheVariants as phase
 use Rattle.rs_session.specs.declared.phase.Step.TheVariants.{End}
 use Rattle.rs_session.specs.Ahead.{AreChanges, LeavesAhead}
-use Rattle.rs_session.specs.Kept.{point_after}
+use Rattle.rs_session.specs.Stored.{point_after}
 use Rattle.rs_session.specs.State.{State, fresh, closing_of, step_of}
 use Rattle.rs_session.specs.Table.{Answers}
 use Rattle.rs_session.specs.Points.{Given, Point, point_at}

@@ -14,7 +14,7 @@ use Rattle.rs_session.specs.declared.phase.Closing.{Closing}
 use Rattle.rs_session.specs.declared.phase.Closing.TheVariants as closing
 use Rattle.rs_session.specs.Ahead.{AreChanges}
 use Rattle.rs_session.specs.Gate.{Mark, StandsAt}
-use Rattle.rs_session.specs.Kept.{point_after}
+use Rattle.rs_session.specs.Stored.{point_after}
 use Rattle.rs_session.specs.State.{State, fresh, closing_of, step_of}
 use Rattle.rs_session.specs.declared.phase.Step.TheVariants.{End}
 use Rattle.rs_session.specs.Points.{Given, Point, point_at}

@@ -40,11 +40,11 @@ use Rattle.rs_session.specs.Reasons.{code_of}
 use Rattle.rs_session.specs.declared.reason.ReasonCode.{ReasonCode}
 use Rattle.rs_session.specs.declared.reason.ReasonCode.TheVariants.{Success, QuotaExceeded}
 use Rattle.rs_session.specs.State.{State}
-use Rattle.rs_session.specs.Table.{acknowledged_by, acknowledgement_of, change, due_for, unreleased_id, is_unreleased, state_after, Grants, OpenCase, OpenRow, AnsweredInOpen, AnsweredIn, Case, SessionRow, With_method, With_will, Connect_refused, Accepted, Connack_too_long, Other_version, Unexpected, In_session, Over, Faulty, With_alias, Bad_topic, Sent_again, Too_many_unreleased, Not_retained, Kept, Topic_unread, Not_kept, Uncertain, Gate_closed, Released, Wrong_acknowledgement, Acknowledged, Shared_no_local, Not_subscribed, Subscribed, Not_unsubscribed, Unsubscribed, Connected_twice, Pinged, Disconnected}
+use Rattle.rs_session.specs.Table.{acknowledged_by, acknowledgement_of, change, due_for, unreleased_id, is_unreleased, state_after, Grants, OpenCase, OpenRow, AnsweredInOpen, AnsweredIn, Case, SessionRow, With_method, With_will, Connect_refused, Accepted, Connack_too_long, Other_version, Unexpected, In_session, Over, Faulty, With_alias, Bad_topic, Sent_again, Too_many_unreleased, Not_retained, Stored, Topic_unread, Not_stored, Uncertain, Gate_closed, Released, Wrong_acknowledgement, Acknowledged, Shared_no_local, Not_subscribed, Subscribed, Not_unsubscribed, Unsubscribed, Connected_twice, Pinged, Disconnected}
 use Rattle.rs_session.specs.Points.{Given, Point, with_state}
 use Rattle.rs_session.specs.Run.{Exchange, GivesAll, IsExchange, Run}
 use Rattle.rs_session.specs.Replay.{listed}
-use Rattle.rs_session.specs.Kept.{MarkGrows, lists_of, AreGrowing, point_after, SerialsRiseIn, IsToldKept, StandsOnce, IsKeptIn}
+use Rattle.rs_session.specs.Stored.{MarkGrows, lists_of, AreGrowing, point_after, SerialsRiseIn, IsToldStored, StandsOnce, IsStoredIn}
 use Rattle.rs_session.proofs.Rows.{prefix_trans}
 use Rattle.rs_session.proofs.Replaying.{given_calls, left_replies, phase_of, shut}
 
@@ -275,77 +275,77 @@ acknowledges_no_publish : (p : Packet) (a : window.Acknowledgement × ℕ) → a
 acknowledges_no_publish (packet.Publish p) a is = absurd (none-some a is)
 acknowledges_no_publish p a is = refl
 
--- the row of a publication that is kept
-abbrev pub IsKept : OpenCase → Type 0
-IsKept Kept = Unit {0}
-IsKept case = ⊥
+-- the row of a publication that is stored
+abbrev pub IsStored : OpenCase → Type 0
+IsStored Stored = Unit {0}
+IsStored case = ⊥
 
 abbrev IsEntered : Publish → ℕ → Mark → Mark → List Entry → Type 0
 IsEntered p now mark used list = (topic : List ℕ) × (operation : Operation) × (p.topic ≡ Ok topic) × (change p topic now ≡ Some operation) × IsSubmitted operation mark used list
 
-row_kept : (case : OpenCase) (given : Given) (from : Point Open) (answered : List (List Entry)) (outcome : Outcome) (to : Point Open) (p : Publish) (answer : Reply)
+row_stored : (case : OpenCase) (given : Given) (from : Point Open) (answered : List (List Entry)) (outcome : Outcome) (to : Point Open) (p : Publish) (answer : Reply)
     → OpenRow case given from answered outcome to → given.input ≡ Whole (packet.Publish p) → p.retain ≡ true → is_unreleased (unreleased_id p.qos p.id) from.state.inbound ≡ false
-    → acknowledged_by p.qos p.id Success ≡ Some answer → outcome ≡ Replies (Some answer) → IsKept case × IsEntered p given.now from.mark to.mark to.seen
-row_kept Connected_twice given from answered outcome to p answer (c, i, out, unchanged) is r f a o = no_publish given.input _ p i refl is
-row_kept Faulty given from answered outcome to p answer (k, i, out, unchanged) is r f a o = no_publish given.input _ p i refl is
-row_kept With_alias given from answered outcome to p answer (q, i, al, out, unchanged) is r f a o = no_answer outcome _ answer out refl o
-row_kept Bad_topic given from answered outcome to p answer (q, k, i, al, t, other, out, unchanged) is r f a o = no_answer outcome _ answer out refl o
-row_kept Sent_again given from answered outcome to p answer (q, i, al, t, unreleased, out, unchanged) is r f a o =
+    → acknowledged_by p.qos p.id Success ≡ Some answer → outcome ≡ Replies (Some answer) → IsStored case × IsEntered p given.now from.mark to.mark to.seen
+row_stored Connected_twice given from answered outcome to p answer (c, i, out, unchanged) is r f a o = no_publish given.input _ p i refl is
+row_stored Faulty given from answered outcome to p answer (k, i, out, unchanged) is r f a o = no_publish given.input _ p i refl is
+row_stored With_alias given from answered outcome to p answer (q, i, al, out, unchanged) is r f a o = no_answer outcome _ answer out refl o
+row_stored Bad_topic given from answered outcome to p answer (q, k, i, al, t, other, out, unchanged) is r f a o = no_answer outcome _ answer out refl o
+row_stored Sent_again given from answered outcome to p answer (q, i, al, t, unreleased, out, unchanged) is r f a o =
     let same : q ≡ p = same_publish given.input p q i is in
     true_false (is_unreleased (unreleased_id q.qos q.id) from.state.inbound) unreleased (ap (λ (x : Publish). is_unreleased (unreleased_id x.qos x.id) from.state.inbound) same ∙ f)
-row_kept Too_many_unreleased given from answered outcome to p answer (q, i, al, t, many, out, unchanged) is r f a o = no_answer outcome _ answer out refl o
-row_kept Not_retained given from answered outcome to p answer (q, topic, i, taken, t, not_retained, out, u, same) is r f a o =
+row_stored Too_many_unreleased given from answered outcome to p answer (q, i, al, t, many, out, unchanged) is r f a o = no_answer outcome _ answer out refl o
+row_stored Not_retained given from answered outcome to p answer (q, topic, i, taken, t, not_retained, out, u, same) is r f a o =
     true_false p.retain r (sym (ap (λ (x : Publish). x.retain) (same_publish given.input p q i is)) ∙ not_retained)
-row_kept Kept given from answered outcome to p answer (q, topic, operation, i, s, submitted, out, same) is r f a o =
+row_stored Stored given from answered outcome to p answer (q, topic, operation, i, s, submitted, out, same) is r f a o =
     let same_p : q ≡ p = same_publish given.input p q i is in
     (tt, subst (λ (x : Publish). IsEntered x given.now from.mark to.mark to.seen) same_p (topic, operation, s.is_topic, s.changes, submitted))
-row_kept Topic_unread given from answered outcome to p answer (q, i, taken, t, out, unchanged) is r f a o =
+row_stored Topic_unread given from answered outcome to p answer (q, i, taken, t, out, unchanged) is r f a o =
     one_code p answer a (sym (ap (λ (x : Publish). acknowledged_by x.qos x.id QuotaExceeded) (same_publish given.input p q i is)) ∙ same_answer outcome _ answer out o)
-row_kept Not_kept given from answered outcome to p answer (q, topic, operation, i, s, out, same) is r f a o =
+row_stored Not_stored given from answered outcome to p answer (q, topic, operation, i, s, out, same) is r f a o =
     one_code p answer a (sym (ap (λ (x : Publish). acknowledged_by x.qos x.id QuotaExceeded) (same_publish given.input p q i is)) ∙ same_answer outcome _ answer out o)
-row_kept Uncertain given from answered outcome to p answer (q, topic, operation, i, s, out, same) is r f a o = no_answer outcome _ answer out refl o
-row_kept Gate_closed given from answered outcome to p answer (q, topic, operation, i, s, out, same) is r f a o = no_answer outcome _ answer out refl o
-row_kept Released given from answered outcome to p answer (k, i, out, u, same) is r f a o = no_publish given.input _ p i refl is
-row_kept Wrong_acknowledgement given from answered outcome to p answer (q, ack, id, i, at, wrong, out, unchanged) is r f a o = no_answer outcome _ answer out refl o
-row_kept Acknowledged given from answered outcome to p answer (q, ack, id, k, i, at, step, out, u, same) is r f a o = no_publish given.input (Whole q) p i (acknowledges_no_publish q (ack, id) at) is
-row_kept Shared_no_local given from answered outcome to p answer (s, i, n, out, unchanged) is r f a o = no_publish given.input _ p i refl is
-row_kept Not_subscribed given from answered outcome to p answer (s, i, n, out, unchanged) is r f a o = no_publish given.input _ p i refl is
-row_kept Subscribed given from answered outcome to p answer (s, codes, i, n, grants, out, u) is r f a o = no_publish given.input _ p i refl is
-row_kept Not_unsubscribed given from answered outcome to p answer (u, i, out, unchanged) is r f a o = no_publish given.input _ p i refl is
-row_kept Unsubscribed given from answered outcome to p answer (u, i, out, m, same) is r f a o = no_publish given.input _ p i refl is
-row_kept Pinged given from answered outcome to p answer (i, out, unchanged) is r f a o = no_publish given.input _ p i refl is
-row_kept Disconnected given from answered outcome to p answer (code, i, out, unchanged) is r f a o = no_publish given.input _ p i refl is
+row_stored Uncertain given from answered outcome to p answer (q, topic, operation, i, s, out, same) is r f a o = no_answer outcome _ answer out refl o
+row_stored Gate_closed given from answered outcome to p answer (q, topic, operation, i, s, out, same) is r f a o = no_answer outcome _ answer out refl o
+row_stored Released given from answered outcome to p answer (k, i, out, u, same) is r f a o = no_publish given.input _ p i refl is
+row_stored Wrong_acknowledgement given from answered outcome to p answer (q, ack, id, i, at, wrong, out, unchanged) is r f a o = no_answer outcome _ answer out refl o
+row_stored Acknowledged given from answered outcome to p answer (q, ack, id, k, i, at, step, out, u, same) is r f a o = no_publish given.input (Whole q) p i (acknowledges_no_publish q (ack, id) at) is
+row_stored Shared_no_local given from answered outcome to p answer (s, i, n, out, unchanged) is r f a o = no_publish given.input _ p i refl is
+row_stored Not_subscribed given from answered outcome to p answer (s, i, n, out, unchanged) is r f a o = no_publish given.input _ p i refl is
+row_stored Subscribed given from answered outcome to p answer (s, codes, i, n, grants, out, u) is r f a o = no_publish given.input _ p i refl is
+row_stored Not_unsubscribed given from answered outcome to p answer (u, i, out, unchanged) is r f a o = no_publish given.input _ p i refl is
+row_stored Unsubscribed given from answered outcome to p answer (u, i, out, m, same) is r f a o = no_publish given.input _ p i refl is
+row_stored Pinged given from answered outcome to p answer (i, out, unchanged) is r f a o = no_publish given.input _ p i refl is
+row_stored Disconnected given from answered outcome to p answer (code, i, out, unchanged) is r f a o = no_publish given.input _ p i refl is
 
 abbrev open_or : Open → Phase → Open
 open_or other phase.Before = other
 open_or other (phase.Open o) = o
 open_or other (phase.Ended closing) = other
 
--- the row of a publication that the client was told is kept
+-- the row of a publication that the client was told is stored
 pub told_row : (from : Point State) (exchange : Exchange) (o : Open) (p : Publish) (answer : Reply) (at left : Open) (outcome : Outcome) (due : Option Reply) (mid : State) (case : OpenCase)
-    → from.state.phase ≡ phase.Open o → IsToldKept o exchange p answer → from.state.phase ≡ phase.Open at
+    → from.state.phase ≡ phase.Open o → IsToldStored o exchange p answer → from.state.phase ≡ phase.Open at
     → OpenRow case exchange.given (with_state from at) exchange.answered outcome (with_state exchange.to left) → due ≡ due_for at.window.packet_maximum outcome → mid ≡ state_after outcome from.state left
-    → GivesAll exchange.given.now due mid exchange.replies exchange.to.state → IsKept case × IsEntered p exchange.given.now from.mark exchange.to.mark exchange.to.seen
+    → GivesAll exchange.given.now due mid exchange.replies exchange.to.state → IsStored case × IsEntered p exchange.given.now from.mark exchange.to.mark exchange.to.seen
 told_row from exchange o p answer at left outcome due mid case is told here row d same g =
     let same_open : o ≡ at = ap (open_or o) (sym is ∙ here) in
     let new : is_unreleased (unreleased_id p.qos p.id) at.inbound ≡ false = subst (λ (x : Open). is_unreleased (unreleased_id p.qos p.id) x.inbound ≡ false) same_open told.new in
     let out : outcome ≡ Replies (Some answer) =
     replied_by exchange at.window.packet_maximum outcome left from.state mid due answer d same g (ack_by p.qos p.id Success answer told.code) (among answer exchange.replies told.replied) in
-    row_kept case exchange.given (with_state from at) exchange.answered outcome (with_state exchange.to left) p answer row told.input told.retained new told.code out
+    row_stored case exchange.given (with_state from at) exchange.answered outcome (with_state exchange.to left) p answer row told.input told.retained new told.code out
 
-exchange_kept : (from : Point State) (exchange : Exchange) (o : Open) (p : Publish) (answer : Reply) (case : Case) (due : Option Reply) (mid : State) → from.state.phase ≡ phase.Open o → IsToldKept o exchange p answer
+exchange_stored : (from : Point State) (exchange : Exchange) (o : Open) (p : Publish) (answer : Reply) (case : Case) (due : Option Reply) (mid : State) → from.state.phase ≡ phase.Open o → IsToldStored o exchange p answer
     → SessionRow case exchange.given from exchange.answered due (with_state exchange.to mid) → GivesAll exchange.given.now due mid exchange.replies exchange.to.state
     → IsEntered p exchange.given.now from.mark exchange.to.mark exchange.to.seen
-exchange_kept from exchange o p answer With_method due mid is told (c, i, before, m, refused) g = shut (phase.Open o) phase.Before (sym is ∙ before) tt (λ n. n)
-exchange_kept from exchange o p answer With_will due mid is told (c, i, before, m, k, refused) g = shut (phase.Open o) phase.Before (sym is ∙ before) tt (λ n. n)
-exchange_kept from exchange o p answer Connect_refused due mid is told (c, i, before, m, k, refused) g = shut (phase.Open o) phase.Before (sym is ∙ before) tt (λ n. n)
-exchange_kept from exchange o p answer Accepted due mid is told (c, i, before, m, k, short, u, d, same) g = shut (phase.Open o) phase.Before (sym is ∙ before) tt (λ n. n)
-exchange_kept from exchange o p answer Connack_too_long due mid is told (c, i, before, m, k, long, u, d, same) g = shut (phase.Open o) phase.Before (sym is ∙ before) tt (λ n. n)
-exchange_kept from exchange o p answer Other_version due mid is told (i, before, u, d, same) g = shut (phase.Open o) phase.Before (sym is ∙ before) tt (λ n. n)
-exchange_kept from exchange o p answer Unexpected due mid is told (i, before, u, d, same) g = shut (phase.Open o) phase.Before (sym is ∙ before) tt (λ n. n)
-exchange_kept from exchange o p answer In_session due mid is told (at, left, outcome, here, (case, none, row), d, same) g =
+exchange_stored from exchange o p answer With_method due mid is told (c, i, before, m, refused) g = shut (phase.Open o) phase.Before (sym is ∙ before) tt (λ n. n)
+exchange_stored from exchange o p answer With_will due mid is told (c, i, before, m, k, refused) g = shut (phase.Open o) phase.Before (sym is ∙ before) tt (λ n. n)
+exchange_stored from exchange o p answer Connect_refused due mid is told (c, i, before, m, k, refused) g = shut (phase.Open o) phase.Before (sym is ∙ before) tt (λ n. n)
+exchange_stored from exchange o p answer Accepted due mid is told (c, i, before, m, k, short, u, d, same) g = shut (phase.Open o) phase.Before (sym is ∙ before) tt (λ n. n)
+exchange_stored from exchange o p answer Connack_too_long due mid is told (c, i, before, m, k, long, u, d, same) g = shut (phase.Open o) phase.Before (sym is ∙ before) tt (λ n. n)
+exchange_stored from exchange o p answer Other_version due mid is told (i, before, u, d, same) g = shut (phase.Open o) phase.Before (sym is ∙ before) tt (λ n. n)
+exchange_stored from exchange o p answer Unexpected due mid is told (i, before, u, d, same) g = shut (phase.Open o) phase.Before (sym is ∙ before) tt (λ n. n)
+exchange_stored from exchange o p answer In_session due mid is told (at, left, outcome, here, (case, none, row), d, same) g =
     (told_row from exchange o p answer at left outcome due mid case is told here row d same g).1
-exchange_kept from exchange o p answer Over due mid is told (closing, ended, u, d, same) g = shut (phase.Open o) (phase.Ended closing) (sym is ∙ ended) tt (λ n. n)
+exchange_stored from exchange o p answer Over due mid is told (closing, ended, u, d, same) g = shut (phase.Open o) (phase.Ended closing) (sym is ∙ ended) tt (λ n. n)
 
 -- ---- the lists of a gate
 
@@ -381,13 +381,13 @@ rising_cut [] exchange after h = h
 rising_cut (first ∷ before) exchange after (t, rest) = rising_cut before exchange after rest
 
 pub run_keeps : (from to : Point State) (before : List Exchange) (exchange : Exchange) (after : List Exchange) (o : Open) (p : Publish) (answer : Reply)
-    → Run from (before ++ exchange ∷ after) to → SerialsRiseIn (before ++ exchange ∷ after) → (point_after from before).state.phase ≡ phase.Open o → IsToldKept o exchange p answer
-    → IsKeptIn (point_after from before).mark exchange p (exchange.to.seen ∷ (lists_of after ++ to.seen ∷ []))
+    → Run from (before ++ exchange ∷ after) to → SerialsRiseIn (before ++ exchange ∷ after) → (point_after from before).state.phase ≡ phase.Open o → IsToldStored o exchange p answer
+    → IsStoredIn (point_after from before).mark exchange p (exchange.to.seen ∷ (lists_of after ++ to.seen ∷ []))
 run_keeps from to before exchange after o p answer run rising is told =
     let (t, rest) = run_cut from to before exchange after run in
     let (here, later) = rising_cut before exchange after rising in
     let rises : SerialsRise exchange.to.seen = here.seen in
-    let (topic, operation, is_topic, changes, submitted) = exchange_kept (point_after from before) exchange o p answer t.case t.due t.mid is told t.row.1 t.all_given in
+    let (topic, operation, is_topic, changes, submitted) = exchange_stored (point_after from before) exchange o p answer t.case t.due t.mid is told t.row.1 t.all_given in
     let begin = chain_all exchange.to.seen exchange.to.seen (lists_of after) to.seen (prefix_itself exchange.to.seen) (run_chain exchange.to to after rest) in
     let rise = lists_rise exchange.to to after rest later rises in
     record {
@@ -396,7 +396,7 @@ run_keeps from to before exchange after o p answer run rising is told =
       is_topic = is_topic;
       changes = changes;
       used = submitted.serial;
-      kept = all_once _ exchange.to.seen (exchange.to.seen ∷ (lists_of after ++ to.seen ∷ [])) submitted.entry (prefix_itself exchange.to.seen, begin) (rises, rise);
+      stored = all_once _ exchange.to.seen (exchange.to.seen ∷ (lists_of after ++ to.seen ∷ [])) submitted.entry (prefix_itself exchange.to.seen, begin) (rises, rise);
     }
 
 -- ---- the marks
@@ -416,9 +416,9 @@ row_marks Bad_topic given from answered outcome to (p, f, i, a, t, other, out, u
 row_marks Sent_again given from answered outcome to (p, i, a, t, unreleased, out, unchanged) = grows_itself from.mark to.mark unchanged.none_used
 row_marks Too_many_unreleased given from answered outcome to (p, i, a, t, many, out, unchanged) = grows_itself from.mark to.mark unchanged.none_used
 row_marks Not_retained given from answered outcome to (p, topic, i, taken, t, r, out, u, same) = grows_itself from.mark to.mark u
-row_marks Kept given from answered outcome to (p, topic, operation, i, s, submitted, out, same) = uses_grows from.mark to.mark s.one_used
+row_marks Stored given from answered outcome to (p, topic, operation, i, s, submitted, out, same) = uses_grows from.mark to.mark s.one_used
 row_marks Topic_unread given from answered outcome to (p, i, taken, t, out, unchanged) = grows_itself from.mark to.mark unchanged.none_used
-row_marks Not_kept given from answered outcome to (p, topic, operation, i, s, out, same) = uses_grows from.mark to.mark s.one_used
+row_marks Not_stored given from answered outcome to (p, topic, operation, i, s, out, same) = uses_grows from.mark to.mark s.one_used
 row_marks Uncertain given from answered outcome to (p, topic, operation, i, s, out, same) = uses_grows from.mark to.mark s.one_used
 row_marks Gate_closed given from answered outcome to (p, topic, operation, i, s, out, same) = uses_grows from.mark to.mark s.one_used
 row_marks Released given from answered outcome to (a, i, out, u, same) = grows_itself from.mark to.mark u

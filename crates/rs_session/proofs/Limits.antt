@@ -26,7 +26,7 @@ use Rattle.rs_session.specs.declared.subscriptions.Subscription.{Subscription}
 use Rattle.rs_session.specs.Subscriptions.{Subscriptions, is_subscribed, replays}
 use Rattle.rs_session.specs.declared.subscriptions.TheConstants.{MAX_SUBSCRIPTIONS}
 use Rattle.rs_session.specs.State.{State, fresh, IsGiven, IsReplayed}
-use Rattle.rs_session.specs.Table.{subscription_for, unreleased_id, unreleased_with, is_one_too_many, awaiting_release, open_for, IsTaken, IsSubscribed, IsQueued, IsGrantedTo, Grants, without, without_all, OpenCase, OpenRow, Case, SessionRow, state_after, With_method, With_will, Connect_refused, Accepted, Connack_too_long, Other_version, Unexpected, In_session, Over, Faulty, With_alias, Bad_topic, Sent_again, Too_many_unreleased, Not_retained, Kept, Topic_unread, Not_kept, Uncertain, Gate_closed, Released, Wrong_acknowledgement, Acknowledged, Shared_no_local, Not_subscribed, Subscribed, Not_unsubscribed, Unsubscribed, Connected_twice, Pinged, Disconnected}
+use Rattle.rs_session.specs.Table.{subscription_for, unreleased_id, unreleased_with, is_one_too_many, awaiting_release, open_for, IsTaken, IsSubscribed, IsQueued, IsGrantedTo, Grants, without, without_all, OpenCase, OpenRow, Case, SessionRow, state_after, With_method, With_will, Connect_refused, Accepted, Connack_too_long, Other_version, Unexpected, In_session, Over, Faulty, With_alias, Bad_topic, Sent_again, Too_many_unreleased, Not_retained, Stored, Topic_unread, Not_stored, Uncertain, Gate_closed, Released, Wrong_acknowledgement, Acknowledged, Shared_no_local, Not_subscribed, Subscribed, Not_unsubscribed, Unsubscribed, Connected_twice, Pinged, Disconnected}
 use Rattle.rs_session.specs.Points.{Given, Point, with_state}
 use Rattle.rs_session.specs.Run.{Exchange, Gives, IsExchange, Run, IsWithinLimits}
 use Rattle.rs_session.proofs.SubscriptionLemmas.{len_inserted, len_removed}
@@ -119,9 +119,9 @@ row_within Bad_topic given from answered outcome to (p, f, i, a, t, other, out, 
 row_within Sent_again given from answered outcome to (p, i, a, t, unreleased, out, unchanged) h = subst IsWithinLimits (sym unchanged.same) h
 row_within Too_many_unreleased given from answered outcome to (p, i, a, t, many, out, unchanged) h = subst IsWithinLimits (sym unchanged.same) h
 row_within Not_retained given from answered outcome to (p, topic, i, taken, t, r, out, u, same) h = subst IsWithinLimits (sym same) (awaiting_release_within p from.state taken h)
-row_within Kept given from answered outcome to (p, topic, operation, i, s, submitted, out, same) h = subst IsWithinLimits (sym same) (awaiting_release_within p from.state s.taken h)
+row_within Stored given from answered outcome to (p, topic, operation, i, s, submitted, out, same) h = subst IsWithinLimits (sym same) (awaiting_release_within p from.state s.taken h)
 row_within Topic_unread given from answered outcome to (p, i, taken, t, out, unchanged) h = subst IsWithinLimits (sym unchanged.same) h
-row_within Not_kept given from answered outcome to (p, topic, operation, i, s, out, same) h = subst IsWithinLimits (sym same) h
+row_within Not_stored given from answered outcome to (p, topic, operation, i, s, out, same) h = subst IsWithinLimits (sym same) h
 row_within Uncertain given from answered outcome to (p, topic, operation, i, s, out, same) h = subst IsWithinLimits (sym same) h
 row_within Gate_closed given from answered outcome to (p, topic, operation, i, s, out, same) h = subst IsWithinLimits (sym same) h
 row_within Released given from answered outcome to (a, i, out, u, same) h =

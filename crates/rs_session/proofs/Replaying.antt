@@ -49,7 +49,7 @@ use Rattle.rs_session.specs.declared.reason.ReasonCode.TheVariants.{Success, Pac
 use Rattle.rs_session.specs.declared.subscriptions.Subscription.{Subscription}
 use Rattle.rs_session.specs.Subscriptions.{Subscriptions, none, is_subscribed, replays}
 use Rattle.rs_session.specs.State.{State, fresh, closing_of, IsGiven, IsReplayed}
-use Rattle.rs_session.specs.Table.{subscription_for, acknowledged_by, acknowledgement_of, released_by, IsSubscribed, IsGrantedTo, Grants, OpenCase, OpenRow, Case, SessionRow, due_for, state_after, connack, open_for, packet_maximum, receive_maximum, With_method, With_will, Connect_refused, Accepted, Connack_too_long, Other_version, Unexpected, In_session, Over, Faulty, With_alias, Bad_topic, Sent_again, Too_many_unreleased, Not_retained, Kept, Topic_unread, Not_kept, Uncertain, Gate_closed, Wrong_acknowledgement, Acknowledged, Shared_no_local, Not_subscribed, Subscribed, Not_unsubscribed, Unsubscribed, Connected_twice, Pinged, Disconnected}
+use Rattle.rs_session.specs.Table.{subscription_for, acknowledged_by, acknowledgement_of, released_by, IsSubscribed, IsGrantedTo, Grants, OpenCase, OpenRow, Case, SessionRow, due_for, state_after, connack, open_for, packet_maximum, receive_maximum, With_method, With_will, Connect_refused, Accepted, Connack_too_long, Other_version, Unexpected, In_session, Over, Faulty, With_alias, Bad_topic, Sent_again, Too_many_unreleased, Not_retained, Stored, Topic_unread, Not_stored, Uncertain, Gate_closed, Wrong_acknowledgement, Acknowledged, Shared_no_local, Not_subscribed, Subscribed, Not_unsubscribed, Unsubscribed, Connected_twice, Pinged, Disconnected}
 use Rattle.rs_session.specs.Table as table
 use Rattle.rs_session.specs.Points.{Given, Point, with_state}
 use Rattle.rs_session.specs.Run.{Exchange, Gives, GivesAll, IsExchange, Run}
@@ -203,11 +203,11 @@ row_calls Sent_again given from answered outcome to (p, i, a, t, unreleased, out
 row_calls Too_many_unreleased given from answered outcome to (p, i, a, t, many, out, unchanged) = closes given.input _ given.now answered from.state outcome _ to.state i out refl
 row_calls Not_retained given from answered outcome to (p, topic, i, taken, t, r, out, u, same) =
     answers given.input _ given.now answered from.state outcome _ to.state i out (ap (λ (o : Open). o.window) same) refl (no_publish_by p.qos p.id Success)
-row_calls Kept given from answered outcome to (p, topic, operation, i, s, submitted, out, same) =
+row_calls Stored given from answered outcome to (p, topic, operation, i, s, submitted, out, same) =
     answers given.input _ given.now answered from.state outcome _ to.state i out (ap (λ (o : Open). o.window) same) refl (no_publish_by p.qos p.id Success)
 row_calls Topic_unread given from answered outcome to (p, i, taken, t, out, unchanged) =
     answers given.input _ given.now answered from.state outcome _ to.state i out (same_window from.state to.state unchanged.same) refl (no_publish_by p.qos p.id QuotaExceeded)
-row_calls Not_kept given from answered outcome to (p, topic, operation, i, s, out, same) =
+row_calls Not_stored given from answered outcome to (p, topic, operation, i, s, out, same) =
     answers given.input _ given.now answered from.state outcome _ to.state i out (same_window from.state to.state same) refl (no_publish_by p.qos p.id QuotaExceeded)
 row_calls Uncertain given from answered outcome to (p, topic, operation, i, s, out, same) = closes given.input _ given.now answered from.state outcome _ to.state i out refl
 row_calls Gate_closed given from answered outcome to (p, topic, operation, i, s, out, same) = closes given.input _ given.now answered from.state outcome _ to.state i out refl

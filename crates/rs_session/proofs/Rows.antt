@@ -48,7 +48,7 @@ use Rattle.rs_session.specs.declared.subscriptions.Subscription.{Subscription}
 use Rattle.rs_session.proofs.SubscriptionLemmas.{remove_inserted, get_absent}
 use Rattle.rs_session.proofs.Submitting.{nothing_new, nothing_sent}
 use Rattle.rs_session.specs.Steps.{IsAccepted, connect_refusal, outcome_before, outcome_of_alias, outcome_of_topic, outcome_of_id, outcome_unmade, topic_refusal, IsConcluded}
-use Rattle.rs_session.specs.Table.{Answers, AnswersWithoutGate, LeadsTo, IsNeitherConnectNorVersion, fault_reason, packet_maximum, connack, open_for, change, topic_reason, acknowledged_by, unreleased_id, is_unreleased, is_one_too_many, awaiting_release, IsTaken, IsTopicOrUnread, IsHanded, acknowledgement_of, released_by, released_reason, is_shared_local, Grants, IsGranted, removal_reason, removal_codes, without, without_all, due_for, state_after, With_method, With_will, Connect_refused, Accepted, Connack_too_long, Other_version, Unexpected, In_session, Over, Faulty, With_alias, Bad_topic, Sent_again, Too_many_unreleased, Not_retained, Kept, Topic_unread, Not_kept, Uncertain, Gate_closed, Released, Wrong_acknowledgement, Acknowledged, Shared_no_local, Not_subscribed, Subscribed, Not_unsubscribed, Unsubscribed, Connected_twice, Pinged, Disconnected}
+use Rattle.rs_session.specs.Table.{Answers, AnswersWithoutGate, LeadsTo, IsNeitherConnectNorVersion, fault_reason, packet_maximum, connack, open_for, change, topic_reason, acknowledged_by, unreleased_id, is_unreleased, is_one_too_many, awaiting_release, IsTaken, IsTopicOrUnread, IsHanded, acknowledgement_of, released_by, released_reason, is_shared_local, Grants, IsGranted, removal_reason, removal_codes, without, without_all, due_for, state_after, With_method, With_will, Connect_refused, Accepted, Connack_too_long, Other_version, Unexpected, In_session, Over, Faulty, With_alias, Bad_topic, Sent_again, Too_many_unreleased, Not_retained, Stored, Topic_unread, Not_stored, Uncertain, Gate_closed, Released, Wrong_acknowledgement, Acknowledged, Shared_no_local, Not_subscribed, Subscribed, Not_unsubscribed, Unsubscribed, Connected_twice, Pinged, Disconnected}
 
 pub Grows-weaker : (before after : List Entry → Type 0) (P Q : List Entry → List Entry → Type 0) → ((seen list : List Entry) → P seen list → Q seen list) → Grows before after P → Grows before after Q
 Grows-weaker before after P Q f h = λ seen s. let (list, stands, begins, p) = h seen s in (list, stands, begins, f seen list p)
@@ -269,7 +269,7 @@ not_handed p topic now at e t r =
 -- no memory for the change; it may have been sent ahead
 pub not_made : (p : Publish) (topic : List ℕ) (ahead : List Operation) (outcome : Outcome) (now : ℕ) (at : Point Open) → outcome_before p at.state ≡ None → p.topic ≡ Ok topic → p.retain ≡ true → outcome ≡ outcome_unmade ahead p.qos p.id
     → LeadsTo (given_at (Whole (packet.Publish p)) now) at [] outcome at
-not_made p topic [] outcome now at e t r d = (Not_kept, refl, (p, topic, change_of topic (message_of p now) p.payload, refl, not_handed p topic now at e t r, d, refl))
+not_made p topic [] outcome now at e t r d = (Not_stored, refl, (p, topic, change_of topic (message_of p now) p.payload, refl, not_handed p topic now at e t r, d, refl))
 not_made p topic (operation ∷ operations) outcome now at e t r d = (Uncertain, refl, (p, topic, change_of topic (message_of p now) p.payload, refl, not_handed p topic now at e t r, d, refl))
 
 unretained : (retain : Bool) (topic : List ℕ) (m : MessageValue) → operation_of retain topic m ≡ None → retain ≡ false
@@ -285,9 +285,9 @@ settled : (p : Publish) (topic : List ℕ) (operation : Operation) (now : ℕ) (
     → IsHanded p topic operation now from to → IsConcluded operation p.qos p.id from outcome to → LeadsTo (given_at (Whole (packet.Publish p)) now) from [] outcome to
 settled p topic operation now from outcome to may h =
     elim h as (λ h. LeadsTo (given_at (Whole (packet.Publish p)) now) from [] outcome to) [
-      | inl k ↦ (Kept, refl, (p, topic, operation, refl, may, k.0, k.1, k.2))
+      | inl k ↦ (Stored, refl, (p, topic, operation, refl, may, k.0, k.1, k.2))
       | inr h ↦ elim h as (λ h. LeadsTo (given_at (Whole (packet.Publish p)) now) from [] outcome to) [
-        | inl k ↦ (Not_kept, refl, (p, topic, operation, refl, may, k.0, k.1))
+        | inl k ↦ (Not_stored, refl, (p, topic, operation, refl, may, k.0, k.1))
         | inr h ↦ elim h as (λ h. LeadsTo (given_at (Whole (packet.Publish p)) now) from [] outcome to) [
           | inl k ↦ (Uncertain, refl, (p, topic, operation, refl, may, k.0, k.1))
           | inr k ↦ (Gate_closed, refl, (p, topic, operation, refl, may, k.0, k.1))

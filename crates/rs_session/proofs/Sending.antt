@@ -12,13 +12,13 @@ use Rattle.rs_session.specs.declared.phase.Phase.{Phase}
 use Rattle.rs_session.specs.declared.phase.Phase.TheVariants as phase
 use Rattle.rs_session.specs.Gate.{Mark, Sends, entry_by}
 use Rattle.rs_session.specs.State.{State}
-use Rattle.rs_session.specs.Table.{IsHanded, OpenCase, OpenRow, Case, SessionRow, With_method, With_will, Connect_refused, Accepted, Connack_too_long, Other_version, Unexpected, In_session, Over, Faulty, With_alias, Bad_topic, Sent_again, Too_many_unreleased, Not_retained, Kept, Topic_unread, Not_kept, Uncertain, Gate_closed, Released, Wrong_acknowledgement, Acknowledged, Shared_no_local, Not_subscribed, Subscribed, Not_unsubscribed, Unsubscribed, Connected_twice, Pinged, Disconnected}
+use Rattle.rs_session.specs.Table.{IsHanded, OpenCase, OpenRow, Case, SessionRow, With_method, With_will, Connect_refused, Accepted, Connack_too_long, Other_version, Unexpected, In_session, Over, Faulty, With_alias, Bad_topic, Sent_again, Too_many_unreleased, Not_retained, Stored, Topic_unread, Not_stored, Uncertain, Gate_closed, Released, Wrong_acknowledgement, Acknowledged, Shared_no_local, Not_subscribed, Subscribed, Not_unsubscribed, Unsubscribed, Connected_twice, Pinged, Disconnected}
 use Rattle.rs_session.specs.Points.{Point, with_state}
 use Rattle.rs_session.specs.Run.{Exchange, GivesAll, Run}
-use Rattle.rs_session.specs.Kept.{IsToldKept}
+use Rattle.rs_session.specs.Stored.{IsToldStored}
 use Rattle.rs_session.specs.Replay.{IsOpen}
 use Rattle.rs_session.specs.Sent.{IsPublication, IsSentBy, SendsPublications}
-use Rattle.rs_session.proofs.Keeping.{IsKept, told_row}
+use Rattle.rs_session.proofs.Keeping.{IsStored, told_row}
 use Rattle.rs_session.proofs.Replaying.{shut}
 use Rattle.rs_session.proofs.Submitting.{nothing_sent}
 
@@ -33,9 +33,9 @@ both_sent (Some a) None c xs ys p q = absurd p
 both_sent (Some a) (Some b) None xs ys p q = absurd q
 both_sent (Some a) (Some b) (Some c) xs ys p q = q ∙ (ap (λ l. l ++ ys) p ∙ append_assoc a xs ys)
 
--- no publication was told kept
+-- no publication was told stored
 abbrev NoneTold : Point State → Exchange → Type 0
-NoneTold from exchange = (o : Open) (p : Publish) (answer : Reply) → from.state.phase ≡ phase.Open o → IsToldKept o exchange p answer → ⊥
+NoneTold from exchange = (o : Open) (p : Publish) (answer : Reply) → from.state.phase ≡ phase.Open o → IsToldStored o exchange p answer → ⊥
 
 -- none was in a session that is not open
 none_told : (from : Point State) (exchange : Exchange) (other : Phase) → from.state.phase ≡ other → (IsOpen other → ⊥) → NoneTold from exchange
@@ -49,14 +49,14 @@ publication from exchange at left p topic operation here i s =
 abbrev Sent : Point State → Exchange → Type 0
 Sent from exchange = (first : List Entry) × Sends from.mark.sent first exchange.to.mark.sent × IsSentBy from exchange first
 
--- what was handed over was sent or not, and the client was not told that it is kept
+-- what was handed over was sent or not, and the client was not told that it is stored
 handed : (from : Point State) (exchange : Exchange) (at left : Open) (p : Publish) (topic : List ℕ) (operation : Operation) → from.state.phase ≡ phase.Open at → exchange.given.input ≡ Whole (packet.Publish p)
     → IsHanded p topic operation exchange.given.now (with_state from at) (with_state exchange.to left) → NoneTold from exchange → Sent from exchange
 handed from exchange at left p topic operation here i s told = ⊎_elim (λ h. ([], h, told)) (λ h. (entry_by operation exchange.to.mark ∷ [], h, publication from exchange at left p topic operation here i s)) s.sent
 
 row_sends : (case : OpenCase) (from : Point State) (exchange : Exchange) (at left : Open) (outcome : Outcome) → from.state.phase ≡ phase.Open at
     → OpenRow case exchange.given (with_state from at) exchange.answered outcome (with_state exchange.to left)
-    → ((o : Open) (p : Publish) (answer : Reply) → from.state.phase ≡ phase.Open o → IsToldKept o exchange p answer → IsKept case) → Sent from exchange
+    → ((o : Open) (p : Publish) (answer : Reply) → from.state.phase ≡ phase.Open o → IsToldStored o exchange p answer → IsStored case) → Sent from exchange
 row_sends Connected_twice from exchange at left outcome here (c, i, out, unchanged) told = ([], none_sent from.mark exchange.to.mark unchanged.none_used, told)
 row_sends Faulty from exchange at left outcome here (f, i, out, unchanged) told = ([], none_sent from.mark exchange.to.mark unchanged.none_used, told)
 row_sends With_alias from exchange at left outcome here (p, i, a, out, unchanged) told = ([], none_sent from.mark exchange.to.mark unchanged.none_used, told)
@@ -64,10 +64,10 @@ row_sends Bad_topic from exchange at left outcome here (p, f, i, a, t, other, ou
 row_sends Sent_again from exchange at left outcome here (p, i, a, t, unreleased, out, unchanged) told = ([], none_sent from.mark exchange.to.mark unchanged.none_used, told)
 row_sends Too_many_unreleased from exchange at left outcome here (p, i, a, t, many, out, unchanged) told = ([], none_sent from.mark exchange.to.mark unchanged.none_used, told)
 row_sends Not_retained from exchange at left outcome here (p, topic, i, taken, t, r, out, u, same) told = ([], none_sent from.mark exchange.to.mark u, told)
-row_sends Kept from exchange at left outcome here (p, topic, operation, i, s, submitted, out, same) told =
+row_sends Stored from exchange at left outcome here (p, topic, operation, i, s, submitted, out, same) told =
     (entry_by operation exchange.to.mark ∷ [], submitted.sent, publication from exchange at left p topic operation here i s)
 row_sends Topic_unread from exchange at left outcome here (p, i, taken, t, out, unchanged) told = ([], none_sent from.mark exchange.to.mark unchanged.none_used, told)
-row_sends Not_kept from exchange at left outcome here (p, topic, operation, i, s, out, same) told = handed from exchange at left p topic operation here i s told
+row_sends Not_stored from exchange at left outcome here (p, topic, operation, i, s, out, same) told = handed from exchange at left p topic operation here i s told
 row_sends Uncertain from exchange at left outcome here (p, topic, operation, i, s, out, same) told = handed from exchange at left p topic operation here i s told
 row_sends Gate_closed from exchange at left outcome here (p, topic, operation, i, s, out, same) told = handed from exchange at left p topic operation here i s told
 row_sends Released from exchange at left outcome here (a, i, out, u, same) told = ([], none_sent from.mark exchange.to.mark u, told)

@@ -57,7 +57,7 @@ two_new operation used seen d e first second =
 -- a submit for which there is no room leaves the gate as it was
 pub not_submitted : {A : Type 0} (stands : A → List Entry → Type 0) (before after : A) (operation : Operation) (old used : Mark) → after ≡ before → Grows (stands before) (stands after) (Submits operation old used (Err submit_fault.Full))
 not_submitted stands before after operation old used same = λ seen s.
-    (seen, subst (λ a. stands a seen) (sym same) s, ([], sym (append-nil seen)), record { handed_over = nothing_new operation used seen; kept = tt; used = tt })
+    (seen, subst (λ a. stands a seen) (sym same) s, ([], sym (append-nil seen)), record { handed_over = nothing_new operation used seen; submitted = tt; used = tt })
 
 -- the serial of its place is that of the entry
 serial_added : (c : Content) (e : Entry) (new : Content) → length c.serials ≡ serial_count → e.origin.place ≤ MAX_PLACES → IsAdded c e new → slice_index new.serials e.origin.place ≡ e.origin.serial
@@ -84,7 +84,7 @@ submitted stands limit old new operation seen serial (inl a) =
       (e ∷ [], refl),
       record {
         handed_over = one_new operation (local_mark new) seen e (λ h. refl);
-        kept = record { entry = subst (Contains (seen ++ e ∷ [])) (named old new operation serial) (Contains-append_right seen (e ∷ []) e (0, omega arith, refl)); serial = omega (arith, serial); sent = tt };
+        submitted = record { entry = subst (Contains (seen ++ e ∷ [])) (named old new operation serial) (Contains-append_right seen (e ∷ []) e (0, omega arith, refl)); serial = omega (arith, serial); sent = tt };
         used = tt;
       },
     )
@@ -97,7 +97,7 @@ submitted stands limit old new operation seen serial (inr a) =
       (sweep ∷ e ∷ [], append_assoc seen (sweep ∷ []) (e ∷ [])),
       record {
         handed_over = two_new operation (local_mark new) seen sweep e (of_another operation (local_mark new) sweep (λ h. omega (arith, h))) (λ h. refl);
-        kept = record { entry = subst (Contains (clean ++ e ∷ [])) (named old new operation serial) (Contains-append_right clean (e ∷ []) e (0, omega arith, refl)); serial = omega (arith, serial); sent = tt };
+        submitted = record { entry = subst (Contains (clean ++ e ∷ [])) (named old new operation serial) (Contains-append_right clean (e ∷ []) e (0, omega arith, refl)); serial = omega (arith, serial); sent = tt };
         used = tt;
       },
     )
@@ -105,14 +105,14 @@ submitted stands limit old new operation seen serial (inr a) =
 -- if memory is refused, at most a Sweep came
 pub not_added : (stands : List Entry → Type 0) (limit : ℕ) (old new : Content) (operation : Operation) (seen : List Entry) → NotAdds limit seen (next_entry old operation) refusal.NoMemory stands
     → (list : List Entry) × stands list × Extends list seen × Submits operation (local_mark old) (local_mark new) (Err submit_fault.NoMemory) seen list
-not_added stands limit old new operation seen (inl n) = (seen, n.1, ([], sym (append-nil seen)), record { handed_over = nothing_new operation (local_mark new) seen; kept = tt; used = tt })
-not_added stands limit old new operation seen (inr (s, inl n)) = (seen, n, ([], sym (append-nil seen)), record { handed_over = nothing_new operation (local_mark new) seen; kept = tt; used = tt })
+not_added stands limit old new operation seen (inl n) = (seen, n.1, ([], sym (append-nil seen)), record { handed_over = nothing_new operation (local_mark new) seen; submitted = tt; used = tt })
+not_added stands limit old new operation seen (inr (s, inl n)) = (seen, n, ([], sym (append-nil seen)), record { handed_over = nothing_new operation (local_mark new) seen; submitted = tt; used = tt })
 not_added stands limit old new operation seen (inr (s, inr n)) =
     let sweep : Entry = sweep_after s.message.received seen in (
       cleaned s.message.received seen,
       n,
       (sweep ∷ [], refl),
-      record { handed_over = one_new operation (local_mark new) seen sweep (of_another operation (local_mark new) sweep (λ h. omega (arith, h))); kept = tt; used = tt },
+      record { handed_over = one_new operation (local_mark new) seen sweep (of_another operation (local_mark new) sweep (λ h. omega (arith, h))); submitted = tt; used = tt },
     )
 
 -- the entry that is handed over

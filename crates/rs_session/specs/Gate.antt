@@ -66,7 +66,7 @@ UsesIfOpen old new answer = Unit {0}
 -- is an entry; and at `Open` a serial was used
 pub record Submits (operation : Operation) (old new : Mark) (answer : Result (Unit {0}) SubmitFault) (seen list : List Entry) : Type 0 where
   pub handed_over : IsHandedOver operation new seen list
-  pub kept : OnOk answer (IsSubmitted operation old new list)
+  pub submitted : OnOk answer (IsSubmitted operation old new list)
   pub used : UsesIfOpen old new answer
 
 -- Of the changes that were expected, a submit leaves none; or it submits the first, and the rest is left; or it is refused as

@@ -8,6 +8,6 @@ pub mod Ahead
 pub mod Steps
 pub mod Run
 pub mod Replay
-pub mod Kept
+pub mod Stored
 pub mod Sent
 pub mod Local

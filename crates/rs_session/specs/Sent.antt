@@ -5,7 +5,7 @@ use Rattle.rs_packet.specs.declared.packet.Publish.{Publish}
 use Rattle.rs_packet.specs.declared.reply.Reply.{Reply}
 use Rattle.rs_message.specs.declared.entry.Entry.{Entry}
 use Rattle.rs_session.specs.Gate.{Sends, last_origin}
-use Rattle.rs_session.specs.Kept.{IsToldKept}
+use Rattle.rs_session.specs.Stored.{IsToldStored}
 use Rattle.rs_session.specs.Points.{Point}
 use Rattle.rs_session.specs.Run.{Exchange}
 use Rattle.rs_session.specs.State.{State}
@@ -27,9 +27,9 @@ pub record IsPublication (before : Point State) (exchange : Exchange) (e : Entry
   pub changes : change publish topic exchange.given.now ≡ Some e.operation
   pub origin : e.origin ≡ last_origin exchange.to.mark
 
--- what an exchange sends: its publication, once, or nothing, if the client was not told that its publication is kept
+-- what an exchange sends: its publication, once, or nothing, if the client was not told that its publication is stored
 abbrev pub IsSentBy : Point State → Exchange → List Entry → Type 0
-IsSentBy before exchange [] = (o : Open) (p : Publish) (answer : Reply) → before.state.phase ≡ phase.Open o → IsToldKept o exchange p answer → ⊥
+IsSentBy before exchange [] = (o : Open) (p : Publish) (answer : Reply) → before.state.phase ≡ phase.Open o → IsToldStored o exchange p answer → ⊥
 IsSentBy before exchange (e ∷ []) = IsPublication before exchange e
 IsSentBy before exchange (e ∷ d ∷ more) = ⊥
 

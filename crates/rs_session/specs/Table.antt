@@ -239,9 +239,9 @@ pub data OpenCase : Type 0 where
   Sent_again : OpenCase
   Too_many_unreleased : OpenCase
   Not_retained : OpenCase
-  Kept : OpenCase
+  Stored : OpenCase
   Topic_unread : OpenCase
-  Not_kept : OpenCase
+  Not_stored : OpenCase
   Uncertain : OpenCase
   Gate_closed : OpenCase
   Released : OpenCase
@@ -298,7 +298,7 @@ OpenRow Too_many_unreleased given from answered outcome to =
 OpenRow Not_retained given from answered outcome to =
     (p : Publish) × (topic : List ℕ) × (given.input ≡ Whole (packet.Publish p)) × IsTaken p from.state × (p.topic ≡ Ok topic) × (p.retain ≡ false)
     × (outcome ≡ Replies (acknowledged_by p.qos p.id Success)) × (to.mark ≡ from.mark) × (to.state ≡ awaiting_release p from.state)
-OpenRow Kept given from answered outcome to =
+OpenRow Stored given from answered outcome to =
     (p : Publish) × (topic : List ℕ) × (operation : Operation) × (given.input ≡ Whole (packet.Publish p)) × IsHanded p topic operation given.now from to × IsSubmitted operation from.mark to.mark to.seen
     × (outcome ≡ Replies (acknowledged_by p.qos p.id Success)) × (to.state ≡ awaiting_release p from.state)
 -- no memory for the topic, which may be at any time
@@ -306,7 +306,7 @@ OpenRow Topic_unread given from answered outcome to =
     (p : Publish) × (given.input ≡ Whole (packet.Publish p)) × IsTaken p from.state × (p.topic ≡ Err topic_fault.NoMemory)
     × (outcome ≡ Replies (acknowledged_by p.qos p.id QuotaExceeded)) × IsUnchanged from to
 -- the store is full, or memory was refused
-OpenRow Not_kept given from answered outcome to =
+OpenRow Not_stored given from answered outcome to =
     (p : Publish) × (topic : List ℕ) × (operation : Operation) × (given.input ≡ Whole (packet.Publish p)) × IsHanded p topic operation given.now from to
     × (outcome ≡ Replies (acknowledged_by p.qos p.id QuotaExceeded)) × (to.state ≡ from.state)
 -- the store gave no receipt

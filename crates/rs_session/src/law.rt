@@ -5,7 +5,7 @@ ghost use Rattle.rs_session.specs.Gate.{Extends};
 ghost use Rattle.rs_packet.specs.declared.packet.Connect.{Connect};
 ghost use Rattle.rs_packet.specs.declared.packet.Publish.{Publish};
 ghost use Rattle.rs_packet.specs.declared.reply.Reply.{Reply};
-ghost use Rattle.rs_session.specs.Kept.{MarkGrows, lists_of, AreGrowing, SerialsRiseIn, point_after, IsToldKept, IsKeptIn};
+ghost use Rattle.rs_session.specs.Stored.{MarkGrows, lists_of, AreGrowing, SerialsRiseIn, point_after, IsToldStored, IsStoredIn};
 ghost use Rattle.rs_session.specs.Replay.{IsOpen, Opens, IsReplaying, IsSentInOrder};
 ghost use Rattle.rs_session.specs.Points.{Point};
 ghost use Rattle.rs_session.specs.Run.{Exchange, Run, IsWithinLimits};
@@ -46,20 +46,20 @@ pub fn replay_of_run()
 
 /// Does nothing. Its contract says of every run, from any point, how its lists grow, and that what it acknowledged stays in
 /// them.
-pub fn kept_of_run()
+pub fn stored_of_run()
     // Every list from which a filter was answered or that an exchange leaves is a prefix of all such lists after it.
     ensures lists { (from to : Point State) (exchanges : List Exchange) → Run from exchanges to → AreGrowing (from.seen ∷ (lists_of exchanges ++ to.seen ∷ [])) }
-    // If the serials of each place rise in the lists, a retained publication that the client was told is kept stands
+    // If the serials of each place rise in the lists, a retained publication that the client was told is stored stands
     // once in the list that its exchange leaves, and in every later one.
     ensures publications { (from to : Point State) (before : List Exchange) (exchange : Exchange) (after : List Exchange) (o : Open) (p : Publish) (answer : Reply) → Run from (before ++ exchange ∷ after) to
-        → SerialsRiseIn (before ++ exchange ∷ after) → (point_after from before).state.phase ≡ phase.Open o → IsToldKept o exchange p answer
-        → IsKeptIn (point_after from before).mark exchange p (exchange.to.seen ∷ (lists_of after ++ to.seen ∷ [])) }
-    // Along a run the mark's serial never falls. So two publications that were told kept are two entries.
+        → SerialsRiseIn (before ++ exchange ∷ after) → (point_after from before).state.phase ≡ phase.Open o → IsToldStored o exchange p answer
+        → IsStoredIn (point_after from before).mark exchange p (exchange.to.seen ∷ (lists_of after ++ to.seen ∷ [])) }
+    // Along a run the mark's serial never falls. So two publications that were told stored are two entries.
     ensures marks { (from to : Point State) (exchanges : List Exchange) → Run from exchanges to → MarkGrows from.mark to.mark }
 {}
 
 /// Does nothing. Its contract says of every run what its gate sent to the store meanwhile, if that is given: in their order, the
-/// retained publications among the inputs, each at most once, and each that the client was told is kept.
+/// retained publications among the inputs, each at most once, and each that the client was told is stored.
 #[tactic(auto, using(crate::proofs::Sending::run_sends))]
 pub fn sent_of_run()
     ensures { (from to : Point State) (exchanges : List Exchange) → Run from exchanges to → SendsPublications from exchanges to }

@@ -1,5 +1,5 @@
 use Rattle.rs_session.proofs.Keeping.{run_lists, run_keeps, run_marks}
-use Rattle.rs_session.proofs.law.kept_of_run.Goals as goal
+use Rattle.rs_session.proofs.law.stored_of_run.Goals as goal
 
 pub returns-clause-lists : goal.returns-clause-lists
 returns-clause-lists c = run_lists

@@ -45,9 +45,9 @@ pub record MarkGrows (old new : Mark) : Type 0 where
   pub place : new.place ≡ old.place
   pub serial : old.serial ≤ new.serial
 
--- A retained publication that the client was told is kept: a PUBLISH with RETAIN 1 that is not one sent again, and a PUBACK
+-- A retained publication that the client was told is stored: a PUBLISH with RETAIN 1 that is not one sent again, and a PUBACK
 -- or a PUBREC of 0x00 among the replies.
-pub record IsToldKept (o : Open) (exchange : Exchange) (p : Publish) (answer : Reply) : Type 0 where
+pub record IsToldStored (o : Open) (exchange : Exchange) (p : Publish) (answer : Reply) : Type 0 where
   pub input : exchange.given.input ≡ Whole (packet.Publish p)
   pub retained : p.retain ≡ true
   pub new : is_unreleased (unreleased_id p.qos p.id) o.inbound ≡ false
@@ -63,10 +63,10 @@ pub record StandsOnce (e : Entry) (list : List Entry) : Type 0 where
   pub after : AllByRecursion (λ other. other.origin ≢ e.origin) rest
 
 -- what it does to its topic stands once in each of these lists, under the serial that the exchange used
-pub record IsKeptIn (before : Mark) (exchange : Exchange) (p : Publish) (lists : List (List Entry)) : Type 0 where
+pub record IsStoredIn (before : Mark) (exchange : Exchange) (p : Publish) (lists : List (List Entry)) : Type 0 where
   pub topic : List ℕ
   pub operation : Operation
   pub is_topic : p.topic ≡ Ok topic
   pub changes : change p topic exchange.given.now ≡ Some operation
   pub used : before.serial < exchange.to.mark.serial
-  pub kept : AllByRecursion (StandsOnce (record { origin = record { place = exchange.to.mark.place; serial = exchange.to.mark.serial }; operation = operation })) lists
+  pub stored : AllByRecursion (StandsOnce (record { origin = record { place = exchange.to.mark.place; serial = exchange.to.mark.serial }; operation = operation })) lists
