@@ -23,7 +23,7 @@ use Rattle.rs_window.specs.Replay as calls
 use Rattle.rs_window.specs.State as window_state
 use Rattle.rs_window.specs.Values.{OutgoingValue}
 use Rattle.rs_window.specs.Waiting.{AllDropped}
-use Rattle.rs_window.specs.declared.queue.Waiting.{Waiting}
+use Rattle.rs_window.specs.declared.waiting.Waiting.{Waiting}
 use Rattle.rs_window.specs.declared.fault.Ack.{Ack}
 use Rattle.rs_window.specs.declared.fault.Ack.TheVariants as ack_case
 use Rattle.rs_window.specs.declared.fault.Ack.TheVariants.{Freed, Unknown}

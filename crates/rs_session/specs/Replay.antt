@@ -20,7 +20,7 @@ use Rattle.rs_window.specs.Replay as calls
 use Rattle.rs_window.specs.State as window_state
 use Rattle.rs_window.specs.Values.{OutgoingValue}
 use Rattle.rs_window.specs.Waiting.{Carries, IsDropped}
-use Rattle.rs_window.specs.declared.queue.Waiting.{Waiting}
+use Rattle.rs_window.specs.declared.waiting.Waiting.{Waiting}
 use Rattle.rs_window.specs.declared.window.TheConstants.{MAX_QUOTA}
 use Rattle.rs_window.specs.declared.fault.Ack.{Ack}
 use Rattle.rs_window.specs.declared.fault.WindowFault.TheVariants.{WrongKind}

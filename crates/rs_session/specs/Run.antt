@@ -6,7 +6,7 @@ use Rattle.std.specs.FinSet as set
 use Rattle.rs_packet.specs.declared.limits.TheConstants.{RECEIVE_MAXIMUM}
 use Rattle.rs_packet.specs.declared.reply.Reply.{Reply}
 use Rattle.rs_message.specs.declared.entry.Entry.{Entry}
-use Rattle.rs_window.specs.declared.queue.TheConstants.{MAX_WAITING}
+use Rattle.rs_window.specs.declared.waiting.TheConstants.{MAX_WAITING}
 use Rattle.rs_window.specs.declared.window.TheConstants.{MAX_QUOTA}
 use Rattle.rs_session.specs.declared.open.Open.{Open}
 use Rattle.rs_session.specs.declared.subscriptions.TheConstants.{MAX_SUBSCRIPTIONS}

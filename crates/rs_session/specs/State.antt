@@ -6,7 +6,7 @@ use Rattle.rs_message.specs.declared.entry.Entry.{Entry}
 use Rattle.rs_window.specs.Calls.{IsNext}
 use Rattle.rs_window.specs.Packets.{reply_of}
 use Rattle.rs_window.specs.Values.{OutgoingValue}
-use Rattle.rs_window.specs.declared.queue.Waiting.{Waiting}
+use Rattle.rs_window.specs.declared.waiting.Waiting.{Waiting}
 use Rattle.rs_session.specs.Gate.{Mark}
 use Rattle.rs_session.specs.Points.{Point, point_at}
 use Rattle.rs_session.specs.declared.open.Open.{Open}

@@ -15,13 +15,13 @@ use Rattle.rs_window.specs.declared.fault.WindowFault.{WindowFault}
 use Rattle.rs_window.specs.declared.fault.WindowFault.TheVariants.{TooManyWaiting, NoMemory, WrongKind, TooManyHeld}
 use Rattle.rs_window.specs.declared.identifiers.Kind.{Kind}
 use Rattle.rs_window.specs.declared.identifiers.Kind.TheVariants.{AtLeastOnce, ExactlyOnce}
-use Rattle.rs_window.specs.declared.queue.Waiting.{Waiting}
+use Rattle.rs_window.specs.declared.waiting.Waiting.{Waiting}
 use Rattle.rs_window.specs.Values.{OutgoingValue}
 use Rattle.rs_window.specs.Identifiers.{Kinds, kind_sent, kinds_put, kinds_given, IsNumbered}
 use Rattle.rs_window.specs.State.{State}
 use Rattle.rs_window.specs.Waiting.{granted_at, is_dropped, sendable, AllDropped}
 use Rattle.rs_window.specs.Calls.{Acknowledgement, Call, Queue, Next, Acknowledge, kind_acknowledged, kinds_acknowledged, answer_to, fresh, Step, NeedsQuota}
-use Rattle.rs_window.specs.declared.queue.TheConstants.{MAX_WAITING}
+use Rattle.rs_window.specs.declared.waiting.TheConstants.{MAX_WAITING}
 use Rattle.rs_window.specs.declared.window.TheConstants.{MAX_QUOTA}
 use Rattle.rs_window.specs.Replay.{Run, kind_given, Concerns, NoneConcerns, kind_by, kind_from, kind_after, AreUnacknowledged, brought, queued, Leaves, HasLeft, IsReplayed, IsFreeFor, MayGiveNothing}
 use Rattle.rs_window.proofs.IdentifierLemmas.{other_number}
@@ -156,7 +156,7 @@ quota_holds receive_maximum packet_maximum calls end h =
     let start : len (fresh receive_maximum packet_maximum).kinds ≤ (fresh receive_maximum packet_maximum).quota = omega (arith, len-empty nat_cmp Kind) in
     run_quota (fresh receive_maximum packet_maximum) calls end h start
 
--- ---- the queue
+-- ---- what waits
 
 -- what leaves before the first that is to be sent
 gone_before : (packet_maximum now : ℕ) (ws : List Waiting) → (dropped : List Waiting) × (ws ≡ dropped ++ sendable packet_maximum now ws) × AllDropped packet_maximum now dropped
@@ -169,30 +169,30 @@ gone_before packet_maximum now (w ∷ ws) = by_case (is_dropped packet_maximum n
     by_case false e later = ([], refl, tt)
 
 -- what was queued and what is brought is what leaves and what waits then
-step_queue : (old : State) (call : Call) (new : State) → Step old call new
+step_waiting : (old : State) (call : Call) (new : State) → Step old call new
     → (gone : List Waiting) × (old.waiting ++ brought call ≡ gone ++ new.waiting) × Leaves old.packet_maximum call gone
-step_queue old (Queue found granted subscription (Ok done)) new h = ([], sym (ap (λ (s : State). s.waiting) h.1), refl)
-step_queue old (Queue found granted subscription (Err TooManyWaiting)) new h = ([], append-nil old.waiting ∙ sym (ap (λ (s : State). s.waiting) h.1), refl)
-step_queue old (Queue found granted subscription (Err NoMemory)) new h = ([], append-nil old.waiting ∙ sym (ap (λ (s : State). s.waiting) h.1), refl)
-step_queue old (Queue found granted subscription (Err WrongKind)) new h = absurd h
-step_queue old (Queue found granted subscription (Err TooManyHeld)) new h = absurd h
-step_queue old (Next now None) new h =
+step_waiting old (Queue found granted subscription (Ok done)) new h = ([], sym (ap (λ (s : State). s.waiting) h.1), refl)
+step_waiting old (Queue found granted subscription (Err TooManyWaiting)) new h = ([], append-nil old.waiting ∙ sym (ap (λ (s : State). s.waiting) h.1), refl)
+step_waiting old (Queue found granted subscription (Err NoMemory)) new h = ([], append-nil old.waiting ∙ sym (ap (λ (s : State). s.waiting) h.1), refl)
+step_waiting old (Queue found granted subscription (Err WrongKind)) new h = absurd h
+step_waiting old (Queue found granted subscription (Err TooManyHeld)) new h = absurd h
+step_waiting old (Next now None) new h =
     let (dropped, whole, all) = gone_before old.packet_maximum now old.waiting in
     (dropped, append-nil old.waiting ∙ whole ∙ ap (λ (xs : List Waiting). dropped ++ xs) (sym (ap (λ (s : State). s.waiting) h.0)), all)
-step_queue old (Next now (Some p)) new h =
+step_waiting old (Next now (Some p)) new h =
     let (dropped, whole, all) = gone_before old.packet_maximum now old.waiting in (
       dropped ++ h.first ∷ [],
       append-nil old.waiting ∙ whole ∙ ap (λ (xs : List Waiting). dropped ++ xs) h.leaves ∙ sym (append_assoc dropped (h.first ∷ []) new.waiting),
       (dropped, h.first, refl, all, h.carries),
     )
-step_queue old (Acknowledge ack id answer) new h = ([], append-nil old.waiting ∙ sym (ap (λ (s : State). s.waiting) h.1), refl)
+step_waiting old (Acknowledge ack id answer) new h = ([], append-nil old.waiting ∙ sym (ap (λ (s : State). s.waiting) h.1), refl)
 
-run_queue : (packet_maximum : ℕ) (from : State) (calls : List Call) (to : State) → packet_maximum ≡ from.packet_maximum → Run from calls to
+run_waiting : (packet_maximum : ℕ) (from : State) (calls : List Call) (to : State) → packet_maximum ≡ from.packet_maximum → Run from calls to
     → (prefix : List Waiting) × (from.waiting ++ queued calls ≡ prefix ++ to.waiting) × HasLeft packet_maximum calls prefix
-run_queue packet_maximum from [] to m e = ([], append-nil from.waiting ∙ sym (ap (λ (s : State). s.waiting) e), refl)
-run_queue packet_maximum from (call ∷ calls) to m (mid, step, rest) =
-    let (gone, here, leaves) = step_queue from call mid step in
-    let (prefix, later, left) = run_queue packet_maximum mid calls to (m ∙ sym (step_limits from call mid step).1) rest in (
+run_waiting packet_maximum from [] to m e = ([], append-nil from.waiting ∙ sym (ap (λ (s : State). s.waiting) e), refl)
+run_waiting packet_maximum from (call ∷ calls) to m (mid, step, rest) =
+    let (gone, here, leaves) = step_waiting from call mid step in
+    let (prefix, later, left) = run_waiting packet_maximum mid calls to (m ∙ sym (step_limits from call mid step).1) rest in (
       gone ++ prefix,
       sym (append_assoc from.waiting (brought call) (queued calls)) ∙ ap (λ (xs : List Waiting). xs ++ queued calls) here ∙ append_assoc gone mid.waiting (queued calls)
           ∙ ap (λ (xs : List Waiting). gone ++ xs) later ∙ sym (append_assoc gone prefix to.waiting),
@@ -201,7 +201,7 @@ run_queue packet_maximum from (call ∷ calls) to m (mid, step, rest) =
 
 pub replayed : (receive_maximum packet_maximum : ℕ) (calls : List Call) (end : State) → Run (fresh receive_maximum packet_maximum) calls end → IsReplayed packet_maximum calls end.waiting
 replayed receive_maximum packet_maximum calls end h =
-    let (prefix, whole, left) = run_queue packet_maximum (fresh receive_maximum packet_maximum) calls end refl h in
+    let (prefix, whole, left) = run_waiting packet_maximum (fresh receive_maximum packet_maximum) calls end refl h in
     record { prefix = prefix; whole = whole; leaves = left }
 
 pub step_few : (old : State) (call : Call) (new : State) → Step old call new → length old.waiting ≤ MAX_WAITING → length new.waiting ≤ MAX_WAITING

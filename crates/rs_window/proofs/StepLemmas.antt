@@ -10,7 +10,7 @@ use Rattle.rs_packet.specs.Fields.{replayed}
 use Rattle.rs_packet.specs.Replies.{first_byte, reply_bytes}
 use Rattle.rs_packet.specs.declared.message.Remaining.TheVariants.{Expired}
 use Rattle.rs_message.specs.Messages.{remaining_of}
-use Rattle.rs_window.specs.declared.queue.Waiting.{Waiting}
+use Rattle.rs_window.specs.declared.waiting.Waiting.{Waiting}
 use Rattle.rs_window.specs.Values.{OutgoingValue}
 use Rattle.rs_window.specs.Packets.{reply_of}
 use Rattle.rs_window.specs.Identifiers.{Kinds, IsNumbered, kinds_given}

@@ -14,7 +14,7 @@ use Rattle.rs_packet.specs.declared.reply.Reply.TheVariants as reply
 use Rattle.rs_packet.specs.declared.message.Remaining.{Remaining}
 use Rattle.rs_packet.specs.declared.message.Remaining.TheVariants.{Forever, Left, Expired}
 use Rattle.rs_message.specs.Messages.{remaining_of, is_over}
-use Rattle.rs_window.specs.declared.queue.Waiting.{Waiting}
+use Rattle.rs_window.specs.declared.waiting.Waiting.{Waiting}
 use Rattle.rs_window.specs.Waiting.{is_dropped, sendable, lesser_qos, some_id, len_with, packet_len, IsDropped}
 
 pub some_id_fits : (quality : Qos) → IdFits quality (some_id quality)
@@ -68,7 +68,7 @@ keeps packet_maximum now w h (inr less) =
     let all : is_dropped packet_maximum now w ≡ true = or_true (is_over (remaining_of w.found.message now)) _ t in
     let wrong : true ≡ false = sym all ∙ h in cc
 
--- ---- what is left of the queue
+-- ---- what still waits
 
 first_step : (packet_maximum now : ℕ) (v w : Waiting) (vs rest : List Waiting) (b : Bool) → is_dropped packet_maximum now v ≡ b
     → (sendable packet_maximum now vs ≡ w ∷ rest → is_dropped packet_maximum now w ≡ false)

@@ -10,8 +10,8 @@ use Rattle.rs_window.specs.declared.fault.WindowFault.{WindowFault}
 use Rattle.rs_window.specs.declared.fault.WindowFault.TheVariants.{TooManyWaiting, NoMemory, WrongKind, TooManyHeld}
 use Rattle.rs_window.specs.declared.identifiers.Kind.{Kind}
 use Rattle.rs_window.specs.declared.identifiers.Kind.TheVariants.{AtLeastOnce, ExactlyOnce, Received}
-use Rattle.rs_window.specs.declared.queue.Waiting.{Waiting}
-use Rattle.rs_window.specs.declared.queue.TheConstants.{MAX_WAITING}
+use Rattle.rs_window.specs.declared.waiting.Waiting.{Waiting}
+use Rattle.rs_window.specs.declared.waiting.TheConstants.{MAX_WAITING}
 use Rattle.rs_window.specs.declared.window.TheConstants.{MAX_QUOTA}
 use Rattle.rs_window.specs.Values.{OutgoingValue}
 use Rattle.rs_window.specs.Identifiers.{Kinds, IsNumbered, kinds_put, kinds_given}
@@ -82,7 +82,7 @@ abbrev pub NeedsQuota : Kinds → ℕ → List Waiting → Type 0
 NeedsQuota kinds quota [] = Unit {0}
 NeedsQuota kinds quota (w ∷ ws) = (lesser_qos w ≢ AtMostOnce) × (finite.len kinds ≡ quota)
 
--- 4.6: the first message that is to be sent leaves the queue as this packet
+-- 4.6: the first message that is to be sent leaves what waits, as this packet
 pub record IsGiven (now : ℕ) (old : State) (p : OutgoingValue) (new : State) : Type 0 where
   pub first : Waiting
   pub leaves : sendable old.packet_maximum now old.waiting ≡ first ∷ new.waiting

@@ -2,8 +2,8 @@
 use Rattle.std.specs.Prelude.{ℕ, ◌<◌, ◌≤◌, ◌^◌, List, length}
 use Rattle.slab.specs.Slab.{Slab, slab_len}
 use Rattle.rs_window.specs.declared.identifiers.Kind.{Kind}
-use Rattle.rs_window.specs.declared.queue.Waiting.{Waiting}
-use Rattle.rs_window.specs.declared.queue.TheConstants.{MAX_WAITING}
+use Rattle.rs_window.specs.declared.waiting.Waiting.{Waiting}
+use Rattle.rs_window.specs.declared.waiting.TheConstants.{MAX_WAITING}
 
 -- no more identifiers than the quota are in use, slots are reserved for all of it, the number of each slot plus 1 is an identifier,
 -- and not too many messages wait

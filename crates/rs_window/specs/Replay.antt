@@ -5,7 +5,7 @@ use Rattle.rs_packet.specs.Grammar.{IdFits}
 use Rattle.rs_packet.specs.declared.packet.Qos.{Qos}
 use Rattle.rs_packet.specs.declared.packet.Qos.TheVariants.{AtMostOnce}
 use Rattle.rs_window.specs.declared.identifiers.Kind.{Kind}
-use Rattle.rs_window.specs.declared.queue.Waiting.{Waiting}
+use Rattle.rs_window.specs.declared.waiting.Waiting.{Waiting}
 use Rattle.rs_window.specs.Identifiers.{Kinds, kind_sent}
 use Rattle.rs_window.specs.State.{State}
 use Rattle.rs_window.specs.Waiting.{lesser_qos, granted_at, Carries, IsDropped, AllDropped}
@@ -58,7 +58,7 @@ AreUnacknowledged calls kinds = (id : ℕ) → finite.get kinds id ≡ kind_afte
 
 -- ---- what was queued, and what became of it
 
--- what a call brought to the queue
+-- what a call brought to what waits
 abbrev pub brought : Call → List Waiting
 brought (Queue found granted subscription (Ok done)) = map (granted_at granted subscription) found
 brought (Queue found granted subscription (Err fault)) = []
@@ -69,7 +69,7 @@ abbrev pub queued : List Call → List Waiting
 queued [] = []
 queued (call ∷ calls) = brought call ++ queued calls
 
--- what leaves the queue in a call: in a `next`, some that may be dropped at its time, and then
+-- what waits no more after a call: in a `next`, some that may be dropped at its time, and then
 -- the one that its PUBLISH carries
 abbrev pub Leaves : ℕ → Call → List Waiting → Type 0
 Leaves packet_maximum (Queue found granted subscription answer) gone = gone ≡ []
@@ -77,7 +77,7 @@ Leaves packet_maximum (Next now None) gone = AllDropped packet_maximum now gone
 Leaves packet_maximum (Next now (Some p)) gone = (dropped : List Waiting) × (w : Waiting) × (gone ≡ dropped ++ w ∷ []) × AllDropped packet_maximum now dropped × Carries packet_maximum now w p
 Leaves packet_maximum (Acknowledge ack id answer) gone = gone ≡ []
 
--- all that left the queue in these calls, in order
+-- all that waits no more after these calls, in order
 abbrev pub HasLeft : ℕ → List Call → List Waiting → Type 0
 HasLeft packet_maximum [] prefix = prefix ≡ []
 HasLeft packet_maximum (call ∷ calls) prefix = (gone : List Waiting) × (rest : List Waiting) × (prefix ≡ gone ++ rest) × Leaves packet_maximum call gone × HasLeft packet_maximum calls rest

@@ -3,8 +3,8 @@ use Rattle.std.specs.Prelude.{ℕ, List, refl}
 use Rattle.std.specs.Coded.{Coded, code_by, coded×, coded_ℕ, coded_list}
 use Rattle.std.specs.FinMap as finite
 use Rattle.rs_window.specs.contracts.identifiers.Kind as kind
-use Rattle.rs_window.specs.contracts.queue.Waiting as waiting
-use Rattle.rs_window.specs.declared.queue.Waiting.{Waiting}
+use Rattle.rs_window.specs.contracts.waiting.Waiting as waiting
+use Rattle.rs_window.specs.declared.waiting.Waiting.{Waiting}
 use Rattle.rs_window.specs.Identifiers.{Kinds}
 
 -- what each identifier in use waits for, the messages that wait, how many identifiers may be in use,

@@ -10,7 +10,7 @@ use Rattle.rs_packet.specs.declared.message.Remaining.TheVariants.{Forever, Left
 use Rattle.rs_message.specs.Messages.{remaining_of, is_expired}
 use Rattle.rs_window.specs.Values.{OutgoingValue}
 use Rattle.rs_window.specs.Packets.{reply_of}
-use Rattle.rs_window.specs.declared.queue.Waiting.{Waiting}
+use Rattle.rs_window.specs.declared.waiting.Waiting.{Waiting}
 
 -- a found message with what its subscription was granted
 abbrev pub granted_at : Qos → Option ℕ → Found → Waiting

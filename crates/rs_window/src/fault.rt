@@ -3,7 +3,7 @@
 ghost use Rattle.std.specs.Prelude.{◌≡◌};
 ghost use Rattle.rs_window.specs.Codes.{code_of};
 
-use crate::queue::MAX_WAITING;
+use crate::waiting::MAX_WAITING;
 use rs_packet::RECEIVE_MAXIMUM;
 use thiserror::Error;
 

@@ -7,7 +7,7 @@ ghost use Rattle.rs_window.specs.declared.fault.WindowFault.{WindowFault};
 ghost use Rattle.rs_window.specs.Values.{OutgoingValue};
 ghost use Rattle.rs_window.specs.State.{State};
 ghost use Rattle.rs_window.specs.Calls.{Call, Acknowledgement, Next, Acknowledge, fresh, answer_to};
-ghost use Rattle.rs_window.specs.declared.queue.TheConstants.{MAX_WAITING};
+ghost use Rattle.rs_window.specs.declared.waiting.TheConstants.{MAX_WAITING};
 ghost use Rattle.rs_window.specs.declared.window.TheConstants.{MAX_QUOTA};
 ghost use Rattle.rs_window.specs.Replay.{Run, NoneConcerns, kind_by, AreUnacknowledged, kind_after, IsReplayed, IsFreeFor, MayGiveNothing};
 

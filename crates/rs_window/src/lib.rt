@@ -15,12 +15,12 @@ mod fault;
 mod identifiers;
 mod inbound;
 mod law;
-mod queue;
+mod waiting;
 mod window;
 
 pub use fault::{Ack, WindowFault};
 pub use identifiers::Kind;
 pub use inbound::Inbound;
 pub use law::replay_law;
-pub use queue::{MAX_WAITING, Waiting};
+pub use waiting::{MAX_WAITING, Waiting};
 pub use window::{MAX_QUOTA, Outgoing, Window};

@@ -8,7 +8,7 @@ ghost use Rattle.rs_window.specs.Calls.{fresh, IsQueued, IsNext, IsAcknowledged,
 
 use crate::fault::{Ack, WindowFault};
 use crate::identifiers::{Kind, change_kind, free_identifier, kind_at};
-use crate::queue::{MAX_WAITING, Waiting, append, drop_unsendable, lesser_of, take_first};
+use crate::waiting::{MAX_WAITING, Waiting, append, drop_unsendable, lesser_of, take_first};
 use rs_message::{Found, Message, Remaining};
 use rs_packet::{PacketId, Publication, Qos, Reply, SubscriptionId};
 use slab::Slab;

@@ -1,6 +1,6 @@
 use Rattle.std.proofs.Common.{◌<◌, List, length, sym, ap, subst, ◌∙◌, arith}
 use Rattle.rs_window.specs.Identifiers.{kinds_of}
-use Rattle.rs_window.specs.declared.queue.Waiting.{Waiting}
+use Rattle.rs_window.specs.declared.waiting.Waiting.{Waiting}
 use Rattle.rs_window.specs.State.{State, state_of}
 use Rattle.rs_window.specs.Calls.{IsGiven}
 use Rattle.rs_window.proofs.WaitingLemmas.{sendable_fewer}

@@ -2,7 +2,7 @@ use Rattle.std.proofs.Common.{◌≡◌, ◌++◌, map, ◌+◌, ◌≤◌, leng
 use Rattle.std.specs.VecDeque.{deque_len, deque_capacity}
 use Rattle.std.specs.Vec.Iter.{into_iter_items}
 use Rattle.rs_window.specs.Waiting.{granted_at}
-use Rattle.rs_window.proofs.queue.append.Given as goal
+use Rattle.rs_window.proofs.waiting.append.Given as goal
 
 abbrev pub invariant-loop-one : goal.invariant-loop-one
 invariant-loop-one l = record {

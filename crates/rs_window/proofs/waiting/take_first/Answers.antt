@@ -5,7 +5,7 @@ use Rattle.rs_packet.specs.declared.packet.Qos.TheVariants.{AtMostOnce}
 use Rattle.rs_window.specs.Identifiers.{kinds_of}
 use Rattle.rs_window.proofs.IdentifierLemmas.{len_kinds}
 use Rattle.rs_window.proofs.StepLemmas.{needs_quota}
-use Rattle.rs_window.proofs.queue.take_first.Goals as goal
+use Rattle.rs_window.proofs.waiting.take_first.Goals as goal
 
 pub returns-then-not-may_be_sent-clause-needs_quota : goal.returns-then-not-may_be_sent-clause-needs_quota
 returns-then-not-may_be_sent-clause-needs_quota c =
