@@ -28,7 +28,7 @@ visits_answered limit number history gate (visit ∷ visits) last (one, rest) (h
         to = _;
         exchanges = c.exchanges;
         bytes = c.bytes;
-        held = c.held;
+        buffered = c.buffered;
         planned = c.planned;
         left = c.left;
         run = c.run;
@@ -83,7 +83,7 @@ pub if_ok_more : {A E : Type 0} (r : Result A E) (P Q : A → Type 0) → ((x : 
 if_ok_more (Ok x) P Q to h = to x h
 if_ok_more (Err e) P Q to h = tt
 
--- what is known of each turn is known of its plan
+-- what is given of each turn is given of its plan
 pub plans_known : {T : Type 0} (plan : T → Plan) (turns : List T) → All (λ turn. is_some (plan turn).waiting ≡ true) turns → AllByRecursion (λ p. is_some p.waiting ≡ true) (map plan turns)
 plans_known plan [] known = tt
 plans_known plan (turn ∷ turns) known = (known 0 turn (omega arith), plans_known plan turns (λ k d lt. known (suc k) d (omega (arith, lt))))

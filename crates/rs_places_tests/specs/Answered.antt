@@ -1,4 +1,4 @@
--- What the clients of a run whose connections are known were written.
+-- What the clients of a run whose connections are given were written.
 use Rattle.std.specs.Prelude.{◌≡◌, ℕ, List, [], ◌∷◌, ◌++◌, length, Option, Some, None}
 use Rattle.std.specs.List.{AllByRecursion}
 use Rattle.std.specs.Io.KnownBytes.{Consumes}
@@ -22,14 +22,14 @@ pub record IsAnswered (history : List Entry) (given : Streams) (ending : Ending)
   pub to : Point State
   pub exchanges : List Exchange
   pub bytes : List ℕ
-  pub held : List ℕ
+  pub buffered : List ℕ
   pub planned : List Given
   pub left : List ℕ
   pub run : Run (start assigned seen mark) exchanges to
   pub read : Consumes given.unread ending.streams.unread bytes
-  pub inputs : InputsOf (inputs_of exchanges) bytes held
+  pub inputs : InputsOf (inputs_of exchanges) bytes buffered
   -- what was decoded behind the last exchange's packet and not handled
-  pub whole : InputsOf (planned_inputs planned) held left
+  pub whole : InputsOf (planned_inputs planned) buffered left
   pub moments : TellsInOrder given.moments ending.streams.moments (moments_of exchanges ++ planned_moments planned)
   pub replies : WritesReplies ending.result given.written ending.streams.written exchanges
   pub first : Extends history seen
@@ -43,7 +43,7 @@ EachAnswered history [] (ending ∷ endings) = ⊥
 EachAnswered history (given ∷ more) [] = ⊥
 EachAnswered history (given ∷ more) (ending ∷ endings) = IsAnswered history given ending × EachAnswered history more endings
 
--- All that waited at a place, which is known, and nothing else, if it is known what ended: the first list is what waited, the others are
+-- All that waited at a place, which is given, and nothing else, if it is given what ended: the first list is what waited, the others are
 -- what had ended before and what has ended now.
 abbrev pub IsPlaceAnswered : List Entry → Option (List Streams) → Option (List Ending) → Option (List Ending) → Type 0
 IsPlaceAnswered history None before after = ⊥
