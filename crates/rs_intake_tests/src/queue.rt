@@ -8,7 +8,7 @@ mod script;
 
 use crate::samples::is_shown;
 use log::{Log, Outcome, Reading, has_totals, is_settled};
-use places::{Plan, Writing, run};
+use places::{Setup, Writing, run};
 use rs_intake::SettleFault;
 use rs_message::{Found, MAX_PLACES, Operation};
 use rs_store::MAX_TOPICS;
@@ -22,8 +22,8 @@ const TRIES: u32 = 100;
 /// How many jobs a writer takes: fewer than the places have to submit, more than one round of them.
 const JOBS: u64 = 1000;
 
-fn plan(alloc: Global, limit: u32, script: Script, writing: Writing) -> Plan {
-    Plan {
+fn setup(alloc: Global, limit: u32, script: Script, writing: Writing) -> Setup {
+    Setup {
         alloc,
         limit,
         places: MAX_PLACES,
@@ -53,15 +53,15 @@ fn has_answers(outcome: &Outcome, serial: u64, wanted: &[(u64, u8)]) -> bool {
 
 /// One of five changes finds the store full, and has no entry.
 #[test]
-fn full_store(rt: HostRuntime) -> Result<(), Fail> {
-    let plan = Plan {
+fn a_change_that_finds_the_store_full_has_no_entry(rt: HostRuntime) -> Result<(), Fail> {
+    let setup = Setup {
         alloc: rt.alloc(),
         limit: 2,
         places: 1,
         script: Script::Changes,
         writing: Writing::All,
     };
-    let outcome = run(rt, plan)?;
+    let outcome = run(rt, setup)?;
     assert!(rt; has_answers(&outcome, 5, &[(1, 0), (2, 0), (0, 40), (3, 0), (4, 0)]));
     assert!(rt; has_totals(&outcome, 5, 1, 4) && is_settled(&outcome, 5));
     Ok(())
@@ -87,15 +87,15 @@ const TOGETHER: [(u64, u8); 13] = [
 /// Jobs of three and of five changes: each change has its own answer, though the store sweeps or becomes full in the middle of a job. A
 /// change that is not the one that was sent ahead uses no serial. What is ahead of a line that is handed on was sent.
 #[test]
-fn together(rt: HostRuntime) -> Result<(), Fail> {
-    let plan = Plan {
+fn each_change_of_a_job_has_its_own_answer(rt: HostRuntime) -> Result<(), Fail> {
+    let setup = Setup {
         alloc: rt.alloc(),
         limit: 2,
         places: 1,
         script: Script::Together,
         writing: Writing::All,
     };
-    let outcome = run(rt, plan)?;
+    let outcome = run(rt, setup)?;
     assert!(rt; has_answers(&outcome, 14, &TOGETHER));
     assert!(rt; has_totals(&outcome, 14, 1, 14) && is_settled(&outcome, 14));
     Ok(())
@@ -103,8 +103,8 @@ fn together(rt: HostRuntime) -> Result<(), Fail> {
 
 /// A submit that the queue holds when it is dropped is told that its entry may come, and one that finds no queue that it was not sent.
 #[test]
-fn dropped_queue(rt: HostRuntime) -> Result<(), Fail> {
-    let plan = Plan {
+fn submits_to_a_dropped_queue_are_answered(rt: HostRuntime) -> Result<(), Fail> {
+    let setup = Setup {
         alloc: rt.alloc(),
         limit: 2,
         places: 1,
@@ -112,7 +112,7 @@ fn dropped_queue(rt: HostRuntime) -> Result<(), Fail> {
         writing: Writing::Never,
     };
     for _ in 0..TRIES {
-        let outcome = run(rt, plan)?;
+        let outcome = run(rt, setup)?;
         if has_answers(&outcome, 2, &[(0, 42), (0, 44)]) {
             return Ok(());
         }
@@ -123,37 +123,37 @@ fn dropped_queue(rt: HostRuntime) -> Result<(), Fail> {
 
 /// How many entries of the place were kept, if it was answered as it may be: from some submit on the writer had ended, before its
 /// answer or before the job.
-fn kept_of(log: &Log) -> Option<u64> {
-    let mut kept = 0u64;
+fn entries_of(log: &Log) -> Option<u64> {
+    let mut entries = 0u64;
     let mut has_ended = false;
     for answer in &log.answers {
         match answer.code {
-            0 if !has_ended => kept = kept.saturating_add(1),
+            0 if !has_ended => entries = entries.saturating_add(1),
             42 | 44 => has_ended = true,
             _ => return None,
         }
     }
-    Some(kept)
+    Some(entries)
 }
 
 /// How many entries of all places were kept. `None` if a submit was not answered as it may be.
-fn kept_of_all(outcome: &Outcome) -> Option<u64> {
+fn entries_of_all(outcome: &Outcome) -> Option<u64> {
     let mut sum = 0u64;
     for log in &outcome.logs {
         if log.answers.len() != SETS as usize {
             return None;
         }
-        sum = sum.saturating_add(kept_of(log)?);
+        sum = sum.saturating_add(entries_of(log)?);
     }
     Some(sum)
 }
 
 /// A writer that ends while all places submit: each submit is answered, and none waits for ever.
 #[test]
-fn each_is_answered(rt: HostRuntime) -> Result<(), Fail> {
-    let plan = plan(rt.alloc(), 100, Script::Hundred, Writing::Most(JOBS));
-    let outcome = run(rt, plan)?;
-    assert!(rt; has_totals(&outcome, JOBS, 0, JOBS) && kept_of_all(&outcome) == Some(JOBS));
+fn each_submit_is_answered_if_the_writer_ends(rt: HostRuntime) -> Result<(), Fail> {
+    let setup = setup(rt.alloc(), 100, Script::Hundred, Writing::Most(JOBS));
+    let outcome = run(rt, setup)?;
+    assert!(rt; has_totals(&outcome, JOBS, 0, JOBS) && entries_of_all(&outcome) == Some(JOBS));
     Ok(())
 }
 
@@ -183,9 +183,9 @@ fn reads_largest(alloc: Global, outcome: &Outcome) -> Option<bool> {
 
 /// The largest entry by one submit, from the last place. Its seat reads it as it was sent.
 #[test]
-fn largest_submit(rt: HostRuntime) -> Result<(), Fail> {
-    let plan = plan(rt.alloc(), MAX_TOPICS, Script::Largest, Writing::All);
-    let outcome = run(rt, plan)?;
+fn the_largest_entry_is_read_as_it_was_sent(rt: HostRuntime) -> Result<(), Fail> {
+    let setup = setup(rt.alloc(), MAX_TOPICS, Script::Largest, Writing::All);
+    let outcome = run(rt, setup)?;
     assert!(rt; has_totals(&outcome, 1, 0, 1) && reads_largest(rt.alloc(), &outcome) == Some(true));
     Ok(())
 }
@@ -228,8 +228,8 @@ fn read_last_sets(outcome: &Outcome) -> Option<bool> {
 
 /// All places at once: what the writer took of each place is what was sent from there.
 #[test]
-fn per_place_order(rt: HostRuntime) -> Result<(), Fail> {
-    let outcome = run(rt, plan(rt.alloc(), 100, Script::Hundred, Writing::All))?;
+fn the_entries_of_each_place_stay_in_order(rt: HostRuntime) -> Result<(), Fail> {
+    let outcome = run(rt, setup(rt.alloc(), 100, Script::Hundred, Writing::All))?;
     assert!(rt; has_totals(&outcome, 6400, 0, 6400) && is_settled(&outcome, 6400));
     assert!(rt; read_last_sets(&outcome) == Some(true));
     Ok(())
@@ -254,8 +254,8 @@ fn has_rounds(outcome: &Outcome) -> Option<bool> {
 
 /// A store that all places fill, whose messages expire, and that is filled again.
 #[test]
-fn filled_again(rt: HostRuntime) -> Result<(), Fail> {
-    let outcome = run(rt, plan(rt.alloc(), 64, Script::Rounds, Writing::All))?;
+fn a_full_store_is_filled_again_once_all_has_expired(rt: HostRuntime) -> Result<(), Fail> {
+    let outcome = run(rt, setup(rt.alloc(), 64, Script::Rounds, Writing::All))?;
     assert!(rt; has_totals(&outcome, 192, 0, 194) && is_settled(&outcome, 192));
     assert!(rt; has_rounds(&outcome) == Some(true));
     assert!(rt; read_at_last(&outcome, 194, 64) == Some(true));
@@ -264,21 +264,21 @@ fn filled_again(rt: HostRuntime) -> Result<(), Fail> {
 
 /// The other places read while one submits. Their versions never fall, and each reads the last one at the end.
 #[test]
-fn readers_beside_a_writer(rt: HostRuntime) -> Result<(), Fail> {
-    let plan = Plan {
+fn versions_that_are_read_beside_a_writer_never_fall(rt: HostRuntime) -> Result<(), Fail> {
+    let setup = Setup {
         alloc: rt.alloc(),
         limit: 4,
         places: 4,
         script: Script::Beside,
         writing: Writing::All,
     };
-    let outcome = run(rt, plan)?;
+    let outcome = run(rt, setup)?;
     assert!(rt; has_totals(&outcome, 100, 0, 100) && read_at_last(&outcome, 100, 1) == Some(true));
     Ok(())
 }
 
 #[test]
-fn codes(rt: HostRuntime) {
+fn the_fault_of_settling_has_a_code_and_a_text(rt: HostRuntime) {
     let fault = SettleFault::Unsettled;
     assert!(rt; fault.code() == 45);
     let text =

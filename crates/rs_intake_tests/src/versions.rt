@@ -5,11 +5,11 @@ mod steps;
 use crate::samples::{blank_store, is_shown};
 use rs_version::PutFault;
 use std::test::Fail;
-use steps::{Change, Look, Step, check};
+use steps::{Change, Look, Step, check_steps};
 
 /// One topic may hold a message. A refused put makes no entry, and an older token changes nothing of a seat.
 #[test]
-fn limit_of_1(rt: HostRuntime) -> Result<(), Fail> {
+fn a_refused_put_makes_no_entry(rt: HostRuntime) -> Result<(), Fail> {
     let alloc = rt.alloc();
     let steps = [
         Step::Put(Change::Set(1, 1, b'a', 0, None), (1, 0)),
@@ -21,12 +21,12 @@ fn limit_of_1(rt: HostRuntime) -> Result<(), Fail> {
         Step::At(1, Look::Learns(0)),
         Step::At(1, Look::Reads(0, 2, b"a ")),
     ];
-    check(&rt, alloc, blank_store(alloc, 1, 2)?, &steps)
+    check_steps(&rt, alloc, blank_store(alloc, 1, 2)?, &steps)
 }
 
 /// A seat's token is of what it knows, and not of what the writer published since.
 #[test]
-fn tokens_compared(rt: HostRuntime) -> Result<(), Fail> {
+fn a_seat_knows_no_more_than_it_learned(rt: HostRuntime) -> Result<(), Fail> {
     let alloc = rt.alloc();
     let steps = [
         Step::Put(Change::Set(1, 1, b'x', 0, None), (1, 0)),
@@ -38,12 +38,12 @@ fn tokens_compared(rt: HostRuntime) -> Result<(), Fail> {
         Step::At(0, Look::Compares(2, (false, true))),
         Step::At(0, Look::Knows(1)),
     ];
-    check(&rt, alloc, blank_store(alloc, 10, 1)?, &steps)
+    check_steps(&rt, alloc, blank_store(alloc, 10, 1)?, &steps)
 }
 
 /// A seat reads what is published, whether it learned of it or not.
 #[test]
-fn told_seat(rt: HostRuntime) -> Result<(), Fail> {
+fn a_seat_reads_what_is_published_learned_or_not(rt: HostRuntime) -> Result<(), Fail> {
     let alloc = rt.alloc();
     let steps = [
         Step::Put(Change::Set(1, 1, b'x', 0, None), (1, 0)),
@@ -56,7 +56,7 @@ fn told_seat(rt: HostRuntime) -> Result<(), Fail> {
         Step::At(1, Look::Reads(0, 1, b"x ")),
         Step::At(2, Look::Reads(0, 1, b"x ")),
     ];
-    check(&rt, alloc, blank_store(alloc, 10, 3)?, &steps)
+    check_steps(&rt, alloc, blank_store(alloc, 10, 3)?, &steps)
 }
 
 /// The Sweep is an entry of its own, so the number of the Set is 2 more. A seat that knows the receipt reads what is left.
@@ -78,12 +78,12 @@ fn expired_messages_make_room(rt: HostRuntime) -> Result<(), Fail> {
         Step::Put(Change::Set(1, 6, b'd', u64::MAX, None), (0, 30)),
         Step::Tells(5),
     ];
-    check(&rt, alloc, blank_store(alloc, 2, 1)?, &steps)
+    check_steps(&rt, alloc, blank_store(alloc, 2, 1)?, &steps)
 }
 
 /// Each Sweep is of the moment at which the message of its Set came, also where the clock went back.
 #[test]
-fn a_clock_that_goes_back(rt: HostRuntime) -> Result<(), Fail> {
+fn each_sweep_is_of_the_moment_of_its_set(rt: HostRuntime) -> Result<(), Fail> {
     let alloc = rt.alloc();
     let steps = [
         Step::Put(Change::Set(1, 1, b'a', 100, Some(10)), (1, 0)),
@@ -96,11 +96,11 @@ fn a_clock_that_goes_back(rt: HostRuntime) -> Result<(), Fail> {
         Step::Put(Change::Set(1, 8, b'd', 11, Some(1)), (8, 0)),
         Step::Put(Change::Set(1, 9, b'e', 11, None), (0, 30)),
     ];
-    check(&rt, alloc, blank_store(alloc, 1, 1)?, &steps)
+    check_steps(&rt, alloc, blank_store(alloc, 1, 1)?, &steps)
 }
 
 #[test]
-fn codes(rt: HostRuntime) {
+fn faults_of_a_put_have_codes_and_texts(rt: HostRuntime) {
     let rows: [(PutFault, u8, &str); 4] = [
         (
             PutFault::Full,

@@ -32,7 +32,7 @@ pub(crate) struct Log {
     pub(crate) readings: Vec<Reading>,
     /// The longest version that the place knows.
     pub(crate) known: u64,
-    /// Whether each turn was made.
+    /// Whether each step was made.
     pub(crate) is_whole: bool,
     /// Of the line, once it is closed: its last serial, and how many jobs the queue took.
     pub(crate) serial: u64,
@@ -93,7 +93,7 @@ pub(crate) struct Outcome {
     pub(crate) totals: Option<Totals>,
 }
 
-/// What the writer did, if each place took all its turns, no entry is held, and nothing is settled without the lines.
+/// What the writer did, if each place took all its steps, no entry is held, and nothing is settled without the lines.
 pub(crate) fn totals_of(outcome: &Outcome) -> Option<Totals> {
     for log in &outcome.logs {
         if !log.is_whole {

@@ -40,7 +40,7 @@ pub(crate) enum Writing {
 }
 
 #[derive(Clone, Copy)]
-pub(crate) struct Plan {
+pub(crate) struct Setup {
     pub(crate) alloc: Global,
     pub(crate) limit: u32,
     pub(crate) places: u8,
@@ -67,7 +67,7 @@ struct Task {
 }
 
 /// Fails if the count does not come to this after so many looks, since a place that waits for ever can't be joined.
-fn watch<R: Clock + Abort>(rt: &R, count: &AtomicU64, wanted: u64) {
+fn check_reaches<R: Clock + Abort>(rt: &R, count: &AtomicU64, wanted: u64) {
     for _ in 0..LOOKS {
         if count.load(Ordering::SeqCst) >= wanted {
             return;
@@ -125,20 +125,20 @@ fn submit<N: LineName, R: Wait>(
     }
 }
 
-/// The changes of so many turns, from this one on. `None` if memory is refused.
+/// The changes of so many steps, from this one on. `None` if memory is refused.
 fn changes_of(task: &Task, place: u8, first: u32, count: u32) -> Option<Vec<Operation>>
     ensures { IfSome result (λ changes. All (λ o. is_sweep o ≡ false) changes.items) }
 {
     let mut changes = Vec::new(task.alloc);
-    for turn in first..first.saturating_add(count) {
-        let change = operation_of(task.alloc, task.script.act(place, turn, 0))?;
+    for step in first..first.saturating_add(count) {
+        let change = operation_of(task.alloc, task.script.act(place, step, 0))?;
         changes.push(change).ok()?;
     }
     Some(changes)
 }
 
 /// Does what is due. `None` if memory is refused.
-fn take_turn<N: LineName, R: Wait + Clock + Abort>(
+fn take_step<N: LineName, R: Wait + Clock + Abort>(
     rt: &R,
     task: &Task,
     line: &mut SeatLine<N>,
@@ -163,7 +163,7 @@ fn take_turn<N: LineName, R: Wait + Clock + Abort>(
         Act::Meet(number) => {
             task.counts.met.fetch_add(1, Ordering::SeqCst);
             let all = u64::from(task.places).saturating_mul(number);
-            watch(rt, &task.counts.met, all);
+            check_reaches(rt, &task.counts.met, all);
             Some(())
         }
         change => {
@@ -174,7 +174,7 @@ fn take_turn<N: LineName, R: Wait + Clock + Abort>(
     }
 }
 
-/// Takes all turns.
+/// Takes all steps.
 fn follow<N: LineName, R: Wait + Clock + Abort>(
     rt: &R,
     task: &Task,
@@ -184,14 +184,14 @@ fn follow<N: LineName, R: Wait + Clock + Abort>(
 ) -> bool {
     let place = line.place();
     let mut state = first_random(task.script, place);
-    for turn in 0..task.script.turns() {
+    for step in 0..task.script.steps() {
         state = next_random(state);
         let random = state >> 32;
         if random / 16 % 3 == 0 {
             yield_now();
         }
-        let act = task.script.act(place, turn, random);
-        if take_turn(rt, task, line, seat, log, act).is_none() {
+        let act = task.script.act(place, step, random);
+        if take_step(rt, task, line, seat, log, act).is_none() {
             return false;
         }
     }
@@ -242,12 +242,12 @@ fn start_one<
     spawn(&rt, move || serve(rt, task, line, seat)).ok()
 }
 
-fn task_of(plan: Plan, counts: &Arc<Counts>) -> Option<Task> {
+fn task_of(setup: Setup, counts: &Arc<Counts>) -> Option<Task> {
     let counts = Arc::try_clone(counts).ok()?;
     Some(Task {
-        alloc: plan.alloc,
-        places: plan.places,
-        script: plan.script,
+        alloc: setup.alloc,
+        places: setup.places,
+        script: setup.script,
         counts,
     })
 }
@@ -258,14 +258,14 @@ fn start_all<
     R: Threads + Wait + Clock + Abort + Copy + Send + Sync + 'static,
 >(
     rt: R,
-    plan: Plan,
+    setup: Setup,
     counts: &Arc<Counts>,
     lines: &mut Vec<SeatLine<N>>,
     seats: &mut Vec<Seat<N>>,
     handles: &mut Vec<JoinHandle<(Log, LineEnd<N>)>>,
 ) -> Option<()> {
-    for _ in 0..plan.places {
-        let task = task_of(plan, counts)?;
+    for _ in 0..setup.places {
+        let task = task_of(setup, counts)?;
         let line = lines.pop()?;
         let seat = seats.pop()?;
         handles.push(start_one(rt, task, line, seat)?).ok()?;
@@ -278,14 +278,14 @@ fn start<
     R: Threads + Wait + Clock + Abort + Copy + Send + Sync + 'static,
 >(
     rt: R,
-    plan: Plan,
+    setup: Setup,
     counts: &Arc<Counts>,
     lines: Vec<SeatLine<N>>,
     seats: Vec<Seat<N>>,
 ) -> Option<Vec<JoinHandle<(Log, LineEnd<N>)>>> {
     let (mut lines, mut seats) = (lines, seats);
-    let mut handles = Vec::new(plan.alloc);
-    match start_all(rt, plan, counts, &mut lines, &mut seats, &mut handles) {
+    let mut handles = Vec::new(setup.alloc);
+    match start_all(rt, setup, counts, &mut lines, &mut seats, &mut handles) {
         Some(()) => Some(handles),
         None => None,
     }
@@ -341,34 +341,34 @@ fn finish<N: LineName, R: Threads + Wait + Copy>(
 fn run_named<
     N: LineName + Send + Sync + 'static,
     R: Threads + Wait + Clock + Abort + Copy + Send + Sync + 'static,
->(rt: R, blank: Blank, queue: BlankQueue, plan: Plan, counts: &Arc<Counts>) -> Option<Outcome>
+>(rt: R, blank: Blank, queue: BlankQueue, setup: Setup, counts: &Arc<Counts>) -> Option<Outcome>
     requires store { (blank.history ≡ N.history) × (blank.limit ≡ N.limit) }
     requires queue { (queue.name ≡ N.queue) × (queue.places ≡ N.places) }
 {
     let (_intake, lines, queue) = queue.open::<N>().ok()?;
     let (writer, seats) = blank.open::<N, R>(rt).ok()?;
-    let handles = start(rt, plan, counts, lines, seats)?;
-    let writing = plan.writing;
+    let handles = start(rt, setup, counts, lines, seats)?;
+    let writing = setup.writing;
     let writer = spawn(&rt, move || write(rt, queue, writer, writing)).ok()?;
-    watch(&rt, &counts.ended, u64::from(plan.places));
-    Some(finish(&rt, plan.alloc, writer, handles))
+    check_reaches(&rt, &counts.ended, u64::from(setup.places));
+    Some(finish(&rt, setup.alloc, writer, handles))
 }
 
 /// Runs all threads to their end.
 pub(crate) fn run<R: Threads + Wait + Clock + Abort + Copy + Send + Sync + 'static>(
     rt: R,
-    plan: Plan,
+    setup: Setup,
 ) -> Result<Outcome, Fail> {
     let counts = Arc::new(
-        plan.alloc,
+        setup.alloc,
         Counts {
             met: AtomicU64::new(0),
             ended: AtomicU64::new(0),
         },
     )?;
-    let blank = blank_store(plan.alloc, plan.limit, plan.places)?;
-    let places = PlaceCount::new(plan.places).ok_or("no places")?;
-    let queue = blank_queue(plan.alloc, places)?;
-    let outcome = run_named::<Brand, R>(rt, blank, queue, plan, &counts);
+    let blank = blank_store(setup.alloc, setup.limit, setup.places)?;
+    let places = PlaceCount::new(setup.places).ok_or("no places")?;
+    let queue = blank_queue(setup.alloc, places)?;
+    let outcome = run_named::<Brand, R>(rt, blank, queue, setup, &counts);
     Ok(outcome.ok_or("memory or a thread was refused")?)
 }

@@ -30,7 +30,7 @@ fn code_of<N: LineName>(reply: WriterReply<N>, entry: &Entry) -> Option<u8> {
 }
 
 /// Whether a line of this entry answers each fault as it has to, and the answer of another entry.
-fn are_told<N: LineName>(entry: &Entry) -> Option<bool> {
+fn answers_each_fault<N: LineName>(entry: &Entry) -> Option<bool> {
     let origin = entry.origin;
     let elsewhere = Origin::new(1, 2)?;
     let rows = [
@@ -70,15 +70,15 @@ fn code_of_other<N: LineName, R: Wait>(rt: &R, alloc: Global, blank: Blank) -> O
 
 /// A fault is read as what it says of this entry, and is strange if it is for another.
 #[test]
-fn faults(rt: HostRuntime) -> Result<(), Fail> {
+fn a_fault_is_read_as_what_it_says_of_its_entry(rt: HostRuntime) -> Result<(), Fail> {
     let entry = first_entry(rt.alloc(), b"1").ok_or("an entry")?;
-    assert!(rt; are_told::<Brand>(&entry) == Some(true));
+    assert!(rt; answers_each_fault::<Brand>(&entry) == Some(true));
     Ok(())
 }
 
 /// A receipt for another entry is strange.
 #[test]
-fn strange(rt: HostRuntime) -> Result<(), Fail> {
+fn a_receipt_for_another_entry_is_strange(rt: HostRuntime) -> Result<(), Fail> {
     let blank = blank_store(rt.alloc(), 2, 1)?;
     assert!(rt; code_of_other::<Brand, _>(&rt, rt.alloc(), blank) == Some(43));
     Ok(())

@@ -1,7 +1,7 @@
 //! Random schedules of eight places, compared with a store of one thread by the numbers of the receipts.
 
 use super::log::{Log, Outcome, Reading, totals_of};
-use super::places::{Plan, Writing, run};
+use super::places::{Setup, Writing, run};
 use super::script::Script;
 use rs_message::{Entry, Found};
 use rs_store::{CalmCatalogue, Catalogue, MapCatalogue, TopicLimit};
@@ -86,11 +86,11 @@ fn is_read(alloc: Global, reading: &Reading, texts: &Vec<Vec<u8>>) -> bool {
 
 /// How many entries the place has. `None` if a submit was refused for another reason than the limit of topics, or not all that the
 /// place read is as it has to be.
-fn kept_of(alloc: Global, log: &Log, texts: &Vec<Vec<u8>>) -> Option<u64> {
-    let mut kept = 0u64;
+fn entries_of(alloc: Global, log: &Log, texts: &Vec<Vec<u8>>) -> Option<u64> {
+    let mut entries = 0u64;
     for answer in &log.answers {
         match answer.code {
-            0 => kept = kept.saturating_add(1),
+            0 => entries = entries.saturating_add(1),
             40 => {}
             _ => return None,
         }
@@ -100,31 +100,31 @@ fn kept_of(alloc: Global, log: &Log, texts: &Vec<Vec<u8>>) -> Option<u64> {
             return None;
         }
     }
-    Some(kept)
+    Some(entries)
 }
 
 /// Whether the run has one history, which all places read. A refused change makes no entry.
 fn has_one_history(alloc: Global, outcome: &Outcome) -> Option<bool> {
     let version = totals_of(outcome)?.version;
     let texts = texts(alloc, &outcome.logs, version)?;
-    let mut kept = 0u64;
+    let mut entries = 0u64;
     for log in &outcome.logs {
-        kept = kept.saturating_add(kept_of(alloc, log, &texts)?);
+        entries = entries.saturating_add(entries_of(alloc, log, &texts)?);
     }
-    Some(kept == version)
+    Some(entries == version)
 }
 
 #[test]
-fn random_schedules(rt: HostRuntime) -> Result<(), Fail> {
+fn random_schedules_have_one_history(rt: HostRuntime) -> Result<(), Fail> {
     for seed in 0..RUNS {
-        let plan = Plan {
+        let setup = Setup {
             alloc: rt.alloc(),
             limit: TOPICS,
             places: 8,
             script: Script::Random(seed),
             writing: Writing::All,
         };
-        let outcome = run(rt, plan)?;
+        let outcome = run(rt, setup)?;
         assert!(rt;
             has_one_history(rt.alloc(), &outcome) == Some(true),
             "seed {seed}"

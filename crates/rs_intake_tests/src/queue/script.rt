@@ -14,7 +14,7 @@ pub(crate) const SETS: u32 = 100;
 /// How often a place of `Beside` reads meanwhile.
 const READS: u32 = 500;
 
-/// What a place does in one turn.
+/// What a place does in one step.
 #[derive(Clone, Copy)]
 pub(crate) enum Act {
     /// Submits a Set: its topic, its payload, the moment at which the message came, and for how long it lasts.
@@ -23,7 +23,7 @@ pub(crate) enum Act {
     Largest,
     /// Submits the Clear of a topic.
     Clear([u8; 2]),
-    /// Announces the changes of so many turns, from this one on.
+    /// Announces the changes of so many steps, from this one on.
     Expect(u32, u32),
     /// Hands the line on.
     HandOn,
@@ -34,7 +34,7 @@ pub(crate) enum Act {
     Nothing,
 }
 
-/// What the places do, turn by turn.
+/// What the places do, step by step.
 #[derive(Clone, Copy)]
 pub(crate) enum Script {
     /// Five changes of four topics.
@@ -56,8 +56,8 @@ pub(crate) enum Script {
 }
 
 impl Script {
-    /// How many turns there are.
-    pub(crate) fn turns(&self) -> u32 {
+    /// How many steps there are.
+    pub(crate) fn steps(&self) -> u32 {
         match self {
             Script::Changes => 5,
             Script::Together => 17,
@@ -69,18 +69,18 @@ impl Script {
         }
     }
 
-    /// What the place does in this turn.
-    pub(crate) fn act(&self, place: u8, turn: u32, random: u64) -> Act {
+    /// What the place does in this step.
+    pub(crate) fn act(&self, place: u8, step: u32, random: u64) -> Act {
         match self {
-            Script::Changes | Script::Two => change_at(turn),
-            Script::Together => act_together(turn),
-            Script::Hundred => act_of_hundred(place, turn),
+            Script::Changes | Script::Two => change_at(step),
+            Script::Together => act_together(step),
+            Script::Hundred => act_of_hundred(place, step),
             Script::Largest if place < MAX_PLACES => Act::Nothing,
-            Script::Largest if turn == 0 => Act::Largest,
+            Script::Largest if step == 0 => Act::Largest,
             Script::Largest => Act::Read(u64::MAX),
-            Script::Beside => act_beside(place, turn),
-            Script::Rounds => act_of_round(place, turn),
-            Script::Random(_) => any_act(place, turn, random),
+            Script::Beside => act_beside(place, step),
+            Script::Rounds => act_of_round(place, step),
+            Script::Random(_) => any_act(place, step, random),
         }
     }
 }
@@ -97,8 +97,8 @@ fn set(topic: [u8; 2], payload: [u8; 2]) -> Act {
     Act::Set(topic, payload, 0, None)
 }
 
-fn change_at(turn: u32) -> Act {
-    match turn {
+fn change_at(step: u32) -> Act {
+    match step {
         0 => set(*b"a0", *b"00"),
         1 => set(*b"b0", *b"01"),
         2 => set(*b"c0", *b"02"),
@@ -110,8 +110,8 @@ fn change_at(turn: u32) -> Act {
 /// In a store of two topics. The third change of the first job needs a Sweep. In the second job, the first change replaces a message, the
 /// second one fills the store, the third one finds it full, and the others are kept. In the third job, the second change is not what is
 /// submitted then, and the line is handed on.
-fn act_together(turn: u32) -> Act {
-    match turn {
+fn act_together(step: u32) -> Act {
+    match step {
         0 => Act::Expect(1, 3),
         1 => Act::Set(*b"a0", *b"01", 10, Some(1)),
         2 => Act::Set(*b"b0", *b"02", 10, Some(1)),
@@ -131,11 +131,11 @@ fn act_together(turn: u32) -> Act {
     }
 }
 
-fn act_of_hundred(place: u8, turn: u32) -> Act {
-    if turn < SETS {
-        return set(pair(place, 0), pair(0, turn));
+fn act_of_hundred(place: u8, step: u32) -> Act {
+    if step < SETS {
+        return set(pair(place, 0), pair(0, step));
     }
-    if turn == SETS {
+    if step == SETS {
         return Act::Meet(1);
     }
     Act::Read(0)
@@ -146,33 +146,33 @@ pub(crate) fn last_of_hundred() -> [u8; 2] {
     pair(0, SETS - 1)
 }
 
-fn act_beside(place: u8, turn: u32) -> Act {
-    if turn == READS {
+fn act_beside(place: u8, step: u32) -> Act {
+    if step == READS {
         return Act::Meet(1);
     }
-    if place > 1 || turn > READS {
+    if place > 1 || step > READS {
         return Act::Read(0);
     }
-    if turn < SETS {
-        return set(*b"a0", pair(0, turn));
+    if step < SETS {
+        return set(*b"a0", pair(0, step));
     }
     Act::Nothing
 }
 
 /// The moments of the rounds are 10, 20 and 30.
-fn act_of_round(place: u8, turn: u32) -> Act {
-    if turn > 5 {
+fn act_of_round(place: u8, step: u32) -> Act {
+    if step > 5 {
         return Act::Read(30);
     }
-    let round = turn / 2 + 1;
-    if turn % 2 == 1 {
+    let round = step / 2 + 1;
+    if step % 2 == 1 {
         return Act::Meet(u64::from(round));
     }
     Act::Set(pair(place, round), *b"00", u64::from(round) * 10, Some(1))
 }
 
-/// In a third of the turns a read, else a Set of one of four topics, three of four times, or its Clear.
-fn any_act(place: u8, turn: u32, random: u64) -> Act {
+/// In a third of the steps a read, else a Set of one of four topics, three of four times, or its Clear.
+fn any_act(place: u8, step: u32, random: u64) -> Act {
     if random / 64 % 3 == 0 {
         return Act::Read(0);
     }
@@ -180,7 +180,7 @@ fn any_act(place: u8, turn: u32, random: u64) -> Act {
     if random / 4 % 4 == 0 {
         return Act::Clear(topic);
     }
-    set(topic, pair(place, turn))
+    set(topic, pair(place, step))
 }
 
 fn repeated(alloc: Global, byte: u8, count: usize) -> Option<Vec<u8>> {

@@ -206,7 +206,7 @@ fn answered_by<N: StoreName, R: Wait>(
 }
 
 /// Makes the calls, one after the other. Each has to answer what it says.
-pub(crate) fn check<R: Wait + Abort>(
+pub(crate) fn check_steps<R: Wait + Abort>(
     rt: &R,
     alloc: Global,
     blank: Blank,

@@ -1,4 +1,4 @@
-use Rattle.rs_intake_tests.proofs.versions.steps.check.Given as goal
+use Rattle.rs_intake_tests.proofs.versions.steps.check_steps.Given as goal
 
 -- the store that was just made
 abbrev pub ghosts-answered_by : goal.ghosts-answered_by
