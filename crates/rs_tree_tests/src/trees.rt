@@ -67,7 +67,7 @@ fn within<C: Catalogue>(
 }
 
 /// The filter is answered as many as there is room for, and not with one less.
-fn as_many<C: Catalogue>(
+fn check_as_many<C: Catalogue>(
     rt: &impl Abort,
     catalogue: &C,
     filter: &TopicFilter,

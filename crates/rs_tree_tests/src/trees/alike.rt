@@ -3,9 +3,11 @@
 ghost use Rattle.std.specs.Prelude.{◌≡◌, ◌<◌, false, IfOk};
 ghost use Rattle.rs_message.specs.Messages.{is_sweep};
 
-use super::joined::{cleared_rows, deep, lone_messages, narrow_rows, swept_rows};
-use super::wide::{grown, swept_grown};
-use super::{as_many, origin, set_at};
+use super::joined::{
+    check_cleared_rows, check_deep, check_lone_messages, check_narrow_rows, check_swept_rows,
+};
+use super::wide::{check_grown, check_swept_grown};
+use super::{check_as_many, origin, set_at};
 use rs_message::{Entry, Operation};
 use rs_store::{CalmCatalogue, Catalogue, MapCatalogue, Refusal, TopicLimit};
 use rs_topic::{TopicFilter, TopicName};
@@ -134,7 +136,7 @@ pub fn answer_of<C: Catalogue>(
 }
 
 /// The filter is answered alike at a given time. Says whether there was anything to find.
-pub fn answers_alike<C: Catalogue, D: Catalogue>(
+pub fn check_answers_alike<C: Catalogue, D: Catalogue>(
     rt: &impl Abort,
     alloc: Global,
     first: &C,
@@ -149,7 +151,7 @@ pub fn answers_alike<C: Catalogue, D: Catalogue>(
 }
 
 /// Both answer within a room as many messages as the first answers without one.
-fn as_many_alike<C: Catalogue, D: Catalogue>(
+fn check_as_many_alike<C: Catalogue, D: Catalogue>(
     rt: &impl Abort,
     first: &C,
     second: &D,
@@ -157,13 +159,13 @@ fn as_many_alike<C: Catalogue, D: Catalogue>(
     now: u64,
 ) -> Result<(), Fail> {
     let many = first.answer(filter, now)?.len();
-    as_many(rt, first, filter, now, many)?;
-    as_many(rt, second, filter, now, many)?;
+    check_as_many(rt, first, filter, now, many)?;
+    check_as_many(rt, second, filter, now, many)?;
     Ok(())
 }
 
 /// The filter is answered alike. Says whether there was anything to find.
-pub fn is_alike<C: Catalogue, D: Catalogue>(
+pub fn check_filter_alike<C: Catalogue, D: Catalogue>(
     rt: &impl Abort,
     alloc: Global,
     first: &C,
@@ -173,15 +175,15 @@ pub fn is_alike<C: Catalogue, D: Catalogue>(
     let filter = TopicFilter::read(alloc, filter)?;
     let mut any = false;
     for now in [100, 111, 125] {
-        let some = answers_alike(rt, alloc, first, second, &filter, now)?;
-        as_many_alike(rt, first, second, &filter, now)?;
+        let some = check_answers_alike(rt, alloc, first, second, &filter, now)?;
+        check_as_many_alike(rt, first, second, &filter, now)?;
         any = any || some;
     }
     Ok(any)
 }
 
 /// 50 filters are answered alike, and 20 of them at least find something.
-fn are_alike<C: Catalogue, D: Catalogue>(
+fn check_drawn_filters<C: Catalogue, D: Catalogue>(
     rt: &impl Abort,
     alloc: Global,
     first: &C,
@@ -191,7 +193,7 @@ fn are_alike<C: Catalogue, D: Catalogue>(
     let mut some: u32 = 0;
     for _ in 0..50 {
         let filter = filter_of(alloc, &mut draw)?;
-        if is_alike(rt, alloc, first, second, filter.as_slice())? {
+        if check_filter_alike(rt, alloc, first, second, filter.as_slice())? {
             some = some.saturating_add(1);
         }
     }
@@ -200,7 +202,7 @@ fn are_alike<C: Catalogue, D: Catalogue>(
 }
 
 /// 1,000 entries: each is accepted or rejected alike.
-fn entries<C: Catalogue, D: Catalogue>(
+fn check_entries_alike<C: Catalogue, D: Catalogue>(
     rt: &impl Abort,
     alloc: Global,
     first: &mut CalmCatalogue<C>,
@@ -218,27 +220,27 @@ fn entries<C: Catalogue, D: Catalogue>(
 }
 
 /// Copies are alike too.
-fn copies_are_alike<C: Catalogue + Drop, D: Catalogue + Drop>(
+fn check_copies_alike<C: Catalogue + Drop, D: Catalogue + Drop>(
     rt: &impl Abort,
     alloc: Global,
     first: &C,
     second: &D,
 ) -> Result<(), Fail> {
-    are_alike(rt, alloc, &first.copy()?, &second.copy()?)
+    check_drawn_filters(rt, alloc, &first.copy()?, &second.copy()?)
 }
 
 /// Many entries in both, which are alike then.
-fn filled<C: Catalogue + Drop>(
+fn check_filled<C: Catalogue + Drop>(
     rt: &impl Abort,
     alloc: Global,
     map: &mut CalmCatalogue<C>,
     tree: &mut CalmCatalogue<TreeCatalogue>,
 ) -> Result<(), Fail> {
-    entries(rt, alloc, map, tree)?;
+    check_entries_alike(rt, alloc, map, tree)?;
     let (map, tree) = (map.catalogue(), tree.catalogue());
     assert!(rt; 250 < map.count());
-    are_alike(rt, alloc, map, tree)?;
-    copies_are_alike(rt, alloc, map, tree)
+    check_drawn_filters(rt, alloc, map, tree)?;
+    check_copies_alike(rt, alloc, map, tree)
 }
 
 /// Sets or clears one topic in both.
@@ -256,7 +258,7 @@ pub fn put_both(
 }
 
 /// The filters are answered alike, and both count and expire alike.
-pub fn all_alike<C: Catalogue, D: Catalogue>(
+pub fn check_all_alike<C: Catalogue, D: Catalogue>(
     rt: &impl Abort,
     alloc: Global,
     first: &C,
@@ -264,7 +266,7 @@ pub fn all_alike<C: Catalogue, D: Catalogue>(
     filters: &[&[u8]],
 ) -> Result<(), Fail> {
     for filter in filters {
-        is_alike(rt, alloc, first, second, filter)?;
+        check_filter_alike(rt, alloc, first, second, filter)?;
     }
     assert!(rt; first.count() == second.count());
     assert!(rt; first.expired(115) == second.expired(115));
@@ -285,23 +287,23 @@ pub enum Case {
     SweptGrown,
 }
 
-pub fn check(rt: &impl Abort, alloc: Global, topics: u32, check: Case) -> Result<(), Fail> {
+pub fn check_case(rt: &impl Abort, alloc: Global, topics: u32, case: Case) -> Result<(), Fail> {
     let limit = TopicLimit::new(topics).ok_or("a limit")?;
     let mut map: CalmCatalogue<MapCatalogue> = CalmCatalogue::new(alloc, limit)?;
     let mut tree: CalmCatalogue<TreeCatalogue> = CalmCatalogue::new(alloc, limit)?;
-    match check {
-        Case::Entries => filled(rt, alloc, &mut map, &mut tree),
-        Case::Deep => deep(rt, alloc, &mut map, &mut tree),
-        Case::LoneMessages => lone_messages(rt, alloc, &mut map, &mut tree),
-        Case::ClearedRows => cleared_rows(rt, alloc, &mut map, &mut tree),
-        Case::SweptRows => swept_rows(rt, alloc, &mut map, &mut tree),
-        Case::NarrowRows => narrow_rows(rt, alloc, &mut map, &mut tree),
-        Case::Grown(step) => grown(rt, alloc, &mut map, &mut tree, step),
-        Case::SweptGrown => swept_grown(rt, alloc, &mut map, &mut tree),
+    match case {
+        Case::Entries => check_filled(rt, alloc, &mut map, &mut tree),
+        Case::Deep => check_deep(rt, alloc, &mut map, &mut tree),
+        Case::LoneMessages => check_lone_messages(rt, alloc, &mut map, &mut tree),
+        Case::ClearedRows => check_cleared_rows(rt, alloc, &mut map, &mut tree),
+        Case::SweptRows => check_swept_rows(rt, alloc, &mut map, &mut tree),
+        Case::NarrowRows => check_narrow_rows(rt, alloc, &mut map, &mut tree),
+        Case::Grown(step) => check_grown(rt, alloc, &mut map, &mut tree, step),
+        Case::SweptGrown => check_swept_grown(rt, alloc, &mut map, &mut tree),
     }
 }
 
 #[test]
-fn both_alike(rt: HostRuntime) -> Result<(), Fail> {
-    check(&rt, rt.alloc(), 300, Case::Entries)
+fn both_catalogues_answer_alike(rt: HostRuntime) -> Result<(), Fail> {
+    check_case(&rt, rt.alloc(), 300, Case::Entries)
 }

@@ -136,7 +136,7 @@ fn says<C: Catalogue>(alloc: Global, catalogue: &C, fact: Fact) -> Result<bool, 
 }
 
 /// Makes the steps in a store, which sweeps by itself.
-fn in_store<C: Catalogue>(
+fn check_in_store<C: Catalogue>(
     rt: &impl Abort,
     alloc: Global,
     store: &mut CalmCatalogue<C>,
@@ -153,7 +153,7 @@ fn in_store<C: Catalogue>(
 }
 
 /// Makes the steps in a catalogue.
-fn in_catalogue<C: Catalogue>(
+fn check_in_catalogue<C: Catalogue>(
     rt: &impl Abort,
     alloc: Global,
     catalogue: &mut C,
@@ -170,7 +170,7 @@ fn in_catalogue<C: Catalogue>(
 }
 
 /// The catalogue says all of this.
-fn says_all<C: Catalogue>(
+fn check_says_all<C: Catalogue>(
     rt: &impl Abort,
     alloc: Global,
     catalogue: &C,
@@ -192,11 +192,11 @@ fn check_store<C: Catalogue + Drop>(
     facts: &[Fact],
 ) -> Result<(), Fail> {
     let mut store: CalmCatalogue<C> = CalmCatalogue::new(alloc, limit)?;
-    in_store(rt, alloc, &mut store, steps[0])?;
-    says_all(rt, alloc, store.catalogue(), facts)?;
+    check_in_store(rt, alloc, &mut store, steps[0])?;
+    check_says_all(rt, alloc, store.catalogue(), facts)?;
     let copy = store.catalogue().copy()?;
-    in_store(rt, alloc, &mut store, steps[1])?;
-    says_all(rt, alloc, &copy, facts)
+    check_in_store(rt, alloc, &mut store, steps[1])?;
+    check_says_all(rt, alloc, &copy, facts)
 }
 
 fn check_stores(
@@ -219,8 +219,8 @@ fn check_catalogues(
     steps: &[Step],
 ) -> Result<(), Fail> {
     let limit = TopicLimit::new(topics).ok_or("a limit")?;
-    in_catalogue(rt, alloc, &mut MapCatalogue::new(alloc, limit)?, steps)?;
-    in_catalogue(rt, alloc, &mut TreeCatalogue::new(alloc, limit)?, steps)
+    check_in_catalogue(rt, alloc, &mut MapCatalogue::new(alloc, limit)?, steps)?;
+    check_in_catalogue(rt, alloc, &mut TreeCatalogue::new(alloc, limit)?, steps)
 }
 
 const FULL_AND_STALE: &[Step] = &[
@@ -238,12 +238,12 @@ const FULL_AND_STALE: &[Step] = &[
 ];
 
 #[test]
-fn full_and_stale(rt: HostRuntime) -> Result<(), Fail> {
+fn a_full_store_and_a_stale_serial_refuse(rt: HostRuntime) -> Result<(), Fail> {
     check_stores(&rt, rt.alloc(), 2, [FULL_AND_STALE, &[]], &[])
 }
 
 #[test]
-fn limits(rt: HostRuntime) -> Result<(), Fail> {
+fn a_limit_is_1_to_65_536(rt: HostRuntime) -> Result<(), Fail> {
     assert!(rt; TopicLimit::new(0).is_none());
     assert!(rt; TopicLimit::new(MAX_TOPICS + 1).is_none());
     assert!(rt; TopicLimit::new(1).ok_or("the least")?.get() == 1);
@@ -273,7 +273,7 @@ const BY_LEVELS: &[Fact] = &[
 ];
 
 #[test]
-fn levels(rt: HostRuntime) -> Result<(), Fail> {
+fn topics_are_answered_by_levels(rt: HostRuntime) -> Result<(), Fail> {
     check_stores(&rt, rt.alloc(), 10, [SET_BY_LEVELS, &[]], BY_LEVELS)
 }
 
@@ -300,7 +300,7 @@ const COPIED: &[Fact] = &[
 ];
 
 #[test]
-fn copies(rt: HostRuntime) -> Result<(), Fail> {
+fn a_copy_keeps_what_the_first_loses(rt: HostRuntime) -> Result<(), Fail> {
     check_stores(&rt, rt.alloc(), 10, [BEFORE_A_COPY, AFTER_A_COPY], COPIED)
 }
 
@@ -323,7 +323,7 @@ const ROOM_MADE: &[Step] = &[
 ];
 
 #[test]
-fn room_made(rt: HostRuntime) -> Result<(), Fail> {
+fn an_expired_message_makes_room(rt: HostRuntime) -> Result<(), Fail> {
     check_stores(&rt, rt.alloc(), 1, [ROOM_MADE, &[]], &[])
 }
 
@@ -343,7 +343,7 @@ const SWEEPS_JUDGED: &[Step] = &[
 ];
 
 #[test]
-fn sweeps_judged(rt: HostRuntime) -> Result<(), Fail> {
+fn a_sweep_is_refused_only_if_it_is_stale(rt: HostRuntime) -> Result<(), Fail> {
     check_catalogues(&rt, rt.alloc(), 1, SWEEPS_JUDGED)
 }
 
@@ -383,7 +383,7 @@ const FIRST_TO_EXPIRE: &[Step] = &[
 ];
 
 #[test]
-fn first_to_expire(rt: HostRuntime) -> Result<(), Fail> {
+fn the_first_to_expire_is_known(rt: HostRuntime) -> Result<(), Fail> {
     check_catalogues(&rt, rt.alloc(), 10, FIRST_TO_EXPIRE)
 }
 
@@ -412,7 +412,7 @@ fn is_shown(alloc: Global, refusal: Refusal, text: &str) -> Result<bool, Fail> {
 }
 
 #[test]
-fn codes(rt: HostRuntime) -> Result<(), Fail> {
+fn refusals_have_codes_and_texts(rt: HostRuntime) -> Result<(), Fail> {
     for (refusal, code, text) in REFUSALS {
         assert!(rt; refusal.code() == *code);
         assert!(rt; is_shown(rt.alloc(), *refusal, text)?);

@@ -1,6 +1,6 @@
 //! How many branches are left when messages go.
 
-use super::alike::{Case, LATE, all_alike, check, put_both};
+use super::alike::{Case, LATE, check_all_alike, check_case, put_both};
 use rs_store::{CalmCatalogue, Catalogue, MapCatalogue};
 use rs_tree::TreeCatalogue;
 use std::alloc::Global;
@@ -21,7 +21,7 @@ fn below(alloc: Global, levels: u64, last: &[u8]) -> Result<Vec<u8>, Fail> {
 }
 
 /// Sets or clears a topic at each level, in a mixed order.
-fn at_each_level(
+fn check_each_level(
     rt: &impl Abort,
     alloc: Global,
     map: &mut CalmCatalogue<MapCatalogue>,
@@ -33,14 +33,14 @@ fn at_each_level(
         let name = below(alloc, i * 37 % 127, last)?;
         put_both(alloc, map, tree, name.as_slice(), kind)?;
         if i % 16 == 0 {
-            all_alike(rt, alloc, map.catalogue(), tree.catalogue(), FILTERS)?;
+            check_all_alike(rt, alloc, map.catalogue(), tree.catalogue(), FILTERS)?;
         }
     }
     Ok(())
 }
 
 /// There are branches while levels are shared, and then no more. A copy keeps its own.
-pub fn deep(
+pub fn check_deep(
     rt: &impl Abort,
     alloc: Global,
     map: &mut CalmCatalogue<MapCatalogue>,
@@ -49,23 +49,23 @@ pub fn deep(
     put_both(alloc, map, tree, below(alloc, 127, b"c")?.as_slice(), 1)?;
     put_both(alloc, map, tree, below(alloc, 127, b"d")?.as_slice(), 1)?;
     assert!(rt; tree.catalogue().branches() == 1);
-    at_each_level(rt, alloc, map, tree, 1)?;
+    check_each_level(rt, alloc, map, tree, 1)?;
     assert!(rt; 100 < tree.catalogue().branches());
     let (old_map, old_tree) = (map.catalogue().copy()?, tree.catalogue().copy()?);
-    at_each_level(rt, alloc, map, tree, 4)?;
+    check_each_level(rt, alloc, map, tree, 4)?;
     assert!(rt; (tree.catalogue().count(), tree.catalogue().branches()) == (2, 1));
-    all_alike(rt, alloc, map.catalogue(), tree.catalogue(), FILTERS)?;
+    check_all_alike(rt, alloc, map.catalogue(), tree.catalogue(), FILTERS)?;
     assert!(rt; 100 < old_tree.branches());
-    all_alike(rt, alloc, &old_map, &old_tree, FILTERS)
+    check_all_alike(rt, alloc, &old_map, &old_tree, FILTERS)
 }
 
 #[test]
-fn shared_levels(rt: HostRuntime) -> Result<(), Fail> {
-    check(&rt, rt.alloc(), 300, Case::Deep)
+fn branches_stand_while_levels_are_shared(rt: HostRuntime) -> Result<(), Fail> {
+    check_case(&rt, rt.alloc(), 300, Case::Deep)
 }
 
 /// Sets a topic and eight below it, which are then cleared.
-fn left_alone(
+fn check_left_alone(
     rt: &impl Abort,
     alloc: Global,
     map: &mut CalmCatalogue<MapCatalogue>,
@@ -87,13 +87,13 @@ fn left_alone(
             )?;
         }
         assert!(rt; kind == 4 || 1 < tree.catalogue().branches());
-        all_alike(rt, alloc, map.catalogue(), tree.catalogue(), FILTERS)?;
+        check_all_alike(rt, alloc, map.catalogue(), tree.catalogue(), FILTERS)?;
     }
     Ok(())
 }
 
 /// A topic that is alone again below its branch takes the branch's place.
-pub fn lone_messages(
+pub fn check_lone_messages(
     rt: &impl Abort,
     alloc: Global,
     map: &mut CalmCatalogue<MapCatalogue>,
@@ -101,7 +101,7 @@ pub fn lone_messages(
 ) -> Result<(), Fail> {
     let names: [&[u8]; 5] = [b"a/a", b"a/b", b"b/a", b"b/b", b"c"];
     for name in names {
-        left_alone(rt, alloc, map, tree, name)?;
+        check_left_alone(rt, alloc, map, tree, name)?;
     }
     // The root, and those of `a` and `b`, which have two children.
     let tree = tree.catalogue();
@@ -111,7 +111,7 @@ pub fn lone_messages(
 
 #[test]
 fn lone_messages_are_joined(rt: HostRuntime) -> Result<(), Fail> {
-    check(&rt, rt.alloc(), 300, Case::LoneMessages)
+    check_case(&rt, rt.alloc(), 300, Case::LoneMessages)
 }
 
 /// Sets or clears many topics at each of three places, of which one stays at each.
@@ -133,7 +133,7 @@ fn put_many(
 }
 
 /// Many messages are cleared. No row is left, and no branch beside the root.
-pub fn cleared_rows(
+pub fn check_cleared_rows(
     rt: &impl Abort,
     alloc: Global,
     map: &mut CalmCatalogue<MapCatalogue>,
@@ -142,7 +142,7 @@ pub fn cleared_rows(
     put_many(alloc, map, tree, 1)?;
     assert!(rt; 10 < tree.catalogue().branches());
     put_many(alloc, map, tree, 4)?;
-    all_alike(rt, alloc, map.catalogue(), tree.catalogue(), FILTERS)?;
+    check_all_alike(rt, alloc, map.catalogue(), tree.catalogue(), FILTERS)?;
     let tree = tree.catalogue();
     assert!(rt; tree.count() == 3 && tree.branches() == 1);
     Ok(())
@@ -150,11 +150,11 @@ pub fn cleared_rows(
 
 #[test]
 fn cleared_rows_are_joined(rt: HostRuntime) -> Result<(), Fail> {
-    check(&rt, rt.alloc(), 600, Case::ClearedRows)
+    check_case(&rt, rt.alloc(), 600, Case::ClearedRows)
 }
 
 /// Many messages expire, and the store makes room. No row is left, and no branch beside the root.
-pub fn swept_rows(
+pub fn check_swept_rows(
     rt: &impl Abort,
     alloc: Global,
     map: &mut CalmCatalogue<MapCatalogue>,
@@ -163,7 +163,7 @@ pub fn swept_rows(
     put_many(alloc, map, tree, 0)?;
     assert!(rt; 10 < tree.catalogue().branches());
     put_both(alloc, map, tree, b"late", LATE)?;
-    all_alike(rt, alloc, map.catalogue(), tree.catalogue(), FILTERS)?;
+    check_all_alike(rt, alloc, map.catalogue(), tree.catalogue(), FILTERS)?;
     let tree = tree.catalogue();
     assert!(rt; tree.count() == 4 && tree.branches() == 1);
     Ok(())
@@ -171,12 +171,12 @@ pub fn swept_rows(
 
 #[test]
 fn swept_rows_are_joined(rt: HostRuntime) -> Result<(), Fail> {
-    check(&rt, rt.alloc(), 600, Case::SweptRows)
+    check_case(&rt, rt.alloc(), 600, Case::SweptRows)
 }
 
 /// Sets many topics before those that are there and clears all of them but one, time and again. The rows that are left stand in one
 /// another, but no deeper each time.
-pub fn narrow_rows(
+pub fn check_narrow_rows(
     rt: &impl Abort,
     alloc: Global,
     map: &mut CalmCatalogue<MapCatalogue>,
@@ -189,7 +189,7 @@ pub fn narrow_rows(
             put_both(alloc, map, tree, name.as_bytes(), kind)?;
         }
     }
-    all_alike(rt, alloc, map.catalogue(), tree.catalogue(), FILTERS)?;
+    check_all_alike(rt, alloc, map.catalogue(), tree.catalogue(), FILTERS)?;
     let tree = tree.catalogue();
     assert!(rt; tree.count() == 9 && tree.branches() < 9);
     Ok(())
@@ -197,5 +197,5 @@ pub fn narrow_rows(
 
 #[test]
 fn narrow_rows_are_undone(rt: HostRuntime) -> Result<(), Fail> {
-    check(&rt, rt.alloc(), 600, Case::NarrowRows)
+    check_case(&rt, rt.alloc(), 600, Case::NarrowRows)
 }

@@ -69,7 +69,7 @@ fn step(alloc: Global, draw: &mut Draw, tree: &mut TreeCatalogue, serial: u64) -
 }
 
 /// The copies that were taken a thousand entries before show what they did then. Returns how many they are.
-fn looked_at(
+fn check_later(
     rt: &impl Abort,
     alloc: Global,
     snapshots: &[Snapshot],
@@ -88,7 +88,7 @@ fn looked_at(
 }
 
 /// Copies at random moments, and looks at each again.
-fn copied(
+fn check_copies(
     rt: &impl Abort,
     alloc: Global,
     tree: &mut TreeCatalogue,
@@ -102,7 +102,7 @@ fn copied(
         if draw.below(40) == 0 {
             snapshots.push(taken(alloc, tree, filter, entries)?)?;
         }
-        let looked = looked_at(rt, alloc, snapshots.as_slice(), filter, entries)?;
+        let looked = check_later(rt, alloc, snapshots.as_slice(), filter, entries)?;
         count = count.saturating_add(looked);
     }
     assert!(rt; 30 < count);
@@ -110,7 +110,7 @@ fn copied(
 }
 
 /// Takes copies of a tree and drops them. Says whether all show what they are to show.
-fn are_same(alloc: Global, tree: TreeCatalogue, filter: TopicFilter, wanted: Vec<u8>) -> bool {
+fn show_the_same(alloc: Global, tree: TreeCatalogue, filter: TopicFilter, wanted: Vec<u8>) -> bool {
     for _ in 0..COPIES {
         let Ok(copy) = tree.copy() else {
             return false;
@@ -134,11 +134,11 @@ fn start<R: Threads>(
 ) -> Result<JoinHandle<bool>, Fail> {
     let wanted = shown_by(alloc, tree, filter)?;
     let (copy, filter) = (tree.copy()?, filter.copy()?);
-    Ok(spawn(rt, move || are_same(alloc, copy, filter, wanted))?)
+    Ok(spawn(rt, move || show_the_same(alloc, copy, filter, wanted))?)
 }
 
 /// Changes the tree while threads read copies of it.
-fn read_beside<R: Threads + Abort>(
+fn check_readers<R: Threads + Abort>(
     rt: &R,
     alloc: Global,
     tree: &mut TreeCatalogue,
@@ -159,13 +159,13 @@ fn read_beside<R: Threads + Abort>(
 }
 
 #[test]
-fn snapshots_stay(rt: HostRuntime) -> Result<(), Fail> {
+fn copies_show_what_they_did_when_taken(rt: HostRuntime) -> Result<(), Fail> {
     let alloc = rt.alloc();
     let limit = TopicLimit::new(500).ok_or("500 is a limit")?;
     let filter = TopicFilter::read(alloc, b"#")?;
     let mut tree = TreeCatalogue::new(alloc, limit)?;
-    copied(&rt, alloc, &mut tree, &filter)?;
-    read_beside(&rt, alloc, &mut tree, &filter)?;
+    check_copies(&rt, alloc, &mut tree, &filter)?;
+    check_readers(&rt, alloc, &mut tree, &filter)?;
     assert!(rt; 100 < tree.count());
     Ok(())
 }

@@ -1,6 +1,6 @@
 //! Sweeps in both catalogues, and what is expired before and after them.
 
-use super::alike::{Draw, is_alike, name_of};
+use super::alike::{Draw, check_filter_alike, name_of};
 use super::examples::take;
 use super::{origin, set_at};
 use rs_message::{Entry, Operation, Origin};
@@ -31,7 +31,7 @@ fn numbers<C: Catalogue>(catalogue: &C, moment: u64) -> (u64, u64, u32, u32) {
 }
 
 /// Sweeps at a moment: the messages that were expired then are gone, and no other.
-fn sweep<C: Catalogue>(rt: &impl Abort, catalogue: &mut C, moment: u64) -> Result<(), Fail> {
+fn check_sweep<C: Catalogue>(rt: &impl Abort, catalogue: &mut C, moment: u64) -> Result<(), Fail> {
     let (version, serial, _, others) = numbers(catalogue, moment);
     let (version, serial) = (version.saturating_add(1), serial.saturating_add(1));
     assert!(rt; take(catalogue, sweep_of(serial, moment)?)?.is_none());
@@ -41,7 +41,7 @@ fn sweep<C: Catalogue>(rt: &impl Abort, catalogue: &mut C, moment: u64) -> Resul
 }
 
 /// The same numbers, and as many expired at moments before, among and after those that come.
-fn is_same<C: Catalogue, D: Catalogue>(rt: &impl Abort, first: &C, second: &D) {
+fn check_same<C: Catalogue, D: Catalogue>(rt: &impl Abort, first: &C, second: &D) {
     assert!(rt; (second.version(), second.count()) == (first.version(), first.count()));
     assert!(rt;
         (second.last_serial(0), second.last_serial(1))
@@ -53,7 +53,7 @@ fn is_same<C: Catalogue, D: Catalogue>(rt: &impl Abort, first: &C, second: &D) {
 }
 
 /// Both say from which moment on something is expired, and something is at a moment just if that has come.
-fn is_told<C: Catalogue, D: Catalogue>(rt: &impl Abort, first: &C, second: &D, now: u64) {
+fn check_earliest<C: Catalogue, D: Catalogue>(rt: &impl Abort, first: &C, second: &D, now: u64) {
     let earliest = first.earliest();
     assert!(rt; second.earliest() == earliest);
     assert!(rt; (first.expired(now) > 0) == (earliest <= now));
@@ -87,7 +87,7 @@ pub fn change_of(alloc: Global, draw: &mut Draw, serial: u64) -> Result<Entry, F
 }
 
 /// An entry is accepted or rejected alike.
-fn take_alike<C: Catalogue, D: Catalogue>(
+fn check_taken_alike<C: Catalogue, D: Catalogue>(
     rt: &impl Abort,
     first: &mut C,
     second: &mut D,
@@ -99,22 +99,22 @@ fn take_alike<C: Catalogue, D: Catalogue>(
 }
 
 /// Sweeps both at a moment: they stay the same.
-fn sweep_both<C: Catalogue, D: Catalogue>(
+fn check_sweeps<C: Catalogue, D: Catalogue>(
     rt: &impl Abort,
     alloc: Global,
     first: &mut C,
     second: &mut D,
     now: u64,
 ) -> Result<(), Fail> {
-    sweep(rt, first, now)?;
-    sweep(rt, second, now)?;
-    is_same(rt, first, second);
-    is_alike(rt, alloc, first, second, b"#")?;
+    check_sweep(rt, first, now)?;
+    check_sweep(rt, second, now)?;
+    check_same(rt, first, second);
+    check_filter_alike(rt, alloc, first, second, b"#")?;
     Ok(())
 }
 
 /// Copies of both are the same, also in what is expired at a moment.
-fn copies_same<C: Catalogue + Drop, D: Catalogue + Drop>(
+fn check_copies_same<C: Catalogue + Drop, D: Catalogue + Drop>(
     rt: &impl Abort,
     alloc: Global,
     first: &C,
@@ -122,14 +122,14 @@ fn copies_same<C: Catalogue + Drop, D: Catalogue + Drop>(
     now: u64,
 ) -> Result<(), Fail> {
     let (third, fourth) = (first.copy()?, second.copy()?);
-    is_same(rt, &third, &fourth);
-    is_alike(rt, alloc, &third, &fourth, b"#")?;
-    is_told(rt, &third, &fourth, now);
+    check_same(rt, &third, &fourth);
+    check_filter_alike(rt, alloc, &third, &fourth, b"#")?;
+    check_earliest(rt, &third, &fourth, now);
     Ok(())
 }
 
 /// 1,000 changes, and a Sweep now and then, at moments that go back and forth. Both catalogues, and copies of both, stay the same.
-fn changes<C: Catalogue + Drop, D: Catalogue + Drop>(
+fn check_changes<C: Catalogue + Drop, D: Catalogue + Drop>(
     rt: &impl Abort,
     alloc: Global,
     first: &mut C,
@@ -139,13 +139,13 @@ fn changes<C: Catalogue + Drop, D: Catalogue + Drop>(
     let mut swept: u32 = 0;
     for serial in 1..1001 {
         let entry = change_of(alloc, &mut draw, serial)?;
-        take_alike(rt, first, second, &entry)?;
+        check_taken_alike(rt, first, second, &entry)?;
         let now = draw.below(90).saturating_add(90);
-        is_told(rt, first, second, now);
+        check_earliest(rt, first, second, now);
         if draw.below(10) == 0 {
             swept = swept.saturating_add(first.expired(now));
-            sweep_both(rt, alloc, first, second, now)?;
-            copies_same(rt, alloc, first, second, now.saturating_add(10))?;
+            check_sweeps(rt, alloc, first, second, now)?;
+            check_copies_same(rt, alloc, first, second, now.saturating_add(10))?;
         }
     }
     assert!(rt; 300 < swept);
@@ -153,12 +153,12 @@ fn changes<C: Catalogue + Drop, D: Catalogue + Drop>(
 }
 
 #[test]
-fn sweeps_alike(rt: HostRuntime) -> Result<(), Fail> {
+fn both_catalogues_sweep_alike(rt: HostRuntime) -> Result<(), Fail> {
     let alloc = rt.alloc();
     let limit = TopicLimit::new(300).ok_or("300 is a limit")?;
     let mut map = MapCatalogue::new(alloc, limit)?;
     let mut tree = TreeCatalogue::new(alloc, limit)?;
-    changes(&rt, alloc, &mut map, &mut tree)?;
+    check_changes(&rt, alloc, &mut map, &mut tree)?;
     assert!(rt; 20 < tree.count());
     Ok(())
 }

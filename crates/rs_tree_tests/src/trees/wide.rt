@@ -1,6 +1,6 @@
 //! Many levels side by side, so that rows are divided, and copies that never change.
 
-use super::alike::{Case, LATE, all_alike, check, put, put_both};
+use super::alike::{Case, LATE, check_all_alike, check_case, put, put_both};
 use rs_store::{CalmCatalogue, Catalogue, MapCatalogue, TopicLimit};
 use rs_tree::TreeCatalogue;
 use std::alloc::Global;
@@ -39,7 +39,7 @@ fn put_number(
 const FILTERS: &[&[u8]] = &[b"#", b"+", b"+/deep", b"0010", b"7000/#", b"9999"];
 
 /// Sets many topics in a mixed order. Copies stay as they are.
-pub fn grown(
+pub fn check_grown(
     rt: &impl Abort,
     alloc: Global,
     map: &mut CalmCatalogue<MapCatalogue>,
@@ -53,28 +53,28 @@ pub fn grown(
     for i in MANY / 2..MANY {
         put_number(alloc, map, tree, i.wrapping_mul(step) % MANY, i % 3)?;
     }
-    all_alike(rt, alloc, map.catalogue(), tree.catalogue(), FILTERS)?;
-    all_alike(rt, alloc, &old_map, &old_tree, FILTERS)?;
+    check_all_alike(rt, alloc, map.catalogue(), tree.catalogue(), FILTERS)?;
+    check_all_alike(rt, alloc, &old_map, &old_tree, FILTERS)?;
     let (old_map, old_tree) = (map.catalogue().copy()?, tree.catalogue().copy()?);
     for i in 0..MANY {
         if i % 3 > 0 {
             put_number(alloc, map, tree, i.wrapping_mul(step) % MANY, 4)?;
         }
     }
-    all_alike(rt, alloc, map.catalogue(), tree.catalogue(), FILTERS)?;
-    all_alike(rt, alloc, &old_map, &old_tree, FILTERS)
+    check_all_alike(rt, alloc, map.catalogue(), tree.catalogue(), FILTERS)?;
+    check_all_alike(rt, alloc, &old_map, &old_tree, FILTERS)
 }
 
 #[test]
-fn rows(rt: HostRuntime) -> Result<(), Fail> {
+fn wide_rows_answer_alike(rt: HostRuntime) -> Result<(), Fail> {
     for step in [1, 1499, 701] {
-        check(&rt, rt.alloc(), 2000, Case::Grown(step))?;
+        check_case(&rt, rt.alloc(), 2000, Case::Grown(step))?;
     }
     Ok(())
 }
 
 /// Sets as many topics as there may be, and then one more when all but a quarter have expired. Copies stay as they are.
-pub fn swept_grown(
+pub fn check_swept_grown(
     rt: &impl Abort,
     alloc: Global,
     map: &mut CalmCatalogue<MapCatalogue>,
@@ -87,13 +87,13 @@ pub fn swept_grown(
     let (old_map, old_tree) = (map.catalogue().copy()?, tree.catalogue().copy()?);
     put_both(alloc, map, tree, b"late", LATE)?;
     assert!(rt; map.catalogue().count() == 251);
-    all_alike(rt, alloc, map.catalogue(), tree.catalogue(), FILTERS)?;
-    all_alike(rt, alloc, &old_map, &old_tree, FILTERS)
+    check_all_alike(rt, alloc, map.catalogue(), tree.catalogue(), FILTERS)?;
+    check_all_alike(rt, alloc, &old_map, &old_tree, FILTERS)
 }
 
 #[test]
-fn sweeps(rt: HostRuntime) -> Result<(), Fail> {
-    check(&rt, rt.alloc(), 1000, Case::SweptGrown)
+fn wide_rows_are_swept_alike(rt: HostRuntime) -> Result<(), Fail> {
+    check_case(&rt, rt.alloc(), 1000, Case::SweptGrown)
 }
 
 /// Sets the topics of the numbers below 1,000. All but a quarter of the messages expire.
