@@ -144,9 +144,9 @@ fn clients_share_a_store(rt: HostRuntime) -> Result<(), Fail> {
             threads: usize::from(places),
             changes: Some(2),
         };
-        let (went, told) = publish_and_read(rt, rt.alloc(), places)?;
+        let (went, found) = publish_and_read(rt, rt.alloc(), places)?;
         assert!(rt; went);
-        assert!(rt; told == Some(summary));
+        assert!(rt; found == Some(summary));
     }
     Ok(())
 }

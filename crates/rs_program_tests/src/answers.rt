@@ -70,7 +70,7 @@ fn answers_within<G: Gate>(gate: &mut G, all: &TopicFilter) -> bool {
 }
 
 /// Whether a message is taken, and is what the gate then answers, with and without a limit.
-fn check_answers<G: Gate>(alloc: Global, gate: &mut G, all: &TopicFilter) -> bool {
+fn takes_and_answers<G: Gate>(alloc: Global, gate: &mut G, all: &TopicFilter) -> bool {
     sets(alloc, gate) && answers(gate, all) && answers_within(gate, all)
 }
 
@@ -83,9 +83,9 @@ fn local<C: Catalogue>(alloc: Global) -> Result<LocalGate<C>, Fail> {
 fn gates_answer(rt: HostRuntime) -> Result<(), Fail> {
     let alloc = rt.alloc();
     let all = TopicFilter::read(alloc, b"#")?;
-    assert!(rt; check_answers(alloc, &mut local::<MapCatalogue>(alloc)?, &all));
-    assert!(rt; check_answers(alloc, &mut local::<TreeCatalogue>(alloc)?, &all));
-    assert!(rt; check_answers(alloc, &mut OwnGate::new(alloc)?, &all));
+    assert!(rt; takes_and_answers(alloc, &mut local::<MapCatalogue>(alloc)?, &all));
+    assert!(rt; takes_and_answers(alloc, &mut local::<TreeCatalogue>(alloc)?, &all));
+    assert!(rt; takes_and_answers(alloc, &mut OwnGate::new(alloc)?, &all));
     let limit = TopicLimit::new(7).ok_or("the limit")?;
     let places = PlaceCount::new(2).ok_or("two places")?;
     let blank = Blank::new(alloc, limit, places)?;

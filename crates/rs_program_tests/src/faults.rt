@@ -61,7 +61,12 @@ fn local_gate(alloc: Global) -> Result<LocalGate<MapCatalogue>, Fail> {
     Ok(LocalGate::new(alloc, limit)?)
 }
 
-fn check<H: Abort + Wait>(rt: &H, alloc: Global, step: usize, fault: &Fault) -> Result<(), Fail> {
+fn check_fault<H: Abort + Wait>(
+    rt: &H,
+    alloc: Global,
+    step: usize,
+    fault: &Fault,
+) -> Result<(), Fail> {
     let call = fault.call;
     for at in fault.first..=fault.last {
         let pace = Pace { step, call, at };
@@ -74,19 +79,19 @@ fn check<H: Abort + Wait>(rt: &H, alloc: Global, step: usize, fault: &Fault) -> 
 }
 
 #[test]
-fn one_call_fails(rt: HostRuntime) -> Result<(), Fail> {
+fn the_next_connection_is_served_after_a_failed_call(rt: HostRuntime) -> Result<(), Fail> {
     for fault in &FAULTS {
-        check(&rt, rt.alloc(), 1, fault)?;
+        check_fault(&rt, rt.alloc(), 1, fault)?;
     }
     Ok(())
 }
 
 // If all packets come in one read, those behind the failed write are held, and are not handled.
 #[test]
-fn one_write_or_flush_fails_behind_one_read(rt: HostRuntime) -> Result<(), Fail> {
+fn what_comes_behind_a_failed_write_is_not_handled(rt: HostRuntime) -> Result<(), Fail> {
     for fault in &FAULTS {
         if fault.call != Call::Read {
-            check(&rt, rt.alloc(), FIRST.len(), fault)?;
+            check_fault(&rt, rt.alloc(), FIRST.len(), fault)?;
         }
     }
     Ok(())

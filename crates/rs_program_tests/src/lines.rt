@@ -19,7 +19,7 @@ fn is_piped<H: Wait>(
 }
 
 #[test]
-fn lines_in_and_out(rt: HostRuntime) {
+fn lines_of_hex_digits_are_read_and_written(rt: HostRuntime) {
     let input =
         b"10 0E 00 04 4D 51 54 54 05 02 00 3C 00 00 01\n\n  \n61 C000 C0\n00\nE000 zz".as_slice();
     let output = b"200d00000a21001027000400002a00\nd000\nd000\n".as_slice();
@@ -52,12 +52,12 @@ fn lines_in_and_out(rt: HostRuntime) {
 #[test]
 fn the_identifier_is_assigned(rt: HostRuntime) {
     let input = b"10 0D 00 04 4D 51 54 54 05 02 00 3C 00 00 00".as_slice();
-    let told = b"20150000121200057273312d3121001027000400002a00\n".as_slice();
-    assert!(rt; is_piped(&rt, rt.alloc(), true, input, Ok(Served::EndOfInput), told));
+    let output = b"20150000121200057273312d3121001027000400002a00\n".as_slice();
+    assert!(rt; is_piped(&rt, rt.alloc(), true, input, Ok(Served::EndOfInput), output));
 }
 
 #[test]
-fn bytes_as_they_are(rt: HostRuntime) {
+fn bytes_are_read_and_written_as_they_are(rt: HostRuntime) {
     let input = b"\x10\x0D\x00\x04MQTT\x04\x02\x00\x3C\x00\x01a".as_slice();
     let output = b"\x20\x03\x00\x84\x00".as_slice();
     assert!(rt;

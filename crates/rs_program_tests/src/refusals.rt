@@ -31,7 +31,7 @@ const ENDING: [(SubmitFault, u8); 3] = [
     (SubmitFault::Closed, 0x83),
 ];
 
-fn check<H: Abort + Wait>(
+fn check_answered<H: Abort + Wait>(
     rt: &H,
     alloc: Global,
     fault: SubmitFault,
@@ -49,10 +49,10 @@ fn check<H: Abort + Wait>(
 }
 
 #[test]
-fn a_full_store_goes_on(rt: HostRuntime) -> Result<(), Fail> {
+fn a_store_that_refuses_leaves_the_session_open(rt: HostRuntime) -> Result<(), Fail> {
     for fault in [SubmitFault::Full, SubmitFault::NoMemory] {
         for (publish, replies) in GOING_ON {
-            check(&rt, rt.alloc(), fault, publish, replies, Served::EndOfInput)?;
+            check_answered(&rt, rt.alloc(), fault, publish, replies, Served::EndOfInput)?;
         }
     }
     Ok(())
@@ -63,7 +63,7 @@ fn a_store_without_receipt_ends_the_session(rt: HostRuntime) -> Result<(), Fail>
     for (fault, code) in ENDING {
         for (publish, _) in GOING_ON {
             let ends = Served::ServerClosed(code);
-            check(&rt, rt.alloc(), fault, publish, &[0xE0, 0x01, code], ends)?;
+            check_answered(&rt, rt.alloc(), fault, publish, &[0xE0, 0x01, code], ends)?;
         }
     }
     Ok(())

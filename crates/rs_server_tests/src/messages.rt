@@ -50,7 +50,7 @@ fn intervals_run_out(rt: HostRuntime) -> Result<(), Fail> {
 }
 
 #[test]
-fn origins(rt: HostRuntime) -> Result<(), Fail> {
+fn an_origin_has_a_place_and_a_serial(rt: HostRuntime) -> Result<(), Fail> {
     assert!(rt; Origin::new(0, 1).is_none());
     assert!(rt; Origin::new(1, 0).is_none());
     assert!(rt; Origin::new(MAX_PLACES + 1, 1).is_none());
@@ -61,7 +61,7 @@ fn origins(rt: HostRuntime) -> Result<(), Fail> {
 }
 
 #[test]
-fn place_counts(rt: HostRuntime) -> Result<(), Fail> {
+fn a_place_count_is_1_to_64(rt: HostRuntime) -> Result<(), Fail> {
     assert!(rt; PlaceCount::new(0).is_none());
     assert!(rt; PlaceCount::new(MAX_PLACES + 1).is_none());
     assert!(rt; PlaceCount::new(1).ok_or("the least")?.get() == 1);

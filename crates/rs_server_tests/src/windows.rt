@@ -164,7 +164,12 @@ fn answer_of(alloc: Global, window: &mut Window, call: Call) -> Result<Answer, F
 type Row = (Call, Answer);
 
 /// Makes the calls, each of which is answered as its row says.
-fn go_on(rt: &impl Abort, alloc: Global, window: &mut Window, rows: &[Row]) -> Result<(), Fail> {
+fn check_calls(
+    rt: &impl Abort,
+    alloc: Global,
+    window: &mut Window,
+    rows: &[Row],
+) -> Result<(), Fail> {
     for (call, wanted) in rows {
         assert!(rt; answer_of(alloc, window, *call)? == *wanted);
     }
@@ -172,7 +177,7 @@ fn go_on(rt: &impl Abort, alloc: Global, window: &mut Window, rows: &[Row]) -> R
 }
 
 /// The same with a new window, of these two maxima, which are not 0.
-fn run(
+fn check_window(
     rt: &impl Abort,
     alloc: Global,
     receive_maximum: u16,
@@ -183,7 +188,7 @@ fn run(
         return Err(Fail::from("a maximum is 0"));
     }
     let mut window = Window::new(alloc, receive_maximum, packet_maximum)?;
-    go_on(rt, alloc, &mut window, rows)
+    check_calls(rt, alloc, &mut window, rows)
 }
 
 const QUOTA_1_AT_QOS_2: &[Row] = &[
@@ -212,7 +217,7 @@ const QUOTA_1_AT_QOS_2: &[Row] = &[
 
 #[test]
 fn one_by_one_at_qos_2(rt: HostRuntime) -> Result<(), Fail> {
-    run(&rt, rt.alloc(), 1, u32::MAX, QUOTA_1_AT_QOS_2)
+    check_window(&rt, rt.alloc(), 1, u32::MAX, QUOTA_1_AT_QOS_2)
 }
 
 const EXPIRED: &[Row] = &[
@@ -248,8 +253,8 @@ const EXPIRED: &[Row] = &[
 ];
 
 #[test]
-fn expired_behind_the_quota(rt: HostRuntime) -> Result<(), Fail> {
-    run(&rt, rt.alloc(), 1, u32::MAX, EXPIRED)
+fn what_expires_behind_the_quota_is_dropped(rt: HostRuntime) -> Result<(), Fail> {
+    check_window(&rt, rt.alloc(), 1, u32::MAX, EXPIRED)
 }
 
 const TOO_LONG: &[Row] = &[
@@ -269,20 +274,25 @@ const TOO_LONG: &[Row] = &[
 ];
 
 #[test]
-fn too_long_for_the_client(rt: HostRuntime) -> Result<(), Fail> {
-    run(&rt, rt.alloc(), 1, 10, TOO_LONG)
+fn what_is_too_long_for_the_client_is_dropped(rt: HostRuntime) -> Result<(), Fail> {
+    check_window(&rt, rt.alloc(), 1, 10, TOO_LONG)
 }
 
 /// A message whose packet is these bytes is given if the client takes as many, and dropped if it takes one byte less.
-fn is_sent_as(rt: &impl Abort, alloc: Global, one: One, sent: &'static [u8]) -> Result<(), Fail> {
+fn check_sent_as(
+    rt: &impl Abort,
+    alloc: Global,
+    one: One,
+    sent: &'static [u8],
+) -> Result<(), Fail> {
     let size = sent.len().min(1000) as u32;
     let given = [
         (Call::QueueOne(one), Answer::Done),
         (Call::Packet(sent), Answer::Done),
         (Call::Next(9), Answer::Nothing),
     ];
-    run(rt, alloc, 65535, size, &given)?;
-    run(
+    check_window(rt, alloc, 65535, size, &given)?;
+    check_window(
         rt,
         alloc,
         65535,
@@ -355,7 +365,7 @@ const PACKETS: &[(&[u8], Qos, Option<u32>, Qos, u32, &[u8])] = &[
 ];
 
 #[test]
-fn packets(rt: HostRuntime) -> Result<(), Fail> {
+fn messages_are_sent_at_the_lesser_qos_if_they_fit(rt: HostRuntime) -> Result<(), Fail> {
     for (topic, qos, expiry, granted, subscription, sent) in PACKETS {
         let one = One {
             topic,
@@ -365,7 +375,7 @@ fn packets(rt: HostRuntime) -> Result<(), Fail> {
             granted: *granted,
             subscription: *subscription,
         };
-        is_sent_as(&rt, rt.alloc(), one, sent)?;
+        check_sent_as(&rt, rt.alloc(), one, sent)?;
     }
     Ok(())
 }
@@ -380,8 +390,8 @@ const MOST_IDENTIFIERS: &[Row] = &[
 ];
 
 #[test]
-fn identifiers_in_order(rt: HostRuntime) -> Result<(), Fail> {
-    run(&rt, rt.alloc(), 65535, u32::MAX, MOST_IDENTIFIERS)
+fn identifiers_are_given_in_order(rt: HostRuntime) -> Result<(), Fail> {
+    check_window(&rt, rt.alloc(), 65535, u32::MAX, MOST_IDENTIFIERS)
 }
 
 const FULL_QUEUE: &[Row] = &[
@@ -400,7 +410,7 @@ const FULL_QUEUE: &[Row] = &[
 
 #[test]
 fn no_more_than_the_limit_wait(rt: HostRuntime) -> Result<(), Fail> {
-    run(&rt, rt.alloc(), 1, u32::MAX, FULL_QUEUE)
+    check_window(&rt, rt.alloc(), 1, u32::MAX, FULL_QUEUE)
 }
 
 const TOO_MANY: &[Row] = &[
@@ -412,8 +422,8 @@ const TOO_MANY: &[Row] = &[
 ];
 
 #[test]
-fn more_than_the_limit_at_once(rt: HostRuntime) -> Result<(), Fail> {
-    run(&rt, rt.alloc(), u16::MAX, 1, TOO_MANY)
+fn more_than_the_limit_at_once_are_refused(rt: HostRuntime) -> Result<(), Fail> {
+    check_window(&rt, rt.alloc(), u16::MAX, 1, TOO_MANY)
 }
 
 /// A Receive Maximum, and how many messages of QoS 2 a window with it gives.
@@ -438,7 +448,7 @@ fn every_receive_maximum_is_accepted(rt: HostRuntime) -> Result<(), Fail> {
             (Call::InOrder(*quota), Answer::Done),
             (Call::Next(0), Answer::Nothing),
         ];
-        run(&rt, rt.alloc(), *receive_maximum, u32::MAX, &rows)?;
+        check_window(&rt, rt.alloc(), *receive_maximum, u32::MAX, &rows)?;
     }
     Ok(())
 }
@@ -456,7 +466,7 @@ const FREED: &[Row] = &[
 
 #[test]
 fn the_last_freed_identifier_comes_first(rt: HostRuntime) -> Result<(), Fail> {
-    run(&rt, rt.alloc(), 3, u32::MAX, FREED)
+    check_window(&rt, rt.alloc(), 3, u32::MAX, FREED)
 }
 
 /// A window with two messages `a` that wait, and nine more to be queued, for which its queue has to grow.
@@ -470,7 +480,7 @@ fn before_a_refusal(alloc: Global) -> Option<(Window, Vec<Found>)> {
 /// It passes with ample memory, and also if any one allocation is refused: a refused `queue` answers `NoMemory`, and then
 /// what waited before is given, and nothing of the refused list.
 #[test]
-fn queue_if_memory_is_refused(rt: HostRuntime) -> Result<(), Fail> {
+fn a_queue_without_memory_changes_nothing(rt: HostRuntime) -> Result<(), Fail> {
     let Some((mut window, later)) = before_a_refusal(rt.alloc()) else {
         return Ok(());
     };
@@ -483,11 +493,11 @@ fn queue_if_memory_is_refused(rt: HostRuntime) -> Result<(), Fail> {
                 first, first, second, second, second, second, second, second, second, second,
                 second, last,
             ];
-            go_on(&rt, rt.alloc(), &mut window, &rows)
+            check_calls(&rt, rt.alloc(), &mut window, &rows)
         }
         Err(fault) => {
             assert!(rt; fault == WindowFault::NoMemory);
-            go_on(&rt, rt.alloc(), &mut window, &[first, first, last])
+            check_calls(&rt, rt.alloc(), &mut window, &[first, first, last])
         }
     }
 }

@@ -35,7 +35,7 @@ fn echo_gathered<R: Read + Drop, W: Write + Drop>(
 }
 
 #[test]
-fn a_server_over_halves(rt: HostRuntime) -> Result<(), Fail> {
+fn a_server_answers_over_halves(rt: HostRuntime) -> Result<(), Fail> {
     let alloc = rt.alloc();
     let mut start = Vec::new(alloc);
     start.push(7)?;

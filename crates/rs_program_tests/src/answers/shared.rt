@@ -3,7 +3,7 @@
 ghost use Rattle.std.specs.Prelude.{◌≡◌, []};
 ghost use Rattle.rs_version.specs.Writer.{kept_of};
 
-use super::{answers, answers_within, check_answers};
+use super::{answers, answers_within, takes_and_answers};
 use rs_intake::{BlankQueue, Ended, LineName, Queue, run_writer, settle};
 use rs_places::{SharedGate, open_gates};
 use rs_topic::TopicFilter;
@@ -39,7 +39,7 @@ fn reads<N: LineName, R: Wait + Copy>(
 }
 
 /// A place that was told of its publication knows it, and answers it, and another place does so once it has read.
-fn check_places<N: LineName, R: Wait + Copy>(
+fn both_places_answer<N: LineName, R: Wait + Copy>(
     alloc: Global,
     gates: &mut [SharedGate<N, R>],
     all: &TopicFilter,
@@ -47,7 +47,7 @@ fn check_places<N: LineName, R: Wait + Copy>(
     let Some(first) = gates.get_mut(0) else {
         return false;
     };
-    let answered = first.place() == 1 && check_answers(alloc, first, all);
+    let answered = first.place() == 1 && takes_and_answers(alloc, first, all);
     let told = first.told();
     let known = told.version() == 1 && knows(first, 1, &told, true);
     let Some(second) = gates.get_mut(1) else {
@@ -77,7 +77,7 @@ pub(super) fn check_shared_gates<
     let (intake, lines, queue) = queue.open::<N>()?;
     let writer = start_writer(rt, queue, writer).ok_or("no thread was started")?;
     let mut gates = open_gates(rt, alloc, intake, seats, lines)?;
-    assert!(rt; check_places(alloc, gates.as_mut_slice(), all));
+    assert!(rt; both_places_answer(alloc, gates.as_mut_slice(), all));
     let mut ends = Vec::new(alloc);
     for gate in gates {
         ends.push(gate.close())?;

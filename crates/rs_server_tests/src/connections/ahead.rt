@@ -23,7 +23,7 @@ struct Expecting {
     /// The changes that were not submitted yet.
     next: VecDeque<Operation>,
     /// How many it was told to expect, and how many of them were submitted.
-    told: usize,
+    announced: usize,
     met: usize,
 }
 
@@ -39,7 +39,7 @@ impl Gate for Expecting {
     }
 
     fn expect(&mut self, changes: Vec<Operation>) {
-        self.told = self.told.saturating_add(changes.len());
+        self.announced = self.announced.saturating_add(changes.len());
         self.next = VecDeque::from_vec(changes);
     }
 
@@ -122,7 +122,7 @@ fn counts<H: Wait>(
         store: LocalGate::new(alloc, limit)?,
         most,
         next: VecDeque::new(alloc),
-        told: 0,
+        announced: 0,
         met: 0,
     };
     let mut reader = Counted::new(sent);
@@ -137,7 +137,7 @@ fn counts<H: Wait>(
     let (served, gate) = serve(rt, alloc, &mut reader, &mut writer, gate, id, &mut clock);
     let is_ended = served == Ok(Served::ServerClosed(0x90));
     if is_ended && writer.into_inner().as_slice() == replied {
-        return Ok(Some((gate.told, gate.met)));
+        return Ok(Some((gate.announced, gate.met)));
     }
     Ok(None)
 }
@@ -145,13 +145,13 @@ fn counts<H: Wait>(
 #[test]
 fn what_is_replied_does_not_change(rt: HostRuntime) -> Result<(), Fail> {
     for cut in 0..=SENT.len() {
-        let told = Cut {
+        let halves = Cut {
             first: &SENT[..cut],
             rest: &SENT[cut..],
         };
-        let kept = counts(&rt, rt.alloc(), told, 64, REPLIED)?;
-        let is_met = match kept {
-            Some((told, met)) => told == met,
+        let found = counts(&rt, rt.alloc(), halves, 64, REPLIED)?;
+        let is_met = match found {
+            Some((announced, met)) => announced == met,
             None => false,
         };
         assert!(rt; is_met, "{cut}");

@@ -79,7 +79,7 @@ const PUBLISHED: [(&[u8], &[u8], &[u8], &[u8]); 3] = [
 ];
 
 /// The faults that leave the session open.
-const FULL: [SubmitFault; 2] = [SubmitFault::Full, SubmitFault::NoMemory];
+const LEAVING_OPEN: [SubmitFault; 2] = [SubmitFault::Full, SubmitFault::NoMemory];
 
 /// The faults that end it, and the DISCONNECT then.
 const ENDING: [(SubmitFault, &[u8]); 3] = [
@@ -146,7 +146,7 @@ fn is_answered(
 }
 
 /// A PUBLISH that sets, and one that clears, are answered alike.
-fn check(
+fn check_handed(
     rt: &impl Abort,
     alloc: Global,
     fault: Option<SubmitFault>,
@@ -162,16 +162,16 @@ fn check(
 #[test]
 fn what_is_kept_was_handed_over(rt: HostRuntime) -> Result<(), Fail> {
     for (set, clear, kept, _) in PUBLISHED {
-        check(&rt, rt.alloc(), None, set, clear, kept)?;
+        check_handed(&rt, rt.alloc(), None, set, clear, kept)?;
     }
     Ok(())
 }
 
 #[test]
 fn what_a_full_store_refuses_was_handed_over(rt: HostRuntime) -> Result<(), Fail> {
-    for fault in FULL {
+    for fault in LEAVING_OPEN {
         for (set, clear, _, refused) in PUBLISHED {
-            check(&rt, rt.alloc(), Some(fault), set, clear, refused)?;
+            check_handed(&rt, rt.alloc(), Some(fault), set, clear, refused)?;
         }
     }
     Ok(())
@@ -181,7 +181,7 @@ fn what_a_full_store_refuses_was_handed_over(rt: HostRuntime) -> Result<(), Fail
 fn what_has_no_receipt_was_handed_over(rt: HostRuntime) -> Result<(), Fail> {
     for (fault, disconnect) in ENDING {
         for (set, clear, _, _) in PUBLISHED {
-            check(&rt, rt.alloc(), Some(fault), set, clear, disconnect)?;
+            check_handed(&rt, rt.alloc(), Some(fault), set, clear, disconnect)?;
         }
     }
     Ok(())

@@ -114,7 +114,7 @@ fn is_served<H: Wait>(rt: &H, alloc: Global, script: &Script, wanted: &Outcome) 
 
 // Each reply is flushed when it is written.
 #[test]
-fn pieces_of_any_size(rt: HostRuntime) {
+fn pieces_of_any_size_are_answered_alike(rt: HostRuntime) {
     let wanted = Outcome {
         served: Ok(Served::ClientClosed),
         output: OUTPUT,
@@ -128,7 +128,7 @@ fn pieces_of_any_size(rt: HostRuntime) {
 }
 
 #[test]
-fn the_input_ends(rt: HostRuntime) {
+fn an_input_that_ends_is_answered_so_far(rt: HostRuntime) {
     let ends = [
         (0, Served::EndOfInput, 0),
         (1, Served::CutInput, 0),
@@ -153,7 +153,7 @@ fn the_input_ends(rt: HostRuntime) {
 }
 
 #[test]
-fn the_reader_fails(rt: HostRuntime) {
+fn a_failed_read_ends_the_connection(rt: HostRuntime) {
     for (fails_at, len) in [(1, 0), (16, 0), (17, 15), (29, 21)] {
         let wanted = Outcome {
             served: Err(ServeFault::Read),
@@ -167,7 +167,7 @@ fn the_reader_fails(rt: HostRuntime) {
 }
 
 #[test]
-fn the_writer_is_full(rt: HostRuntime) {
+fn a_full_writer_ends_the_connection(rt: HostRuntime) {
     for room in [0, 7, 15, 22] {
         let wanted = Outcome {
             served: Err(ServeFault::Write),
