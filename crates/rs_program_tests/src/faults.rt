@@ -6,7 +6,8 @@ use rs_server::{ConnectionId, Counted, Moments, Served, serve};
 use rs_session::{Gate, LocalGate};
 use rs_store::{MapCatalogue, TopicLimit};
 use rs_test_kit::{
-    Call, End, FAULTS, FIRST, Fault, Pace, Paced, SECOND, first_replies, second_replies,
+    Behavior, Call, FAULTS, FIRST, Fault, FaultyStream, SECOND, ServeResult, first_replies,
+    second_replies,
 };
 use std::alloc::Global;
 use std::process::Abort;
@@ -18,20 +19,24 @@ const ID: ConnectionId = ConnectionId {
     number: 1,
 };
 
-// Whether the connection ends so and is written this, if it is read at this pace and takes a byte a call. The gate is that of the next one.
+// Whether the connection ends so and is written this, if its reader behaves so and its writer takes a byte a call. The gate is that of the
+// next one.
 fn is_served<H: Wait, G: Gate>(
     rt: &H,
     alloc: Global,
     gate: G,
-    streams: (&'static [u8], Pace),
-    ends: End,
+    streams: (&'static [u8], Behavior),
+    ends: ServeResult,
     written: &[u8],
 ) -> (bool, G) {
-    let (inner, pace) = streams;
-    let mut reader = Counted::new(Paced { inner, pace });
-    let mut writer = Counted::new(Paced {
+    let (inner, behavior) = streams;
+    let mut reader = Counted::new(FaultyStream { inner, behavior });
+    let mut writer = Counted::new(FaultyStream {
         inner: Vec::new(alloc),
-        pace: Pace { step: 1, ..pace },
+        behavior: Behavior {
+            step: 1,
+            ..behavior
+        },
     });
     let mut clock = Moments::new(0, Vec::new(alloc));
     let (end, gate) = serve(rt, alloc, &mut reader, &mut writer, gate, ID, &mut clock);
@@ -45,11 +50,11 @@ fn both_are_served<H: Wait, G: Gate + Drop>(
     alloc: Global,
     gate: G,
     fault: &Fault,
-    pace: Pace,
+    behavior: Behavior,
 ) -> bool {
-    let written = first_replies(fault, pace.at);
-    let (first, gate) = is_served(rt, alloc, gate, (FIRST, pace), fault.ends, written);
-    let none = Pace { at: 0, ..pace };
+    let written = first_replies(fault, behavior.at);
+    let (first, gate) = is_served(rt, alloc, gate, (FIRST, behavior), fault.ends, written);
+    let none = Behavior { at: 0, ..behavior };
     let end = Ok(Served::EndOfInput);
     let got = second_replies(fault);
     let (second, _gate) = is_served(rt, alloc, gate, (SECOND, none), end, got);
@@ -69,10 +74,10 @@ fn check_fault<H: Abort + Wait>(
 ) -> Result<(), Fail> {
     let call = fault.call;
     for at in fault.first..=fault.last {
-        let pace = Pace { step, call, at };
-        let own = both_are_served(rt, alloc, OwnGate::new(alloc)?, fault, pace);
+        let behavior = Behavior { step, call, at };
+        let own = both_are_served(rt, alloc, OwnGate::new(alloc)?, fault, behavior);
         assert!(rt; own, "{call:?} {at}");
-        let bare = both_are_served(rt, alloc, local_gate(alloc)?, fault, pace);
+        let bare = both_are_served(rt, alloc, local_gate(alloc)?, fault, behavior);
         assert!(rt; bare, "bare {call:?} {at}");
     }
     Ok(())

@@ -1,6 +1,6 @@
 use rs_program::{PipeFault, pipe, serve_bytes};
 use rs_server::Served;
-use rs_test_kit::FULL;
+use rs_test_kit::REFUSING_GATE;
 use std::alloc::Global;
 use std::sync::Wait;
 use std::test::Fail;
@@ -14,7 +14,7 @@ fn is_piped<H: Wait>(
     ends: Result<Served, PipeFault>,
     output: &[u8],
 ) -> bool {
-    let ended = pipe(rt, alloc, input, Vec::new(alloc), FULL, hex, 0);
+    let ended = pipe(rt, alloc, input, Vec::new(alloc), REFUSING_GATE, hex, 0);
     ended.served == ends && ended.output.as_slice() == output
 }
 

@@ -2,7 +2,7 @@
 
 use rs_program::{OwnGate, PipeFault, pipe};
 use rs_server::Served;
-use rs_test_kit::{Call, FIRST, Pace, Paced};
+use rs_test_kit::{Behavior, Call, FIRST, FaultyStream};
 use std::alloc::Global;
 use std::process::Abort;
 use std::sync::Wait;
@@ -41,11 +41,14 @@ fn check_row<H: Abort + Wait>(rt: &H, alloc: Global, row: Row) -> Result<(), Fai
     let (hex, call, first, last, ends) = row;
     let input = if hex { LINES } else { FIRST };
     for at in first..=last {
-        let pace = Pace { step: 1, call, at };
-        let reader = Paced { inner: input, pace };
-        let writer = Paced {
+        let behavior = Behavior { step: 1, call, at };
+        let reader = FaultyStream {
+            inner: input,
+            behavior,
+        };
+        let writer = FaultyStream {
             inner: Vec::new(alloc),
-            pace,
+            behavior,
         };
         let ended = pipe(rt, alloc, reader, writer, OwnGate::new(alloc)?, hex, 0);
         assert!(rt; ended.served == ends, "{hex} {call:?} {at}");

@@ -21,13 +21,13 @@ const SECOND_REPLIES: &[u8] =
     b"\x20\x0D\x00\x00\x0A\x21\x00\x10\x27\x00\x04\x00\x00\x2A\x00\x90\x04\x00\x01\x00\x00\x31\x07\x00\x03a/b\x00x";
 
 /// How a connection ends.
-pub type End = Result<Served, ServeFault>;
+pub type ServeResult = Result<Served, ServeFault>;
 
-const READ: End = Err(ServeFault::Read);
+const READ: ServeResult = Err(ServeFault::Read);
 
-const WRITE: End = Err(ServeFault::Write);
+const WRITE: ServeResult = Err(ServeFault::Write);
 
-const CLOSED: End = Ok(Served::ClientClosed);
+const CLOSED: ServeResult = Ok(Served::ClientClosed);
 
 /// Calls of the first connection, of which one fails in each run, and what then comes of both connections.
 pub struct Fault {
@@ -38,7 +38,7 @@ pub struct Fault {
     /// The number of the last one.
     pub last: usize,
     /// How the first connection ends.
-    pub ends: End,
+    pub ends: ServeResult,
     /// How many bytes of its replies are written if the first of these calls fails, one more for each later write.
     pub written: usize,
     /// Whether the PUBLISH is kept.

@@ -13,8 +13,8 @@ pub struct Refusing {
     pub fault: SubmitFault,
 }
 
-/// A store that is full.
-pub const FULL: Refusing = Refusing {
+/// It answers each change as a full store does.
+pub const REFUSING_GATE: Refusing = Refusing {
     fault: SubmitFault::Full,
 };
 

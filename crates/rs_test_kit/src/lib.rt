@@ -7,7 +7,7 @@ mod gate;
 mod packets;
 mod streams;
 
-pub use faults::{End, FAULTS, FIRST, Fault, SECOND, first_replies, second_replies};
-pub use gate::{FULL, Refusing};
+pub use faults::{FAULTS, FIRST, Fault, SECOND, ServeResult, first_replies, second_replies};
+pub use gate::{REFUSING_GATE, Refusing};
 pub use packets::{CONNACK, CONNECT, joined};
-pub use streams::{Call, Pace, Paced};
+pub use streams::{Behavior, Call, FaultyStream};

@@ -13,7 +13,7 @@ pub enum Call {
 
 /// How a stream behaves.
 #[derive(Clone, Copy)]
-pub struct Pace {
+pub struct Behavior {
     /// At most so many bytes go by one call.
     pub step: usize,
     /// The call that fails is of this kind.
@@ -22,7 +22,7 @@ pub struct Pace {
     pub at: usize,
 }
 
-impl Pace {
+impl Behavior {
     /// Counts a call. Whether it goes well.
     fn meets(&mut self, call: Call) -> io::Result<()> {
         if self.call != call || self.at == 0 {
@@ -36,31 +36,31 @@ impl Pace {
     }
 }
 
-/// Reads from another stream, or writes to it, at a pace.
+/// Reads from another stream, or writes to it, as its behavior says.
 #[derive(Drop)]
-pub struct Paced<S> {
+pub struct FaultyStream<S> {
     /// The other stream.
     pub inner: S,
-    /// What is left of the pace.
-    pub pace: Pace,
+    /// How it behaves. Calls of the kind that fails are counted down here.
+    pub behavior: Behavior,
 }
 
-impl<R: Read> Read for Paced<R> {
+impl<R: Read> Read for FaultyStream<R> {
     fn read(&mut self, buf: &mut [u8]) -> io::Result<usize> {
-        self.pace.meets(Call::Read)?;
-        let n = buf.len().min(self.pace.step);
+        self.behavior.meets(Call::Read)?;
+        let n = buf.len().min(self.behavior.step);
         self.inner.read(&mut buf[..n])
     }
 }
 
-impl<W: Write> Write for Paced<W> {
+impl<W: Write> Write for FaultyStream<W> {
     fn write(&mut self, buf: &[u8]) -> io::Result<usize> {
-        self.pace.meets(Call::Write)?;
-        let n = buf.len().min(self.pace.step);
+        self.behavior.meets(Call::Write)?;
+        let n = buf.len().min(self.behavior.step);
         self.inner.write(&buf[..n])
     }
 
     fn flush(&mut self) -> io::Result<()> {
-        self.pace.meets(Call::Flush)
+        self.behavior.meets(Call::Flush)
     }
 }

@@ -3,7 +3,7 @@
 use super::PUBLISHES;
 use super::play::{PLAIN, Row, as_wanted, ending, plain_row, play};
 use rs_server::{ServeFault, Served};
-use rs_test_kit::{CONNACK, Call, End, Pace};
+use rs_test_kit::{Behavior, CONNACK, Call, ServeResult};
 use std::test::Fail;
 
 /// CONNECT, three retained PUBLISH of QoS 1.
@@ -22,13 +22,13 @@ const READS: &[u8] =
 const READ_REPLIES: &[u8] =
     b"\x20\x0D\x00\x00\x0A\x21\x00\x10\x27\x00\x04\x00\x00\x2A\x00\x90\x04\x00\x01\x00\x00\x31\x07\x00\x03a/b\x00x\x31\x07\x00\x03a/c\x00y\x31\x07\x00\x03a/d\x00z";
 
-const INPUT: End = Ok(Served::EndOfInput);
+const INPUT: ServeResult = Ok(Served::EndOfInput);
 
-const WRITE: End = Err(ServeFault::Write);
+const WRITE: ServeResult = Err(ServeFault::Write);
 
 /// Which write fails, if one does; how the first connection ends then; how many bytes of its replies are written; and whether its
 /// publications were kept. Once the first was handed over, all are.
-type Fault = (usize, End, usize, bool);
+type Fault = (usize, ServeResult, usize, bool);
 
 const FAULTS: [Fault; 5] = [
     (0, INPUT, 27, true),
@@ -40,9 +40,9 @@ const FAULTS: [Fault; 5] = [
 
 /// The connection that publishes three at once, one that reads, and one that publishes. The serial of the last one is above those of
 /// the first, else the writer would refuse it.
-fn rows(at: usize, ends: End, written: usize, kept: bool) -> [Row<'static>; 3] {
+fn rows(at: usize, ends: ServeResult, written: usize, kept: bool) -> [Row<'static>; 3] {
     let mut course = ending(PLAIN, ends);
-    course.pace = Pace {
+    course.behavior = Behavior {
         step: 100,
         call: Call::Write,
         at,

@@ -3,7 +3,7 @@
 use super::play::{PLAIN, as_wanted, ending, run};
 use super::script::{Counts, Course, Script};
 use rs_server::{ServeFault, Served};
-use rs_test_kit::{CONNACK, CONNECT, Call, End, Pace};
+use rs_test_kit::{Behavior, CONNACK, CONNECT, Call, ServeResult};
 use std::alloc::{AllocError, Global};
 use std::sync::Arc;
 use std::test::Fail;
@@ -92,9 +92,9 @@ impl Talk {
 }
 
 /// How a client goes whose reads give at most so many bytes, and of which the write of this number fails, if one does.
-fn course(step: usize, at: usize, ends: End) -> Course {
+fn course(step: usize, at: usize, ends: ServeResult) -> Course {
     let mut course = ending(PLAIN, ends);
-    course.pace = Pace {
+    course.behavior = Behavior {
         step,
         call: Call::Write,
         at,
@@ -162,9 +162,9 @@ fn reads(alloc: Global, count: u8) -> Result<Talk, AllocError> {
 
 /// How many bytes of the burst do not come; which write fails, if one does; how the connection ends; how many publications are acknowledged;
 /// and how many are kept.
-type Break = (usize, usize, End, usize, u8);
+type Break = (usize, usize, ServeResult, usize, u8);
 
-const WRITE: End = Err(ServeFault::Write);
+const WRITE: ServeResult = Err(ServeFault::Write);
 
 /// Publications go to the writer by 64. Of those that went together all are kept, though the client hears of some only.
 const BREAKS: [Break; 5] = [

@@ -4,23 +4,23 @@ use super::PUBLISHES;
 use super::play::{PLAIN, Row, as_wanted, ending, plain_row, play};
 use rs_server::Served;
 use rs_test_kit::{
-    CONNACK, End, FAULTS, FIRST, Fault, Pace, SECOND, first_replies, second_replies,
+    Behavior, CONNACK, FAULTS, FIRST, Fault, SECOND, ServeResult, first_replies, second_replies,
 };
 use std::test::Fail;
 
-const CLOSED: End = Ok(Served::ClientClosed);
+const CLOSED: ServeResult = Ok(Served::ClientClosed);
 
 /// The connection of which a call fails, one that reads, and one that publishes. A byte goes by each call. The serial of the last one
 /// is above that of the first, else the writer would refuse it.
 fn rows(fault: &Fault, at: usize) -> [Row<'static>; 3] {
     let mut course = ending(PLAIN, fault.ends);
-    course.pace = Pace {
+    course.behavior = Behavior {
         step: 1,
         call: fault.call,
         at,
     };
     let first = plain_row(course, FIRST, first_replies(fault, at));
-    course.pace.at = 0;
+    course.behavior.at = 0;
     let reads = ending(course, Ok(Served::EndOfInput));
     let second = plain_row(reads, SECOND, second_replies(fault));
     let third = plain_row(ending(course, CLOSED), PUBLISHES, CONNACK);

@@ -7,7 +7,7 @@
 use super::play::{NONE, PLAIN, Row, as_wanted, ending, plain_row, play};
 use super::{PUBLISHES, REPLAYED, SUBSCRIBES};
 use rs_server::Served;
-use rs_test_kit::{CONNACK, CONNECT, End};
+use rs_test_kit::{CONNACK, CONNECT, ServeResult};
 use std::alloc::{AllocError, Global};
 use std::test::Fail;
 
@@ -41,7 +41,7 @@ const PEERS: [(&[u8], &[u8]); 15] = [
 ];
 
 /// How a connection ends that is written this after its CONNACK: by the DISCONNECT, or if there is none, inside a packet.
-fn end_of(output: &[u8]) -> End {
+fn end_of(output: &[u8]) -> ServeResult {
     match output.last() {
         Some(code) => Ok(Served::ServerClosed(*code)),
         None => Ok(Served::CutInput),

@@ -6,7 +6,7 @@ use rs_intake::blank_queue;
 use rs_message::{MAX_PLACES, PlaceCount};
 use rs_places::{Turn, run_store};
 use rs_server::Served;
-use rs_test_kit::{Call, End, Pace, joined};
+use rs_test_kit::{Behavior, Call, ServeResult, joined};
 use std::alloc::{AllocError, Global};
 use std::sync::atomic::Ordering;
 use std::sync::{Arc, Wait};
@@ -14,7 +14,7 @@ use std::test::Fail;
 use std::thread::Threads;
 
 /// Any number of bytes by a call, and none fails.
-pub const SMOOTH: Pace = Pace {
+pub const SMOOTH: Behavior = Behavior {
     step: usize::MAX,
     call: Call::Read,
     at: 0,
@@ -26,7 +26,7 @@ pub const PLAIN: Course = Course {
     after: 0,
     together: 0,
     moments: &[0],
-    pace: SMOOTH,
+    behavior: SMOOTH,
     ends: Ok(Served::ClientClosed),
 };
 
@@ -81,7 +81,7 @@ pub fn later(place: u8, after: u64) -> Course {
 }
 
 /// The course of a connection that ends so.
-pub fn ending(course: Course, ends: End) -> Course {
+pub fn ending(course: Course, ends: ServeResult) -> Course {
     let mut course = course;
     course.ends = ends;
     course

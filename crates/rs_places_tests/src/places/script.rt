@@ -6,7 +6,7 @@ ghost use Rattle.rs_places.specs.Turns.{TakesBack, none_given};
 use super::CLOSED;
 use rs_places::{Connection, Turn};
 use rs_server::{Clock, Counted, ServeFault, Served};
-use rs_test_kit::{End, Pace, Paced};
+use rs_test_kit::{Behavior, FaultyStream, ServeResult};
 use std::alloc::{AllocError, Global};
 use std::collections::VecDeque;
 use std::io;
@@ -29,9 +29,9 @@ pub struct Course {
     pub together: u64,
     /// The times of its packets. The last one stands for all that follow.
     pub moments: &'static [u64],
-    pub pace: Pace,
+    pub behavior: Behavior,
     /// How it has to end.
-    pub ends: End,
+    pub ends: ServeResult,
 }
 
 /// A connection: how it goes, what its client sends, and what it has to be sent.
@@ -78,14 +78,14 @@ pub fn comes(count: &AtomicU64, least: u64) -> bool {
 }
 
 /// What a client sends.
-pub type Input = Paced<VecDeque<u8>>;
+pub type Input = FaultyStream<VecDeque<u8>>;
 
 /// What is written to it.
 #[derive(Drop)]
 pub struct Output {
-    stream: Paced<Vec<u8>>,
+    stream: FaultyStream<Vec<u8>>,
     wanted: Vec<u8>,
-    ends: End,
+    ends: ServeResult,
 }
 
 impl Write for Output {
@@ -99,11 +99,11 @@ impl Write for Output {
 }
 
 impl Output {
-    fn is_right(&self, end: End) -> bool {
+    fn is_right(&self, end: ServeResult) -> bool {
         end == self.ends && self.stream.inner.as_slice() == self.wanted.as_slice()
     }
 
-    fn is_closed(&self, end: End) -> bool {
+    fn is_closed(&self, end: ServeResult) -> bool {
         end == Ok(Served::ServerClosed(0x83)) && self.stream.inner.as_slice() == CLOSED
     }
 }
@@ -191,14 +191,14 @@ impl Turn for Script {
             return None;
         }
         Some(Connection {
-            input: Paced {
+            input: FaultyStream {
                 inner: VecDeque::from_vec(input),
-                pace: course.pace,
+                behavior: course.behavior,
             },
             output: Output {
-                stream: Paced {
+                stream: FaultyStream {
                     inner: Vec::new(self.alloc),
-                    pace: course.pace,
+                    behavior: course.behavior,
                 },
                 wanted: output,
                 ends: course.ends,

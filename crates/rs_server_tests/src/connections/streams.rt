@@ -1,7 +1,7 @@
 //! Clients that send and take bytes slowly, or fail.
 
 use rs_server::{ConnectionId, Counted, Moments, ServeFault, Served, serve};
-use rs_test_kit::{Call, FULL, Pace, Paced};
+use rs_test_kit::{Behavior, Call, FaultyStream, REFUSING_GATE};
 use std::alloc::{AllocError, Global};
 use std::io;
 use std::io::Write;
@@ -90,9 +90,9 @@ fn is_written(narrow: &Narrow, wanted: &Outcome) -> bool {
 }
 
 fn is_served<H: Wait>(rt: &H, alloc: Global, script: &Script, wanted: &Outcome) -> bool {
-    let mut reader = Counted::new(Paced {
+    let mut reader = Counted::new(FaultyStream {
         inner: script.input,
-        pace: Pace {
+        behavior: Behavior {
             step: script.step,
             call: Call::Read,
             at: script.fails_at,
@@ -106,7 +106,15 @@ fn is_served<H: Wait>(rt: &H, alloc: Global, script: &Script, wanted: &Outcome) 
     });
     let mut clock = Moments::new(0, Vec::new(alloc));
     let id = script.id;
-    let (served, _gate) = serve(rt, alloc, &mut reader, &mut writer, FULL, id, &mut clock);
+    let (served, _gate) = serve(
+        rt,
+        alloc,
+        &mut reader,
+        &mut writer,
+        REFUSING_GATE,
+        id,
+        &mut clock,
+    );
     let failures = (reader.failures(), writer.failures());
     let is_ended = served == wanted.served && failures == wanted.failures;
     is_written(&writer.into_inner(), wanted) && is_ended
