@@ -61,6 +61,7 @@ impl<W: Write> Write for FaultyStream<W> {
     }
 
     fn flush(&mut self) -> io::Result<()> {
-        self.behavior.meets(Call::Flush)
+        self.behavior.meets(Call::Flush)?;
+        self.inner.flush()
     }
 }
