@@ -33,14 +33,6 @@ const SUBSCRIBES: &[u8] =
 /// CONNACK, and a DISCONNECT that says that the store takes no more changes.
 const CLOSED: &[u8] = b"\x20\x0D\x00\x00\x0A\x21\x00\x10\x27\x00\x04\x00\x00\x2A\x00\xE0\x01\x83";
 
-/// CONNACK, SUBACK.
-const SUBSCRIBED: &[u8] =
-    b"\x20\x0D\x00\x00\x0A\x21\x00\x10\x27\x00\x04\x00\x00\x2A\x00\x90\x04\x00\x01\x00\x00";
-
-/// CONNACK, SUBACK, and the retained message.
-const REPLAYED: &[u8] =
-    b"\x20\x0D\x00\x00\x0A\x21\x00\x10\x27\x00\x04\x00\x00\x2A\x00\x90\x04\x00\x01\x00\x001\x07\x00\x03a/b\x00x";
-
 fn blank_store(alloc: Global, topics: u32, places: PlaceCount) -> Result<Blank, Fail>
     ensures { IfOk result (λ blank. blank.places ≡ places) }
 {

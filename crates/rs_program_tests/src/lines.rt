@@ -1,6 +1,6 @@
 use rs_program::{PipeFault, pipe, serve_bytes};
 use rs_server::Served;
-use rs_test_kit::REFUSING_GATE;
+use rs_test_kit::{REFUSING_GATE, REPLAYED};
 use std::alloc::Global;
 use std::sync::Wait;
 use std::test::Fail;
@@ -79,8 +79,6 @@ fn a_message_is_replayed(rt: HostRuntime) -> Result<(), Fail> {
         b"\x10\x0E\x00\x04MQTT\x05\x02\x00\x3C\x00\x00\x01a1\x07\x00\x03a/b\x00x\x82\x09\x00\x01\x00\x00\x03a/#\x00\xE0\x00".as_slice();
     let (served, output) = serve_bytes(&rt, rt.alloc(), input, 0)?;
     assert!(rt; served == Served::ClientClosed);
-    let replies =
-        b"\x20\x0D\x00\x00\x0A\x21\x00\x10\x27\x00\x04\x00\x00\x2A\x00\x90\x04\x00\x01\x00\x001\x07\x00\x03a/b\x00x".as_slice();
-    assert!(rt; output.as_slice() == replies);
+    assert!(rt; output.as_slice() == REPLAYED);
     Ok(())
 }

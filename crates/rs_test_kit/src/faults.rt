@@ -1,6 +1,7 @@
 //! What one failing read, write or flush comes to, over any gate: a connection publishes and fails, and the next one by the same gate
 //! reads.
 
+use crate::packets::{REPLAYED, SUBSCRIBED};
 use crate::streams::Call;
 use rs_server::{ServeFault, Served};
 
@@ -15,10 +16,6 @@ const FIRST_REPLIES: &[u8] =
 /// What the second one sends: CONNECT, SUBSCRIBE.
 pub const SECOND: &[u8] =
     b"\x10\x0E\x00\x04MQTT\x05\x02\x00\x3C\x00\x00\x01a\x82\x09\x00\x01\x00\x00\x03a/#\x00";
-
-/// CONNACK, SUBACK, and the PUBLISH if it was kept.
-const SECOND_REPLIES: &[u8] =
-    b"\x20\x0D\x00\x00\x0A\x21\x00\x10\x27\x00\x04\x00\x00\x2A\x00\x90\x04\x00\x01\x00\x00\x31\x07\x00\x03a/b\x00x";
 
 /// How a connection ends.
 pub type ServeResult = Result<Served, ServeFault>;
@@ -140,5 +137,5 @@ pub fn first_replies(fault: &Fault, at: usize) -> &'static [u8] {
 
 /// What is written to the second one.
 pub fn second_replies(fault: &Fault) -> &'static [u8] {
-    &SECOND_REPLIES[..if fault.is_kept { 30 } else { 21 }]
+    if fault.is_kept { REPLAYED } else { SUBSCRIBED }
 }

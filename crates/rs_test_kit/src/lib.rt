@@ -9,5 +9,5 @@ mod streams;
 
 pub use faults::{FAULTS, FIRST, Fault, SECOND, ServeResult, first_replies, second_replies};
 pub use gate::{REFUSING_GATE, Refusing};
-pub use packets::{CONNACK, CONNECT, joined};
+pub use packets::{CONNACK, CONNECT, REPLAYED, SUBSCRIBED, joined};
 pub use streams::{Behavior, Call, FaultyStream};

@@ -3,7 +3,7 @@
 use super::PUBLISHES;
 use super::play::{PLAIN, Row, as_wanted, ending, plain_row, play};
 use rs_server::{ServeFault, Served};
-use rs_test_kit::{Behavior, CONNACK, Call, ServeResult};
+use rs_test_kit::{Behavior, CONNACK, Call, SECOND, ServeResult};
 use std::test::Fail;
 
 /// CONNECT, three retained PUBLISH of QoS 1.
@@ -13,10 +13,6 @@ const THREE: &[u8] =
 /// CONNACK (15 bytes), three PUBACK (4 bytes each).
 const THREE_REPLIES: &[u8] =
     b"\x20\x0D\x00\x00\x0A\x21\x00\x10\x27\x00\x04\x00\x00\x2A\x00\x40\x02\x00\x01\x40\x02\x00\x02\x40\x02\x00\x03";
-
-/// CONNECT, SUBSCRIBE.
-const READS: &[u8] =
-    b"\x10\x0E\x00\x04MQTT\x05\x02\x00\x3C\x00\x00\x01a\x82\x09\x00\x01\x00\x00\x03a/#\x00";
 
 /// CONNACK, SUBACK (21 bytes), and the three PUBLISH (9 bytes each).
 const READ_REPLIES: &[u8] =
@@ -49,7 +45,7 @@ fn rows(at: usize, ends: ServeResult, written: usize, kept: bool) -> [Row<'stati
     };
     let first = plain_row(course, THREE, &THREE_REPLIES[..written.min(27)]);
     let got = &READ_REPLIES[..if kept { 48 } else { 21 }];
-    let second = plain_row(ending(PLAIN, INPUT), READS, got);
+    let second = plain_row(ending(PLAIN, INPUT), SECOND, got);
     let third = plain_row(PLAIN, PUBLISHES, CONNACK);
     [first, second, third]
 }

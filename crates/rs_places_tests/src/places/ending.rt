@@ -4,11 +4,12 @@ ghost use Rattle.std.specs.Prelude.{◌≡◌};
 
 use super::play::{ending, later, plain_row, put_rows, scripts};
 use super::script::{Counts, Script, comes};
-use super::{CLOSED, PUBLISHES, SUBSCRIBED, SUBSCRIBES, blank_store};
+use super::{CLOSED, PUBLISHES, SUBSCRIBES, blank_store};
 use rs_intake::{BlankQueue, LineName, Queue, blank_queue};
 use rs_message::PlaceCount;
 use rs_places::{PlaceEnd, Turn, open_gates, run_places};
 use rs_server::Served;
+use rs_test_kit::SUBSCRIBED;
 use rs_version::{Blank, VersionWriter};
 use std::alloc::Global;
 use std::marker::Brand;

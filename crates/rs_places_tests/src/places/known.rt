@@ -5,12 +5,12 @@ ghost use Rattle.rs_server.specs.Counts.{failures_of, inner_of};
 ghost use Rattle.rs_places.specs.Turns.{TakesBack};
 ghost use Rattle.rs_places_tests.specs.Answered.{AreAnswered};
 
-use super::{PUBLISHES, REPLAYED, SUBSCRIBED, SUBSCRIBES, blank_store};
+use super::{PUBLISHES, SUBSCRIBES, blank_store};
 use rs_intake::{BlankQueue, blank_queue};
 use rs_message::PlaceCount;
 use rs_places::{Connection, StoreEnd, StoreFault, Turn, run_store};
 use rs_server::{Clock, Counted, Moments, ServeFault, Served};
-use rs_test_kit::CONNACK;
+use rs_test_kit::{CONNACK, REPLAYED, SUBSCRIBED};
 use rs_version::Blank;
 use std::alloc::{AllocError, Global};
 use std::collections::VecDeque;

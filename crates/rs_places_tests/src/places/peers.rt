@@ -5,9 +5,9 @@
 //! kind, and three filters that match 40,000 messages each.
 
 use super::play::{NONE, PLAIN, Row, as_wanted, ending, plain_row, play};
-use super::{PUBLISHES, REPLAYED, SUBSCRIBES};
+use super::{PUBLISHES, SUBSCRIBES};
 use rs_server::Served;
-use rs_test_kit::{CONNACK, CONNECT, ServeResult};
+use rs_test_kit::{CONNACK, CONNECT, REPLAYED, ServeResult};
 use std::alloc::{AllocError, Global};
 use std::test::Fail;
 

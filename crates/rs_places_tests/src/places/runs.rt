@@ -2,9 +2,9 @@
 
 use super::play::{NONE, PLAIN, Row, as_wanted, ending, later, plain_row, play, run, scripts};
 use super::script::{Counts, Script};
-use super::{PUBLISHES, REPLAYED, SUBSCRIBED, SUBSCRIBES};
+use super::{PUBLISHES, SUBSCRIBES};
 use rs_server::Served;
-use rs_test_kit::{CONNACK, CONNECT, joined};
+use rs_test_kit::{CONNACK, CONNECT, REPLAYED, SUBSCRIBED, joined};
 use std::alloc::{AllocError, Global};
 use std::sync::Arc;
 use std::test::Fail;
