@@ -53,7 +53,7 @@ fn rows(at: usize, ends: ServeResult, written: usize, kept: bool) -> [Row<'stati
 /// Three publications in one piece, from a client to which some write fails, or none. All are kept if the first was handed over; the next
 /// connection of the place reads them, and the one after it publishes.
 #[test]
-fn publications_come_together(rt: HostRuntime) -> Result<(), Fail> {
+fn publications_of_one_piece_are_kept_together(rt: HostRuntime) -> Result<(), Fail> {
     for (at, ends, written, kept) in FAULTS {
         let changes = if kept { 4 } else { 1 };
         let rows = rows(at, ends, written, kept);

@@ -12,7 +12,7 @@ use std::test::Fail;
 #[derive(Drop)]
 struct Talk {
     sent: Vec<u8>,
-    told: Vec<u8>,
+    replies: Vec<u8>,
 }
 
 impl Talk {
@@ -20,15 +20,15 @@ impl Talk {
     fn new(alloc: Global) -> Result<Talk, AllocError> {
         let mut talk = Talk {
             sent: Vec::new(alloc),
-            told: Vec::new(alloc),
+            replies: Vec::new(alloc),
         };
         talk.put(CONNECT, CONNACK)?;
         Ok(talk)
     }
 
-    fn put(&mut self, sent: &[u8], told: &[u8]) -> Result<(), AllocError> {
+    fn put(&mut self, sent: &[u8], replies: &[u8]) -> Result<(), AllocError> {
         self.sent.extend_from_slice(sent)?;
-        self.told.extend_from_slice(told)
+        self.replies.extend_from_slice(replies)
     }
 
     /// The retained publications of these numbers, of QoS 0 and 1 in turn, to `a`, `b` and `c` in turn.
@@ -117,13 +117,17 @@ fn many(alloc: Global) -> Result<Talk, AllocError> {
 
 /// In one piece, in pieces that hold no packet whole, and in pieces that end inside packets.
 #[test]
-fn many_in_one_piece(rt: HostRuntime) -> Result<(), Fail> {
+fn a_burst_is_answered_as_single_packets_are(rt: HostRuntime) -> Result<(), Fail> {
     let alloc = rt.alloc();
     for step in [usize::MAX, 1, 100] {
         let counts = Arc::new(alloc, Counts::new())?;
         let mut script = Script::new(alloc, Arc::try_clone(&counts)?);
-        let Talk { sent, told } = many(alloc)?;
-        script.put(course(step, 0, Ok(Served::ServerClosed(0x94))), sent, told)?;
+        let Talk { sent, replies } = many(alloc)?;
+        script.put(
+            course(step, 0, Ok(Served::ServerClosed(0x94))),
+            sent,
+            replies,
+        )?;
         let ran = run(rt, alloc, 10, vec![in alloc; script]?, &counts)?;
         assert!(rt; ran == as_wanted(1, 1, 10_100, 10_100), "{step}");
     }
@@ -177,17 +181,20 @@ const BREAKS: [Break; 5] = [
 
 /// The connection breaks off in the middle of a burst. What was acknowledged is there for the next client.
 #[test]
-fn burst_that_breaks_off(rt: HostRuntime) -> Result<(), Fail> {
+fn what_was_acknowledged_of_a_broken_burst_is_kept(rt: HostRuntime) -> Result<(), Fail> {
     let alloc = rt.alloc();
     for (missing, at, ends, acknowledged, kept) in BREAKS {
         let counts = Arc::new(alloc, Counts::new())?;
         let mut script = Script::new(alloc, Arc::try_clone(&counts)?);
-        let Talk { mut sent, mut told } = publishes(alloc)?;
+        let Talk {
+            mut sent,
+            mut replies,
+        } = publishes(alloc)?;
         sent.truncate(sent.len().saturating_sub(missing));
-        told.truncate(15 + 4 * acknowledged.min(150));
-        script.put(course(usize::MAX, at, ends), sent, told)?;
-        let Talk { sent, told } = reads(alloc, kept)?;
-        script.put(ending(PLAIN, Ok(Served::EndOfInput)), sent, told)?;
+        replies.truncate(15 + 4 * acknowledged.min(150));
+        script.put(course(usize::MAX, at, ends), sent, replies)?;
+        let Talk { sent, replies } = reads(alloc, kept)?;
+        script.put(ending(PLAIN, Ok(Served::EndOfInput)), sent, replies)?;
         let kept = u64::from(kept);
         let ran = run(rt, alloc, 200, vec![in alloc; script]?, &counts)?;
         assert!(rt; ran == as_wanted(1, 2, kept, kept), "{at}");

@@ -119,7 +119,7 @@ fn put_exchanges(alloc: Global, scripts: &mut [Script]) -> Result<(), Fail> {
 /// A queue that ends while all places publish but one, which publishes for the first time after that. Each publication is answered,
 /// 0x97 if the queue took it, and else 0x83, as those are which come later. The next connection of each place reads.
 #[test]
-fn each_place_is_answered(rt: HostRuntime) -> Result<(), Fail> {
+fn each_place_is_answered_if_the_queue_ends(rt: HostRuntime) -> Result<(), Fail> {
     let alloc = rt.alloc();
     let counts = Arc::new(alloc, Counts::new())?;
     let mut turns = scripts(alloc, &counts, EARLY + 1)?;

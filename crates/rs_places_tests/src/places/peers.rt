@@ -49,11 +49,11 @@ fn end_of(output: &[u8]) -> ServeResult {
 }
 
 /// The peer of this row of the table.
-fn peer(sent: &'static [u8], told: &'static [u8]) -> Row<'static> {
+fn peer(sent: &'static [u8], replies: &'static [u8]) -> Row<'static> {
     Row {
-        course: ending(PLAIN, end_of(told)),
+        course: ending(PLAIN, end_of(replies)),
         sent: [CONNECT, sent, NONE, NONE],
-        told: [CONNACK, told, NONE],
+        replies: [CONNACK, replies, NONE],
     }
 }
 
@@ -62,8 +62,8 @@ fn peer(sent: &'static [u8], told: &'static [u8]) -> Row<'static> {
 fn rows(alloc: Global) -> Result<Vec<Row<'static>>, AllocError> {
     let mut rows = Vec::new(alloc);
     rows.push(plain_row(PLAIN, PUBLISHES, CONNACK))?;
-    for (sent, told) in PEERS {
-        rows.push(peer(sent, told))?;
+    for (sent, replies) in PEERS {
+        rows.push(peer(sent, replies))?;
     }
     rows.push(plain_row(PLAIN, PUBLISHES, CONNACK))?;
     rows.push(plain_row(PLAIN, SUBSCRIBES, REPLAYED))?;
@@ -71,7 +71,7 @@ fn rows(alloc: Global) -> Result<Vec<Row<'static>>, AllocError> {
 }
 
 #[test]
-fn malicious(rt: HostRuntime) -> Result<(), Fail> {
+fn clients_that_break_the_rules_harm_no_other(rt: HostRuntime) -> Result<(), Fail> {
     let alloc = rt.alloc();
     assert!(rt; play(rt, alloc, 10, 1, &rows(alloc)?)? == as_wanted(1, 18, 2, 2));
     Ok(())

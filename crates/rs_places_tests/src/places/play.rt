@@ -57,18 +57,18 @@ pub fn as_wanted(threads: usize, right: u64, changes: u64, version: u64) -> Left
 pub struct Row<'a> {
     pub course: Course,
     pub sent: [&'a [u8]; 4],
-    pub told: [&'a [u8]; 3],
+    pub replies: [&'a [u8]; 3],
 }
 
 /// A part that has no bytes.
 pub const NONE: &[u8] = b"";
 
 /// A connection in one part.
-pub fn plain_row<'a>(course: Course, sent: &'a [u8], told: &'a [u8]) -> Row<'a> {
+pub fn plain_row<'a>(course: Course, sent: &'a [u8], replies: &'a [u8]) -> Row<'a> {
     Row {
         course,
         sent: [sent, NONE, NONE, NONE],
-        told: [told, NONE, NONE],
+        replies: [replies, NONE, NONE],
     }
 }
 
@@ -89,7 +89,7 @@ pub fn ending(course: Course, ends: ServeResult) -> Course {
 
 /// Appends the connection to those that wait.
 fn put_row(alloc: Global, script: &mut Script, row: &Row<'_>) -> Result<(), AllocError> {
-    let output = joined(alloc, &row.told)?;
+    let output = joined(alloc, &row.replies)?;
     let input = joined(alloc, &row.sent)?;
     script.put(row.course, input, output)
 }

@@ -11,7 +11,7 @@ use std::test::Fail;
 
 /// Each of two connections is held in its SUBSCRIBE until the other has come to its own. One thread for both would not do.
 #[test]
-fn two_connections_meet(rt: HostRuntime) -> Result<(), Fail> {
+fn two_places_serve_at_the_same_time(rt: HostRuntime) -> Result<(), Fail> {
     let mut meeting = PLAIN;
     meeting.together = 2;
     let first = plain_row(meeting, SUBSCRIBES, SUBSCRIBED);
@@ -24,7 +24,7 @@ fn two_connections_meet(rt: HostRuntime) -> Result<(), Fail> {
 /// The next connection of a place is sent what the one before published, and so is that of a place that was told nothing. A third
 /// place has no connection, and is served too.
 #[test]
-fn later_connection_sees(rt: HostRuntime) -> Result<(), Fail> {
+fn a_later_connection_is_sent_what_was_published(rt: HostRuntime) -> Result<(), Fail> {
     let rows = [
         plain_row(PLAIN, PUBLISHES, CONNACK),
         plain_row(PLAIN, SUBSCRIBES, REPLAYED),
@@ -94,7 +94,7 @@ fn put_all(alloc: Global, scripts: &mut [Script]) -> Result<(), AllocError> {
 /// 64 places with two connections each, whose assigned client identifiers name the place and the number of the connection. Each
 /// connection publishes the next numbers and reads the last one back, so the changes of a place are made in its order.
 #[test]
-fn all_places(rt: HostRuntime) -> Result<(), Fail> {
+fn the_changes_of_each_place_are_made_in_order(rt: HostRuntime) -> Result<(), Fail> {
     let alloc = rt.alloc();
     let counts = Arc::new(alloc, Counts::new())?;
     let mut turns = scripts(alloc, &counts, 64)?;
@@ -105,7 +105,7 @@ fn all_places(rt: HostRuntime) -> Result<(), Fail> {
 
 /// A retained PUBLISH of a, as large as a packet may be, goes from one place to another.
 #[test]
-fn large(rt: HostRuntime) -> Result<(), Fail> {
+fn the_largest_packet_goes_from_place_to_place(rt: HostRuntime) -> Result<(), Fail> {
     let alloc = rt.alloc();
     let payload = vec![in alloc; b'x'; 262_136]?;
     let head = b"\x31\xFC\xFF\x0F\x00\x01a\x00".as_slice();
@@ -113,12 +113,12 @@ fn large(rt: HostRuntime) -> Result<(), Fail> {
         Row {
             course: ending(PLAIN, Ok(Served::EndOfInput)),
             sent: [CONNECT, head, &payload, NONE],
-            told: [CONNACK, NONE, NONE],
+            replies: [CONNACK, NONE, NONE],
         },
         Row {
             course: later(2, 1),
             sent: [SUBSCRIBES, NONE, NONE, NONE],
-            told: [SUBSCRIBED, head, &payload],
+            replies: [SUBSCRIBED, head, &payload],
         },
     ];
     assert!(rt; play(rt, alloc, 10, 2, &rows)? == as_wanted(2, 2, 1, 1));
@@ -135,7 +135,7 @@ const FILLED: &[u8] =
 
 /// A store of two topics takes a replacement and a clearing, and no third topic.
 #[test]
-fn full(rt: HostRuntime) -> Result<(), Fail> {
+fn a_full_store_takes_replacements_and_clears(rt: HostRuntime) -> Result<(), Fail> {
     let fills = [plain_row(PLAIN, FILLS, FILLED)];
     assert!(rt; play(rt, rt.alloc(), 2, 1, &fills)? == as_wanted(1, 1, 5, 4));
     Ok(())

@@ -32,23 +32,23 @@ fn row_of<'a>(
     after: u64,
     moments: &'static [u64],
     sent: [&'a [u8]; 3],
-    told: [&'a [u8]; 2],
+    replies: [&'a [u8]; 2],
 ) -> Row<'a> {
     let mut course = ending(later(place, after), Ok(Served::EndOfInput));
     course.moments = moments;
     let [first, second, third] = sent;
-    let [reply, messages] = told;
+    let [reply, messages] = replies;
     Row {
         course,
         sent: [CONNECT, first, second, third],
-        told: [CONNACK, reply, messages],
+        replies: [CONNACK, reply, messages],
     }
 }
 
 /// In a store of two topics, a third finds no room while one has a second left, and takes its place when it has expired. Another
 /// place reads the same. Four jobs, of which one was refused, and four entries: of a, of b, the Sweep, and of c.
 #[test]
-fn room_for_a_third(rt: HostRuntime) -> Result<(), Fail> {
+fn an_expired_message_makes_room_for_a_third_topic(rt: HostRuntime) -> Result<(), Fail> {
     let rows = [
         row_of(1, 0, MOMENTS, [SENT, NONE, NONE], [REPLIES, LEFT]),
         row_of(2, 1, AT_110, [SUBSCRIBE, NONE, NONE], [GRANTED, LEFT]),
@@ -121,7 +121,7 @@ fn all_rounds<'a>(alloc: Global, messages: &'a [u8]) -> Result<Vec<Row<'a>>, All
 /// 64 places fill the store, find no room for as many other topics while their messages last, and fill it again when they have
 /// expired. Each then reads the new ones alone. Three changes of each place, of which one is refused, and one Sweep for all.
 #[test]
-fn filled_again(rt: HostRuntime) -> Result<(), Fail> {
+fn all_places_fill_the_store_again_once_all_has_expired(rt: HostRuntime) -> Result<(), Fail> {
     let alloc = rt.alloc();
     let messages = later_messages(alloc)?;
     let rows = all_rounds(alloc, &messages)?;
