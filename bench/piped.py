@@ -26,7 +26,7 @@ SESSIONS = (
     ("filters in a packet each, of which 256 are granted", 1_000, subscribed, (0, 5, False)),
 )
 
-# How often as long ten times the session may take.
+# How many times as long ten times the session may take.
 SESSION_LIMIT = 13
 
 # The seconds that a SUBSCRIBE of 40 kB may take, whose 10,000 filters each match 10,000 messages.

@@ -15,16 +15,16 @@ TREES = (1_000, 10_000, 65_536)
 # other that of one topic.
 DIRECT = ("answer_one", "answer_below")
 
-# How often as long one topic, or one such answer, may take among 65,536 topics as among 10,000. A
-# logarithm, and what no longer fits the caches, make it two to three times; a step in each call
-# that grows with the topics would make it more than six and a half.
+# How many times as long one topic, or one such answer, may take among 65,536 topics as among
+# 10,000. A logarithm, and what no longer fits the caches, make it two to three times; a step in
+# each call that grows with the topics would make it more than six and a half.
 EACH_LIMIT = 5
 
 # The nanoseconds that the tree may take to answer a filter of one topic among 65,536.
 ONE_LIMIT = 1_000
 
-# With how many topics the adds to a full tree are timed, and how often as long as one that finds
-# room one may take that finds it full and nothing expired.
+# With how many topics the adds to a full tree are timed. An add that finds it full and nothing
+# expired may take so many times as long as one that finds room.
 FULL_TOPICS = (10_000, 65_536)
 FULL_LIMIT = 2
 

@@ -1,7 +1,7 @@
 """Runs the program as a server for many clients at once, some of which behave badly.
 
-What has to come is waited for, and the guard of PATIENCE only ends a check that hangs. Nothing is
-judged by time: it only excuses a refused client that was held up.
+The checks wait for what has to come, and PATIENCE only ends a check that hangs. No check fails by a
+time: a time only excuses a refused client that was held up.
 """
 
 from checks.listening_addresses import addresses, restart

@@ -1,4 +1,4 @@
-"""Looks how much memory the program takes while it keeps little of much that it reads.
+"""Looks at the memory that the program takes while it reads much and keeps little of it.
 
 A kept message must hold its own packet, and not the buffer that it was read into; a subscription
 its own filter, and not the SUBSCRIBE that it came in.

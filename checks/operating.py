@@ -1,8 +1,8 @@
 """Runs the program with `--idle` and with `--log`: a silent client gives its place back, and what
 the log says of each connection is true.
 
-What has to come is waited for. A connection that has to end may end late, as on a busy machine, and
-one that has to stay is only looked at by what it is answered.
+The checks wait for what has to come. A connection that has to end may end late, as on a busy
+machine. Of one that has to stay they look only at what it is answered.
 """
 
 from checks.operating_idle import (

@@ -1,8 +1,8 @@
 """Compares how the program ends in each way that PIPE.md and RUNNING.md name, and more: its status,
 standard output and standard error.
 
-What this project words is compared as it is. Of what clap words, which is help and why a command
-line is refused, it is compared how it begins and what else it has to say, in this order.
+The texts of this project have to be the same. clap's texts are help, and why a command line is
+refused: they have to begin as is said here, and to have certain parts, in this order.
 """
 
 import socket

@@ -1,5 +1,5 @@
 """How long a script waits."""
 
-# Seconds after which something that does not go on is given up. Nothing that works takes nearly
-# as long.
+# After so many seconds a script gives up what does not go on. Nothing that works takes nearly as
+# long.
 PATIENCE = 300
