@@ -25,7 +25,7 @@ use Rattle.rs_session.specs.declared.session.Session.{Session}
 use Rattle.rs_session.specs.Gate.{Mark, UsesIfOpen}
 use Rattle.rs_session.specs.Reasons.{code_of}
 use Rattle.rs_session.specs.State.{State, gate_of, state_of}
-use Rattle.rs_session.specs.Steps.{NoneSent, outcome_before, outcome_of_alias, outcome_of_id, outcome_of_submit, outcome_of_topic, outcome_unmade, topic_refusal}
+use Rattle.rs_session.specs.Steps.{NoSerialUsed, outcome_before, outcome_of_alias, outcome_of_id, outcome_of_submit, outcome_of_topic, outcome_unmade, topic_refusal}
 use Rattle.rs_session.specs.Table.{acknowledged_by, unreleased_id, is_unreleased, is_one_too_many, state_after}
 use Rattle.rs_session.proofs.Expecting.{IsNoPublish}
 
@@ -85,7 +85,7 @@ unmade : (ahead : List Operation) (qos : Qos) (id : Option ℕ) → ahead ≡ []
 unmade [] qos id none e = replies _ e
 unmade (operation ∷ operations) qos id none e = some_none operation operations none
 
-pub by_refusal_certain : (stands : List Entry → Type 0) (ahead : List Operation) (old new : Mark) (qos : Qos) (id : Option ℕ) (outcome : Outcome) → outcome ≡ outcome_unmade ahead qos id → NoneSent stands ahead old new → outcome ≢ Closes QuotaExceeded
+pub by_refusal_certain : (stands : List Entry → Type 0) (ahead : List Operation) (old new : Mark) (qos : Qos) (id : Option ℕ) (outcome : Outcome) → outcome ≡ outcome_unmade ahead qos id → NoSerialUsed stands ahead old new → outcome ≢ Closes QuotaExceeded
 by_refusal_certain stands ahead old new qos id outcome is none e = unmade ahead qos id none.2 (sym is ∙ e)
 
 -- ---- a session
@@ -128,9 +128,9 @@ not_ended (Closes code) s o other e = other (ap (λ (x : ReasonCode). Closes x) 
 not_ended Leaves s o other e = by_client _ e
 
 pub took_certain : {G : Type 0} (stands : G → List Entry → Type 0) (ahead : G → List Operation) (mark : G → Mark) (old mid new : Session G) (left : Open) (s : State) (gate : G) (outcome : Outcome)
-    → new ≡ mid → gate_of mid ≡ gate → state_of mid ≡ state_after outcome s left → (NoneSent (stands (gate_of old)) (ahead (gate_of old)) (mark (gate_of old)) (mark gate) → outcome ≢ Closes QuotaExceeded)
-    → NoneSent (stands (gate_of old)) (ahead (gate_of old)) (mark (gate_of old)) (mark (gate_of new)) → (state_of new).phase ≢ phase.Ended (ByServer (code_of QuotaExceeded))
+    → new ≡ mid → gate_of mid ≡ gate → state_of mid ≡ state_after outcome s left → (NoSerialUsed (stands (gate_of old)) (ahead (gate_of old)) (mark (gate_of old)) (mark gate) → outcome ≢ Closes QuotaExceeded)
+    → NoSerialUsed (stands (gate_of old)) (ahead (gate_of old)) (mark (gate_of old)) (mark (gate_of new)) → (state_of new).phase ≢ phase.Ended (ByServer (code_of QuotaExceeded))
 took_certain {G} stands ahead mark old mid new left s gate outcome e g d certain none is =
     let same : gate_of new ≡ gate = ap (λ (x : Session G). gate_of x) e ∙ g in
-    not_ended outcome s left (certain (subst (λ (x : G). NoneSent (stands (gate_of old)) (ahead (gate_of old)) (mark (gate_of old)) (mark x)) same none))
+    not_ended outcome s left (certain (subst (λ (x : G). NoSerialUsed (stands (gate_of old)) (ahead (gate_of old)) (mark (gate_of old)) (mark x)) same none))
     (sym (ap (λ (x : State). x.phase) d) ∙ (sym (ap (λ (x : Session G). (state_of x).phase) e) ∙ is))

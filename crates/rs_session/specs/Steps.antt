@@ -90,9 +90,9 @@ abbrev pub outcome_unmade : List Operation → Qos → Option ℕ → Outcome
 outcome_unmade [] qos id = Replies (acknowledged_by qos id QuotaExceeded)
 outcome_unmade (operation ∷ operations) qos id = Closes QuotaExceeded
 
--- No change was sent by a gate that stands for some list: it expected none before, and used no serial.
-abbrev pub NoneSent : (List Entry → Type 0) → List Operation → Mark → Mark → Type 0
-NoneSent stands ahead old new = (seen : List Entry) × stands seen × (ahead ≡ []) × (new.serial ≡ old.serial)
+-- A gate that stands for some list used no serial, and expected no change before.
+abbrev pub NoSerialUsed : (List Entry → Type 0) → List Operation → Mark → Mark → Type 0
+NoSerialUsed stands ahead old new = (seen : List Entry) × stands seen × (ahead ≡ []) × (new.serial ≡ old.serial)
 
 -- an outcome that ends the session
 abbrev pub IsLast : Outcome → Type 0

@@ -11,7 +11,7 @@ ghost use Rattle.rs_packet.specs.declared.packet.Publish.{Publish};
 ghost use Rattle.rs_session.specs.Gate.{GrowsAnswering};
 ghost use Rattle.rs_session.specs.Points.{given_at, point_at};
 ghost use Rattle.rs_session.specs.Ahead.{IsChange, LeavesAhead};
-ghost use Rattle.rs_session.specs.Steps.{IsUnsent, NoneSent};
+ghost use Rattle.rs_session.specs.Steps.{IsUnsent, NoSerialUsed};
 ghost use Rattle.rs_session.specs.Table.{LeadsTo, open_for};
 
 use crate::gate::Gate;
@@ -59,7 +59,7 @@ impl Open {
         ensures row { GrowsAnswering G.stands G.mark gate.old gate.new (λ seen answered list.
             LeadsTo (given_at (Input.Whole packet) now) (point_at self.old seen (G.mark gate.old)) answered result (point_at self.new list (G.mark gate.new))) }
         ensures ahead { LeavesAhead (given_at (Input.Whole packet) now) (G.ahead gate.old) (G.ahead gate.new) (IsUnsent (G.mark gate.old) (G.mark gate.new) result) }
-        ensures certain { (p : Publish) → packet ≡ Packet.Publish p → NoneSent (G.stands gate.old) (G.ahead gate.old) (G.mark gate.old) (G.mark gate.new) → result ≢ Outcome.Closes ReasonCode.QuotaExceeded }
+        ensures certain { (p : Publish) → packet ≡ Packet.Publish p → NoSerialUsed (G.stands gate.old) (G.ahead gate.old) (G.mark gate.old) (G.mark gate.new) → result ≢ Outcome.Closes ReasonCode.QuotaExceeded }
     {
         match packet {
             Packet::Connect(_c) => Outcome::Closes(ReasonCode::ProtocolError),

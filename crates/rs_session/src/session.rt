@@ -16,7 +16,7 @@ ghost use Rattle.rs_session.specs.Reasons.{code_of};
 ghost use Rattle.rs_session.specs.Run.{replies_left};
 ghost use Rattle.rs_session.specs.State.{session_at, state_of, due_of, gate_of, closing_of, is_open, step_of, fresh, ended, waiting_of, within, IsGiven, IsReplayed};
 ghost use Rattle.rs_session.specs.declared.open.Open.{Open};
-ghost use Rattle.rs_session.specs.Steps.{NoneSent};
+ghost use Rattle.rs_session.specs.Steps.{NoSerialUsed};
 ghost use Rattle.rs_session.specs.Table.{Answers, due_for, fault_reason, state_after};
 
 use crate::gate::Gate;
@@ -66,7 +66,7 @@ impl<G: Gate> Session<G> {
         ensures ahead { LeavesAhead (given_at (Input.Whole packet) now) (G.ahead (gate_of self.old)) (G.ahead (gate_of self.new))
             ((G.mark (gate_of self.new) ≡ G.mark (gate_of self.old)) × (step_of (state_of self.new).phase ≡ Step.End)) }
         ensures certain { (p : Publish) (o : Open) → packet ≡ Packet.Publish p → (state_of self.old).phase ≡ Phase.Open o
-            → NoneSent (G.stands (gate_of self.old)) (G.ahead (gate_of self.old)) (G.mark (gate_of self.old)) (G.mark (gate_of self.new))
+            → NoSerialUsed (G.stands (gate_of self.old)) (G.ahead (gate_of self.old)) (G.mark (gate_of self.old)) (G.mark (gate_of self.new))
             → (state_of self.new).phase ≢ Phase.Ended (Closing.ByServer (code_of ReasonCode.QuotaExceeded)) }
     {
         self.on_packet_with(packet, None, now)
@@ -83,7 +83,7 @@ impl<G: Gate> Session<G> {
         ensures ahead { LeavesAhead (given_at (Input.Whole packet) now) (G.ahead (gate_of self.old)) (G.ahead (gate_of self.new))
             ((G.mark (gate_of self.new) ≡ G.mark (gate_of self.old)) × (step_of (state_of self.new).phase ≡ Step.End)) }
         ensures certain { (p : Publish) (o : Open) → packet ≡ Packet.Publish p → (state_of self.old).phase ≡ Phase.Open o
-            → NoneSent (G.stands (gate_of self.old)) (G.ahead (gate_of self.old)) (G.mark (gate_of self.old)) (G.mark (gate_of self.new))
+            → NoSerialUsed (G.stands (gate_of self.old)) (G.ahead (gate_of self.old)) (G.mark (gate_of self.old)) (G.mark (gate_of self.new))
             → (state_of self.new).phase ≢ Phase.Ended (Closing.ByServer (code_of ReasonCode.QuotaExceeded)) }
     {
         match &mut self.phase {
@@ -133,7 +133,7 @@ impl<G: Gate> Session<G> {
         ensures ahead { LeavesAhead (given_at input now) (G.ahead (gate_of self.old)) (G.ahead (gate_of self.new))
             ((G.mark (gate_of self.new) ≡ G.mark (gate_of self.old)) × (step_of (state_of self.new).phase ≡ Step.End)) }
         ensures certain { (p : Publish) (o : Open) → input ≡ Input.Whole (Packet.Publish p) → (state_of self.old).phase ≡ Phase.Open o
-            → NoneSent (G.stands (gate_of self.old)) (G.ahead (gate_of self.old)) (G.mark (gate_of self.old)) (G.mark (gate_of self.new))
+            → NoSerialUsed (G.stands (gate_of self.old)) (G.ahead (gate_of self.old)) (G.mark (gate_of self.old)) (G.mark (gate_of self.new))
             → (state_of self.new).phase ≢ Phase.Ended (Closing.ByServer (code_of ReasonCode.QuotaExceeded)) }
     {
         match input {

@@ -6,7 +6,7 @@ ghost use Rattle.rs_message.specs.declared.entry.Operation.{Operation};
 ghost use Rattle.rs_session.specs.Gate.{Grows, GrowsAnswering, IsHandedOver, SendsAtMost, Uses, entry_by};
 ghost use Rattle.rs_session.specs.Points.{given_at, point_at};
 ghost use Rattle.rs_session.specs.Ahead.{IsChange, LeavesAhead};
-ghost use Rattle.rs_session.specs.Steps.{IsConcluded, IsUnsent, NoneSent, TakesAheadBy, outcome_before, outcome_of_submit, outcome_of_id, outcome_unmade, topic_refusal};
+ghost use Rattle.rs_session.specs.Steps.{IsConcluded, IsUnsent, NoSerialUsed, TakesAheadBy, outcome_before, outcome_of_submit, outcome_of_id, outcome_unmade, topic_refusal};
 ghost use Rattle.rs_session.specs.Table.{LeadsTo, acknowledged_by, unreleased_id, unreleased_with, is_unreleased, is_one_too_many};
 
 use super::{Open, Outcome};
@@ -31,7 +31,7 @@ impl Open {
         ensures row { GrowsAnswering G.stands G.mark gate.old gate.new (λ seen answered list.
             LeadsTo (given_at (Input.Whole (Packet.Publish p)) now) (point_at self.old seen (G.mark gate.old)) answered result (point_at self.new list (G.mark gate.new))) }
         ensures ahead { LeavesAhead (given_at (Input.Whole (Packet.Publish p)) now) (G.ahead gate.old) (G.ahead gate.new) (IsUnsent (G.mark gate.old) (G.mark gate.new) result) }
-        ensures certain { NoneSent (G.stands gate.old) (G.ahead gate.old) (G.mark gate.old) (G.mark gate.new) → result ≢ Outcome.Closes ReasonCode.QuotaExceeded }
+        ensures certain { NoSerialUsed (G.stands gate.old) (G.ahead gate.old) (G.mark gate.old) (G.mark gate.new) → result ≢ Outcome.Closes ReasonCode.QuotaExceeded }
     {
         match self.outcome_before(&p) {
             Some(outcome) => outcome,
@@ -82,7 +82,7 @@ impl Open {
         ensures row { GrowsAnswering G.stands G.mark gate.old gate.new (λ seen answered list.
             LeadsTo (given_at (Input.Whole (Packet.Publish p)) now) (point_at self.old seen (G.mark gate.old)) answered result (point_at self.new list (G.mark gate.new))) }
         ensures ahead { LeavesAhead (given_at (Input.Whole (Packet.Publish p)) now) (G.ahead gate.old) (G.ahead gate.new) (IsUnsent (G.mark gate.old) (G.mark gate.new) result) }
-        ensures certain { NoneSent (G.stands gate.old) (G.ahead gate.old) (G.mark gate.old) (G.mark gate.new) → result ≢ Outcome.Closes ReasonCode.QuotaExceeded }
+        ensures certain { NoSerialUsed (G.stands gate.old) (G.ahead gate.old) (G.mark gate.old) (G.mark gate.new) → result ≢ Outcome.Closes ReasonCode.QuotaExceeded }
     {
         let Publish {
             duplicate: _,
@@ -127,7 +127,7 @@ impl Open {
         ensures mark { Uses (G.mark gate.old) (G.mark gate.new) }
         ensures sent { SendsAtMost (G.mark gate.old).sent (entry_by operation (G.mark gate.new)) (G.mark gate.new).sent }
         ensures ahead { TakesAheadBy operation (G.mark gate.old) (G.mark gate.new) result (G.ahead gate.old) (G.ahead gate.new) }
-        ensures certain { NoneSent (G.stands gate.old) (G.ahead gate.old) (G.mark gate.old) (G.mark gate.new) → result ≢ Outcome.Closes ReasonCode.QuotaExceeded }
+        ensures certain { NoSerialUsed (G.stands gate.old) (G.ahead gate.old) (G.mark gate.old) (G.mark gate.new) → result ≢ Outcome.Closes ReasonCode.QuotaExceeded }
     {
         let submitted = gate.submit(operation);
         if submitted.is_ok() {
