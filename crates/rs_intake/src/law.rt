@@ -2,14 +2,14 @@
 
 ghost use Rattle.rs_intake.specs.Law.{EndIsLast, HeardInOrder, InOrder, KeptAsAnswered};
 
-/// Does nothing. Its contract says what the rule of the queue gives at every moment: what the writer took of a place is a prefix
+/// Does nothing. Its contract says what the rule of the queue always gives: what the writer took of a place is a prefix
 /// of what the line of that place sent, and once the writer took the place's End, all of it.
 pub fn line_order_law()
     ensures order { InOrder }
     ensures last { EndIsLast }
 {}
 
-/// Does nothing. Its contract says what the rule of a way back gives at every moment: what the line received is a prefix of what the
+/// Does nothing. Its contract says what the rule of a way back always gives: what the line received is a prefix of what the
 /// writer's end sent.
 pub fn reply_order_law()
     ensures { HeardInOrder }

@@ -3,7 +3,7 @@
 //! Each place has a line ([`SeatLine`]). [`Intake::submit`] sends an operation by the line, under the line's next serial, and
 //! waits for the receipt of just that entry. Changes that a line expects ([`SeatLine::expect`]) are sent together, as one job, and
 //! submitted one by one. [`run_writer`] takes jobs from the [`Queue`], puts each of their changes into the store, and answers
-//! their line. What it takes of a place is at every moment a prefix of what the line sent ([`line_order_law`]), and what a line has
+//! their line. What it takes of a place is always a prefix of what the line sent ([`line_order_law`]), and what a line has
 //! received of the replies is a prefix of those that were sent to it ([`reply_order_law`]).
 //!
 //! [`SeatLine::close`] ends a line. When all lines and the writer have ended, [`settle`] says whether all that was sent was taken.

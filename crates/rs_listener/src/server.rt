@@ -42,14 +42,14 @@ pub struct Summary {
 
 impl Server {
     /// Binds an address: a host's name, an IPv4 or an IPv6 address, and a port, as `localhost:1883` or `[::1]:1883`. Port 0 takes one
-    /// that is free. It will accept `connections` connections, none if that is 0, and serve as many clients at the same time as there are `places`.
-    /// Their store is empty, and holds messages of at most `limit` topics. If `idle` is given, a
-    /// connection ends if no byte came for so long, or if no byte of what waits for its client was taken for so long.
+    /// that is free. It will accept `connections` connections, none if that is 0, and serve as many clients at the same time as there are
+    /// `places`. Their store is empty, and holds messages of at most `limit` topics. If `idle` is given, a connection ends if no byte came
+    /// for so long, or if no byte of what waits for its client was taken for so long.
     ///
     /// # Errors
     ///
-    /// [`Address`](ListenFault::Address) if `address` is not an address, is in use, or may not be bound, [`NoMemory`](ListenFault::NoMemory) if
-    /// memory is refused.
+    /// [`Address`](ListenFault::Address) if `address` is not an address, is in use, or may not be bound,
+    /// [`NoMemory`](ListenFault::NoMemory) if memory is refused.
     pub fn bind<H: Net<Listener = TcpListener, Stream = TcpStream>>(
         rt: &H,
         alloc: Global,

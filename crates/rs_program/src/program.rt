@@ -60,8 +60,8 @@ impl RunFault {
 }
 
 /// Runs the program by its command line, and gives its exit status: 0 if the connection or all connections ended, or help was asked
-/// for, 1 if no client can be served, a place had no thread, not all changes are known to be taken, or reading, writing or memory failed, 2 if the
-/// command line or a line of the input is refused.
+/// for, 1 if no client can be served, a place had no thread, not all changes are known to be taken, or reading, writing or memory failed,
+/// 2 if the command line or a line of the input is refused.
 ///
 /// `pipe` is over this input and output. All else that is printed, help, faults and the lines of `listen`, goes to the standard
 /// streams of `rt`.

@@ -1,3 +1,5 @@
+//! Lines of hex digits in place of bytes.
+
 use rs_program::{PipeFault, pipe, serve_bytes};
 use rs_server::Served;
 use rs_test_kit::{REFUSING_GATE, REPLAYED};

@@ -1,4 +1,4 @@
-// Command lines.
+//! Command lines.
 
 use rs_message::{MAX_PLACES, PlaceCount};
 use rs_program::{MAX_CONNECTIONS, MAX_IDLE, Run, WordsFault, read_words};

@@ -1,3 +1,5 @@
+//! Connections over streams in memory.
+
 mod ahead;
 mod counted;
 mod handed;

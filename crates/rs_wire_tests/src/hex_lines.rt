@@ -1,3 +1,5 @@
+//! Lines of hex digits, read and written.
+
 mod reading;
 mod writing;
 

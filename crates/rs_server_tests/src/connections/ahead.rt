@@ -91,17 +91,17 @@ impl Read for Cut<'_> {
     }
 }
 
-/// CONNECT; PUBLISH with RETAIN 1 to `a`, `b` (QoS 1) and again `a`, with an empty payload; PINGREQ; one to `c` of QoS 2 and its PUBREL; one
-/// to `b` (QoS 1); one with RETAIN 0; two with RETAIN 1 to `d`, with an interval of 100 seconds, and `e`; SUBSCRIBE to all; one to `d` with an
-/// empty payload (QoS 1) and one to `g`; one to a topic with a wildcard, which ends the session; and one more.
+/// CONNECT; PUBLISH with RETAIN 1 to `a`, `b` (QoS 1) and again `a`, with an empty payload; PINGREQ; one to `c` of QoS 2 and its PUBREL;
+/// one to `b` (QoS 1); one with RETAIN 0; two with RETAIN 1 to `d`, with an interval of 100 seconds, and `e`; SUBSCRIBE to all; one to `d`
+/// with an empty payload (QoS 1) and one to `g`; one to a topic with a wildcard, which ends the session; and one more.
 const SENT: &[u8] = b"\x10\x0E\x00\x04MQTT\x05\x02\x00\x3C\x00\x00\x01a\
 \x31\x05\x00\x01a\x00x\x33\x07\x00\x01b\x00\x63\x00x\x31\x04\x00\x01a\x00\xC0\x00\
 \x35\x07\x00\x01c\x00\x64\x00x\x62\x02\x00\x64\x33\x07\x00\x01b\x00\x65\x00y\x30\x05\x00\x01a\x00z\
 \x31\x0A\x00\x01d\x05\x02\x00\x00\x00\x64x\x31\x05\x00\x01e\x00x\x82\x07\x00\x01\x00\x00\x01#\x00\
 \x33\x06\x00\x01d\x00\x66\x00\x31\x05\x00\x01g\x00x\x31\x05\x00\x01#\x00x\x31\x05\x00\x01h\x00x";
 
-/// What is replied to it: CONNACK, PUBACK, PINGRESP, PUBREC, PUBCOMP, PUBACK, SUBACK and the messages of `b`, `c`, `d`, of whose interval 98
-/// seconds are left, and `e`, PUBACK, DISCONNECT with 0x90.
+/// What is replied to it: CONNACK, PUBACK, PINGRESP, PUBREC, PUBCOMP, PUBACK, SUBACK and the messages of `b`, `c`, `d`, of whose interval
+/// 98 seconds are left, and `e`, PUBACK, DISCONNECT with 0x90.
 const REPLIED: &[u8] = b"\x20\x0D\x00\x00\x0A\x21\x00\x10\x27\x00\x04\x00\x00\x2A\x00\
 \x40\x02\x00\x63\xD0\x00\x50\x02\x00\x64\x70\x02\x00\x64\x40\x02\x00\x65\
 \x90\x04\x00\x01\x00\x00\x31\x05\x00\x01b\x00y\x31\x05\x00\x01c\x00x\x31\x0A\x00\x01d\x05\x02\x00\x00\x00\x62x\x31\x05\x00\x01e\x00x\

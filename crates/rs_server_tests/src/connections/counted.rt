@@ -1,3 +1,5 @@
+//! Reads and writes that fail are counted.
+
 use bytes::BytesMut;
 use rs_server::Counted;
 use std::alloc::Global;
