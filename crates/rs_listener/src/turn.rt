@@ -121,7 +121,7 @@ impl<H: Clock + Log + Copy + Send> Turn for ListenTurn<H> {
         connection: Connection<Counted<FromClient>, Counted<ToClient>, ListenClock<H>>,
         served: Result<Served, ServeFault>,
     )
-        ensures { TakesBack none_given (record { streams = record { unread = ⟦<FromClient as Read>⟧.remaining (inner_of connection.input); written = ⟦<ToClient as Write>⟧.contents (inner_of connection.output); moments = ⟦<ListenClock<H> as rs_server::Clock>⟧.moments connection.clock }; read_failures = failures_of connection.input; write_failures = failures_of connection.output; result = served }) unknown }
+        ensures { TakesBack none_given (record { streams = record { unread = ⟦<FromClient as Read>⟧.remaining (inner_of connection.input); written = ⟦<ToClient as Write>⟧.contents (inner_of connection.output); moments = ⟦<ListenClock<H> as rs_server::Clock>⟧.moments connection.clock }; read_failures = failures_of connection.input; write_failures = failures_of connection.output; result = served }) none_given }
     {
         let Connection {
             input,
