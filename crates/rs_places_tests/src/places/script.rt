@@ -218,7 +218,7 @@ impl Turn for Script {
         connection: Connection<Counted<Input>, Counted<Output>, ScriptClock>,
         served: Result<Served, ServeFault>,
     )
-        ensures { TakesBack none_given (record { streams = record { unread = ⟦<Input as Read>⟧.remaining (inner_of connection.input); written = ⟦<Output as Write>⟧.contents (inner_of connection.output); moments = ⟦<ScriptClock as Clock>⟧.moments connection.clock }; read_failures = failures_of connection.input; write_failures = failures_of connection.output; result = served }) unknown }
+        ensures { TakesBack none_given (record { streams = record { unread = ⟦<Input as Read>⟧.remaining (inner_of connection.input); written = ⟦<Output as Write>⟧.contents (inner_of connection.output); moments = ⟦<ScriptClock as Clock>⟧.moments connection.clock }; read_failures = failures_of connection.input; write_failures = failures_of connection.output; result = served }) none_given }
     {
         let output = connection.output.into_inner();
         if output.is_right(served) && !connection.clock.is_alone {
