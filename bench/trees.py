@@ -29,7 +29,7 @@ FULL_TOPICS = (10_000, 65_536)
 FULL_LIMIT = 2
 
 # The milliseconds that an add may take that sweeps half of 65,536 topics.
-SWEEP_LIMIT = 100
+SWEEP_LIMIT = 50
 
 # Topics of the most levels, of which two or nine share all levels but the last: two in a bucket,
 # nine below a branch.

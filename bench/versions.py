@@ -10,7 +10,7 @@ READERS = (0, 3, 63)
 MILLIS = 500
 
 # The milliseconds that a put may take that sweeps half of so many topics beside so many seats.
-SWEEP_LIMIT = 100
+SWEEP_LIMIT = 50
 SWEEP_LOAD = (65_536, 3)
 
 # How many times as many answers four seats have to be given as one, each on a thread of its own
