@@ -19,14 +19,14 @@ use Rattle.rs_tree.specs.Answers.{Enters, EntersAs, Gives, Steps}
 use Rattle.std.specs.declared.sync.Arc.{Arc}
 use Rattle.std.specs.declared.alloc.Global.{Global}
 use Rattle.rs_tree.specs.declared.branch.Below.{Below}
-use Rattle.rs_tree.specs.declared.branch.Below.TheVariants.{Few, Inner, Row}
+use Rattle.rs_tree.specs.declared.branch.Below.TheVariants.{Chunk, Few, Inner}
 use Rattle.rs_tree.specs.Nodes.{spots_of, stem_spots}
 use Rattle.rs_store.specs.Room.{IsStop}
-use Rattle.rs_tree.specs.Rows.{IsBehind, IsFrom, IsGap, IsIn, IsRow, Takes, parts}
+use Rattle.rs_tree.specs.Chunks.{IsBehind, IsChunk, IsFrom, IsGap, IsIn, Takes, parts}
 use Rattle.rs_tree.specs.Values.{BranchValue, ChildValue}
 use Rattle.rs_store.specs.declared.answer.Answer.{Answer}
 use Rattle.rs_store.specs.declared.answer.Stop.{Stop}
-use Rattle.rs_tree.proofs.Rows.{Precedes, gap_front, gap_rear, in_front, in_rear, parts_at, split_at, split_gap}
+use Rattle.rs_tree.proofs.Chunks.{Precedes, gap_front, gap_rear, in_front, in_rear, parts_at, split_at, split_gap}
 use Rattle.rs_tree.proofs.Under.{Spots, Path}
 use Rattle.rs_tree.proofs.Stopping.{stop_at, stop_more}
 
@@ -103,7 +103,7 @@ steps_enter true level pattern rest s = tt
 steps_enter false level pattern rest s = s level
 
 pub steps_in : (c : ChildValue) (pattern rest : Path) → Steps pattern rest → Enters c pattern rest
-steps_in c pattern rest s = steps_enter c.is_row c.level pattern rest s
+steps_in c pattern rest s = steps_enter c.is_chunk c.level pattern rest s
 
 -- below a level without a dollar, and with one
 plain_child : (pattern rest : Path) (now : ℕ) (k : List ℕ) (w : Spots) → Steps pattern rest → begins_with_dollar k ≡ false → chosen pattern now (under k w) ≡ chosen_by (is_plain_below rest) now (under k w)
@@ -112,15 +112,15 @@ plain_child pattern rest now k w s h = goes (fits pattern) (fits rest) now k (s 
 dollar_child : (rest : Path) (now : ℕ) (k : List ℕ) (w : Spots) → begins_with_dollar k ≡ true → chosen_by (is_plain_below rest) now (under k w) ≡ []
 dollar_child rest now k w h = stops (is_plain_below rest) now k (dollar_stops rest k h) w
 
-pub plain_below : (pattern rest : Path) (now : ℕ) (k : List ℕ) (b : Below) → ((x : Arc BranchValue Global) → b ≡ Row x → ⊥) → Steps pattern rest → begins_with_dollar k ≡ false → chosen pattern now (spots_of k b) ≡ chosen_by (is_plain_below rest) now (spots_of k b)
+pub plain_below : (pattern rest : Path) (now : ℕ) (k : List ℕ) (b : Below) → ((x : Arc BranchValue Global) → b ≡ Chunk x → ⊥) → Steps pattern rest → begins_with_dollar k ≡ false → chosen pattern now (spots_of k b) ≡ chosen_by (is_plain_below rest) now (spots_of k b)
 plain_below pattern rest now k (Few b) n s h = plain_child pattern rest now k b s h
 plain_below pattern rest now k (Inner b) n s h = plain_child pattern rest now k (stem_spots b.value) s h
-plain_below pattern rest now k (Row b) n s h = absurd (n b refl)
+plain_below pattern rest now k (Chunk b) n s h = absurd (n b refl)
 
-pub dollar_below : (rest : Path) (now : ℕ) (k : List ℕ) (b : Below) → ((x : Arc BranchValue Global) → b ≡ Row x → ⊥) → begins_with_dollar k ≡ true → chosen_by (is_plain_below rest) now (spots_of k b) ≡ []
+pub dollar_below : (rest : Path) (now : ℕ) (k : List ℕ) (b : Below) → ((x : Arc BranchValue Global) → b ≡ Chunk x → ⊥) → begins_with_dollar k ≡ true → chosen_by (is_plain_below rest) now (spots_of k b) ≡ []
 dollar_below rest now k (Few b) n h = dollar_child rest now k b h
 dollar_below rest now k (Inner b) n h = dollar_child rest now k (stem_spots b.value) h
-dollar_below rest now k (Row b) n h = absurd (n b refl)
+dollar_below rest now k (Chunk b) n h = absurd (n b refl)
 
 -- ---- a whole branch
 
@@ -130,7 +130,7 @@ level_same test other now same k [] f = refl
 level_same test other now same k (([], m) ∷ w) f = absurd (f.0 refl)
 level_same test other now same k ((h ∷ p, m) ∷ w) f = rw (same h p, level_same test other now same k w f.1) refl
 
-pub parts_same : (test other : Test) (now : ℕ) → ((k : List ℕ) (p : Path) → test (k ∷ p) ≡ other (k ∷ p)) → (cs : List ChildValue) → IsRow cs → chosen_by test now (parts cs) ≡ chosen_by other now (parts cs)
+pub parts_same : (test other : Test) (now : ℕ) → ((k : List ℕ) (p : Path) → test (k ∷ p) ≡ other (k ∷ p)) → (cs : List ChildValue) → IsChunk cs → chosen_by test now (parts cs) ≡ chosen_by other now (parts cs)
 parts_same test other now same [] r = refl
 parts_same test other now same (c ∷ cs) r =
     chosen-append test now c.spots (parts cs) ∙ (cc (level_same test other now same c.level c.spots r.1, parts_same test other now same cs r.3) ∙ sym (chosen-append other now c.spots (parts cs)))
@@ -142,7 +142,7 @@ chosen_nothing : (now : ℕ) (w : Spots) → chosen_by nothing now w ≡ []
 chosen_nothing now [] = refl
 chosen_nothing now (s ∷ w) = chosen_nothing now w
 
-pub ended : (retained : Option Found) (cs : List ChildValue) (now : ℕ) → IsRow cs → chosen [] now (own retained ++ parts cs) ≡ own_chosen now retained
+pub ended : (retained : Option Found) (cs : List ChildValue) (now : ℕ) → IsChunk cs → chosen [] now (own retained ++ parts cs) ≡ own_chosen now retained
 ended retained cs now r =
     chosen-append (fits []) now (own retained) (parts cs)
     ∙ (ap (λ (l : List Found). chosen_by (fits []) now (own retained) ++ l) (parts_same (fits []) nothing now (λ k p. refl) cs r ∙ chosen_nothing now (parts cs)) ∙ (append-nil (chosen_by (fits []) now (own retained)) ∙ mine retained))
@@ -196,7 +196,7 @@ module _ (q : List ℕ) (more : Path) (now : ℕ) (wild : bytes_eq q (plus ∷ [
       chosen-append (fits (q ∷ more)) now l (w ++ r)
       ∙ (ap (λ (x : List Found). x ++ chosen (q ∷ more) now (w ++ r)) a ∙ (chosen-append (fits (q ∷ more)) now w r ∙ (ap (λ (x : List Found). chosen (q ∷ more) now w ++ x) b ∙ append-nil (chosen (q ∷ more) now w))))
 
-  module _ (retained : Option Found) (cs : List ChildValue) (r : IsRow cs) (i : ℕ) where
+  module _ (retained : Option Found) (cs : List ChildValue) (r : IsChunk cs) (i : ℕ) where
     pub exact_in : (c : ChildValue) → i < length cs → IsIn q cs i → c ≡ get_or cs i c → chosen (q ∷ more) now c.spots ≡ chosen (q ∷ more) now (own retained ++ parts cs)
     exact_in c small e is =
         ap (λ (w : ChildValue). chosen (q ∷ more) now w.spots) is
@@ -209,12 +209,12 @@ module _ (q : List ℕ) (more : Path) (now : ℕ) (wild : bytes_eq q (plus ∷ [
         ∙ (chosen-append (fits (q ∷ more)) now (own retained ++ parts (take i cs)) (parts (drop i cs))
         ∙ cc (behind_none (own retained ++ parts (take i cs)) (gap_front retained cs r q [] i e), preceding_none (parts (drop i cs)) (λ p. gap_rear retained cs r q p i e)))
 
-takes_enter : (b : Bool) (own q : List ℕ) (more : Path) → bytes_eq q (plus ∷ []) ≡ false → fits (q ∷ more) [] ≡ false → Rattle.rs_tree.specs.Rows.TakesAs b own q → EntersAs b own (q ∷ more) more
+takes_enter : (b : Bool) (own q : List ℕ) (more : Path) → bytes_eq q (plus ∷ []) ≡ false → fits (q ∷ more) [] ≡ false → Rattle.rs_tree.specs.Chunks.TakesAs b own q → EntersAs b own (q ∷ more) more
 takes_enter true own q more w e t = tt
 takes_enter false own q more w e t = rw (← t) (same_level q more 0 w e)
 
 pub takes_in : (q : List ℕ) (more : Path) (c : ChildValue) → bytes_eq q (plus ∷ []) ≡ false → fits (q ∷ more) [] ≡ false → Takes q c → Enters c (q ∷ more) more
-takes_in q more c w e t = takes_enter c.is_row c.level q more w e t
+takes_in q more c w e t = takes_enter c.is_chunk c.level q more w e t
 
 -- ---- the root
 
@@ -243,7 +243,7 @@ hash_wild : (level : List ℕ) (more : List (List ℕ)) → fits (level ∷ more
 hash_wild level more h = or_right (bytes_eq level (plus ∷ [])) (bytes_eq level (hash ∷ [])) (both (bytes_eq level (hash ∷ [])) (is_end more) h)
 
 -- a hash
-pub root_all : (pattern : Path) (level : List ℕ) (more : Path) (now : ℕ) (retained : Option Found) (cs : List ChildValue) → IsRow cs → pattern ≡ level ∷ more → fits (level ∷ more) [] ≡ true
+pub root_all : (pattern : Path) (level : List ℕ) (more : Path) (now : ℕ) (retained : Option Found) (cs : List ChildValue) → IsChunk cs → pattern ≡ level ∷ more → fits (level ∷ more) [] ≡ true
     → own_chosen now retained ++ chosen_by (is_plain_below pattern) now (parts cs) ≡ chosen_at_root pattern now (own retained ++ parts cs)
 root_all pattern level more now retained cs r whole h = rw whole (sym (chosen-append (is_matched (level ∷ more)) now (own retained) (parts cs) ∙ cc (mine retained, parts_same (is_matched (level ∷ more)) (is_plain_below (level ∷ more)) now same cs r)))
   where
@@ -266,7 +266,7 @@ root_all pattern level more now retained cs r whole h = rw whole (sym (chosen-ap
     same k p = ap (λ (b : Bool). b && not (is_wild (level ∷ more) && begins_with_dollar k)) (hash_goes level more h k p) ∙ swapped (fits (level ∷ more) p) (begins_with_dollar k) (is_wild (level ∷ more)) (hash_wild level more h)
 
 -- a plus
-pub root_plus : (pattern : Path) (level : List ℕ) (more : Path) (now : ℕ) (retained : Option Found) (cs : List ChildValue) → IsRow cs → pattern ≡ level ∷ more → fits (level ∷ more) [] ≡ false → bytes_eq level (plus ∷ []) ≡ true
+pub root_plus : (pattern : Path) (level : List ℕ) (more : Path) (now : ℕ) (retained : Option Found) (cs : List ChildValue) → IsChunk cs → pattern ≡ level ∷ more → fits (level ∷ more) [] ≡ false → bytes_eq level (plus ∷ []) ≡ true
     → chosen_by (is_plain_below more) now (parts cs) ≡ chosen_at_root pattern now (own retained ++ parts cs)
 root_plus pattern level more now retained cs r whole h is = rw whole (sym (chosen-append (is_matched (level ∷ more)) now (own retained) (parts cs) ∙ cc (mine retained, parts_same (is_matched (level ∷ more)) (is_plain_below more) now same cs r)))
   where
@@ -278,7 +278,7 @@ root_plus pattern level more now retained cs r whole h is = rw whole (sym (chose
     same k p = ap (λ (b : Bool). b && not (is_wild (level ∷ more) && begins_with_dollar k)) (plus_goes level more h is k p) ∙ swapped (fits more p) (begins_with_dollar k) (is_wild (level ∷ more)) (plus_wild level more is)
 
 -- no level at all
-pub root_none : (pattern : Path) (now : ℕ) (retained : Option Found) (cs : List ChildValue) → IsRow cs → pattern ≡ [] → own_chosen now retained ≡ chosen_at_root pattern now (own retained ++ parts cs)
+pub root_none : (pattern : Path) (now : ℕ) (retained : Option Found) (cs : List ChildValue) → IsChunk cs → pattern ≡ [] → own_chosen now retained ≡ chosen_at_root pattern now (own retained ++ parts cs)
 root_none pattern now retained cs r h = rw h (sym (chosen_same (is_matched []) (fits []) now (own retained ++ parts cs) same ∙ ended retained cs now r))
   where
     same : (p : Path) → is_matched [] p ≡ fits [] p

@@ -20,11 +20,11 @@ use Rattle.rs_tree.specs.Clearing.{Clears, ClearsAs}
 use Rattle.rs_tree.specs.declared.cleared.Cleared.{Cleared}
 use Rattle.rs_tree.specs.declared.cleared.Cleared.TheVariants.{Missing, Left, Last}
 use Rattle.rs_tree.specs.declared.leaf.Leaf.{Leaf}
-use Rattle.rs_tree.specs.Rows.{IsBefore, IsBehind, IsFrom, IsIn, IsRow, IsUpTo, Takes, parts}
+use Rattle.rs_tree.specs.Chunks.{IsBefore, IsBehind, IsChunk, IsFrom, IsIn, IsUpTo, Takes, parts}
 use Rattle.rs_tree.specs.Values.{ChildValue}
 use Rattle.rs_tree.proofs.Dividing.{full_parts, level_rises, up_to_wider}
-use Rattle.rs_tree.proofs.Growing.{from_at, row_at, put_whole, row_set, same_parts}
-use Rattle.rs_tree.proofs.Rows.{Precedes, around, in_front, in_rear, split_at, there_child, there_gap, there_own}
+use Rattle.rs_tree.proofs.Growing.{chunk_at, chunk_set, from_at, put_whole, same_parts}
+use Rattle.rs_tree.proofs.Chunks.{Precedes, around, in_front, in_rear, split_at, there_child, there_gap, there_own}
 use Rattle.rs_tree.proofs.Under.{Spots, Path}
 
 -- ---- a bucket
@@ -76,7 +76,7 @@ clears_none ks p w h = (not_behind ks p w h, refl)
 
 -- ---- the message of the spot itself
 
-pub retained_missing : (retained : Option Found) (cs : List ChildValue) → IsRow cs → is_some retained ≡ false → is_there [] (own retained ++ parts cs) ≡ false
+pub retained_missing : (retained : Option Found) (cs : List ChildValue) → IsChunk cs → is_some retained ≡ false → is_there [] (own retained ++ parts cs) ≡ false
 retained_missing retained cs r none = there_own retained cs r ∙ none
 
 pub retained_last : (retained : Option Found) (cs : List ChildValue) → is_some retained ≡ true → length cs ≡ 0 → ClearsAs Last (own retained ++ parts cs) (own retained ++ parts cs) []
@@ -84,7 +84,7 @@ retained_last None cs some none = absurd (cc (some))
 retained_last (Some f) [] some none = (refl, refl, refl)
 retained_last (Some f) (c ∷ cs) some none = absurd (omega (arith, none))
 
-pub retained_left : (retained : Option Found) (cs : List ChildValue) → IsRow cs → is_some retained ≡ true → length cs ≢ 0 → ClearsAs Left (own retained ++ parts cs) (parts cs) []
+pub retained_left : (retained : Option Found) (cs : List ChildValue) → IsChunk cs → is_some retained ≡ true → length cs ≢ 0 → ClearsAs Left (own retained ++ parts cs) (parts cs) []
 retained_left None cs r some more = absurd (cc (some))
 retained_left (Some f) [] r some more = absurd (more refl)
 retained_left (Some f) (c ∷ cs) r some more = (refl, refl, full_parts (c ∷ cs) r (omega arith))
@@ -111,7 +111,7 @@ remove_rear p (s ∷ l) w b = rw b.0 (ap (λ (x : Spots). s ∷ x) (remove_rear 
 remove_mid : (p : Path) (l w r : Spots) → IsBehind p l → Precedes p r → remove_entry (is_at (path_cmp p)) (l ++ (w ++ r)) ≡ l ++ (remove_entry (is_at (path_cmp p)) w ++ r)
 remove_mid p l w r b a = remove_rear p l (w ++ r) b ∙ ap (λ (x : Spots). l ++ x) (remove_front p w r a)
 
--- ---- rows
+-- ---- chunks
 
 from_remove : (k : List ℕ) (test : Path → Bool) (w : Spots) → IsFrom k w → IsFrom k (remove_entry test w)
 from_remove k test [] f = tt
@@ -129,21 +129,21 @@ up_to_remove k test (s ∷ w) f = at (test s.0) (up_to_remove k test w f.1)
     at true more = f.1
     at false more = (f.0, more)
 
-before_removed : (w : Spots) (cs : List ChildValue) (i : ℕ) → IsRow cs → IsBefore w cs → IsBefore w (remove cs i)
+before_removed : (w : Spots) (cs : List ChildValue) (i : ℕ) → IsChunk cs → IsBefore w cs → IsBefore w (remove cs i)
 before_removed w [] zero r b = tt
 before_removed w [] (suc i) r b = tt
 before_removed w (c ∷ []) zero r b = tt
 before_removed w (c ∷ d ∷ cs) zero r b = up_to_wider c.level d.level w (λ l. absurd (before_both (level_rises c.level d.level c.spots r.0 r.1 r.2) l)) b
   where
     before_both : path_cmp (c.level ∷ []) (d.level ∷ []) ≡ Less → path_cmp (d.level ∷ []) (c.level ∷ []) ≡ Less → ⊥
-    before_both x y = cc (x, Rattle.rs_tree.proofs.Rows.flip (d.level ∷ []) (c.level ∷ []) y)
+    before_both x y = cc (x, Rattle.rs_tree.proofs.Chunks.flip (d.level ∷ []) (c.level ∷ []) y)
 before_removed w (c ∷ cs) (suc i) r b = b
 
-pub row_removed : (cs : List ChildValue) (i : ℕ) → IsRow cs → IsRow (remove cs i)
-row_removed [] zero r = tt
-row_removed [] (suc i) r = tt
-row_removed (c ∷ cs) zero r = r.3
-row_removed (c ∷ cs) (suc i) r = (r.0, r.1, before_removed c.spots cs i r.3 r.2, row_removed cs i r.3)
+pub chunk_removed : (cs : List ChildValue) (i : ℕ) → IsChunk cs → IsChunk (remove cs i)
+chunk_removed [] zero r = tt
+chunk_removed [] (suc i) r = tt
+chunk_removed (c ∷ cs) zero r = r.3
+chunk_removed (c ∷ cs) (suc i) r = (r.0, r.1, before_removed c.spots cs i r.3 r.2, chunk_removed cs i r.3)
 
 pub remove_set : (cs : List ChildValue) (i : ℕ) (c : ChildValue) → remove (slice_set cs i c) i ≡ remove cs i
 remove_set [] i c = refl
@@ -170,25 +170,25 @@ full_rear (Some f) w full = tt
 
 -- ---- the same as the calls say it
 
-module _ (retained : Option Found) (cs : List ChildValue) (r : IsRow cs) (q : List ℕ) (p : Path) (i : ℕ) (c c' : ChildValue) (small : i < length cs) (e : IsIn q cs i) (is : c ≡ get_or cs i c) (lv : c'.level ≡ c.level) where
+module _ (retained : Option Found) (cs : List ChildValue) (r : IsChunk cs) (q : List ℕ) (p : Path) (i : ℕ) (c c' : ChildValue) (small : i < length cs) (e : IsIn q cs i) (is : c ≡ get_or cs i c) (lv : c'.level ≡ c.level) where
   full_c : IsFull c.spots
-  full_c = let P : ChildValue → Type 0 = λ w. IsFull w.spots in subst P (sym is) (row_at cs i c small r).0
+  full_c = let P : ChildValue → Type 0 = λ w. IsFull w.spots in subst P (sym is) (chunk_at cs i c small r).0
 
-  pub row_unchanged : c'.spots ≡ c.spots → IsRow (slice_set cs i c')
-  row_unchanged same =
-      row_set (Takes q) q cs i c c' r e is lv (let P : Spots → Type 0 = λ w. IsFull w in subst P (sym same) full_c) (let P : Spots → Type 0 = λ w. IsFrom c.level w in subst P (sym same) (from_at cs i c small is r))
+  pub chunk_unchanged : c'.spots ≡ c.spots → IsChunk (slice_set cs i c')
+  chunk_unchanged same =
+      chunk_set (Takes q) q cs i c c' r e is lv (let P : Spots → Type 0 = λ w. IsFull w in subst P (sym same) full_c) (let P : Spots → Type 0 = λ w. IsFrom c.level w in subst P (sym same) (from_at cs i c small is r))
       (λ n l u. let P : Spots → Type 0 = λ w. IsUpTo n w in subst P (sym same) u)
 
-  row_left : c'.spots ≡ remove_entry (is_at (path_cmp (q ∷ p))) c.spots → IsFull c'.spots → IsRow (slice_set cs i c')
-  row_left gone full =
-      row_set (Takes q) q cs i c c' r e is lv full (let P : Spots → Type 0 = λ w. IsFrom c.level w in subst P (sym gone) (from_remove c.level (is_at (path_cmp (q ∷ p))) c.spots (from_at cs i c small is r)))
+  chunk_left : c'.spots ≡ remove_entry (is_at (path_cmp (q ∷ p))) c.spots → IsFull c'.spots → IsChunk (slice_set cs i c')
+  chunk_left gone full =
+      chunk_set (Takes q) q cs i c c' r e is lv full (let P : Spots → Type 0 = λ w. IsFrom c.level w in subst P (sym gone) (from_remove c.level (is_at (path_cmp (q ∷ p))) c.spots (from_at cs i c small is r)))
       (λ n l u. let P : Spots → Type 0 = λ w. IsUpTo n w in subst P (sym gone) (up_to_remove n (is_at (path_cmp (q ∷ p))) c.spots u))
 
-  pub row_cleared : {E : Type 0} (b : Result Cleared E) → Clears b c.spots c'.spots (q ∷ p) → IsRow (slice_set cs i c')
-  row_cleared (Ok Missing) h = row_unchanged h.1
-  row_cleared (Ok Left) h = row_left h.1 h.2
-  row_cleared (Ok Last) h = row_unchanged h.2
-  row_cleared (Err x) h = row_unchanged h
+  pub chunk_cleared : {E : Type 0} (b : Result Cleared E) → Clears b c.spots c'.spots (q ∷ p) → IsChunk (slice_set cs i c')
+  chunk_cleared (Ok Missing) h = chunk_unchanged h.1
+  chunk_cleared (Ok Left) h = chunk_left h.1 h.2
+  chunk_cleared (Ok Last) h = chunk_unchanged h.2
+  chunk_cleared (Err x) h = chunk_unchanged h
 
   whole : remove_entry (is_at (path_cmp (q ∷ p))) (own retained ++ parts cs) ≡ (own retained ++ parts (take i cs)) ++ (remove_entry (is_at (path_cmp (q ∷ p))) c.spots ++ parts (drop (suc i) cs))
   whole =
@@ -202,14 +202,14 @@ module _ (retained : Option Found) (cs : List ChildValue) (r : IsRow cs) (q : Li
   pub clears_missing : ClearsAs Missing c.spots c'.spots (q ∷ p) → ClearsAs Missing (own retained ++ parts cs) (own retained ++ parts (slice_set cs i c')) (q ∷ p)
   clears_missing h = (sym there ∙ h.0, same_parts retained cs i c c' small is h.1)
 
-  full_set : IsRow (slice_set cs i c') → IsFull (own retained ++ parts (slice_set cs i c'))
-  full_set row = full_rear retained (parts (slice_set cs i c')) (full_parts (slice_set cs i c') row (omega (arith, small, length-set cs i c')))
+  full_set : IsChunk (slice_set cs i c') → IsFull (own retained ++ parts (slice_set cs i c'))
+  full_set chunk = full_rear retained (parts (slice_set cs i c')) (full_parts (slice_set cs i c') chunk (omega (arith, small, length-set cs i c')))
 
   pub clears_left : ClearsAs Left c.spots c'.spots (q ∷ p) → ClearsAs Left (own retained ++ parts cs) (own retained ++ parts (slice_set cs i c')) (q ∷ p)
   clears_left h = (
     sym there ∙ h.0,
     put_whole retained cs i c' small ∙ (ap (λ (w : Spots). (own retained ++ parts (take i cs)) ++ (w ++ parts (drop (suc i) cs))) h.1 ∙ sym whole),
-    full_set (row_left h.1 h.2),
+    full_set (chunk_left h.1 h.2),
   )
 
   pub clears_same : c'.spots ≡ c.spots → own retained ++ parts (slice_set cs i c') ≡ own retained ++ parts cs
@@ -231,7 +231,7 @@ module _ (retained : Option Found) (cs : List ChildValue) (r : IsRow cs) (q : Li
     where
       at : (b : Bool) → is_some retained ≡ b → IsFull (own retained ++ parts (remove cs i))
       at true some = full_own retained (parts (remove cs i)) some
-      at false none = full_rear retained (parts (remove cs i)) (full_parts (remove cs i) (row_removed cs i r) (omega (arith, fewer cs i small, two (length cs == 1) refl)))
+      at false none = full_rear retained (parts (remove cs i)) (full_parts (remove cs i) (chunk_removed cs i r) (omega (arith, fewer cs i small, two (length cs == 1) refl)))
         where
           two : (b : Bool) → (length cs == 1) ≡ b → 1 < length cs
           two true n = absurd (more none (grind (arith, nat_tests, n)))

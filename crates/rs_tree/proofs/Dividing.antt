@@ -1,4 +1,4 @@
--- Rows of children that are divided.
+-- Chunks of children that are divided.
 use Rattle.std.proofs.Common.{◌≡◌, ◌≢◌, ℕ, zero, suc, ◌+◌, ◌<◌, Bool, true, false, List, [], ◌∷◌, ◌++◌, length, get_or, take, drop, refl, sym, ap, subst, ◌∙◌, arith, append_assoc, add-one}
 use Rattle.std.proofs.lemmas.List.{append-nil}
 use Rattle.std.specs.Prelude.{IsTrue, slice_set}
@@ -9,10 +9,10 @@ use Rattle.rs_topic.specs.Order.{path_cmp}
 use Rattle.rs_topic.specs.TopicOrder.{exact_paths, path_total}
 use Rattle.rs_tree.specs.Spots.{IsFull, under}
 use Rattle.rs_tree.proofs.Stems.{full_below}
-use Rattle.rs_tree.specs.Rows.{AreHalves, IsBefore, IsFrom, IsRow, IsUpTo, parts}
+use Rattle.rs_tree.specs.Chunks.{AreHalves, IsBefore, IsChunk, IsFrom, IsUpTo, parts}
 use Rattle.rs_tree.specs.Values.{ChildValue}
 use Rattle.rs_tree.proofs.Under.{Spots, Path, level_cmp}
-use Rattle.rs_tree.proofs.Rows.{IsReached, back, between, level_not, parts_split, reached_first, takes_reached}
+use Rattle.rs_tree.proofs.Chunks.{IsReached, back, between, level_not, parts_split, reached_first, takes_reached}
 
 -- ---- one child
 
@@ -23,8 +23,8 @@ from_under k (s ∷ w) = (takes_reached false k k s.0 refl, from_under k w)
 pub full_under : (k : List ℕ) (w : Spots) → IsFull w → IsFull (under k w)
 full_under k w full = full_below (k ∷ []) w full
 
-pub row_single : (k : List ℕ) (w : Spots) (c : ChildValue) (cs : List ChildValue) → cs ≡ c ∷ [] → c.level ≡ k → c.spots ≡ under k w → IsFull w → IsRow cs
-row_single k w c cs one lv is full = rw (one, lv, is) (full_under k w full, from_under k w, tt, tt)
+pub chunk_single : (k : List ℕ) (w : Spots) (c : ChildValue) (cs : List ChildValue) → cs ≡ c ∷ [] → c.level ≡ k → c.spots ≡ under k w → IsFull w → IsChunk cs
+chunk_single k w c cs one lv is full = rw (one, lv, is) (full_under k w full, from_under k w, tt, tt)
 
 pub parts_single : (c : ChildValue) (cs : List ChildValue) → cs ≡ c ∷ [] → parts cs ≡ c.spots
 parts_single c cs one = rw one (append-nil c.spots)
@@ -64,10 +64,10 @@ before_take w cs zero b = tt
 before_take w [] (suc i) b = tt
 before_take w (c ∷ cs) (suc i) b = b
 
-pub row_take : (cs : List ChildValue) (i : ℕ) → IsRow cs → IsRow (take i cs)
-row_take cs zero r = tt
-row_take [] (suc i) r = tt
-row_take (c ∷ cs) (suc i) r = (r.0, r.1, before_take c.spots cs i r.2, row_take cs i r.3)
+pub chunk_take : (cs : List ChildValue) (i : ℕ) → IsChunk cs → IsChunk (take i cs)
+chunk_take cs zero r = tt
+chunk_take [] (suc i) r = tt
+chunk_take (c ∷ cs) (suc i) r = (r.0, r.1, before_take c.spots cs i r.2, chunk_take cs i r.3)
 
 -- ---- levels rise
 
@@ -93,7 +93,7 @@ abbrev pub Starts : List ℕ → List ChildValue → Type 0
 Starts k [] = Unit {0}
 Starts k (c ∷ cs) = path_cmp (c.level ∷ []) (k ∷ []) ≢ Less
 
-pub from_all : (k : List ℕ) (cs : List ChildValue) → IsRow cs → Starts k cs → IsFrom k (parts cs)
+pub from_all : (k : List ℕ) (cs : List ChildValue) → IsChunk cs → Starts k cs → IsFrom k (parts cs)
 from_all k [] r s = tt
 from_all k (c ∷ cs) r s = from_both k c.spots (parts cs) (from_lower k c.level c.spots s r.1) (from_all k cs r.3 (next cs r.2))
   where
@@ -101,7 +101,7 @@ from_all k (c ∷ cs) r s = from_both k c.spots (parts cs) (from_lower k c.level
     next [] b = tt
     next (d ∷ cs) b = λ l. s (path_total.trans (c.level ∷ []) (d.level ∷ []) (k ∷ []) (level_rises c.level d.level c.spots r.0 r.1 b) l)
 
-pub from_least : (cs : List ChildValue) → IsRow cs → IsFrom [] (parts cs)
+pub from_least : (cs : List ChildValue) → IsChunk cs → IsFrom [] (parts cs)
 from_least cs r = from_all [] cs r (starts cs)
   where
     not_less : (k : List ℕ) → level_cmp k [] ≢ Less
@@ -121,7 +121,7 @@ itself_reached [] i d small = absurd (omega (arith, small))
 itself_reached (c ∷ cs) zero d small = takes_reached false c.level c.level [] refl
 itself_reached (c ∷ cs) (suc i) d small = itself_reached cs i d (omega (arith, small))
 
-pub up_to_all : (cs : List ChildValue) (i : ℕ) (d : ChildValue) → i < length cs → IsRow cs → IsUpTo (get_or (drop i cs) 0 d).level (parts (take i cs))
+pub up_to_all : (cs : List ChildValue) (i : ℕ) (d : ChildValue) → i < length cs → IsChunk cs → IsUpTo (get_or (drop i cs) 0 d).level (parts (take i cs))
 up_to_all cs zero d small r = tt
 up_to_all [] (suc i) d small r = absurd (omega (arith, small))
 up_to_all (c ∷ []) (suc i) d small r = absurd (omega (arith, small))
@@ -133,26 +133,26 @@ up_to_all (c ∷ e ∷ cs) (suc i) d small r =
 
 -- ---- halves
 
-pub full_parts : (cs : List ChildValue) → IsRow cs → 0 < length cs → IsFull (parts cs)
+pub full_parts : (cs : List ChildValue) → IsChunk cs → 0 < length cs → IsFull (parts cs)
 full_parts [] r some = absurd (omega (arith, some))
 full_parts (c ∷ cs) r some = full_front c.spots (parts cs) r.0
 
-full_take : (cs : List ChildValue) (i : ℕ) → IsRow cs → 0 < i → 0 < length cs → IsFull (parts (take i cs))
+full_take : (cs : List ChildValue) (i : ℕ) → IsChunk cs → 0 < i → 0 < length cs → IsFull (parts (take i cs))
 full_take cs zero r more some = absurd (omega (arith, more))
 full_take [] (suc i) r more some = absurd (omega (arith, some))
 full_take (c ∷ cs) (suc i) r more some = full_front c.spots (parts (take i cs)) r.0
 
-full_drop : (cs : List ChildValue) (i : ℕ) → IsRow cs → i < length cs → IsFull (parts (drop i cs))
+full_drop : (cs : List ChildValue) (i : ℕ) → IsChunk cs → i < length cs → IsFull (parts (drop i cs))
 full_drop cs zero r small = full_parts cs r small
 full_drop [] (suc i) r small = absurd (omega (arith, small))
 full_drop (c ∷ cs) (suc i) r small = full_drop cs i r.3 (omega (arith, small))
 
-from_first : (cs : List ChildValue) (i : ℕ) (d : ChildValue) → i < length cs → IsRow cs → IsFrom (get_or (drop i cs) 0 d).level (parts (drop i cs))
+from_first : (cs : List ChildValue) (i : ℕ) (d : ChildValue) → i < length cs → IsChunk cs → IsFrom (get_or (drop i cs) 0 d).level (parts (drop i cs))
 from_first [] i d small r = absurd (omega (arith, small))
 from_first (c ∷ cs) zero d small r = from_all c.level (c ∷ cs) r (takes_reached false c.level c.level [] refl)
 from_first (c ∷ cs) (suc i) d small r = from_first cs i d (omega (arith, small)) r.3
 
-pub are_halves : (first : List ℕ) (cs : List ChildValue) (i : ℕ) (d : ChildValue) (low high : ChildValue) → IsRow cs → IsFrom first (parts cs) → 0 < i → i < length cs
+pub are_halves : (first : List ℕ) (cs : List ChildValue) (i : ℕ) (d : ChildValue) (low high : ChildValue) → IsChunk cs → IsFrom first (parts cs) → 0 < i → i < length cs
     → low.level ≡ first → low.spots ≡ parts (take i cs) → high.level ≡ (get_or (drop i cs) 0 d).level → high.spots ≡ parts (drop i cs) → AreHalves first (parts cs) low high
 are_halves first cs i d low high r start more small level low_is above high_is = record {
   level = level;
@@ -177,28 +177,28 @@ before_divided w [] i c low high small is lv b = absurd (omega (arith, small))
 before_divided w (d ∷ cs) zero c low high small is lv b = let P : List ℕ → Type 0 = λ k. IsUpTo k w in subst P (sym (lv ∙ ap (λ (x : ChildValue). x.level) is)) b
 before_divided w (d ∷ cs) (suc i) c low high small is lv b = b
 
-pub row_divided : (cs : List ChildValue) (i : ℕ) (c low high : ChildValue) → i < length cs → c ≡ get_or cs i c → IsRow cs → AreHalves c.level c.spots low high → IsRow (slice_set (insert cs (suc i) high) i low)
-row_divided [] i c low high small is r h = absurd (omega (arith, small))
-row_divided (d ∷ cs) zero c low high small is r h =
+pub chunk_divided : (cs : List ChildValue) (i : ℕ) (c low high : ChildValue) → i < length cs → c ≡ get_or cs i c → IsChunk cs → AreHalves c.level c.spots low high → IsChunk (slice_set (insert cs (suc i) high) i low)
+chunk_divided [] i c low high small is r h = absurd (omega (arith, small))
+chunk_divided (d ∷ cs) zero c low high small is r h =
     let whole : d.spots ≡ low.spots ++ high.spots = sym (h.whole ∙ ap (λ (w : ChildValue). w.spots) is) in
     let behind : IsBefore high.spots cs = before_rear low.spots high.spots cs (let P : Spots → Type 0 = λ w. IsBefore w cs in subst P whole r.2) in
     (h.some, (let P : List ℕ → Type 0 = λ k. IsFrom k low.spots in subst P (sym h.level) h.start), h.before, (h.more, h.from, behind, r.3))
-row_divided (d ∷ cs) (suc i) c low high small is r h =
-    (r.0, r.1, before_divided d.spots cs i c low high (omega (arith, small)) is h.level r.2, row_divided cs i c low high (omega (arith, small)) is r.3 h)
+chunk_divided (d ∷ cs) (suc i) c low high small is r h =
+    (r.0, r.1, before_divided d.spots cs i c low high (omega (arith, small)) is h.level r.2, chunk_divided cs i c low high (omega (arith, small)) is r.3 h)
 
-pub row_two : (first : List ℕ) (w : Spots) (low high : ChildValue) (cs : List ChildValue) → cs ≡ low ∷ high ∷ [] → AreHalves first w low high → IsRow cs
-row_two first w low high cs two h = rw two (h.some, (let P : List ℕ → Type 0 = λ k. IsFrom k low.spots in subst P (sym h.level) h.start), h.before, (h.more, h.from, tt, tt))
+pub chunk_two : (first : List ℕ) (w : Spots) (low high : ChildValue) (cs : List ChildValue) → cs ≡ low ∷ high ∷ [] → AreHalves first w low high → IsChunk cs
+chunk_two first w low high cs two h = rw two (h.some, (let P : List ℕ → Type 0 = λ k. IsFrom k low.spots in subst P (sym h.level) h.start), h.before, (h.more, h.from, tt, tt))
 
 pub parts_two : (first : List ℕ) (w : Spots) (low high : ChildValue) (cs : List ChildValue) → cs ≡ low ∷ high ∷ [] → AreHalves first w low high → parts cs ≡ w
 parts_two first w low high cs two h = rw two (ap (λ (x : Spots). low.spots ++ x) (append-nil high.spots) ∙ h.whole)
 
-module _ (cs new : List ChildValue) (i : ℕ) (c low high : ChildValue) (small : i < length cs) (is : c ≡ get_or cs i c) (r : IsRow cs) (h : AreHalves c.level c.spots low high) where
+module _ (cs new : List ChildValue) (i : ℕ) (c low high : ChildValue) (small : i < length cs) (is : c ≡ get_or cs i c) (r : IsChunk cs) (h : AreHalves c.level c.spots low high) where
   as_suc : new ≡ slice_set (insert cs (i + 1) high) i low → new ≡ slice_set (insert cs (suc i) high) i low
   as_suc put = put ∙ ap (λ (n : ℕ). slice_set (insert cs n high) i low) (add-one i)
 
-  pub divided : (b : Bool) → (IsTrue b → new ≡ slice_set (insert cs (i + 1) high) i low) → (b ≡ false → new ≡ cs) → IsRow new × (parts new ≡ parts cs)
+  pub divided : (b : Bool) → (IsTrue b → new ≡ slice_set (insert cs (i + 1) high) i low) → (b ≡ false → new ≡ cs) → IsChunk new × (parts new ≡ parts cs)
   divided true done unchanged = (
-    let P : List ChildValue → Type 0 = λ w. IsRow w in subst P (sym (as_suc (done refl))) (row_divided cs i c low high small is r h),
+    let P : List ChildValue → Type 0 = λ w. IsChunk w in subst P (sym (as_suc (done refl))) (chunk_divided cs i c low high small is r h),
     ap parts (as_suc (done refl)) ∙ parts_divided cs i c low high small is h.whole,
   )
-  divided false done unchanged = (let P : List ChildValue → Type 0 = λ w. IsRow w in subst P (sym (unchanged refl)) r, ap parts (unchanged refl))
+  divided false done unchanged = (let P : List ChildValue → Type 0 = λ w. IsChunk w in subst P (sym (unchanged refl)) r, ap parts (unchanged refl))

@@ -5,10 +5,10 @@ use Rattle.std.specs.List.{filter}
 use Rattle.rs_tree.specs.Expiring.{earliest}
 use Rattle.rs_tree.specs.Sweeping.{is_expired_spot}
 use Rattle.rs_tree.proofs.Ends.{earliest_both, gone_both}
-use Rattle.rs_tree.specs.Rows.{parts}
+use Rattle.rs_tree.specs.Chunks.{parts}
 use Rattle.rs_tree.specs.Values.{ChildValue}
 use Rattle.rs_tree.proofs.Under.{Spots}
-use Rattle.rs_tree.proofs.Rows.{parts_at}
+use Rattle.rs_tree.proofs.Chunks.{parts_at}
 
 module _ (cs : List ChildValue) (i : ℕ) (c : ChildValue) (small : i < length cs) (is : c ≡ get_or cs i c) where
   here : parts (drop i cs) ≡ c.spots ++ parts (drop (i + 1) cs)

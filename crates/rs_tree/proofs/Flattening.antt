@@ -1,18 +1,18 @@
--- Rows whose children stand in their place.
+-- Chunks whose children stand in their place.
 use Rattle.std.proofs.Common.{◌≡◌, ◌≢◌, ℕ, false, Option, Some, None, is_some, ◌+◌, ◌<◌, ◌≤◌, List, [], ◌∷◌, ◌++◌, length, get_or, take, refl, sym, ap, subst, ◌∙◌, arith, append_assoc}
 use Rattle.std.proofs.lemmas.List.{take_more}
 use Rattle.std.specs.declared.cmp.Ordering.TheVariants.{Less}
-use Rattle.rs_tree.specs.Rows.{IsRow, IsUpTo, parts}
+use Rattle.rs_tree.specs.Chunks.{IsChunk, IsUpTo, parts}
 use Rattle.rs_tree.specs.Spots.{own}
 use Rattle.rs_tree.specs.Values.{ChildValue}
 use Rattle.rs_message.specs.declared.entry.Found.{Found}
 use Rattle.rs_tree.proofs.Dividing.{up_to_both, up_to_wider}
 use Rattle.rs_tree.proofs.Leaving.{parts_push, take_whole, up_to_at}
-use Rattle.rs_tree.proofs.Rows.{level_not}
+use Rattle.rs_tree.proofs.Chunks.{level_not}
 use Rattle.rs_tree.proofs.Under.{Spots, level_cmp}
 
 -- what stands before a level, and the children before one that is not before the level, stand before that child
-pub before_child : (level : List ℕ) (w : Spots) (flat cs : List ChildValue) (i : ℕ) (c : ChildValue) → i < length cs → c ≡ get_or cs i c → IsRow cs → IsUpTo level w → level_cmp c.level level ≢ Less
+pub before_child : (level : List ℕ) (w : Spots) (flat cs : List ChildValue) (i : ℕ) (c : ChildValue) → i < length cs → c ≡ get_or cs i c → IsChunk cs → IsUpTo level w → level_cmp c.level level ≢ Less
     → parts flat ≡ w ++ parts (take i cs) → IsUpTo c.level (parts flat)
 before_child level w flat cs i c small is r before not so =
     let P : Spots → Type 0 = λ v. IsUpTo c.level v in

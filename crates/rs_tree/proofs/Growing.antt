@@ -11,9 +11,9 @@ use Rattle.rs_topic.specs.Order.{path_cmp}
 use Rattle.rs_tree.specs.Spots.{IsFull, is_there, own, under}
 use Rattle.rs_tree.proofs.Under.{was_by, full_insert, Spots, Path, level_cmp}
 use Rattle.rs_tree.proofs.Stems.{insert_all}
-use Rattle.rs_tree.specs.Rows.{IsPreceding, IsBefore, IsBehind, IsEdge, IsFrom, IsGap, IsIn, IsRow, IsUpTo, Takes, parts}
+use Rattle.rs_tree.specs.Chunks.{IsBefore, IsBehind, IsChunk, IsEdge, IsFrom, IsGap, IsIn, IsPreceding, IsUpTo, Takes, parts}
 use Rattle.rs_tree.specs.Values.{ChildValue}
-use Rattle.rs_tree.proofs.Rows.{Precedes, BeforeAll, preceding_all, around, behind_up_to, edge_at, gap_front, gap_rear, in_front, in_rear, level_less, split_at, split_gap, takes_reached, there_under}
+use Rattle.rs_tree.proofs.Chunks.{Precedes, BeforeAll, preceding_all, around, behind_up_to, edge_at, gap_front, gap_rear, in_front, in_rear, level_less, split_at, split_gap, takes_reached, there_under}
 
 -- ---- an insertion among what stands before, what may be the spot, and what stands behind
 
@@ -53,7 +53,7 @@ insert_split cs zero c small = refl
 insert_split [] (suc i) c small = absurd (omega (arith, small))
 insert_split (d ∷ cs) (suc i) c small = ap (λ (w : Spots). d.spots ++ w) (insert_split cs i c (omega (arith, small))) ∙ sym (append_assoc d.spots (parts (take i cs)) (c.spots ++ parts (drop i cs)))
 
--- ---- a row, one child of which is another
+-- ---- a chunk, one child of which is another
 
 pub from_insert : (k : List ℕ) (p : Path) (f : Found) (w : Spots) → path_cmp p (k ∷ []) ≢ Less → IsFrom k w → IsFrom k (insert_entry path_cmp w p f)
 from_insert k p f [] n a = (n, tt)
@@ -78,27 +78,27 @@ before_set w [] i c c' same b = tt
 before_set w (d ∷ cs) zero c c' same b = let P : List ℕ → Type 0 = λ k. IsUpTo k w in subst P same b
 before_set w (d ∷ cs) (suc i) c c' same b = b
 
-pub row_set : (P : ChildValue → Type 0) (q : List ℕ) (cs : List ChildValue) (i : ℕ) (c c' : ChildValue) → IsRow cs → IsEdge P q cs (suc i) → c ≡ get_or cs i c → c'.level ≡ c.level
-    → IsFull c'.spots → IsFrom c.level c'.spots → ((n : List ℕ) → level_cmp q n ≡ Less → IsUpTo n c.spots → IsUpTo n c'.spots) → IsRow (slice_set cs i c')
-row_set P q [] i c c' r e is lv full fr up = absurd e
-row_set P q (d ∷ cs) zero c c' r e is lv full fr up = (full, (let Q : List ℕ → Type 0 = λ k. IsFrom k c'.spots in subst Q (sym lv) fr), next cs r.2 e.1, r.3)
+pub chunk_set : (P : ChildValue → Type 0) (q : List ℕ) (cs : List ChildValue) (i : ℕ) (c c' : ChildValue) → IsChunk cs → IsEdge P q cs (suc i) → c ≡ get_or cs i c → c'.level ≡ c.level
+    → IsFull c'.spots → IsFrom c.level c'.spots → ((n : List ℕ) → level_cmp q n ≡ Less → IsUpTo n c.spots → IsUpTo n c'.spots) → IsChunk (slice_set cs i c')
+chunk_set P q [] i c c' r e is lv full fr up = absurd e
+chunk_set P q (d ∷ cs) zero c c' r e is lv full fr up = (full, (let Q : List ℕ → Type 0 = λ k. IsFrom k c'.spots in subst Q (sym lv) fr), next cs r.2 e.1, r.3)
   where
     next : (cs : List ChildValue) → IsBefore d.spots cs → IsPreceding q cs → IsBefore c'.spots cs
     next [] b a = tt
     next (n ∷ cs) b a = up n.level a (let Q : ChildValue → Type 0 = λ w. IsUpTo n.level w.spots in subst Q (sym is) b)
-row_set P q (d ∷ cs) (suc i) c c' r e is lv full fr up =
-    (r.0, r.1, before_set d.spots cs i c c' (ap (λ (w : ChildValue). w.level) (sym is) ∙ sym lv) r.2, row_set P q cs i c c' r.3 e is lv full fr up)
+chunk_set P q (d ∷ cs) (suc i) c c' r e is lv full fr up =
+    (r.0, r.1, before_set d.spots cs i c c' (ap (λ (w : ChildValue). w.level) (sym is) ∙ sym lv) r.2, chunk_set P q cs i c c' r.3 e is lv full fr up)
 
-pub row_at : (cs : List ChildValue) (i : ℕ) (d : ChildValue) → i < length cs → IsRow cs → IsFull (get_or cs i d).spots × IsFrom (get_or cs i d).level (get_or cs i d).spots
-row_at [] i d small r = absurd (omega (arith, small))
-row_at (c ∷ cs) zero d small r = (r.0, r.1)
-row_at (c ∷ cs) (suc i) d small r = row_at cs i d (omega (arith, small)) r.3
+pub chunk_at : (cs : List ChildValue) (i : ℕ) (d : ChildValue) → i < length cs → IsChunk cs → IsFull (get_or cs i d).spots × IsFrom (get_or cs i d).level (get_or cs i d).spots
+chunk_at [] i d small r = absurd (omega (arith, small))
+chunk_at (c ∷ cs) zero d small r = (r.0, r.1)
+chunk_at (c ∷ cs) (suc i) d small r = chunk_at cs i d (omega (arith, small)) r.3
 
-pub from_at : (cs : List ChildValue) (i : ℕ) (c : ChildValue) → i < length cs → c ≡ get_or cs i c → IsRow cs → IsFrom c.level c.spots
-from_at cs i c small is r = let P : ChildValue → Type 0 = λ w. IsFrom w.level w.spots in subst P (sym is) (row_at cs i c small r).1
+pub from_at : (cs : List ChildValue) (i : ℕ) (c : ChildValue) → i < length cs → c ≡ get_or cs i c → IsChunk cs → IsFrom c.level c.spots
+from_at cs i c small is r = let P : ChildValue → Type 0 = λ w. IsFrom w.level w.spots in subst P (sym is) (chunk_at cs i c small r).1
 
-pub row_new : (q : List ℕ) (p : Path) (f : Found) (cs : List ChildValue) (i : ℕ) (c : ChildValue) → IsRow cs → IsGap q cs i → c.level ≡ q → c.spots ≡ (q ∷ p, f) ∷ [] → IsRow (insert cs i c)
-row_new q p f cs zero c r e lv is = (rw is tt, rw (is, lv) (from_one, tt), first cs e, r)
+pub chunk_new : (q : List ℕ) (p : Path) (f : Found) (cs : List ChildValue) (i : ℕ) (c : ChildValue) → IsChunk cs → IsGap q cs i → c.level ≡ q → c.spots ≡ (q ∷ p, f) ∷ [] → IsChunk (insert cs i c)
+chunk_new q p f cs zero c r e lv is = (rw is tt, rw (is, lv) (from_one, tt), first cs e, r)
   where
     from_one : path_cmp (q ∷ p) (q ∷ []) ≢ Less
     from_one = takes_reached false q q p refl
@@ -106,10 +106,10 @@ row_new q p f cs zero c r e lv is = (rw is tt, rw (is, lv) (from_one, tt), first
     first : (cs : List ChildValue) → IsPreceding q cs → IsBefore c.spots cs
     first [] a = tt
     first (n ∷ cs) a = rw is (level_less q n.level p a, tt)
-row_new q p f [] (suc i) c r e lv is = absurd e
-row_new q p f (d ∷ cs) (suc zero) c r e lv is = (r.0, r.1, (let Q : List ℕ → Type 0 = λ k. IsUpTo k d.spots in subst Q (sym lv) (behind_up_to q d.spots (e.0 []))), row_new q p f cs zero c r.3 e.1 lv is)
-row_new q p f (d ∷ []) (suc (suc i)) c r e lv is = absurd e
-row_new q p f (d ∷ n ∷ cs) (suc (suc i)) c r e lv is = (r.0, r.1, r.2, row_new q p f (n ∷ cs) (suc i) c r.3 e lv is)
+chunk_new q p f [] (suc i) c r e lv is = absurd e
+chunk_new q p f (d ∷ cs) (suc zero) c r e lv is = (r.0, r.1, (let Q : List ℕ → Type 0 = λ k. IsUpTo k d.spots in subst Q (sym lv) (behind_up_to q d.spots (e.0 []))), chunk_new q p f cs zero c r.3 e.1 lv is)
+chunk_new q p f (d ∷ []) (suc (suc i)) c r e lv is = absurd e
+chunk_new q p f (d ∷ n ∷ cs) (suc (suc i)) c r e lv is = (r.0, r.1, r.2, chunk_new q p f (n ∷ cs) (suc i) c r.3 e lv is)
 
 -- ---- the same as the calls say it
 
@@ -121,12 +121,12 @@ same_parts retained cs i c c' small is same =
     let there : c'.spots ≡ (get_or cs i c).spots = same ∙ ap (λ (w : ChildValue). w.spots) is in
     put_whole retained cs i c' small ∙ (ap (λ (w : Spots). (own retained ++ parts (take i cs)) ++ (w ++ parts (drop (suc i) cs))) there ∙ sym (split_at retained cs i c small))
 
-module _ (retained : Option Found) (cs : List ChildValue) (r : IsRow cs) (q : List ℕ) (p : Path) (f : Found) (i : ℕ) where
+module _ (retained : Option Found) (cs : List ChildValue) (r : IsChunk cs) (q : List ℕ) (p : Path) (f : Found) (i : ℕ) where
   pub full_child : (c : ChildValue) → i < length cs → c ≡ get_or cs i c → IsFull c.spots
-  full_child c small is = let P : ChildValue → Type 0 = λ w. IsFull w.spots in subst P (sym is) (row_at cs i c small r).0
+  full_child c small is = let P : ChildValue → Type 0 = λ w. IsFull w.spots in subst P (sym is) (chunk_at cs i c small r).0
 
   from_child : (c : ChildValue) → i < length cs → c ≡ get_or cs i c → IsFrom c.level c.spots
-  from_child c small is = let P : ChildValue → Type 0 = λ w. IsFrom w.level w.spots in subst P (sym is) (row_at cs i c small r).1
+  from_child c small is = let P : ChildValue → Type 0 = λ w. IsFrom w.level w.spots in subst P (sym is) (chunk_at cs i c small r).1
 
   set_whole : (c : ChildValue) → i < length cs → own retained ++ parts (slice_set cs i c) ≡ (own retained ++ parts (take i cs)) ++ (c.spots ++ parts (drop (suc i) cs))
   set_whole c small = around (own retained) (parts (take i cs)) (parts (slice_set cs i c)) c.spots (parts (drop (suc i) cs)) (set_split cs i c small)
@@ -150,24 +150,24 @@ module _ (retained : Option Found) (cs : List ChildValue) (r : IsRow cs) (q : Li
       ∙ (sym (insert_between (q ∷ p) f (own retained ++ parts (take i cs)) (parts (drop i cs)) (gap_front retained cs r q p i e) (gap_rear retained cs r q p i e))
       ∙ ap (λ (w : Spots). insert_entry path_cmp w (q ∷ p) f) (sym (split_gap retained cs i))))
 
-  pub row_same : (c c' : ChildValue) → i < length cs → IsIn q cs i → c ≡ get_or cs i c → c'.level ≡ c.level → c'.spots ≡ c.spots → IsRow (slice_set cs i c')
-  row_same c c' small e is lv same =
-      row_set (Takes q) q cs i c c' r e is lv (let P : Spots → Type 0 = λ w. IsFull w in subst P (sym same) (full_child c small is)) (let P : Spots → Type 0 = λ w. IsFrom c.level w in subst P (sym same) (from_child c small is))
+  pub chunk_same : (c c' : ChildValue) → i < length cs → IsIn q cs i → c ≡ get_or cs i c → c'.level ≡ c.level → c'.spots ≡ c.spots → IsChunk (slice_set cs i c')
+  chunk_same c c' small e is lv same =
+      chunk_set (Takes q) q cs i c c' r e is lv (let P : Spots → Type 0 = λ w. IsFull w in subst P (sym same) (full_child c small is)) (let P : Spots → Type 0 = λ w. IsFrom c.level w in subst P (sym same) (from_child c small is))
       (λ n l u. let P : Spots → Type 0 = λ w. IsUpTo n w in subst P (sym same) u)
 
-  pub row_grown : (c c' : ChildValue) → i < length cs → IsIn q cs i → c ≡ get_or cs i c → c'.level ≡ c.level → c'.spots ≡ insert_entry path_cmp c.spots (q ∷ p) f → IsRow (slice_set cs i c')
-  row_grown c c' small e is lv put =
+  pub chunk_grown : (c c' : ChildValue) → i < length cs → IsIn q cs i → c ≡ get_or cs i c → c'.level ≡ c.level → c'.spots ≡ insert_entry path_cmp c.spots (q ∷ p) f → IsChunk (slice_set cs i c')
+  chunk_grown c c' small e is lv put =
       let new : Spots = insert_entry path_cmp c.spots (q ∷ p) f in
-      let reached : path_cmp (q ∷ p) (c.level ∷ []) ≢ Less = takes_reached c.is_row c.level q p (let P : ChildValue → Type 0 = λ w. Takes q w in subst P (sym is) (edge_at (Takes q) q cs i c e)) in
-      row_set (Takes q) q cs i c c' r e is lv (let P : Spots → Type 0 = λ w. IsFull w in subst P (sym put) (full_insert c.spots (q ∷ p) f)) (let P : Spots → Type 0 = λ w. IsFrom c.level w in subst P (sym put) (from_insert c.level (q ∷ p) f c.spots reached (from_child c small is)))
+      let reached : path_cmp (q ∷ p) (c.level ∷ []) ≢ Less = takes_reached c.is_chunk c.level q p (let P : ChildValue → Type 0 = λ w. Takes q w in subst P (sym is) (edge_at (Takes q) q cs i c e)) in
+      chunk_set (Takes q) q cs i c c' r e is lv (let P : Spots → Type 0 = λ w. IsFull w in subst P (sym put) (full_insert c.spots (q ∷ p) f)) (let P : Spots → Type 0 = λ w. IsFrom c.level w in subst P (sym put) (from_insert c.level (q ∷ p) f c.spots reached (from_child c small is)))
       (λ n l u. let P : Spots → Type 0 = λ w. IsUpTo n w in subst P (sym put) (up_to_insert n (q ∷ p) f c.spots (level_less q n p l) u))
 
-  pub row_put : {T E : Type 0} (o : Result T E) (c c' : ChildValue) → i < length cs → IsIn q cs i → c ≡ get_or cs i c → c'.level ≡ c.level → OnOk o (c'.spots ≡ insert_entry path_cmp c.spots (q ∷ p) f) → OnErr o (c'.spots ≡ c.spots) → IsRow (slice_set cs i c')
-  row_put (Ok x) c c' small e is lv done unchanged = row_grown c c' small e is lv done
-  row_put (Err x) c c' small e is lv done unchanged = row_same c c' small e is lv unchanged
+  pub chunk_put : {T E : Type 0} (o : Result T E) (c c' : ChildValue) → i < length cs → IsIn q cs i → c ≡ get_or cs i c → c'.level ≡ c.level → OnOk o (c'.spots ≡ insert_entry path_cmp c.spots (q ∷ p) f) → OnErr o (c'.spots ≡ c.spots) → IsChunk (slice_set cs i c')
+  chunk_put (Ok x) c c' small e is lv done unchanged = chunk_grown c c' small e is lv done
+  chunk_put (Err x) c c' small e is lv done unchanged = chunk_same c c' small e is lv unchanged
 
 -- the message of the spot itself comes first
-pub own_first : (retained : Option Found) (f : Found) (cs : List ChildValue) → IsRow cs → ([], f) ∷ parts cs ≡ insert_entry path_cmp (own retained ++ parts cs) [] f
+pub own_first : (retained : Option Found) (f : Found) (cs : List ChildValue) → IsChunk cs → ([], f) ∷ parts cs ≡ insert_entry path_cmp (own retained ++ parts cs) [] f
 own_first (Some g) f cs r = refl
 own_first None f cs r = sym (insert_preceding [] f (parts cs) (preceding_all [] cs r (first cs)))
   where

@@ -10,26 +10,26 @@ use Rattle.rs_tree.specs.Expiring.{earliest}
 use Rattle.rs_tree.specs.Spots.{IsFull, is_nothing, own, under, pairs}
 use Rattle.rs_tree.specs.Sweeping.{spot_stays}
 use Rattle.rs_tree.proofs.Ends.{swept_chain, pairs_end}
-use Rattle.rs_tree.specs.Rows.{IsBefore, IsFrom, IsLeft, IsRow, IsUpTo, parts}
+use Rattle.rs_tree.specs.Chunks.{IsBefore, IsChunk, IsFrom, IsLeft, IsUpTo, parts}
 use Rattle.rs_tree.specs.Rests.{IsRestOf}
 use Rattle.rs_tree.specs.Values.{ChildValue}
-use Rattle.rs_tree.proofs.Dividing.{full_parts, full_under, up_to_all, row_take, up_to_front, up_to_rear}
+use Rattle.rs_tree.proofs.Dividing.{chunk_take, full_parts, full_under, up_to_all, up_to_front, up_to_rear}
 use Rattle.rs_message.specs.Messages.{is_expired}
 use Rattle.rs_store.specs.Contents.{is_gone}
 use Rattle.rs_store.proofs.Expiring.{calm_until}
-use Rattle.rs_tree.proofs.Growing.{from_at, row_at}
+use Rattle.rs_tree.proofs.Growing.{chunk_at, from_at}
 use Rattle.rs_tree.proofs.Under.{Spots}
 
--- ---- a row that grows at its end
+-- ---- a chunk that grows at its end
 
 before_one : (w : Spots) (cs : List ChildValue) (c : ChildValue) → IsUpTo c.level w → IsBefore w cs → IsBefore w (cs ++ c ∷ [])
 before_one w [] c u b = u
 before_one w (d ∷ cs) c u b = b
 
-pub row_push : (cs : List ChildValue) (c : ChildValue) → IsRow cs → IsUpTo c.level (parts cs) → IsFull c.spots → IsFrom c.level c.spots → IsRow (cs ++ c ∷ [])
-row_push [] c r u full from = (full, from, tt, tt)
-row_push (d ∷ cs) c r u full from =
-    (r.0, r.1, before_one d.spots cs c (up_to_front c.level d.spots (parts cs) u) r.2, row_push cs c r.3 (up_to_rear c.level d.spots (parts cs) u) full from)
+pub chunk_push : (cs : List ChildValue) (c : ChildValue) → IsChunk cs → IsUpTo c.level (parts cs) → IsFull c.spots → IsFrom c.level c.spots → IsChunk (cs ++ c ∷ [])
+chunk_push [] c r u full from = (full, from, tt, tt)
+chunk_push (d ∷ cs) c r u full from =
+    (r.0, r.1, before_one d.spots cs c (up_to_front c.level d.spots (parts cs) u) r.2, chunk_push cs c r.3 (up_to_rear c.level d.spots (parts cs) u) full from)
 
 pub parts_push : (cs : List ChildValue) (c : ChildValue) → parts (cs ++ c ∷ []) ≡ parts cs ++ c.spots
 parts_push [] c = append-nil c.spots
@@ -59,18 +59,18 @@ same_index [] (suc i) d = refl
 same_index (c ∷ cs) zero d = refl
 same_index (c ∷ cs) (suc i) d = same_index cs i d
 
-pub up_to_at : (cs : List ChildValue) (i : ℕ) (c : ChildValue) → i < length cs → c ≡ get_or cs i c → IsRow cs → IsUpTo c.level (parts (take i cs))
+pub up_to_at : (cs : List ChildValue) (i : ℕ) (c : ChildValue) → i < length cs → c ≡ get_or cs i c → IsChunk cs → IsUpTo c.level (parts (take i cs))
 up_to_at cs i c small is r = let P : ChildValue → Type 0 = λ w. IsUpTo w.level (parts (take i cs)) in subst P (same_index cs i c ∙ sym is) (up_to_all cs i c small r)
 
 -- ---- one child after the other
 
 -- so much is left of the first children
 pub record IsSwept (moment : ℕ) (cs left : List ChildValue) (i : ℕ) : Type 0 where
-  pub row : IsRow left
+  pub chunk : IsChunk left
   pub same : parts left ≡ filter (spot_stays moment) (parts (take i cs))
 
 module _ (moment : ℕ) (cs left : List ChildValue) (i : ℕ) where
-  module _ (c : ChildValue) (small : i < length cs) (is : c ≡ get_or cs i c) (r : IsRow cs) (so : IsSwept moment cs left i) where
+  module _ (c : ChildValue) (small : i < length cs) (is : c ≡ get_or cs i c) (r : IsChunk cs) (so : IsSwept moment cs left i) where
     more : filter (spot_stays moment) (parts (take (i + 1) cs)) ≡ filter (spot_stays moment) (parts (take i cs)) ++ filter (spot_stays moment) c.spots
     more =
         ap (λ (l : List ChildValue). filter (spot_stays moment) (parts l)) (take_more cs i c small ∙ ap (λ (w : ChildValue). take i cs ++ w ∷ []) (sym is))
@@ -78,7 +78,7 @@ module _ (moment : ℕ) (cs left : List ChildValue) (i : ℕ) where
 
     pub swept_gone : IsLeft moment c None → IsSwept moment cs left (i + 1)
     swept_gone h = record {
-      row = so.row;
+      chunk = so.chunk;
       same = so.same ∙ sym (more ∙ (ap (λ (w : Spots). filter (spot_stays moment) (parts (take i cs)) ++ w) h ∙ append-nil (filter (spot_stays moment) (parts (take i cs)))));
     }
 
@@ -87,7 +87,7 @@ module _ (moment : ℕ) (cs left : List ChildValue) (i : ℕ) where
         let up : IsUpTo d.level (parts left) = (let P : List ℕ → Type 0 = λ k. IsUpTo k (parts left) in subst P (sym h.0) (let Q : Spots → Type 0 = λ w. IsUpTo c.level w in subst Q (sym so.same) (up_to_filter c.level moment (parts (take i cs)) (up_to_at cs i c small is r)))) in
         let from : IsFrom d.level d.spots = (let P : List ℕ → Type 0 = λ k. IsFrom k d.spots in subst P (sym h.0) (let Q : Spots → Type 0 = λ w. IsFrom c.level w in subst Q (sym h.1) (from_filter c.level moment c.spots (from_at cs i c small is r)))) in
         record {
-          row = (let P : List ChildValue → Type 0 = λ l. IsRow l in subst P (sym put) (row_push left d so.row up h.2 from));
+          chunk = (let P : List ChildValue → Type 0 = λ l. IsChunk l in subst P (sym put) (chunk_push left d so.chunk up h.2 from));
           same = ap parts put ∙ (parts_push left d ∙ (ap (λ (w : Spots). w ++ d.spots) so.same ∙ (ap (λ (w : Spots). filter (spot_stays moment) (parts (take i cs)) ++ w) h.1 ∙ sym more)));
         }
 
@@ -99,21 +99,21 @@ take_whole (c ∷ cs) (suc i) small = ap (λ (l : List ChildValue). c ∷ l) (ta
 
 -- ---- the same, where nothing is built as long as no message goes
 
-begun_is : (moment : ℕ) (cs : List ChildValue) (i : ℕ) (g : Bool) (left begun : List ChildValue) → IsRow cs → IsRestOf moment (take i cs) g left → begun ≡ (if g then left else take i cs) → IsSwept moment cs begun i
-begun_is moment cs i true left begun r so put = let P : List ChildValue → Type 0 = λ l. IsSwept moment cs l i in subst P (sym put) (record { row = so.0; same = so.1 })
-begun_is moment cs i false left begun r so put = let P : List ChildValue → Type 0 = λ l. IsSwept moment cs l i in subst P (sym put) (record { row = row_take cs i r; same = sym so })
+begun_is : (moment : ℕ) (cs : List ChildValue) (i : ℕ) (g : Bool) (left begun : List ChildValue) → IsChunk cs → IsRestOf moment (take i cs) g left → begun ≡ (if g then left else take i cs) → IsSwept moment cs begun i
+begun_is moment cs i true left begun r so put = let P : List ChildValue → Type 0 = λ l. IsSwept moment cs l i in subst P (sym put) (record { chunk = so.0; same = so.1 })
+begun_is moment cs i false left begun r so put = let P : List ChildValue → Type 0 = λ l. IsSwept moment cs l i in subst P (sym put) (record { chunk = chunk_take cs i r; same = sym so })
 
 pub rest_none : (moment : ℕ) (cs left : List ChildValue) (i : ℕ) (g : Bool) → left ≡ [] → i ≡ 0 → IsRestOf moment (take i cs) g left
 rest_none moment cs left i g none start = let P : ℕ → Type 0 = λ n. IsRestOf moment (take n cs) g left in subst P (sym start) (at g)
   where
     at : (g : Bool) → IsRestOf moment [] g left
     at false = refl
-    at true = (let P : List ChildValue → Type 0 = λ l. IsRow l × (parts l ≡ []) in subst P (sym none) (tt, refl))
+    at true = (let P : List ChildValue → Type 0 = λ l. IsChunk l × (parts l ≡ []) in subst P (sym none) (tt, refl))
 
 pub rest_whole : (moment : ℕ) (cs left : List ChildValue) (i : ℕ) (g : Bool) → length cs ≤ i → IsRestOf moment (take i cs) g left → IsRestOf moment cs g left
 rest_whole moment cs left i g all so = let P : List ChildValue → Type 0 = λ l. IsRestOf moment l g left in subst P (take_whole cs i all) so
 
-module _ (moment : ℕ) (cs : List ChildValue) (i : ℕ) (c : ChildValue) (small : i < length cs) (is : c ≡ get_or cs i c) (r : IsRow cs) where
+module _ (moment : ℕ) (cs : List ChildValue) (i : ℕ) (c : ChildValue) (small : i < length cs) (is : c ≡ get_or cs i c) (r : IsChunk cs) where
   taken : parts (take (i + 1) cs) ≡ parts (take i cs) ++ c.spots
   taken = ap parts (take_more cs i c small ∙ ap (λ (w : ChildValue). take i cs ++ w ∷ []) (sym is)) ∙ parts_push (take i cs) c
 
@@ -125,7 +125,7 @@ module _ (moment : ℕ) (cs : List ChildValue) (i : ℕ) (c : ChildValue) (small
 
   of_swept : (g : Bool) (new : List ChildValue) → g ≡ true → IsSwept moment cs new (i + 1) → IsRestOf moment (take (i + 1) cs) g new
   of_swept false new on so = absurd (cc (on))
-  of_swept true new on so = (so.row, so.same)
+  of_swept true new on so = (so.chunk, so.same)
 
   pub rest_put : (g g' : Bool) (left begun new : List ChildValue) (d : ChildValue) → IsRestOf moment (take i cs) g left → begun ≡ (if g then left else take i cs) → g' ≡ true → new ≡ begun ++ d ∷ [] → IsLeft moment c (Some d) → IsRestOf moment (take (i + 1) cs) g' new
   rest_put g g' left begun new d so put on more h = of_swept g' new on (swept_left moment cs begun i c small is r (begun_is moment cs i g left begun r so put) d new more h)
@@ -160,7 +160,7 @@ chain_gone moment ks w w' is none = sym (chain_left moment ks w w' is) ∙ (ap (
 
 -- ---- a branch
 
-pub nothing_is : (retained : Option Found) (cs : List ChildValue) → IsRow cs → is_some retained ≡ false → length cs ≡ 0 → is_nothing (own retained ++ parts cs) ≡ true
+pub nothing_is : (retained : Option Found) (cs : List ChildValue) → IsChunk cs → is_some retained ≡ false → length cs ≡ 0 → is_nothing (own retained ++ parts cs) ≡ true
 nothing_is None [] r none size = refl
 nothing_is None (c ∷ cs) r none size = absurd (omega (arith, size))
 nothing_is (Some f) cs r none size = absurd (cc (none))
@@ -169,7 +169,7 @@ pub something_retained : (retained : Option Found) (cs : List ChildValue) → is
 something_retained None cs some = absurd (cc (some))
 something_retained (Some f) cs some = refl
 
-pub something_below : (retained : Option Found) (cs : List ChildValue) → IsRow cs → length cs ≢ 0 → is_nothing (own retained ++ parts cs) ≡ false
+pub something_below : (retained : Option Found) (cs : List ChildValue) → IsChunk cs → length cs ≢ 0 → is_nothing (own retained ++ parts cs) ≡ false
 something_below (Some f) cs r more = refl
 something_below None [] r more = absurd (more refl)
 something_below None (c ∷ cs) r more = at (parts (c ∷ cs)) (full_parts (c ∷ cs) r (omega arith))
@@ -197,10 +197,10 @@ stays_all moment w early = none_goes moment w (calm_until (earliest (2 ^ 64 - 1)
 pub chain_stays : (moment : ℕ) (ks : List (List ℕ)) (w : Spots) → filter (spot_stays moment) w ≡ w → filter (spot_stays moment) (under_all ks w) ≡ under_all ks w
 chain_stays moment ks w stay = sym (chain_left moment ks w w (sym stay))
 
-pub full_at : (cs : List ChildValue) (i : ℕ) (c : ChildValue) → i < length cs → c ≡ get_or cs i c → IsRow cs → IsFull c.spots
-full_at cs i c small is r = let P : ChildValue → Type 0 = λ w. IsFull w.spots in subst P (sym is) (row_at cs i c small r).0
+pub full_at : (cs : List ChildValue) (i : ℕ) (c : ChildValue) → i < length cs → c ≡ get_or cs i c → IsChunk cs → IsFull c.spots
+full_at cs i c small is r = let P : ChildValue → Type 0 = λ w. IsFull w.spots in subst P (sym is) (chunk_at cs i c small r).0
 
-pub nothing_by : (retained : Option Found) (cs : List ChildValue) (n : ℕ) → IsRow cs → is_some retained ≡ false → n ≡ length cs → (n == 0) ≡ is_nothing (own retained ++ parts cs)
+pub nothing_by : (retained : Option Found) (cs : List ChildValue) (n : ℕ) → IsChunk cs → is_some retained ≡ false → n ≡ length cs → (n == 0) ≡ is_nothing (own retained ++ parts cs)
 nothing_by retained cs n r none size = at (n == 0) refl
   where
     at : (b : Bool) → (n == 0) ≡ b → (n == 0) ≡ is_nothing (own retained ++ parts cs)
@@ -210,8 +210,8 @@ nothing_by retained cs n r none size = at (n == 0) refl
 pub level_left : (moment : ℕ) (k k' : List ℕ) (w w' : Spots) → k' ≡ k → w' ≡ filter (spot_stays moment) w → IsFull w' → (k' ≡ k) × (under k' w' ≡ filter (spot_stays moment) (under k w)) × IsFull (under k' w')
 level_left moment k k' w w' same is full = rw same (refl, chain_left moment (k ∷ []) w w' is, full_under k w' full)
 
-pub row_left : (moment : ℕ) (k k' : List ℕ) (w w' v : Spots) → k' ≡ k → v ≡ w' → w' ≡ filter (spot_stays moment) w → IsFull w' → (k' ≡ k) × (v ≡ filter (spot_stays moment) w) × IsFull v
-row_left moment k k' w w' v same put is full = rw put (same, is, full)
+pub chunk_left : (moment : ℕ) (k k' : List ℕ) (w w' v : Spots) → k' ≡ k → v ≡ w' → w' ≡ filter (spot_stays moment) w → IsFull w' → (k' ≡ k) × (v ≡ filter (spot_stays moment) w) × IsFull v
+chunk_left moment k k' w w' v same put is full = rw put (same, is, full)
 
 -- a child that is put into another shape
 pub joined_left : (moment : ℕ) (c d e : ChildValue) → e.level ≡ d.level → e.spots ≡ d.spots → IsLeft moment c (Some d) → IsLeft moment c (Some e)

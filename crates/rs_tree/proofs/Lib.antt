@@ -2,6 +2,7 @@ pub mod Buckets
 pub mod Chains
 pub mod Choosing
 pub mod Chosen
+pub mod Chunks
 pub mod Clearing
 pub mod Dividing
 pub mod Ends
@@ -10,7 +11,6 @@ pub mod Flattening
 pub mod Growing
 pub mod Joining
 pub mod Leaving
-pub mod Rows
 pub mod Sent
 pub mod Stems
 pub mod Stopping

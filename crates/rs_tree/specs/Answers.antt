@@ -16,10 +16,10 @@ Gives (Err stop) old new found = IsStop stop old.room (old.found.items ++ found)
 abbrev pub Steps : List (List ℕ) → List (List ℕ) → Type 0
 Steps pattern rest = (level : List ℕ) (path : List (List ℕ)) → fits pattern (level ∷ path) ≡ fits rest path
 
--- the same below one child; a row has the whole paths
+-- the same below one child; a chunk has the whole paths
 abbrev pub EntersAs : Bool → List ℕ → List (List ℕ) → List (List ℕ) → Type 0
 EntersAs true level pattern rest = Unit {0}
 EntersAs false level pattern rest = (path : List (List ℕ)) → fits pattern (level ∷ path) ≡ fits rest path
 
 abbrev pub Enters : ChildValue → List (List ℕ) → List (List ℕ) → Type 0
-Enters c pattern rest = EntersAs c.is_row c.level pattern rest
+Enters c pattern rest = EntersAs c.is_chunk c.level pattern rest

@@ -3,10 +3,10 @@ use Rattle.std.specs.Prelude.{◌≤◌, max}
 use Rattle.std.proofs.Common.{arith}
 use Rattle.rs_tree.specs.declared.branch.Branch.TheDeep.{deep-Below}
 use Rattle.rs_tree.specs.declared.branch.Below.{Below}
-use Rattle.rs_tree.specs.declared.branch.Below.TheVariants.{Few, Inner, Row}
+use Rattle.rs_tree.specs.declared.branch.Below.TheVariants.{Chunk, Few, Inner}
 use Rattle.rs_tree.specs.Nodes.{depth_of}
 
 pub below_falls : (b : Below) → max (deep-Below b) 0 ≤ depth_of b
 below_falls (Few b) = omega arith
 below_falls (Inner s) = omega arith
-below_falls (Row b) = omega arith
+below_falls (Chunk b) = omega arith

@@ -2,7 +2,7 @@
 use Rattle.std.specs.Prelude.{◌+◌, ◌≤◌, max, List, [], ◌∷◌}
 use Rattle.std.proofs.Common.{arith}
 use denote.Param.Weighed.{most}
-use Rattle.rs_tree.specs.Rows.{depth}
+use Rattle.rs_tree.specs.Chunks.{depth}
 use Rattle.rs_tree.specs.Values.{ChildValue}
 
 most_falls : (cs : List ChildValue) → most (λ c. c.depth + 1) cs ≤ depth cs

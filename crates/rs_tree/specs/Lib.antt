@@ -2,6 +2,7 @@ pub mod Answers
 pub mod Buckets
 pub mod Chains
 pub mod Chosen
+pub mod Chunks
 pub mod Clearing
 pub mod Depths
 pub mod Expiring
@@ -10,7 +11,6 @@ pub mod Labels
 pub mod Messages
 pub mod Nodes
 pub mod Rests
-pub mod Rows
 pub mod Spots
 pub mod Sweeping
 pub mod Trees

@@ -1,7 +1,7 @@
 -- What a Sweep leaves of a branch and of its children.
 use Rattle.std.specs.Prelude.{◌≡◌, ℕ, Bool, true, false, List, [], Option, Some, None}
 use Rattle.std.specs.List.{filter}
-use Rattle.rs_tree.specs.Rows.{IsRow, parts}
+use Rattle.rs_tree.specs.Chunks.{IsChunk, parts}
 use Rattle.rs_tree.specs.Spots.{Spot, IsFull}
 use Rattle.rs_tree.specs.Sweeping.{spot_stays}
 use Rattle.rs_tree.specs.Values.{BranchValue, ChildValue}
@@ -17,7 +17,7 @@ IsRest moment c Nothing = filter (spot_stays moment) c.spots ≡ []
 -- no message of the children goes, or so much is left of them
 abbrev pub IsRestOf : ℕ → List ChildValue → Bool → List ChildValue → Type 0
 IsRestOf moment cs false left = filter (spot_stays moment) (parts cs) ≡ parts cs
-IsRestOf moment cs true left = IsRow left × (parts left ≡ filter (spot_stays moment) (parts cs))
+IsRestOf moment cs true left = IsChunk left × (parts left ≡ filter (spot_stays moment) (parts cs))
 
 -- the same of a branch
 abbrev pub IsBranchRest : ℕ → List Spot → Option BranchValue → Type 0

@@ -10,6 +10,6 @@ pub record BranchValue : Type 0 where
 -- the level where it begins, whether it goes on to other levels, its messages with their paths from its level on, and how deep it is
 pub record ChildValue : Type 0 where
   pub level : List ℕ
-  pub is_row : Bool
+  pub is_chunk : Bool
   pub spots : List Spot
   pub depth : ℕ

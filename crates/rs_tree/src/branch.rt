@@ -2,10 +2,11 @@
 
 ghost use Rattle.std.specs.Prelude.{◌≡◌, ◌<◌, ◌≤◌, false, [], List, ℕ, length, IfErr, IfOk, IsTrue, MatchResult, OnErr, OnOk};
 ghost use Rattle.std.specs.List.{insert};
-ghost use Rattle.rs_tree.specs.Nodes.{depth_of, is_row, spots_of};
-ghost use Rattle.rs_tree.specs.Rows.{IsEdge, IsGap, IsIn, IsNotBefore, Passes, Takes};
+ghost use Rattle.rs_tree.specs.Nodes.{depth_of, is_chunk, spots_of};
+ghost use Rattle.rs_tree.specs.Chunks.{IsEdge, IsGap, IsIn, IsNotBefore, Passes, Takes};
 
 mod answers;
+mod chunks;
 mod clear;
 mod count;
 mod earliest;
@@ -15,7 +16,6 @@ mod holds;
 mod join;
 mod len;
 mod remains;
-mod rows;
 mod set;
 mod sweep;
 
@@ -54,7 +54,7 @@ pub enum Below {
     /// More messages, or some that had more beside them.
     Inner(Arc<Stem>),
     /// The messages below some levels, from that of the child on.
-    Row(Arc<Branch>),
+    Chunk(Arc<Branch>),
 }
 
 /// A branch below a chain of levels that all of its messages share.
@@ -71,9 +71,9 @@ impl Model for Child {
 
     ghost Value = { ChildValue };
 
-    ghost use Rattle.rs_tree.specs.Nodes.{depth_of, is_row, spots_of};
+    ghost use Rattle.rs_tree.specs.Nodes.{depth_of, is_chunk, spots_of};
 
-    ghost view = { λ c. record { level = c.level; is_row = is_row c.below; spots = spots_of c.level c.below; depth = depth_of c.below } };
+    ghost view = { λ c. record { level = c.level; is_chunk = is_chunk c.below; spots = spots_of c.level c.below; depth = depth_of c.below } };
 
     ghost size = { λ v. v.depth };
 
@@ -89,11 +89,11 @@ impl Model for Branch {
 
     ghost use Rattle.std.specs.Prelude.{◌++◌};
     ghost use Rattle.rs_tree.specs.Spots.{own};
-    ghost use Rattle.rs_tree.specs.Rows.{IsRow, depth, parts};
+    ghost use Rattle.rs_tree.specs.Chunks.{IsChunk, depth, parts};
 
     ghost view = { λ b. record { spots = own b.retained ++ parts b.children.items; depth = depth b.children.items } };
 
-    ghost invariant = { λ b. IsRow b.children.items };
+    ghost invariant = { λ b. IsChunk b.children.items };
 
     ghost size = { λ v. v.depth };
 
@@ -116,14 +116,14 @@ impl Branch {
 impl Below {
     /// One more owner of the same messages.
     fn again(&self) -> Result<Below, AllocError>
-        ensures row { IfOk result (λ b. is_row b ≡ is_row self.now) }
+        ensures chunk { IfOk result (λ b. is_chunk b ≡ is_chunk self.now) }
         ensures depth { IfOk result (λ b. depth_of b ≡ depth_of self.now) }
         ensures spots { (level : List ℕ) → IfOk result (λ b. spots_of level b ≡ spots_of level self.now) }
     {
         match self {
             Below::Few(bucket) => Ok(Below::Few(bucket.again()?)),
             Below::Inner(stem) => Ok(Below::Inner(Arc::try_clone(stem)?)),
-            Below::Row(row) => Ok(Below::Row(Arc::try_clone(row)?)),
+            Below::Chunk(chunk) => Ok(Below::Chunk(Arc::try_clone(chunk)?)),
         }
     }
 }
@@ -144,7 +144,7 @@ impl Child {
         match &self.below {
             Below::Few(_) => self.level.as_slice() == level,
             Below::Inner(_) => self.level.as_slice() == level,
-            Below::Row(_) => true,
+            Below::Chunk(_) => true,
         }
     }
 

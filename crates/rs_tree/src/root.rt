@@ -56,7 +56,7 @@ impl Root {
         })
     }
 
-    /// Puts two rows in the place of the children of the root, if these are too many.
+    /// Puts two chunks in the place of the children of the root, if these are too many.
     fn fold(&mut self, alloc: Global)
         ensures { self.new ≡ self.old }
     {

@@ -5,7 +5,7 @@ ghost use Rattle.rs_tree.specs.Chosen.{chosen, chosen_at_root, chosen_by, is_pla
 ghost use Rattle.rs_topic.specs.Rests.{levels_from};
 ghost use Rattle.rs_tree.specs.Answers.{Enters, Gives, Steps};
 ghost use Rattle.rs_tree.specs.Nodes.{stem_spots};
-ghost use Rattle.rs_tree.specs.Rows.{parts};
+ghost use Rattle.rs_tree.specs.Chunks.{parts};
 
 use super::{Below, Branch, Child, Stem, index_of};
 use crate::chain::past;
@@ -74,7 +74,7 @@ impl Child {
         match &self.below {
             Below::Few(bucket) => bucket.answer(filter, next, now, answer),
             Below::Inner(stem) => stem.answer(filter, next, now, answer),
-            Below::Row(row) => row.answer(filter, at, now, answer),
+            Below::Chunk(chunk) => chunk.answer(filter, at, now, answer),
         }
     }
 
@@ -91,8 +91,8 @@ impl Child {
         requires { Steps (levels_from at filter.now) (levels_from next filter.now) }
         ensures { Gives result answer.old answer.new (chosen_by (is_plain_below (levels_from next filter.now)) now self.now.spots) }
     {
-        if let Below::Row(row) = &self.below {
-            return row.answer_plain(filter, at, next, now, answer);
+        if let Below::Chunk(chunk) = &self.below {
+            return chunk.answer_plain(filter, at, next, now, answer);
         }
         if begins_with_dollar(self.level.as_slice()) {
             return Ok(());

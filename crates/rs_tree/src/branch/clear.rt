@@ -6,7 +6,7 @@ ghost use Rattle.std.specs.Arc.{arc_value};
 ghost use Rattle.rs_topic.specs.Rests.{levels_from};
 ghost use Rattle.rs_tree.specs.Clearing.{Clears, ClearsAs};
 ghost use Rattle.rs_tree.specs.Nodes.{stem_spots};
-ghost use Rattle.rs_tree.specs.Rows.{Leads};
+ghost use Rattle.rs_tree.specs.Chunks.{Leads};
 
 use super::{Below, Branch, Child, Stem, index_of};
 use crate::chain::behind;
@@ -38,7 +38,7 @@ impl Child {
                 self.join(alloc);
                 return cleared;
             }
-            Below::Row(row) => return Branch::clear_in(row, alloc, topic, at),
+            Below::Chunk(chunk) => return Branch::clear_in(chunk, alloc, topic, at),
         }
     }
 }

@@ -18,13 +18,13 @@ impl Child {
         match &self.below {
             Below::Few(_) => 0,
             Below::Inner(stem) => stem.branch.branches(),
-            Below::Row(row) => row.branches(),
+            Below::Chunk(chunk) => chunk.branches(),
         }
     }
 }
 
 impl Branch {
-    /// This branch and those below it, rows among them.
+    /// This branch and those below it, chunks among them.
     #[cycle(branches)]
     pub fn branches(&self) -> u32 {
         branches_below(self.children.as_slice()).saturating_add(1)

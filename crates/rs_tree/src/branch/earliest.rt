@@ -3,7 +3,7 @@
 ghost use Rattle.std.specs.Prelude.{◌≡◌};
 ghost use Rattle.rs_tree.specs.Expiring.{earliest};
 ghost use Rattle.rs_tree.specs.Spots.{own};
-ghost use Rattle.rs_tree.specs.Rows.{parts};
+ghost use Rattle.rs_tree.specs.Chunks.{parts};
 
 use super::{Below, Branch, Child};
 use crate::shared::Shared;
@@ -40,7 +40,7 @@ impl Child {
         match &self.below {
             Below::Few(bucket) => bucket.earliest(bound),
             Below::Inner(stem) => stem.branch.earliest(bound),
-            Below::Row(row) => row.earliest(bound),
+            Below::Chunk(chunk) => chunk.earliest(bound),
         }
     }
 }

@@ -5,7 +5,7 @@ ghost use Rattle.std.specs.List.{filter};
 ghost use Rattle.rs_tree.specs.Spots.{own};
 ghost use Rattle.rs_tree.specs.Sweeping.{is_expired_spot};
 ghost use Rattle.rs_store.specs.declared.limit.TheConstants.{MAX_TOPICS};
-ghost use Rattle.rs_tree.specs.Rows.{parts};
+ghost use Rattle.rs_tree.specs.Chunks.{parts};
 
 use super::{Below, Branch, Child};
 use crate::shared::Shared;
@@ -41,7 +41,7 @@ impl Child {
         match &self.below {
             Below::Few(bucket) => bucket.expired(now, count),
             Below::Inner(stem) => stem.branch.expired(now, count),
-            Below::Row(row) => row.expired(now, count),
+            Below::Chunk(chunk) => chunk.expired(now, count),
         }
     }
 }

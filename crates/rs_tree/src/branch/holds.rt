@@ -4,7 +4,7 @@ ghost use Rattle.std.specs.Prelude.{◌≡◌};
 ghost use Rattle.rs_topic.specs.Rests.{levels_from};
 ghost use Rattle.rs_tree.specs.Spots.{is_there};
 ghost use Rattle.rs_tree.specs.Nodes.{stem_spots};
-ghost use Rattle.rs_tree.specs.Rows.{Leads};
+ghost use Rattle.rs_tree.specs.Chunks.{Leads};
 
 use super::{Below, Branch, Child, Stem, index_of};
 use crate::chain::behind;
@@ -33,7 +33,7 @@ impl Child {
         match &self.below {
             Below::Few(bucket) => bucket.holds(topic, next),
             Below::Inner(stem) => stem.holds(topic, next),
-            Below::Row(row) => row.holds(topic, at),
+            Below::Chunk(chunk) => chunk.holds(topic, at),
         }
     }
 }

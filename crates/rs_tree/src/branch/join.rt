@@ -8,7 +8,7 @@ ghost use Rattle.rs_tree.specs.Chains.{under_all};
 ghost use Rattle.rs_topic.specs.Rests.{levels_from};
 ghost use Rattle.rs_tree.specs.Spots.{under};
 ghost use Rattle.rs_tree.specs.Nodes.{stem_spots};
-ghost use Rattle.rs_tree.specs.Rows.{IsRow, parts};
+ghost use Rattle.rs_tree.specs.Chunks.{IsChunk, parts};
 
 use super::{Below, Branch, Child, Stem, copies};
 use crate::chain::{behind, joined};
@@ -78,7 +78,7 @@ impl Stem {
 }
 
 impl Child {
-    /// The same below a level and a chain, unless it is a row.
+    /// The same below a level and a chain, unless it is a chunk.
     fn risen(&self, alloc: Global, level: &Label, chain: &[u8]) -> Result<Option<Child>, AllocError>
         ensures level { IfOk result (λ o. IfSome o (λ c. c.level ≡ level.now)) }
         ensures spots { IfOk result (λ o. IfSome o (λ c. c.spots ≡ under level.now (under_all (levels_from 1 chain.now) self.now.spots))) }
@@ -96,7 +96,7 @@ impl Child {
                 let higher = stem.risen(alloc, chain, own)?;
                 Below::Inner(Arc::new(alloc, higher)?)
             }
-            Below::Row(_) => return Ok(None),
+            Below::Chunk(_) => return Ok(None),
         };
         let level = level.again()?;
         Ok(Some(Child { level, below }))
@@ -115,22 +115,22 @@ impl Child {
         }
     }
 
-    /// The children of a row.
+    /// The children of a chunk.
     fn unfolded(&self, alloc: Global) -> Result<Option<Vec<Child>>, AllocError>
-        ensures row { IfOk result (λ o. IfSome o (λ cs. IsRow cs.items)) }
+        ensures chunk { IfOk result (λ o. IfSome o (λ cs. IsChunk cs.items)) }
         ensures same { IfOk result (λ o. IfSome o (λ cs. parts cs.items ≡ self.now.spots)) }
     {
-        let Below::Row(row) = &self.below else {
+        let Below::Chunk(chunk) = &self.below else {
             return Ok(None);
         };
-        row.without_retained(alloc)
+        chunk.without_retained(alloc)
     }
 }
 
 impl Branch {
     /// Its children, if it has no message of its own.
     fn without_retained(&self, alloc: Global) -> Result<Option<Vec<Child>>, AllocError>
-        ensures row { IfOk result (λ o. IfSome o (λ cs. IsRow cs.items)) }
+        ensures chunk { IfOk result (λ o. IfSome o (λ cs. IsChunk cs.items)) }
         ensures same { IfOk result (λ o. IfSome o (λ cs. parts cs.items ≡ self.now.spots)) }
     {
         if self.retained.is_some() {
@@ -140,7 +140,7 @@ impl Branch {
         Ok(Some(children))
     }
 
-    /// Puts the children of a row in its place, if there is no other child.
+    /// Puts the children of a chunk in its place, if there is no other child.
     pub fn unfold(&mut self, alloc: Global)
         ensures { self.new.spots ≡ self.old.spots }
     {

@@ -3,7 +3,7 @@
 ghost use Rattle.std.specs.Prelude.{◌≡◌, ◌≤◌, length};
 ghost use Rattle.rs_tree.specs.Spots.{own};
 ghost use Rattle.rs_store.specs.declared.limit.TheConstants.{MAX_TOPICS};
-ghost use Rattle.rs_tree.specs.Rows.{parts};
+ghost use Rattle.rs_tree.specs.Chunks.{parts};
 
 use super::{Below, Branch, Child};
 use crate::shared::Shared;
@@ -39,7 +39,7 @@ impl Child {
         match &self.below {
             Below::Few(bucket) => bucket.len(),
             Below::Inner(stem) => stem.branch.len(),
-            Below::Row(row) => row.len(),
+            Below::Chunk(chunk) => chunk.len(),
         }
     }
 }

@@ -37,8 +37,8 @@ impl Remains {
         }
     }
 
-    /// Keeps a tree in place of what is left of the one before, which is dropped at once: so Sweeps in a row leave no more than one tree.
-    /// If something else shares the tree, that drops it then.
+    /// Keeps a tree in place of what is left of the one before, which is dropped at once: so Sweeps one after the other leave no more than
+    /// one tree. If something else shares the tree, that drops it then.
     pub fn replace(&mut self, alloc: Global, tree: Arc<Branch>) {
         self.nodes = Vec::new(alloc);
         self.add(alloc, tree);
@@ -73,7 +73,7 @@ impl Remains {
             match below {
                 Below::Few(bucket) => drop(bucket),
                 Below::Inner(stem) => self.add_stem(alloc, stem),
-                Below::Row(row) => self.add(alloc, row),
+                Below::Chunk(chunk) => self.add(alloc, chunk),
             }
         }
     }

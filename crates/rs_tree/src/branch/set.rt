@@ -7,9 +7,9 @@ ghost use Rattle.rs_topic.specs.Order.{path_cmp};
 ghost use Rattle.rs_topic.specs.Rests.{levels_from};
 ghost use Rattle.rs_tree.specs.Spots.{IsFull, is_there};
 ghost use Rattle.rs_tree.specs.Nodes.{stem_spots};
-ghost use Rattle.rs_tree.specs.Rows.{Leads};
+ghost use Rattle.rs_tree.specs.Chunks.{Leads};
 
-use super::rows::single;
+use super::chunks::single;
 use super::{Below, Branch, Child, Stem, index_of, insert_at};
 use crate::bucket::Bucket;
 use crate::chain::{behind, shared_levels};
@@ -123,7 +123,7 @@ impl Child {
                 return done;
             }
             Below::Inner(stem) => return Stem::set(stem, alloc, found, next),
-            Below::Row(row) => return Branch::set_in(row, alloc, found, at),
+            Below::Chunk(chunk) => return Branch::set_in(chunk, alloc, found, at),
         }
     }
 }

@@ -5,7 +5,7 @@ ghost use Rattle.std.specs.List.{filter};
 ghost use Rattle.rs_tree.specs.Spots.{IsFull, is_nothing, own};
 ghost use Rattle.rs_tree.specs.Sweeping.{spot_stays};
 ghost use Rattle.rs_tree.specs.Rests.{IsBranchRest, IsRest, IsRestOf};
-ghost use Rattle.rs_tree.specs.Rows.{IsRow, Notes};
+ghost use Rattle.rs_tree.specs.Chunks.{IsChunk, Notes};
 
 use super::{Below, Branch, Child, Stem, copies};
 use crate::shared::Shared;
@@ -73,7 +73,7 @@ fn one_swept(
     left: &mut Vec<Child>,
     goes: &mut bool,
 ) -> Result<(), AllocError>
-    requires row { IsRow children.now }
+    requires chunk { IsChunk children.now }
     requires within { i < length children.now }
     requires before { IsRestOf moment (take i children.now) goes.old left.old.items }
     ensures left { OnOk result (IsRestOf moment (take (i + 1) children.now) goes.new left.new.items) }
@@ -105,7 +105,7 @@ fn each_swept(
     moment: u64,
     goes: &mut bool,
 ) -> Result<Vec<Child>, AllocError>
-    requires { IsRow children.now }
+    requires { IsChunk children.now }
     ensures left { IfOk result (λ left. IsRestOf moment children.now goes.new left.items) }
     ensures noted { goes.old ≡ true → goes.new ≡ true }
 {
@@ -155,8 +155,8 @@ impl Child {
                 child.join(alloc);
                 Ok(Rest::Less(child))
             }
-            Below::Row(row) => {
-                let Some(branch) = row.swept(alloc, moment)? else {
+            Below::Chunk(chunk) => {
+                let Some(branch) = chunk.swept(alloc, moment)? else {
                     return Ok(Rest::All);
                 };
                 if branch.is_empty() {
@@ -166,7 +166,7 @@ impl Child {
                 let left = Arc::new(alloc, branch)?;
                 Ok(Rest::Less(Child {
                     level,
-                    below: Below::Row(left),
+                    below: Below::Chunk(left),
                 }))
             }
         }

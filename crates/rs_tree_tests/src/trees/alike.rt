@@ -4,7 +4,7 @@ ghost use Rattle.std.specs.Prelude.{◌≡◌, ◌<◌, false, IfOk};
 ghost use Rattle.rs_message.specs.Messages.{is_sweep};
 
 use super::joined::{
-    check_cleared_rows, check_deep, check_lone_messages, check_narrow_rows, check_swept_rows,
+    check_cleared_chunks, check_deep, check_lone_messages, check_narrow_chunks, check_swept_chunks,
 };
 use super::wide::{check_grown, check_swept_grown};
 use super::{check_as_many, origin, set_at};
@@ -280,9 +280,9 @@ pub enum Case {
     Entries,
     Deep,
     LoneMessages,
-    ClearedRows,
-    SweptRows,
-    NarrowRows,
+    ClearedChunks,
+    SweptChunks,
+    NarrowChunks,
     Grown(u64),
     SweptGrown,
 }
@@ -295,9 +295,9 @@ pub fn check_case(rt: &impl Abort, alloc: Global, topics: u32, case: Case) -> Re
         Case::Entries => check_filled(rt, alloc, &mut map, &mut tree),
         Case::Deep => check_deep(rt, alloc, &mut map, &mut tree),
         Case::LoneMessages => check_lone_messages(rt, alloc, &mut map, &mut tree),
-        Case::ClearedRows => check_cleared_rows(rt, alloc, &mut map, &mut tree),
-        Case::SweptRows => check_swept_rows(rt, alloc, &mut map, &mut tree),
-        Case::NarrowRows => check_narrow_rows(rt, alloc, &mut map, &mut tree),
+        Case::ClearedChunks => check_cleared_chunks(rt, alloc, &mut map, &mut tree),
+        Case::SweptChunks => check_swept_chunks(rt, alloc, &mut map, &mut tree),
+        Case::NarrowChunks => check_narrow_chunks(rt, alloc, &mut map, &mut tree),
         Case::Grown(step) => check_grown(rt, alloc, &mut map, &mut tree, step),
         Case::SweptGrown => check_swept_grown(rt, alloc, &mut map, &mut tree),
     }

@@ -132,8 +132,8 @@ fn put_many(
     Ok(())
 }
 
-/// Many messages are cleared. No row is left, and no branch beside the root.
-pub fn check_cleared_rows(
+/// Many messages are cleared. No chunk is left, and no branch beside the root.
+pub fn check_cleared_chunks(
     rt: &impl Abort,
     alloc: Global,
     map: &mut CalmCatalogue<MapCatalogue>,
@@ -149,12 +149,12 @@ pub fn check_cleared_rows(
 }
 
 #[test]
-fn cleared_rows_are_joined(rt: HostRuntime) -> Result<(), Fail> {
-    check_case(&rt, rt.alloc(), 600, Case::ClearedRows)
+fn cleared_chunks_are_joined(rt: HostRuntime) -> Result<(), Fail> {
+    check_case(&rt, rt.alloc(), 600, Case::ClearedChunks)
 }
 
-/// Many messages expire, and the store makes room. No row is left, and no branch beside the root.
-pub fn check_swept_rows(
+/// Many messages expire, and the store makes room. No chunk is left, and no branch beside the root.
+pub fn check_swept_chunks(
     rt: &impl Abort,
     alloc: Global,
     map: &mut CalmCatalogue<MapCatalogue>,
@@ -170,13 +170,13 @@ pub fn check_swept_rows(
 }
 
 #[test]
-fn swept_rows_are_joined(rt: HostRuntime) -> Result<(), Fail> {
-    check_case(&rt, rt.alloc(), 600, Case::SweptRows)
+fn swept_chunks_are_joined(rt: HostRuntime) -> Result<(), Fail> {
+    check_case(&rt, rt.alloc(), 600, Case::SweptChunks)
 }
 
-/// Sets many topics before those that are there and clears all of them but one, time and again. The rows that are left stand in one
+/// Sets many topics before those that are there and clears all of them but one, time and again. The chunks that are left lie in one
 /// another, but no deeper each time.
-pub fn check_narrow_rows(
+pub fn check_narrow_chunks(
     rt: &impl Abort,
     alloc: Global,
     map: &mut CalmCatalogue<MapCatalogue>,
@@ -196,6 +196,6 @@ pub fn check_narrow_rows(
 }
 
 #[test]
-fn narrow_rows_are_undone(rt: HostRuntime) -> Result<(), Fail> {
-    check_case(&rt, rt.alloc(), 600, Case::NarrowRows)
+fn narrow_chunks_are_undone(rt: HostRuntime) -> Result<(), Fail> {
+    check_case(&rt, rt.alloc(), 600, Case::NarrowChunks)
 }

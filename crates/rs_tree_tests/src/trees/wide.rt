@@ -1,4 +1,4 @@
-//! Many levels side by side, so that rows are divided, and copies that never change.
+//! Many levels side by side, so that chunks are divided, and copies that never change.
 
 use super::alike::{Case, LATE, check_all_alike, check_case, put, put_both};
 use rs_store::{CalmCatalogue, Catalogue, MapCatalogue, TopicLimit};
@@ -66,7 +66,7 @@ pub fn check_grown(
 }
 
 #[test]
-fn wide_rows_answer_alike(rt: HostRuntime) -> Result<(), Fail> {
+fn wide_chunks_answer_alike(rt: HostRuntime) -> Result<(), Fail> {
     for step in [1, 1499, 701] {
         check_case(&rt, rt.alloc(), 2000, Case::Grown(step))?;
     }
@@ -92,7 +92,7 @@ pub fn check_swept_grown(
 }
 
 #[test]
-fn wide_rows_are_swept_alike(rt: HostRuntime) -> Result<(), Fail> {
+fn wide_chunks_are_swept_alike(rt: HostRuntime) -> Result<(), Fail> {
     check_case(&rt, rt.alloc(), 1000, Case::SweptGrown)
 }
 
@@ -132,7 +132,7 @@ fn later_entries_drop_what_was_swept(rt: HostRuntime) -> Result<(), Fail> {
 
 /// A Set that needs a Sweep finds one message to take out, again and again. What is not dropped yet does not grow.
 #[test]
-fn sweeps_in_a_row_leave_no_more(rt: HostRuntime) -> Result<(), Fail> {
+fn sweeps_one_after_the_other_leave_no_more(rt: HostRuntime) -> Result<(), Fail> {
     let alloc = rt.alloc();
     let limit = TopicLimit::new(1000).ok_or("the limit")?;
     let mut tree: CalmCatalogue<TreeCatalogue> = CalmCatalogue::new(alloc, limit)?;

@@ -5,11 +5,11 @@ use Rattle.rs_tree.specs.Chosen.{chosen, own_chosen}
 use Rattle.rs_topic.specs.Rests.{levels_from}
 use Rattle.rs_tree.proofs.Stems.{chosen_past, none_past}
 use Rattle.rs_tree.specs.Nodes.{stem_spots}
-use Rattle.rs_tree.specs.Rows.{IsGap, IsIn, Takes, depth, parts}
+use Rattle.rs_tree.specs.Chunks.{IsGap, IsIn, Takes, depth, parts}
 use Rattle.rs_tree.specs.Values.{BranchValue, ChildValue}
 use Rattle.rs_tree.proofs.Choosing.{all_of, ended, exact_gap, exact_in, gives_none, gives_of, gives_same, gives_stop, gives_then, hash_steps, plus_of, plus_steps, so_far_end, so_far_more, so_far_stop, steps_in, takes_in}
 use Rattle.rs_tree.proofs.Chosen.{goes}
-use Rattle.rs_tree.proofs.Rows.{deep_child, edge_at}
+use Rattle.rs_tree.proofs.Chunks.{deep_child, edge_at}
 use Rattle.rs_tree.proofs.branch.+answer.Goals as goal
 
 pub answers::answer_each-loop-child-init : goal.answers::answer_each-loop-child-init

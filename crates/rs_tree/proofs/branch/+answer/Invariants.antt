@@ -1,7 +1,7 @@
 use Rattle.std.proofs.Common.{◌+◌, ◌*◌}
 use Rattle.rs_topic.specs.Matching.{fits}
 use Rattle.rs_topic.specs.Rests.{levels_from}
-use Rattle.rs_tree.specs.Rows.{depth}
+use Rattle.rs_tree.specs.Chunks.{depth}
 use Rattle.rs_tree.proofs.Choosing.{IsSoFar}
 use Rattle.rs_tree.proofs.branch.+answer.Given as goal
 

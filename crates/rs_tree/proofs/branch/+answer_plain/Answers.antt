@@ -1,13 +1,13 @@
 use Rattle.std.proofs.Common.{◌≡◌, ◌+◌, ◌≤◌, true, false, refl, sym, ap, ◌∙◌, arith}
 use Rattle.rs_tree.specs.Chosen.{chosen, is_plain_below}
 use Rattle.rs_topic.specs.Rests.{levels_from}
-use Rattle.rs_tree.specs.Rows.{depth}
+use Rattle.rs_tree.specs.Chunks.{depth}
 use Rattle.rs_tree.specs.Values.{BranchValue}
 use Rattle.rs_topic.specs.Matching.{begins_with_dollar}
 use Rattle.rs_tree.specs.Answers.{Gives}
 use Rattle.rs_tree.specs.Nodes.{spots_of}
 use Rattle.rs_tree.proofs.Choosing.{dollar_below, gives_none, gives_same, own_plain, plain_below, so_far_end, so_far_more, so_far_stop, steps_in}
-use Rattle.rs_tree.proofs.Rows.{deep_child}
+use Rattle.rs_tree.proofs.Chunks.{deep_child}
 use Rattle.rs_tree.proofs.branch.+answer_plain.Goals as goal
 
 pub answers::answer_plain-loop-child-init : goal.answers::answer_plain-loop-child-init
@@ -50,10 +50,10 @@ Child::answer_plain-returns t c =
     let rest = levels_from c.args.next c.args.filter.now in
     let plain : begins_with_dollar c.self.inside.level ≡ false = rw c.as_slice.ensures at (sym c.begins_with_dollar.ensures.value ∙ c.if-begins_with_dollar.false) in
     let gives : Gives c.answer.result c.args.answer.now c.answer.new.answer (chosen pattern c.args.now (spots_of c.self.inside.level c.self.inside.below)) = rw (← c.self.view_is) at c.answer.ensures in
-    rw (← c.self.view_is) (gives_same c.answer.result c.args.answer.now c.answer.new.answer _ _ (plain_below pattern rest c.args.now c.self.inside.level c.self.inside.below c.in_default.not-Row c.requires plain) gives)
+    rw (← c.self.view_is) (gives_same c.answer.result c.args.answer.now c.answer.new.answer _ _ (plain_below pattern rest c.args.now c.self.inside.level c.self.inside.below c.in_default.not-Chunk c.requires plain) gives)
 
 pub Child::answer_plain-returns-then-begins_with_dollar : goal.Child::answer_plain-returns-then-begins_with_dollar
 Child::answer_plain-returns-then-begins_with_dollar t c =
     let rest = levels_from c.args.next c.args.filter.now in
     let dollar : begins_with_dollar c.self.inside.level ≡ true = rw c.as_slice.ensures at (sym c.begins_with_dollar.ensures.value ∙ c.if-begins_with_dollar.true) in
-    rw (← c.self.view_is) (gives_none c.args.answer.now _ (dollar_below rest c.args.now c.self.inside.level c.self.inside.below c.in_default.not-Row dollar))
+    rw (← c.self.view_is) (gives_none c.args.answer.now _ (dollar_below rest c.args.now c.self.inside.level c.self.inside.below c.in_default.not-Chunk dollar))

@@ -1,5 +1,5 @@
 use Rattle.std.proofs.Common.{◌+◌, ◌*◌}
-use Rattle.rs_tree.specs.Rows.{depth}
+use Rattle.rs_tree.specs.Chunks.{depth}
 use Rattle.rs_tree.proofs.branch.+branches.Given as goal
 
 -- thrice the depth, and more for the calls that leave the branch as it is

@@ -5,11 +5,11 @@ use Rattle.rs_topic.specs.Rests.{levels_from}
 use Rattle.rs_tree.specs.Spots.{own, under}
 use Rattle.rs_tree.specs.Clearing.{Clears, ClearsAs}
 use Rattle.rs_tree.specs.Nodes.{stem_spots}
-use Rattle.rs_tree.specs.Rows.{IsGap, IsIn, depth, parts}
+use Rattle.rs_tree.specs.Chunks.{IsGap, IsIn, depth, parts}
 use Rattle.rs_tree.specs.Values.{BranchValue, ChildValue}
-use Rattle.rs_tree.proofs.Clearing.{clears_chain, clears_child, clears_last, clears_left, clears_level, clears_missing, clears_none, clears_same, remove_set, row_cleared, row_unchanged, row_removed}
+use Rattle.rs_tree.proofs.Clearing.{chunk_cleared, chunk_removed, chunk_unchanged, clears_chain, clears_child, clears_last, clears_left, clears_level, clears_missing, clears_none, clears_same, remove_set}
 use Rattle.rs_tree.proofs.Under.{Spots}
-use Rattle.rs_tree.proofs.Rows.{deep_child, leads_child, there_gap}
+use Rattle.rs_tree.proofs.Chunks.{deep_child, leads_child, there_gap}
 use Rattle.rs_tree.specs.declared.cleared.Cleared.TheVariants.{Last, Left, Missing}
 use Rattle.rs_tree.proofs.branch.+clear.Goals as goal
 
@@ -71,7 +71,7 @@ Branch::clear-invariant_of-self t c =
     let e : levels_from c.args.at c.args.topic.now ≡ c.in-Some.level.now ∷ levels_from c.in-Some.next c.args.topic.now = c.in-Some.ensures.more in
     let here : IsIn c.in-Some.level.now es c.in-Ok.i = rw c.as_slice.ensures.value at c.in-Ok.ensures.found in
     let small : c.in-Ok.i < length es = rw c.as_slice.ensures.value at c.in-Ok.ensures.within in
-    row_cleared c.self.inside.retained es c.self.invariant c.in-Some.level.now (levels_from c.in-Some.next c.args.topic.now) c.in-Ok.i c.index_mut.result.now c.clear.new.self small here c.index_mut.ensures.value c.clear.ensures.level c.clear.result (rw e at c.clear.ensures.cleared)
+    chunk_cleared c.self.inside.retained es c.self.invariant c.in-Some.level.now (levels_from c.in-Some.next c.args.topic.now) c.in-Ok.i c.index_mut.result.now c.clear.new.self small here c.index_mut.ensures.value c.clear.ensures.level c.clear.result (rw e at c.clear.ensures.cleared)
 
 pub Branch::clear-invariant_of-self-in-Ok-Left : goal.Branch::clear-invariant_of-self-in-Ok-Left
 Branch::clear-invariant_of-self-in-Ok-Left t c =
@@ -79,7 +79,7 @@ Branch::clear-invariant_of-self-in-Ok-Left t c =
     let e : levels_from c.args.at c.args.topic.now ≡ c.in-Some.level.now ∷ levels_from c.in-Some.next c.args.topic.now = c.in-Some.ensures.more in
     let here : IsIn c.in-Some.level.now es c.in-Ok.i = rw c.as_slice.ensures.value at c.in-Ok.ensures.found in
     let small : c.in-Ok.i < length es = rw c.as_slice.ensures.value at c.in-Ok.ensures.within in
-    row_cleared c.self.inside.retained es c.self.invariant c.in-Some.level.now (levels_from c.in-Some.next c.args.topic.now) c.in-Ok.i c.index_mut.result.now c.clear.new.self small here c.index_mut.ensures.value c.clear.ensures.level c.clear.result (rw e at c.clear.ensures.cleared)
+    chunk_cleared c.self.inside.retained es c.self.invariant c.in-Some.level.now (levels_from c.in-Some.next c.args.topic.now) c.in-Ok.i c.index_mut.result.now c.clear.new.self small here c.index_mut.ensures.value c.clear.ensures.level c.clear.result (rw e at c.clear.ensures.cleared)
 
 pub Branch::clear-invariant_of-self-in-Err : goal.Branch::clear-invariant_of-self-in-Err
 Branch::clear-invariant_of-self-in-Err t c =
@@ -87,7 +87,7 @@ Branch::clear-invariant_of-self-in-Err t c =
     let e : levels_from c.args.at c.args.topic.now ≡ c.in-Some.level.now ∷ levels_from c.in-Some.next c.args.topic.now = c.in-Some.ensures.more in
     let here : IsIn c.in-Some.level.now es c.in-Ok.i = rw c.as_slice.ensures.value at c.in-Ok.ensures.found in
     let small : c.in-Ok.i < length es = rw c.as_slice.ensures.value at c.in-Ok.ensures.within in
-    row_cleared c.self.inside.retained es c.self.invariant c.in-Some.level.now (levels_from c.in-Some.next c.args.topic.now) c.in-Ok.i c.index_mut.result.now c.clear.new.self small here c.index_mut.ensures.value c.clear.ensures.level c.clear.result (rw e at c.clear.ensures.cleared)
+    chunk_cleared c.self.inside.retained es c.self.invariant c.in-Some.level.now (levels_from c.in-Some.next c.args.topic.now) c.in-Ok.i c.index_mut.result.now c.clear.new.self small here c.index_mut.ensures.value c.clear.ensures.level c.clear.result (rw e at c.clear.ensures.cleared)
 
 pub Branch::clear-invariant_of-self-in-Ok-Last : goal.Branch::clear-invariant_of-self-in-Ok-Last
 Branch::clear-invariant_of-self-in-Ok-Last t c =
@@ -95,7 +95,7 @@ Branch::clear-invariant_of-self-in-Ok-Last t c =
     let e : levels_from c.args.at c.args.topic.now ≡ c.in-Some.level.now ∷ levels_from c.in-Some.next c.args.topic.now = c.in-Some.ensures.more in
     let here : IsIn c.in-Some.level.now es c.in-Ok.i = rw c.as_slice.ensures.value at c.in-Ok.ensures.found in
     let small : c.in-Ok.i < length es = rw c.as_slice.ensures.value at c.in-Ok.ensures.within in
-    rw (c.remove_at.ensures, remove_set) (row_removed es c.in-Ok.i c.self.invariant)
+    rw (c.remove_at.ensures, remove_set) (chunk_removed es c.in-Ok.i c.self.invariant)
 
 pub Branch::clear-returns-in-Ok-Missing : goal.Branch::clear-returns-in-Ok-Missing
 Branch::clear-returns-in-Ok-Missing t c =
@@ -143,7 +143,7 @@ Branch::clear-invariant_of-self-then-is_lone t c =
     let here : IsIn c.in-Some.level.now es c.in-Ok.i = rw c.as_slice.ensures.value at c.in-Ok.ensures.found in
     let small : c.in-Ok.i < length es = rw c.as_slice.ensures.value at c.in-Ok.ensures.within in
     let cleared : ClearsAs Last c.index_mut.result.now.spots c.clear.new.self.spots (c.in-Some.level.now ∷ levels_from c.in-Some.next c.args.topic.now) = rw (e, c.in-Ok-Last.field-0-is) at c.in-Ok-Last.ensures.cleared in
-    row_unchanged c.self.inside.retained es c.self.invariant c.in-Some.level.now (levels_from c.in-Some.next c.args.topic.now) c.in-Ok.i c.index_mut.result.now c.clear.new.self small here c.index_mut.ensures.value c.clear.ensures.level cleared.2
+    chunk_unchanged c.self.inside.retained es c.self.invariant c.in-Some.level.now (levels_from c.in-Some.next c.args.topic.now) c.in-Ok.i c.index_mut.result.now c.clear.new.self small here c.index_mut.ensures.value c.clear.ensures.level cleared.2
 
 pub Branch::clear-returns-else-is_lone : goal.Branch::clear-returns-else-is_lone
 Branch::clear-returns-else-is_lone t c =

@@ -3,10 +3,10 @@ use Rattle.rs_tree.specs.Expiring.{earliest}
 use Rattle.rs_topic.specs.Rests.{levels_from}
 use Rattle.rs_tree.specs.Spots.{own}
 use Rattle.rs_tree.proofs.Ends.{earliest_both, earliest_chain}
-use Rattle.rs_tree.specs.Rows.{depth, parts}
+use Rattle.rs_tree.specs.Chunks.{depth, parts}
 use Rattle.rs_tree.specs.Values.{BranchValue}
 use Rattle.rs_tree.proofs.Expiring.{earliest_step, none_left}
-use Rattle.rs_tree.proofs.Rows.{deep_child}
+use Rattle.rs_tree.proofs.Chunks.{deep_child}
 use Rattle.rs_tree.proofs.branch.+earliest.Goals as goal
 
 pub earliest::lowered_by_each-loop-child-init : goal.earliest::lowered_by_each-loop-child-init

@@ -1,6 +1,6 @@
 use Rattle.std.proofs.Common.{◌≡◌, ◌+◌, ◌*◌, drop}
 use Rattle.rs_tree.specs.Expiring.{earliest}
-use Rattle.rs_tree.specs.Rows.{depth, parts}
+use Rattle.rs_tree.specs.Chunks.{depth, parts}
 use Rattle.rs_tree.proofs.branch.+earliest.Given as goal
 
 abbrev pub invariant-earliest::lowered_by_each-loop-child : goal.invariant-earliest::lowered_by_each-loop-child

@@ -2,7 +2,7 @@ use Rattle.std.proofs.Common.{◌≡◌, ◌+◌, ◌*◌, ◌≤◌, drop, leng
 use Rattle.std.specs.List.{filter}
 use Rattle.rs_tree.specs.Sweeping.{is_expired_spot}
 use Rattle.rs_store.specs.declared.limit.TheConstants.{MAX_TOPICS}
-use Rattle.rs_tree.specs.Rows.{depth, parts}
+use Rattle.rs_tree.specs.Chunks.{depth, parts}
 use Rattle.rs_tree.proofs.branch.+expired.Given as goal
 
 abbrev pub invariant-expired::count_each-loop-child : goal.invariant-expired::count_each-loop-child

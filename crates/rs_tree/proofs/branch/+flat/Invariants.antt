@@ -1,9 +1,9 @@
 use Rattle.std.proofs.Common.{◌≡◌, ◌+◌, ◌*◌, ◌++◌, take}
-use Rattle.rs_tree.specs.Rows.{IsRow, depth, parts}
+use Rattle.rs_tree.specs.Chunks.{IsChunk, depth, parts}
 use Rattle.rs_tree.proofs.branch.+flat.Given as goal
 
 abbrev pub invariant-flat::flat_each-loop-i : goal.invariant-flat::flat_each-loop-i
-invariant-flat::flat_each-loop-i l = IsRow l.flat.items × (parts l.flat.items ≡ parts l.initial.flat.items ++ parts (take l.i l.children))
+invariant-flat::flat_each-loop-i l = IsChunk l.flat.items × (parts l.flat.items ≡ parts l.initial.flat.items ++ parts (take l.i l.children))
 
 -- thrice the depth, and more for the calls that leave the branch as it is
 abbrev pub decreases-Branch::flat : goal.decreases-Branch::flat

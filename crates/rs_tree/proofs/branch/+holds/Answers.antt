@@ -3,9 +3,9 @@ use Rattle.rs_tree.specs.Chains.{behind}
 use Rattle.rs_topic.specs.Rests.{levels_from}
 use Rattle.rs_tree.proofs.Stems.{not_behind, there_behind}
 use Rattle.rs_tree.specs.Nodes.{stem_spots}
-use Rattle.rs_tree.specs.Rows.{IsGap, IsIn, depth}
+use Rattle.rs_tree.specs.Chunks.{IsGap, IsIn, depth}
 use Rattle.rs_tree.specs.Values.{BranchValue}
-use Rattle.rs_tree.proofs.Rows.{deep_child, leads_child, there_child, there_gap, there_own, there_under}
+use Rattle.rs_tree.proofs.Chunks.{deep_child, leads_child, there_child, there_gap, there_own, there_under}
 use Rattle.rs_tree.proofs.branch.+holds.Goals as goal
 
 pub Branch::holds-returns-in_default : goal.Branch::holds-returns-in_default

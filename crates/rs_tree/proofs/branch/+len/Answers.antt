@@ -2,11 +2,11 @@ use Rattle.std.proofs.Common.{◌≡◌, List, ◌+◌, ◌≤◌, ◌∷◌, []
 use Rattle.rs_topic.specs.Rests.{levels_from}
 use Rattle.rs_tree.specs.Spots.{own}
 use Rattle.rs_tree.proofs.Ends.{many_chain}
-use Rattle.rs_tree.specs.Rows.{depth, parts}
+use Rattle.rs_tree.specs.Chunks.{depth, parts}
 use Rattle.rs_tree.specs.Values.{BranchValue, ChildValue}
 use Rattle.rs_tree.proofs.Expiring.{many_step, none_left}
 use Rattle.rs_tree.proofs.Under.{Spots}
-use Rattle.rs_tree.proofs.Rows.{deep_child}
+use Rattle.rs_tree.proofs.Chunks.{deep_child}
 use Rattle.rs_tree.proofs.branch.+len.Goals as goal
 
 pub len::len_of_each-loop-child-init : goal.len::len_of_each-loop-child-init

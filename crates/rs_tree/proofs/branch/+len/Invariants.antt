@@ -1,6 +1,6 @@
 use Rattle.std.proofs.Common.{◌≡◌, ◌+◌, ◌*◌, ◌≤◌, drop, length}
 use Rattle.rs_store.specs.declared.limit.TheConstants.{MAX_TOPICS}
-use Rattle.rs_tree.specs.Rows.{depth, parts}
+use Rattle.rs_tree.specs.Chunks.{depth, parts}
 use Rattle.rs_tree.proofs.branch.+len.Given as goal
 
 abbrev pub invariant-len::len_of_each-loop-child : goal.invariant-len::len_of_each-loop-child

@@ -3,13 +3,13 @@ use Rattle.std.proofs.lemmas.Result.{on_ok_weaker, on_err_weaker}
 use Rattle.rs_topic.specs.Rests.{levels_from}
 use Rattle.rs_tree.specs.Spots.{IsFull, spot_of, under}
 use Rattle.rs_tree.proofs.Under.{was_by}
-use Rattle.rs_tree.specs.Rows.{IsGap, IsIn, depth}
+use Rattle.rs_tree.specs.Chunks.{IsGap, IsIn, depth}
 use Rattle.rs_tree.specs.Chains.{behind, under_all}
 use Rattle.rs_tree.proofs.Stems.{behind_is, full_inside, set_whole, was_whole}
 use Rattle.rs_tree.specs.Nodes.{stem_spots}
 use Rattle.rs_tree.specs.Values.{BranchValue, ChildValue}
-use Rattle.rs_tree.proofs.Growing.{full_child, grown_gap, grown_in, grown_under, was_under, own_first, row_new, row_put, same_in}
-use Rattle.rs_tree.proofs.Rows.{deep_child, leads_child, there_child, there_gap, there_own}
+use Rattle.rs_tree.proofs.Growing.{chunk_new, chunk_put, full_child, grown_gap, grown_in, grown_under, own_first, same_in, was_under}
+use Rattle.rs_tree.proofs.Chunks.{deep_child, leads_child, there_child, there_gap, there_own}
 use Rattle.rs_tree.proofs.branch.+set.Goals as goal
 
 pub Branch::set-returns-in_default-clause-done : goal.Branch::set-returns-in_default-clause-done
@@ -43,7 +43,7 @@ Branch::set-invariant_of-self-in-Ok t c =
     let e : levels_from c.args.at c.args.found.topic ≡ c.in-Some.level.now ∷ levels_from c.in-Some.next c.args.found.topic = rw c.topic.ensures at c.in-Some.ensures.more in
     let here : IsIn c.in-Some.level.now es c.in-Ok.i = rw c.as_slice.ensures.value at c.in-Ok.ensures.found in
     let small : c.in-Ok.i < length es = rw c.as_slice.ensures.value at c.in-Ok.ensures.within in
-    row_put c.self.inside.retained es c.self.invariant c.in-Some.level.now (levels_from c.in-Some.next c.args.found.topic) c.args.found c.in-Ok.i c.set-done.result c.index_mut.result.now c.set-done.new.self small here c.index_mut.ensures.value c.set-done.ensures.level
+    chunk_put c.self.inside.retained es c.self.invariant c.in-Some.level.now (levels_from c.in-Some.next c.args.found.topic) c.args.found c.in-Ok.i c.set-done.result c.index_mut.result.now c.set-done.new.self small here c.index_mut.ensures.value c.set-done.ensures.level
     (rw e at c.set-done.ensures.done) c.set-done.ensures.refused
 
 pub Branch::set-invariant_of-self-in-Err : goal.Branch::set-invariant_of-self-in-Err
@@ -52,7 +52,7 @@ Branch::set-invariant_of-self-in-Err t c =
     let here : IsGap c.in-Some.level.now es c.in-Err.i = rw c.as_slice.ensures.value at c.in-Err.ensures.found in
     let level = c.in_ok-child-in-Err.ensures.level ∙ c.in_ok-label-in-Err.ensures in
     let spots : c.in_ok-child-in-Err.child.spots ≡ (c.in-Some.level.now ∷ levels_from c.in-Some.next c.args.found.topic, c.args.found) ∷ [] = c.in_ok-child-in-Err.ensures.spots ∙ ap (λ (k : List _). under k (spot_of c.in-Some.next c.args.found ∷ [])) c.in_ok-label-in-Err.ensures in
-    rw (c.in_ok-insert_at-in-Err.ensures.done) (row_new c.in-Some.level.now (levels_from c.in-Some.next c.args.found.topic) c.args.found es c.in-Err.i c.in_ok-child-in-Err.child c.self.invariant here level spots)
+    rw (c.in_ok-insert_at-in-Err.ensures.done) (chunk_new c.in-Some.level.now (levels_from c.in-Some.next c.args.found.topic) c.args.found es c.in-Err.i c.in_ok-child-in-Err.child c.self.invariant here level spots)
 
 pub Branch::set-returns-in-Ok-clause-done : goal.Branch::set-returns-in-Ok-clause-done
 Branch::set-returns-in-Ok-clause-done t c =

@@ -6,19 +6,19 @@ use Rattle.rs_topic.specs.Rests.{levels_from}
 use Rattle.rs_tree.specs.Spots.{IsFull, under}
 use Rattle.rs_tree.specs.Nodes.{stem_spots}
 use Rattle.rs_tree.specs.Rests.{IsRestOf}
-use Rattle.rs_tree.specs.Rows.{depth}
+use Rattle.rs_tree.specs.Chunks.{depth}
 use Rattle.rs_tree.specs.Values.{BranchValue, ChildValue}
 use Rattle.rs_tree.proofs.Leaving.{chain_gone, chain_left, chain_stays, full_at, full_not, joined_left, level_left, none_is, rest_again, rest_gone, rest_unchanged, rest_none, rest_put, rest_whole, stays_all}
 use Rattle.rs_tree.specs.Chains.{under_all}
 use Rattle.rs_tree.proofs.Stems.{full_below}
 use Rattle.rs_tree.proofs.Under.{Spots}
-use Rattle.rs_tree.proofs.Rows.{deep_child}
+use Rattle.rs_tree.proofs.Chunks.{deep_child}
 use Rattle.rs_tree.proofs.branch.+swept.Goals as goal
 
 pub sweep::one_swept-swept-requires : goal.sweep::one_swept-swept-requires
 sweep::one_swept-swept-requires t c =
     let deep : c.index-children-i.result.depth + 1 ≤ depth c.args.children.now = deep_child c.args.children.now c.args.i c.index-children-i.result c.requires.within c.index-children-i.is in
-    (omega arith, full_at c.args.children.now c.args.i c.index-children-i.result c.requires.within c.index-children-i.is c.requires.row)
+    (omega arith, full_at c.args.children.now c.args.i c.index-children-i.result c.requires.within c.index-children-i.is c.requires.chunk)
 
 pub sweep::each_swept-loop-i-init : goal.sweep::each_swept-loop-i-init
 sweep::each_swept-loop-i-init t c = (rest_none c.args.moment c.args.children.now c.new-left.result.items 0 c.args.goes.now c.new-left.ensures.items refl, λ h. h)
@@ -78,23 +78,23 @@ Child::swept-returns-in_ok-left-in-Inner t c =
     let made : stem_spots new ≡ under_all ks branch.spots = ap stem_spots c.in_ok-left-in-Inner.ensures.ok ∙ ap (λ (l : List ℕ). under_all (levels_from 1 l) branch.spots) chain in
     let full : IsFull (stem_spots new) = (let P : Spots → Type 0 = λ w. IsFull w in subst P (sym made) (full_below ks branch.spots some)) in
     let level = c.self.inside.level in
-    let was : ChildValue = record { level = level; is_row = false; spots = under level (stem_spots stem); depth = stem.branch.depth + 1 } in
-    let built : ChildValue = record { level = c.in_ok-level-in-Inner.level; is_row = false; spots = under c.in_ok-level-in-Inner.level (stem_spots new); depth = new.branch.depth + 1 } in
+    let was : ChildValue = record { level = level; is_chunk = false; spots = under level (stem_spots stem); depth = stem.branch.depth + 1 } in
+    let built : ChildValue = record { level = c.in_ok-level-in-Inner.level; is_chunk = false; spots = under c.in_ok-level-in-Inner.level (stem_spots new); depth = new.branch.depth + 1 } in
     rw (← c.self.view_is, c.in-Inner.is) (joined_left c.args.moment was built c.join.new.self c.join.ensures.level c.join.ensures.same (level_left c.args.moment c.self.inside.level c.in_ok-level-in-Inner.level (stem_spots stem) (stem_spots new) c.in_ok-level-in-Inner.ensures (made ∙ chain_left c.args.moment ks stem.branch.spots branch.spots left) full))
 
 pub sweep::one_swept-returns-then-not-goes-clause-left : goal.sweep::one_swept-returns-then-not-goes-clause-left
 sweep::one_swept-returns-then-not-goes-clause-left t c =
-    rest_unchanged c.args.moment c.args.children.now c.args.i c.index-children-i.result c.requires.within c.index-children-i.is c.requires.row c.args.goes.now c.args.left.now.items c.if-not-goes.true c.requires.before (rw c.in-All.is at c.in_ok-swept.ensures)
+    rest_unchanged c.args.moment c.args.children.now c.args.i c.index-children-i.result c.requires.within c.index-children-i.is c.requires.chunk c.args.goes.now c.args.left.now.items c.if-not-goes.true c.requires.before (rw c.in-All.is at c.in_ok-swept.ensures)
 
 pub sweep::one_swept-returns-in_ok-push-in-All-clause-left : goal.sweep::one_swept-returns-in_ok-push-in-All-clause-left
 sweep::one_swept-returns-in_ok-push-in-All-clause-left t c =
-    rest_again c.args.moment c.args.children.now c.args.i c.index-children-i.result c.requires.within c.index-children-i.is c.requires.row c.args.goes.now c.args.left.now.items c.push.new.self.items c.in_ok-again-in-All.field-0 c.if-not-goes.false c.requires.before c.in_ok-push-in-All.ensures.items c.in_ok-again-in-All.ensures (rw c.in-All.is at c.in_ok-swept.ensures)
-    (full_at c.args.children.now c.args.i c.index-children-i.result c.requires.within c.index-children-i.is c.requires.row)
+    rest_again c.args.moment c.args.children.now c.args.i c.index-children-i.result c.requires.within c.index-children-i.is c.requires.chunk c.args.goes.now c.args.left.now.items c.push.new.self.items c.in_ok-again-in-All.field-0 c.if-not-goes.false c.requires.before c.in_ok-push-in-All.ensures.items c.in_ok-again-in-All.ensures (rw c.in-All.is at c.in_ok-swept.ensures)
+    (full_at c.args.children.now c.args.i c.index-children-i.result c.requires.within c.index-children-i.is c.requires.chunk)
 
 pub sweep::one_swept-returns-in_ok-push-in-Less-clause-left : goal.sweep::one_swept-returns-in_ok-push-in-Less-clause-left
 sweep::one_swept-returns-in_ok-push-in-Less-clause-left t c =
-    rest_put c.args.moment c.args.children.now c.args.i c.index-children-i.result c.requires.within c.index-children-i.is c.requires.row c.args.goes.now c.begin.new.goes c.args.left.now.items c.begin.new.left.items c.push-in-Less.new.self.items c.in-Less.less c.requires.before c.in_ok-begin-in-Less.ensures.left c.in_ok-begin-in-Less.ensures.begun c.in_ok-push-in-Less.ensures.items (rw c.in-Less.is at c.in_ok-swept.ensures)
+    rest_put c.args.moment c.args.children.now c.args.i c.index-children-i.result c.requires.within c.index-children-i.is c.requires.chunk c.args.goes.now c.begin.new.goes c.args.left.now.items c.begin.new.left.items c.push-in-Less.new.self.items c.in-Less.less c.requires.before c.in_ok-begin-in-Less.ensures.left c.in_ok-begin-in-Less.ensures.begun c.in_ok-push-in-Less.ensures.items (rw c.in-Less.is at c.in_ok-swept.ensures)
 
 pub sweep::one_swept-returns-in-Nothing-clause-left : goal.sweep::one_swept-returns-in-Nothing-clause-left
 sweep::one_swept-returns-in-Nothing-clause-left t c =
-    on_ok_weaker c.begin-in-Nothing.result (λ h. rest_gone c.args.moment c.args.children.now c.args.i c.index-children-i.result c.requires.within c.index-children-i.is c.requires.row c.args.goes.now c.begin-in-Nothing.new.goes c.args.left.now.items c.begin-in-Nothing.new.left.items c.requires.before h c.begin-in-Nothing.ensures.begun (rw c.in-Nothing.is at c.in_ok-swept.ensures)) c.begin-in-Nothing.ensures.left
+    on_ok_weaker c.begin-in-Nothing.result (λ h. rest_gone c.args.moment c.args.children.now c.args.i c.index-children-i.result c.requires.within c.index-children-i.is c.requires.chunk c.args.goes.now c.begin-in-Nothing.new.goes c.args.left.now.items c.begin-in-Nothing.new.left.items c.requires.before h c.begin-in-Nothing.ensures.begun (rw c.in-Nothing.is at c.in_ok-swept.ensures)) c.begin-in-Nothing.ensures.left

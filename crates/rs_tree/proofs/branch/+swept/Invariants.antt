@@ -1,6 +1,6 @@
 use Rattle.std.proofs.Common.{◌≡◌, ◌+◌, ◌*◌, true, take}
 use Rattle.rs_tree.specs.Rests.{IsRestOf}
-use Rattle.rs_tree.specs.Rows.{depth}
+use Rattle.rs_tree.specs.Chunks.{depth}
 use Rattle.rs_tree.proofs.branch.+swept.Given as goal
 
 abbrev pub invariant-sweep::each_swept-loop-i : goal.invariant-sweep::each_swept-loop-i

@@ -1,7 +1,7 @@
 use Rattle.std.proofs.Common.{◌≡◌, ◌+◌, ◌≤◌, ap, arith}
-use Rattle.rs_tree.specs.Rows.{depth}
+use Rattle.rs_tree.specs.Chunks.{depth}
 use Rattle.rs_tree.specs.Values.{BranchValue}
-use Rattle.rs_tree.proofs.Rows.{deep_child}
+use Rattle.rs_tree.proofs.Chunks.{deep_child}
 use Rattle.rs_tree.proofs.branch.+tallness.Goals as goal
 
 pub flat::tallest-tallness-requires : goal.flat::tallest-tallness-requires

@@ -1,5 +1,5 @@
 use Rattle.std.proofs.Common.{arith, ◌+◌, ◌-◌, ◌/◌}
-use Rattle.rs_tree.proofs.Rows.{edge_end, high_end, high_step, low_step}
+use Rattle.rs_tree.proofs.Chunks.{edge_end, high_end, high_step, low_step}
 use Rattle.rs_tree.proofs.branch.first_behind.Goals as goal
 
 pub loop-low-init : goal.loop-low-init

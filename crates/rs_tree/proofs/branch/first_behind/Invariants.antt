@@ -1,5 +1,5 @@
 use Rattle.std.proofs.Common.{◌≤◌, ◌-◌, length}
-use Rattle.rs_tree.proofs.Rows.{IsHigh, IsLow}
+use Rattle.rs_tree.proofs.Chunks.{IsHigh, IsLow}
 use Rattle.rs_tree.proofs.branch.first_behind.Given as goal
 
 abbrev pub invariant-loop-low : goal.invariant-loop-low

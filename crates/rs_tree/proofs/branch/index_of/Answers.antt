@@ -1,5 +1,5 @@
 use Rattle.std.proofs.Common.{arith, ◌-◌, refl}
-use Rattle.rs_tree.proofs.Rows.{index_gap, index_in, index_not}
+use Rattle.rs_tree.proofs.Chunks.{index_gap, index_in, index_not}
 use Rattle.rs_tree.proofs.branch.index_of.Goals as goal
 
 pub takes-requires : goal.takes-requires

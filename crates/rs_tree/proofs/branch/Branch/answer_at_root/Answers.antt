@@ -3,7 +3,7 @@ use Rattle.rs_topic.specs.Matching.{fits}
 use Rattle.rs_tree.specs.Chosen.{chosen_by, is_plain_below, own_chosen}
 use Rattle.rs_topic.specs.Rests.{levels_from}
 use Rattle.rs_tree.proofs.Chosen.{root_exact}
-use Rattle.rs_tree.specs.Rows.{parts}
+use Rattle.rs_tree.specs.Chunks.{parts}
 use Rattle.rs_tree.proofs.Choosing.{gives_same, gives_stop, gives_then, hash_steps, plus_steps, root_all, root_none, root_plus}
 use Rattle.rs_tree.proofs.branch.Branch.answer_at_root.Goals as goal
 

@@ -1,6 +1,6 @@
 use Rattle.std.proofs.Common.{◌++◌, ap, arith}
 use Rattle.rs_tree.specs.Spots.{own}
-use Rattle.rs_tree.specs.Rows.{AreHalves}
+use Rattle.rs_tree.specs.Chunks.{AreHalves}
 use Rattle.rs_tree.proofs.Dividing.{divided}
 use Rattle.rs_tree.proofs.Growing.{from_at}
 use Rattle.rs_tree.proofs.Under.{Spots}

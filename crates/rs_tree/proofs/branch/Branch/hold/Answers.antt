@@ -3,9 +3,9 @@ use Rattle.std.proofs.lemmas.Result.{on_ok_weaker, on_err_weaker}
 use Rattle.rs_topic.specs.Rests.{levels_from}
 use Rattle.rs_tree.specs.Spots.{spot_of, under}
 use Rattle.rs_tree.proofs.Under.{was_by}
-use Rattle.rs_tree.specs.Rows.{IsGap, IsIn}
-use Rattle.rs_tree.proofs.Growing.{grown_gap, grown_in, own_first, row_new, row_put, same_in}
-use Rattle.rs_tree.proofs.Rows.{leads_child, there_child, there_gap, there_own}
+use Rattle.rs_tree.specs.Chunks.{IsGap, IsIn}
+use Rattle.rs_tree.proofs.Growing.{chunk_new, chunk_put, grown_gap, grown_in, own_first, same_in}
+use Rattle.rs_tree.proofs.Chunks.{leads_child, there_child, there_gap, there_own}
 use Rattle.rs_tree.proofs.branch.Branch.hold.Goals as goal
 
 pub returns-in_default-clause-done : goal.returns-in_default-clause-done
@@ -31,7 +31,7 @@ invariant_of-self-in-Ok c =
     let e : levels_from c.args.at c.args.found.topic ≡ c.in-Some.level.now ∷ levels_from c.in-Some.next c.args.found.topic = rw c.topic.ensures at c.in-Some.ensures.more in
     let here : IsIn c.in-Some.level.now es c.in-Ok.i = rw c.as_slice.ensures.value at c.in-Ok.ensures.found in
     let small : c.in-Ok.i < length es = rw c.as_slice.ensures.value at c.in-Ok.ensures.within in
-    row_put c.self.inside.retained es c.self.invariant c.in-Some.level.now (levels_from c.in-Some.next c.args.found.topic) c.args.found c.in-Ok.i c.hold.result c.index_mut.result.now c.hold.new.self small here c.index_mut.ensures.value c.hold.ensures.level
+    chunk_put c.self.inside.retained es c.self.invariant c.in-Some.level.now (levels_from c.in-Some.next c.args.found.topic) c.args.found c.in-Ok.i c.hold.result c.index_mut.result.now c.hold.new.self small here c.index_mut.ensures.value c.hold.ensures.level
     (rw e at c.hold.ensures.done) c.hold.ensures.refused
 
 pub invariant_of-self-in-Err : goal.invariant_of-self-in-Err
@@ -40,7 +40,7 @@ invariant_of-self-in-Err c =
     let here : IsGap c.in-Some.level.now es c.in-Err.i = rw c.as_slice.ensures.value at c.in-Err.ensures.found in
     let level = c.in_ok-child-in-Err.ensures.level ∙ c.in_ok-label-in-Err.ensures in
     let spots : c.in_ok-child-in-Err.child.spots ≡ (c.in-Some.level.now ∷ levels_from c.in-Some.next c.args.found.topic, c.args.found) ∷ [] = c.in_ok-child-in-Err.ensures.spots ∙ ap (λ (k : List _). under k (spot_of c.in-Some.next c.args.found ∷ [])) c.in_ok-label-in-Err.ensures in
-    rw (c.in_ok-insert_at-in-Err.ensures.done) (row_new c.in-Some.level.now (levels_from c.in-Some.next c.args.found.topic) c.args.found es c.in-Err.i c.in_ok-child-in-Err.child c.self.invariant here level spots)
+    rw (c.in_ok-insert_at-in-Err.ensures.done) (chunk_new c.in-Some.level.now (levels_from c.in-Some.next c.args.found.topic) c.args.found es c.in-Err.i c.in_ok-child-in-Err.child c.self.invariant here level spots)
 
 pub returns-in-Ok-clause-done : goal.returns-in-Ok-clause-done
 returns-in-Ok-clause-done c =

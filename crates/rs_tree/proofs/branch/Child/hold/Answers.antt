@@ -1,7 +1,7 @@
 use Rattle.std.proofs.Common.{◌≡◌, ◌∷◌, ◌∙◌}
 use Rattle.rs_topic.specs.Rests.{levels_from}
 use Rattle.rs_tree.proofs.Growing.{grown_under}
-use Rattle.rs_tree.proofs.Rows.{there_under}
+use Rattle.rs_tree.proofs.Chunks.{there_under}
 use Rattle.rs_tree.proofs.branch.Child.hold.Goals as goal
 
 pub returns-clause-done : goal.returns-clause-done

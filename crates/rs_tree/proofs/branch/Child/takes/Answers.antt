@@ -3,7 +3,7 @@ use Rattle.std.specs.Cmp.Lexicographic.{slice_cmp}
 use Rattle.std.specs.Ordering.{nat_cmp}
 use Rattle.std.specs.declared.cmp.Ordering.TheVariants.{Less}
 use Rattle.rs_tree.specs.Nodes.{stem_spots}
-use Rattle.rs_tree.proofs.Rows.{passed_under}
+use Rattle.rs_tree.proofs.Chunks.{passed_under}
 use Rattle.rs_tree.proofs.branch.Child.takes.Goals as goal
 
 pub returns-in-Few-clause-passed : goal.returns-in-Few-clause-passed

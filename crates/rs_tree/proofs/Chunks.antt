@@ -11,7 +11,7 @@ use Rattle.rs_message.specs.declared.entry.Found.{Found}
 use Rattle.rs_topic.specs.Order.{path_cmp}
 use Rattle.rs_topic.specs.TopicOrder.{exact_paths, path_total}
 use Rattle.rs_tree.specs.Spots.{IsFull, is_there, own, under}
-use Rattle.rs_tree.specs.Rows.{IsPreceding, IsBehind, IsEdge, IsFrom, IsGap, IsIn, IsNotBefore, IsRow, IsUpTo, Leads, LeadsAs, Passes, Takes, TakesAs, depth, parts}
+use Rattle.rs_tree.specs.Chunks.{IsBehind, IsChunk, IsEdge, IsFrom, IsGap, IsIn, IsNotBefore, IsPreceding, IsUpTo, Leads, LeadsAs, Passes, Takes, TakesAs, depth, parts}
 use Rattle.rs_tree.specs.Values.{ChildValue}
 
 -- ---- the order of paths
@@ -90,11 +90,11 @@ over : (p : Path) (k n : List ℕ) (ss : Spots) → IsFull ss → IsFrom k ss �
 over p k n [] full f u l = absurd full
 over p k n (s ∷ ss) full f u l = path_total.trans p s.0 (n ∷ []) (between p (k ∷ []) s.0 l f.0) u.0
 
-pub before_next : (p : Path) (c : ChildValue) (cs : List ChildValue) → IsRow (c ∷ cs) → path_cmp p (c.level ∷ []) ≡ Less → BeforeAll p cs
+pub before_next : (p : Path) (c : ChildValue) (cs : List ChildValue) → IsChunk (c ∷ cs) → path_cmp p (c.level ∷ []) ≡ Less → BeforeAll p cs
 before_next p c [] r l = tt
 before_next p c (d ∷ cs) r l = over p c.level d.level c.spots r.0 r.1 r.2 l
 
-pub preceding_all : (p : Path) (cs : List ChildValue) → IsRow cs → BeforeAll p cs → Precedes p (parts cs)
+pub preceding_all : (p : Path) (cs : List ChildValue) → IsChunk cs → BeforeAll p cs → Precedes p (parts cs)
 preceding_all p [] r a = tt
 preceding_all p (c ∷ cs) r a = preceding_both p c.spots (parts cs) (from_preceding p c.level c.spots a r.1) (preceding_all p cs r.3 (before_next p c cs r a))
 
@@ -108,13 +108,13 @@ IsReached p [] i = ⊥
 IsReached p (c ∷ cs) zero = path_cmp p (c.level ∷ []) ≢ Less
 IsReached p (c ∷ cs) (suc i) = IsReached p cs i
 
-pub reached_first : (p : Path) (cs : List ChildValue) (i : ℕ) → IsRow cs → IsReached p cs i → IsReached p cs zero
+pub reached_first : (p : Path) (cs : List ChildValue) (i : ℕ) → IsChunk cs → IsReached p cs i → IsReached p cs zero
 reached_first p [] i r a = absurd a
 reached_first p (c ∷ cs) zero r a = a
 reached_first p (c ∷ []) (suc i) r a = absurd a
 reached_first p (c ∷ d ∷ cs) (suc i) r a = λ l. reached_first p (d ∷ cs) i r.3 a (before_next p c (d ∷ cs) r l)
 
-pub front_behind : (p : Path) (cs : List ChildValue) (i : ℕ) → IsRow cs → IsReached p cs i → IsBehind p (parts (take i cs))
+pub front_behind : (p : Path) (cs : List ChildValue) (i : ℕ) → IsChunk cs → IsReached p cs i → IsBehind p (parts (take i cs))
 front_behind p [] i r a = absurd a
 front_behind p (c ∷ cs) zero r a = tt
 front_behind p (c ∷ []) (suc i) r a = absurd a
@@ -149,13 +149,13 @@ edge_preceding P q [] (suc i) e = absurd e
 edge_preceding P q (c ∷ cs) (suc zero) e = e.1
 edge_preceding P q (c ∷ cs) (suc (suc i)) e = edge_preceding P q cs (suc i) e
 
-pub row_drop : (cs : List ChildValue) (i : ℕ) → IsRow cs → IsRow (drop i cs)
-row_drop cs zero r = r
-row_drop [] (suc i) r = r
-row_drop (c ∷ cs) (suc i) r = row_drop cs i r.3
+pub chunk_drop : (cs : List ChildValue) (i : ℕ) → IsChunk cs → IsChunk (drop i cs)
+chunk_drop cs zero r = r
+chunk_drop [] (suc i) r = r
+chunk_drop (c ∷ cs) (suc i) r = chunk_drop cs i r.3
 
-pub rear_preceding : (P : ChildValue → Type 0) (q : List ℕ) (p : Path) (cs : List ChildValue) (i : ℕ) → IsRow cs → IsEdge P q cs i → Precedes (q ∷ p) (parts (drop i cs))
-rear_preceding P q p cs i r e = preceding_all (q ∷ p) (drop i cs) (row_drop cs i r) (preceding_level q p (drop i cs) (edge_preceding P q cs i e))
+pub rear_preceding : (P : ChildValue → Type 0) (q : List ℕ) (p : Path) (cs : List ChildValue) (i : ℕ) → IsChunk cs → IsEdge P q cs i → Precedes (q ∷ p) (parts (drop i cs))
+rear_preceding P q p cs i r e = preceding_all (q ∷ p) (drop i cs) (chunk_drop cs i r) (preceding_level q p (drop i cs) (edge_preceding P q cs i e))
 
 pub takes_reached : (b : Bool) (own q : List ℕ) (p : Path) → TakesAs b own q → path_cmp (q ∷ p) (own ∷ []) ≢ Less
 takes_reached true own q p t = level_not q own p t
@@ -163,10 +163,10 @@ takes_reached false own q p t = level_not q own p (not_itself q own t)
 
 pub in_reached : (q : List ℕ) (p : Path) (cs : List ChildValue) (i : ℕ) → IsIn q cs i → IsReached (q ∷ p) cs i
 in_reached q p [] i e = absurd e
-in_reached q p (c ∷ cs) zero e = takes_reached c.is_row c.level q p e.0
+in_reached q p (c ∷ cs) zero e = takes_reached c.is_chunk c.level q p e.0
 in_reached q p (c ∷ cs) (suc i) e = in_reached q p cs i e
 
-gap_reached : (q : List ℕ) (p : Path) (cs : List ChildValue) (i : ℕ) → IsRow cs → IsGap q cs (suc i) → IsReached (q ∷ p) cs i
+gap_reached : (q : List ℕ) (p : Path) (cs : List ChildValue) (i : ℕ) → IsChunk cs → IsGap q cs (suc i) → IsReached (q ∷ p) cs i
 gap_reached q p [] i r e = absurd e
 gap_reached q p (c ∷ cs) zero r e = passed_reached (q ∷ p) c.level c.spots r.0 r.1 (e.0 p)
 gap_reached q p (c ∷ cs) (suc i) r e = gap_reached q p cs i r.3 e
@@ -184,7 +184,7 @@ take_one p (c ∷ cs) (suc i) d small a b = behind_both p c.spots (parts (take (
     second p [] ys h = h
     second p (x ∷ xs) ys h = second p xs ys h.1
 
-pub gap_behind : (q : List ℕ) (p : Path) (cs : List ChildValue) (i : ℕ) → IsRow cs → IsGap q cs i → IsBehind (q ∷ p) (parts (take i cs))
+pub gap_behind : (q : List ℕ) (p : Path) (cs : List ChildValue) (i : ℕ) → IsChunk cs → IsGap q cs i → IsBehind (q ∷ p) (parts (take i cs))
 gap_behind q p cs zero r e = tt
 gap_behind q p [] (suc i) r e = absurd e
 gap_behind q p (c ∷ cs) (suc i) r e =
@@ -248,7 +248,7 @@ deep_child cs i c small is = let P : ChildValue → Type 0 = λ w. w.depth + 1 �
 
 -- ---- a look-up, as the calls say it
 
-module _ (retained : Option Found) (cs : List ChildValue) (r : IsRow cs) (q : List ℕ) (p : Path) where
+module _ (retained : Option Found) (cs : List ChildValue) (r : IsChunk cs) (q : List ℕ) (p : Path) where
   pub in_front : (i : ℕ) → IsIn q cs i → IsBehind (q ∷ p) (own retained ++ parts (take i cs))
   in_front i e = behind_both (q ∷ p) (own retained) (parts (take i cs)) (own_behind q p retained) (front_behind (q ∷ p) cs i r (in_reached q p cs i e))
 
@@ -268,13 +268,13 @@ module _ (retained : Option Found) (cs : List ChildValue) (r : IsRow cs) (q : Li
   there_child i c small e is = ap (λ (w : ChildValue). is_there (q ∷ p) w.spots) is ∙ sym (there_in i c small e)
 
   pub leads_child : (i : ℕ) (c : ChildValue) → IsIn q cs i → c ≡ get_or cs i c → Leads c (q ∷ p) p
-  leads_child i c e is = takes_leads c.is_row c.level q p (let P : ChildValue → Type 0 = λ w. Takes q w in subst P (sym is) (edge_at (Takes q) q cs i c e))
+  leads_child i c e is = takes_leads c.is_chunk c.level q p (let P : ChildValue → Type 0 = λ w. Takes q w in subst P (sym is) (edge_at (Takes q) q cs i c e))
 
   pub there_gap : (i : ℕ) → IsGap q cs i → is_there (q ∷ p) (own retained ++ parts cs) ≡ false
   there_gap i e = rw (split_gap retained cs i) (there_rear (q ∷ p) (own retained ++ parts (take i cs)) (parts (drop i cs)) (gap_front i e) ∙ there_none (q ∷ p) (parts (drop i cs)) (gap_rear i e))
 
 -- at the spot itself is only its own message
-pub there_own : (retained : Option Found) (cs : List ChildValue) → IsRow cs → is_there [] (own retained ++ parts cs) ≡ is_some retained
+pub there_own : (retained : Option Found) (cs : List ChildValue) → IsChunk cs → is_there [] (own retained ++ parts cs) ≡ is_some retained
 there_own retained cs r = there_front [] (own retained) (parts cs) (preceding_all [] cs r (first cs)) ∙ alone retained
   where
     first : (cs : List ChildValue) → BeforeAll [] cs

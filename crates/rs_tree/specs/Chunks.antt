@@ -32,9 +32,9 @@ IsBefore ss [] = Unit {0}
 IsBefore ss (c ∷ cs) = IsUpTo c.level ss
 
 -- no child is empty, none begins before its level, and each ends before the next one
-abbrev pub IsRow : List ChildValue → Type 0
-IsRow [] = Unit {0}
-IsRow (c ∷ cs) = IsFull c.spots × IsFrom c.level c.spots × IsBefore c.spots cs × IsRow cs
+abbrev pub IsChunk : List ChildValue → Type 0
+IsChunk [] = Unit {0}
+IsChunk (c ∷ cs) = IsFull c.spots × IsFrom c.level c.spots × IsBefore c.spots cs × IsChunk cs
 
 -- ---- where a level belongs
 
@@ -59,7 +59,7 @@ TakesAs true own level = slice_cmp nat_cmp level own ≢ Less
 TakesAs false own level = level ≡ own
 
 abbrev pub Takes : List ℕ → ChildValue → Type 0
-Takes level c = TakesAs c.is_row c.level level
+Takes level c = TakesAs c.is_chunk c.level level
 
 -- the path is behind each of these
 abbrev pub IsBehind : List (List ℕ) → List Spot → Type 0
@@ -78,13 +78,13 @@ IsIn level cs i = IsEdge (Takes level) level cs (suc i)
 abbrev pub IsGap : List ℕ → List ChildValue → ℕ → Type 0
 IsGap level cs i = IsEdge (Passes level) level cs i
 
--- what a child has to do with a path: a row has the whole path, another child what is behind its level
+-- what a child has to do with a path: a chunk has the whole path, another child what is behind its level
 abbrev pub LeadsAs : Bool → List ℕ → List (List ℕ) → List (List ℕ) → Type 0
 LeadsAs true level path rest = Unit {0}
 LeadsAs false level path rest = path ≡ level ∷ rest
 
 abbrev pub Leads : ChildValue → List (List ℕ) → List (List ℕ) → Type 0
-Leads c path rest = LeadsAs c.is_row c.level path rest
+Leads c path rest = LeadsAs c.is_chunk c.level path rest
 
 -- two children that begin at the level and have these messages between them
 pub record AreHalves (first : List ℕ) (spots : List Spot) (low high : ChildValue) : Type 0 where

@@ -1,10 +1,10 @@
-//! Rows of children, of which none has too many.
+//! Chunks of children, of which none has too many.
 
 ghost use Rattle.std.specs.Prelude.{◌≡◌, ◌+◌, ◌∷◌, [], ◌<◌, false, length, slice_set, IfOk, IfSome, IsTrue};
 ghost use Rattle.std.specs.List.{insert};
 ghost use Rattle.rs_tree.specs.Spots.{IsFull, spot_of, under};
 ghost use Rattle.rs_tree.specs.Nodes.{stem_spots};
-ghost use Rattle.rs_tree.specs.Rows.{AreHalves, IsFrom, IsRow, parts};
+ghost use Rattle.rs_tree.specs.Chunks.{AreHalves, IsChunk, IsFrom, parts};
 
 use super::{Below, Branch, Child, Stem, copies, insert_at};
 use crate::bucket::Bucket;
@@ -13,7 +13,7 @@ use crate::shared::Shared;
 use std::alloc::{AllocError, Global};
 use std::sync::Arc;
 
-/// The most children of a branch. Two rows of half as many take the place of more.
+/// The most children of a branch. Two chunks of half as many take the place of more.
 const MOST: usize = 32;
 
 /// A branch of one child, which is a stem.
@@ -32,9 +32,9 @@ pub fn single(alloc: Global, level: Label, stem: Stem) -> Result<Branch, AllocEr
     })
 }
 
-/// Two rows of some children: a half in each. The first one begins at a level.
+/// Two chunks of some children: a half in each. The first one begins at a level.
 fn halves(alloc: Global, level: Label, children: &[Child]) -> Result<(Child, Child), AllocError>
-    requires row { IsRow children.now }
+    requires chunk { IsChunk children.now }
     requires start { IsFrom level (parts children.now) }
     requires many { 16 < length children.now }
     ensures { IfOk result (λ r. AreHalves level (parts children.now) r.0 r.1) }
@@ -44,8 +44,8 @@ fn halves(alloc: Global, level: Label, children: &[Child]) -> Result<(Child, Chi
     let first = &high[0];
     let middle = first.level.own(alloc)?;
     Ok((
-        Child::row(alloc, level, low)?,
-        Child::row(alloc, middle, high)?,
+        Child::chunk(alloc, level, low)?,
+        Child::chunk(alloc, middle, high)?,
     ))
 }
 
@@ -61,9 +61,9 @@ impl Child {
         })
     }
 
-    /// A row of some children, which begins at a level.
-    fn row(alloc: Global, level: Label, children: &[Child]) -> Result<Child, AllocError>
-        requires { IsRow children.now }
+    /// A chunk of some children, which begins at a level.
+    fn chunk(alloc: Global, level: Label, children: &[Child]) -> Result<Child, AllocError>
+        requires { IsChunk children.now }
         ensures level { IfOk result (λ c. c.level ≡ level) }
         ensures spots { IfOk result (λ c. c.spots ≡ parts children.now) }
     {
@@ -73,11 +73,11 @@ impl Child {
         };
         Ok(Child {
             level,
-            below: Below::Row(Arc::new(alloc, branch)?),
+            below: Below::Chunk(Arc::new(alloc, branch)?),
         })
     }
 
-    /// The halves of a row, if it has too many children.
+    /// The halves of a chunk, if it has too many children.
     fn halved(&self, alloc: Global) -> Result<Option<(Child, Child)>, AllocError>
         requires { IsFrom self.now.level self.now.spots }
         ensures { IfOk result (λ o. IfSome o (λ r. AreHalves self.now.level self.now.spots r.0 r.1)) }
@@ -85,7 +85,7 @@ impl Child {
         match &self.below {
             Below::Few(_) => Ok(None),
             Below::Inner(_) => Ok(None),
-            Below::Row(row) => row.halved(alloc, &self.level),
+            Below::Chunk(chunk) => chunk.halved(alloc, &self.level),
         }
     }
 }
@@ -104,7 +104,7 @@ fn put_two(children: &mut Vec<Child>, i: usize, low: Child, high: Child) -> bool
 }
 
 impl Branch {
-    /// Two rows of its children, if these are too many. The first one begins at a level.
+    /// Two chunks of its children, if these are too many. The first one begins at a level.
     fn halved(&self, alloc: Global, level: &Label) -> Result<Option<(Child, Child)>, AllocError>
         requires { IsFrom level.now self.now.spots }
         ensures { IfOk result (λ o. IfSome o (λ r. AreHalves level.now self.now.spots r.0 r.1)) }
@@ -116,8 +116,8 @@ impl Branch {
         Ok(Some(pair))
     }
 
-    /// Puts two rows in the place of the row at an index, if that has too many children. If memory is refused, it stays, and the next
-    /// entry that goes there tries again.
+    /// Puts two chunks in the place of the chunk at an index, if that has too many children. If memory is refused, it stays, and the
+    /// next entry that goes there tries again.
     pub fn divide(&mut self, alloc: Global, i: usize)
         ensures { self.new.spots ≡ self.old.spots }
     {
@@ -130,8 +130,8 @@ impl Branch {
         put_two(&mut self.children, i, low, high);
     }
 
-    /// Puts two rows in the place of the children, if these are too many, or none if there are rows enough. The next entry that goes
-    /// there divides what is left of too many children, and tries again if memory is refused.
+    /// Puts two chunks in the place of the children, if these are too many, or none if there are chunks enough. The next entry that
+    /// goes there divides what is left of too many children, and tries again if memory is refused.
     pub fn fold(&mut self, alloc: Global)
         ensures { self.new.spots ≡ self.old.spots }
     {
@@ -142,22 +142,22 @@ impl Branch {
             self.flatten(alloc);
             return;
         }
-        if let Ok(rows) = two_rows(alloc, self.children.as_slice()) {
-            self.children = rows;
+        if let Ok(chunks) = two_chunks(alloc, self.children.as_slice()) {
+            self.children = chunks;
         }
     }
 }
 
-/// A row of two rows, a half of some children in each.
-fn two_rows(alloc: Global, children: &[Child]) -> Result<Vec<Child>, AllocError>
-    requires row { IsRow children.now }
+/// A chunk of two chunks, a half of some children in each.
+fn two_chunks(alloc: Global, children: &[Child]) -> Result<Vec<Child>, AllocError>
+    requires chunk { IsChunk children.now }
     requires many { 16 < length children.now }
-    ensures row { IfOk result (λ rows. IsRow rows.items) }
-    ensures same { IfOk result (λ rows. parts rows.items ≡ parts children.now) }
+    ensures chunk { IfOk result (λ chunks. IsChunk chunks.items) }
+    ensures same { IfOk result (λ chunks. parts chunks.items ≡ parts children.now) }
 {
-    let mut rows = Vec::with_capacity(alloc, 2)?;
+    let mut chunks = Vec::with_capacity(alloc, 2)?;
     let (low, high) = halves(alloc, Label::empty(), children)?;
-    rows.push(low)?;
-    rows.push(high)?;
-    Ok(rows)
+    chunks.push(low)?;
+    chunks.push(high)?;
+    Ok(chunks)
 }
