@@ -75,11 +75,11 @@ fn serve_all<H: Wait>(
 ) -> Result<Option<Part>, Problem> {
     let mut store = Store::new(alloc, example.limit)?;
     for connection in &example.connections {
-        let (part, kept) = serve_one(rt, alloc, store, connection, cut)?;
+        let (part, after) = serve_one(rt, alloc, store, connection, cut)?;
         if part.is_some() {
             return Ok(part);
         }
-        store = kept;
+        store = after;
     }
     Ok((!is_stored(&store, example.stored)).then_some(Part::Store))
 }

@@ -6,18 +6,18 @@ use rs_store::{MAX_TOPICS, TopicLimit};
 use std::alloc::{AllocError, Global};
 use std::test::Fail;
 
-// What the words of a line ask for.
-fn read(alloc: Global, line: &str) -> Result<Result<Run, WordsFault>, AllocError> {
+// What the words of a command line ask for.
+fn read(alloc: Global, command: &str) -> Result<Result<Run, WordsFault>, AllocError> {
     let mut words = Vec::new(alloc);
-    for word in line.split_whitespace() {
+    for word in command.split_whitespace() {
         words.push(String::from_str(alloc, word)?)?;
     }
     Ok(read_words(alloc, words.as_slice()))
 }
 
-// Whether the words of the line ask for this run.
-fn asks(alloc: Global, line: &str, wanted: &Run) -> Result<bool, AllocError> {
-    match read(alloc, line)? {
+// Whether the words of the command line ask for this run.
+fn asks(alloc: Global, command: &str, wanted: &Run) -> Result<bool, AllocError> {
+    match read(alloc, command)? {
         Ok(run) => Ok(run == *wanted),
         Err(_) => Ok(false),
     }
@@ -31,8 +31,11 @@ fn words_ask_for_a_pipe(rt: HostRuntime) -> Result<(), Fail> {
         ("pipe --at +007", false, 7),
         ("pipe --at=0", false, 0),
     ];
-    for (line, hex, at) in pipes {
-        assert!(rt; asks(rt.alloc(), line, &Run::Pipe { hex, at })?, "{line}");
+    for (command, hex, at) in pipes {
+        assert!(rt;
+            asks(rt.alloc(), command, &Run::Pipe { hex, at })?,
+            "{command}"
+        );
     }
     Ok(())
 }
@@ -42,7 +45,7 @@ fn words_ask_to_listen(rt: HostRuntime) -> Result<(), Fail> {
     let alloc = rt.alloc();
     let all =
         "listen --address [::1]:0 --places 64 --topics 65536 --connections 1000000 --idle 86400 --log";
-    let lines = [
+    let commands = [
         (
             "listen --address a:1 --connections 1",
             "a:1",
@@ -89,7 +92,7 @@ fn words_ask_to_listen(rt: HostRuntime) -> Result<(), Fail> {
             true,
         ),
     ];
-    for (line, address, places, topics, connections, idle, log) in lines {
+    for (command, address, places, topics, connections, idle, log) in commands {
         let wanted = Run::Listen {
             address: String::from_str(alloc, address)?,
             places: PlaceCount::new(places).ok_or("places")?,
@@ -98,12 +101,12 @@ fn words_ask_to_listen(rt: HostRuntime) -> Result<(), Fail> {
             idle,
             log,
         };
-        assert!(rt; asks(alloc, line, &wanted)?, "{line}");
+        assert!(rt; asks(alloc, command, &wanted)?, "{command}");
     }
     Ok(())
 }
 
-// Each refused line, and what the text says.
+// Each refused command line, and what the text says.
 const REFUSED: [(&str, &str); 26] = [
     ("", "requires a subcommand"),
     ("more", "unrecognized subcommand 'more'"),
@@ -178,9 +181,9 @@ const REFUSED: [(&str, &str); 26] = [
     ),
 ];
 
-// Whether the line asks for nothing, has this status, and what is printed has this part.
-fn is_shown(alloc: Global, line: &str, status: u8, part: &str) -> Result<bool, AllocError> {
-    let Some(fault) = read(alloc, line)?.err() else {
+// Whether the command line asks for nothing, has this status, and what is printed has this part.
+fn is_shown(alloc: Global, command: &str, status: u8, part: &str) -> Result<bool, AllocError> {
+    let Some(fault) = read(alloc, command)?.err() else {
         return Ok(false);
     };
     let text = format!(in alloc; "{fault}")?;
@@ -189,15 +192,15 @@ fn is_shown(alloc: Global, line: &str, status: u8, part: &str) -> Result<bool, A
 
 #[test]
 fn words_are_refused(rt: HostRuntime) -> Result<(), Fail> {
-    for (line, why) in REFUSED {
-        assert!(rt; is_shown(rt.alloc(), line, 2, why)?, "{line}");
+    for (command, why) in REFUSED {
+        assert!(rt; is_shown(rt.alloc(), command, 2, why)?, "{command}");
     }
     Ok(())
 }
 
 #[test]
 fn help_and_the_version_are_shown(rt: HostRuntime) -> Result<(), Fail> {
-    let lines = [
+    let commands = [
         ("--help", "Usage: rstored"),
         ("pipe --help", "Usage: rstored pipe"),
         ("listen --help", "Usage: rstored listen"),
@@ -209,8 +212,8 @@ fn help_and_the_version_are_shown(rt: HostRuntime) -> Result<(), Fail> {
         ("listen --help", "[default: 10000]"),
         ("--version", "rstored 0.1.0"),
     ];
-    for (line, part) in lines {
-        assert!(rt; is_shown(rt.alloc(), line, 0, part)?, "{line}");
+    for (command, part) in commands {
+        assert!(rt; is_shown(rt.alloc(), command, 0, part)?, "{command}");
     }
     Ok(())
 }

@@ -6,11 +6,11 @@ use std::io::ErrorKind;
 use std::test::Fail;
 use std::time::{Clock, Duration};
 
-/// A clock that tells so many milliseconds, or fails.
+/// A clock that shows so many milliseconds, or fails.
 #[derive(Drop)]
-struct Told(Option<u64>);
+struct FixedClock(Option<u64>);
 
-impl Clock for Told {
+impl Clock for FixedClock {
     fn monotonic(&self) -> io::Result<Duration> {
         Err(io::Error::from(ErrorKind::Unsupported))
     }
@@ -34,8 +34,8 @@ fn the_last_moment_stands(rt: HostRuntime) -> Result<(), Fail> {
         (Some(3_000), 3),
         (None, 3),
     ];
-    for (told, moment) in moments {
-        assert!(rt; clock.now(&Told(told)) == moment);
+    for (millis, moment) in moments {
+        assert!(rt; clock.now(&FixedClock(millis)) == moment);
     }
     // 2020 is over.
     assert!(rt; clock.now(&rt) > 1_600_000_000);

@@ -40,7 +40,7 @@ impl Failure {
 }
 
 /// Fails if an answer is wrong.
-pub fn expect(is_right: bool) -> Result<(), Failure> {
+pub fn check(is_right: bool) -> Result<(), Failure> {
     if is_right {
         Ok(())
     } else {

@@ -23,7 +23,8 @@ const KEPT: &[u8] = &[
     0x31, 0x1F, 0, 1, 0x61, 0x1A, 1, 1, 2, 0, 0, 0, 10, 3, 0, 1, 0x74, 8, 0, 1, 0x72, 9, 0, 1,
     0x63, 0x26, 0, 1, 0x6B, 0, 1, 0x76, 0x78,
 ];
-// The topic `a` with an interval and a Payload Format Indicator of 0, an empty Content Type and empty Correlation Data, and the payload `x`.
+// The topic `a` with an interval and a Payload Format Indicator of 0, an empty Content Type and empty Correlation Data, and the payload
+// `x`.
 const ZEROS: &[u8] = &[
     0x31, 0x12, 0, 1, 0x61, 0x0D, 1, 0, 2, 0, 0, 0, 0, 3, 0, 0, 9, 0, 0, 0x78,
 ];
@@ -56,8 +57,8 @@ enum Shape {
     Disconnect(u8),
 }
 
-/// What a message keeps: the Payload Format Indicator, the first bytes of Content Type, Response Topic and Correlation Data, each 0 if it is
-/// empty and none if the message does not have it, and the number of User Properties.
+/// What a message keeps: the Payload Format Indicator, the first bytes of Content Type, Response Topic and Correlation Data, each 0 if it
+/// is empty and none if the message does not have it, and the number of User Properties.
 #[derive(Clone, Copy, PartialEq, Eq)]
 struct Kept(Option<u8>, Option<u8>, Option<u8>, Option<u8>, usize);
 

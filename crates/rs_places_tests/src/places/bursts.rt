@@ -164,8 +164,8 @@ fn reads(alloc: Global, count: u8) -> Result<Talk, AllocError> {
     Ok(talk)
 }
 
-/// How many bytes of the burst do not come; which write fails, if one does; how the connection ends; how many publications are acknowledged;
-/// and how many are kept.
+/// How many bytes of the burst do not come; which write fails, if one does; how the connection ends; how many publications are
+/// acknowledged; and how many are kept.
 type Break = (usize, usize, ServeResult, usize, u8);
 
 const WRITE: ServeResult = Err(ServeFault::Write);

@@ -30,9 +30,9 @@ pub const PLAIN: Course = Course {
     ends: Ok(Served::ClientClosed),
 };
 
-/// What is left of a run.
+/// What came of a run.
 #[derive(Clone, Copy, Debug, PartialEq, Eq)]
-pub struct Left {
+pub struct Played {
     /// How many places had a thread.
     pub threads: usize,
     /// How many connections went as they had to.
@@ -42,9 +42,9 @@ pub struct Left {
     pub version: u64,
 }
 
-/// What is left if each place had a thread, each connection went as it had to, and all was settled.
-pub fn as_wanted(threads: usize, right: u64, changes: u64, version: u64) -> Left {
-    Left {
+/// What comes of a run if each place had a thread, each connection went as it had to, and all was settled.
+pub fn as_wanted(threads: usize, right: u64, changes: u64, version: u64) -> Played {
+    Played {
         threads,
         right,
         changes: Some(changes),
@@ -120,7 +120,7 @@ pub fn run<T: Turn + Send + Drop + 'static, R: Threads + Wait + Copy + Send + Sy
     topics: u32,
     turns: Vec<T>,
     counts: &Counts,
-) -> Result<Left, Fail> {
+) -> Result<Played, Fail> {
     let count = turns.len();
     if count > usize::from(MAX_PLACES) {
         return Err(Fail::from("at most 64 places"));
@@ -128,7 +128,7 @@ pub fn run<T: Turn + Send + Drop + 'static, R: Threads + Wait + Copy + Send + Sy
     let places = PlaceCount::new(count as u8).ok_or("no place")?;
     let blank = blank_store(alloc, topics, places)?;
     let end = run_store(rt, alloc, blank, blank_queue(alloc, places)?, turns)?;
-    Ok(Left {
+    Ok(Played {
         threads: end.threads,
         right: counts.right.load(Ordering::SeqCst),
         changes: end.changes,
@@ -143,7 +143,7 @@ pub fn play<R: Threads + Wait + Copy + Send + Sync + 'static>(
     topics: u32,
     places: u8,
     rows: &[Row<'_>],
-) -> Result<Left, Fail> {
+) -> Result<Played, Fail> {
     let counts = Arc::new(alloc, Counts::new())?;
     let mut turns = scripts(alloc, &counts, places)?;
     put_rows(alloc, turns.as_mut_slice(), rows)?;

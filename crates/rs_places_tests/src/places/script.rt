@@ -36,7 +36,7 @@ pub struct Course {
 
 /// A connection: how it goes, what its client sends, and what it has to be sent.
 #[derive(Drop)]
-struct Exchange {
+struct ScriptConnection {
     course: Course,
     input: Vec<u8>,
     output: Vec<u8>,
@@ -141,7 +141,7 @@ impl Clock for ScriptClock {
 pub struct Script {
     alloc: Global,
     counts: Arc<Counts>,
-    waiting: VecDeque<Exchange>,
+    waiting: VecDeque<ScriptConnection>,
 }
 
 impl Script {
@@ -160,12 +160,12 @@ impl Script {
         input: Vec<u8>,
         output: Vec<u8>,
     ) -> Result<(), AllocError> {
-        let exchange = Exchange {
+        let connection = ScriptConnection {
             course,
             input,
             output,
         };
-        match self.waiting.push_back(exchange) {
+        match self.waiting.push_back(connection) {
             Ok(()) => Ok(()),
             Err(_) => Err(AllocError),
         }
@@ -181,12 +181,12 @@ impl Turn for Script {
 
     fn next(&mut self) -> Option<Connection<Input, Output, ScriptClock>> {
         let counts = Arc::try_clone(&self.counts).ok()?;
-        let exchange = self.waiting.pop_front()?;
-        let Exchange {
+        let connection = self.waiting.pop_front()?;
+        let ScriptConnection {
             course,
             input,
             output,
-        } = exchange;
+        } = connection;
         if !comes(&self.counts.ended, course.after) {
             return None;
         }

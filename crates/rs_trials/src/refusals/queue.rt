@@ -4,7 +4,7 @@ ghost use Rattle.std.specs.Prelude.{◌≡◌, All, IfOk, false};
 ghost use Rattle.rs_message.specs.Messages.{is_sweep};
 
 use super::view::{View, look};
-use crate::failure::{Failure, expect};
+use crate::failure::{Failure, check};
 use crate::samples::{Change, Naming, operation};
 use rs_intake::{
     BlankQueue, Ended, Intake, LineEnd, LineName, SeatLine, blank_queue, run_writer, settle,
@@ -128,7 +128,7 @@ fn read<P: Place>(place: &mut P, kept: u64) -> Result<(), Failure> {
         None => place.look(),
     };
     match view {
-        Some(view) => expect(view.version == kept && view.found == kept),
+        Some(view) => check(view.version == kept && view.found == kept),
         None => Err(Failure::NoMemory),
     }
 }
@@ -155,7 +155,7 @@ fn submit<P: Place>(place: &mut P, book: &mut Book, change: Operation) -> Result
         return Err(Failure::Wrong);
     }
     let done = place.submit(change);
-    expect(book.note(done))
+    check(book.note(done))
 }
 
 /// Submits all of a group, and then reads.
@@ -308,7 +308,7 @@ fn refused<H: Wait + Threads + Copy + Send + Sync + 'static>(
     // What is still held then was refused twice, and is not published.
     let is_last = book.is_open && !left.is_held;
     let kept = book.kept.saturating_add(u64::from(is_last));
-    expect(left.is_settled && left.version == kept && (book.is_open || !left.is_held))?;
+    check(left.is_settled && left.version == kept && (book.is_open || !left.is_held))?;
     Ok([book.submit, book.held, u64::from(is_last)])
 }
 

@@ -1,6 +1,6 @@
 //! What a tree and its copies show after memory was refused to `add`. To copy a tree takes none.
 
-use crate::failure::{Failure, expect};
+use crate::failure::{Failure, check};
 use crate::keeper::{Answer, Keeper};
 use crate::samples::{Change, HOUSE, Naming, entry, topic};
 use rs_message::{Entry, Found, Remaining};
@@ -16,7 +16,7 @@ const TOPICS: u32 = 64;
 /// copies are kept as long, so that what they share with the tree has to be copied.
 const ROUND: u32 = HOUSE as u32;
 
-/// How many topics are added. So many of them find the tree full, or the room of those that are swept.
+/// How many topics are added. So many of them find the tree full, or the space of those that are swept.
 const ADDED: u32 = TOPICS + ROUND;
 
 /// Of so many topics in a row the messages come at one moment, the next of those of the row before.
@@ -199,12 +199,12 @@ impl Run {
 
     /// Adds the entry. If memory is refused for it, the tree must show the same as before, but for the Sweep before it, and take the
     /// same entry then.
-    fn add(&mut self, entry: Entry, kind: Kind, number: u32, room: &Shown) -> Result<(), Failure> {
+    fn add(&mut self, entry: Entry, kind: Kind, number: u32, ready: &Shown) -> Result<(), Failure> {
         let again = entry.copy()?;
         let before = self.shown()?;
         if !self.adds(entry)? {
-            expect(self.shows(&before)? || self.shows(room)?)?;
-            expect(self.adds(again)?)?;
+            check(self.shows(&before)? || self.shows(ready)?)?;
+            check(self.adds(again)?)?;
             self.count(kind, number);
         }
         Ok(())
@@ -216,17 +216,17 @@ impl Run {
         let entry = self.entry(kind, number)?;
         let serial = entry.origin.serial();
         let topic = topic(self.alloc, Naming::Houses, u64::from(number))?;
-        let mut room = self.shown()?;
+        let mut ready = self.shown()?;
         if let Kind::Swept = kind {
-            room = swept(room, moment(number));
+            ready = swept(ready, moment(number));
         }
-        self.add(entry, kind, number, &room)?;
+        self.add(entry, kind, number, &ready)?;
         let mut after = self.shown()?;
         match kind {
-            Kind::Clear => room = without(room, &topic),
+            Kind::Clear => ready = without(ready, &topic),
             Kind::New | Kind::Swept => after = without(after, &topic),
         }
-        expect(is_same(&changed(room, kind, serial), &after))
+        check(is_same(&changed(ready, kind, serial), &after))
     }
 
     /// A copy of the tree, and what it shows.
@@ -243,7 +243,7 @@ impl Run {
     /// The copy must show what it showed when it was made.
     fn is_kept(&self, copied: &Copied) -> Result<(), Failure> {
         let shown = shown_by(self.alloc, &copied.tree, self.filters.as_slice())?;
-        expect(is_same(&copied.shown, &shown))
+        check(is_same(&copied.shown, &shown))
     }
 
     /// Clears the last topic and adds it again. Then the answers must be as before, and the copies must show what they did.
@@ -255,7 +255,7 @@ impl Run {
         self.is_kept(&full)?;
         self.is_kept(&cleared)?;
         let after = self.shown()?;
-        expect(is_same_answer(full.shown.found.as_slice(), after.found.as_slice()))
+        check(is_same_answer(full.shown.found.as_slice(), after.found.as_slice()))
     }
 
     /// Adds the topic of this number, and sometimes clears and copies.
@@ -294,6 +294,6 @@ pub fn work(alloc: Global) -> Result<Vec<u64>, Failure> {
     for number in 0..ADDED {
         run.round(number)?;
     }
-    expect(run.store.catalogue().last_serial(0) == u64::from(ROUND.div_ceil(ROW)))?;
+    check(run.store.catalogue().last_serial(0) == u64::from(ROUND.div_ceil(ROW)))?;
     Ok(run.refused)
 }

@@ -4,7 +4,7 @@ ghost use Rattle.std.specs.Prelude.{◌≡◌, ◌<◌, ◌^◌, false, IfOk};
 ghost use Rattle.rs_message.specs.Messages.{is_sweep};
 
 use super::view::{View, look};
-use crate::failure::{Failure, expect};
+use crate::failure::{Failure, check};
 use crate::samples::{Change, Naming, entry};
 use rs_message::{Entry, Origin, PlaceCount};
 use rs_store::TopicLimit;
@@ -192,7 +192,7 @@ fn read<S: Store>(store: &mut S, book: &mut Book) -> Result<(), Failure> {
         }
     };
     match view {
-        Some(view) => expect(book.is_read(store.held(), view)),
+        Some(view) => check(book.is_read(store.held(), view)),
         None => Err(Failure::NoMemory),
     }
 }
@@ -207,13 +207,13 @@ fn read_if<S: Store>(is_due: bool, store: &mut S, book: &mut Book) -> Result<(),
 /// This entry is held, and all else that is kept is published.
 fn is_held<S: Store>(store: &S, book: &Book, origin: Origin) -> Result<(), Failure> {
     let version = store.version().saturating_add(1);
-    expect(store.held() == Some(origin) && version == book.kept())
+    check(store.held() == Some(origin) && version == book.kept())
 }
 
 /// The receipt is for this entry, the last one that is kept.
 fn is_last(book: &Book, done: Done, origin: Origin) -> Result<(), Failure> {
     match done {
-        Done::Published(number, of) => expect(number == book.kept() && of == origin),
+        Done::Published(number, of) => check(number == book.kept() && of == origin),
         Done::Refused => Err(Failure::NoMemory),
         _ => Err(Failure::Wrong),
     }

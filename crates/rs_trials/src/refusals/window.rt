@@ -1,6 +1,6 @@
 //! What a window gives after memory was refused to `queue`.
 
-use crate::failure::{Failure, expect};
+use crate::failure::{Failure, check};
 use crate::samples::messages;
 use rs_packet::Qos;
 use rs_topic::TopicName;
@@ -47,15 +47,15 @@ fn queue_later(
         return Err(Failure::NoMemory);
     }
     let refused = is_refused(alloc, window, later, count)?;
-    expect(gives(window, Some(waiting)))?;
+    check(gives(window, Some(waiting)))?;
     if refused {
-        expect(gives(window, None))?;
-        expect(!is_refused(alloc, window, later, count)?)?;
+        check(gives(window, None))?;
+        check(!is_refused(alloc, window, later, count)?)?;
     }
     for _ in 0..count {
-        expect(gives(window, Some(later)))?;
+        check(gives(window, Some(later)))?;
     }
-    expect(gives(window, None))?;
+    check(gives(window, None))?;
     Ok(refused)
 }
 

@@ -3,7 +3,7 @@
 ghost use Rattle.std.specs.Prelude.{◌≡◌, ◌<◌, ◌^◌, false, IfOk};
 ghost use Rattle.rs_message.specs.Messages.{is_sweep};
 
-use crate::failure::{Failure, expect};
+use crate::failure::{Failure, check};
 use crate::keeper::{Answer, Keeper};
 use crate::samples::{Change, Naming, entry};
 use rs_message::Entry;
@@ -100,7 +100,7 @@ fn is_answered<K: Keeper>(keeper: &mut K, entry: Entry, wanted: Answer) -> bool 
 pub fn fill<K: Keeper>(alloc: Global, keeper: &mut K, row: &Row) -> Result<(), Failure> {
     for at in row.from..row.to {
         let entry = row.entry(alloc, at)?;
-        expect(keeper.add(entry).is(row.wanted))?;
+        check(keeper.add(entry).is(row.wanted))?;
     }
     Ok(())
 }
@@ -119,6 +119,6 @@ pub fn timed<K: Keeper, C: Clock>(
         is_right &= is_answered(keeper, entry, row.wanted);
     }
     let took = start.elapsed(clock)?;
-    expect(is_right)?;
+    check(is_right)?;
     Ok(nanos(took))
 }

@@ -1,7 +1,7 @@
 //! How long the calls of a tree take.
 
 use super::row::{EARLY, Row, expiring, fill, in_order, nanos, timed};
-use crate::failure::{Failure, expect};
+use crate::failure::{Failure, check};
 use crate::keeper::{Answer, Keeper};
 use crate::samples::{Change, Naming};
 use rs_store::{CalmCatalogue, Catalogue, TopicLimit};
@@ -19,7 +19,7 @@ const CALLS: u32 = 10_000;
 
 const MILLIS: u64 = 20;
 
-/// One of so many topics finds room while it is timed, and as many find the tree full then.
+/// One of so many topics finds space while it is timed, and as many find the tree full then.
 const PART: u32 = 16;
 
 /// What is done with a tree. Adds that are timed leave so many topics, and so many messages are found.
@@ -58,7 +58,7 @@ fn calls(topics: u32) -> [Step; 7] {
     ]
 }
 
-/// The last Sets find room, as many after them find the tree full and nothing expired, and one sweeps half of it.
+/// The last Sets find space, as many after them find the tree full and nothing expired, and one sweeps half of it.
 fn full(topics: u32) -> [Step; 4] {
     let part = topics / PART;
     let all = topics.saturating_add(part);
@@ -68,7 +68,7 @@ fn full(topics: u32) -> [Step; 4] {
         changes: expiring(0),
         ..in_order(Naming::Even, topics)
     };
-    let room = Row {
+    let space = Row {
         from: topics - part,
         to: topics,
         ..first
@@ -88,7 +88,7 @@ fn full(topics: u32) -> [Step; 4] {
     };
     [
         Step::Fill(first),
-        Step::Add(room, topics),
+        Step::Add(space, topics),
         Step::Add(refused, topics),
         Step::Add(swept, topics / 2 + 1),
     ]
@@ -104,7 +104,7 @@ fn answered<C: Clock>(
     let enough = Duration::from_millis(MILLIS);
     let start = Instant::now(clock)?;
     for call in 0..CALLS {
-        expect(tree.answer(filter, 0)?.len() == wanted as usize)?;
+        check(tree.answer(filter, 0)?.len() == wanted as usize)?;
         let calls = call + 1;
         // The clock is read seldom, since that takes time, too.
         if calls.is_power_of_two() {
@@ -131,7 +131,7 @@ fn done<C: Clock>(
         }
         Step::Add(row, count) => {
             let took = timed(clock, alloc, store, row)?;
-            expect(store.count() == u64::from(*count))?;
+            check(store.count() == u64::from(*count))?;
             Ok(Some(took))
         }
         Step::Answer(text, wanted) => {
@@ -165,7 +165,7 @@ pub enum Task {
     /// Times Sets, replacements, answers to `#`, to one topic, to the ten below two levels and to one that is found among all, and
     /// Clears.
     Calls,
-    /// Times adds that find room, as many that find the tree full, and one that sweeps half of it.
+    /// Times adds that find space, as many that find the tree full, and one that sweeps half of it.
     Full,
     /// Keeps a message at each topic.
     Keep(Naming),

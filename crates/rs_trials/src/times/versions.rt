@@ -3,7 +3,7 @@
 ghost use Rattle.std.specs.Prelude.{◌≡◌};
 
 use super::row::{EARLY, Row, expiring, fill, in_order, nanos, timed};
-use crate::failure::{Failure, expect};
+use crate::failure::{Failure, check};
 use crate::keeper::Keeper;
 use crate::samples::{Change, Naming};
 use rs_message::{MAX_PLACES, PlaceCount};
@@ -116,7 +116,7 @@ fn rounds<C: Clock, K: Keeper>(
         let version = writer.count();
         let last = one(filled, serial.wrapping_add(1), filled.to, expiring(EARLY));
         times.sweep = timed(clock, alloc, writer, &last)?;
-        expect(writer.count() == version.wrapping_add(2))?;
+        check(writer.count() == version.wrapping_add(2))?;
     }
     times.all = nanos(start.elapsed(clock)?);
     Ok(times)
@@ -161,7 +161,7 @@ fn beside<H: Clock + Threads + Wait + Sync, N: StoreName + Send + Sync>(
         shared.start();
         let times = rounds(rt, alloc, writer, load);
         shared.stop.store(true, Ordering::SeqCst);
-        expect(good)?;
+        check(good)?;
         times
     })
 }

@@ -159,7 +159,7 @@ fn a_bad_line_stops_the_reader(rt: HostRuntime) -> Result<(), Fail> {
     Ok(())
 }
 
-// Whether a failed read of the input is told as it is, no line is to blame, and the bytes are read then and after that.
+// Whether a failed read of the input is reported as it is, no line is to blame, and the bytes are read then and after that.
 fn goes_on(found: &Outcome, bytes: &[u8]) -> bool {
     let after = found.bytes_after.as_slice();
     found.error == Some(ErrorKind::Interrupted)

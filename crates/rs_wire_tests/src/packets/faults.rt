@@ -31,17 +31,17 @@ const FAULTS: &[(PacketFault, u8, &str)] = &[
     ),
 ];
 
-fn is_told(rt: &HostRuntime, told: &(PacketFault, u8, &str)) -> bool {
-    let fault = told.0;
+fn is_as_listed(rt: &HostRuntime, listed: &(PacketFault, u8, &str)) -> bool {
+    let fault = listed.0;
     match format!(in rt.alloc(); "{fault}") {
-        Ok(shown) => shown.as_str() == told.2 && fault.code() == told.1,
+        Ok(shown) => shown.as_str() == listed.2 && fault.code() == listed.1,
         Err(_) => false,
     }
 }
 
 #[test]
 fn faults_have_codes_and_texts(rt: HostRuntime) {
-    for told in FAULTS {
-        assert!(rt; is_told(&rt, told));
+    for listed in FAULTS {
+        assert!(rt; is_as_listed(&rt, listed));
     }
 }

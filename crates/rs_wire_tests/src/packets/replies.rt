@@ -69,15 +69,15 @@ fn reply_of(alloc: Global, plain: Plain) -> Option<Reply> {
     }
 }
 
-// Whether its encoding begins with these bytes, and has this size, which is also told before.
+// Whether its encoding begins with these bytes, and has this size, which is also computed before.
 fn is_written(rt: &HostRuntime, plain: Plain, front: &[u8], size: usize) -> bool {
     let Some(reply) = reply_of(rt.alloc(), plain) else {
         return false;
     };
     match encode(rt.alloc(), &reply) {
         Ok(bytes) => {
-            let told = encoded_len(&reply);
-            bytes.as_slice().starts_with(front) && bytes.len() == size && told == size
+            let computed = encoded_len(&reply);
+            bytes.as_slice().starts_with(front) && bytes.len() == size && computed == size
         }
         Err(_) => false,
     }

@@ -19,7 +19,7 @@ fn publish_of(rt: &HostRuntime, bytes: &Bytes) -> Option<Publish> {
 }
 
 // `publish_len`, for a message that fits a packet.
-fn told_len(
+fn fitting_len(
     topic: &TopicName,
     payload: usize,
     properties: &Properties,
@@ -36,7 +36,7 @@ fn told_len(
 // How long its PUBLISH gets, or 0 if its topic has a fault.
 fn length_of(publish: &Publish, qos: Qos, subscription: Option<SubscriptionId>) -> usize {
     match &publish.topic {
-        Ok(topic) => told_len(
+        Ok(topic) => fitting_len(
             topic,
             publish.payload.len(),
             &publish.properties,
@@ -55,8 +55,8 @@ fn is_copied(properties: &Properties) -> bool {
     }
 }
 
-// Whether this length is told before, and a copy of the properties equals them.
-fn is_told(publish: &Publish, qos: Qos, subscription: u32, length: usize) -> bool {
+// Whether this length is computed before, and a copy of the properties equals them.
+fn has_len_and_copy(publish: &Publish, qos: Qos, subscription: u32, length: usize) -> bool {
     length_of(publish, qos, SubscriptionId::new(subscription)) == length
         && is_copied(&publish.properties)
 }
@@ -109,8 +109,8 @@ fn is_replied(
     }
 }
 
-// Whether the message of this PUBLISH is sent on as the bytes `want`, of the length that is told before. The Subscription Identifier is
-// none if it is 0.
+// Whether the message of this PUBLISH is sent on as the bytes `want`, of the length that is computed before. The Subscription Identifier
+// is none if it is 0.
 pub fn is_sent_as(
     rt: &HostRuntime,
     bytes: &Bytes,
@@ -121,7 +121,7 @@ pub fn is_sent_as(
     let Some(publish) = publish_of(rt, bytes) else {
         return false;
     };
-    if !is_told(&publish, qos, subscription, want.len()) {
+    if !has_len_and_copy(&publish, qos, subscription, want.len()) {
         return false;
     }
     is_replied(rt, publish, qos, subscription, want)

@@ -1,6 +1,6 @@
 use Rattle.std.proofs.Common.{length, ap, arith}
 use Rattle.rs_packet.proofs.Lengths.{message_publish}
-use Rattle.rs_wire_tests.proofs.packets.sending.told_len.Goals as goal
+use Rattle.rs_wire_tests.proofs.packets.sending.fitting_len.Goals as goal
 
 pub publish_len-requires : goal.publish_len-requires
 publish_len-requires c =
