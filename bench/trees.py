@@ -5,7 +5,7 @@ from bench.measure import least, peak_memory, trial, with_rounds
 # What the tasks on a tree time, in the order in which rs_trials prints it.
 TIMED = {
     "tree": ("set", "replace", "answer_all", "answer_one", "answer_below", "answer_last", "clear"),
-    "full": ("room", "full", "sweep"),
+    "full": ("space", "full", "sweep"),
 }
 
 # With how many topics a tree is timed.
@@ -24,7 +24,7 @@ EACH_LIMIT = 5
 ONE_LIMIT = 1_000
 
 # With how many topics the adds to a full tree are timed. An add that finds it full and nothing
-# expired may take so many times as long as one that finds room.
+# expired may take so many times as long as one that finds space.
 FULL_TOPICS = (10_000, 65_536)
 FULL_LIMIT = 2
 
@@ -78,11 +78,11 @@ def full_adds_are_short():
     good = True
     for topics in FULL_TOPICS:
         times = tree_times("full", topics)
-        grown = times["full"] / times["room"]
+        grown = times["full"] / times["space"]
         swept = times["sweep"] / 1_000_000
         add = f"tree, {topics:,} topics: an add that"
-        room = f"{grown:.2f} times as long as one that finds room (at most {FULL_LIMIT} wanted)"
-        print(f"{add} finds it full takes {room}")
+        space = f"{grown:.2f} times as long as one that finds space (at most {FULL_LIMIT} wanted)"
+        print(f"{add} finds it full takes {space}")
         short = f"{swept:.1f} ms (less than {SWEEP_LIMIT} wanted)"
         print(f"{add} sweeps half of them takes {short}")
         good = grown <= FULL_LIMIT and swept < SWEEP_LIMIT and good

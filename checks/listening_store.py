@@ -5,7 +5,7 @@ from time import monotonic, sleep, time
 
 from checks.listening_messages import publish, replayed, subscribe, topic, wanted
 from harness.client import Client
-from harness.packets import NO_ROOM, PUBACK, SUBACK
+from harness.packets import NO_SPACE, PUBACK, SUBACK
 from harness.patience import PATIENCE
 from harness.server import Server
 
@@ -60,7 +60,7 @@ def one_history(count=12, topics=4, rounds=50):
 
 
 def expired_topics(count=1_000):
-    """Messages that have expired make room for as many new topics, and those that have not make
+    """Messages that have expired make space for as many new topics, and those that have not make
     none.
 
     The clock counts whole seconds, so that of messages that last a second the first may expire a
@@ -89,12 +89,12 @@ def refuses_until_expired(count, seconds):
         ended = time()
         # The server may see the turn of a second a little later or earlier than this clock does.
         is_told = int(ended + 0.02) - int(began - 0.02) < seconds
-        is_right = answer == NO_ROOM or not is_told and answer == PUBACK
+        is_right = answer == NO_SPACE or not is_told and answer == PUBACK
         wanted(is_right, f"a topic more was answered {answer.hex()}")
         wait_until(ended + seconds + 1)
         new = [b"new/%06d" % number for number in numbers]
         client.ask(b"".join(publish(name, b"y") for name in new), count * PUBACK)
-        other.ask(publish(b"more", b"y"), NO_ROOM)
+        other.ask(publish(b"more", b"y"), NO_SPACE)
         other.ask(subscribe(b"#"), SUBACK + b"".join(replayed(name, b"y") for name in new))
         return is_told
 

@@ -159,7 +159,7 @@ def main():
             }
             calls("versions", least, library, count)
         for count in (1, 2):
-            # A submit takes room for its job, and the writer room for its replies.
+            # A submit takes memory for its job, and the writer takes it for its replies.
             least = {
                 "a submit that makes no entry": 2,
                 "a submit whose entry is held": 2,

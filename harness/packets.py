@@ -65,8 +65,8 @@ def suback(codes, identifier=1):
     return packet(0x90, identifier.to_bytes(2, "big") + b"\x00" + codes)
 
 
-# The answer to a PUBLISH of QoS 1, the one if there is no room for it, and the answer to a
+# The answer to a PUBLISH of QoS 1, the one if there is no space for it, and the answer to a
 # SUBSCRIBE to one filter at QoS 0.
 PUBACK = puback(1)
-NO_ROOM = puback(1, b"\x97")
+NO_SPACE = puback(1, b"\x97")
 SUBACK = suback(b"\x00")

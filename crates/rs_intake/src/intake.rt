@@ -71,7 +71,7 @@ impl<N: LineName> Intake<N> {
     }
 
     /// Hands the operation, which is no Sweep, to the writer under the line's next serial, and waits for the receipt. The serial is
-    /// used whatever is answered, unless there is no further one. The writer may make a Sweep first, so that there is room. The
+    /// used whatever is answered, unless there is no further one. The writer may make a Sweep first, so that there is space. The
     /// contract also says which reply came (`heard`), if one came.
     ///
     /// If the line expects this operation first ([`expect`](SeatLine::expect)), all that it expects is sent, as one job; if memory for

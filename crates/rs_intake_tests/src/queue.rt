@@ -244,7 +244,7 @@ fn sum_of_round(logs: &Vec<Log>, round: usize) -> Option<u64> {
     Some(sum)
 }
 
-/// 1 to 64, 66 to 129, and 131 to 194: before each of the later rounds one Sweep makes room for all.
+/// 1 to 64, 66 to 129, and 131 to 194: before each of the later rounds one Sweep makes space for all.
 fn has_rounds(outcome: &Outcome) -> Option<bool> {
     let first = sum_of_round(&outcome.logs, 0)?;
     let second = sum_of_round(&outcome.logs, 1)?;

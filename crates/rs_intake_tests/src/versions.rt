@@ -61,14 +61,14 @@ fn a_seat_reads_what_is_published_learned_or_not(rt: HostRuntime) -> Result<(), 
 
 /// The Sweep is an entry of its own, so the number of the Set is 2 more. A seat that knows the receipt reads what is left.
 #[test]
-fn expired_messages_make_room(rt: HostRuntime) -> Result<(), Fail> {
+fn expired_messages_make_space(rt: HostRuntime) -> Result<(), Fail> {
     let alloc = rt.alloc();
     let steps = [
         // `a` is held until 110, and `b` for ever.
         Step::Put(Change::Set(1, 1, b'a', 100, Some(10)), (1, 0)),
         Step::Put(Change::Set(1, 2, b'b', 100, None), (2, 0)),
         Step::Put(Change::Set(1, 3, b'c', 109, None), (0, 30)),
-        // It needs no room, so nothing is swept.
+        // It needs no space, so nothing is swept.
         Step::Put(Change::Set(1, 4, b'b', 110, None), (3, 0)),
         Step::Put(Change::Set(1, 5, b'c', 110, None), (5, 0)),
         Step::At(0, Look::Learns(3)),

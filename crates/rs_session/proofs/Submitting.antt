@@ -54,7 +54,7 @@ two_new operation used seen d e first second =
     subst (IsHandedOver operation used seen) (sym (append_assoc seen (d ∷ []) (e ∷ [])))
     (some_new operation used seen (d ∷ e ∷ []) (All-cons (IsOf operation used) d (e ∷ []) first (All-cons (IsOf operation used) e [] second (All-nil (IsOf operation used)))))
 
--- a submit for which there is no room leaves the gate as it was
+-- a submit for which there is no space leaves the gate as it was
 pub not_submitted : {A : Type 0} (stands : A → List Entry → Type 0) (before after : A) (operation : Operation) (old used : Mark) → after ≡ before → Grows (stands before) (stands after) (Submits operation old used (Err submit_fault.Full))
 not_submitted stands before after operation old used same = λ seen s.
     (seen, subst (λ a. stands a seen) (sym same) s, ([], sym (append-nil seen)), record { handed_over = nothing_new operation used seen; submitted = tt; used = tt })

@@ -20,11 +20,11 @@ local_mark c = record { place = 1; serial = slice_index c.serials 1; sent = None
 abbrev pub next_entry : Content → Operation → Entry
 next_entry c operation = record { origin = record { place = 1; serial = slice_index c.serials 1 + 1 }; operation = operation }
 
--- no serial is left, or the store has no room for the entry, nor would a Sweep make any
+-- no serial is left, or the store has no space for the entry, nor would a Sweep make any
 abbrev pub IsFull : Content → Operation → Type 0
 IsFull c operation = (slice_index c.serials 1 ≡ 2 ^ 64 - 1) ⊎ ((HasSpace c (next_entry c operation) → ⊥) × (NeedsSweep c (next_entry c operation) → ⊥))
 
--- what a refused submit leaves: what was there, or the Sweep that was to make room if memory was refused after it
+-- what a refused submit leaves: what was there, or the Sweep that was to make space if memory was refused after it
 abbrev pub IsLeft : Content → Operation → SubmitFault → Content → Type 0
 IsLeft c operation Full new = new ≡ c
 IsLeft c operation NoMemory new = (new ≡ c) ⊎ ((s : NeedsSweep c (next_entry c operation)) × (new ≡ swept s.message.received c))

@@ -56,7 +56,7 @@ impl<C: Catalogue> Gate for LocalGate<C> {
         false
     }
 
-    /// `Full` if no serial is left or the store has no room, `NoMemory` if memory is refused. A Set for which a Sweep makes room is
+    /// `Full` if no serial is left or the store has no space, `NoMemory` if memory is refused. A Set for which a Sweep makes space is
     /// preceded by that Sweep. Refused, the store is as before, but that this Sweep may stay if memory is refused.
     fn submit(&mut self, operation: Operation) -> Result<(), SubmitFault>
         requires { is_sweep operation ≡ false }

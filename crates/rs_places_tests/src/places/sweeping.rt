@@ -1,4 +1,4 @@
-//! Expired messages make room for new topics.
+//! Expired messages make space for new topics.
 
 use super::play::{NONE, Row, as_wanted, ending, later, play};
 use rs_server::Served;
@@ -45,10 +45,10 @@ fn row_of<'a>(
     }
 }
 
-/// In a store of two topics, a third finds no room while one has a second left, and takes its place when it has expired. Another
+/// In a store of two topics, a third finds no space while one has a second left, and takes its place when it has expired. Another
 /// place reads the same. Four jobs, of which one was refused, and four entries: of a, of b, the Sweep, and of c.
 #[test]
-fn an_expired_message_makes_room_for_a_third_topic(rt: HostRuntime) -> Result<(), Fail> {
+fn an_expired_message_makes_space_for_a_third_topic(rt: HostRuntime) -> Result<(), Fail> {
     let rows = [
         row_of(1, 0, MOMENTS, [SENT, NONE, NONE], [REPLIES, LEFT]),
         row_of(2, 1, AT_110, [SUBSCRIBE, NONE, NONE], [GRANTED, LEFT]),
@@ -118,7 +118,7 @@ fn all_rounds<'a>(alloc: Global, messages: &'a [u8]) -> Result<Vec<Row<'a>>, All
     Ok(rows)
 }
 
-/// 64 places fill the store, find no room for as many other topics while their messages last, and fill it again when they have
+/// 64 places fill the store, find no space for as many other topics while their messages last, and fill it again when they have
 /// expired. Each then reads the new ones alone. Three changes of each place, of which one is refused, and one Sweep for all.
 #[test]
 fn all_places_fill_the_store_again_once_all_has_expired(rt: HostRuntime) -> Result<(), Fail> {

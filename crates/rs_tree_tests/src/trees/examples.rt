@@ -323,7 +323,7 @@ const ROOM_MADE: &[Step] = &[
 ];
 
 #[test]
-fn an_expired_message_makes_room(rt: HostRuntime) -> Result<(), Fail> {
+fn an_expired_message_makes_space(rt: HostRuntime) -> Result<(), Fail> {
     check_stores(&rt, rt.alloc(), 1, [ROOM_MADE, &[]], &[])
 }
 

@@ -153,7 +153,7 @@ fn cleared_chunks_are_joined(rt: HostRuntime) -> Result<(), Fail> {
     check_case(&rt, rt.alloc(), 600, Case::ClearedChunks)
 }
 
-/// Many messages expire, and the store makes room. No chunk is left, and no branch beside the root.
+/// Many messages expire, and the store makes space. No chunk is left, and no branch beside the root.
 pub fn check_swept_chunks(
     rt: &impl Abort,
     alloc: Global,
