@@ -16,7 +16,9 @@ import tempfile
 import time
 from collections.abc import Callable
 from dataclasses import dataclass
+from types import SimpleNamespace
 
+from bench.threads import busiest, on, pin, processor_time, thread_times
 from harness import debian
 from harness.patience import PATIENCE
 from harness.program import ROOT, most_memory
@@ -139,13 +141,6 @@ def adds(qos, connections):
     return prepare
 
 
-def processor_time(pid):
-    """The microseconds that a process has had of the processors."""
-    with open(f"/proc/{pid}/stat") as stat:
-        words = stat.read().rsplit(")", 1)[1].split()
-    return (int(words[11]) + int(words[12])) * 1_000_000 / os.sysconf("SC_CLK_TCK")
-
-
 def costs(qos, connections):
     """The broker's processor time for each publication."""
 
@@ -187,13 +182,13 @@ def answers(text, pattern, messages, is_delayed=False):
 
 @contextlib.contextmanager
 def beside(load, count, *words, is_ready=""):
-    """So many jobs that go on for as long as the `with`. Each has said that it is ready, if it says
-    so."""
+    """So many jobs that go on for as long as the `with`, which is given them. Each has said that it
+    is ready, if it says so."""
     running = [load.start(*words) for _ in range(count)]
     try:
         if not all(job.stdout.readline() == is_ready for job in running if is_ready):
             sys.exit("bench: a job ended")
-        yield
+        yield running
     finally:
         for job in running:
             job.kill()
@@ -226,16 +221,55 @@ def beside_replays(readers=3):
     return prepare
 
 
+def one_at_a_time(load, count):
+    """The longest that one of some publications waits for its PUBACK."""
+    return load.publish(1, 1, count, window=1)[2]
+
+
+def shares(scale):
+    """The processors of a publishing client, of the place that serves it, of the writer, and of a
+    replaying client with its place. With `--once`, or if there are not four, all have all."""
+    usable = sorted(os.sched_getaffinity(0))
+    if scale > 1 or len(usable) < 4:
+        return [set(usable)] * 4
+    return {usable[0]}, {usable[1]}, {usable[2]}, set(usable[3:])
+
+
 def longest_wait(load, scale):
     """The longest that one of 20,000 publications, sent one at a time, waits for its PUBACK beside
-    a client that replays 10,000 messages all the time."""
-    replays = replaying(load, 1, scale)
+    a client that replays 10,000 messages all the time. Each thread on its way has a processor of
+    its own."""
+    replays, pid = replaying(load, 1, scale), load.broker.run.pid
+    client, place, own, rest = shares(scale)
+    # Each connection is served at another place, since idle places accept in turns, and all changes
+    # go through the writer.
+    writer = busiest(pid, lambda: one_at_a_time(load, 5_000 // scale), times=3)
 
     def longest():
-        with replays():
-            return load.publish(1, 1, 20_000 // scale, window=1)[2]
+        with on(rest), replays():
+            replayed = busiest(pid, lambda: time.sleep(0.1))
+            # It is not known which place will accept the publisher. The others are idle.
+            for thread in thread_times(pid):
+                pin(thread, place)
+            # mosquitto has one thread, which is both.
+            pin(replayed, rest)
+            pin(writer, own)
+            with on(client):
+                return one_at_a_time(load, 20_000 // scale)
 
     return longest
+
+
+def echo_wait(path, scale):
+    """What `longest_wait` measures, of a server that only sends each PUBACK back. The replaying
+    client is one of rstored."""
+    client, _, own, rest = shares(scale)
+    with on(rest), Server(places=PLACES, topics=TOPICS) as server:
+        load, anywhere = Load(path, server), Load(path, SimpleNamespace(port=0))
+        with replaying(load, 1, scale)(), on(own), beside(anywhere, 1, "echo") as [echo]:
+            port = int(echo.stdout.readline())
+            with on(client):
+                return one_at_a_time(Load(path, SimpleNamespace(port=port)), 20_000 // scale)
 
 
 def connects(load, scale):
@@ -368,6 +402,8 @@ def table(path):
         print(f"| {measure.name} | {' | '.join(values)} | {ratio} | {measure.wanted} |", flush=True)
         if not measure.is_reached(own, other):
             missed.append(measure.name)
+    echo = statistics.median(echo_wait(path, scale=1) for _ in range(RUNS))
+    print(f"\nlongest wait of an echo server beside the same replaying client: {shown(echo)} us")
     if missed:
         print(f"\nnot reached: {'; '.join(missed)}")
     return not missed
@@ -376,6 +412,7 @@ def table(path):
 def once(path):
     for measure in MEASURES:
         medians(measure, path, runs=1, scale=100)
+    echo_wait(path, scale=100)
     print("brokers: each measure was made once")
 
 

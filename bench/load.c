@@ -12,6 +12,9 @@
 //         the microseconds of each connection, up to its CONNACK
 //     load PORT burn
 //         nothing: it keeps a processor busy until it is killed
+//     load PORT echo
+//         the port at which it serves one connection, a free one if PORT is 0: it answers CONNECT,
+//         and each PUBLISH of QoS 1 by its PUBACK
 //
 // WINDOW is how many publications of QoS 1 wait for their PUBACK. NAME begins the topics of the
 // publications. PATTERN writes a topic, with the hundreds and the rest of its number. The messages
@@ -29,7 +32,8 @@
 #include <time.h>
 #include <unistd.h>
 
-enum { CONNACK = 0x20, PUBLISH = 0x30, PUBACK = 0x40, SUBACK = 0x90, PINGRESP = 0xD0 };
+enum { CONNECT = 0x10, CONNACK = 0x20, PUBLISH = 0x30, PUBACK = 0x40, SUBACK = 0x90 };
+enum { PINGRESP = 0xD0 };
 
 // The most publications of QoS 1 that wait for their PUBACK: what rstored's CONNACK allows, and
 // less than mosquitto's.
@@ -387,6 +391,26 @@ static void connect_often(size_t rounds) {
     }
 }
 
+static void echo(void) {
+    static const uint8_t connack[] = {CONNACK, 3, 0, 0, 0};
+    struct sockaddr_in address = {.sin_family = AF_INET, .sin_port = htons(port)};
+    struct sockaddr *at = (struct sockaddr *)&address;
+    socklen_t size = sizeof address;
+    address.sin_addr.s_addr = htonl(INADDR_LOOPBACK);
+    int listener = socket(AF_INET, SOCK_STREAM, 0);
+    if (bind(listener, at, size) != 0 || listen(listener, 1) != 0) fail("listen");
+    if (getsockname(listener, at, &size) != 0) fail("getsockname");
+    printf("%d\n", ntohs(address.sin_port));
+    fflush(stdout);
+    single.fd = accept(listener, NULL, NULL);
+    if (single.fd < 0) fail("accept");
+    for (Packet packet = take(&single); packet.kind != DISCONNECT[0]; packet = take(&single)) {
+        if (packet.kind == CONNECT) send_all(&single, connack, sizeof connack);
+        if (packet.kind == PUBLISH && packet.qos == 1) acknowledge(&single, &packet);
+        send_acknowledgements(&single);
+    }
+}
+
 int main(int count, char **words) {
     if (count < 3) return 2;
     port = atoi(words[1]);
@@ -408,6 +432,8 @@ int main(int count, char **words) {
         connect_often((size_t)n[0]);
     else if (strcmp(job, "burn") == 0 && count == 3)
         for (volatile size_t i = 0;; i++) {}
+    else if (strcmp(job, "echo") == 0 && count == 3)
+        echo();
     else
         return 2;
     return 0;
