@@ -56,6 +56,11 @@ pub take_gives : {A : Type 0} (all old new heard came : List A) (next : Option A
 take_gives {A} all old new heard came (Some x) is front end taken = (front_takes all old new x is taken ∙ ap (λ l. l ++ x ∷ []) front, sym end ∙ taken)
 take_gives {A} all old new heard came None is front end taken = (sym end ∙ taken.0, taken.1, ap (λ l. before all l) (taken.1 ∙ sym taken.0) ∙ front)
 
+-- what was taken, followed by what came, is the same after a take
+pub taken_on : {A : Type 0} (came came' heard heard' : List A) (next : Option A) → MatchOption next ((came ≡ []) × (came' ≡ []) × (heard' ≡ heard)) (λ x. (heard' ≡ heard ++ x ∷ []) × (came ≡ x ∷ came')) → heard' ++ came' ≡ heard ++ came
+taken_on {A} came came' heard heard' (Some x) t = ap (λ l. l ++ came') t.0 ∙ (append_assoc heard (x ∷ []) came' ∙ ap (λ l. heard ++ l) (sym t.1))
+taken_on {A} came came' heard heard' None t = ap (λ l. l ++ came') t.2 ∙ ap (λ l. heard ++ l) (t.1 ∙ sym t.0)
+
 -- ---- entries under the next serials
 
 pub numbered_length : (place serial : ℕ) (os : List Operation) → length (numbered place serial os) ≡ length os

@@ -1,7 +1,8 @@
 -- What was done with the entries that the writer took, one after the other.
-use Rattle.std.proofs.Common.{◌≡◌, ℕ, zero, suc, ◌+◌, Bool, true, false, cond, All, ◌<◌, ◌≤◌, ◌||◌, List, [], ◌∷◌, ◌++◌, length, map, inl, inr, refl, sym, ap, subst, ◌∙◌, append_assoc, length-append, zero-add, Ok, Err, OnOk, IfOk, IfErr, arith}
+use Rattle.std.proofs.Common.{◌≡◌, ℕ, zero, suc, ◌+◌, Bool, true, false, cond, All, ◌<◌, ◌≤◌, ◌||◌, List, [], ◌∷◌, ◌++◌, length, map, inl, inr, refl, sym, ap, subst, ◌∙◌, append_assoc, length-append, zero-add, Result, Ok, Err, OnOk, IfOk, IfErr, arith}
 use Rattle.std.specs.List.{AllByRecursion, filter}
 use Rattle.std.proofs.lemmas.List.{append-nil}
+use mathlib.Core.List.{IsPrefix}
 use Rattle.std.proofs.lemmas.List.Elements.{filter-append}
 use Rattle.rs_message.specs.Messages.{is_sweep}
 use Rattle.rs_message.specs.declared.entry.Entry.{Entry}
@@ -10,8 +11,10 @@ use Rattle.rs_store.specs.History.{SerialsRise, cleaned, extended}
 use Rattle.rs_version.specs.Writer.{Refuses, Written, kept_of, shows}
 use Rattle.rs_version.specs.declared.fault.PutFault.TheVariants.{Full, Held, NoMemory, Stale}
 use Rattle.rs_intake.specs.Changes.{AreChanges, AreOf, ArePlain, place_of_all}
-use Rattle.rs_intake.specs.Done.{Answer, AreAnswered, AreDone, AreRefusedBehind, AreReplied, IsAnswered, IsDone, IsPut, IsWritten, ReplyValue, accepted, is_held, is_refused, refused_reply, refused_in, replies_to}
+use Rattle.rs_intake.specs.Done.{Answer, AreAnswered, AreDone, AreRefusedBehind, AreReplied, IsAnswered, IsDone, IsPut, IsWritten, ReplyValue, accepted, has_held, is_held, is_refused, refused_reply, refused_in, replies_to}
 use Rattle.rs_intake.specs.Parts.{IsPart}
+use Rattle.rs_intake.specs.declared.waiting.Gone.{Gone}
+use Rattle.rs_intake.specs.Sending.{AreLeft, ArePut, IsSent, IsSentNext}
 use Rattle.rs_intake.specs.Sweeps.{AreForEntries, IsSweptAtMost, Serves, without_sweeps}
 use Rattle.rs_intake.proofs.Parts.{part_front, part_rises}
 use Rattle.rs_intake.proofs.Sweeps.{entry_rises, adds_kept, held_kept, no_memory_kept, serves_entry, serves_refused, serves_start, released_kept, without_cleaned, without_more}
@@ -41,15 +44,6 @@ pub put_is : (limit : ℕ) (w w' : Written) (e : Entry) (answer : Answer) → On
     → IfOk answer (λ r. r.number ≡ length w'.published) → IfOk answer (λ r. r.told ≡ w'.published) → IfErr answer (λ f. Refuses limit w e f w') → IsPut limit w e answer w'
 put_is limit w w' e (Ok r) adds entry number told refuses = (adds, (entry, number, told))
 put_is limit w w' e (Err f) adds entry number told refuses = refuses
-
--- ---- one entry after the other
-
-done_more : (limit : ℕ) (first entries : List Entry) (answers : List Answer) (kept : List Entry) (entry : Entry) (answer : Answer) (kept' : List Entry)
-    → AreDone limit first entries answers kept → IsDone limit kept entry answer kept' → AreDone limit first (entries ++ entry ∷ []) (answers ++ answer ∷ []) kept'
-done_more limit first [] [] kept entry answer kept' are is = let P : List Entry → Type 0 = λ l. IsDone limit l entry answer kept' in (kept', subst P are is, refl)
-done_more limit first [] (a ∷ answers) kept entry answer kept' are is = absurd are
-done_more limit first (e ∷ entries) [] kept entry answer kept' are is = absurd are
-done_more limit first (e ∷ entries) (a ∷ answers) kept entry answer kept' are is = (are.0, are.1, done_more limit are.0 entries answers kept entry answer kept' are.2 is)
 
 -- ---- what the answer says
 
@@ -193,24 +187,19 @@ kept_as_answered limit entries kept answers plain are =
 
 -- ---- the changes of one job
 
--- whether one of them is held
-abbrev pub has_held : List Answer → Bool
-has_held [] = false
-has_held (answer ∷ answers) = is_held answer || has_held answers
+answered_append : (limit : ℕ) (first : Written) (entries : List Entry) (answers : List Answer) (w : Written) (more : List Entry) (behind : List Answer) (w' : Written)
+    → AreAnswered limit first entries answers w → AreAnswered limit w more behind w' → AreAnswered limit first (entries ++ more) (answers ++ behind) w'
+answered_append limit first [] [] w more behind w' are rest = let P : Written → Type 0 = λ v. AreAnswered limit v more behind w' in subst P are rest
+answered_append limit first [] (a ∷ answers) w more behind w' are rest = absurd are
+answered_append limit first (e ∷ entries) [] w more behind w' are rest = absurd are
+answered_append limit first (e ∷ entries) (a ∷ answers) w more behind w' are rest = (are.0, are.1, answered_append limit are.0 entries answers w more behind w' are.2 rest)
 
-answered_snoc : (limit : ℕ) (first : Written) (entries : List Entry) (answers : List Answer) (w : Written) (entry : Entry) (answer : Answer) (w' : Written)
-    → AreAnswered limit first entries answers w → IsAnswered limit w entry answer w' → AreAnswered limit first (entries ++ entry ∷ []) (answers ++ answer ∷ []) w'
-answered_snoc limit first [] [] w entry answer w' are is = let P : Written → Type 0 = λ v. IsAnswered limit v entry answer w' in (w', subst P are is, refl)
-answered_snoc limit first [] (a ∷ answers) w entry answer w' are is = absurd are
-answered_snoc limit first (e ∷ entries) [] w entry answer w' are is = absurd are
-answered_snoc limit first (e ∷ entries) (a ∷ answers) w entry answer w' are is = (are.0, are.1, answered_snoc limit are.0 entries answers w entry answer w' are.2 is)
-
-replies_snoc : (limit : ℕ) (first entries : List Entry) (answers : List Answer) (kept : List Entry) (entry : Entry) (answer : Answer) → AreDone limit first entries answers kept
-    → replies_to (entries ++ entry ∷ []) (answers ++ answer ∷ []) ≡ replies_to entries answers ++ record { origin = entry.origin; answer = answer } ∷ []
-replies_snoc limit first [] [] kept entry answer are = refl
-replies_snoc limit first [] (a ∷ answers) kept entry answer are = absurd are
-replies_snoc limit first (e ∷ entries) [] kept entry answer are = absurd are
-replies_snoc limit first (e ∷ entries) (a ∷ answers) kept entry answer are = ap (λ l. record { origin = e.origin; answer = a } ∷ l) (replies_snoc limit are.0 entries answers kept entry answer are.2)
+replies_append : (limit : ℕ) (first entries : List Entry) (answers : List Answer) (kept more : List Entry) (behind : List Answer) → AreDone limit first entries answers kept
+    → replies_to (entries ++ more) (answers ++ behind) ≡ replies_to entries answers ++ replies_to more behind
+replies_append limit first [] [] kept more behind are = refl
+replies_append limit first [] (a ∷ answers) kept more behind are = absurd are
+replies_append limit first (e ∷ entries) [] kept more behind are = absurd are
+replies_append limit first (e ∷ entries) (a ∷ answers) kept more behind are = ap (λ l. record { origin = e.origin; answer = a } ∷ l) (replies_append limit are.0 entries answers kept more behind are.2)
 
 or_left : (a b : Bool) → a ≡ true → (a || b) ≡ true
 or_left true b is = refl
@@ -228,23 +217,27 @@ or_false : (a : Bool) → (a || false) ≡ a
 or_false true = refl
 or_false false = refl
 
-has_held_snoc : (answers : List Answer) (answer : Answer) → has_held (answers ++ answer ∷ []) ≡ (has_held answers || is_held answer)
-has_held_snoc [] answer = or_false (is_held answer)
-has_held_snoc (a ∷ answers) answer = ap (λ b. is_held a || b) (has_held_snoc answers answer) ∙ or_assoc (is_held a) (has_held answers) (is_held answer)
+has_held_append : (answers behind : List Answer) → has_held (answers ++ behind) ≡ (has_held answers || has_held behind)
+has_held_append [] behind = refl
+has_held_append (a ∷ answers) behind = ap (λ b. is_held a || b) (has_held_append answers behind) ∙ or_assoc (is_held a) (has_held answers) (has_held behind)
 
-all_snoc : {A : Type 0} (P : A → Type 0) (xs : List A) (x : A) → AllByRecursion P xs → P x → AllByRecursion P (xs ++ x ∷ [])
-all_snoc P [] x all here = (here, tt)
-all_snoc P (y ∷ xs) x all here = (all.0, all_snoc P xs x all.1 here)
+all_append : {A : Type 0} (P : A → Type 0) (xs ys : List A) → AllByRecursion P xs → AllByRecursion P ys → AllByRecursion P (xs ++ ys)
+all_append P [] ys all more = more
+all_append P (x ∷ xs) ys all more = (all.0, all_append P xs ys all.1 more)
 
-behind_snoc : (answers : List Answer) (answer : Answer) → AreRefusedBehind answers → (has_held answers ≡ true → answer ≡ Err NoMemory) → AreRefusedBehind (answers ++ answer ∷ [])
-behind_snoc [] answer are here = ((λ is. tt), tt)
-behind_snoc (a ∷ answers) answer are here = (
-  (λ is. all_snoc (λ (b : Answer). b ≡ Err NoMemory) answers answer (are.0 is) (here (or_left (is_held a) (has_held answers) is))),
-  behind_snoc answers answer are.1 (λ is. here (or_right (is_held a) (has_held answers) is)),
+-- the answer is that memory was refused
+abbrev IsNoMemory : Answer → Type 0
+IsNoMemory answer = answer ≡ Err NoMemory
+
+behind_append : (answers behind : List Answer) → AreRefusedBehind answers → AreRefusedBehind behind → (has_held answers ≡ true → AllByRecursion IsNoMemory behind) → AreRefusedBehind (answers ++ behind)
+behind_append [] behind are more here = more
+behind_append (a ∷ answers) behind are more here = (
+  (λ is. all_append IsNoMemory answers behind (are.0 is) (here (or_left (is_held a) (has_held answers) is))),
+  behind_append answers behind are.1 more (λ is. here (or_right (is_held a) (has_held answers) is)),
 )
 
-refused_snoc : (answers : List Answer) (answer : Answer) → refused_in (answers ++ answer ∷ []) ≡ refused_in answers + refused_in (answer ∷ [])
-refused_snoc answers answer = ap length (filter-append is_refused answers (answer ∷ [])) ∙ length-append (filter is_refused answers) (filter is_refused (answer ∷ []))
+refused_append : (answers behind : List Answer) → refused_in (answers ++ behind) ≡ refused_in answers + refused_in behind
+refused_append answers behind = ap length (filter-append is_refused answers behind) ∙ length-append (filter is_refused answers) (filter is_refused behind)
 
 pub refused_one : (answer : Answer) → refused_in (answer ∷ []) ≤ 1
 refused_one answer = go (is_refused answer)
@@ -253,45 +246,77 @@ refused_one answer = go (is_refused answer)
     go true = omega arith
     go false = omega arith
 
--- the replies to the first of the changes, and whether one of these is held
-pub record AreBegun (limit : ℕ) (w : Written) (entries : List Entry) (replies : List ReplyValue) (refused : ℕ) (holds : Bool) (w' : Written) : Type 0 where
-  pub replied : AreReplied limit w entries replies refused w'
-  pub holds_is : holds ≡ has_held replied.answers
+-- nothing is put yet
+pub put_none : (limit : ℕ) (w : Written) (held : Bool) (rest : List Entry) (replies : List ReplyValue) → replies ≡ [] → ArePut limit w held rest replies 0 held rest w
+put_none limit w held rest replies none = record {
+  first = [];
+  are = refl;
+  replied = record { answers = []; done = refl; answered = refl; behind = tt; replies_are = none; refused_are = refl };
+  behind = (λ is. tt);
+  held_is = sym (or_false held);
+}
 
-pub begun_none : (limit : ℕ) (w : Written) (replies : List ReplyValue) → replies ≡ [] → AreBegun limit w [] replies 0 false w
-begun_none limit w replies none = record { replied = record { answers = []; done = refl; answered = refl; behind = tt; replies_are = none; refused_are = refl }; holds_is = refl }
-
-pub begun_more : (limit : ℕ) (w : Written) (entries : List Entry) (replies replies' : List ReplyValue) (refused count : ℕ) (holds holds' : Bool) (w' : Written) (entry : Entry) (reply : ReplyValue) (w'' : Written)
-    → AreBegun limit w entries replies refused holds w' → IsDone limit (kept_of w') entry reply.answer (kept_of w'') → reply.origin ≡ entry.origin → IsAnswered limit w' entry reply.answer w''
-    → (holds ≡ true → reply.answer ≡ Err NoMemory) → holds' ≡ (holds || is_held reply.answer) → count ≡ refused_in (reply.answer ∷ []) → replies' ≡ replies ++ reply ∷ []
-    → AreBegun limit w (entries ++ entry ∷ []) replies' (refused + count) holds' w''
-begun_more limit w entries replies replies' refused count holds holds' w' entry reply w'' b done origin answered behind held number more =
-    let r = b.replied in
+pub put_one : (limit : ℕ) (w : Written) (held : Bool) (rest rest' : List Entry) (entry : Entry) (reply : ReplyValue) (count : ℕ) (held' : Bool) (w' : Written)
+    → rest ≡ entry ∷ rest' → IsDone limit (kept_of w) entry reply.answer (kept_of w') → reply.origin ≡ entry.origin → IsAnswered limit w entry reply.answer w'
+    → (held ≡ true → reply.answer ≡ Err NoMemory) → held' ≡ (held || is_held reply.answer) → count ≡ refused_in (reply.answer ∷ []) → ArePut limit w held rest (reply ∷ []) count held' rest' w'
+put_one limit w held rest rest' entry reply count held' w' first done origin answered behind holds number =
     let answer = reply.answer in
-    let same : reply ≡ record { origin = entry.origin; answer = answer } = ap (λ o. record { origin = o; answer = answer }) origin in
     record {
+      first = entry ∷ [];
+      are = first;
       replied = record {
-        answers = r.answers ++ answer ∷ [];
-        done = done_more limit (kept_of w) entries r.answers (kept_of w') entry answer (kept_of w'') r.done done;
-        answered = answered_snoc limit w entries r.answers w' entry answer w'' r.answered answered;
-        behind = behind_snoc r.answers answer r.behind (λ is. behind (b.holds_is ∙ is));
-        replies_are = more ∙ (ap (λ l. l ++ reply ∷ []) r.replies_are ∙ (ap (λ (x : ReplyValue). replies_to entries r.answers ++ x ∷ []) same ∙ sym (replies_snoc limit (kept_of w) entries r.answers (kept_of w') entry answer r.done)));
-        refused_are = ap (λ n. n + count) r.refused_are ∙ (ap (λ n. refused_in r.answers + n) number ∙ sym (refused_snoc r.answers answer));
+        answers = answer ∷ [];
+        done = (kept_of w', done, refl);
+        answered = (w', answered, refl);
+        behind = ((λ is. tt), tt);
+        replies_are = ap (λ o. record { origin = o; answer = answer } ∷ []) origin;
+        refused_are = number;
       };
-      holds_is = held ∙ (ap (λ h. h || is_held answer) b.holds_is ∙ sym (has_held_snoc r.answers answer));
+      behind = (λ is. (behind is, tt));
+      held_is = holds ∙ ap (λ h. held || h) (sym (or_false (is_held answer)));
     }
 
--- the changes that are left rise behind what is kept
-pub record AreLeft (limit : ℕ) (kept rest : List Entry) : Type 0 where
-  pub entries : List Entry
-  pub serves : Serves limit entries kept
-  pub rise : SerialsRise (entries ++ rest)
-  pub plain : ArePlain rest
-  pub above : AllByRecursion (λ (e : Entry). 0 < e.origin.place) rest
+-- more of the job is put
+pub put_more : (limit : ℕ) (w : Written) (held : Bool) (all : List Entry) (replies : List ReplyValue) (refused : ℕ) (held1 : Bool) (rest1 : List Entry) (w1 : Written) (more : List ReplyValue) (count : ℕ) (held2 : Bool) (rest2 : List Entry) (w2 : Written) (replies' : List ReplyValue)
+    → ArePut limit w held all replies refused held1 rest1 w1 → ArePut limit w1 held1 rest1 more count held2 rest2 w2 → replies' ≡ replies ++ more → ArePut limit w held all replies' (refused + count) held2 rest2 w2
+put_more limit w held all replies refused held1 rest1 w1 more count held2 rest2 w2 replies' a b joined =
+    let xs = a.replied.answers in
+    let ys = b.replied.answers in
+    record {
+      first = a.first ++ b.first;
+      are = a.are ∙ (ap (λ l. a.first ++ l) b.are ∙ sym (append_assoc a.first b.first rest2));
+      replied = record {
+        answers = xs ++ ys;
+        done = done_append limit (kept_of w) a.first xs (kept_of w1) b.first ys (kept_of w2) a.replied.done b.replied.done;
+        answered = answered_append limit w a.first xs w1 b.first ys w2 a.replied.answered b.replied.answered;
+        behind = behind_append xs ys a.replied.behind b.replied.behind (λ is. b.behind (a.held_is ∙ or_right held (has_held xs) is));
+        replies_are = joined ∙ (ap (λ l. l ++ more) a.replied.replies_are ∙ (ap (λ l. replies_to a.first xs ++ l) b.replied.replies_are ∙ sym (replies_append limit (kept_of w) a.first xs (kept_of w1) b.first ys a.replied.done)));
+        refused_are = ap (λ n. n + count) a.replied.refused_are ∙ (ap (λ n. refused_in xs + n) b.replied.refused_are ∙ sym (refused_append xs ys));
+      };
+      behind = (λ is. all_append IsNoMemory xs ys (a.behind is) (b.behind (a.held_is ∙ or_left held (has_held xs) is)));
+      held_is = b.held_is ∙ (ap (λ h. h || has_held ys) a.held_is ∙ (sym (or_assoc held (has_held xs) (has_held ys)) ∙ ap (λ h. held || h) (sym (has_held_append xs ys))));
+    }
+
+-- ---- the changes that are left
 
 above_all : (place : ℕ) (es : List Entry) → 0 < place → AreOf place es → AllByRecursion (λ (e : Entry). 0 < e.origin.place) es
 above_all place [] some of = tt
 above_all place (e ∷ es) some of = ((let same = of.0 in omega (arith, some, same)), above_all place es some of.1)
+
+-- if memory for replies is refused, none is left
+pub left_none : (limit : ℕ) (kept rest left : List Entry) → left ≡ [] → AreLeft limit kept rest → AreLeft limit kept left
+left_none limit kept rest left none l =
+    let P : List Entry → Type 0 = λ r. AreLeft limit kept r in
+    let Q : List Entry → Type 0 = λ r. SerialsRise r in
+    subst P (sym none) (
+    record {
+      entries = l.entries;
+      serves = l.serves;
+      rise = subst Q (sym (append-nil l.entries)) (part_rises l.entries (l.entries ++ rest) (part_front l.entries rest) l.rise);
+      plain = tt;
+      above = tt;
+    }
+    )
 
 pub left_all : (limit : ℕ) (kept entries changes : List Entry) → Serves limit entries kept → SerialsRise (entries ++ changes) → AreChanges changes → AreLeft limit kept changes
 left_all limit kept entries changes serves rise are =
@@ -347,15 +372,49 @@ refused_count : (entries : List Entry) → length entries ≡ refused_in (all_re
 refused_count [] = refl
 refused_count (entry ∷ entries) = ap suc (refused_count entries)
 
-pub replied_refusing : (limit : ℕ) (w : Written) (entries : List Entry) (replies : List ReplyValue) (refused : ℕ) → replies ≡ map refused_reply entries → refused ≡ length entries → AreReplied limit w entries replies refused w
-replied_refusing limit w entries replies refused are number = record {
-  answers = all_refused entries;
-  done = refused_done limit (kept_of w) entries;
-  answered = refused_answered limit w entries;
-  behind = refused_behind entries;
-  replies_are = are ∙ refused_replies entries;
-  refused_are = number ∙ refused_count entries;
+refused_all : (entries : List Entry) → AllByRecursion IsNoMemory (all_refused entries)
+refused_all [] = tt
+refused_all (entry ∷ entries) = (refl, refused_all entries)
+
+refused_unheld : (entries : List Entry) → has_held (all_refused entries) ≡ false
+refused_unheld [] = refl
+refused_unheld (entry ∷ entries) = refused_unheld entries
+
+pub put_refusing : (limit : ℕ) (w : Written) (held : Bool) (rest : List Entry) (replies : List ReplyValue) (refused : ℕ) (left : List Entry) → replies ≡ map refused_reply rest → refused ≡ length rest → left ≡ [] → ArePut limit w held rest replies refused held left w
+put_refusing limit w held rest replies refused left are number none = record {
+  first = rest;
+  are = sym (ap (λ l. rest ++ l) none ∙ append-nil rest);
+  replied = record {
+    answers = all_refused rest;
+    done = refused_done limit (kept_of w) rest;
+    answered = refused_answered limit w rest;
+    behind = refused_behind rest;
+    replies_are = are ∙ refused_replies rest;
+    refused_are = number ∙ refused_count rest;
+  };
+  behind = (λ is. refused_all rest);
+  held_is = sym (ap (λ h. held || h) (refused_unheld rest) ∙ or_false held);
 }
+
+-- all of the job is put
+pub all_put : (limit : ℕ) (w : Written) (changes : List Entry) (replies : List ReplyValue) (refused : ℕ) (held : Bool) (rest : List Entry) (w' : Written) → rest ≡ [] → ArePut limit w false changes replies refused held rest w' → AreReplied limit w changes replies refused w'
+all_put limit w changes replies refused held rest w' none p =
+    let same : changes ≡ p.first = p.are ∙ (ap (λ l. p.first ++ l) none ∙ append-nil p.first) in
+    let P : List Entry → Type 0 = λ l. AreReplied limit w l replies refused w' in
+    subst P (sym same) p.replied
+
+-- ---- what is sent
+
+prefix_more : (sent replies more : List ReplyValue) → IsPrefix sent replies → IsPrefix sent (replies ++ more)
+prefix_more sent replies more p = (p.0 ++ more, sym (append_assoc sent p.0 more) ∙ ap (λ l. l ++ more) p.1)
+
+-- what was told so far, once these replies were to be sent behind the others
+pub sent_more : (replies sent more : List ReplyValue) (before after : Result (Unit {0}) Gone) (first told told' : List ReplyValue) → told ≡ first ++ sent → IsSent replies sent before → IsSentNext before told more after told'
+    → (sent' : List ReplyValue) × (told' ≡ first ++ sent') × IsSent (replies ++ more) sent' after
+sent_more replies sent more (Ok x) (Ok y) first told told' is all next = (sent ++ more, next ∙ (ap (λ l. l ++ more) is ∙ append_assoc first sent more), ap (λ l. l ++ more) all)
+sent_more replies sent more (Ok x) (Err gone) first told told' is all next = (sent, next ∙ is, (more, ap (λ l. l ++ more) all))
+sent_more replies sent more (Err g) (Err gone) first told told' is all next = (sent, next ∙ is, prefix_more sent replies more all)
+sent_more replies sent more (Err g) (Ok y) first told told' is all next = absurd next
 
 -- what the writer's loop knows of what it took, kept and refused
 pub record AreTold (limit : ℕ) (entries kept : List Entry) (taken refused : ℕ) : Type 0 where

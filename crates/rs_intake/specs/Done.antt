@@ -1,5 +1,5 @@
 -- What was done with the entries that the writer took, and what was answered to their lines: what is sent by their ways back.
-use Rattle.std.specs.Prelude.{ℕ, ◌≡◌, ◌-◌, ◌⊎◌, Bool, true, false, cond, List, [], ◌∷◌, ◌++◌, length, slice_set, slice_index_or, Result, Ok, Err}
+use Rattle.std.specs.Prelude.{ℕ, ◌≡◌, ◌-◌, ◌⊎◌, ◌||◌, Bool, true, false, cond, List, [], ◌∷◌, ◌++◌, length, slice_set, slice_index_or, Result, Ok, Err}
 use Rattle.std.specs.List.{AllByRecursion, filter}
 use Rattle.rs_message.specs.declared.entry.Entry.{Entry}
 use Rattle.rs_message.specs.declared.entry.Origin.{Origin}
@@ -85,6 +85,11 @@ is_held (Err Held) = true
 is_held (Err Full) = false
 is_held (Err NoMemory) = false
 is_held (Err Stale) = false
+
+-- whether one of the answers says so
+abbrev pub has_held : List Answer → Bool
+has_held [] = false
+has_held (answer ∷ answers) = is_held answer || has_held answers
 
 -- each answer behind one that says so is that memory was refused
 abbrev pub AreRefusedBehind : List Answer → Type 0

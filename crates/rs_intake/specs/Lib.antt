@@ -9,5 +9,6 @@ pub mod Parts
 pub mod QueueRule
 pub mod Refusals
 pub mod ReplyRule
+pub mod Sending
 pub mod Settling
 pub mod Sweeps

@@ -11,6 +11,7 @@ ghost use Rattle.rs_message.specs.declared.entry.TheConstants.{MAX_PLACES};
 ghost use Rattle.rs_message.specs.declared.fault.SubmitFault.TheVariants.{Strange};
 ghost use Rattle.rs_store.specs.History.{last_serial};
 ghost use Rattle.rs_intake.specs.Changes.{AreOf};
+ghost use Rattle.rs_intake.specs.Done.{ReplyValue};
 ghost use Rattle.rs_intake.specs.Names.{IsQueue, IsIn};
 ghost use Rattle.rs_intake.specs.Lines.{AreNext, IsAheadAfter, IsClosed, IsOther, announced, entry_at, next_serial, numbered};
 ghost use Rattle.rs_intake.specs.QueueRule.{AreAbove};
@@ -338,20 +339,22 @@ impl<N: LineName> SeatLine<N> {
         }
     }
 
-    /// For a line that is handed on. Nothing is expected any more, and what is ahead counts as submitted. The replies to it have come
-    /// with that to the first change of its job, if any did, and are dropped, so that no later submit reads them.
-    pub fn hand_on(&mut self)
+    /// For a line that is handed on. Nothing is expected any more, and what is ahead counts as submitted. It waits for the replies to it,
+    /// unless the writer is gone, and drops them, so that no later submit reads them.
+    pub fn hand_on<R: Wait>(&mut self, rt: &R)
         ensures place { self.new.place ≡ self.old.place }
         ensures serial { self.new.serial ≡ self.old.serial + length self.old.ahead }
         ensures sent { self.new.sent ≡ self.old.sent ++ self.old.ahead }
         ensures next { AreNext self.old.place self.old.serial self.old.ahead }
-        ensures heard { (self.new.heard ≡ self.old.heard ++ self.old.came) × (self.new.came ≡ []) }
+        ensures heard { (more : List ReplyValue) × (self.new.heard ≡ self.old.heard ++ self.old.came ++ more) }
+        ensures came { self.new.came ≡ [] }
         ensures none { (self.new.expected ≡ []) × (self.new.ahead ≡ []) }
     {
+        let unread = self.ahead.len();
         self.serial = self.last_serial();
         self.ahead = VecDeque::new(self.alloc);
         self.expected = Vec::new(self.alloc);
-        self.replies.skip();
+        self.replies.drop_next(rt, unread);
     }
 
     /// Sends what is expected, as one job, if this is the first entry of it and nothing is ahead. Then all of it is ahead. Whatever comes

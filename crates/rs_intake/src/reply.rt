@@ -1,8 +1,9 @@
 //! The way back from the writer to a line.
 
-ghost use Rattle.std.specs.Prelude.{◌≡◌, ◌∷◌, ◌++◌, [], IfOk, MatchOption, MatchResult, map};
-ghost use Rattle.rs_intake.specs.Done.{is_held, is_refused, refused_reply, refused_in};
+ghost use Rattle.std.specs.Prelude.{◌≡◌, ◌∷◌, ◌++◌, [], List, false, IfOk, MatchOption, MatchResult, map};
+ghost use Rattle.rs_intake.specs.Done.{ReplyValue, is_held, is_refused, refused_reply, refused_in};
 
+use crate::job::MAX_CHANGES;
 use crate::waiting;
 use crate::waiting::{Gone, Patience, receive};
 use crossbeam_channel::protocol::{Lesson, Outcome, Protocol, Split};
@@ -13,6 +14,15 @@ use std::alloc::{AllocError, Global};
 use std::collections::{LinkedList, VecDeque};
 use std::marker::Model;
 use std::sync::Wait;
+
+/// The most replies of one message, if no other job is there when the writer takes theirs: the line reads them while the writer puts the
+/// next changes.
+pub const FEW_REPLIES: usize = 8;
+
+/// The most messages with replies to one job. So many fit into a way back: a place has one job at a time, so the writer never waits.
+const MAX_MESSAGES: usize = MAX_CHANGES / FEW_REPLIES;
+
+const _: () = prove!(MAX_MESSAGES * FEW_REPLIES == MAX_CHANGES);
 
 /// What the writer answers to a change.
 #[derive(Drop)]
@@ -60,11 +70,11 @@ impl<N: StoreName> WriterReply<N> {
     }
 }
 
-/// What the writer answers to the changes of one job, in their order. Contracts see a list of replies.
+/// What the writer answers to changes of one job that are next to each other, in their order. Contracts see a list of replies.
 #[derive(Drop)]
 pub struct WriterReplies<N: StoreName> {
     made: VecDeque<WriterReply<N>>,
-    // Behind the others, those that say that memory was refused. If there is none for any other reply, they are the entries of the job.
+    // Behind the others, those that say that memory was refused. If there is none for any other reply, they are entries of the job.
     refused: VecDeque<Entry>,
 }
 
@@ -99,12 +109,12 @@ impl<N: StoreName> WriterReplies<N> {
     }
 
     /// A reply to each of these changes, that memory was refused. Takes no memory.
-    pub(crate) fn refusing(alloc: Global, changes: Vec<Entry>) -> WriterReplies<N>
+    pub(crate) fn refusing(alloc: Global, changes: VecDeque<Entry>) -> WriterReplies<N>
         ensures { result ≡ map refused_reply changes.items }
     {
         WriterReplies {
             made: VecDeque::new(alloc),
-            refused: VecDeque::from_vec(changes),
+            refused: changes,
         }
     }
 
@@ -141,7 +151,7 @@ impl<N: StoreName> Model for WayPass<N> {
 }
 
 /// The rule of a way back: what the line received, followed by what the way back holds, is what the writer's end sent. A message has
-/// the replies to the changes of one job.
+/// replies to changes of one job.
 pub struct ReplyRule;
 
 impl<N: StoreName> Protocol<WriterReplies<N>, WayPass<N>> for ReplyRule {
@@ -220,15 +230,15 @@ impl<N: StoreName> Model for ReplyReceiver<N> {
     ghost invariant = { λ r. IsSeatAt (receives_on r.from) r.pass × ((known_by r.pass).receives ≡ true) × ((known_by r.pass).sends ≡ false) × ((known_by r.pass).replies ≡ before (known_by r.pass).replies r.came ++ r.came) };
 }
 
-/// The two ends of the way back to one line, by which nothing was sent. It can carry the replies to one job, since a line waits for
-/// those to one at most.
+/// The two ends of the way back to one line, by which nothing was sent. It has space for the replies to one job.
 pub fn way_back<N: StoreName>(
     alloc: Global,
 ) -> Result<(ReplySender<N>, ReplyReceiver<N>), AllocError>
     ensures { IfOk result (λ r. (r.0 ≡ []) × (r.1.heard ≡ []) × (r.1.came ≡ [])) }
 {
     let (to, from, mut pass) = bounded_with::<WriterReplies<N>, WayPass<N>, ReplyRule, Global>(
-        alloc, 1,
+        alloc,
+        MAX_MESSAGES,
     )?;
     let other = to.another::<Ends>(&mut pass);
     Ok((
@@ -265,10 +275,11 @@ impl<N: StoreName> ReplyReceiver<N> {
         self.came.next()
     }
 
-    /// Waits for the replies to a job, if none are there. Whether some came. They have not, if the writer is gone.
+    /// Waits for replies, if none are there. Whether some came. They have not, if the writer is gone.
     fn listen<R: Wait>(&mut self, rt: &R) -> bool
         requires { self.old.came ≡ [] }
-        ensures { self.new.heard ≡ self.old.heard }
+        ensures heard { self.new.heard ≡ self.old.heard }
+        ensures came { result ≡ false → self.new.came ≡ [] }
     {
         match receive::<WriterReplies<N>, WayPass<N>, ReplyRule, Counting, R>(
             rt,
@@ -286,7 +297,8 @@ impl<N: StoreName> ReplyReceiver<N> {
 
     /// The next reply, for which it waits if none has come that was not taken. `None` if the writer is gone.
     pub fn wait<R: Wait>(&mut self, rt: &R) -> Option<WriterReply<N>>
-        ensures { MatchOption result (self.new.heard ≡ self.old.heard) (λ reply. self.new.heard ≡ self.old.heard ++ reply ∷ []) }
+        ensures heard { MatchOption result ((self.old.came ≡ []) × (self.new.heard ≡ self.old.heard)) (λ reply. self.new.heard ≡ self.old.heard ++ reply ∷ []) }
+        ensures came { (more : List ReplyValue) × (self.new.heard ++ self.new.came ≡ self.old.heard ++ self.old.came ++ more) }
     {
         if let Some(reply) = self.take() {
             return Some(reply);
@@ -298,9 +310,29 @@ impl<N: StoreName> ReplyReceiver<N> {
     }
 
     /// Takes all replies that came, and drops them.
-    pub fn skip(&mut self)
+    fn skip(&mut self)
         ensures { (self.new.heard ≡ self.old.heard ++ self.old.came) × (self.new.came ≡ []) }
     {
         self.came = WriterReplies::none(self.alloc);
+    }
+
+    /// Waits for so many replies, unless the writer is gone.
+    fn wait_for<R: Wait>(&mut self, rt: &R, count: usize)
+        ensures { (more : List ReplyValue) × (self.new.heard ++ self.new.came ≡ self.old.heard ++ self.old.came ++ more) }
+    {
+        for _ in 0..count {
+            if self.wait(rt).is_none() {
+                break;
+            }
+        }
+    }
+
+    /// Drops the next replies, for which it waits unless the writer is gone, and all others that came with them.
+    pub fn drop_next<R: Wait>(&mut self, rt: &R, count: usize)
+        ensures heard { (more : List ReplyValue) × (self.new.heard ≡ self.old.heard ++ self.old.came ++ more) }
+        ensures came { self.new.came ≡ [] }
+    {
+        self.wait_for(rt, count);
+        self.skip();
     }
 }

@@ -1,14 +1,16 @@
 //! Putting a job, and sending the writer's answers to its line.
 
-ghost use Rattle.std.specs.Prelude.{◌≡◌, ◌<◌, ◌≤◌, ◌||◌, ◌++◌, [], List, true, false, length, vec_capacity, MatchResult};
+ghost use Rattle.std.specs.Prelude.{◌≡◌, ◌+◌, ◌<◌, ◌≤◌, ◌||◌, ◌++◌, [], List, true, false, length, vec_capacity};
 ghost use Rattle.rs_message.specs.Messages.{is_sweep};
 ghost use Rattle.rs_message.specs.declared.entry.Entry.{Entry};
 ghost use Rattle.rs_store.specs.History.{SerialsRise, extended};
 ghost use Rattle.rs_version.specs.Writer.{kept_of};
 ghost use Rattle.rs_version.specs.declared.fault.PutFault.TheVariants.{NoMemory};
-ghost use Rattle.rs_intake.specs.Changes.{AreChanges, place_of_all};
+ghost use Rattle.rs_intake.specs.Changes.{place_of_all};
 ghost use Rattle.rs_intake.specs.Done.{AreReplied, IsAnswered, IsDone, IsPut, ReplyValue, answered_more, is_held};
+ghost use Rattle.rs_intake.specs.Sending.{AreLeft, ArePut, IsSent, IsSentNext};
 ghost use Rattle.rs_intake.specs.Sweeps.{Serves};
+ghost use Rattle.rs_intake.specs.declared.job.TheConstants.{MAX_CHANGES};
 
 use crate::job::Changes;
 use crate::name::LineName;
@@ -17,6 +19,8 @@ use crate::waiting::Gone;
 use rs_message::Entry;
 use rs_version::{PutFault, VersionWriter};
 use std::alloc::Global;
+use std::collections::VecDeque;
+use std::mem;
 use std::sync::Wait;
 
 /// Puts a change, and makes the reply to its line. A Sweep may have been appended before the change, or without it.
@@ -61,25 +65,33 @@ fn reply_to_next<N: LineName, R: Wait + Drop>(
     reply
 }
 
-/// Puts the changes of a job, one after the other, and makes a reply to each. What is passed has the capacity for the replies. The
-/// result is also how many changes are refused.
-fn reply_to_each<N: LineName, R: Wait + Drop>(
+/// Puts the first of the changes that are left of a job, one after the other, and makes a reply to each: so many as `count` says.
+/// `has_held` is whether a change before them is held, and then whether one of them is. What is passed has the capacity for the
+/// replies. The result is also how many changes are refused.
+fn reply_to_first<N: LineName, R: Wait + Drop>(
     writer: &mut VersionWriter<N, R>,
-    entries: Vec<Entry>,
+    rest: &mut VecDeque<Entry>,
+    has_held: &mut bool,
     reserved: Vec<WriterReply<N>>,
+    count: usize,
 ) -> (Vec<WriterReply<N>>, u64)
-    requires reserved { (reserved.items ≡ []) × (length entries.items ≤ vec_capacity reserved) }
-    requires changes { AreChanges entries.items }
-    requires rises { (before : List Entry) × Serves N.limit before (kept_of writer.old) × SerialsRise (before ++ entries.items) }
-    ensures { AreReplied N.limit writer.old entries.items result.0.items result.1 writer.new }
+    requires reserved { (reserved.items ≡ []) × (count ≤ vec_capacity reserved) }
+    requires there { count ≤ length rest.old.items }
+    requires left { AreLeft N.limit (kept_of writer.old) rest.old.items }
+    ensures put { ArePut N.limit writer.old has_held.old rest.old.items result.0.items result.1 has_held.new rest.new.items writer.new }
+    ensures left { AreLeft N.limit (kept_of writer.new) rest.new.items }
+    ensures count { length rest.new.items + count ≤ length rest.old.items }
+    ensures refused { result.1 + length rest.new.items ≤ length rest.old.items }
 {
     let mut replies = reserved;
     let mut refused = 0u64;
-    let mut has_held = false;
-    for entry in entries {
+    while replies.len() < count {
+        let Some(entry) = rest.pop_front() else {
+            unreachable!()
+        };
         // For the proof: this call says that the serial is not 0.
         let _serial = entry.origin.serial();
-        let reply = reply_to_next(writer, entry, &mut has_held);
+        let reply = reply_to_next(writer, entry, has_held);
         refused += reply.refused();
         let Ok(()) = replies.push(reply) else {
             unreachable!()
@@ -88,22 +100,71 @@ fn reply_to_each<N: LineName, R: Wait + Drop>(
     (replies, refused)
 }
 
-/// Puts the changes of a job. If there is no memory for the replies, nothing is put, and each change is told that.
-fn replies_to<N: LineName, R: Wait + Drop>(
+/// Puts the next changes of a job, at most so many. If there is no memory for the replies, nothing is put, and each change that is left
+/// is told that.
+fn next_replies<N: LineName, R: Wait + Drop>(
     alloc: Global,
     writer: &mut VersionWriter<N, R>,
-    entries: Vec<Entry>,
+    rest: &mut VecDeque<Entry>,
+    has_held: &mut bool,
+    at_once: usize,
 ) -> (WriterReplies<N>, u64)
-    requires changes { AreChanges entries.items }
-    requires rises { (before : List Entry) × Serves N.limit before (kept_of writer.old) × SerialsRise (before ++ entries.items) }
-    ensures { AreReplied N.limit writer.old entries.items result.0 result.1 writer.new }
+    requires some { (0 < at_once) × (0 < length rest.old.items) }
+    requires left { AreLeft N.limit (kept_of writer.old) rest.old.items }
+    ensures put { ArePut N.limit writer.old has_held.old rest.old.items result.0 result.1 has_held.new rest.new.items writer.new }
+    ensures left { AreLeft N.limit (kept_of writer.new) rest.new.items }
+    ensures less { length rest.new.items < length rest.old.items }
+    ensures refused { result.1 + length rest.new.items ≤ length rest.old.items }
 {
-    let Ok(reserved) = Vec::with_capacity(alloc, entries.len()) else {
-        let refused = entries.len() as u64;
-        return (WriterReplies::refusing(alloc, entries), refused);
+    let count = rest.len().min(at_once);
+    let Ok(reserved) = Vec::with_capacity(alloc, count) else {
+        let changes = mem::replace(rest, VecDeque::new(alloc));
+        let refused = changes.len() as u64;
+        return (WriterReplies::refusing(alloc, changes), refused);
     };
-    let (replies, refused) = reply_to_each(writer, entries, reserved);
+    let (replies, refused) = reply_to_first(writer, rest, has_held, reserved, count);
     (WriterReplies::new(alloc, replies), refused)
+}
+
+/// Sends the replies, unless a send before them failed: then they are dropped.
+fn send_next<N: LineName, W: Wait>(
+    rt: &W,
+    to: &mut ReplySender<N>,
+    sent: &mut Result<(), Gone>,
+    replies: WriterReplies<N>,
+)
+    ensures { IsSentNext sent.old to.old replies sent.new to.new }
+{
+    if sent.is_ok() {
+        *sent = to.send(rt, replies);
+    }
+}
+
+/// Puts the changes of a job, and sends the replies to them, at most so many in one message.
+fn put_and_send<N: LineName, R: Wait + Drop, W: Wait>(
+    rt: &W,
+    alloc: Global,
+    to: &mut ReplySender<N>,
+    writer: &mut VersionWriter<N, R>,
+    changes: VecDeque<Entry>,
+    at_once: usize,
+) -> (u64, Result<(), Gone>)
+    requires some { 0 < at_once }
+    requires few { length changes.items ≤ MAX_CHANGES }
+    requires left { AreLeft N.limit (kept_of writer.old) changes.items }
+    ensures { (replies sent : List ReplyValue) × AreReplied N.limit writer.old changes.items replies result.0 writer.new
+        × (to.new ≡ to.old ++ sent) × IsSent replies sent result.1 }
+{
+    let mut rest = changes;
+    let mut has_held = false;
+    let mut refused = 0u64;
+    let mut sent = Ok(());
+    while !rest.is_empty() {
+        let (replies, count) = next_replies(alloc, writer, &mut rest, &mut has_held, at_once);
+        refused += count;
+        send_next(rt, to, &mut sent, replies);
+    }
+    (refused, sent)
 }
 
 /// The writer's ends of the ways back to the lines, that of place 1 first. What a line is told is what is sent by its way back, and
@@ -121,23 +182,31 @@ impl<N: LineName> WaysBack<N> {
         WaysBack { alloc, senders }
     }
 
-    /// Puts the changes of a job, one after the other, tells their line the answers, and tells no line anything else. The result is how
-    /// many changes are refused, and whether the send of the replies failed. It does, if the line is gone.
+    /// Puts the changes of a job, one after the other, tells their line the answers, at most so many in one message, and tells no line
+    /// anything else. The result is how many changes are refused, and whether a send of replies failed. It does, if the line is gone.
     pub(crate) fn put_job<R: Wait + Drop, W: Wait>(
         &mut self,
         rt: &W,
         writer: &mut VersionWriter<N, R>,
         changes: Changes,
+        at_once: usize,
     ) -> (u64, Result<(), Gone>)
+        requires some { 0 < at_once }
         requires place { place_of_all changes ≤ length self.old.senders.items }
         requires rises { (before : List Entry) × Serves N.limit before (kept_of writer.old) × SerialsRise (before ++ changes) }
-        ensures done { (replies : List ReplyValue) × AreReplied N.limit writer.old changes replies result.0 writer.new
-            × MatchResult result.1 (λ _. self.new.senders.items ≡ answered_more self.old.senders.items (place_of_all changes) replies) (λ _. self.new.senders.items ≡ self.old.senders.items) }
+        ensures done { (replies sent : List ReplyValue) × AreReplied N.limit writer.old changes replies result.0 writer.new
+            × (self.new.senders.items ≡ answered_more self.old.senders.items (place_of_all changes) sent) × IsSent replies sent result.1 }
         ensures ways { length self.new.senders.items ≡ length self.old.senders.items }
     {
         let index = changes.place() as usize - 1;
-        let (replies, refused) = replies_to(self.alloc, writer, changes.into_entries());
-        let sent = self.senders[index].send(rt, replies);
-        (refused, sent)
+        let entries = VecDeque::from_vec(changes.into_entries());
+        put_and_send(
+            rt,
+            self.alloc,
+            &mut self.senders[index],
+            writer,
+            entries,
+            at_once,
+        )
     }
 }

@@ -17,9 +17,9 @@ pub struct Gone {
     seen: (),
 }
 
-/// How often a receive looks. It takes some tens of microseconds, in which a writer can serve eight places; to wake a thread that
-/// sleeps costs more than a put.
-const LOOKS: u32 = 1024;
+/// How often a receive looks. It takes some ten microseconds, in which a writer makes several puts; to wake a thread that sleeps costs
+/// more than a put. If it looked longer, places that wait would take processors from the writer.
+const LOOKS: u32 = 256;
 
 /// After so many receives in a row that looked in vain, the next ones sleep at once.
 const MOST_IN_VAIN: u32 = 2;
@@ -32,11 +32,20 @@ const RECEIVES_TO_LOOK: u32 = 128;
 #[derive(Drop)]
 pub struct Patience {
     in_vain: u32,
+    has_waited: bool,
 }
 
 impl Patience {
     pub fn new() -> Patience {
-        Patience { in_vain: 0 }
+        Patience {
+            in_vain: 0,
+            has_waited: false,
+        }
+    }
+
+    /// Whether the last receive found nothing at its first look.
+    pub fn has_waited(&self) -> bool {
+        self.has_waited
     }
 
     /// How often the next receive looks, at least once.
@@ -84,7 +93,8 @@ pub fn receive<T: Drop, V, P: Protocol<T, V>, M: Outcome<T, V> + Lesson<T, V>, R
         match from.try_recv_as::<M, R>(rt, pass) {
             Ok(message) => {
                 // What was there at once says nothing about looking.
-                if look > 0 {
+                patience.has_waited = look > 0;
+                if patience.has_waited {
                     patience.in_vain = 0;
                 }
                 return Ok(message);
@@ -93,6 +103,7 @@ pub fn receive<T: Drop, V, P: Protocol<T, V>, M: Outcome<T, V> + Lesson<T, V>, R
             Err(TryRecvError::Empty) => spin_loop(),
         }
     }
+    patience.has_waited = true;
     patience.in_vain = patience.in_vain.wrapping_add(1);
     match from.recv_as::<M, R>(rt, pass) {
         Ok(message) => Ok(message),

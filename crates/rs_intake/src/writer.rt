@@ -15,6 +15,7 @@ ghost use Rattle.rs_intake.specs.declared.job.TheConstants.{MAX_CHANGES};
 use crate::ending::Cause;
 use crate::job::{Job, MAX_CHANGES};
 use crate::name::LineName;
+use crate::reply::FEW_REPLIES;
 use crate::rule::JobReceiver;
 use crate::taken::Taken;
 use crate::telling::WaysBack;
@@ -98,6 +99,18 @@ fn has_most(taken: u64, most: u64) -> bool
     taken >= most || taken > u64::MAX - MAX_CHANGES as u64
 }
 
+/// How many replies the writer sends in one message. If it waited for the job, the line shall read while the writer goes on. Else other
+/// places wait, and each message may wake a line, which costs more than a put.
+fn replies_at_once(patience: &Patience) -> usize
+    ensures { 0 < result }
+{
+    if patience.has_waited() {
+        FEW_REPLIES
+    } else {
+        MAX_CHANGES
+    }
+}
+
 /// Puts the changes of each job that it takes, one after the other, and tells the job's line what the writer answers. Behind a change
 /// that is held the others of its job are refused. It ends when ([`Cause`])
 ///
@@ -167,7 +180,8 @@ pub fn run_writer_for<N: LineName, R: Wait + Drop, W: Wait>(
         match received.next(rt, &receiver, &mut patience) {
             Ok(Job::Put(changes)) => {
                 taken += changes.len() as u64;
-                let (count, _sent) = ways.put_job(rt, &mut writer, changes);
+                let at_once = replies_at_once(&patience);
+                let (count, _sent) = ways.put_job(rt, &mut writer, changes, at_once);
                 refused += count;
             }
             Ok(Job::End(_)) => {

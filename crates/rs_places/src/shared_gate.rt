@@ -25,7 +25,8 @@ use std::sync::{Arc, Wait};
 /// The changes that it is told to expect go to the writer in one job with the first of them that is submitted, and each is answered when
 /// its own submit comes.
 ///
-/// It keeps the handle `rt`, by which a submit waits for its receipt. An answer waits for nobody.
+/// It keeps the handle `rt`, by which a submit waits for its receipt, and `hand_on` for the answers to what was sent ahead. An answer to
+/// a filter waits for nobody.
 #[derive(Drop)]
 pub struct SharedGate<N: LineName, R: Wait + Copy> {
     rt: R,
@@ -56,7 +57,7 @@ impl<N: LineName, R: Wait + Copy> SharedGate<N, R> {
         // For the proof: this call says that the seat's list is legal.
         let _version = seat.version();
         let mut line = line;
-        line.hand_on();
+        line.hand_on(&rt);
         SharedGate {
             rt,
             intake,
@@ -92,14 +93,14 @@ impl<N: LineName, R: Wait + Copy> SharedGate<N, R> {
         self.seat.told()
     }
 
-    /// Nothing is expected any more, and what was sent ahead counts as submitted, as if the gate had done so and never heard the answers.
-    /// Whoever serves the next connection with the gate calls it first.
+    /// Nothing is expected any more, and what was sent ahead counts as submitted, as if the gate had done so and dropped the answers, for
+    /// which it waits. Whoever serves the next connection with the gate calls it first.
     pub fn hand_on(&mut self)
         ensures known { self.new.known ≡ self.old.known }
         ensures mark { (tail : List Entry) × HandsOn self.old.mark tail self.new.mark × IsPrefix (operations_of tail) self.old.ahead }
         ensures ahead { self.new.ahead ≡ [] }
     {
-        self.line.hand_on();
+        self.line.hand_on(&self.rt);
     }
 
     /// Gives the gate up. The line's end keeps what the queue took from the line, what was sent ahead too.

@@ -153,7 +153,7 @@ fn take_step<N: LineName, R: Wait + Clock + Abort>(
             Some(())
         }
         Act::HandOn => {
-            line.hand_on();
+            line.hand_on(rt);
             Some(())
         }
         Act::Read(now) => {

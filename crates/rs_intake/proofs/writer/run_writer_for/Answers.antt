@@ -47,7 +47,7 @@ overflow_add-refused g c =
     let entries = c.loop.received.entries in
     let more : c.next-in-loop.new.self.entries ≡ entries ++ c.in-Ok-Put.changes = c.in-Ok-Put.ensures.taken.0 ∙ ap (λ (x : Job). entries ++ entries_in x) c.in-Ok-Put.field-0-is in
     let d = c.put_job-count.ensures.done in
-    let told = told_more g.N.StoreName.limit entries c.next-in-loop.new.self.entries c.in-Ok-Put.changes d.0 c.loop.writer c.put_job-count.new.writer c.loop.taken c.loop.refused _ more c.len.ensures.changes.plain c.loop.invariant.1 d.1 in
+    let told = told_more g.N.StoreName.limit entries c.next-in-loop.new.self.entries c.in-Ok-Put.changes d.0 c.loop.writer c.put_job-count.new.writer c.loop.taken c.loop.refused _ more c.len.ensures.changes.plain c.loop.invariant.1 d.2 in
     let sum = told.sum in
     let few = c.len.ensures.changes.few in
     let fits = c.if-has_most.ensures in
@@ -61,7 +61,7 @@ loop-preserved-in-Ok-Put g c =
     let ends : c.next-in-loop.new.self.ends ≡ c.loop.received.ends = c.in-Ok-Put.ensures.ended.0 ∙ (ap (λ (x : Job). c.loop.received.ends ++ ends_of (x ∷ [])) c.in-Ok-Put.field-0-is ∙ append-nil c.loop.received.ends) in
     let d = c.put_job-count.ensures.done in
     let len : c.len.result ≡ length c.in-Ok-Put.changes = c.len.ensures.len in
-    let told = told_more g.N.StoreName.limit entries c.next-in-loop.new.self.entries c.in-Ok-Put.changes d.0 c.loop.writer c.put_job-count.new.writer c.loop.taken c.loop.refused _ more c.len.ensures.changes.plain i.1 d.1 in
+    let told = told_more g.N.StoreName.limit entries c.next-in-loop.new.self.entries c.in-Ok-Put.changes d.0 c.loop.writer c.put_job-count.new.writer c.loop.taken c.loop.refused _ more c.len.ensures.changes.plain i.1 d.2 in
     let T : ℕ → Type 0 = λ n. AreTold g.N.StoreName.limit c.next-in-loop.new.self.entries (kept_of c.put_job-count.new.writer) (c.loop.taken + n) (c.loop.refused + c.put_job-count.result.0) in (
       i.0,
       subst T (sym len) told,

@@ -9,7 +9,9 @@ invariant_of-self g c =
     seat_handed_on _ _ _ _ _ _ _ _ (subst S (sym c.self.view_is) c.last_serial-self-inside.ensures) c.new-2.ensures.items c.new.ensures.items c.self.invariant
 
 pub returns-clause-heard : goal.returns-clause-heard
-returns-clause-heard g c = (c.skip.ensures.0 ∙ ap (λ (v : Line). v.heard ++ v.came) c.self.view_is, c.skip.ensures.1)
+returns-clause-heard g c =
+    let more = c.drop_next.ensures.heard.0 in
+    (more, c.drop_next.ensures.heard.1 ∙ ap (λ (v : Line). v.heard ++ v.came ++ more) c.self.view_is)
 
 pub returns-clause-next : goal.returns-clause-next
 returns-clause-next g c = let S : Line → Type 0 = λ v. AreNext v.place v.serial v.ahead in subst S c.self.view_is c.self.invariant.next

@@ -1,4 +1,4 @@
-use Rattle.std.proofs.Common.{List, subst, arith}
+use Rattle.std.proofs.Common.{rules, ◌≡◌, List, subst, arith}
 use Rattle.std.proofs.lemmas.Grind.{common_steps}
 use Rattle.rs_message.specs.declared.entry.Entry.{Entry}
 use Rattle.rs_intake.specs.Done.{AreReplied}
@@ -6,6 +6,8 @@ use Rattle.rs_intake.proofs.telling.WaysBack.put_job.Goals as goal
 
 pub returns-clause-done : goal.returns-clause-done
 returns-clause-done g c =
-    let replies = c.replies_to-replies.result.0 in
-    let R : List Entry → Type 0 = λ l. AreReplied g.N.StoreName.limit c.args.writer.now l replies c.replies_to-replies.result.1 c.replies_to-replies.new.writer in
-    (replies, subst R c.into_entries.ensures.entries c.replies_to-replies.ensures, grind (arith, common_steps))
+    let e = c.put_and_send.ensures in
+    let is : c.from_vec-entries.result.items ≡ c.args.changes = search rules in
+    let R : List Entry → Type 0 = λ l. AreReplied g.N.StoreName.limit c.args.writer.now l e.0 c.put_and_send.result.0 c.put_and_send.new.writer in
+    let told = e.3 in
+    (e.0, e.1, subst R is e.2, grind (arith, common_steps, told), e.4)
