@@ -5,7 +5,7 @@ ghost use Rattle.rs_intake.specs.Done.{ReplyValue, is_held, is_refused, refused_
 
 use crate::job::MAX_CHANGES;
 use crate::waiting;
-use crate::waiting::{Gone, Patience, receive};
+use crate::waiting::{Gone, LINE_LOOKS, Patience, receive};
 use crossbeam_channel::protocol::{Lesson, Outcome, Protocol, Split};
 use crossbeam_channel::{Pass, RuledReceiver, RuledSender, bounded_with};
 use rs_message::{Entry, Origin};
@@ -246,7 +246,7 @@ pub fn way_back<N: StoreName>(
         ReplyReceiver {
             from,
             pass: other,
-            patience: Patience::new(),
+            patience: Patience::new(LINE_LOOKS),
             came: WriterReplies::none(alloc),
             alloc,
         },

@@ -17,9 +17,13 @@ pub struct Gone {
     seen: (),
 }
 
-/// How often a receive looks. It takes some ten microseconds, in which a writer makes several puts; to wake a thread that sleeps costs
-/// more than a put. If it looked longer, places that wait would take processors from the writer.
-const LOOKS: u32 = 256;
+/// How often a receive of the writer looks. It takes some tens of microseconds, in which a place decodes its next job. To wake a thread
+/// that sleeps costs more than a put.
+pub const WRITER_LOOKS: u32 = 1024;
+
+/// How often a receive of a line looks. It takes some ten microseconds, in which the writer makes several puts. There are many lines: if
+/// they looked longer, those that wait would take processors from the writer.
+pub const LINE_LOOKS: u32 = 256;
 
 /// After so many receives in a row that looked in vain, the next ones sleep at once.
 const MOST_IN_VAIN: u32 = 2;
@@ -31,13 +35,15 @@ const RECEIVES_TO_LOOK: u32 = 128;
 /// Whether the receives at one end of a channel found by looking what they waited for.
 #[derive(Drop)]
 pub struct Patience {
+    most_looks: u32,
     in_vain: u32,
     has_waited: bool,
 }
 
 impl Patience {
-    pub fn new() -> Patience {
+    pub fn new(most_looks: u32) -> Patience {
         Patience {
+            most_looks,
             in_vain: 0,
             has_waited: false,
         }
@@ -48,10 +54,10 @@ impl Patience {
         self.has_waited
     }
 
-    /// How often the next receive looks, at least once.
+    /// How often the next receive looks.
     fn looks(&self) -> u32 {
         if self.in_vain < MOST_IN_VAIN || self.in_vain % RECEIVES_TO_LOOK == 0 {
-            LOOKS
+            self.most_looks
         } else {
             1
         }

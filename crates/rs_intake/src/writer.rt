@@ -19,7 +19,7 @@ use crate::reply::FEW_REPLIES;
 use crate::rule::JobReceiver;
 use crate::taken::Taken;
 use crate::telling::WaysBack;
-use crate::waiting::Patience;
+use crate::waiting::{Patience, WRITER_LOOKS};
 use rs_message::Origin;
 use rs_version::VersionWriter;
 use std::sync::Wait;
@@ -172,7 +172,7 @@ pub fn run_writer_for<N: LineName, R: Wait + Drop, W: Wait>(
     let mut refused = 0u64;
     let mut open = received.places();
     let mut cause = Cause::MostTaken;
-    let mut patience = Patience::new();
+    let mut patience = Patience::new(WRITER_LOOKS);
     for _ in rt.forever() {
         if has_most(taken, most) {
             break;
