@@ -88,15 +88,15 @@ def refuses_until_expired(count, seconds):
         answer = other.take_packet()
         ended = time()
         # The server may see the turn of a second a little later or earlier than this clock does.
-        is_told = int(ended + 0.02) - int(began - 0.02) < seconds
-        is_right = answer == NO_SPACE or not is_told and answer == PUBACK
+        is_before_expiry = int(ended + 0.02) - int(began - 0.02) < seconds
+        is_right = answer == NO_SPACE or not is_before_expiry and answer == PUBACK
         wanted(is_right, f"a topic more was answered {answer.hex()}")
         wait_until(ended + seconds + 1)
         new = [b"new/%06d" % number for number in numbers]
         client.ask(b"".join(publish(name, b"y") for name in new), count * PUBACK)
         other.ask(publish(b"more", b"y"), NO_SPACE)
         other.ask(subscribe(b"#"), SUBACK + b"".join(replayed(name, b"y") for name in new))
-        return is_told
+        return is_before_expiry
 
 
 def begin_second():

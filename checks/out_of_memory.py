@@ -123,8 +123,8 @@ def calls(task, least, library, count=1, untold=0):
             continue
         is_unread = at == unread + 1 and run.stderr == not_read
         unread += is_unread
-        is_told = is_unread or run.stderr == b"rs_trials: out of memory\n"
-        if not (was_refused and run.returncode == 1 and run.stdout == b"" and is_told):
+        is_reported = is_unread or run.stderr == b"rs_trials: out of memory\n"
+        if not (was_refused and run.returncode == 1 and run.stdout == b"" and is_reported):
             shown = f"status {run.returncode}, {run.stdout!r}, {run.stderr!r}"
             sys.exit(f"{task}, allocation {at}: {shown}")
     enough(f"{task}, {count} in a row", refused, least | {UNTOLD: untold}, at - 1)
