@@ -136,8 +136,8 @@ def refused_memory():
     """A connection that ends because memory was refused is told so."""
     with tempfile.TemporaryDirectory() as folder:
         library = preloaded("failing_malloc", folder)
-        is_reported = any(ends_out_of_memory(library, at) for at in range(1, 2_000))
-        wanted(is_reported, "no connection ended out of memory")
+        is_shown = any(ends_out_of_memory(library, at) for at in range(1, 2_000))
+        wanted(is_shown, "no connection ended out of memory")
 
 
 def ends_out_of_memory(library, at):
@@ -205,5 +205,5 @@ def cannot_listen():
                 _, errors = run.communicate(timeout=PATIENCE)
                 first, *more = errors.splitlines()
                 wanted((run.returncode, first) == (1, "rstored: cannot listen"), errors)
-                is_reported = len(more) == 1 and more[0].startswith("rstored: ") and reason in more[0]
-                wanted(is_reported if words else not more, errors)
+                is_shown = len(more) == 1 and more[0].startswith("rstored: ") and reason in more[0]
+                wanted(is_shown if words else not more, errors)
