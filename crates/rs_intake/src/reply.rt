@@ -15,8 +15,7 @@ use std::collections::{LinkedList, VecDeque};
 use std::marker::Model;
 use std::sync::Wait;
 
-/// The most replies of one message, if no other job is there when the writer takes theirs: the line reads them while the writer puts the
-/// next changes.
+/// The most replies of one message if the writer waited for their job: the line reads them while the writer puts the next changes.
 pub const FEW_REPLIES: usize = 8;
 
 /// The most messages with replies to one job. So many fit into a way back: a place has one job at a time, so the writer never waits.

@@ -32,7 +32,8 @@ const MOST_IN_VAIN: u32 = 2;
 /// little where it is of no use, as on one processor.
 const RECEIVES_TO_LOOK: u32 = 128;
 
-/// Whether the receives at one end of a channel found by looking what they waited for.
+/// How the receives at one end of a channel wait: how often one looks at most, and whether those before found by looking what they waited
+/// for.
 #[derive(Drop)]
 pub struct Patience {
     most_looks: u32,

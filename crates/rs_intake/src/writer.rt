@@ -99,8 +99,8 @@ fn has_most(taken: u64, most: u64) -> bool
     taken >= most || taken > u64::MAX - MAX_CHANGES as u64
 }
 
-/// How many replies the writer sends in one message. If it waited for the job, the line shall read while the writer goes on. Else other
-/// places wait, and each message may wake a line, which costs more than a put.
+/// The most replies that the writer sends in one message: few if it waited for the job, so that the line reads them while the writer goes
+/// on. Else other places may wait, and each message may wake a line, which costs more than a put.
 fn replies_at_once(patience: &Patience) -> usize
     ensures { 0 < result }
 {
