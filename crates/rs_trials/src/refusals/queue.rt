@@ -312,8 +312,9 @@ fn refused<H: Wait + Threads + Copy + Send + Sync + 'static>(
     Ok([book.submit, book.held, u64::from(is_last)])
 }
 
-/// Submits new topics to three stores: to the first one by one, and none after one whose entry is held; to the second all of them one by
-/// one; to the third all of them, three in a job. Returns how often memory was refused in all, in the order of [`refused`].
+/// Submits new topics to four stores: to the first one by one, and none after one whose entry is held; to the second all of them one by
+/// one; to the third all of them, three in a job; to the fourth twelve in a job, whose replies are two messages if the writer waited for
+/// it. Returns how often memory was refused in all, in the order of [`refused`].
 pub fn work<H: Wait + Threads + Copy + Send + Sync + 'static>(
     rt: &H,
     alloc: Global,
@@ -333,6 +334,11 @@ pub fn work<H: Wait + Threads + Copy + Send + Sync + 'static>(
         Plan {
             groups: rounds / 3,
             size: 3,
+            ends_at_held: false,
+        },
+        Plan {
+            groups: rounds / 12,
+            size: 12,
             ends_at_held: false,
         },
     ];
