@@ -2,7 +2,6 @@
 use Rattle.std.proofs.Common.{◌≡◌, ℕ, zero, suc, ◌+◌, Bool, true, false, cond, All, ◌<◌, ◌≤◌, ◌||◌, List, [], ◌∷◌, ◌++◌, length, map, inl, inr, refl, sym, ap, subst, ◌∙◌, append_assoc, length-append, zero-add, Result, Ok, Err, OnOk, IfOk, IfErr, arith}
 use Rattle.std.specs.List.{AllByRecursion, filter}
 use Rattle.std.proofs.lemmas.List.{append-nil}
-use mathlib.Core.List.{IsPrefix}
 use Rattle.std.proofs.lemmas.List.Elements.{filter-append}
 use Rattle.rs_message.specs.Messages.{is_sweep}
 use Rattle.rs_message.specs.declared.entry.Entry.{Entry}
@@ -14,7 +13,7 @@ use Rattle.rs_intake.specs.Changes.{AreChanges, AreOf, ArePlain, place_of_all}
 use Rattle.rs_intake.specs.Done.{Answer, AreAnswered, AreDone, AreRefusedBehind, AreReplied, IsAnswered, IsDone, IsPut, IsWritten, ReplyValue, accepted, has_held, is_held, is_refused, refused_reply, refused_in, replies_to}
 use Rattle.rs_intake.specs.Parts.{IsPart}
 use Rattle.rs_intake.specs.declared.waiting.Gone.{Gone}
-use Rattle.rs_intake.specs.Sending.{AreLeft, ArePut, IsSent, IsSentNext}
+use Rattle.rs_intake.specs.Sending.{AreToPut, ArePut, AreSent, AreSentNext}
 use Rattle.rs_intake.specs.Sweeps.{AreForEntries, IsSweptAtMost, Serves, without_sweeps}
 use Rattle.rs_intake.proofs.Parts.{part_front, part_rises}
 use Rattle.rs_intake.proofs.Sweeps.{entry_rises, adds_kept, held_kept, no_memory_kept, serves_entry, serves_refused, serves_start, released_kept, without_cleaned, without_more}
@@ -304,9 +303,9 @@ above_all place [] some of = tt
 above_all place (e ∷ es) some of = ((let same = of.0 in omega (arith, some, same)), above_all place es some of.1)
 
 -- if memory for replies is refused, none is left
-pub left_none : (limit : ℕ) (kept rest left : List Entry) → left ≡ [] → AreLeft limit kept rest → AreLeft limit kept left
+pub left_none : (limit : ℕ) (kept rest left : List Entry) → left ≡ [] → AreToPut limit kept rest → AreToPut limit kept left
 left_none limit kept rest left none l =
-    let P : List Entry → Type 0 = λ r. AreLeft limit kept r in
+    let P : List Entry → Type 0 = λ r. AreToPut limit kept r in
     let Q : List Entry → Type 0 = λ r. SerialsRise r in
     subst P (sym none) (
     record {
@@ -318,24 +317,24 @@ left_none limit kept rest left none l =
     }
     )
 
-pub left_all : (limit : ℕ) (kept entries changes : List Entry) → Serves limit entries kept → SerialsRise (entries ++ changes) → AreChanges changes → AreLeft limit kept changes
+pub left_all : (limit : ℕ) (kept entries changes : List Entry) → Serves limit entries kept → SerialsRise (entries ++ changes) → AreChanges changes → AreToPut limit kept changes
 left_all limit kept entries changes serves rise are =
     record { entries = entries; serves = serves; rise = rise; plain = are.plain; above = above_all (place_of_all changes) changes are.above are.place }
 
-left_first : (limit : ℕ) (kept rest left : List Entry) (entry : Entry) → rest ≡ entry ∷ left → AreLeft limit kept rest → AreLeft limit kept (entry ∷ left)
-left_first limit kept rest left entry first l = let P : List Entry → Type 0 = λ r. AreLeft limit kept r in subst P first l
+left_first : (limit : ℕ) (kept rest left : List Entry) (entry : Entry) → rest ≡ entry ∷ left → AreToPut limit kept rest → AreToPut limit kept (entry ∷ left)
+left_first limit kept rest left entry first l = let P : List Entry → Type 0 = λ r. AreToPut limit kept r in subst P first l
 
-pub left_plain : (limit : ℕ) (kept rest left : List Entry) (entry : Entry) → rest ≡ entry ∷ left → AreLeft limit kept rest → is_sweep entry.operation ≡ false
+pub left_plain : (limit : ℕ) (kept rest left : List Entry) (entry : Entry) → rest ≡ entry ∷ left → AreToPut limit kept rest → is_sweep entry.operation ≡ false
 left_plain limit kept rest left entry first l = (left_first limit kept rest left entry first l).plain.0
 
-pub left_rises : (limit : ℕ) (kept rest left : List Entry) (entry : Entry) → rest ≡ entry ∷ left → 0 < entry.origin.serial → AreLeft limit kept rest → SerialsRise (extended kept entry)
+pub left_rises : (limit : ℕ) (kept rest left : List Entry) (entry : Entry) → rest ≡ entry ∷ left → 0 < entry.origin.serial → AreToPut limit kept rest → SerialsRise (extended kept entry)
 left_rises limit kept rest left entry first serial l =
     let f = left_first limit kept rest left entry first l in
     let P : List Entry → Type 0 = λ r. SerialsRise r in
     let all : SerialsRise ((f.entries ++ entry ∷ []) ++ left) = subst P (sym (append_assoc f.entries (entry ∷ []) left)) f.rise in
     entry_rises limit f.entries kept entry f.serves f.above.0 serial (part_rises (f.entries ++ entry ∷ []) ((f.entries ++ entry ∷ []) ++ left) (part_front (f.entries ++ entry ∷ []) left) all)
 
-pub left_less : (limit : ℕ) (kept rest left : List Entry) (entry : Entry) (answer : Answer) (kept' : List Entry) → rest ≡ entry ∷ left → IsDone limit kept entry answer kept' → AreLeft limit kept rest → AreLeft limit kept' left
+pub left_less : (limit : ℕ) (kept rest left : List Entry) (entry : Entry) (answer : Answer) (kept' : List Entry) → rest ≡ entry ∷ left → IsDone limit kept entry answer kept' → AreToPut limit kept rest → AreToPut limit kept' left
 left_less limit kept rest left entry answer kept' first is l =
     let f = left_first limit kept rest left entry first l in
     let P : List Entry → Type 0 = λ r. SerialsRise r in
@@ -405,16 +404,15 @@ all_put limit w changes replies refused held rest w' none p =
 
 -- ---- what is sent
 
-prefix_more : (sent replies more : List ReplyValue) → IsPrefix sent replies → IsPrefix sent (replies ++ more)
-prefix_more sent replies more p = (p.0 ++ more, sym (append_assoc sent p.0 more) ∙ ap (λ l. l ++ more) p.1)
-
 -- what was told so far, once these replies were to be sent behind the others
-pub sent_more : (replies sent more : List ReplyValue) (before after : Result (Unit {0}) Gone) (first told told' : List ReplyValue) → told ≡ first ++ sent → IsSent replies sent before → IsSentNext before told more after told'
-    → (sent' : List ReplyValue) × (told' ≡ first ++ sent') × IsSent (replies ++ more) sent' after
-sent_more replies sent more (Ok x) (Ok y) first told told' is all next = (sent ++ more, next ∙ (ap (λ l. l ++ more) is ∙ append_assoc first sent more), ap (λ l. l ++ more) all)
-sent_more replies sent more (Ok x) (Err gone) first told told' is all next = (sent, next ∙ is, (more, ap (λ l. l ++ more) all))
-sent_more replies sent more (Err g) (Err gone) first told told' is all next = (sent, next ∙ is, prefix_more sent replies more all)
-sent_more replies sent more (Err g) (Ok y) first told told' is all next = absurd next
+pub sent_more : (replies sent more : List ReplyValue) (before after : Result (Unit {0}) Gone) (first told told' : List ReplyValue) → told ≡ first ++ sent → AreSent replies sent before → AreSentNext before told more after told' → 0 < length more
+    → (sent' : List ReplyValue) × (told' ≡ first ++ sent') × AreSent (replies ++ more) sent' after
+sent_more replies sent more (Ok x) (Ok y) first told told' is all next some = (sent ++ more, next ∙ (ap (λ l. l ++ more) is ∙ append_assoc first sent more), ap (λ l. l ++ more) all)
+sent_more replies sent more (Ok x) (Err gone) first told told' is all next some = (sent, next ∙ is, (more, some, ap (λ l. l ++ more) (sym all)))
+sent_more replies sent more (Err g) (Err gone) first told told' is all next some =
+    let n = length-append all.0 more in
+    (sent, next ∙ is, (all.0 ++ more, omega (arith, n, some), ap (λ l. l ++ more) all.2 ∙ append_assoc sent all.0 more))
+sent_more replies sent more (Err g) (Ok y) first told told' is all next some = absurd next
 
 -- what the writer's loop knows of what it took, kept and refused
 pub record AreTold (limit : ℕ) (entries kept : List Entry) (taken refused : ℕ) : Type 0 where

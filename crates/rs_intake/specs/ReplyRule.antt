@@ -5,8 +5,8 @@ use mathlib.Core.Option.{some}
 use lib.ListN.{get_elem?}
 use Rattle.rs_intake.specs.Done.{ReplyValue}
 
--- What a pass of a way back knows: whether it sends, whether it receives, and the replies that it sent or received. A message has the
--- replies to the changes of one job, in their order
+-- What a pass of a way back knows: whether it sends, whether it receives, and the replies that it sent or received. A message has
+-- replies to changes of one job, in their order
 pub record WayView : Type 0 where
   pub sends : Bool
   pub receives : Bool

@@ -15,10 +15,11 @@ use std::collections::{LinkedList, VecDeque};
 use std::marker::Model;
 use std::sync::Wait;
 
-/// The most replies of one message if the writer waited for their job: the line reads them while the writer puts the next changes.
+/// How many replies one message has if the writer had to wait for their job: the line reads them while the writer puts the next changes.
+/// No message has fewer, but the last one to a job.
 pub const FEW_REPLIES: usize = 8;
 
-/// The most messages with replies to one job. So many fit into a way back: a place has one job at a time, so the writer never waits.
+/// The most messages with replies to one job: the capacity of a way back. A line has one job at a time, so the writer waits for no line.
 const MAX_MESSAGES: usize = MAX_CHANGES / FEW_REPLIES;
 
 const _: () = prove!(MAX_MESSAGES * FEW_REPLIES == MAX_CHANGES);
@@ -229,7 +230,7 @@ impl<N: StoreName> Model for ReplyReceiver<N> {
     ghost invariant = { λ r. IsSeatAt (receives_on r.from) r.pass × ((known_by r.pass).receives ≡ true) × ((known_by r.pass).sends ≡ false) × ((known_by r.pass).replies ≡ before (known_by r.pass).replies r.came ++ r.came) };
 }
 
-/// The two ends of the way back to one line, by which nothing was sent. It has space for the replies to one job.
+/// The two ends of the way back to one line, by which nothing was sent. Its capacity is that of the replies to one job.
 pub fn way_back<N: StoreName>(
     alloc: Global,
 ) -> Result<(ReplySender<N>, ReplyReceiver<N>), AllocError>
@@ -274,7 +275,7 @@ impl<N: StoreName> ReplyReceiver<N> {
         self.came.next()
     }
 
-    /// Waits for replies, if none are there. Whether some came. They have not, if the writer is gone.
+    /// Waits for a message, if none is there. Whether one came. None did, if the writer is gone.
     fn listen<R: Wait>(&mut self, rt: &R) -> bool
         requires { self.old.came ≡ [] }
         ensures heard { self.new.heard ≡ self.old.heard }

@@ -1,6 +1,6 @@
 //! Putting a job, and sending the writer's answers to its line.
 
-ghost use Rattle.std.specs.Prelude.{◌≡◌, ◌+◌, ◌<◌, ◌≤◌, ◌||◌, ◌++◌, [], List, true, false, length, vec_capacity};
+ghost use Rattle.std.specs.Prelude.{◌≡◌, ◌+◌, ◌-◌, ◌<◌, ◌≤◌, ◌||◌, ◌++◌, [], List, true, false, length, vec_capacity};
 ghost use Rattle.rs_message.specs.Messages.{is_sweep};
 ghost use Rattle.rs_message.specs.declared.entry.Entry.{Entry};
 ghost use Rattle.rs_store.specs.History.{SerialsRise, extended};
@@ -8,9 +8,10 @@ ghost use Rattle.rs_version.specs.Writer.{kept_of};
 ghost use Rattle.rs_version.specs.declared.fault.PutFault.TheVariants.{NoMemory};
 ghost use Rattle.rs_intake.specs.Changes.{place_of_all};
 ghost use Rattle.rs_intake.specs.Done.{AreReplied, IsAnswered, IsDone, IsPut, ReplyValue, answered_more, is_held};
-ghost use Rattle.rs_intake.specs.Sending.{AreLeft, ArePut, IsSent, IsSentNext};
+ghost use Rattle.rs_intake.specs.Sending.{AreToPut, ArePut, AreSent, AreSentNext};
 ghost use Rattle.rs_intake.specs.Sweeps.{Serves};
 ghost use Rattle.rs_intake.specs.declared.job.TheConstants.{MAX_CHANGES};
+ghost use Rattle.rs_intake.specs.declared.reply.TheConstants.{FEW_REPLIES};
 
 use crate::job::Changes;
 use crate::name::LineName;
@@ -77,10 +78,10 @@ fn reply_to_first<N: LineName, R: Wait + Drop>(
 ) -> (Vec<WriterReply<N>>, u64)
     requires reserved { (reserved.items ≡ []) × (count ≤ vec_capacity reserved) }
     requires there { count ≤ length rest.old.items }
-    requires left { AreLeft N.limit (kept_of writer.old) rest.old.items }
+    requires left { AreToPut N.limit (kept_of writer.old) rest.old.items }
     ensures put { ArePut N.limit writer.old has_held.old rest.old.items result.0.items result.1 has_held.new rest.new.items writer.new }
-    ensures left { AreLeft N.limit (kept_of writer.new) rest.new.items }
-    ensures count { length rest.new.items + count ≤ length rest.old.items }
+    ensures left { AreToPut N.limit (kept_of writer.new) rest.new.items }
+    ensures count { (length rest.new.items + count ≡ length rest.old.items) × (length result.0.items ≡ count) }
     ensures refused { result.1 + length rest.new.items ≤ length rest.old.items }
 {
     let mut replies = reserved;
@@ -100,8 +101,8 @@ fn reply_to_first<N: LineName, R: Wait + Drop>(
     (replies, refused)
 }
 
-/// Puts the next changes of a job, at most so many. If there is no memory for the replies, nothing is put, and each change that is left
-/// is told that.
+/// Puts the next changes of a job: so many, or all that are left. If there is no memory for the replies, nothing is put, and each change
+/// that is left is told that.
 fn next_replies<N: LineName, R: Wait + Drop>(
     alloc: Global,
     writer: &mut VersionWriter<N, R>,
@@ -109,11 +110,12 @@ fn next_replies<N: LineName, R: Wait + Drop>(
     has_held: &mut bool,
     at_once: usize,
 ) -> (WriterReplies<N>, u64)
-    requires some { (0 < at_once) × (0 < length rest.old.items) }
-    requires left { AreLeft N.limit (kept_of writer.old) rest.old.items }
+    requires some { (FEW_REPLIES ≤ at_once) × (0 < length rest.old.items) }
+    requires left { AreToPut N.limit (kept_of writer.old) rest.old.items }
     ensures put { ArePut N.limit writer.old has_held.old rest.old.items result.0 result.1 has_held.new rest.new.items writer.new }
-    ensures left { AreLeft N.limit (kept_of writer.new) rest.new.items }
-    ensures less { length rest.new.items < length rest.old.items }
+    ensures left { AreToPut N.limit (kept_of writer.new) rest.new.items }
+    ensures many { length rest.new.items ≤ length rest.old.items - at_once }
+    ensures some { 0 < length result.0 }
     ensures refused { result.1 + length rest.new.items ≤ length rest.old.items }
 {
     let count = rest.len().min(at_once);
@@ -133,14 +135,15 @@ fn send_next<N: LineName, W: Wait>(
     sent: &mut Result<(), Gone>,
     replies: WriterReplies<N>,
 )
-    ensures { IsSentNext sent.old to.old replies sent.new to.new }
+    ensures { AreSentNext sent.old to.old replies sent.new to.new }
 {
     if sent.is_ok() {
         *sent = to.send(rt, replies);
     }
 }
 
-/// Puts the changes of a job, and sends the replies to them, at most so many in one message.
+/// Puts the changes of a job, and sends the replies to them, so many in one message. If memory is refused, the last one has all that are
+/// left.
 fn put_and_send<N: LineName, R: Wait + Drop, W: Wait>(
     rt: &W,
     alloc: Global,
@@ -149,11 +152,11 @@ fn put_and_send<N: LineName, R: Wait + Drop, W: Wait>(
     changes: VecDeque<Entry>,
     at_once: usize,
 ) -> (u64, Result<(), Gone>)
-    requires some { 0 < at_once }
+    requires many { FEW_REPLIES ≤ at_once }
     requires few { length changes.items ≤ MAX_CHANGES }
-    requires left { AreLeft N.limit (kept_of writer.old) changes.items }
+    requires left { AreToPut N.limit (kept_of writer.old) changes.items }
     ensures { (replies sent : List ReplyValue) × AreReplied N.limit writer.old changes.items replies result.0 writer.new
-        × (to.new ≡ to.old ++ sent) × IsSent replies sent result.1 }
+        × (to.new ≡ to.old ++ sent) × AreSent replies sent result.1 }
 {
     let mut rest = changes;
     let mut has_held = false;
@@ -182,8 +185,8 @@ impl<N: LineName> WaysBack<N> {
         WaysBack { alloc, senders }
     }
 
-    /// Puts the changes of a job, one after the other, tells their line the answers, at most so many in one message, and tells no line
-    /// anything else. The result is how many changes are refused, and whether a send of replies failed. It does, if the line is gone.
+    /// Puts the changes of a job, one after the other, tells their line the answers, so many in one message, and tells no line anything
+    /// else. The result is how many changes are refused, and whether a send of replies failed. It does, if the line is gone.
     pub(crate) fn put_job<R: Wait + Drop, W: Wait>(
         &mut self,
         rt: &W,
@@ -191,11 +194,11 @@ impl<N: LineName> WaysBack<N> {
         changes: Changes,
         at_once: usize,
     ) -> (u64, Result<(), Gone>)
-        requires some { 0 < at_once }
+        requires many { FEW_REPLIES ≤ at_once }
         requires place { place_of_all changes ≤ length self.old.senders.items }
         requires rises { (before : List Entry) × Serves N.limit before (kept_of writer.old) × SerialsRise (before ++ changes) }
         ensures done { (replies sent : List ReplyValue) × AreReplied N.limit writer.old changes replies result.0 writer.new
-            × (self.new.senders.items ≡ answered_more self.old.senders.items (place_of_all changes) sent) × IsSent replies sent result.1 }
+            × (self.new.senders.items ≡ answered_more self.old.senders.items (place_of_all changes) sent) × AreSent replies sent result.1 }
         ensures ways { length self.new.senders.items ≡ length self.old.senders.items }
     {
         let index = changes.place() as usize - 1;

@@ -11,6 +11,7 @@ ghost use Rattle.rs_intake.specs.Parts.{IsPart};
 ghost use Rattle.rs_intake.specs.Settling.{AreOfPlaces};
 ghost use Rattle.rs_intake.specs.Sweeps.{AreForEntries, without_sweeps};
 ghost use Rattle.rs_intake.specs.declared.job.TheConstants.{MAX_CHANGES};
+ghost use Rattle.rs_intake.specs.declared.reply.TheConstants.{FEW_REPLIES};
 
 use crate::ending::Cause;
 use crate::job::{Job, MAX_CHANGES};
@@ -99,10 +100,10 @@ fn has_most(taken: u64, most: u64) -> bool
     taken >= most || taken > u64::MAX - MAX_CHANGES as u64
 }
 
-/// The most replies that the writer sends in one message: few if it waited for the job, so that the line reads them while the writer goes
-/// on. Else other places may wait, and each message may wake a line, which costs more than a put.
+/// How many replies the writer sends in one message: few if it had to wait for the job, so that the line reads them while the writer goes
+/// on. If the job was there already, others may wait behind it, and each message may wake a line, which costs more than a put.
 fn replies_at_once(patience: &Patience) -> usize
-    ensures { 0 < result }
+    ensures { FEW_REPLIES ≤ result }
 {
     if patience.has_waited() {
         FEW_REPLIES

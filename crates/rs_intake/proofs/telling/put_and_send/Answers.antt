@@ -12,7 +12,7 @@ pub loop-alloc-preserved : goal.loop-alloc-preserved
 loop-alloc-preserved g c =
     let i = c.loop-alloc.invariant in
     let e = c.next_replies-replies.ensures in
-    let s = sent_more i.1.0 i.1.1 c.next_replies-replies.result.0 c.loop-alloc.sent c.send_next.new.sent c.args.to.now c.loop-alloc.to c.send_next.new.to i.1.3 i.1.4 c.send_next.ensures in
+    let s = sent_more i.1.0 i.1.1 c.next_replies-replies.result.0 c.loop-alloc.sent c.send_next.new.sent c.args.to.now c.loop-alloc.to c.send_next.new.to i.1.3 i.1.4 c.send_next.ensures e.some in
     let few = i.2 in
     let refused = e.refused in (
       e.left,

@@ -5,7 +5,7 @@ use Rattle.rs_intake.proofs.telling.reply_to_first.Goals as goal
 pub loop-rest-init : goal.loop-rest-init
 loop-rest-init g c =
     let none = ap length c.requires.reserved.0 in
-    (c.requires.left, put_none _ _ _ _ _ c.requires.reserved.0, omega (arith, none), omega arith, c.requires.reserved.1)
+    (c.requires.left, put_none _ _ _ _ _ c.requires.reserved.0, omega (arith, none), omega arith, c.requires.reserved.1, omega (arith, none))
 
 pub reply_to_next-reply-requires-clause-rises : goal.reply_to_next-reply-requires-clause-rises
 reply_to_next-reply-requires-clause-rises g c =
@@ -26,6 +26,7 @@ loop-rest-preserved g c =
     let all = i.2 in
     let few = i.3 in
     let reserved = i.4 in
+    let test = c.loop-rest-test.true in
     let capacity = c.in-Ok.ensures.capacity in
     let count = c.refused-refused.ensures in
     let one = refused_one reply.answer in (
@@ -34,4 +35,5 @@ loop-rest-preserved g c =
       omega (arith, n, m, sum, all),
       omega (arith, m, sum, few, count, one),
       omega (arith, m, sum, reserved, capacity),
+      omega (arith, m, sum, test),
     )
