@@ -32,11 +32,8 @@ fn setup(alloc: Global, limit: u32, script: Script, writing: Writing) -> Setup {
     }
 }
 
-/// Whether these were the answers to the only place, by their numbers and codes, and its last serial was this.
-fn has_answers(outcome: &Outcome, serial: u64, wanted: &[(u64, u8)]) -> bool {
-    let [log] = outcome.logs.as_slice() else {
-        return false;
-    };
+/// Whether these were the answers to this place, by their numbers and codes, and its last serial was this.
+fn is_answered(log: &Log, place: u8, serial: u64, wanted: &[(u64, u8)]) -> bool {
     if log.answers.len() != wanted.len() {
         return false;
     }
@@ -48,7 +45,25 @@ fn has_answers(outcome: &Outcome, serial: u64, wanted: &[(u64, u8)]) -> bool {
         }
         index = index.saturating_add(1);
     }
-    log.place == 1 && log.serial == serial
+    log.place == place && log.serial == serial
+}
+
+/// The same of the only place.
+fn has_answers(outcome: &Outcome, serial: u64, wanted: &[(u64, u8)]) -> bool {
+    match outcome.logs.as_slice() {
+        [log] => is_answered(log, 1, serial, wanted),
+        _ => false,
+    }
+}
+
+/// The same of two places.
+fn have_answers(outcome: &Outcome, first: (u64, &[(u64, u8)]), other: (u64, &[(u64, u8)])) -> bool {
+    match outcome.logs.as_slice() {
+        [later, log] => {
+            is_answered(log, 1, first.0, first.1) && is_answered(later, 2, other.0, other.1)
+        }
+        _ => false,
+    }
 }
 
 /// One of five changes finds the store full, and has no entry.
@@ -99,6 +114,43 @@ fn each_change_of_a_job_has_its_own_answer(rt: HostRuntime) -> Result<(), Fail> 
     assert!(rt; has_answers(&outcome, 14, &TOGETHER));
     assert!(rt; has_totals(&outcome, 14, 1, 14) && is_settled(&outcome, 14));
     Ok(())
+}
+
+/// A place that takes one answer of many holds up no other. Once its line is handed on, those that it left are not the answer to a later
+/// change.
+#[test]
+fn answers_that_are_not_taken_hold_up_no_other(rt: HostRuntime) -> Result<(), Fail> {
+    let setup = Setup {
+        alloc: rt.alloc(),
+        limit: 3,
+        places: 2,
+        script: Script::Unread,
+        writing: Writing::All,
+    };
+    let outcome = run(rt, setup)?;
+    assert!(rt; have_answers(&outcome, (65, &[(1, 0), (66, 0)]), (1, &[(65, 0)])));
+    assert!(rt; has_totals(&outcome, 66, 0, 66) && is_settled(&outcome, 66));
+    Ok(())
+}
+
+/// A line is handed on though the writer is gone and answered nothing.
+#[test]
+fn a_line_is_handed_on_without_a_writer(rt: HostRuntime) -> Result<(), Fail> {
+    let setup = Setup {
+        alloc: rt.alloc(),
+        limit: 3,
+        places: 2,
+        script: Script::Unread,
+        writing: Writing::Never,
+    };
+    for _ in 0..TRIES {
+        let outcome = run(rt, setup)?;
+        if have_answers(&outcome, (65, &[(0, 42), (0, 44)]), (1, &[(0, 44)])) {
+            return Ok(());
+        }
+        assert!(rt; have_answers(&outcome, (2, &[(0, 44), (0, 44)]), (1, &[(0, 44)])));
+    }
+    Err(Fail::from("no job was sent before the queue was dropped"))
 }
 
 /// A submit that the queue holds when it is dropped is told that its entry may come, and one that finds no queue that it was not sent.

@@ -11,6 +11,9 @@ use std::alloc::Global;
 /// How many Sets a place of `Hundred` and of `Beside` submits.
 pub(crate) const SETS: u32 = 100;
 
+/// How many changes the first place of `Unread` announces, and the first of the steps that say which.
+const UNREAD: (u32, u32) = (64, 10);
+
 /// How often a place of `Beside` reads meanwhile.
 const READS: u32 = 500;
 
@@ -43,6 +46,9 @@ pub(crate) enum Script {
     Two,
     /// Changes that are announced, and sent three at a time.
     Together,
+    /// The first place announces as many changes as a job carries, and submits one of them. Then the other submits one. Then the first
+    /// hands its line on, and submits one more.
+    Unread,
     /// Sets of the place's own topic, with their numbers. Then the places meet, and read.
     Hundred,
     /// The last place submits the largest entry, and reads it.
@@ -62,6 +68,7 @@ impl Script {
             Script::Changes => 5,
             Script::Together => 17,
             Script::Two | Script::Largest => 2,
+            Script::Unread => 7,
             Script::Hundred => 102,
             Script::Beside => 502,
             Script::Rounds => 7,
@@ -74,6 +81,7 @@ impl Script {
         match self {
             Script::Changes | Script::Two => change_at(step),
             Script::Together => act_together(step),
+            Script::Unread => act_unread(place, step),
             Script::Hundred => act_of_hundred(place, step),
             Script::Largest if place < MAX_PLACES => Act::Nothing,
             Script::Largest if step == 0 => Act::Largest,
@@ -128,6 +136,21 @@ fn act_together(step: u32) -> Act {
         13 => Act::HandOn,
         15 => Act::Clear(*b"d0"),
         _ => Act::Clear(*b"f0"),
+    }
+}
+
+/// From the step that is announced first on, the steps say what is announced, and none is taken.
+fn act_unread(place: u8, step: u32) -> Act {
+    let (count, first) = UNREAD;
+    match (place, step) {
+        (_, 2) => Act::Meet(1),
+        (_, 4) => Act::Meet(2),
+        (1, 0) => Act::Expect(first, count),
+        (1, 1) => set(*b"a0", pair(0, first)),
+        (1, 5) => Act::HandOn,
+        (1, 3) | (2, 0 | 1 | 5 | 6) => Act::Nothing,
+        (2, _) => set(*b"b0", *b"00"),
+        _ => set(*b"a0", pair(0, step)),
     }
 }
 
