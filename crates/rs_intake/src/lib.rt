@@ -9,7 +9,8 @@
 //! [`SeatLine::close`] ends a line. When all lines and the writer have ended, [`settle`] says whether all that was sent was taken.
 //! A type that implements [`LineName`] ties all of these to one store and one queue, and [`BlankQueue::open`] makes them.
 //!
-//! Not promised: that a submit or the writer's loop returns, since both wait; an order between places; that memory is there.
+//! Not promised: that a submit, the writer's loop, or a line that is handed on or closed returns, since these wait; an order between
+//! places; that memory is there.
 #![tactic(auto)]
 
 mod blank;

@@ -49,7 +49,8 @@ impl<N: LineName, R: Wait + Copy> Model for SharedGate<N, R> {
 
 impl<N: LineName, R: Wait + Copy> SharedGate<N, R> {
     /// A gate that knows what the seat knows, and goes on with the line's place and serial, as if the line were handed on
-    /// ([`hand_on`](SharedGate::hand_on)). Any seat of the store will do: a seat has no place.
+    /// ([`hand_on`](SharedGate::hand_on)). Any seat of the store will do: a seat has no place. It waits for the writer only if something
+    /// is ahead of the line.
     pub fn new(rt: R, intake: Arc<Intake<N>>, seat: Seat<N>, line: SeatLine<N>) -> SharedGate<N, R>
         ensures gate { result ≡ handed_on seat line }
         ensures legal { IsLegal N.limit result.known }
