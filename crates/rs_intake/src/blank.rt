@@ -89,7 +89,8 @@ fn line<N: LineName>(
 }
 
 impl BlankQueue {
-    /// The lines of the places from 1 on, which have sent nothing, and the writer's end, under a name that names this queue.
+    /// The way to the writer, the lines of the places from 1 on, which have sent nothing, and the writer's end of the queue, under a name
+    /// that names this queue.
     ///
     /// # Errors
     ///

@@ -1,4 +1,4 @@
-//! Why the writer's loop ended.
+//! The end of the writer's loop.
 
 use crate::waiting::Gone;
 

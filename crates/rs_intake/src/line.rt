@@ -32,7 +32,7 @@ use std::marker::{Model, PhantomData};
 use std::mem;
 use std::sync::Wait;
 
-/// The queue's end of a line that has not ended: its place, and what the queue took from it.
+/// The sending half of a line that was not closed: its place, and what the queue took from it.
 #[derive(Drop)]
 pub struct OpenLine<N: LineName> {
     place: u8,
@@ -211,8 +211,8 @@ fn copies(alloc: Global, entries: &Vec<Entry>) -> Option<Vec<Entry>>
     Some(copies)
 }
 
-/// What is expected, as one job, if this is the first entry of it; and a copy of its entries. `None` if it is not, or if memory is
-/// refused.
+/// What is expected, as one job, and a copy of its entries. `None` if this is not the first of them, no serials are left for all, or
+/// memory is refused.
 fn prepared(
     alloc: Global,
     place: u8,

@@ -66,9 +66,9 @@ fn reply_to_next<N: LineName, R: Wait + Drop>(
     reply
 }
 
-/// Puts the first of the changes that are left of a job, one after the other, and makes a reply to each: so many as `count` says.
-/// `has_held` is whether a change before them is held, and then whether one of them is. What is passed has the capacity for the
-/// replies. The result is also how many changes are refused.
+/// Puts the first `count` of the changes that are left of a job, one after the other, and makes a reply to each. `has_held` is whether a
+/// change of the job is held, before and after. `reserved` has the capacity for the replies. The result is also how many changes are
+/// refused.
 fn reply_to_first<N: LineName, R: Wait + Drop>(
     writer: &mut VersionWriter<N, R>,
     rest: &mut VecDeque<Entry>,
@@ -101,7 +101,7 @@ fn reply_to_first<N: LineName, R: Wait + Drop>(
     (replies, refused)
 }
 
-/// Puts the next changes of a job: so many, or all that are left. If there is no memory for the replies, nothing is put, and each change
+/// Puts the next `at_once` changes of a job, or all that are left. If there is no memory for the replies, nothing is put, and each change
 /// that is left is told that.
 fn next_replies<N: LineName, R: Wait + Drop>(
     alloc: Global,
@@ -142,8 +142,8 @@ fn send_next<N: LineName, W: Wait>(
     }
 }
 
-/// Puts the changes of a job, and sends the replies to them, so many in one message. If memory is refused, the last one has all that are
-/// left.
+/// Puts the changes of a job, and sends `at_once` replies in each message. If memory for the replies of one is refused, it refuses all
+/// changes that are left, and is the last.
 fn put_and_send<N: LineName, R: Wait + Drop, W: Wait>(
     rt: &W,
     alloc: Global,
@@ -185,7 +185,7 @@ impl<N: LineName> WaysBack<N> {
         WaysBack { alloc, senders }
     }
 
-    /// Puts the changes of a job, one after the other, tells their line the answers, so many in one message, and tells no line anything
+    /// Puts the changes of a job, one after the other, tells their line the answers, `at_once` in each message, and tells no line anything
     /// else. The result is how many changes are refused, and whether a send of replies failed. It does, if the line is gone.
     pub(crate) fn put_job<R: Wait + Drop, W: Wait>(
         &mut self,

@@ -21,15 +21,15 @@ pub struct Gone {
 /// that sleeps costs more than a put.
 pub const WRITER_LOOKS: u32 = 1024;
 
-/// How often a receive of a line looks. It takes some ten microseconds, in which the writer makes several puts. There are many lines: if
-/// they looked longer, those that wait would take processors from the writer.
+/// How often a receive of a line looks. It takes some ten to twenty microseconds, in which the writer makes several puts. There are many
+/// lines: if they looked longer, those that wait would take processors from the writer.
 pub const LINE_LOOKS: u32 = 256;
 
-/// After so many receives in a row that looked in vain, the next ones sleep at once.
+/// After so many receives that looked in vain, the next ones look once and then sleep, until one finds its message at a later look.
 const MOST_IN_VAIN: u32 = 2;
 
-/// From then on one of so many receives looks, to see whether a processor has become free for the other thread. So looking costs
-/// little where it is of no use, as on one processor.
+/// One of so many of these looks as often as the first ones, to see whether a processor is free again for the other thread. So looking
+/// costs little where it is of no use, as on one processor.
 const RECEIVES_TO_LOOK: u32 = 128;
 
 /// How the receives at one end of a channel wait: how often one looks at most, and whether those before found by looking what they waited

@@ -145,8 +145,7 @@ pub fn run_writer<N: LineName, R: Wait + Drop, W: Wait>(
     run_writer_for(rt, queue, writer, u64::MAX)
 }
 
-/// The same, until at least so many entries were taken, and with at most so many jobs. Then the queue is dropped, and with it the jobs
-/// that wait there.
+/// The same, but it ends once at least `most` entries were taken, too. Then the queue is dropped, and with it the jobs that wait there.
 pub fn run_writer_for<N: LineName, R: Wait + Drop, W: Wait>(
     rt: &W,
     queue: Queue<N>,

@@ -76,7 +76,7 @@ fn serve_connection<T: Turn + Drop, N: LineName, H: Wait + Copy>(
 }
 
 /// Serves the connections of a turn at the gate's place, one after the other, each by [`serve_place`], gives each back to the turn, and
-/// closes the gate. They are numbered from 1, and the greatest u64 is repeated. The contract says that all connections that waited
+/// closes the gate. They are numbered from 1; a number that is `u64::MAX` stays. The contract says that all connections that waited
 /// were served so, each from what the one before left, over its own bytes and at its own times, and that the turn was told how
 /// each ended.
 pub fn serve_turns<T: Turn + Drop, N: LineName, H: Wait + Copy>(
@@ -119,8 +119,8 @@ impl<T: Turn + Drop, N: LineName, H: Wait + Copy> Promise<PlaceEnd<N, T>> for Se
 /// A place's thread, which gives what is left of the place.
 type PlaceThread<T, N, H> = PromisedHandle<PlaceEnd<N, T>, ServesOver<T, N, H>>;
 
-/// Starts a place's thread. If it cannot be started, and the place may be served `here`, this thread serves it, and `Err` has what is
-/// left of it. If it may not, it is dropped with its turn and its gate.
+/// Starts a place's thread. If that fails and `here` is true, this thread serves the place, and `Err` has what is left of it. If `here` is
+/// false, the turn and the gate are dropped.
 fn start_place<
     T: Turn + Send + Drop + 'static,
     N: LineName + Send + Sync + 'static,

@@ -20,9 +20,9 @@ use std::sync::Wait;
 /// - Each filter was answered from a legal list (`legal`), of which every list before is a prefix, the one that the seat knew
 ///   first too. All of them are prefixes of the list that the seat knows after the call (`lists`).
 /// - A retained publication that the client was told is stored stands once in every later list (`stored`).
-/// - What the exchanges of the session sent are the client's retained publications, in their order, each at most once, and each that the
-///   client was told is stored (`publications`). If the gate expected nothing before, the gate's line sent beyond that at most publications
-///   that the bytes hold behind the last one that it handled, or that one, if it sent nothing and ended the session (`tail`).
+/// - The exchanges of the session sent the client's retained publications, in their order, each at most once, and each that the client was
+///   told is stored (`publications`). If the gate expected nothing before, its line sent at most a tail beyond that (`tail_is`): publications
+///   that the bytes hold behind the last packet that was handled, or that one, if it sent nothing and ended the session.
 /// - The replay sends what the filters were answered, in order, each message once (`sent`).
 ///
 /// # Errors

@@ -39,7 +39,7 @@ pub fn all_known<N: LineName, T: Turn + Drop, R: Wait + Drop>(
     true
 }
 
-/// Appends to what has the capacity.
+/// Appends an item. The caller has reserved the capacity for it.
 pub(crate) fn push_reserved<X: Drop>(items: &mut Vec<X>, item: X)
     requires { length items.old.items < vec_capacity items.old }
     ensures items { items.new.items ≡ items.old.items ++ item ∷ [] }
@@ -50,7 +50,8 @@ pub(crate) fn push_reserved<X: Drop>(items: &mut Vec<X>, item: X)
     };
 }
 
-/// The lines and the turns, in their order. What is passed has the capacity for them, so that no memory is needed.
+/// The lines and the turns of the ends, in their order. `lines` and `turns` are empty and have the capacity for all, so this takes no
+/// memory.
 fn parted<N: LineName, T: Turn + Drop>(
     ends: Vec<PlaceEnd<N, T>>,
     lines: Vec<LineEnd<N>>,
@@ -75,7 +76,7 @@ fn parted<N: LineName, T: Turn + Drop>(
     (lines, turns)
 }
 
-/// Settles, once all places and the writer have ended. What is passed has the capacity for the lines and the turns.
+/// Settles, once all places and the writer have ended. `lines` and `turns` are empty and have the capacity for all.
 pub(crate) fn settled<N: LineName, T: Turn + Drop, R: Wait + Drop>(
     end: PlacesEnd<N, T>,
     ended: Ended<N, R>,

@@ -148,8 +148,8 @@ impl<N: LineName, R: Wait + Copy> Gate for SharedGate<N, R> {
     }
 
     /// Hands the change to the writer and waits for the receipt. The seat learns its token before `Ok` is answered. Beside what each
-    /// gate promises, the line sent at most this change, under the next serial, and at `Ok` it did; or another change was expected
-    /// first, and nothing was done.
+    /// gate promises, the line sent at most this change, under the next serial, and at `Ok` it did; or another change was sent ahead,
+    /// and then nothing is done, and the answer is `Strange`.
     fn submit(&mut self, operation: Operation) -> Result<(), SubmitFault>
         requires { is_sweep operation ≡ false }
         ensures list { Grows (Knows N.limit self.old) (Knows N.limit self.new) (Submits operation self.old.mark self.new.mark result) }

@@ -313,8 +313,8 @@ fn refused<H: Wait + Threads + Copy + Send + Sync + 'static>(
 }
 
 /// Submits new topics to four stores: to the first one by one, and none after one whose entry is held; to the second all of them one by
-/// one; to the third all of them, three in a job; to the fourth twelve in a job, whose replies are two messages if the writer waited for
-/// it. Returns how often memory was refused in all, in the order of [`refused`].
+/// one; to the third all of them, three in a job; to the fourth all in one job, whose replies are two messages if the writer waited for it.
+/// Returns how often memory was refused in all, in the order of [`refused`].
 pub fn work<H: Wait + Threads + Copy + Send + Sync + 'static>(
     rt: &H,
     alloc: Global,
@@ -337,8 +337,8 @@ pub fn work<H: Wait + Threads + Copy + Send + Sync + 'static>(
             ends_at_held: false,
         },
         Plan {
-            groups: rounds / 12,
-            size: 12,
+            groups: 1,
+            size: rounds,
             ends_at_held: false,
         },
     ];
