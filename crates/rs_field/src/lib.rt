@@ -5,7 +5,7 @@
 //! what is left has no meaning. A writer appends to a `Vec`.
 //!
 //! Promised by contracts: a reader gives the field, or the first fault from left to right, exactly as the definition that its
-//! contract names says; only out of memory comes in place of these answers. `read_properties` accepts a property if its packet
+//! contract names says; only out of memory comes instead of these answers. `read_properties` accepts a property if its packet
 //! may have it and its value is in range, and accepts only User Properties more than once. A writer appends just the bytes of
 //! the form, and a length is their number. Copies of `Properties` are equal, and share their values; `==` goes field by field. A
 //! `SubscriptionId` is never 0 and always has a form of at most four bytes.

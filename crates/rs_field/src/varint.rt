@@ -105,7 +105,8 @@ pub fn read_varint(rest: &mut Bytes) -> Result<u32, PacketFault>
     Ok(n)
 }
 
-/// The number of bytes of a variable byte integer (1.5.5), from 1 to 4. `n` is at most [`MAX_REMAINING_LENGTH`](crate::MAX_REMAINING_LENGTH).
+/// The number of bytes of a variable byte integer (1.5.5), from 1 to 4. `n` is at most
+/// [`MAX_REMAINING_LENGTH`](crate::MAX_REMAINING_LENGTH).
 #[tactic(auto, unfolding(crate::specs::Forms::low_first))]
 pub fn varint_len(n: usize) -> usize
     requires { n < varint_end }

@@ -14,9 +14,9 @@ use Rattle.rs_intake.specs.Done.{Answer, AreAnswered, AreDone, AreRefusedBehind,
 use Rattle.rs_intake.specs.Parts.{IsPart}
 use Rattle.rs_intake.specs.declared.waiting.Gone.{Gone}
 use Rattle.rs_intake.specs.Sending.{AreToPut, ArePut, AreSent, AreSentNext}
-use Rattle.rs_intake.specs.Sweeps.{AreForEntries, IsSweptAtMost, Serves, without_sweeps}
+use Rattle.rs_intake.specs.Sweeps.{AreForEntries, IsSweptAtMost, IsKeptFrom, without_sweeps}
 use Rattle.rs_intake.proofs.Parts.{part_front, part_rises}
-use Rattle.rs_intake.proofs.Sweeps.{entry_rises, adds_kept, held_kept, no_memory_kept, serves_entry, serves_refused, serves_start, released_kept, without_cleaned, without_more}
+use Rattle.rs_intake.proofs.Sweeps.{entry_rises, adds_kept, held_kept, no_memory_kept, kept_from_entry, kept_from_refused, kept_from_start, released_kept, without_cleaned, without_more}
 
 -- ---- a put
 
@@ -138,16 +138,16 @@ written_same limit entries entries' kept kept' same alike w =
 -- ---- what follows for the kept list
 
 -- the entries are served, and what is kept of them and what is refused are all
-abbrev pub AreServed : ℕ → List Entry → ℕ → List Entry → ℕ → Type 0
-AreServed limit entries refused kept all = Serves limit entries kept × (length (without_sweeps kept) + refused ≡ all)
+abbrev pub AreKeptFrom : ℕ → List Entry → ℕ → List Entry → ℕ → Type 0
+AreKeptFrom limit entries refused kept all = IsKeptFrom limit entries kept × (length (without_sweeps kept) + refused ≡ all)
 
-one_served : (limit : ℕ) (entries kept : List Entry) (entry : Entry) (answer : Answer) (kept' : List Entry) → Serves limit entries kept → is_sweep entry.operation ≡ false → IsDone limit kept entry answer kept'
-    → AreServed limit (entries ++ entry ∷ []) (refused_in (answer ∷ [])) kept' (length (without_sweeps kept) + 1)
-one_served limit entries kept entry answer kept' s plain is = go (is_refused answer) refl
+one_kept_from : (limit : ℕ) (entries kept : List Entry) (entry : Entry) (answer : Answer) (kept' : List Entry) → IsKeptFrom limit entries kept → is_sweep entry.operation ≡ false → IsDone limit kept entry answer kept'
+    → AreKeptFrom limit (entries ++ entry ∷ []) (refused_in (answer ∷ [])) kept' (length (without_sweeps kept) + 1)
+one_kept_from limit entries kept entry answer kept' s plain is = go (is_refused answer) refl
   where
-    go : (b : Bool) → is_refused answer ≡ b → AreServed limit (entries ++ entry ∷ []) (length (cond b (answer ∷ []) [])) kept' (length (without_sweeps kept) + 1)
-    go false stays = let o = serves_entry limit entries kept kept' entry s plain (adds_if_done limit kept entry answer kept' is stays) in (o.0, (let n = o.1 in omega (arith, n)))
-    go true goes = let o = serves_refused limit entries kept kept' entry s (swept_if_done limit kept entry answer kept' is goes) in (o.0, (let n = o.1 in omega (arith, n)))
+    go : (b : Bool) → is_refused answer ≡ b → AreKeptFrom limit (entries ++ entry ∷ []) (length (cond b (answer ∷ []) [])) kept' (length (without_sweeps kept) + 1)
+    go false stays = let o = kept_from_entry limit entries kept kept' entry s plain (adds_if_done limit kept entry answer kept' is stays) in (o.0, (let n = o.1 in omega (arith, n)))
+    go true goes = let o = kept_from_refused limit entries kept kept' entry s (swept_if_done limit kept entry answer kept' is goes) in (o.0, (let n = o.1 in omega (arith, n)))
 
 refused_more : (answer : Answer) (answers : List Answer) → refused_in (answer ∷ answers) ≡ refused_in (answer ∷ []) + refused_in answers
 refused_more answer answers = go (is_refused answer)
@@ -161,19 +161,19 @@ all_plain [] plain k d lt = absurd (omega (arith, lt))
 all_plain (entry ∷ entries) plain zero d lt = plain.0
 all_plain (entry ∷ entries) plain (suc k) d lt = all_plain entries plain.1 k d (omega (arith, lt))
 
-pub all_served : (limit : ℕ) (before entries : List Entry) (answers : List Answer) (kept kept' : List Entry) → Serves limit before kept → All (λ e. is_sweep e.operation ≡ false) entries → AreDone limit kept entries answers kept'
-    → AreServed limit (before ++ entries) (refused_in answers) kept' (length (without_sweeps kept) + length entries)
-all_served limit before [] [] kept kept' s plain are =
-    let P : List Entry → Type 0 = λ l. AreServed limit l 0 kept' (length (without_sweeps kept) + 0) in
-    let Q : List Entry → Type 0 = λ l. AreServed limit before 0 l (length (without_sweeps kept) + 0) in
+pub all_kept_from : (limit : ℕ) (before entries : List Entry) (answers : List Answer) (kept kept' : List Entry) → IsKeptFrom limit before kept → All (λ e. is_sweep e.operation ≡ false) entries → AreDone limit kept entries answers kept'
+    → AreKeptFrom limit (before ++ entries) (refused_in answers) kept' (length (without_sweeps kept) + length entries)
+all_kept_from limit before [] [] kept kept' s plain are =
+    let P : List Entry → Type 0 = λ l. AreKeptFrom limit l 0 kept' (length (without_sweeps kept) + 0) in
+    let Q : List Entry → Type 0 = λ l. AreKeptFrom limit before 0 l (length (without_sweeps kept) + 0) in
     subst P (sym (append-nil before)) (subst Q (sym are) (s, refl))
-all_served limit before [] (answer ∷ answers) kept kept' s plain are = absurd are
-all_served limit before (entry ∷ entries) [] kept kept' s plain are = absurd are
-all_served limit before (entry ∷ entries) (answer ∷ answers) kept kept' s plain are =
+all_kept_from limit before [] (answer ∷ answers) kept kept' s plain are = absurd are
+all_kept_from limit before (entry ∷ entries) [] kept kept' s plain are = absurd are
+all_kept_from limit before (entry ∷ entries) (answer ∷ answers) kept kept' s plain are =
     let next = are.0 in
-    let one = one_served limit before kept entry answer next s (plain 0 entry (omega arith)) are.1 in
-    let rest = all_served limit (before ++ entry ∷ []) entries answers next kept' one.0 (λ k d lt. plain (suc k) d (omega (arith, lt))) are.2 in
-    let P : List Entry → Type 0 = λ l. Serves limit l kept' in (
+    let one = one_kept_from limit before kept entry answer next s (plain 0 entry (omega arith)) are.1 in
+    let rest = all_kept_from limit (before ++ entry ∷ []) entries answers next kept' one.0 (λ k d lt. plain (suc k) d (omega (arith, lt))) are.2 in
+    let P : List Entry → Type 0 = λ l. IsKeptFrom limit l kept' in (
       subst P (append_assoc before (entry ∷ []) entries) rest.0,
       (let n = one.1 in let m = rest.1 in let r = refused_more answer answers in omega (arith, n, m, r)),
     )
@@ -181,7 +181,7 @@ all_served limit before (entry ∷ entries) (answer ∷ answers) kept kept' s pl
 pub kept_as_answered : (limit : ℕ) (entries kept : List Entry) (answers : List Answer) → All (λ e. is_sweep e.operation ≡ false) entries → AreDone limit [] entries answers kept
     → IsPart (without_sweeps kept) entries × (length (without_sweeps kept) + refused_in answers ≡ length entries) × AreForEntries limit entries kept
 kept_as_answered limit entries kept answers plain are =
-    let all = all_served limit [] entries answers [] kept (serves_start limit [] [] refl refl) plain are in
+    let all = all_kept_from limit [] entries answers [] kept (kept_from_start limit [] [] refl refl) plain are in
     (all.0.part, all.1 ∙ zero-add (length entries), all.0.sweeps)
 
 -- ---- the changes of one job
@@ -310,16 +310,16 @@ left_none limit kept rest left none l =
     subst P (sym none) (
     record {
       entries = l.entries;
-      serves = l.serves;
+      kept_from = l.kept_from;
       rise = subst Q (sym (append-nil l.entries)) (part_rises l.entries (l.entries ++ rest) (part_front l.entries rest) l.rise);
       plain = tt;
       above = tt;
     }
     )
 
-pub left_all : (limit : ℕ) (kept entries changes : List Entry) → Serves limit entries kept → SerialsRise (entries ++ changes) → AreChanges changes → AreToPut limit kept changes
-left_all limit kept entries changes serves rise are =
-    record { entries = entries; serves = serves; rise = rise; plain = are.plain; above = above_all (place_of_all changes) changes are.above are.place }
+pub left_all : (limit : ℕ) (kept entries changes : List Entry) → IsKeptFrom limit entries kept → SerialsRise (entries ++ changes) → AreChanges changes → AreToPut limit kept changes
+left_all limit kept entries changes kept_from rise are =
+    record { entries = entries; kept_from = kept_from; rise = rise; plain = are.plain; above = above_all (place_of_all changes) changes are.above are.place }
 
 left_first : (limit : ℕ) (kept rest left : List Entry) (entry : Entry) → rest ≡ entry ∷ left → AreToPut limit kept rest → AreToPut limit kept (entry ∷ left)
 left_first limit kept rest left entry first l = let P : List Entry → Type 0 = λ r. AreToPut limit kept r in subst P first l
@@ -332,7 +332,7 @@ left_rises limit kept rest left entry first serial l =
     let f = left_first limit kept rest left entry first l in
     let P : List Entry → Type 0 = λ r. SerialsRise r in
     let all : SerialsRise ((f.entries ++ entry ∷ []) ++ left) = subst P (sym (append_assoc f.entries (entry ∷ []) left)) f.rise in
-    entry_rises limit f.entries kept entry f.serves f.above.0 serial (part_rises (f.entries ++ entry ∷ []) ((f.entries ++ entry ∷ []) ++ left) (part_front (f.entries ++ entry ∷ []) left) all)
+    entry_rises limit f.entries kept entry f.kept_from f.above.0 serial (part_rises (f.entries ++ entry ∷ []) ((f.entries ++ entry ∷ []) ++ left) (part_front (f.entries ++ entry ∷ []) left) all)
 
 pub left_less : (limit : ℕ) (kept rest left : List Entry) (entry : Entry) (answer : Answer) (kept' : List Entry) → rest ≡ entry ∷ left → IsDone limit kept entry answer kept' → AreToPut limit kept rest → AreToPut limit kept' left
 left_less limit kept rest left entry answer kept' first is l =
@@ -340,7 +340,7 @@ left_less limit kept rest left entry answer kept' first is l =
     let P : List Entry → Type 0 = λ r. SerialsRise r in
     record {
       entries = f.entries ++ entry ∷ [];
-      serves = (one_served limit f.entries kept entry answer kept' f.serves f.plain.0 is).0;
+      kept_from = (one_kept_from limit f.entries kept entry answer kept' f.kept_from f.plain.0 is).0;
       rise = subst P (sym (append_assoc f.entries (entry ∷ []) left)) f.rise;
       plain = f.plain.1;
       above = f.above.1;
@@ -416,7 +416,7 @@ sent_more replies sent more (Err g) (Ok y) first told told' is all next some = a
 
 -- what the writer's loop knows of what it took, kept and refused
 pub record AreTold (limit : ℕ) (entries kept : List Entry) (taken refused : ℕ) : Type 0 where
-  pub serves : Serves limit entries kept
+  pub kept_from : IsKeptFrom limit entries kept
   pub number : taken ≡ length entries
   pub sum : length (without_sweeps kept) + refused ≡ taken
   pub written : IsWritten limit entries kept
@@ -425,8 +425,8 @@ pub record AreTold (limit : ℕ) (entries kept : List Entry) (taken refused : �
 pub told_more : (limit : ℕ) (entries entries' changes : List Entry) (replies : List ReplyValue) (w w' : Written) (taken refused count : ℕ) → entries' ≡ entries ++ changes → ArePlain changes
     → AreTold limit entries (kept_of w) taken refused → AreReplied limit w changes replies count w' → AreTold limit entries' (kept_of w') (taken + length changes) (refused + count)
 told_more limit entries entries' changes replies w w' taken refused count more plain t r =
-    let all = all_served limit entries changes r.answers (kept_of w) (kept_of w') t.serves (all_plain changes plain) r.done in
-    let P : List Entry → Type 0 = λ l. Serves limit l (kept_of w') in
+    let all = all_kept_from limit entries changes r.answers (kept_of w) (kept_of w') t.kept_from (all_plain changes plain) r.done in
+    let P : List Entry → Type 0 = λ l. IsKeptFrom limit l (kept_of w') in
     let n = length-append entries changes in
     let m = ap length more in
     let number = t.number in
@@ -434,7 +434,7 @@ told_more limit entries entries' changes replies w w' taken refused count more p
     let rest = all.1 in
     let refusals = r.refused_are in
     record {
-      serves = subst P (sym more) all.0;
+      kept_from = subst P (sym more) all.0;
       number = omega (arith, n, m, number);
       sum = omega (arith, sum, rest, refusals);
       written = written_all limit entries entries' (kept_of w) changes r.answers (kept_of w') more plain t.written r.done;

@@ -3,7 +3,7 @@ use Rattle.std.proofs.Common.{◌≡◌, ◌==◌, ℕ, zero, suc, ◌+◌, ◌<
 use Rattle.std.specs.List.{AllByRecursion}
 use Rattle.rs_message.specs.declared.entry.Entry.{Entry}
 use Rattle.rs_intake.specs.Changes.{place_of_all}
-use Rattle.rs_intake.specs.Ending.{HaveEnded, IsCause}
+use Rattle.rs_intake.specs.Causes.{HaveEnded, IsCause}
 use Rattle.rs_intake.specs.Lines.{Received}
 use Rattle.rs_intake.specs.QueueRule.{AreEnds, IsOutside, at_place}
 use Rattle.rs_intake.specs.declared.ending.Cause.{Cause}

@@ -14,7 +14,7 @@ use Rattle.rs_store.proofs.Needed.{all_needed, needed_cleaned, needed_more, need
 use Rattle.rs_version.specs.Writer.{Refuses, Written, kept_of, released, shows}
 use Rattle.rs_version.specs.declared.fault.PutFault.TheVariants.{Held, NoMemory}
 use Rattle.rs_intake.specs.Parts.{IsPart}
-use Rattle.rs_intake.specs.Sweeps.{AreForEntries, IsSweptAtMost, Serves, without_sweeps}
+use Rattle.rs_intake.specs.Sweeps.{AreForEntries, IsSweptAtMost, IsKeptFrom, without_sweeps}
 use Rattle.rs_intake.proofs.Parts.{part_both, part_rises, part_skip, rises_none}
 
 -- ---- without the Sweeps
@@ -68,7 +68,7 @@ sweeps_cleaned : (limit : ℕ) (entries kept : List Entry) (entry : Entry) → A
 sweeps_cleaned limit entries kept entry a s = record { needed = needed_cleaned limit (Contains (entries ++ entry ∷ [])) kept entry (last_entry entries entry) s (sweeps_more limit entries kept entry a).needed }
 
 -- an entry whose serial rises among the entries rises among what is kept
-pub entry_rises : (limit : ℕ) (entries kept : List Entry) (entry : Entry) → Serves limit entries kept → 0 < entry.origin.place → 0 < entry.origin.serial → SerialsRise (entries ++ entry ∷ []) → SerialsRise (extended kept entry)
+pub entry_rises : (limit : ℕ) (entries kept : List Entry) (entry : Entry) → IsKeptFrom limit entries kept → 0 < entry.origin.place → 0 < entry.origin.serial → SerialsRise (entries ++ entry ∷ []) → SerialsRise (extended kept entry)
 entry_rises limit entries kept entry s place serial rises =
     let part : SerialsRise (without_sweeps kept ++ entry ∷ []) = part_rises (without_sweeps kept ++ entry ∷ []) (entries ++ entry ∷ []) (part_both (without_sweeps kept) entries entry s.part) rises in
     let above : last_serial entry.origin.place (without_sweeps kept) < entry.origin.serial = last_is_above (without_sweeps kept) entry serial part in
@@ -90,10 +90,10 @@ part_same entries entries' kept kept' same alike is =
 
 -- what the entries serve, after one more
 abbrev pub OneMore : ℕ → List Entry → List Entry → List Entry → Type 0
-OneMore limit entries kept kept' = Serves limit entries kept' × (length (without_sweeps kept') ≡ length (without_sweeps kept) + 1)
+OneMore limit entries kept kept' = IsKeptFrom limit entries kept' × (length (without_sweeps kept') ≡ length (without_sweeps kept) + 1)
 
-pub serves_entry : (limit : ℕ) (entries kept kept' : List Entry) (entry : Entry) → Serves limit entries kept → is_sweep entry.operation ≡ false → Adds limit kept entry (λ list. kept' ≡ list) → OneMore limit (entries ++ entry ∷ []) kept kept'
-serves_entry limit entries kept kept' entry s plain (inl a) =
+pub kept_from_entry : (limit : ℕ) (entries kept kept' : List Entry) (entry : Entry) → IsKeptFrom limit entries kept → is_sweep entry.operation ≡ false → Adds limit kept entry (λ list. kept' ≡ list) → OneMore limit (entries ++ entry ∷ []) kept kept'
+kept_from_entry limit entries kept kept' entry s plain (inl a) =
     let without = without_more kept entry plain in
     let P : List Entry → Type 0 = λ l. OneMore limit (entries ++ entry ∷ []) kept l in
     let Q : List Entry → Type 0 = λ l. IsPart l (entries ++ entry ∷ []) in
@@ -105,7 +105,7 @@ serves_entry limit entries kept kept' entry s plain (inl a) =
       },
       ap length without ∙ length-append (without_sweeps kept) (entry ∷ []),
     )
-serves_entry limit entries kept kept' entry s plain (inr a) =
+kept_from_entry limit entries kept kept' entry s plain (inr a) =
     let clean = cleaned a.0.message.received kept in
     let without : without_sweeps (extended clean entry) ≡ without_sweeps kept ++ entry ∷ [] = without_more clean entry plain ∙ ap (λ l. l ++ entry ∷ []) (without_cleaned a.0.message.received kept) in
     let P : List Entry → Type 0 = λ l. OneMore limit (entries ++ entry ∷ []) kept l in
@@ -121,10 +121,10 @@ serves_entry limit entries kept kept' entry s plain (inr a) =
 
 -- and after one that is not kept
 abbrev pub NoMore : ℕ → List Entry → List Entry → List Entry → Type 0
-NoMore limit entries kept kept' = Serves limit entries kept' × (length (without_sweeps kept') ≡ length (without_sweeps kept))
+NoMore limit entries kept kept' = IsKeptFrom limit entries kept' × (length (without_sweeps kept') ≡ length (without_sweeps kept))
 
-pub serves_refused : (limit : ℕ) (entries kept kept' : List Entry) (entry : Entry) → Serves limit entries kept → IsSweptAtMost limit kept entry kept' → NoMore limit (entries ++ entry ∷ []) kept kept'
-serves_refused limit entries kept kept' entry s (inl same) =
+pub kept_from_refused : (limit : ℕ) (entries kept kept' : List Entry) (entry : Entry) → IsKeptFrom limit entries kept → IsSweptAtMost limit kept entry kept' → NoMore limit (entries ++ entry ∷ []) kept kept'
+kept_from_refused limit entries kept kept' entry s (inl same) =
     let P : List Entry → Type 0 = λ l. NoMore limit (entries ++ entry ∷ []) kept l in
     subst P (sym same) (
       record {
@@ -134,7 +134,7 @@ serves_refused limit entries kept kept' entry s (inl same) =
       },
       refl,
     )
-serves_refused limit entries kept kept' entry s (inr a) =
+kept_from_refused limit entries kept kept' entry s (inr a) =
     let m = a.0.message.received in
     let without = without_cleaned m kept in
     let clean : IsLegal limit (cleaned m kept) = legal_front limit (cleaned m kept) (extended (cleaned m kept) entry) (entry ∷ [], refl) a.0.legal in
@@ -149,11 +149,11 @@ serves_refused limit entries kept kept' entry s (inr a) =
       ap length without,
     )
 
-pub serves_start : (limit : ℕ) (entries kept : List Entry) → entries ≡ [] → kept ≡ [] → Serves limit entries kept
-serves_start limit entries kept no_jobs none =
-    let start : Serves limit [] [] = record { part = tt; sweeps = record { needed = needed_none limit (Contains []) }; rises = rises_none } in
-    let Q : List Entry → Type 0 = λ k. Serves limit entries k in
-    let R : List Entry → Type 0 = λ j. Serves limit j [] in
+pub kept_from_start : (limit : ℕ) (entries kept : List Entry) → entries ≡ [] → kept ≡ [] → IsKeptFrom limit entries kept
+kept_from_start limit entries kept no_jobs none =
+    let start : IsKeptFrom limit [] [] = record { part = tt; sweeps = record { needed = needed_none limit (Contains []) }; rises = rises_none } in
+    let Q : List Entry → Type 0 = λ k. IsKeptFrom limit entries k in
+    let R : List Entry → Type 0 = λ j. IsKeptFrom limit j [] in
     subst Q (sym none) (subst R (sym no_jobs) start)
 
 -- ---- what a put leaves

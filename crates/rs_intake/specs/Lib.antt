@@ -1,7 +1,7 @@
+pub mod Causes
 pub mod Changes
 pub mod Codes
 pub mod Done
-pub mod Ending
 pub mod Law
 pub mod Lines
 pub mod Names

@@ -7,14 +7,14 @@ use Rattle.rs_version.specs.Writer.{Written}
 use Rattle.rs_version.specs.declared.fault.PutFault.TheVariants.{NoMemory}
 use Rattle.rs_intake.specs.Changes.{ArePlain}
 use Rattle.rs_intake.specs.Done.{AreReplied, ReplyValue, has_held}
-use Rattle.rs_intake.specs.Sweeps.{Serves}
+use Rattle.rs_intake.specs.Sweeps.{IsKeptFrom}
 use Rattle.rs_intake.specs.declared.waiting.Gone.{Gone}
 
 -- The changes that are left of a job: they rise behind what was taken before them, from which this list came to be. None is a Sweep, and
 -- none is of the writer
 pub record AreToPut (limit : ℕ) (kept rest : List Entry) : Type 0 where
   pub entries : List Entry
-  pub serves : Serves limit entries kept
+  pub kept_from : IsKeptFrom limit entries kept
   pub rise : SerialsRise (entries ++ rest)
   pub plain : ArePlain rest
   pub above : AllByRecursion (λ (e : Entry). 0 < e.origin.place) rest

@@ -20,7 +20,7 @@ abbrev pub IsSweptAtMost : ℕ → List Entry → Entry → List Entry → Type 
 IsSweptAtMost limit history e list = (list ≡ history) ⊎ ((s : NeedsSweepAfter limit history e) × (list ≡ cleaned s.message.received history))
 
 -- what is kept against the entries that were taken
-pub record Serves (limit : ℕ) (entries kept : List Entry) : Type 0 where
+pub record IsKeptFrom (limit : ℕ) (entries kept : List Entry) : Type 0 where
   pub part : IsPart (without_sweeps kept) entries
   pub sweeps : AreForEntries limit entries kept
   pub rises : SerialsRise kept

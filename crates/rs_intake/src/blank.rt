@@ -15,7 +15,7 @@ use crate::reply::{ReplySender, way_back};
 use crate::rule::{JobReceiver, JobSender, PassView, QueueRule};
 use crate::steps::cut;
 use crate::taken::Taken;
-use crate::telling::WaysBack;
+use crate::ways_back::WaysBack;
 use crate::writer::Queue;
 use crossbeam_channel::{Pass, bounded_with};
 use rs_message::PlaceCount;

@@ -26,8 +26,8 @@ mod rule;
 mod settling;
 mod steps;
 mod taken;
-mod telling;
 mod waiting;
+mod ways_back;
 mod writer;
 
 pub use blank::{BlankQueue, blank_queue};

@@ -307,7 +307,7 @@ impl<N: LineName> SeatLine<N> {
         self.serial
     }
 
-    /// Says which changes come next, none a Sweep, in place of those that were announced before. It sends nothing and takes no memory. If
+    /// Says which changes come next, none a Sweep, instead of those that were announced before. It sends nothing and takes no memory. If
     /// something is ahead, or the changes are more than [`MAX_CHANGES`], none are expected.
     pub fn expect(&mut self, changes: Vec<Operation>)
         requires { All (λ o. is_sweep o ≡ false) changes.items }
@@ -379,7 +379,7 @@ impl<N: LineName> SeatLine<N> {
     }
 
     /// Whether the first of what is ahead is this entry. `None` if nothing is ahead.
-    fn is_ahead(&self, entry: &Entry) -> Option<bool>
+    fn is_first_ahead(&self, entry: &Entry) -> Option<bool>
         ensures { MatchOption result (self.now.ahead ≡ [])
             (λ is. (first : Entry) × (rest : List Entry) × (self.now.ahead ≡ first ∷ rest) × (first.origin ≡ record { place = self.now.place; serial = self.now.serial + 1 }) × Decides is (first ≡ entry.now)) }
     {
@@ -454,7 +454,7 @@ impl<N: LineName> SeatLine<N> {
         };
         let entry = Entry { origin, operation };
         self.send_expected(rt, &entry);
-        match self.is_ahead(&entry) {
+        match self.is_first_ahead(&entry) {
             Some(true) => {
                 self.submit_ahead(&entry);
                 Ok(entry)

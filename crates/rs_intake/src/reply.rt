@@ -176,9 +176,9 @@ impl<N: StoreName> Lesson<WriterReplies<N>, WayPass<N>> for Counting {
 }
 
 /// The line's pass, which is cut off the writer's.
-struct Ends;
+struct Halves;
 
-impl<N: StoreName> Split<WayPass<N>> for Ends {
+impl<N: StoreName> Split<WayPass<N>> for Halves {
     ghost use Rattle.rs_intake.specs.ReplyRule.{receiving_end, sending_end};
 
     ghost left = { sending_end };
@@ -240,7 +240,7 @@ pub fn way_back<N: StoreName>(
         alloc,
         MAX_MESSAGES,
     )?;
-    let other = to.another::<Ends>(&mut pass);
+    let other = to.another::<Halves>(&mut pass);
     Ok((
         ReplySender { to, pass },
         ReplyReceiver {

@@ -5,7 +5,7 @@ ghost use Rattle.std.specs.Option.{option_map};
 ghost use Rattle.crossbeam_channel.specs.Ends.{receives_on};
 ghost use Rattle.rs_version.specs.Writer.{kept_of};
 ghost use Rattle.rs_intake.specs.Done.{IsWritten};
-ghost use Rattle.rs_intake.specs.Ending.{IsCause};
+ghost use Rattle.rs_intake.specs.Causes.{IsCause};
 ghost use Rattle.rs_intake.specs.Names.{IsQueue};
 ghost use Rattle.rs_intake.specs.Parts.{IsPart};
 ghost use Rattle.rs_intake.specs.Settling.{AreOfPlaces};
@@ -19,8 +19,8 @@ use crate::name::LineName;
 use crate::reply::FEW_REPLIES;
 use crate::rule::JobReceiver;
 use crate::taken::Taken;
-use crate::telling::WaysBack;
 use crate::waiting::{Patience, WRITER_LOOKS};
+use crate::ways_back::WaysBack;
 use rs_message::Origin;
 use rs_version::VersionWriter;
 use std::sync::Wait;
@@ -29,22 +29,22 @@ use std::sync::Wait;
 #[derive(Drop)]
 pub struct Queue<N: LineName> {
     receiver: JobReceiver,
-    taken: Taken<N>,
+    received: Taken<N>,
     ways: WaysBack<N>,
     ghost queue: { IsQueue N.queue (receives_on receiver) },
-    ghost new: { (taken.entries ≡ []) × (taken.ends ≡ []) },
+    ghost new: { (received.entries ≡ []) × (received.ends ≡ []) },
     ghost lines: { length ways.senders.items ≡ N.places },
 }
 
 impl<N: LineName> Queue<N> {
-    pub(crate) fn new(receiver: JobReceiver, taken: Taken<N>, ways: WaysBack<N>) -> Queue<N>
+    pub(crate) fn new(receiver: JobReceiver, received: Taken<N>, ways: WaysBack<N>) -> Queue<N>
         requires queue { IsQueue N.queue (receives_on receiver) }
-        requires new { (taken.entries ≡ []) × (taken.ends ≡ []) }
+        requires new { (received.entries ≡ []) × (received.ends ≡ []) }
         requires lines { length ways.senders.items ≡ N.places }
     {
         Queue {
             receiver,
-            taken,
+            received,
             ways,
         }
     }
@@ -112,7 +112,7 @@ fn replies_at_once(patience: &Patience) -> usize
     }
 }
 
-/// Puts the changes of each job that it takes, one after the other, and tells the job's line what the writer answers. Behind a change
+/// Puts the changes of each job that it takes, one after the other, and sends the job's line what the writer answers. Behind a change
 /// that is held the others of its job are refused. It ends when ([`Cause`])
 ///
 /// - each place has ended,
@@ -164,7 +164,7 @@ pub fn run_writer_for<N: LineName, R: Wait + Drop, W: Wait>(
 {
     let Queue {
         receiver,
-        taken: mut received,
+        mut received,
         mut ways,
     } = queue;
     let mut writer = writer;

@@ -8,7 +8,7 @@
 //! takes, that a thread runs, or that a call returns.
 #![tactic(auto)]
 
-mod ending;
+mod close_reason;
 mod fault;
 mod opening;
 mod server;

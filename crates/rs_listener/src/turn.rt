@@ -3,7 +3,7 @@
 ghost use Rattle.rs_server.specs.Counts.{failures_of, inner_of};
 ghost use Rattle.rs_places.specs.Turns.{TakesBack, none_given};
 
-use crate::ending::Ending;
+use crate::close_reason::CloseReason;
 use log::{Log, info};
 use rs_places::{Connection, Turn};
 use rs_server::{Counted, ServeFault, Served};
@@ -137,14 +137,14 @@ impl<H: Clock + Log + Copy + Send> Turn for ListenTurn<H> {
         self.clock = clock;
         let (input, output) = (input.into_inner(), output.into_inner());
         let (read, written) = (input.count(), output.count());
-        let ending = Ending::new(served, input.is_unwritten());
-        if ending.is_failed() {
+        let reason = CloseReason::new(served, input.is_unwritten());
+        if reason.is_failed() {
             abandon(input, output);
         } else {
             // The client may have gone.
             let _ = close(&self.rt, input, output);
         }
         let time = self.clock.now(&self.rt);
-        info!(self.rt; target: "rstored", "{time} {id}: {ending}, {packets} packets, {read} bytes in, {written} bytes out");
+        info!(self.rt; target: "rstored", "{time} {id}: {reason}, {packets} packets, {read} bytes in, {written} bytes out");
     }
 }

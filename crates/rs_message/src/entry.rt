@@ -155,7 +155,7 @@ impl Eq for Found {
 /// An operation on a topic's retained message (3.3.1.3), or on all that are expired.
 #[derive(Debug, Drop, PartialEq, Eq)]
 pub enum Operation {
-    /// The message becomes the topic's retained message, in place of any other.
+    /// The message becomes the topic's retained message, instead of any other.
     Set(Found),
     /// The topic has no retained message from now on.
     Clear(TopicName),

@@ -5,7 +5,8 @@ ghost use Rattle.rs_message.specs.Codes.{code_of};
 
 use thiserror::Error;
 
-/// Why a gate to the store gave no receipt for a change. If memory was refused, the Sweep that the change needs may have been made all the same.
+/// Why a gate to the store gave no receipt for a change. If memory was refused, the Sweep that the change needs may have been made all
+/// the same.
 #[derive(Clone, Copy, Debug, PartialEq, Eq, Error)]
 pub enum SubmitFault {
     /// 40: the change was not made: one more topic would hold a message than the limit allows, and no Sweep makes space; or the store has

@@ -368,7 +368,7 @@ fn note_octets(bytes: &[u8])
 {}
 
 /// Decodes the packet that the bytes begin with: the packet and its size in bytes, or `More` if they are less than a packet.
-/// Err is the first fault from left to right (4.13), or `NoMemory`, which may come in place of any other answer. Nothing
+/// Err is the first fault from left to right (4.13), or `NoMemory`, which may come instead of any other answer. Nothing
 /// of a body is read before all of it is there, and no payload or string is copied.
 pub fn decode(alloc: Global, bytes: &Bytes) -> Result<Decoded, PacketFault>
     // What is decoded is a prefix of the bytes.

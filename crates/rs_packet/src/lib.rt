@@ -5,7 +5,7 @@
 //! of more than `MAX_PACKET_SIZE` bytes is read, and texts and payloads that were read share the bytes that they were read from.
 //!
 //! Promised by contracts: `decode` answers a packet exactly if a prefix of the bytes encodes one by the grammar of the standard, and
-//! the first fault from left to right if there is one; only out of memory may come in place of these answers. A fault stays, whatever
+//! the first fault from left to right if there is one; only out of memory may come instead of these answers. A fault stays, whatever
 //! bytes follow, and at most one prefix of some bytes encodes a packet (`one_reading`). `encode` gives the one encoding of a reply;
 //! the encodings are prefix-free, and none is of two replies (`wire_law`). `publish_len` says how long a PUBLISH is before it is
 //! made. docs/WIRE.md has the rules in words.

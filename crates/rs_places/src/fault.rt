@@ -1,4 +1,4 @@
-//! Why a store is not run.
+//! The fault of `run_store`.
 
 use std::alloc::AllocError;
 use thiserror::Error;

@@ -52,7 +52,7 @@ pub(crate) fn push_reserved<X: Drop>(items: &mut Vec<X>, item: X)
 
 /// The lines and the turns of the ends, in their order. `lines` and `turns` are empty and have the capacity for all, so this takes no
 /// memory.
-fn parted<N: LineName, T: Turn + Drop>(
+fn unzipped<N: LineName, T: Turn + Drop>(
     ends: Vec<PlaceEnd<N, T>>,
     lines: Vec<LineEnd<N>>,
     turns: Vec<T>,
@@ -96,7 +96,7 @@ pub(crate) fn settled<N: LineName, T: Turn + Drop, R: Wait + Drop>(
     let version = ended.writer.tell().version();
     let PlacesEnd { ends, threads } = end;
     let ordered = all_known(&ends, &ended);
-    let (lines, turns) = parted(ends, lines, turns);
+    let (lines, turns) = unzipped(ends, lines, turns);
     let mut ended = ended;
     let changes = match settle(lines, &mut ended) {
         Ok(changes) if ordered => Some(changes),

@@ -1,4 +1,4 @@
-//! Lines of hex digits in place of bytes.
+//! Lines of hex digits instead of bytes.
 
 use rs_program::{PipeFault, pipe, serve_bytes};
 use rs_server::Served;

@@ -23,7 +23,7 @@ use Rattle.rs_session.specs.declared.reason.ReasonCode.{ReasonCode}
 use Rattle.rs_session.specs.declared.reason.ReasonCode.TheVariants.{Success, NoSubscriptionExisted, MalformedPacket, ProtocolError, ImplementationSpecificError, UnsupportedProtocolVersion, BadAuthenticationMethod, TopicFilterInvalid, TopicNameInvalid, PacketIdentifierNotFound, ReceiveMaximumExceeded, TopicAliasInvalid, PacketTooLarge, QuotaExceeded, SharedSubscriptionsNotSupported}
 use Rattle.rs_session.specs.declared.session.Session.{Session}
 use Rattle.rs_session.specs.Gate.{Mark, UsesIfOpen}
-use Rattle.rs_session.specs.Reasons.{code_of}
+use Rattle.rs_session.specs.Reasons.{reason_value}
 use Rattle.rs_session.specs.State.{State, gate_of, state_of}
 use Rattle.rs_session.specs.Steps.{NoSerialUsed, outcome_before, outcome_of_alias, outcome_of_id, outcome_of_submit, outcome_of_topic, outcome_unmade, topic_refusal}
 use Rattle.rs_session.specs.Table.{acknowledged_by, unreleased_id, is_unreleased, is_one_too_many, state_after}
@@ -93,7 +93,7 @@ by_refusal_certain stands ahead old new qos id outcome is none e = unmade ahead 
 pub no_publish : (p other : Packet) (x : Publish) → p ≡ other → IsNoPublish other → p ≢ packet.Publish x
 no_publish p other x is another e = subst IsNoPublish (sym is ∙ e) another
 
-code_is : (code : ReasonCode) → code_of code ≡ code_of QuotaExceeded → code ≡ QuotaExceeded
+code_is : (code : ReasonCode) → reason_value code ≡ reason_value QuotaExceeded → code ≡ QuotaExceeded
 code_is QuotaExceeded e = refl
 code_is Success e = absurd (omega (arith, e))
 code_is NoSubscriptionExisted e = absurd (omega (arith, e))
@@ -122,14 +122,14 @@ open_ended o closing e = absurd (cc (e))
 pub open_before : (o : Open) → phase.Open o ≢ phase.Before
 open_before o e = absurd (cc (e))
 
-not_ended : (outcome : Outcome) (s : State) (o : Open) → outcome ≢ Closes QuotaExceeded → (state_after outcome s o).phase ≢ phase.Ended (ByServer (code_of QuotaExceeded))
+not_ended : (outcome : Outcome) (s : State) (o : Open) → outcome ≢ Closes QuotaExceeded → (state_after outcome s o).phase ≢ phase.Ended (ByServer (reason_value QuotaExceeded))
 not_ended (Replies r) s o other e = open_ended o _ e
 not_ended (Closes code) s o other e = other (ap (λ (x : ReasonCode). Closes x) (code_is code (server_is _ _ e)))
 not_ended Leaves s o other e = by_client _ e
 
 pub took_certain : {G : Type 0} (stands : G → List Entry → Type 0) (ahead : G → List Operation) (mark : G → Mark) (old mid new : Session G) (left : Open) (s : State) (gate : G) (outcome : Outcome)
     → new ≡ mid → gate_of mid ≡ gate → state_of mid ≡ state_after outcome s left → (NoSerialUsed (stands (gate_of old)) (ahead (gate_of old)) (mark (gate_of old)) (mark gate) → outcome ≢ Closes QuotaExceeded)
-    → NoSerialUsed (stands (gate_of old)) (ahead (gate_of old)) (mark (gate_of old)) (mark (gate_of new)) → (state_of new).phase ≢ phase.Ended (ByServer (code_of QuotaExceeded))
+    → NoSerialUsed (stands (gate_of old)) (ahead (gate_of old)) (mark (gate_of old)) (mark (gate_of new)) → (state_of new).phase ≢ phase.Ended (ByServer (reason_value QuotaExceeded))
 took_certain {G} stands ahead mark old mid new left s gate outcome e g d certain none is =
     let same : gate_of new ≡ gate = ap (λ (x : Session G). gate_of x) e ∙ g in
     not_ended outcome s left (certain (subst (λ (x : G). NoSerialUsed (stands (gate_of old)) (ahead (gate_of old)) (mark (gate_of old)) (mark x)) same none))

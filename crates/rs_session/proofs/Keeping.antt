@@ -36,7 +36,7 @@ use Rattle.rs_session.specs.declared.phase.Input.TheVariants.{Whole}
 use Rattle.rs_session.specs.declared.phase.Phase.{Phase}
 use Rattle.rs_session.specs.declared.phase.Phase.TheVariants as phase
 use Rattle.rs_session.specs.Gate.{Mark, Extends, Uses, IsSubmitted}
-use Rattle.rs_session.specs.Reasons.{code_of}
+use Rattle.rs_session.specs.Reasons.{reason_value}
 use Rattle.rs_session.specs.declared.reason.ReasonCode.{ReasonCode}
 use Rattle.rs_session.specs.declared.reason.ReasonCode.TheVariants.{Success, QuotaExceeded}
 use Rattle.rs_session.specs.State.{State}
@@ -174,25 +174,25 @@ IsAck r = ⊥
 ack_by : (quality : Qos) (id : Option ℕ) (code : ReasonCode) (answer : Reply) → acknowledged_by quality id code ≡ Some answer → IsAck answer
 ack_by qos.AtMostOnce id code answer e = absurd (none-some answer e)
 ack_by qos.AtLeastOnce None code answer e = absurd (none-some answer e)
-ack_by qos.AtLeastOnce (Some n) code answer e = subst IsAck (same_Some (reply.Puback n (code_of code)) answer e) tt
+ack_by qos.AtLeastOnce (Some n) code answer e = subst IsAck (same_Some (reply.Puback n (reason_value code)) answer e) tt
 ack_by qos.ExactlyOnce None code answer e = absurd (none-some answer e)
-ack_by qos.ExactlyOnce (Some n) code answer e = subst IsAck (same_Some (reply.Pubrec n (code_of code)) answer e) tt
+ack_by qos.ExactlyOnce (Some n) code answer e = subst IsAck (same_Some (reply.Pubrec n (reason_value code)) answer e) tt
 
 abbrev told_code : Reply → ℕ
 told_code (reply.Puback n code) = code
 told_code (reply.Pubrec n code) = code
 told_code r = 0
 
-code_by : (quality : Qos) (id : Option ℕ) (code : ReasonCode) (answer : Reply) → acknowledged_by quality id code ≡ Some answer → told_code answer ≡ code_of code
+code_by : (quality : Qos) (id : Option ℕ) (code : ReasonCode) (answer : Reply) → acknowledged_by quality id code ≡ Some answer → told_code answer ≡ reason_value code
 code_by qos.AtMostOnce id code answer e = absurd (none-some answer e)
 code_by qos.AtLeastOnce None code answer e = absurd (none-some answer e)
-code_by qos.AtLeastOnce (Some n) code answer e = ap told_code (sym (same_Some (reply.Puback n (code_of code)) answer e))
+code_by qos.AtLeastOnce (Some n) code answer e = ap told_code (sym (same_Some (reply.Puback n (reason_value code)) answer e))
 code_by qos.ExactlyOnce None code answer e = absurd (none-some answer e)
-code_by qos.ExactlyOnce (Some n) code answer e = ap told_code (sym (same_Some (reply.Pubrec n (code_of code)) answer e))
+code_by qos.ExactlyOnce (Some n) code answer e = ap told_code (sym (same_Some (reply.Pubrec n (reason_value code)) answer e))
 
 -- not both codes were told
 one_code : {A : Type 0} (p : Publish) (answer : Reply) → acknowledged_by p.qos p.id Success ≡ Some answer → acknowledged_by p.qos p.id QuotaExceeded ≡ Some answer → A
-one_code p answer zero full = let same : 0 ≡ code_of QuotaExceeded = sym (code_by p.qos p.id Success answer zero) ∙ code_by p.qos p.id QuotaExceeded answer full in absurd (omega (arith, same))
+one_code p answer zero full = let same : 0 ≡ reason_value QuotaExceeded = sym (code_by p.qos p.id Success answer zero) ∙ code_by p.qos p.id QuotaExceeded answer full in absurd (omega (arith, same))
 
 among_append : (r : Reply) (xs ys : List Reply) → Among r (xs ++ ys) → Among r xs ⊎ Among r ys
 among_append r [] ys h = inr h
@@ -217,9 +217,9 @@ due_is maximum (Replies (Some first)) r ack h = by_case (leb (length (reply_byte
     by_case true (inl e) = ap (λ (x : Reply). let o : Outcome = Replies (Some x) in o) e
     by_case true (inr none) = absurd none
     by_case false none = absurd none
-due_is maximum (Closes code) r ack h = by_case (leb (length (reply_bytes (reply.Disconnect (code_of code)))) maximum) h
+due_is maximum (Closes code) r ack h = by_case (leb (length (reply_bytes (reply.Disconnect (reason_value code)))) maximum) h
   where
-    by_case : (b : Bool) → Among r (listed (cond b (Some (reply.Disconnect (code_of code))) None)) → Closes code ≡ Replies (Some r)
+    by_case : (b : Bool) → Among r (listed (cond b (Some (reply.Disconnect (reason_value code))) None)) → Closes code ≡ Replies (Some r)
     by_case true (inl e) = absurd (subst IsAck (sym e) ack)
     by_case true (inr none) = absurd none
     by_case false none = absurd none
@@ -235,7 +235,7 @@ replied_by exchange maximum (Replies answer) left old mid due r d same g ack h =
     by_case given (inl a) = due_is maximum (Replies answer) r ack (subst (λ (o : Option Reply). Among r (listed o)) d a)
     by_case given (inr b) = absurd (no_ack_given r given ack b)
 replied_by exchange maximum (Closes code) left old mid due r d same g ack h =
-    let whole = (left_replies exchange.given.now due mid (ByServer (code_of code)) exchange.replies g.left g.last exchange.to.state (phase_of mid _ same) g.given g.none_left).1 in
+    let whole = (left_replies exchange.given.now due mid (ByServer (reason_value code)) exchange.replies g.left g.last exchange.to.state (phase_of mid _ same) g.given g.none_left).1 in
     due_is maximum (Closes code) r ack (subst (λ (o : Option Reply). Among r (listed o)) d (subst (λ (rs : List Reply). Among r rs) whole h))
 replied_by exchange maximum Leaves left old mid due r d same g ack h =
     let whole = (left_replies exchange.given.now due mid ByClient exchange.replies g.left g.last exchange.to.state (phase_of mid _ same) g.given g.none_left).1 in

@@ -43,7 +43,7 @@ use Rattle.rs_session.specs.declared.phase.Input.{Input}
 use Rattle.rs_session.specs.declared.phase.Input.TheVariants.{Whole, Broken}
 use Rattle.rs_session.specs.declared.phase.Phase.{Phase}
 use Rattle.rs_session.specs.declared.phase.Phase.TheVariants as phase
-use Rattle.rs_session.specs.Reasons.{code_of}
+use Rattle.rs_session.specs.Reasons.{reason_value}
 use Rattle.rs_session.specs.declared.reason.ReasonCode.{ReasonCode}
 use Rattle.rs_session.specs.declared.reason.ReasonCode.TheVariants.{Success, PacketIdentifierNotFound, QuotaExceeded, ProtocolError, BadAuthenticationMethod, ImplementationSpecificError, UnsupportedProtocolVersion}
 use Rattle.rs_session.specs.declared.subscriptions.Subscription.{Subscription}
@@ -146,7 +146,7 @@ no_publish_released window.Puback id answer = tt
 no_publish_released window.Pubcomp id answer = tt
 no_publish_released (window.Pubrec code) id ack_case.Released = tt
 no_publish_released (window.Pubrec code) id Freed = tt
-no_publish_released (window.Pubrec code) id Unknown = no_publish_release (code_of PacketIdentifierNotFound) id (nat_lt code 0x80)
+no_publish_released (window.Pubrec code) id Unknown = no_publish_release (reason_value PacketIdentifierNotFound) id (nat_lt code 0x80)
 
 acknowledging : (p : Packet) (now : ℕ) (answered : List (List Entry)) (there : Subscriptions) (reply : Option Reply) (ack : window.Acknowledgement) (id : ℕ) (answer : Ack) → acknowledgement_of p ≡ Some (ack, id)
     → AreCalledBy (Whole p) now answered there reply (Acknowledge ack id (Ok answer) ∷ [])
@@ -334,10 +334,10 @@ led_made exchange o left (Replies answer) old mid due (own, run, called, no_publ
     } in
     subst (λ (p : Phase). IsMadeTo o exchange p) (sym is) (own ++ giving exchange.given.now given, all, served)
 led_made exchange o left (Closes code) old mid due (own, run, refused) d same g =
-    let (is, whole) = left_replies exchange.given.now due mid (ByServer (code_of code)) exchange.replies g.left g.last exchange.to.state (ap (λ (s : State). s.phase) same) g.given g.none_left in
+    let (is, whole) = left_replies exchange.given.now due mid (ByServer (reason_value code)) exchange.replies g.left g.last exchange.to.state (ap (λ (s : State). s.phase) same) g.given g.none_left in
     let last : IsLast exchange own = record {
       refused = refused;
-      none_given = ap publications whole ∙ ap (λ (r : Option Reply). publications (listed r)) d ∙ none_within (leb (length (reply_bytes (reply.Disconnect (code_of code)))) o.window.packet_maximum) (code_of code);
+      none_given = ap publications whole ∙ ap (λ (r : Option Reply). publications (listed r)) d ∙ none_within (leb (length (reply_bytes (reply.Disconnect (reason_value code)))) o.window.packet_maximum) (reason_value code);
     } in
     subst (λ (p : Phase). IsMadeTo o exchange p) (sym is) (own, run, last)
 led_made exchange o left Leaves old mid due (own, run, refused) d same g =
@@ -382,9 +382,9 @@ phase_of a b e = ap (λ (s : State). s.phase) e
 first_made : (from : Point State) (exchange : Exchange) (c : Connect) (case : Case) (due : Option Reply) (mid : State) → from.state.phase ≡ phase.Before → exchange.given.input ≡ Whole (packet.Connect c) → IsOpen exchange.to.state.phase
     → SessionRow case exchange.given from exchange.answered due (with_state exchange.to mid) → GivesAll exchange.given.now due mid exchange.replies exchange.to.state
     → IsMadeTo (open_for c) exchange exchange.to.state.phase
-first_made from exchange c With_method due mid begun is h (d, i, before, m, refused) g = ended_first exchange due mid (ByServer (code_of BadAuthenticationMethod)) (phase_of mid _ refused.end) g h
-first_made from exchange c With_will due mid begun is h (d, i, before, m, k, refused) g = ended_first exchange due mid (ByServer (code_of ImplementationSpecificError)) (phase_of mid _ refused.end) g h
-first_made from exchange c Connect_refused due mid begun is h (d, i, before, m, k, refused) g = ended_first exchange due mid (ByServer (code_of QuotaExceeded)) (phase_of mid _ refused.end) g h
+first_made from exchange c With_method due mid begun is h (d, i, before, m, refused) g = ended_first exchange due mid (ByServer (reason_value BadAuthenticationMethod)) (phase_of mid _ refused.end) g h
+first_made from exchange c With_will due mid begun is h (d, i, before, m, k, refused) g = ended_first exchange due mid (ByServer (reason_value ImplementationSpecificError)) (phase_of mid _ refused.end) g h
+first_made from exchange c Connect_refused due mid begun is h (d, i, before, m, k, refused) g = ended_first exchange due mid (ByServer (reason_value QuotaExceeded)) (phase_of mid _ refused.end) g h
 first_made from exchange c Accepted due mid begun is h (d, i, before, m, k, short, u, e, same) g =
     let o : Open = open_for d in
     let answer : Reply = connack d from.state in
@@ -392,8 +392,8 @@ first_made from exchange c Accepted due mid begun is h (d, i, before, m, k, shor
     let led : IsLed exchange.given.input exchange.given.now exchange.answered o (Replies (Some answer)) o =
     answers exchange.given.input (Whole (packet.Connect d)) exchange.given.now exchange.answered o (Replies (Some answer)) (Some answer) o i refl refl refl tt in
     subst (λ (x : Connect). IsMadeTo (open_for x) exchange exchange.to.state.phase) (ap (connect_in c) (sym i ∙ is)) (led_made exchange o o (Replies (Some answer)) from.state mid due led sent same g)
-first_made from exchange c Connack_too_long due mid begun is h (d, i, before, m, k, long, u, e, same) g = ended_first exchange due mid (ByServer (code_of Success)) (phase_of mid _ same) g h
-first_made from exchange c Other_version due mid begun is h (i, before, u, e, same) g = ended_first exchange due mid (ByServer (code_of UnsupportedProtocolVersion)) (phase_of mid _ same) g h
+first_made from exchange c Connack_too_long due mid begun is h (d, i, before, m, k, long, u, e, same) g = ended_first exchange due mid (ByServer (reason_value Success)) (phase_of mid _ same) g h
+first_made from exchange c Other_version due mid begun is h (i, before, u, e, same) g = ended_first exchange due mid (ByServer (reason_value UnsupportedProtocolVersion)) (phase_of mid _ same) g h
 first_made from exchange c Unexpected due mid begun is h (i, before, u, e, same) g = ended_first exchange due mid Dropped (phase_of mid _ same) g h
 first_made from exchange c In_session due mid begun is h (o, left, outcome, at, row, e, same) g = shut (phase.Open o) phase.Before (sym at ∙ begun) tt (λ n. n)
 first_made from exchange c Over due mid begun is h (closing, at, u, e, same) g = ended_first exchange due mid closing (phase_of mid from.state same ∙ at) g h
@@ -589,14 +589,14 @@ ends_first exchange due mid closing is g = inr (closing, (left_replies exchange.
 first_to : (from : Point State) (exchange : Exchange) (case : Case) (due : Option Reply) (mid : State) → from.state.phase ≡ phase.Before
     → SessionRow case exchange.given from exchange.answered due (with_state exchange.to mid) → GivesAll exchange.given.now due mid exchange.replies exchange.to.state
     → OpensOrEnds exchange
-first_to from exchange With_method due mid begun (d, i, before, m, refused) g = ends_first exchange due mid (ByServer (code_of BadAuthenticationMethod)) (phase_of mid _ refused.end) g
-first_to from exchange With_will due mid begun (d, i, before, m, k, refused) g = ends_first exchange due mid (ByServer (code_of ImplementationSpecificError)) (phase_of mid _ refused.end) g
-first_to from exchange Connect_refused due mid begun (d, i, before, m, k, refused) g = ends_first exchange due mid (ByServer (code_of QuotaExceeded)) (phase_of mid _ refused.end) g
+first_to from exchange With_method due mid begun (d, i, before, m, refused) g = ends_first exchange due mid (ByServer (reason_value BadAuthenticationMethod)) (phase_of mid _ refused.end) g
+first_to from exchange With_will due mid begun (d, i, before, m, k, refused) g = ends_first exchange due mid (ByServer (reason_value ImplementationSpecificError)) (phase_of mid _ refused.end) g
+first_to from exchange Connect_refused due mid begun (d, i, before, m, k, refused) g = ends_first exchange due mid (ByServer (reason_value QuotaExceeded)) (phase_of mid _ refused.end) g
 first_to from exchange Accepted due mid begun (d, i, before, m, k, short, u, e, same) g =
     let (given, n, is, run, whole) = given_calls exchange.given.now due mid (open_for d) exchange.replies g.left g.last exchange.to.state (phase_of mid _ same) g.given g.none_left in
     inl (d, (i, subst IsOpen (sym is) tt))
-first_to from exchange Connack_too_long due mid begun (d, i, before, m, k, long, u, e, same) g = ends_first exchange due mid (ByServer (code_of Success)) (phase_of mid _ same) g
-first_to from exchange Other_version due mid begun (i, before, u, e, same) g = ends_first exchange due mid (ByServer (code_of UnsupportedProtocolVersion)) (phase_of mid _ same) g
+first_to from exchange Connack_too_long due mid begun (d, i, before, m, k, long, u, e, same) g = ends_first exchange due mid (ByServer (reason_value Success)) (phase_of mid _ same) g
+first_to from exchange Other_version due mid begun (i, before, u, e, same) g = ends_first exchange due mid (ByServer (reason_value UnsupportedProtocolVersion)) (phase_of mid _ same) g
 first_to from exchange Unexpected due mid begun (i, before, u, e, same) g = ends_first exchange due mid Dropped (phase_of mid _ same) g
 first_to from exchange In_session due mid begun (o, left, outcome, at, row, e, same) g = shut (phase.Open o) phase.Before (sym at ∙ begun) tt (λ n. n)
 first_to from exchange Over due mid begun (closing, at, u, e, same) g = ends_first exchange due mid closing (phase_of mid from.state same ∙ at) g

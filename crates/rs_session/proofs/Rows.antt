@@ -38,7 +38,7 @@ use Rattle.rs_session.specs.declared.phase.Phase.TheVariants as phase
 use Rattle.rs_session.specs.declared.phase.Input.TheVariants.{Whole, Broken}
 use Rattle.rs_session.specs.Gate.{Mark, Extends, Grows, GrowsAnswering, StandsAt, Uses, IsHandedOver, SendsAtMost, entry_by}
 use Rattle.rs_session.specs.Points.{Given, Point, given_at, point_at, with_state}
-use Rattle.rs_session.specs.Reasons.{code_of}
+use Rattle.rs_session.specs.Reasons.{reason_value}
 use Rattle.rs_session.specs.declared.reason.ReasonCode.{ReasonCode}
 use Rattle.rs_session.specs.declared.reason.ReasonCode.TheVariants.{Success, UnsupportedProtocolVersion, ImplementationSpecificError, BadAuthenticationMethod, QuotaExceeded, ProtocolError, PacketIdentifierNotFound}
 use Rattle.rs_session.specs.State.{State, session_at, ended, within, state_of, due_of, gate_of}
@@ -77,7 +77,7 @@ pub unexpected_fault : (f is : PacketFault) (old new : State) (due : Option Repl
 unexpected_fault f is old new due e greets before none end = λ now mark list.
     (Unexpected, (refl, (subst (λ (x : PacketFault). IsNeitherConnectNorVersion (Broken x)) (sym e) greets, before, refl, none, end)))
 
-pub other_version : (f : PacketFault) (old new : State) (due : Option Reply) → f ≡ fault.Version → old.phase ≡ phase.Before → due ≡ Some (reply.ConnackRefused (code_of UnsupportedProtocolVersion)) → new ≡ ended old (ByServer (code_of UnsupportedProtocolVersion))
+pub other_version : (f : PacketFault) (old new : State) (due : Option Reply) → f ≡ fault.Version → old.phase ≡ phase.Before → due ≡ Some (reply.ConnackRefused (reason_value UnsupportedProtocolVersion)) → new ≡ ended old (ByServer (reason_value UnsupportedProtocolVersion))
     → AnswersWithoutGate (Broken f) old due new
 other_version f old new due e before is end = λ now mark list.
     (Other_version, (refl, (ap Broken e, before, refl, is, end)))
@@ -95,18 +95,18 @@ accepted c false false old new due m w none before (inl (a, b, d)) = λ now mark
 accepted c false false old new due m w none before (inr (a, b, d)) = λ now mark list. (Connack_too_long, (refl, (c, refl, before, m, w, a, refl, b, d)))
 
 pub connect_refused : (c : Connect) (method will : Bool) (code : ReasonCode) (old new : State) (due : Option Reply) → is_some c.method ≡ method → c.will ≡ will → connect_refusal method will ≡ Some code → old.phase ≡ phase.Before
-    → due ≡ within (packet_maximum c.packet_maximum) (reply.ConnackRefused (code_of code)) → new ≡ ended old (ByServer (code_of code))
+    → due ≡ within (packet_maximum c.packet_maximum) (reply.ConnackRefused (reason_value code)) → new ≡ ended old (ByServer (reason_value code))
     → AnswersWithoutGate (Whole (packet.Connect c)) old due new
 connect_refused c true will code old new due m w is before d s = λ now mark list.
     let e : code ≡ BadAuthenticationMethod = cc in
-    (With_method, (refl, (c, refl, before, m, record { none_used = refl; reply = d ∙ ap (λ (n : ReasonCode). within (packet_maximum c.packet_maximum) (reply.ConnackRefused (code_of n))) e; end = s ∙ ap (λ (n : ReasonCode). ended old (ByServer (code_of n))) e })))
+    (With_method, (refl, (c, refl, before, m, record { none_used = refl; reply = d ∙ ap (λ (n : ReasonCode). within (packet_maximum c.packet_maximum) (reply.ConnackRefused (reason_value n))) e; end = s ∙ ap (λ (n : ReasonCode). ended old (ByServer (reason_value n))) e })))
 connect_refused c false true code old new due m w is before d s = λ now mark list.
     let e : code ≡ ImplementationSpecificError = cc in
-    (With_will, (refl, (c, refl, before, m, w, record { none_used = refl; reply = d ∙ ap (λ (n : ReasonCode). within (packet_maximum c.packet_maximum) (reply.ConnackRefused (code_of n))) e; end = s ∙ ap (λ (n : ReasonCode). ended old (ByServer (code_of n))) e })))
+    (With_will, (refl, (c, refl, before, m, w, record { none_used = refl; reply = d ∙ ap (λ (n : ReasonCode). within (packet_maximum c.packet_maximum) (reply.ConnackRefused (reason_value n))) e; end = s ∙ ap (λ (n : ReasonCode). ended old (ByServer (reason_value n))) e })))
 connect_refused c false false code old new due m w is before d s = absurd (cc)
 
 pub connect_without_memory : (c : Connect) (method will : Bool) (old new : State) (due : Option Reply) → is_some c.method ≡ method → c.will ≡ will → connect_refusal method will ≡ None → old.phase ≡ phase.Before
-    → due ≡ within (packet_maximum c.packet_maximum) (reply.ConnackRefused (code_of QuotaExceeded)) → new ≡ ended old (ByServer (code_of QuotaExceeded))
+    → due ≡ within (packet_maximum c.packet_maximum) (reply.ConnackRefused (reason_value QuotaExceeded)) → new ≡ ended old (ByServer (reason_value QuotaExceeded))
     → AnswersWithoutGate (Whole (packet.Connect c)) old due new
 connect_without_memory c true will old new due m w none before d s = absurd (cc)
 connect_without_memory c false true old new due m w none before d s = absurd (cc)
@@ -155,15 +155,15 @@ not_acknowledged p ack id fault now from new is h s =
     (Wrong_acknowledgement, refl, (p, ack, id, refl, is, sym h.0 ∙ ap (λ (f : WindowFault). Err f) (wrong ack _ fault h.0), refl, record { none_used = refl; same = s }))
 
 -- a PUBREC for an identifier that is not in use
-pub unknown_low : (code id : ℕ) → code < 0x80 → Replies (Some (reply.Pubrel id (code_of PacketIdentifierNotFound))) ≡ Replies (released_by (window.Pubrec code) id Ack.Unknown)
+pub unknown_low : (code id : ℕ) → code < 0x80 → Replies (Some (reply.Pubrel id (reason_value PacketIdentifierNotFound))) ≡ Replies (released_by (window.Pubrec code) id Ack.Unknown)
 unknown_low code id h = let s : ltb code 0x80 ≡ true = lt-ltb _ _ h in rw s refl
 
 pub unknown_high : (code id : ℕ) → 0x80 ≤ code → Replies None ≡ Replies (released_by (window.Pubrec code) id Ack.Unknown)
 unknown_high code id h = let s : ltb code 0x80 ≡ false = le-ltb _ _ h in rw s refl
 
-pub released : (a : Acknowledgement) (byte : ℕ) (code : ReasonCode) (now : ℕ) (from : Point Open) (new : Open) → byte ≡ code_of code → code ≡ released_reason a.id from.state.inbound → new ≡ record from.state { inbound = set.remove from.state.inbound a.id }
+pub released : (a : Acknowledgement) (byte : ℕ) (code : ReasonCode) (now : ℕ) (from : Point Open) (new : Open) → byte ≡ reason_value code → code ≡ released_reason a.id from.state.inbound → new ≡ record from.state { inbound = set.remove from.state.inbound a.id }
     → LeadsTo (given_at (Whole (packet.Pubrel a)) now) from [] (Replies (Some (reply.Pubcomp a.id byte))) (with_state from new)
-released a byte code now from new b e s = (Released, refl, (a, refl, ap (λ (n : ℕ). Replies (Some (reply.Pubcomp a.id n))) b ∙ ap (λ (r : ReasonCode). Replies (Some (reply.Pubcomp a.id (code_of r)))) e, refl, s))
+released a byte code now from new b e s = (Released, refl, (a, refl, ap (λ (n : ℕ). Replies (Some (reply.Pubcomp a.id n))) b ∙ ap (λ (r : ReasonCode). Replies (Some (reply.Pubcomp a.id (reason_value r)))) e, refl, s))
 
 -- ---- PUBLISH
 
@@ -349,19 +349,19 @@ subscribed s codes c now from answered to n u e h =
     (Subscribed, tt, (s, codes, refl, n, h, ap (λ (x : CodesValue). Replies (Some (reply.Suback x))) e, u))
 
 -- one more filter to be removed
-pub codes_more : (filters : List Filter) (filter : Filter) (subscriptions : Subscriptions) → removal_codes (filters ++ filter ∷ []) subscriptions ≡ removal_codes filters subscriptions ++ code_of (removal_reason filter (without_all filters subscriptions)) ∷ []
+pub codes_more : (filters : List Filter) (filter : Filter) (subscriptions : Subscriptions) → removal_codes (filters ++ filter ∷ []) subscriptions ≡ removal_codes filters subscriptions ++ reason_value (removal_reason filter (without_all filters subscriptions)) ∷ []
 codes_more [] filter subscriptions = refl
-codes_more (f ∷ fs) filter subscriptions = ap (λ (l : List ℕ). code_of (removal_reason f subscriptions) ∷ l) (codes_more fs filter (without f subscriptions))
+codes_more (f ∷ fs) filter subscriptions = ap (λ (l : List ℕ). reason_value (removal_reason f subscriptions) ∷ l) (codes_more fs filter (without f subscriptions))
 
 pub without_more : (filters : List Filter) (filter : Filter) (subscriptions : Subscriptions) → without_all (filters ++ filter ∷ []) subscriptions ≡ without filter (without_all filters subscriptions)
 without_more [] filter subscriptions = refl
 without_more (f ∷ fs) filter subscriptions = without_more fs filter (without f subscriptions)
 
 pub removed_code : (so_far all : List Filter) (filter : Filter) (first mid : Open) (codes more : List ℕ) (code : ReasonCode) → all ≡ so_far ++ filter ∷ [] → codes ≡ removal_codes so_far first.subscriptions
-    → mid ≡ record first { subscriptions = without_all so_far first.subscriptions } → code ≡ removal_reason filter mid.subscriptions → more ≡ codes ++ code_of code ∷ [] → more ≡ removal_codes all first.subscriptions
+    → mid ≡ record first { subscriptions = without_all so_far first.subscriptions } → code ≡ removal_reason filter mid.subscriptions → more ≡ codes ++ reason_value code ∷ [] → more ≡ removal_codes all first.subscriptions
 removed_code so_far all filter first mid codes more code a c m k e =
     let is : code ≡ removal_reason filter (without_all so_far first.subscriptions) = k ∙ ap (λ (o : Open). removal_reason filter o.subscriptions) m in
-    e ∙ (ap (λ (l : List ℕ). l ++ code_of code ∷ []) c ∙ (ap (λ (n : ReasonCode). removal_codes so_far first.subscriptions ++ code_of n ∷ []) is
+    e ∙ (ap (λ (l : List ℕ). l ++ reason_value code ∷ []) c ∙ (ap (λ (n : ReasonCode). removal_codes so_far first.subscriptions ++ reason_value n ∷ []) is
     ∙ (sym (codes_more so_far filter first.subscriptions) ∙ ap (λ (l : List Filter). removal_codes l first.subscriptions) (sym a))))
 
 pub removed_all : (so_far all : List Filter) (filter : Filter) (first mid new : Open) → all ≡ so_far ++ filter ∷ [] → mid ≡ record first { subscriptions = without_all so_far first.subscriptions }
@@ -414,7 +414,7 @@ stays {G} stands mark given old mid new e g h =
 -- what an outcome leaves does not depend on the phase before
 pub after_same : (outcome : Outcome) (a b : State) (o : Open) → a.assigned ≡ b.assigned → state_after outcome a o ≡ state_after outcome b o
 after_same (Replies r) a b o e = ap (λ (l : List ℕ). let s : State = record { phase = phase.Open o; assigned = l } in s) e
-after_same (Closes code) a b o e = ap (λ (l : List ℕ). let s : State = record { phase = phase.Ended (ByServer (code_of code)); assigned = l } in s) e
+after_same (Closes code) a b o e = ap (λ (l : List ℕ). let s : State = record { phase = phase.Ended (ByServer (reason_value code)); assigned = l } in s) e
 after_same Leaves a b o e = ap (λ (l : List ℕ). let s : State = record { phase = phase.Ended ByClient; assigned = l } in s) e
 
 -- an open session took a packet

@@ -13,7 +13,7 @@ use Rattle.rs_message.specs.declared.fault.SubmitFault.TheVariants.{Full, NoMemo
 use Rattle.rs_message.specs.declared.fault.SubmitFault.TheVariants as submit_fault
 use Rattle.rs_session.specs.Gate.{IsSubmitted, Mark}
 use Rattle.rs_session.specs.Points.{Point}
-use Rattle.rs_session.specs.Reasons.{code_of}
+use Rattle.rs_session.specs.Reasons.{reason_value}
 use Rattle.rs_session.specs.declared.reason.ReasonCode.{ReasonCode}
 use Rattle.rs_session.specs.declared.reason.ReasonCode.TheVariants.{Success, BadAuthenticationMethod, ImplementationSpecificError, QuotaExceeded, ReceiveMaximumExceeded, TopicAliasInvalid}
 use Rattle.rs_session.specs.State.{State, opened, ended}
@@ -33,7 +33,7 @@ connect_refusal false false = None
 abbrev pub IsAccepted : Reply → ℕ → Open → State → Option Reply → State → Type 0
 IsAccepted connack maximum open_ old due new =
     ((length (reply_bytes connack) ≤ maximum) × (due ≡ Some connack) × (new ≡ opened old open_))
-    ⊎ ((maximum < length (reply_bytes connack)) × (due ≡ None) × (new ≡ ended old (ByServer (code_of Success))))
+    ⊎ ((maximum < length (reply_bytes connack)) × (due ≡ None) × (new ≡ ended old (ByServer (reason_value Success))))
 
 -- the code of a topic that is not a topic name
 abbrev pub fault_refusal : TopicFault → Option ReasonCode

@@ -33,7 +33,7 @@ use Rattle.rs_window.specs.declared.fault.Ack.{Ack}
 use Rattle.rs_window.specs.declared.fault.WindowFault.TheVariants.{WrongKind}
 use Rattle.rs_session.specs.Gate.{Mark, Extends, Uses, IsSubmitted, IsHandedOver, SendsAtMost, entry_by}
 use Rattle.rs_session.specs.Points.{Given, Point, given_at, point_at, with_state}
-use Rattle.rs_session.specs.Reasons.{code_of}
+use Rattle.rs_session.specs.Reasons.{reason_value}
 use Rattle.rs_session.specs.declared.reason.ReasonCode.{ReasonCode}
 use Rattle.rs_session.specs.declared.reason.ReasonCode.TheVariants.{Success, MalformedPacket, ProtocolError, ImplementationSpecificError, UnsupportedProtocolVersion, BadAuthenticationMethod, TopicFilterInvalid, TopicNameInvalid, PacketIdentifierNotFound, ReceiveMaximumExceeded, TopicAliasInvalid, PacketTooLarge, QuotaExceeded, SharedSubscriptionsNotSupported, NoSubscriptionExisted}
 use Rattle.rs_session.specs.Subscriptions.{Subscriptions, is_subscribed, can_subscribe, replays}
@@ -96,8 +96,8 @@ IsTopicOrUnread (Err fault) = fault ≡ topic_fault.NoMemory
 -- nothing at QoS 0, a PUBACK at QoS 1, a PUBREC at QoS 2
 abbrev pub acknowledged_by : Qos → Option ℕ → ReasonCode → Option Reply
 acknowledged_by AtMostOnce id code = None
-acknowledged_by AtLeastOnce id code = option_map (λ n. reply.Puback n (code_of code)) id
-acknowledged_by ExactlyOnce id code = option_map (λ n. reply.Pubrec n (code_of code)) id
+acknowledged_by AtLeastOnce id code = option_map (λ n. reply.Puback n (reason_value code)) id
+acknowledged_by ExactlyOnce id code = option_map (λ n. reply.Pubrec n (reason_value code)) id
 
 -- 4.3.3: the identifier of a PUBLISH of QoS 2, which its PUBREL releases
 abbrev pub unreleased_id : Qos → Option ℕ → Option ℕ
@@ -139,9 +139,9 @@ acknowledgement_of _ = None
 abbrev pub released_by : window.Acknowledgement → ℕ → Ack → Option Reply
 released_by window.Puback id ack = None
 released_by window.Pubcomp id ack = None
-released_by (window.Pubrec code) id Ack.Released = Some (reply.Pubrel id (code_of Success))
+released_by (window.Pubrec code) id Ack.Released = Some (reply.Pubrel id (reason_value Success))
 released_by (window.Pubrec code) id Ack.Freed = None
-released_by (window.Pubrec code) id Ack.Unknown = if nat_lt code 0x80 then Some (reply.Pubrel id (code_of PacketIdentifierNotFound)) else None
+released_by (window.Pubrec code) id Ack.Unknown = if nat_lt code 0x80 then Some (reply.Pubrel id (reason_value PacketIdentifierNotFound)) else None
 
 -- 3.7.2.1: a PUBREL for an identifier that awaits it, or does not
 abbrev pub released_reason : ℕ → set.FinSet nat_cmp → ReasonCode
@@ -180,8 +180,8 @@ pub record IsSubscribed (now : ℕ) (filter : List ℕ) (subscription : Subscrip
 -- One filter: its fault, its subscription, or a refusal, after which all is as before. A refusal comes if
 -- the session has too many, if too many would wait, or if memory is refused, which may be at any time.
 abbrev pub IsGrantedTo : Filter → Subscription → ℕ → List Entry → Open → ℕ → Open → Type 0
-IsGrantedTo (Err fault) subscription now list old code new = (code ≡ code_of (filter_reason fault)) × (new ≡ old)
-IsGrantedTo (Ok filter) subscription now list old code new = ((code ≡ level subscription.options.qos) × IsSubscribed now filter subscription list old new) ⊎ ((code ≡ code_of QuotaExceeded) × (new ≡ old))
+IsGrantedTo (Err fault) subscription now list old code new = (code ≡ reason_value (filter_reason fault)) × (new ≡ old)
+IsGrantedTo (Ok filter) subscription now list old code new = ((code ≡ level subscription.options.qos) × IsSubscribed now filter subscription list old new) ⊎ ((code ≡ reason_value QuotaExceeded) × (new ≡ old))
 
 -- what is kept of a filter that is granted
 abbrev pub subscription_for : Asked → Option ℕ → Subscription
@@ -214,7 +214,7 @@ without (Ok filter) subscriptions = finite.remove subscriptions filter
 -- one filter after the other
 abbrev pub removal_codes : List Filter → Subscriptions → List ℕ
 removal_codes [] subscriptions = []
-removal_codes (filter ∷ more) subscriptions = code_of (removal_reason filter subscriptions) ∷ removal_codes more (without filter subscriptions)
+removal_codes (filter ∷ more) subscriptions = reason_value (removal_reason filter subscriptions) ∷ removal_codes more (without filter subscriptions)
 
 abbrev pub without_all : List Filter → Subscriptions → Subscriptions
 without_all [] subscriptions = subscriptions
@@ -319,7 +319,7 @@ OpenRow Gate_closed given from answered outcome to =
     × (outcome ≡ Closes ImplementationSpecificError) × (to.state ≡ from.state)
 -- 3.6, 4.3.3
 OpenRow Released given from answered outcome to =
-    (a : Acknowledgement) × (given.input ≡ Whole (packet.Pubrel a)) × (outcome ≡ Replies (Some (reply.Pubcomp a.id (code_of (released_reason a.id from.state.inbound)))))
+    (a : Acknowledgement) × (given.input ≡ Whole (packet.Pubrel a)) × (outcome ≡ Replies (Some (reply.Pubcomp a.id (reason_value (released_reason a.id from.state.inbound)))))
     × (to.mark ≡ from.mark) × (to.state ≡ record from.state { inbound = set.remove from.state.inbound a.id })
 -- 4.3: an acknowledgement that the PUBLISH with this identifier does not await
 OpenRow Wrong_acknowledgement given from answered outcome to =
@@ -372,12 +372,12 @@ LeadsWithoutGate input old outcome new = (now : ℕ) (mark : Mark) (list : List 
 abbrev pub due_for : ℕ → Outcome → Option Reply
 due_for maximum (Replies None) = None
 due_for maximum (Replies (Some r)) = within maximum r
-due_for maximum (Closes code) = within maximum (reply.Disconnect (code_of code))
+due_for maximum (Closes code) = within maximum (reply.Disconnect (reason_value code))
 due_for maximum Leaves = None
 
 abbrev pub state_after : Outcome → State → Open → State
 state_after (Replies r) old o = opened old o
-state_after (Closes code) old o = ended old (ByServer (code_of code))
+state_after (Closes code) old o = ended old (ByServer (reason_value code))
 state_after Leaves old o = ended old ByClient
 
 -- what is neither a CONNECT nor a fault of the version
@@ -404,8 +404,8 @@ pub data Case : Type 0 where
 -- 3.2: a CONNACK that refuses, and the end. It is not sent if it is longer than the client takes
 pub record IsRefused (code : ReasonCode) (c : Connect) (from : Point State) (due : Option Reply) (to : Point State) : Type 0 where
   pub none_used : to.mark ≡ from.mark
-  pub reply : due ≡ within (packet_maximum c.packet_maximum) (reply.ConnackRefused (code_of code))
-  pub end : to.state ≡ ended from.state (ByServer (code_of code))
+  pub reply : due ≡ within (packet_maximum c.packet_maximum) (reply.ConnackRefused (reason_value code))
+  pub end : to.state ≡ ended from.state (ByServer (reason_value code))
 
 -- what a row does with what is given, from the point before to the point after, with the reply that is then due
 abbrev pub SessionRow : Case → Given → Point State → List (List Entry) → Option Reply → Point State → Type 0
@@ -423,11 +423,11 @@ SessionRow Accepted given from answered due to =
     × (length (reply_bytes (connack c from.state)) ≤ packet_maximum c.packet_maximum) × (to.mark ≡ from.mark) × (due ≡ Some (connack c from.state)) × (to.state ≡ opened from.state (open_for c))
 SessionRow Connack_too_long given from answered due to =
     (c : Connect) × (given.input ≡ Whole (packet.Connect c)) × (from.state.phase ≡ phase.Before) × (is_some c.method ≡ false) × (c.will ≡ false)
-    × (packet_maximum c.packet_maximum < length (reply_bytes (connack c from.state))) × (to.mark ≡ from.mark) × (due ≡ None) × (to.state ≡ ended from.state (ByServer (code_of Success)))
+    × (packet_maximum c.packet_maximum < length (reply_bytes (connack c from.state))) × (to.mark ≡ from.mark) × (due ≡ None) × (to.state ≡ ended from.state (ByServer (reason_value Success)))
 -- 3.1.2.2
 SessionRow Other_version given from answered due to =
-    (given.input ≡ Broken Version) × (from.state.phase ≡ phase.Before) × (to.mark ≡ from.mark) × (due ≡ Some (reply.ConnackRefused (code_of UnsupportedProtocolVersion)))
-    × (to.state ≡ ended from.state (ByServer (code_of UnsupportedProtocolVersion)))
+    (given.input ≡ Broken Version) × (from.state.phase ≡ phase.Before) × (to.mark ≡ from.mark) × (due ≡ Some (reply.ConnackRefused (reason_value UnsupportedProtocolVersion)))
+    × (to.state ≡ ended from.state (ByServer (reason_value UnsupportedProtocolVersion)))
 -- 3.1: the first packet is a CONNECT
 SessionRow Unexpected given from answered due to =
     IsNeitherConnectNorVersion given.input × (from.state.phase ≡ phase.Before) × (to.mark ≡ from.mark) × (due ≡ None) × (to.state ≡ ended from.state Dropped)

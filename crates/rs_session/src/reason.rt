@@ -1,7 +1,7 @@
 //! Reason codes: section 2.4.
 
 ghost use Rattle.std.specs.Prelude.{◌≡◌};
-ghost use Rattle.rs_session.specs.Reasons.{code_of};
+ghost use Rattle.rs_session.specs.Reasons.{reason_value};
 
 /// The Reason Codes that a session chooses, each with the sections that say when it is sent.
 #[derive(Clone, Copy, Debug, PartialEq, Eq)]
@@ -41,7 +41,7 @@ pub enum ReasonCode {
 impl ReasonCode {
     /// The byte of this code.
     pub fn code(self) -> u8
-        ensures { result ≡ code_of self }
+        ensures { result ≡ reason_value self }
     {
         self as u8
     }

@@ -12,7 +12,7 @@ ghost use Rattle.rs_message.specs.Messages.{is_sweep};
 ghost use Rattle.rs_session.specs.Ahead.{IsChange, LeavesAhead};
 ghost use Rattle.rs_session.specs.Gate.{Grows, GrowsAnswering};
 ghost use Rattle.rs_session.specs.Points.{given_at};
-ghost use Rattle.rs_session.specs.Reasons.{code_of};
+ghost use Rattle.rs_session.specs.Reasons.{reason_value};
 ghost use Rattle.rs_session.specs.Run.{replies_left};
 ghost use Rattle.rs_session.specs.State.{session_at, state_of, due_of, gate_of, closing_of, is_open, step_of, fresh, ended, waiting_of, within, IsGiven, IsReplayed};
 ghost use Rattle.rs_session.specs.declared.open.Open.{Open};
@@ -67,7 +67,7 @@ impl<G: Gate> Session<G> {
             ((G.mark (gate_of self.new) ≡ G.mark (gate_of self.old)) × (step_of (state_of self.new).phase ≡ Step.End)) }
         ensures certain { (p : Publish) (o : Open) → packet ≡ Packet.Publish p → (state_of self.old).phase ≡ Phase.Open o
             → NoSerialUsed (G.stands (gate_of self.old)) (G.ahead (gate_of self.old)) (G.mark (gate_of self.old)) (G.mark (gate_of self.new))
-            → (state_of self.new).phase ≢ Phase.Ended (Closing.ByServer (code_of ReasonCode.QuotaExceeded)) }
+            → (state_of self.new).phase ≢ Phase.Ended (Closing.ByServer (reason_value ReasonCode.QuotaExceeded)) }
     {
         self.on_packet_with(packet, None, now)
     }
@@ -84,7 +84,7 @@ impl<G: Gate> Session<G> {
             ((G.mark (gate_of self.new) ≡ G.mark (gate_of self.old)) × (step_of (state_of self.new).phase ≡ Step.End)) }
         ensures certain { (p : Publish) (o : Open) → packet ≡ Packet.Publish p → (state_of self.old).phase ≡ Phase.Open o
             → NoSerialUsed (G.stands (gate_of self.old)) (G.ahead (gate_of self.old)) (G.mark (gate_of self.old)) (G.mark (gate_of self.new))
-            → (state_of self.new).phase ≢ Phase.Ended (Closing.ByServer (code_of ReasonCode.QuotaExceeded)) }
+            → (state_of self.new).phase ≢ Phase.Ended (Closing.ByServer (reason_value ReasonCode.QuotaExceeded)) }
     {
         match &mut self.phase {
             Phase::Before => self.first_packet(packet),
@@ -98,7 +98,7 @@ impl<G: Gate> Session<G> {
         self.step()
     }
 
-    /// Handles a fault in place of a packet, once the reply that was due is taken. The session ends: with a DISCONNECT and its
+    /// Handles a fault instead of a packet, once the reply that was due is taken. The session ends: with a DISCONNECT and its
     /// Reason Code (4.13), or, before an accepted CONNECT, with a CONNACK of 0x84 for another protocol version (3.1.2.2) and
     /// else without a reply. A session that has ended stays as it is.
     pub fn on_fault(&mut self, fault: PacketFault) -> Step
@@ -134,7 +134,7 @@ impl<G: Gate> Session<G> {
             ((G.mark (gate_of self.new) ≡ G.mark (gate_of self.old)) × (step_of (state_of self.new).phase ≡ Step.End)) }
         ensures certain { (p : Publish) (o : Open) → input ≡ Input.Whole (Packet.Publish p) → (state_of self.old).phase ≡ Phase.Open o
             → NoSerialUsed (G.stands (gate_of self.old)) (G.ahead (gate_of self.old)) (G.mark (gate_of self.old)) (G.mark (gate_of self.new))
-            → (state_of self.new).phase ≢ Phase.Ended (Closing.ByServer (code_of ReasonCode.QuotaExceeded)) }
+            → (state_of self.new).phase ≢ Phase.Ended (Closing.ByServer (reason_value ReasonCode.QuotaExceeded)) }
     {
         match input {
             Input::Whole(packet) => self.on_packet_with(packet, change, now),

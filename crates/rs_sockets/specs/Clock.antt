@@ -1,4 +1,4 @@
--- What the system's clock told.
+-- What was read of the system's clock.
 use Rattle.std.specs.Prelude.{ℕ}
 use Rattle.rs_sockets.specs.declared.clock.SystemClock.{SystemClock}
 

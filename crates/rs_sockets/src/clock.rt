@@ -19,15 +19,15 @@ impl SystemClock {
         SystemClock { last: 0 }
     }
 
-    /// The moment. If the clock cannot be read, this is the last moment that it told, and 0 at first.
+    /// The moment. If the clock cannot be read, this is the last moment that was read, and 0 at first.
     pub fn now<H: Clock>(&mut self, rt: &H) -> u64
         ensures { result ≡ last_of self.new }
     {
-        self.tell(seconds_since_1970(rt))
+        self.or_last(seconds_since_1970(rt))
     }
 
     /// The moment that was read, or if there is none the last one.
-    fn tell(&mut self, read: Option<u64>) -> u64
+    fn or_last(&mut self, read: Option<u64>) -> u64
         ensures moment { result ≡ unwrap_or read (last_of self.old) }
         ensures kept { last_of self.new ≡ result }
     {

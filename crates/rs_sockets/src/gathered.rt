@@ -1,4 +1,4 @@
-//! A writer that keeps what it is given until it is told to write it out.
+//! A writer that gathers what it is given until it is asked to write it out.
 
 ghost use Rattle.std.specs.Prelude.{◌≡◌, [], IfOk, OnOk};
 ghost use Rattle.std.specs.Io.KnownBytes.{Keeps};

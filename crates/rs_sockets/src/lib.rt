@@ -4,7 +4,7 @@
 //! connection it makes two halves, [`FromClient`] and [`ToClient`], each owned, which may go to any thread.
 //! [`close`] ends a connection so that the client can still read what was written last.
 //!
-//! Replies are gathered: what is written and flushed is kept, up to [`MAX_GATHERED`] bytes, and goes out in
+//! Replies are gathered: what is written and flushed waits, up to [`MAX_GATHERED`] bytes, and goes out in
 //! one write if more would not fit, before the next read of the same connection, and at its end.
 //! A connection may have a limit for how long it is idle; at one that failed, [`abandon`] waits for nothing.
 //!

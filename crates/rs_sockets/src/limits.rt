@@ -1,6 +1,6 @@
 //! The limits of connections and of accepting them.
 
-/// How many bytes of replies are kept before they are written out.
+/// How many bytes of replies are gathered before they are written out.
 pub const MAX_GATHERED: usize = 65_536;
 
 const _: () = prove!(MAX_GATHERED == 65_536);

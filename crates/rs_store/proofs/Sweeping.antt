@@ -8,7 +8,7 @@ use Rattle.rs_message.specs.declared.entry.Entry.{Entry}
 use Rattle.rs_message.specs.declared.entry.Found.{Found}
 use Rattle.rs_message.specs.declared.entry.Operation.{Operation}
 use Rattle.rs_message.specs.declared.entry.Operation.TheVariants.{Sweep}
-use Rattle.rs_store.specs.History.{Ends, Holds, IsAnswer, extended}
+use Rattle.rs_store.specs.History.{Displaces, Holds, IsAnswer, extended}
 use Rattle.rs_store.proofs.Histories.{retained_before, retained_still}
 
 -- what is expired stays so
@@ -33,7 +33,7 @@ holds_before history e moment topic message is h = ⊎_elim
 holds_after : (history : List Entry) (e : Entry) (moment now : ℕ) (topic : List ℕ) (message : MessageValue) → e.operation ≡ Sweep moment → moment ≤ now → is_expired now message ≡ false → Holds history topic message → Holds (extended history e) topic message
 holds_after history e moment now topic message is later fresh h = retained_still history e topic message h
     (λ ends.
-    let over : is_expired now message ≡ true = expired_later message moment now later (let P : Operation → Type 0 = λ o. Ends o topic message in subst P is ends) in
+    let over : is_expired now message ≡ true = expired_later message moment now later (let P : Operation → Type 0 = λ o. Displaces o topic message in subst P is ends) in
     cc (over, fresh))
 
 pub sweeps : (history : List Entry) (e : Entry) (moment now : ℕ) (pattern : List ℕ) (answer : List Found) → e.operation ≡ Sweep moment → moment ≤ now

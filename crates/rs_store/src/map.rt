@@ -25,8 +25,8 @@ use std::collections::BTreeMap;
 /// The messages in a map, in the order of replay. It is the plain catalogue: tests compare others with it.
 ///
 /// With n topics, `accepts` and `apply` look up one topic in about log n comparisons, each along the levels of two topics (at
-/// most [`MAX_LEVELS`](rs_topic::MAX_LEVELS)). `answer` matches every topic. `copy` takes about n log n comparisons. `version`, `last_serial` and `count` take
-/// constant time.
+/// most [`MAX_LEVELS`](rs_topic::MAX_LEVELS)). `answer` matches every topic. `copy` takes about n log n comparisons. `version`,
+/// `last_serial` and `count` take constant time.
 #[derive(Drop)]
 pub struct MapCatalogue {
     alloc: Global,

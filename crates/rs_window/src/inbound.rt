@@ -37,7 +37,7 @@ fn is_in(ids: &[u16], id: u16) -> bool
     }
 }
 
-/// Removes an identifier from the table, and tells whether it was there.
+/// Removes an identifier from the table, and returns whether it was there.
 fn take_out(ids: &mut ArrayVec<u16, MAX_HELD>, id: u16) -> bool
     requires { IsDistinct ids.old.items }
     ensures there { result ≡ set.contains (held_of ids.old.items) id }
@@ -136,7 +136,7 @@ impl Inbound {
         Ok(())
     }
 
-    /// Holds the identifier no longer, and tells whether it was held.
+    /// Holds the identifier no longer, and returns whether it was held.
     pub fn release(&mut self, id: PacketId) -> bool
         ensures there { result ≡ set.contains self.old id }
         ensures removed { self.new ≡ set.remove self.old id }

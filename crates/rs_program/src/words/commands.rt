@@ -33,7 +33,7 @@ is kept between two runs.
 With --hex both are text: each line of the input is an even number of hex digits (spaces and empty
 lines are ignored), and each reply is one line of hex digits.";
 
-const HEX_HELP: &str = "Read and write lines of hex digits in place of raw bytes";
+const HEX_HELP: &str = "Read and write lines of hex digits instead of raw bytes";
 
 const AT_HELP: &str =
     "The time of every packet, in whole seconds, by which retained messages expire";

@@ -3,7 +3,7 @@
 ghost use Rattle.std.specs.Prelude.{◌≡◌, ◌≤◌, ◌<◌, None, Some, IfOk, is_some};
 ghost use Rattle.rs_packet.specs.declared.packet.Publish.{Publish};
 ghost use Rattle.rs_packet.specs.declared.reply.Reply.{Reply};
-ghost use Rattle.rs_session.specs.Reasons.{code_of};
+ghost use Rattle.rs_session.specs.Reasons.{reason_value};
 ghost use Rattle.rs_session.specs.State.{state_of, ended, within};
 ghost use Rattle.rs_session.specs.Steps.{IsAccepted, connect_refusal};
 ghost use Rattle.rs_session.specs.Table.{AnswersWithoutGate, connack, open_for, packet_maximum, receive_maximum, is_longer, assigned_for};
@@ -44,7 +44,7 @@ impl<G: Gate> Session<G> {
         }
     }
 
-    /// A fault in place of the first packet. Only another version of the protocol is answered.
+    /// A fault instead of the first packet. Only another version of the protocol is answered.
     pub(super) fn first_fault(&mut self, fault: PacketFault)
         requires due { self.old.due ≡ None }
         requires before { self.old.phase ≡ Phase.Before }
@@ -104,8 +104,8 @@ impl<G: Gate> Session<G> {
 
     /// A CONNACK that refuses, to a client that takes it, and the end.
     fn refuse(&mut self, reason: ReasonCode, maximum: u32)
-        ensures state { state_of self.new ≡ ended (state_of self.old) (Closing.ByServer (code_of reason)) }
-        ensures due { self.new.due ≡ within maximum (Reply.ConnackRefused (code_of reason)) }
+        ensures state { state_of self.new ≡ ended (state_of self.old) (Closing.ByServer (reason_value reason)) }
+        ensures due { self.new.due ≡ within maximum (Reply.ConnackRefused (reason_value reason)) }
         ensures gate { self.new.gate ≡ self.old.gate }
     {
         let code = reason.code();

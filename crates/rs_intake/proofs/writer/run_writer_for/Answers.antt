@@ -40,7 +40,7 @@ put_job-count-requires-clause-rises g c =
     let entries = c.loop.received.entries in
     let more : c.next-in-loop.new.self.entries ≡ entries ++ c.in-Ok-Put.changes = c.in-Ok-Put.ensures.taken.0 ∙ ap (λ (x : Job). entries ++ entries_in x) c.in-Ok-Put.field-0-is in
     let P : List Entry → Type 0 = λ l. SerialsRise l in
-    (entries, c.loop.invariant.1.serves, subst P more c.in-Ok-Put.ensures.taken.1)
+    (entries, c.loop.invariant.1.kept_from, subst P more c.in-Ok-Put.ensures.taken.1)
 
 pub overflow_add-refused : goal.overflow_add-refused
 overflow_add-refused g c =
@@ -89,7 +89,7 @@ loop-preserved g c =
     )
 
 pub returns-clause-part : goal.returns-clause-part
-returns-clause-part g c = part_same c.loop.received.entries _ (kept_of c.loop.writer) _ (same_entries g c) (same_kept g c) c.loop.invariant.1.serves.part
+returns-clause-part g c = part_same c.loop.received.entries _ (kept_of c.loop.writer) _ (same_entries g c) (same_kept g c) c.loop.invariant.1.kept_from.part
 
 pub returns-clause-placed : goal.returns-clause-placed
 returns-clause-placed g c = subst (AreOfPlaces g.N.LineName.places) (sym (same_entries g c)) c.loop.invariant.6
@@ -100,7 +100,7 @@ returns-clause-refused g c =
     omega (arith, ap (λ (l : List Entry). length (without_sweeps l)) (same_kept g c), v.1, v.2, c.loop.invariant.1.sum)
 
 pub returns-clause-sweeps : goal.returns-clause-sweeps
-returns-clause-sweeps g c = are_for_same g.N.StoreName.limit c.loop.received.entries _ (kept_of c.loop.writer) _ (same_entries g c) (same_kept g c) c.loop.invariant.1.serves.sweeps
+returns-clause-sweeps g c = are_for_same g.N.StoreName.limit c.loop.received.entries _ (kept_of c.loop.writer) _ (same_entries g c) (same_kept g c) c.loop.invariant.1.kept_from.sweeps
 
 pub returns-clause-done : goal.returns-clause-done
 returns-clause-done g c = written_same g.N.StoreName.limit c.loop.received.entries _ (kept_of c.loop.writer) _ (same_entries g c) (same_kept g c) c.loop.invariant.1.written

@@ -7,7 +7,7 @@ use Rattle.rs_places.proofs.settled.settled.Goals.{in-Ok, in_default-2, in_defau
 pub returns-clause-order : goal.returns-clause-order
 returns-clause-order g c =
     let P : List Closed → Type 0 = λ l. AreTakenInOrder c.args.ended.received.entries l in
-    subst P c.parted-lines.ensures.lines c.settle.ensures.order
+    subst P c.unzipped-lines.ensures.lines c.settle.ensures.order
 
 pub returns-clause-ordered : goal.returns-clause-ordered
 returns-clause-ordered g c = search rules
@@ -21,7 +21,7 @@ returns-clause-settled g c = elim c.match-settle.branch [
       let taken = rw w.in-Ok.is at c.settle.ensures.settled in
       let count = rw w.in-Ok.is at c.settle.ensures.taken in
       let sum = rw w.in-Ok.is at c.settle.ensures.sum in
-      rw w.changes-is (subst A c.parted-lines.ensures.lines taken, count ∙ c.args.ended.counted, subst B c.parted-lines.ensures.lines sum)
+      rw w.changes-is (subst A c.unzipped-lines.ensures.lines taken, count ∙ c.args.ended.counted, subst B c.unzipped-lines.ensures.lines sum)
   | in_default-2 w ↦ rw w.changes-is tt
   | in_default w ↦ rw w.changes-is tt
 ]

@@ -1,7 +1,7 @@
 use Rattle.std.proofs.Common.{◌∙◌, ◌≡◌, ℕ, sym, refl, ap, subst}
 use Rattle.rs_packet.specs.declared.reply.Reply.{Reply}
 use Rattle.rs_packet.specs.declared.reply.Reply.TheVariants as reply
-use Rattle.rs_session.specs.Reasons.{code_of}
+use Rattle.rs_session.specs.Reasons.{reason_value}
 use Rattle.rs_session.specs.declared.reason.ReasonCode.TheVariants.{QuotaExceeded}
 use Rattle.rs_session.specs.State.{state_of, within}
 use Rattle.rs_session.specs.Steps.{IsAccepted}
@@ -12,7 +12,7 @@ use Rattle.rs_session.proofs.session.Session.connect.Goals as goal
 
 pub returns-in-Some-clause-row : goal.returns-in-Some-clause-row
 returns-in-Some-clause-row g c =
-    connect_refused c.args.c.now _ _ c.in-Some.reason _ _ _ refl refl (sym c.in-Some.ensures) c.requires.before (c.refuse.ensures.due ∙ ap (λ (n : ℕ). within n (reply.ConnackRefused (code_of c.in-Some.reason))) c.packet_maximum-maximum.ensures.value) c.refuse.ensures.state
+    connect_refused c.args.c.now _ _ c.in-Some.reason _ _ _ refl refl (sym c.in-Some.ensures) c.requires.before (c.refuse.ensures.due ∙ ap (λ (n : ℕ). within n (reply.ConnackRefused (reason_value c.in-Some.reason))) c.packet_maximum-maximum.ensures.value) c.refuse.ensures.state
 
 pub returns-in-Ok-clause-row : goal.returns-in-Ok-clause-row
 returns-in-Ok-clause-row g c =
@@ -27,4 +27,4 @@ returns-in-Ok-clause-row g c =
 
 pub returns-in-Err-clause-row : goal.returns-in-Err-clause-row
 returns-in-Err-clause-row g c =
-    connect_without_memory c.args.c.now _ _ _ _ _ refl refl (sym c.refusal.ensures ∙ c.in_default.is) c.requires.before (c.refuse-in-Err.ensures.due ∙ ap (λ (n : ℕ). within n (reply.ConnackRefused (code_of QuotaExceeded))) c.packet_maximum-maximum.ensures.value) c.refuse-in-Err.ensures.state
+    connect_without_memory c.args.c.now _ _ _ _ _ refl refl (sym c.refusal.ensures ∙ c.in_default.is) c.requires.before (c.refuse-in-Err.ensures.due ∙ ap (λ (n : ℕ). within n (reply.ConnackRefused (reason_value QuotaExceeded))) c.packet_maximum-maximum.ensures.value) c.refuse-in-Err.ensures.state

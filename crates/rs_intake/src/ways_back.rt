@@ -1,4 +1,4 @@
-//! Putting a job, and sending the writer's answers to its line.
+//! The ways back to all lines: the writer puts a job, and sends the replies to its line.
 
 ghost use Rattle.std.specs.Prelude.{◌≡◌, ◌+◌, ◌-◌, ◌<◌, ◌≤◌, ◌||◌, ◌++◌, [], List, true, false, length, vec_capacity};
 ghost use Rattle.rs_message.specs.Messages.{is_sweep};
@@ -9,7 +9,7 @@ ghost use Rattle.rs_version.specs.declared.fault.PutFault.TheVariants.{NoMemory}
 ghost use Rattle.rs_intake.specs.Changes.{place_of_all};
 ghost use Rattle.rs_intake.specs.Done.{AreReplied, IsAnswered, IsDone, IsPut, ReplyValue, answered_more, is_held};
 ghost use Rattle.rs_intake.specs.Sending.{AreToPut, ArePut, AreSent, AreSentNext};
-ghost use Rattle.rs_intake.specs.Sweeps.{Serves};
+ghost use Rattle.rs_intake.specs.Sweeps.{IsKeptFrom};
 ghost use Rattle.rs_intake.specs.declared.job.TheConstants.{MAX_CHANGES};
 ghost use Rattle.rs_intake.specs.declared.reply.TheConstants.{FEW_REPLIES};
 
@@ -40,7 +40,7 @@ fn reply_to<N: LineName, R: Wait + Drop>(
     WriterReply { origin, answer }
 }
 
-/// Puts the next change of a job, unless one before it is held: then nothing is done, and it is told that memory was refused. `has_held`
+/// Puts the next change of a job, unless one before it is held: then nothing is done, and the reply is that memory was refused. `has_held`
 /// is whether one is held.
 fn reply_to_next<N: LineName, R: Wait + Drop>(
     writer: &mut VersionWriter<N, R>,
@@ -102,7 +102,7 @@ fn reply_to_first<N: LineName, R: Wait + Drop>(
 }
 
 /// Puts the next `at_once` changes of a job, or all that are left. If there is no memory for the replies, nothing is put, and each change
-/// that is left is told that.
+/// that is left has that as its reply.
 fn next_replies<N: LineName, R: Wait + Drop>(
     alloc: Global,
     writer: &mut VersionWriter<N, R>,
@@ -170,7 +170,7 @@ fn put_and_send<N: LineName, R: Wait + Drop, W: Wait>(
     (refused, sent)
 }
 
-/// The writer's ends of the ways back to the lines, that of place 1 first. What a line is told is what is sent by its way back, and
+/// The writer's ends of the ways back to the lines, that of place 1 first. A line learns only what is sent by its way back, and
 /// only [`WaysBack::put_job`] sends.
 #[derive(Drop)]
 pub struct WaysBack<N: LineName> {
@@ -185,8 +185,8 @@ impl<N: LineName> WaysBack<N> {
         WaysBack { alloc, senders }
     }
 
-    /// Puts the changes of a job, one after the other, tells their line the answers, `at_once` in each message, and tells no line anything
-    /// else. The result is how many changes are refused, and whether a send of replies failed. It does, if the line is gone.
+    /// Puts the changes of a job, one after the other, and sends the replies to their line, `at_once` in each message, and nothing to any
+    /// other. The result is how many changes are refused, and whether a send of replies failed. It does, if the line is gone.
     pub(crate) fn put_job<R: Wait + Drop, W: Wait>(
         &mut self,
         rt: &W,
@@ -196,7 +196,7 @@ impl<N: LineName> WaysBack<N> {
     ) -> (u64, Result<(), Gone>)
         requires many { FEW_REPLIES ≤ at_once }
         requires place { place_of_all changes ≤ length self.old.senders.items }
-        requires rises { (before : List Entry) × Serves N.limit before (kept_of writer.old) × SerialsRise (before ++ changes) }
+        requires rises { (before : List Entry) × IsKeptFrom N.limit before (kept_of writer.old) × SerialsRise (before ++ changes) }
         ensures done { (replies sent : List ReplyValue) × AreReplied N.limit writer.old changes replies result.0 writer.new
             × (self.new.senders.items ≡ answered_more self.old.senders.items (place_of_all changes) sent) × AreSent replies sent result.1 }
         ensures ways { length self.new.senders.items ≡ length self.old.senders.items }

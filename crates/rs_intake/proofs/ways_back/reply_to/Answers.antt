@@ -1,5 +1,5 @@
 use Rattle.rs_intake.proofs.Done.{put_done, put_is}
-use Rattle.rs_intake.proofs.telling.reply_to.Goals as goal
+use Rattle.rs_intake.proofs.ways_back.reply_to.Goals as goal
 
 pub returns-clause-done : goal.returns-clause-done
 returns-clause-done g c =

@@ -2,7 +2,7 @@ use Rattle.std.proofs.Common.{◌≡◌, ◌+◌, ◌∷◌, List, sym, ap, subs
 use Rattle.rs_message.specs.declared.entry.Entry.{Entry}
 use Rattle.rs_intake.specs.Lines.{AreNext, Line}
 use Rattle.rs_intake.proofs.Ahead.{first_split}
-use Rattle.rs_intake.proofs.line.SeatLine.is_ahead.Goals as goal
+use Rattle.rs_intake.proofs.line.SeatLine.is_first_ahead.Goals as goal
 
 pub returns : goal.returns
 returns g c =

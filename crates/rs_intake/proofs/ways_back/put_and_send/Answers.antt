@@ -1,7 +1,7 @@
 use Rattle.std.proofs.Common.{◌++◌, [], refl, sym, arith}
 use Rattle.std.proofs.lemmas.List.{append-nil}
 use Rattle.rs_intake.proofs.Done.{put_more, put_none, sent_more}
-use Rattle.rs_intake.proofs.telling.put_and_send.Goals as goal
+use Rattle.rs_intake.proofs.ways_back.put_and_send.Goals as goal
 
 pub loop-alloc-init : goal.loop-alloc-init
 loop-alloc-init g c =

@@ -3,7 +3,7 @@ use Rattle.rs_version.specs.Writer.{kept_of}
 use Rattle.rs_intake.specs.Done.{ReplyValue}
 use Rattle.rs_intake.specs.Sending.{AreToPut, ArePut, AreSent}
 use Rattle.rs_intake.specs.declared.job.TheConstants.{MAX_CHANGES}
-use Rattle.rs_intake.proofs.telling.put_and_send.Given as goal
+use Rattle.rs_intake.proofs.ways_back.put_and_send.Given as goal
 
 abbrev pub invariant-loop-alloc : goal.invariant-loop-alloc
 invariant-loop-alloc g l = AreToPut g.N.StoreName.limit (kept_of l.writer) l.rest.items

@@ -1,6 +1,6 @@
 use Rattle.std.proofs.Common.{◌∷◌, [], length, ap, length-append, arith}
 use Rattle.rs_intake.proofs.Done.{left_less, left_rises, put_more, put_none, put_one, refused_one}
-use Rattle.rs_intake.proofs.telling.reply_to_first.Goals as goal
+use Rattle.rs_intake.proofs.ways_back.reply_to_first.Goals as goal
 
 pub loop-rest-init : goal.loop-rest-init
 loop-rest-init g c =

@@ -1,7 +1,7 @@
 use Rattle.std.proofs.Common.{◌≡◌, ◌+◌, ◌<◌, length, map, sym, ap, ◌∙◌, arith}
 use Rattle.rs_places.proofs.Starting.{first_of_all, length_more}
 use Rattle.rs_places.proofs.Whole.{all_done, push_map}
-use Rattle.rs_places.proofs.settled.parted.Goals as goal
+use Rattle.rs_places.proofs.settled.unzipped.Goals as goal
 
 pub push_reserved-requires : goal.push_reserved-requires
 push_reserved-requires g c = omega (arith, c.loop-end.invariant.3, ap length c.in-Some.ensures.steps.0)

@@ -1,7 +1,7 @@
 use Rattle.std.proofs.Common.{rules, ◌≡◌, [], length, map}
 use Rattle.rs_intake.specs.Done.{refused_reply}
 use Rattle.rs_intake.proofs.Done.{left_none, put_refusing}
-use Rattle.rs_intake.proofs.telling.next_replies.Goals as goal
+use Rattle.rs_intake.proofs.ways_back.next_replies.Goals as goal
 
 pub returns-in_default-clause-put : goal.returns-in_default-clause-put
 returns-in_default-clause-put g c =

@@ -2,7 +2,7 @@ use Rattle.std.proofs.Common.{◌≡◌, ◌+◌, ◌≤◌, length}
 use Rattle.std.specs.Prelude.{vec_capacity}
 use Rattle.rs_version.specs.Writer.{kept_of}
 use Rattle.rs_intake.specs.Sending.{AreToPut, ArePut}
-use Rattle.rs_intake.proofs.telling.reply_to_first.Given as goal
+use Rattle.rs_intake.proofs.ways_back.reply_to_first.Given as goal
 
 abbrev pub invariant-loop-rest : goal.invariant-loop-rest
 invariant-loop-rest g l = AreToPut g.N.StoreName.limit (kept_of l.writer) l.rest.items

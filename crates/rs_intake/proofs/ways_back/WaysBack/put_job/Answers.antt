@@ -2,7 +2,7 @@ use Rattle.std.proofs.Common.{rules, ◌≡◌, List, subst, arith}
 use Rattle.std.proofs.lemmas.Grind.{common_steps}
 use Rattle.rs_message.specs.declared.entry.Entry.{Entry}
 use Rattle.rs_intake.specs.Done.{AreReplied}
-use Rattle.rs_intake.proofs.telling.WaysBack.put_job.Goals as goal
+use Rattle.rs_intake.proofs.ways_back.WaysBack.put_job.Goals as goal
 
 pub returns-clause-done : goal.returns-clause-done
 returns-clause-done g c =
