@@ -26,7 +26,7 @@ pub use carried::{Properties, PropertyFields};
 pub use fault::PacketFault;
 pub use limits::MAX_REMAINING_LENGTH;
 pub use number::{put_u16, put_u32, read_u8, read_u16, read_u32};
-pub use properties::{properties_len, put_properties, read_properties};
+pub use properties::{note_octets, properties_len, put_properties, read_properties};
 pub use property::{Identifier, PropertyOwner, PropertyValues};
 pub use subscription::SubscriptionId;
 pub use varint::{VarintFault, parse_varint, put_varint, read_varint, varint_len};

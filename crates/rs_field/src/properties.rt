@@ -158,7 +158,7 @@ fn values_in(
 }
 
 /// Does nothing: its contract says that bytes are below 256, which the lemmas on what was read need.
-fn note_octets(bytes: &[u8])
+pub fn note_octets(bytes: &[u8])
     ensures { (i : ℕ) → slice_index bytes.now i < 256 }
 {}
 

@@ -17,12 +17,12 @@ use std::net::SocketAddr;
 use std::sync::Arc;
 use std::time::Clock;
 
-/// The system's time.
+/// The system's time, and what the log needs of its connection.
 #[derive(Drop)]
-pub(crate) struct ListenClock<H: Clock> {
+pub(crate) struct ConnectionClock<H: Clock> {
     rt: H,
     clock: SystemClock,
-    // How often the time was told: once for each packet.
+    // How often the time was asked for: once for each packet.
     packets: u64,
     id: LoggedConnection,
 }
@@ -46,7 +46,7 @@ impl Display for LoggedConnection {
     }
 }
 
-impl<H: Clock> rs_server::Clock for ListenClock<H> {
+impl<H: Clock> rs_server::Clock for ConnectionClock<H> {
     /// The time, in whole seconds since 1970.
     fn now(&mut self) -> u64 {
         self.packets = self.packets.saturating_add(1);
@@ -85,10 +85,10 @@ impl<H: Clock + Log + Copy + Send> Turn for ListenTurn<H> {
 
     type Out = ToClient;
 
-    type Time = ListenClock<H>;
+    type Time = ConnectionClock<H>;
 
     /// Waits for the next client. None if all were accepted.
-    fn next(&mut self) -> Option<Connection<FromClient, ToClient, ListenClock<H>>> {
+    fn next(&mut self) -> Option<Connection<FromClient, ToClient, ConnectionClock<H>>> {
         let Accepted {
             input,
             output,
@@ -106,7 +106,7 @@ impl<H: Clock + Log + Copy + Send> Turn for ListenTurn<H> {
         Some(Connection {
             input,
             output,
-            clock: ListenClock {
+            clock: ConnectionClock {
                 rt: self.rt,
                 clock,
                 packets: 0,
@@ -118,17 +118,17 @@ impl<H: Clock + Log + Copy + Send> Turn for ListenTurn<H> {
     /// Closes the connection, as [`abandon`] does if it failed, else as [`close`].
     fn end(
         &mut self,
-        connection: Connection<Counted<FromClient>, Counted<ToClient>, ListenClock<H>>,
+        connection: Connection<Counted<FromClient>, Counted<ToClient>, ConnectionClock<H>>,
         served: Result<Served, ServeFault>,
     )
-        ensures { TakesBack none_given (record { streams = record { unread = ⟦<FromClient as Read>⟧.remaining (inner_of connection.input); written = ⟦<ToClient as Write>⟧.contents (inner_of connection.output); moments = ⟦<ListenClock<H> as rs_server::Clock>⟧.moments connection.clock }; read_failures = failures_of connection.input; write_failures = failures_of connection.output; result = served }) none_given }
+        ensures { TakesBack none_given (record { streams = record { unread = ⟦<FromClient as Read>⟧.remaining (inner_of connection.input); written = ⟦<ToClient as Write>⟧.contents (inner_of connection.output); moments = ⟦<ConnectionClock<H> as rs_server::Clock>⟧.moments connection.clock }; read_failures = failures_of connection.input; write_failures = failures_of connection.output; result = served }) none_given }
     {
         let Connection {
             input,
             output,
             clock,
         } = connection;
-        let ListenClock {
+        let ConnectionClock {
             rt: _,
             clock,
             packets,

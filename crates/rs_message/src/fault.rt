@@ -19,8 +19,9 @@ pub enum SubmitFault {
     /// 42: no receipt came; the change may still become an entry, at most once.
     #[error("the store gave no receipt; the change may still be made, once")]
     Open = 42,
-    /// 43: the receipt was for another change; whether this one is an entry is not known.
-    #[error("the store answered for another change; whether this one was made is not known")]
+    /// 43: the receipt was for another change, and whether this one is an entry is not known; or another change was announced to come
+    /// first, and nothing was done.
+    #[error("the store answered for another change, or another was to come first; whether this one was made is not known")]
     Strange = 43,
     /// 44: the gate is closed; the change was not made.
     #[error("the store takes no more changes; start it again")]

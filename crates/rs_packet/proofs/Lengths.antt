@@ -10,12 +10,12 @@ use Rattle.rs_field.specs.Values.{PropertiesValue}
 use Rattle.rs_packet.specs.declared.packet.Qos.{Qos}
 use Rattle.rs_packet.specs.declared.packet.Qos.TheVariants.{AtMostOnce, AtLeastOnce, ExactlyOnce}
 use Rattle.rs_packet.specs.declared.reply.ConnackAccepted.{ConnackAccepted}
-use Rattle.rs_packet.specs.declared.reply.Publication.{Publication}
+use Rattle.rs_packet.specs.declared.reply.PublishReply.{PublishReply}
 use Rattle.rs_packet.specs.declared.reply.Reply.TheVariants as reply
 use Rattle.rs_packet.specs.Grammar.{IdFits, id_bytes, frame, level}
 use Rattle.rs_field.specs.Carried.{optional, replayed}
 use Rattle.rs_packet.specs.declared.limits.TheConstants.{MAX_PACKET_SIZE}
-use Rattle.rs_packet.specs.Replies.{message_len, publish_remaining, publication_body, reply_bytes, session_expiry_bytes, assigned_client_bytes, limit_bytes, accepting, accepted_body}
+use Rattle.rs_packet.specs.Replies.{message_len, publish_remaining, publish_reply_body, reply_bytes, session_expiry_bytes, assigned_client_bytes, limit_bytes, accepting, accepted_body}
 use Rattle.rs_field.proofs.Replayed.{length_replayed}
 use Rattle.rs_field.proofs.Written.{varint_short}
 use Rattle.rs_field.specs.Properties.{varint, varint_end, property_bytes, counted}
@@ -28,8 +28,8 @@ pub length_frame : (first : ℕ) (body : List ℕ) → length (frame first body)
 length_frame first body = omega (arith, length-append (varint (length body)) body)
 
 -- the length of a PUBLISH's body, by its parts
-pub length_body : (p : Publication) → let section = flat_map property_bytes (replayed p.expiry p.subscription p.properties) in
-    length (publication_body p) ≡ 2 + length p.topic + cond (is_some p.id) 2 0 + length (varint (length section)) + length section + length p.payload
+pub length_body : (p : PublishReply) → let section = flat_map property_bytes (replayed p.expiry p.subscription p.properties) in
+    length (publish_reply_body p) ≡ 2 + length p.topic + cond (is_some p.id) 2 0 + length (varint (length section)) + length section + length p.payload
 length_body p =
     let section = flat_map property_bytes (replayed p.expiry p.subscription p.properties) in
     omega (
@@ -89,7 +89,7 @@ remaining_parts topic qos expiry subscription carried payload section quality is
     let s = flat_map property_bytes (replayed expiry subscription carried) in
     rw (is-section, is-quality) (omega (arith, length-append (varint (length s)) s))
 
-pub section_small : (p : Publication) → length (publication_body p) < varint_end → length (flat_map property_bytes (replayed p.expiry p.subscription p.properties)) < varint_end
+pub section_small : (p : PublishReply) → length (publish_reply_body p) < varint_end → length (flat_map property_bytes (replayed p.expiry p.subscription p.properties)) < varint_end
 section_small p h = omega (arith, h, length_body p)
 
 -- there is an identifier if QoS is above 0
@@ -103,10 +103,10 @@ with_id ExactlyOnce (Some n) h = refl
 
 -- the body of a PUBLISH has the Remaining Length
 pub remaining_is : (topic : List ℕ) (qos : Qos) (id subscription expiry : Option ℕ) (carried : PropertiesValue) (payload : List ℕ) → IdFits qos id
-    → length (publication_body (record { topic = topic; qos = qos; id = id; subscription = subscription; expiry = expiry; properties = carried; payload = payload })) ≡ publish_remaining topic qos expiry subscription carried (length payload)
+    → length (publish_reply_body (record { topic = topic; qos = qos; id = id; subscription = subscription; expiry = expiry; properties = carried; payload = payload })) ≡ publish_remaining topic qos expiry subscription carried (length payload)
 unfolding publish_remaining
 remaining_is topic qos id subscription expiry carried payload fits =
-    let p : Publication = record { topic = topic; qos = qos; id = id; subscription = subscription; expiry = expiry; properties = carried; payload = payload } in
+    let p : PublishReply = record { topic = topic; qos = qos; id = id; subscription = subscription; expiry = expiry; properties = carried; payload = payload } in
     let section = flat_map property_bytes (replayed expiry subscription carried) in
     let some : ◌≡◌ {A = ℕ} (cond (is_some id) 2 0) (cond (ltb 0 (level qos)) 2 0) = ap (λ (b : Bool). cond b 2 0) (with_id qos id fits) in
     omega (arith, length_body p, some, length-append (varint (length section)) section)
@@ -117,10 +117,10 @@ pub length_publish : (topic : List ℕ) (qos : Qos) (id subscription expiry : Op
     → len ≡ 2 + length topic + cond (ltb 0 quality) 2 0 + length (varint section) + section + payload → digits ≡ length (varint len)
     → 1 + digits + len ≡ length (reply_bytes (reply.Publish (record { topic = topic; qos = qos; id = id; subscription = subscription; expiry = expiry; properties = carried; payload = bytes })))
 length_publish topic qos id subscription expiry carried bytes section quality payload len digits fits is-section is-quality is-payload is-len is-digits =
-    let p : Publication = record { topic = topic; qos = qos; id = id; subscription = subscription; expiry = expiry; properties = carried; payload = bytes } in
-    let parts : 2 + length topic + cond (ltb 0 quality) 2 0 + length (varint section) + section + payload ≡ length (publication_body p) = rw (is-section, is-quality, ← is-payload, ← with_id qos id fits) (sym (length_body p)) in
-    let body : len ≡ length (publication_body p) = is-len ∙ parts in
-    rw (is-digits, body) (sym (length_frame (0x31 + 2 * level qos) (publication_body p)))
+    let p : PublishReply = record { topic = topic; qos = qos; id = id; subscription = subscription; expiry = expiry; properties = carried; payload = bytes } in
+    let parts : 2 + length topic + cond (ltb 0 quality) 2 0 + length (varint section) + section + payload ≡ length (publish_reply_body p) = rw (is-section, is-quality, ← is-payload, ← with_id qos id fits) (sym (length_body p)) in
+    let body : len ≡ length (publish_reply_body p) = is-len ∙ parts in
+    rw (is-digits, body) (sym (length_frame (0x31 + 2 * level qos) (publish_reply_body p)))
 
 -- ---- an accepting CONNACK, by its parts
 

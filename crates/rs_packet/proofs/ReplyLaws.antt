@@ -13,12 +13,12 @@ use Rattle.rs_field.proofs.Fields.{wide16, number_again, binary_again, varint_ag
 use Rattle.rs_packet.specs.declared.packet.Qos.{Qos}
 use Rattle.rs_packet.specs.declared.packet.Qos.TheVariants.{AtMostOnce, AtLeastOnce, ExactlyOnce}
 use Rattle.rs_packet.specs.declared.reply.ConnackAccepted.{ConnackAccepted}
-use Rattle.rs_packet.specs.declared.reply.Publication.{Publication}
+use Rattle.rs_packet.specs.declared.reply.PublishReply.{PublishReply}
 use Rattle.rs_packet.specs.declared.reply.Reply.{Reply}
 use Rattle.rs_packet.specs.declared.reply.Reply.TheVariants as reply
 use Rattle.rs_packet.specs.Values.{CodesValue}
 use Rattle.rs_packet.specs.Grammar.{IdFits, id_bytes, level}
-use Rattle.rs_packet.specs.Replies.{limit_bytes, accepting, accepted_body, acknowledging, codes_body, publication_body, first_byte, reply_body, HasEncoding, PublishFits, ReplyFits, EncodesReply}
+use Rattle.rs_packet.specs.Replies.{limit_bytes, accepting, accepted_body, acknowledging, codes_body, publish_reply_body, first_byte, reply_body, HasEncoding, PublishFits, ReplyFits, EncodesReply}
 use Rattle.rs_packet.proofs.Lengths.{length_accepting, length_accepted, section_small}
 use Rattle.rs_packet.proofs.AnswerLaws.{pair_is, same_prefix, frame_parts}
 use Rattle.rs_field.proofs.CarriedLaws.{section_is}
@@ -41,8 +41,8 @@ ids_are ExactlyOnce None j x y h k e = absurd h
 ids_are ExactlyOnce (Some n) None x y h k e = absurd k
 ids_are ExactlyOnce (Some n) (Some m) x y h k e = numbers_are n m x y h.1 k.1 e
 
-publication_is : (p q : Publication) → PublishFits p → PublishFits q → length (publication_body p) < varint_end → length (publication_body q) < varint_end → p.qos ≡ q.qos → publication_body p ≡ publication_body q → p ≡ q
-publication_is p q h k lp lq qos e =
+publish_reply_is : (p q : PublishReply) → PublishFits p → PublishFits q → length (publish_reply_body p) < varint_end → length (publish_reply_body q) < varint_end → p.qos ≡ q.qos → publish_reply_body p ≡ publish_reply_body q → p ≡ q
+publish_reply_is p q h k lp lq qos e =
     let ps = flat_map property_bytes (replayed p.expiry p.subscription p.properties) in
     let qs = flat_map property_bytes (replayed q.expiry q.subscription q.properties) in
     let topic = pair_is p.topic q.topic (id_bytes p.id ++ (properties (replayed p.expiry p.subscription p.properties) ++ p.payload)) (id_bytes q.id ++ (properties (replayed q.expiry q.subscription q.properties) ++ q.payload))
@@ -58,7 +58,7 @@ publication_is p q h k lp lq qos e =
     made topic.0 qos ids.0 carried.1 carried.0 carried.2 parts.1
   where
     made : {t1 t2 : List ℕ} {o1 o2 : Qos} {i1 i2 s1 s2 e1 e2 : Option ℕ} {p1 p2 : PropertiesValue} {b1 b2 : List ℕ} → t1 ≡ t2 → o1 ≡ o2 → i1 ≡ i2 → s1 ≡ s2 → e1 ≡ e2 → p1 ≡ p2 → b1 ≡ b2
-        → ◌≡◌ {A = Publication} (record { topic = t1; qos = o1; id = i1; subscription = s1; expiry = e1; properties = p1; payload = b1 }) (record { topic = t2; qos = o2; id = i2; subscription = s2; expiry = e2; properties = p2; payload = b2 })
+        → ◌≡◌ {A = PublishReply} (record { topic = t1; qos = o1; id = i1; subscription = s1; expiry = e1; properties = p1; payload = b1 }) (record { topic = t2; qos = o2; id = i2; subscription = s2; expiry = e2; properties = p2; payload = b2 })
     made a b c d e f g = rw (a, b, c, d, e, f, g) refl
 
 level_is : (q r : Qos) → level q ≡ level r → q ≡ r
@@ -159,7 +159,7 @@ plain_is (reply.ConnackAccepted a) h lt = some _ _ (connack_is a h lt)
 plain_is (reply.ConnackRefused code) h lt = refl
 plain_is (reply.Publish p) h lt = none p.qos
   where
-    none : (q : Qos) → plain_at (0x31 + 2 * level q) (publication_body p) ≡ None
+    none : (q : Qos) → plain_at (0x31 + 2 * level q) (publish_reply_body p) ≡ None
     none AtMostOnce = refl
     none AtLeastOnce = refl
     none ExactlyOnce = refl
@@ -188,7 +188,7 @@ plain_some (reply.Unsuback c) s e = some_is _ s e
 plain_some reply.Pingresp s e = some_is _ s e
 plain_some (reply.Disconnect code) s e = some_is _ s e
 
-plain_none : (r : Reply) → plain r ≡ None → (p : Publication) × (r ≡ reply.Publish p)
+plain_none : (r : Reply) → plain r ≡ None → (p : PublishReply) × (r ≡ reply.Publish p)
 plain_none (reply.ConnackAccepted a) e = absurd cc
 plain_none (reply.ConnackRefused code) e = absurd cc
 plain_none (reply.Publish p) e = (p, refl)
@@ -203,15 +203,15 @@ plain_none (reply.Disconnect code) e = absurd cc
 
 -- ---- all of them
 
-published : (r s : Reply) (p q : Publication) → r ≡ reply.Publish p → s ≡ reply.Publish q → ReplyFits r → ReplyFits s → HasEncoding r → HasEncoding s → first_byte r ≡ first_byte s → reply_body r ≡ reply_body s → r ≡ s
+published : (r s : Reply) (p q : PublishReply) → r ≡ reply.Publish p → s ≡ reply.Publish q → ReplyFits r → ReplyFits s → HasEncoding r → HasEncoding s → first_byte r ≡ first_byte s → reply_body r ≡ reply_body s → r ≡ s
 published r s p q er es h k hs ks f b =
     let fp : PublishFits p = subst ReplyFits er h in
     let fq : PublishFits q = subst ReplyFits es k in
-    let sp : length (publication_body p) < varint_end = subst HasEncoding er hs in
-    let sq : length (publication_body q) < varint_end = subst HasEncoding es ks in
+    let sp : length (publish_reply_body p) < varint_end = subst HasEncoding er hs in
+    let sq : length (publish_reply_body q) < varint_end = subst HasEncoding es ks in
     let first : 0x31 + 2 * level p.qos ≡ 0x31 + 2 * level q.qos = sym (ap first_byte er) ∙ f ∙ ap first_byte es in
-    let body : publication_body p ≡ publication_body q = sym (ap reply_body er) ∙ b ∙ ap reply_body es in
-    er ∙ ap (λ (x : Publication). reply.Publish x) (publication_is p q fp fq sp sq (level_is p.qos q.qos (omega (arith, first))) body) ∙ sym es
+    let body : publish_reply_body p ≡ publish_reply_body q = sym (ap reply_body er) ∙ b ∙ ap reply_body es in
+    er ∙ ap (λ (x : PublishReply). reply.Publish x) (publish_reply_is p q fp fq sp sq (level_is p.qos q.qos (omega (arith, first))) body) ∙ sym es
 
 reply_is : (r s : Reply) → ReplyFits r → ReplyFits s → HasEncoding r → HasEncoding s → first_byte r ≡ first_byte s → reply_body r ≡ reply_body s → r ≡ s
 reply_is r s h k hs ks f b = go (plain r) refl (sym both)

@@ -1,11 +1,11 @@
 -- What the types of packets and replies keep.
 use Rattle.std.specs.Prelude.{ℕ, ◌<◌, ◌≤◌, length, IfSome}
 use Rattle.rs_field.specs.Bounds.{MaximaFit}
-use Rattle.rs_packet.specs.Values.{PublishValue, ConnectValue, PublicationValue, SubscribeValue, UnsubscribeValue, CodesValue}
+use Rattle.rs_packet.specs.Values.{PublishValue, ConnectValue, PublishReplyValue, SubscribeValue, UnsubscribeValue, CodesValue}
 use Rattle.rs_field.specs.Properties.{IsSubscriptionId, varint_end}
 use Rattle.rs_packet.specs.declared.limits.TheConstants.{MAX_PACKET_SIZE}
 use Rattle.rs_packet.specs.Grammar.{IdFits}
-use Rattle.rs_packet.specs.Replies.{message_size, publication_body, codes_body}
+use Rattle.rs_packet.specs.Replies.{message_size, publish_reply_body, codes_body}
 
 abbrev pub IsConnect : ConnectValue → Type 0
 IsConnect connect = MaximaFit connect.receive_maximum connect.packet_maximum
@@ -29,10 +29,10 @@ abbrev pub IsUnsubscribe : UnsubscribeValue → Type 0
 IsUnsubscribe unsubscribe = FewFilters (length unsubscribe.filters)
 
 -- 3.3.2.2, 3.3.2.3.8, 2.1.4: a PUBLISH whose length has a form
-pub record IsPublication (publication : PublicationValue) : Type 0 where
-  pub id_fits : IdFits publication.qos publication.id
-  pub subscription_fits : IfSome publication.subscription IsSubscriptionId
-  pub small : length (publication_body publication) < varint_end
+pub record IsPublishReply (published : PublishReplyValue) : Type 0 where
+  pub id_fits : IdFits published.qos published.id
+  pub subscription_fits : IfSome published.subscription IsSubscriptionId
+  pub small : length (publish_reply_body published) < varint_end
 
 -- 2.1.4
 abbrev pub AreCodes : CodesValue → Type 0

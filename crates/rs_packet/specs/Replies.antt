@@ -2,7 +2,7 @@
 use Rattle.std.specs.Prelude.{◌≡◌, ℕ, ◌+◌, ◌*◌, ◌<◌, ◌^◌, List, [], ◌∷◌, ◌++◌, length, Option, Some, None, IfSome, Bool, true, false, nat_lt, ◌==◌, if◌then◌else◌}
 use Rattle.rs_packet.specs.declared.packet.Qos.{Qos}
 use Rattle.rs_packet.specs.declared.reply.ConnackAccepted.{ConnackAccepted}
-use Rattle.rs_packet.specs.declared.reply.Publication.{Publication}
+use Rattle.rs_packet.specs.declared.reply.PublishReply.{PublishReply}
 use Rattle.rs_packet.specs.declared.reply.Reply.{Reply}
 use Rattle.rs_packet.specs.declared.reply.Reply.TheVariants as reply
 use Rattle.rs_field.specs.Values.{PropertiesValue}
@@ -59,8 +59,8 @@ first_byte (reply.Unsuback codes) = 0xB0
 first_byte reply.Pingresp = 0xD0
 first_byte (reply.Disconnect code) = 0xE0
 
-abbrev pub publication_body : Publication → List ℕ
-publication_body publication = counted publication.topic ++ (id_bytes publication.id ++ (properties (replayed publication.expiry publication.subscription publication.properties) ++ publication.payload))
+abbrev pub publish_reply_body : PublishReply → List ℕ
+publish_reply_body published = counted published.topic ++ (id_bytes published.id ++ (properties (replayed published.expiry published.subscription published.properties) ++ published.payload))
 
 -- 2.1.4: the Remaining Length of a PUBLISH whose payload has this length; there is an identifier if QoS is 1 or 2 (3.3.2.2)
 unfoldable pub publish_remaining : List ℕ → Qos → Option ℕ → Option ℕ → PropertiesValue → ℕ → ℕ
@@ -73,7 +73,7 @@ codes_body codes = two codes.id ++ 0 ∷ codes.codes
 abbrev pub reply_body : Reply → List ℕ
 reply_body (reply.ConnackAccepted a) = accepted_body a
 reply_body (reply.ConnackRefused code) = 0 ∷ code ∷ 0 ∷ []
-reply_body (reply.Publish p) = publication_body p
+reply_body (reply.Publish p) = publish_reply_body p
 reply_body (reply.Puback id code) = acknowledging id code
 reply_body (reply.Pubrec id code) = acknowledging id code
 reply_body (reply.Pubrel id code) = acknowledging id code
@@ -90,10 +90,10 @@ reply_bytes r = frame (first_byte r) (reply_body r)
 -- ---- what the types keep
 
 -- 3.3.2: the topic, the identifier and the properties of a PUBLISH have their forms
-pub record PublishFits (publication : Publication) : Type 0 where
-  pub topic_fits : IsShort publication.topic
-  pub id_fits : IdFits publication.qos publication.id
-  pub section_fits : SectionFits publication.expiry publication.subscription publication.properties
+pub record PublishFits (published : PublishReply) : Type 0 where
+  pub topic_fits : IsShort published.topic
+  pub id_fits : IdFits published.qos published.id
+  pub section_fits : SectionFits published.expiry published.subscription published.properties
 
 -- the fields of a reply have their forms
 abbrev pub ReplyFits : Reply → Type 0

@@ -39,7 +39,7 @@ pub record RetainedValue : Type 0 where
   pub topic : List ℕ
   pub message : MessageValue
 
-pub record PublicationValue : Type 0 where
+pub record PublishReplyValue : Type 0 where
   pub topic : List ℕ
   pub qos : Qos
   pub id : Option ℕ

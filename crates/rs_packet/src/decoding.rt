@@ -1,6 +1,6 @@
 //! Reading the packets of a client.
 
-ghost use Rattle.std.specs.Prelude.{◌≡◌, ◌==◌, ◌<◌, ◌≤◌, ◌-◌, ◌/◌, ◌%◌, ◌++◌, not, length, take, slice_index, List, ℕ, Ok, IfOk};
+ghost use Rattle.std.specs.Prelude.{◌≡◌, ◌==◌, ◌<◌, ◌≤◌, ◌-◌, ◌/◌, ◌%◌, ◌++◌, not, length, take, List, ℕ, Ok, IfOk};
 ghost use Rattle.rs_packet.specs.declared.packet.Packet.{Packet};
 ghost use Rattle.rs_packet.specs.declared.reply.Reply.{Reply};
 ghost use Rattle.rs_packet.specs.Replies.{EncodesReply};
@@ -21,7 +21,7 @@ use crate::packet::{
 };
 use bytes::Bytes;
 use rs_field::{
-    PacketFault, Properties, PropertyFields, PropertyOwner, PropertyValues, read_binary,
+    PacketFault, Properties, PropertyFields, PropertyOwner, PropertyValues, note_octets, read_binary,
     read_properties, read_string, read_u8, read_u16,
 };
 use rs_topic::{Text, TopicName};
@@ -361,11 +361,6 @@ fn decoded(alloc: Global, bytes: &Bytes) -> Result<Decoded, PacketFault>
         Err(fault) => Err(fault),
     }
 }
-
-/// Does nothing: its contract says that bytes are below 256, which the lemmas on what was read need.
-fn note_octets(bytes: &[u8])
-    ensures { (i : ℕ) → slice_index bytes.now i < 256 }
-{}
 
 /// Decodes the packet that the bytes begin with: the packet and its size in bytes, or `More` if they are less than a packet.
 /// Err is the first fault from left to right (4.13), or `NoMemory`, which may come instead of any other answer. Nothing

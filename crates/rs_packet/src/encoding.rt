@@ -8,7 +8,7 @@ ghost use Rattle.rs_packet.specs.Replies.{reply_body, reply_bytes, HasEncoding, 
 use crate::encoding::acknowledgements::{acknowledgement_len, put_acknowledgement};
 use crate::encoding::codes::{codes_len, put_codes};
 use crate::encoding::connack::{accepted_len, put_accepted};
-use crate::encoding::publish::{body_len, put_publication};
+use crate::encoding::publish::{body_len, put_publish_reply};
 use crate::reply::Reply;
 use bytes::Bytes;
 use rs_field::{put_varint, varint_len};
@@ -39,7 +39,7 @@ fn put(out: &mut Vec<u8>, reply: &Reply) -> Result<(), AllocError>
     match reply {
         Reply::ConnackAccepted(a) => put_accepted(out, a)?,
         Reply::ConnackRefused(code) => put_small(out, 0x20, &[0, *code, 0])?,
-        Reply::Publish(p) => put_publication(out, p)?,
+        Reply::Publish(p) => put_publish_reply(out, p)?,
         Reply::Puback(id, code) => put_acknowledgement(out, 0x40, *id, *code)?,
         Reply::Pubrec(id, code) => put_acknowledgement(out, 0x50, *id, *code)?,
         Reply::Pubrel(id, code) => put_acknowledgement(out, 0x62, *id, *code)?,

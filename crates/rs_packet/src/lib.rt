@@ -34,6 +34,6 @@ pub use packet::{
     Acknowledgement, Connect, Decoded, Options, Packet, PacketId, Publish, Qos, RetainHandling,
     Subscribe, Unsubscribe,
 };
-pub use reply::{Codes, ConnackAccepted, Publication, Reply};
+pub use reply::{Codes, ConnackAccepted, PublishReply, Reply};
 pub use retained::Retained;
 pub use rs_field::{MAX_REMAINING_LENGTH, PacketFault, Properties, PropertyFields, SubscriptionId};

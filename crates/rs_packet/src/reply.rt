@@ -22,7 +22,7 @@ pub struct ConnackAccepted {
 /// A PUBLISH (3.3) with a retained message for a subscriber. It has an identifier if QoS is 1 or 2, and
 /// its Remaining Length (2.1.4) is at most `MAX_REMAINING_LENGTH`.
 #[derive(Debug, Drop)]
-pub struct Publication {
+pub struct PublishReply {
     /// The topic (3.3.2.1) and its message: its payload (3.3.3), of any bytes, and the properties that it carries (3.3.2.3), sent in
     /// rising order of identifier.
     pub retained: Retained,
@@ -36,12 +36,12 @@ pub struct Publication {
     pub expiry: Option<u32>,
 }
 
-impl Model for Publication {
-    ghost use Rattle.rs_packet.specs.Values.{PublicationValue};
+impl Model for PublishReply {
+    ghost use Rattle.rs_packet.specs.Values.{PublishReplyValue};
 
-    ghost Value = { PublicationValue };
+    ghost Value = { PublishReplyValue };
 
-    ghost use Rattle.rs_packet.specs.Bounds.{IsPublication};
+    ghost use Rattle.rs_packet.specs.Bounds.{IsPublishReply};
 
     ghost view = { λ p. record {
       topic = p.retained.topic;
@@ -53,7 +53,7 @@ impl Model for Publication {
       payload = p.retained.message.payload;
     } };
 
-    ghost invariant = { λ p. IsPublication (record {
+    ghost invariant = { λ p. IsPublishReply (record {
       topic = p.retained.topic;
       qos = p.qos;
       id = p.id;
@@ -64,9 +64,9 @@ impl Model for Publication {
     }) };
 }
 
-impl Publication {
+impl PublishReply {
     ghost use Rattle.std.specs.Prelude.{◌≡◌, ◌≤◌};
-    ghost use Rattle.rs_packet.specs.Values.{PublicationValue};
+    ghost use Rattle.rs_packet.specs.Values.{PublishReplyValue};
     ghost use Rattle.rs_packet.specs.Grammar.{IdFits};
     ghost use Rattle.rs_packet.specs.Replies.{message_size};
 
@@ -78,7 +78,7 @@ impl Publication {
         id: Option<PacketId>,
         expiry: Option<u32>,
         subscription: Option<SubscriptionId>,
-    ) -> Publication
+    ) -> PublishReply
         requires id_fits { IdFits qos id }
         requires message_fits { message_size expiry retained.message.properties retained.message.payload ≤ MAX_PACKET_SIZE }
         ensures { result ≡ record { topic = retained.topic; qos = qos; id = id; subscription = subscription; expiry = expiry; properties = retained.message.properties; payload = retained.message.payload } }
@@ -86,7 +86,7 @@ impl Publication {
         let subscription = in_range(subscription);
         // For the proof: this call says that the topic is short.
         let _topic = retained.topic().as_bytes();
-        Publication {
+        PublishReply {
             retained,
             qos,
             id,
@@ -153,7 +153,7 @@ pub enum Reply {
     /// more.
     ConnackRefused(u8),
     /// A PUBLISH with RETAIN set (3.3).
-    Publish(Publication),
+    Publish(PublishReply),
     /// A PUBACK with its reason code (3.4).
     Puback(PacketId, u8),
     /// A PUBREC with its reason code (3.5).

@@ -124,7 +124,7 @@ where
                 log,
             },
         ) => match listen(rt, address.as_str(), places, topics, connections, idle, log) {
-            Ok(summary) => served_by(summary, places.get()),
+            Ok(summary) => server_outcome(summary, places.get()),
             Err(fault) => Err(RunFault::Listen(log.then_some(fault))),
         },
         Err(fault) => Err(RunFault::Words(fault)),
@@ -132,7 +132,7 @@ where
 }
 
 /// Whether a server ended as it should: each place had a thread, and all changes are settled.
-fn served_by(summary: Summary, places: u8) -> Result<(), RunFault>
+fn server_outcome(summary: Summary, places: u8) -> Result<(), RunFault>
     ensures { result ≡ server_outcome summary.threads summary.changes places }
 {
     let Summary { threads, changes } = summary;

@@ -74,17 +74,18 @@ fn takes_and_answers<G: Gate>(alloc: Global, gate: &mut G, all: &TopicFilter) ->
     sets(alloc, gate) && answers(gate, all) && answers_within(gate, all)
 }
 
-fn local<C: Catalogue>(alloc: Global) -> Result<LocalGate<C>, Fail> {
+/// A gate of one thread to an empty store for seven topics.
+pub(crate) fn local_gate<C: Catalogue>(alloc: Global) -> Result<LocalGate<C>, Fail> {
     let limit = TopicLimit::new(7).ok_or("the limit")?;
     Ok(LocalGate::new(alloc, limit)?)
 }
 
 #[test]
-fn gates_answer(rt: HostRuntime) -> Result<(), Fail> {
+fn each_gate_answers_what_it_took(rt: HostRuntime) -> Result<(), Fail> {
     let alloc = rt.alloc();
     let all = TopicFilter::read(alloc, b"#")?;
-    assert!(rt; takes_and_answers(alloc, &mut local::<MapCatalogue>(alloc)?, &all));
-    assert!(rt; takes_and_answers(alloc, &mut local::<TreeCatalogue>(alloc)?, &all));
+    assert!(rt; takes_and_answers(alloc, &mut local_gate::<MapCatalogue>(alloc)?, &all));
+    assert!(rt; takes_and_answers(alloc, &mut local_gate::<TreeCatalogue>(alloc)?, &all));
     assert!(rt; takes_and_answers(alloc, &mut OwnGate::new(alloc)?, &all));
     let limit = TopicLimit::new(7).ok_or("the limit")?;
     let places = PlaceCount::new(2).ok_or("two places")?;

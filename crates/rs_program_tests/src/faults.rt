@@ -1,10 +1,11 @@
 //! One failing read, write or flush, and what a second connection by the same gate gets then, over the
 //! program's store and over a bare gate.
 
+use crate::answers::local_gate;
 use rs_program::OwnGate;
 use rs_server::{ConnectionId, Counted, Moments, Served, serve};
-use rs_session::{Gate, LocalGate};
-use rs_store::{MapCatalogue, TopicLimit};
+use rs_session::Gate;
+use rs_store::MapCatalogue;
 use rs_test_kit::{
     Behavior, Call, FAULTS, FIRST, Fault, FaultyStream, SECOND, ServeResult, first_replies,
     second_replies,
@@ -61,11 +62,6 @@ fn both_are_served<H: Wait, G: Gate + Drop>(
     first && second
 }
 
-fn local_gate(alloc: Global) -> Result<LocalGate<MapCatalogue>, Fail> {
-    let limit = TopicLimit::new(7).ok_or("the limit")?;
-    Ok(LocalGate::new(alloc, limit)?)
-}
-
 fn check_fault<H: Abort + Wait>(
     rt: &H,
     alloc: Global,
@@ -77,7 +73,7 @@ fn check_fault<H: Abort + Wait>(
         let behavior = Behavior { step, call, at };
         let own = both_are_served(rt, alloc, OwnGate::new(alloc)?, fault, behavior);
         assert!(rt; own, "{call:?} {at}");
-        let bare = both_are_served(rt, alloc, local_gate(alloc)?, fault, behavior);
+        let bare = both_are_served(rt, alloc, local_gate::<MapCatalogue>(alloc)?, fault, behavior);
         assert!(rt; bare, "bare {call:?} {at}");
     }
     Ok(())

@@ -168,7 +168,7 @@ fn serve_once<R: Read, W: Write, G: Gate, C: Clock>(
     };
     let Planned { input, now, change } = next;
     match make_exchange(alloc, session, writer, input, change, now) {
-        Ok(()) => Ok(outcome(session.closing())),
+        Ok(()) => Ok(served_as(session.closing())),
         Err(fault) => Err(fault),
     }
 }
@@ -226,7 +226,7 @@ fn make_exchange<G: Gate, W: Write>(
 }
 
 /// How the connection of a session with this closing ended.
-fn outcome(closing: Option<Closing>) -> Option<Served>
+fn served_as(closing: Option<Closing>) -> Option<Served>
     ensures { result ≡ served_as closing }
 {
     match closing? {

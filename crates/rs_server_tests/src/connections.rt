@@ -6,7 +6,7 @@ mod handed;
 mod streams;
 
 use rs_server::ServeFault;
-use std::alloc::Global;
+use rs_test_kit::is_shown;
 use std::test::Fail;
 
 /// Each fault, its number and its text.
@@ -28,16 +28,11 @@ const FAULTS: &[(ServeFault, u8, &str)] = &[
     ),
 ];
 
-fn is_shown(alloc: Global, fault: ServeFault, text: &str) -> Result<bool, Fail> {
-    let shown = format!(in alloc; "{fault}")?;
-    Ok(shown.as_str() == text)
-}
-
 #[test]
 fn faults_have_a_code_and_a_text(rt: HostRuntime) -> Result<(), Fail> {
     for (fault, code, text) in FAULTS {
         assert!(rt; fault.code() == *code);
-        assert!(rt; is_shown(rt.alloc(), *fault, text)?);
+        assert!(rt; is_shown(rt.alloc(), fault, text));
     }
     Ok(())
 }

@@ -3,6 +3,7 @@
 use bytes::Bytes;
 use rs_message::{Found, Message};
 use rs_packet::{PacketId, Properties, Qos, RECEIVE_MAXIMUM, SubscriptionId, encode};
+use rs_test_kit::is_shown;
 use rs_topic::TopicName;
 use rs_window::{Ack, Inbound, MAX_QUOTA, MAX_WAITING, Outgoing, Window, WindowFault};
 use std::alloc::Global;
@@ -503,7 +504,7 @@ fn a_queue_without_memory_changes_nothing(rt: HostRuntime) -> Result<(), Fail> {
 }
 
 #[test]
-fn as_many_are_held_as_announced(rt: HostRuntime) -> Result<(), Fail> {
+fn as_many_are_held_as_the_receive_maximum(rt: HostRuntime) -> Result<(), Fail> {
     let mut inbound = Inbound::new();
     for number in 0..RECEIVE_MAXIMUM {
         assert!(rt; !inbound.is_full());
@@ -544,16 +545,11 @@ const FAULTS: &[(WindowFault, u8, &str)] = &[
     ),
 ];
 
-fn is_shown(alloc: Global, fault: WindowFault, text: &str) -> Result<bool, Fail> {
-    let shown = format!(in alloc; "{fault}")?;
-    Ok(shown.as_str() == text)
-}
-
 #[test]
 fn faults_have_codes_and_texts(rt: HostRuntime) -> Result<(), Fail> {
     for (fault, code, text) in FAULTS {
         assert!(rt; fault.code() == *code);
-        assert!(rt; is_shown(rt.alloc(), *fault, text)?);
+        assert!(rt; is_shown(rt.alloc(), fault, text));
     }
     Ok(())
 }

@@ -9,7 +9,7 @@ use Rattle.rs_packet.specs.declared.packet.Packet.{Packet}
 use Rattle.rs_packet.specs.declared.packet.Packet.TheVariants as packet
 use Rattle.rs_packet.specs.declared.packet.Qos.{Qos}
 use Rattle.rs_packet.specs.declared.packet.Qos.TheVariants as qos
-use Rattle.rs_packet.specs.declared.reply.Publication.{Publication}
+use Rattle.rs_packet.specs.declared.reply.PublishReply.{PublishReply}
 use Rattle.rs_packet.specs.declared.reply.Reply.{Reply}
 use Rattle.rs_packet.specs.declared.reply.Reply.TheVariants as reply
 use Rattle.rs_packet.specs.Values.{Asked, Filter}
@@ -18,7 +18,7 @@ use Rattle.rs_packet.specs.Replies.{reply_bytes}
 use Rattle.rs_message.specs.declared.entry.Entry.{Entry}
 use Rattle.rs_window.specs.Calls as window
 use Rattle.rs_window.specs.Calls.{Call, Queue, Next, Acknowledge}
-use Rattle.rs_window.specs.Packets.{reply_of, publication_of}
+use Rattle.rs_window.specs.Packets.{reply_of, publish_reply_of}
 use Rattle.rs_window.specs.Replay as calls
 use Rattle.rs_window.specs.State as window_state
 use Rattle.rs_window.specs.Values.{OutgoingValue}
@@ -53,7 +53,7 @@ use Rattle.rs_session.specs.Table.{subscription_for, acknowledged_by, acknowledg
 use Rattle.rs_session.specs.Table as table
 use Rattle.rs_session.specs.Points.{Given, Point, with_state}
 use Rattle.rs_session.specs.Run.{Exchange, Gives, GivesAll, IsExchange, Run}
-use Rattle.rs_session.specs.Replay.{is_granted, subscribed_by, IsQueuedAt, IsQueuedFor, AreQueued, IsAcknowledged, AreCalledBy, acknowledgement_in, IsRefused, giving, listed, publications, IsNoPublish, IsServed, IsLast, AreMade, subscriptions_of, AreCalls, window_of, window_after, window_for, IsOpen, Opens, IsReplaying, AreSentOrDropped, AreSent, IsWithinQuota, IsSentInOrder}
+use Rattle.rs_session.specs.Replay.{is_granted, subscribed_by, IsQueuedAt, IsQueuedFor, AreQueued, IsAcknowledged, AreCalledBy, acknowledgement_in, IsRefused, giving, listed, publish_replies, IsNoPublish, IsServed, IsLast, AreMade, subscriptions_of, AreCalls, window_of, window_after, window_for, IsOpen, Opens, IsReplaying, AreSentOrDropped, AreSent, IsWithinQuota, IsSentInOrder}
 
 -- ---- a SUBSCRIBE
 
@@ -313,7 +313,7 @@ run_quota from (call ∷ made) to (mid, step, rest) = run_quota mid made to rest
 abbrev IsMadeTo : Open → Exchange → Phase → Type 0
 IsMadeTo o exchange to = (made : List Call) × calls.Run o.window made (window_of o.window to) × AreMade o.subscriptions exchange to made
 
-none_within : (b : Bool) (code : ℕ) → publications (listed (cond b (Some (reply.Disconnect code)) None)) ≡ []
+none_within : (b : Bool) (code : ℕ) → publish_replies (listed (cond b (Some (reply.Disconnect code)) None)) ≡ []
 none_within true code = refl
 none_within false code = refl
 
@@ -337,12 +337,12 @@ led_made exchange o left (Closes code) old mid due (own, run, refused) d same g 
     let (is, whole) = left_replies exchange.given.now due mid (ByServer (reason_value code)) exchange.replies g.left g.last exchange.to.state (ap (λ (s : State). s.phase) same) g.given g.none_left in
     let last : IsLast exchange own = record {
       refused = refused;
-      none_given = ap publications whole ∙ ap (λ (r : Option Reply). publications (listed r)) d ∙ none_within (leb (length (reply_bytes (reply.Disconnect (reason_value code)))) o.window.packet_maximum) (reason_value code);
+      none_given = ap publish_replies whole ∙ ap (λ (r : Option Reply). publish_replies (listed r)) d ∙ none_within (leb (length (reply_bytes (reply.Disconnect (reason_value code)))) o.window.packet_maximum) (reason_value code);
     } in
     subst (λ (p : Phase). IsMadeTo o exchange p) (sym is) (own, run, last)
 led_made exchange o left Leaves old mid due (own, run, refused) d same g =
     let (is, whole) = left_replies exchange.given.now due mid ByClient exchange.replies g.left g.last exchange.to.state (ap (λ (s : State). s.phase) same) g.given g.none_left in
-    let last : IsLast exchange own = record { refused = refused; none_given = ap publications whole ∙ ap (λ (r : Option Reply). publications (listed r)) d } in
+    let last : IsLast exchange own = record { refused = refused; none_given = ap publish_replies whole ∙ ap (λ (r : Option Reply). publish_replies (listed r)) d } in
     subst (λ (p : Phase). IsMadeTo o exchange p) (sym is) (own, run, last)
 
 -- from whatever phase
@@ -497,49 +497,49 @@ front_after packet_maximum (Next now given ∷ own) rest front h is = absurd h
 front_after packet_maximum (Acknowledge ack id answer ∷ own) rest front h (gone, more, e, none_gone, is) =
     front_after packet_maximum own rest front h (subst (λ (ws : List Waiting). calls.HasLeft packet_maximum (own ++ rest) ws) (sym (e ∙ ap (λ (ws : List Waiting). ws ++ more) none_gone)) is)
 
-dropped_first : (packet_maximum now : ℕ) (dropped ws : List Waiting) (sent : List Publication) → AllDropped packet_maximum now dropped → AreSentOrDropped packet_maximum now ws sent
+dropped_first : (packet_maximum now : ℕ) (dropped ws : List Waiting) (sent : List PublishReply) → AllDropped packet_maximum now dropped → AreSentOrDropped packet_maximum now ws sent
     → AreSentOrDropped packet_maximum now (dropped ++ ws) sent
 dropped_first packet_maximum now [] ws sent all h = h
 dropped_first packet_maximum now (w ∷ dropped) ws sent (first, all) h = inl (first, dropped_first packet_maximum now dropped ws sent all h)
 
 -- what leaves the queue while the window gives these
 front_given : (packet_maximum now : ℕ) (given : List OutgoingValue) (rest : List Call) (front : List Waiting) → calls.HasLeft packet_maximum (giving now given ++ rest) front
-    → (gone : List Waiting) × (more : List Waiting) × (front ≡ gone ++ more) × AreSentOrDropped packet_maximum now gone (map publication_of given) × calls.HasLeft packet_maximum rest more
+    → (gone : List Waiting) × (more : List Waiting) × (front ≡ gone ++ more) × AreSentOrDropped packet_maximum now gone (map publish_reply_of given) × calls.HasLeft packet_maximum rest more
 front_given packet_maximum now [] rest front (gone, more, e, all, is) =
     (gone, more, e, subst (λ (ws : List Waiting). AreSentOrDropped packet_maximum now ws []) (append-nil gone) (dropped_first packet_maximum now gone [] [] all refl), is)
 front_given packet_maximum now (p ∷ given) rest front (gone, more, e, (dropped, w, whole, all, carries), is) =
     let (later, left, e_later, sent, fronts) = front_given packet_maximum now given rest more is in
-    let here : AreSentOrDropped packet_maximum now (w ∷ later) (publication_of p ∷ map publication_of given) = inr (p, map publication_of given, refl, carries, sent) in
+    let here : AreSentOrDropped packet_maximum now (w ∷ later) (publish_reply_of p ∷ map publish_reply_of given) = inr (p, map publish_reply_of given, refl, carries, sent) in
     let regroup : front ≡ (dropped ++ w ∷ later) ++ left =
     e ∙ ap (λ (ws : List Waiting). ws ++ more) whole ∙ append_assoc dropped (w ∷ []) more ∙ ap (λ (ws : List Waiting). dropped ++ w ∷ ws) e_later ∙ sym (append_assoc dropped (w ∷ later) left) in
     (dropped ++ w ∷ later, left, regroup, dropped_first packet_maximum now dropped (w ∷ later) _ all here, fronts)
 
-published : (given : List OutgoingValue) → publications (map reply_of given) ≡ map publication_of given
+published : (given : List OutgoingValue) → publish_replies (map reply_of given) ≡ map publish_reply_of given
 published [] = refl
-published (p ∷ given) = ap (λ (ps : List Publication). publication_of p ∷ ps) (published given)
+published (p ∷ given) = ap (λ (ps : List PublishReply). publish_reply_of p ∷ ps) (published given)
 
-other_first : (r : Reply) (rs : List Reply) → IsNoPublish (Some r) → publications (r ∷ rs) ≡ publications rs
+other_first : (r : Reply) (rs : List Reply) → IsNoPublish (Some r) → publish_replies (r ∷ rs) ≡ publish_replies rs
 other_first (reply.Publish p) rs h = absurd h
 other_first r rs h = refl
 
-answer_first : (maximum : ℕ) (answer : Option Reply) (rs : List Reply) → IsNoPublish answer → publications (listed (due_for maximum (Replies answer)) ++ rs) ≡ publications rs
+answer_first : (maximum : ℕ) (answer : Option Reply) (rs : List Reply) → IsNoPublish answer → publish_replies (listed (due_for maximum (Replies answer)) ++ rs) ≡ publish_replies rs
 answer_first maximum None rs h = refl
 answer_first maximum (Some r) rs h = by_case (leb (length (reply_bytes r)) maximum)
   where
-    by_case : (b : Bool) → publications (listed (cond b (Some r) None) ++ rs) ≡ publications rs
+    by_case : (b : Bool) → publish_replies (listed (cond b (Some r) None) ++ rs) ≡ publish_replies rs
     by_case true = other_first r rs h
     by_case false = refl
 
 exchange_sends : (packet_maximum : ℕ) (there : Subscriptions) (exchange : Exchange) (to : Phase) (made rest : List Call) (front : List Waiting) → AreMade there exchange to made → calls.HasLeft packet_maximum (made ++ rest) front
-    → (gone : List Waiting) × (more : List Waiting) × (front ≡ gone ++ more) × AreSentOrDropped packet_maximum exchange.given.now gone (publications exchange.replies) × calls.HasLeft packet_maximum rest more
+    → (gone : List Waiting) × (more : List Waiting) × (front ≡ gone ++ more) × AreSentOrDropped packet_maximum exchange.given.now gone (publish_replies exchange.replies) × calls.HasLeft packet_maximum rest more
 exchange_sends packet_maximum there exchange phase.Before made rest front h is = absurd h
 exchange_sends packet_maximum there exchange (phase.Open o) made rest front s is =
     let apart : calls.HasLeft packet_maximum (s.own ++ (giving exchange.given.now s.given ++ rest)) front =
     subst (λ (cs : List Call). calls.HasLeft packet_maximum cs front) (ap (λ (cs : List Call). cs ++ rest) s.whole ∙ append_assoc s.own (giving exchange.given.now s.given) rest) is in
     let (gone, more, e, sent, fronts) = front_given packet_maximum exchange.given.now s.given rest front
     (front_after packet_maximum s.own (giving exchange.given.now s.given ++ rest) front (called_gives_none exchange.given.input exchange.given.now exchange.answered there s.answer s.own s.called) apart) in
-    let replied : publications exchange.replies ≡ map publication_of s.given = ap publications s.replies ∙ answer_first o.window.packet_maximum s.answer (map reply_of s.given) s.no_publish ∙ published s.given in
-    (gone, more, e, subst (λ (ps : List Publication). AreSentOrDropped packet_maximum exchange.given.now gone ps) (sym replied) sent, fronts)
+    let replied : publish_replies exchange.replies ≡ map publish_reply_of s.given = ap publish_replies s.replies ∙ answer_first o.window.packet_maximum s.answer (map reply_of s.given) s.no_publish ∙ published s.given in
+    (gone, more, e, subst (λ (ps : List PublishReply). AreSentOrDropped packet_maximum exchange.given.now gone ps) (sym replied) sent, fronts)
 exchange_sends packet_maximum there exchange (phase.Ended closing) made rest front last is =
     ([], front, refl, last.none_given, front_after packet_maximum made rest front (refused_gives_none (acknowledgement_in exchange.given.input) made last.refused) is)
 

@@ -4,7 +4,7 @@ use Rattle.std.specs.Prelude.{◌≡◌, ℕ, ◌≤◌, ◌⊎◌, ◌&&◌, Bo
 use Rattle.std.specs.FinMap as finite
 use Rattle.rs_packet.specs.declared.packet.Connect.{Connect}
 use Rattle.rs_packet.specs.declared.packet.Packet.TheVariants as packet
-use Rattle.rs_packet.specs.declared.reply.Publication.{Publication}
+use Rattle.rs_packet.specs.declared.reply.PublishReply.{PublishReply}
 use Rattle.rs_packet.specs.declared.reply.Reply.{Reply}
 use Rattle.rs_packet.specs.declared.reply.Reply.TheVariants as reply
 use Rattle.rs_packet.specs.Values.{Asked, Filter}
@@ -15,7 +15,7 @@ use Rattle.rs_store.specs.History.{IsAnswer}
 use Rattle.rs_window.specs.Calls as window
 use Rattle.rs_window.specs.Calls.{Call, Queue, Next, Acknowledge}
 use Rattle.rs_window.specs.Identifiers.{Kinds}
-use Rattle.rs_window.specs.Packets.{reply_of, publication_of}
+use Rattle.rs_window.specs.Packets.{reply_of, publish_reply_of}
 use Rattle.rs_window.specs.Replay as calls
 use Rattle.rs_window.specs.State as window_state
 use Rattle.rs_window.specs.Values.{OutgoingValue}
@@ -97,10 +97,10 @@ listed None = []
 listed (Some r) = r ∷ []
 
 -- the PUBLISH packets among the replies
-abbrev pub publications : List Reply → List Publication
-publications [] = []
-publications (reply.Publish p ∷ rs) = p ∷ publications rs
-publications (r ∷ rs) = publications rs
+abbrev pub publish_replies : List Reply → List PublishReply
+publish_replies [] = []
+publish_replies (reply.Publish p ∷ rs) = p ∷ publish_replies rs
+publish_replies (r ∷ rs) = publish_replies rs
 
 abbrev pub IsNoPublish : Option Reply → Type 0
 IsNoPublish (Some (reply.Publish p)) = ⊥
@@ -119,7 +119,7 @@ pub record IsServed (there : Subscriptions) (packet_maximum : ℕ) (exchange : E
 -- the session ends, and no more is given
 pub record IsLast (exchange : Exchange) (made : List Call) : Type 0 where
   pub refused : IsRefused (acknowledgement_in exchange.given.input) made
-  pub none_given : publications exchange.replies ≡ []
+  pub none_given : publish_replies exchange.replies ≡ []
 
 abbrev pub AreMade : Subscriptions → Exchange → Phase → List Call → Type 0
 AreMade there exchange phase.Before made = ⊥
@@ -173,17 +173,17 @@ pub record IsReplaying (c : Connect) (exchanges : List Exchange) : Type 0 where
 
 -- These messages leave the queue at a given time, in order. Each is sent as its packet, or it is dropped, since it has expired or
 -- its packet is longer than the client takes.
-abbrev pub AreSentOrDropped : ℕ → ℕ → List Waiting → List Publication → Type 0
+abbrev pub AreSentOrDropped : ℕ → ℕ → List Waiting → List PublishReply → Type 0
 AreSentOrDropped packet_maximum now [] sent = sent ≡ []
 AreSentOrDropped packet_maximum now (w ∷ ws) sent =
     (IsDropped packet_maximum now w × AreSentOrDropped packet_maximum now ws sent)
-    ⊎ ((p : OutgoingValue) × (more : List Publication) × (sent ≡ publication_of p ∷ more) × Carries packet_maximum now w p × AreSentOrDropped packet_maximum now ws more)
+    ⊎ ((p : OutgoingValue) × (more : List PublishReply) × (sent ≡ publish_reply_of p ∷ more) × Carries packet_maximum now w p × AreSentOrDropped packet_maximum now ws more)
 
 -- exchange by exchange, these leave the queue, and the PUBLISH packets among the replies are what is sent of them
 abbrev pub AreSent : ℕ → List Exchange → List Waiting → Type 0
 AreSent packet_maximum [] front = front ≡ []
 AreSent packet_maximum (exchange ∷ exchanges) front =
-    (gone : List Waiting) × (rest : List Waiting) × (front ≡ gone ++ rest) × AreSentOrDropped packet_maximum exchange.given.now gone (publications exchange.replies) × AreSent packet_maximum exchanges rest
+    (gone : List Waiting) × (rest : List Waiting) × (front ≡ gone ++ rest) × AreSentOrDropped packet_maximum exchange.given.now gone (publish_replies exchange.replies) × AreSent packet_maximum exchanges rest
 
 -- these identifiers wait for an acknowledgement after the calls, and they are not more than the client takes
 pub record IsWithinQuota (c : Connect) (before : List Call) : Type 0 where

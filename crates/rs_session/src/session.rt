@@ -156,7 +156,7 @@ impl<G: Gate> Session<G> {
         }
     }
 
-    /// How many changes the gate takes at once ([`Gate::most_expected`]). None if the session is not open.
+    /// How many changes the gate takes at once ([`Gate::most_expected`]). 0 if the session is not open.
     pub fn most_expected(&self) -> usize
         ensures { result ≤ G.most }
     {

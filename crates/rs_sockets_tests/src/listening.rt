@@ -75,7 +75,7 @@ fn sends_at_once<H: Clock>(rt: &H, alloc: Global, listener: &Listener) -> Option
 }
 
 #[test]
-fn nothing_waits_for_more(rt: HostRuntime) -> Result<(), Fail> {
+fn replies_are_sent_without_delay(rt: HostRuntime) -> Result<(), Fail> {
     let alloc = rt.alloc();
     let listener = Listener::bind(&rt, "127.0.0.1:0", 1, None)?;
     let _client = TcpStream::connect(&rt, listener.address(alloc)?.as_str())?;

@@ -2,9 +2,9 @@
 use Rattle.std.specs.Prelude.{ℕ, ◌<◌, List, length}
 use Rattle.rs_message.specs.declared.entry.Found.{Found}
 use Rattle.rs_store.specs.declared.answer.Stop.{Stop}
-use Rattle.rs_store.specs.declared.answer.Stop.TheVariants.{Full, NoMemory}
+use Rattle.rs_store.specs.declared.answer.Stop.TheVariants.{NoRoom, NoMemory}
 
 -- why an answer is given up that is this list, or has this list as a prefix
 abbrev pub IsStop : Stop → ℕ → List Found → Type 0
-IsStop Full room found = room < length found
+IsStop NoRoom room found = room < length found
 IsStop NoMemory room found = Unit {0}

@@ -11,7 +11,7 @@ use std::alloc::{AllocError, Global};
 #[derive(Clone, Copy, Debug, PartialEq, Eq)]
 pub enum Stop {
     /// It would have more messages than it may.
-    Full,
+    NoRoom,
     /// Out of memory.
     NoMemory,
 }
@@ -27,12 +27,15 @@ impl From<AllocError> for Stop {
 /// The messages found so far, and how many there may be.
 #[derive(Drop)]
 pub struct Answer {
+    /// The messages, in the order of replay.
     pub found: Vec<Found>,
+    /// How many messages there may be.
     pub room: usize,
     ghost fits: { length found.items ≤ room },
 }
 
 impl Answer {
+    /// No messages, where so many may be.
     pub fn new(alloc: Global, room: usize) -> Answer
         ensures empty { result.found.items ≡ [] }
         ensures room { result.room ≡ room }
@@ -50,7 +53,7 @@ impl Answer {
         ensures room { self.new.room ≡ self.old.room }
     {
         if self.found.len() == self.room {
-            return Err(Stop::Full);
+            return Err(Stop::NoRoom);
         }
         match self.found.push(found.copy()?) {
             Ok(()) => Ok(()),

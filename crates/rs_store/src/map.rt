@@ -13,8 +13,8 @@ ghost use Rattle.rs_store.specs.declared.limit.TheConstants.{MAX_TOPICS};
 
 use crate::answer::{Answer, Stop};
 use crate::catalogue::Catalogue;
+use crate::expiring::{is_expired, lowered};
 use crate::fault::Refusal;
-use crate::found::{is_expired, lowered};
 use crate::ledger::Ledger;
 use crate::limit::TopicLimit;
 use rs_message::{Entry, Found, Message, Operation};
@@ -162,7 +162,7 @@ fn answers(
     let mut answer = Answer::new(alloc, room);
     match answer_all(alloc, retained, filter, now, &mut answer) {
         Ok(()) => Ok(Some(answer.into_found())),
-        Err(Stop::Full) => Ok(None),
+        Err(Stop::NoRoom) => Ok(None),
         Err(Stop::NoMemory) => Err(AllocError),
     }
 }

@@ -5,9 +5,11 @@
 mod faults;
 mod gate;
 mod packets;
+mod shown;
 mod streams;
 
 pub use faults::{FAULTS, FIRST, Fault, SECOND, ServeResult, first_replies, second_replies};
 pub use gate::{REFUSING_GATE, Refusing};
 pub use packets::{CONNACK, CONNECT, REPLAYED, SUBSCRIBED, joined};
+pub use shown::is_shown;
 pub use streams::{Behavior, Call, FaultyStream};

@@ -10,7 +10,7 @@ use crate::fault::{Ack, WindowFault};
 use crate::identifiers::{Kind, change_kind, free_identifier, kind_at};
 use crate::waiting::{MAX_WAITING, Waiting, append, drop_unsendable, lesser_of, take_first};
 use rs_message::{Found, Message, Remaining};
-use rs_packet::{PacketId, Publication, Qos, Reply, SubscriptionId};
+use rs_packet::{PacketId, PublishReply, Qos, Reply, SubscriptionId};
 use slab::Slab;
 use std::alloc::{AllocError, Global};
 use std::collections::VecDeque;
@@ -67,7 +67,7 @@ impl Outgoing {
         } = self;
         // For the proof: this call says that the message fits a packet.
         let _payload = found.message().payload();
-        Reply::Publish(Publication::new(found.into_retained(), qos, id, expiry, subscription))
+        Reply::Publish(PublishReply::new(found.into_retained(), qos, id, expiry, subscription))
     }
 }
 

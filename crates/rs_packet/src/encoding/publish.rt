@@ -6,10 +6,10 @@ ghost use Rattle.rs_field.specs.Forms.{varint, varint_end};
 ghost use Rattle.rs_field.specs.Properties.{property_bytes};
 ghost use Rattle.rs_field.specs.Carried.{replayed};
 ghost use Rattle.rs_packet.specs.Grammar.{IdFits, frame, id_bytes, level};
-ghost use Rattle.rs_packet.specs.Replies.{publication_body, publish_remaining, reply_bytes, PublishFits};
+ghost use Rattle.rs_packet.specs.Replies.{publish_reply_body, publish_remaining, reply_bytes, PublishFits};
 
 use crate::packet::{PacketId, Qos};
-use crate::reply::{Publication, Reply};
+use crate::reply::{PublishReply, Reply};
 use rs_field::{
     Properties, SubscriptionId, properties_len, put_binary, put_properties, put_u16, put_varint,
     varint_len,
@@ -30,9 +30,9 @@ fn around_len(topic: &TopicName, with_id: bool, section: usize, payload: usize) 
 
 /// The number of bytes of the body of a PUBLISH, and of its properties.
 #[tactic(auto, using(crate::proofs::Lengths::length_body, crate::proofs::Lengths::section_small))]
-pub(crate) fn body_len(p: &Publication) -> (usize, usize)
+pub(crate) fn body_len(p: &PublishReply) -> (usize, usize)
     ensures section { result.1 ≡ length (flat_map property_bytes (replayed p.now.expiry p.now.subscription p.now.properties)) }
-    ensures body { result.0 ≡ length (publication_body p.now) }
+    ensures body { result.0 ≡ length (publish_reply_body p.now) }
     ensures small { result.0 < varint_end }
     ensures section_small { result.1 < varint_end }
     ensures fits { PublishFits p.now }
@@ -58,8 +58,8 @@ fn put_id(out: &mut Vec<u8>, id: Option<PacketId>) -> Result<(), AllocError>
 }
 
 /// Appends a PUBLISH.
-pub(crate) fn put_publication(out: &mut Vec<u8>, p: &Publication) -> Result<(), AllocError>
-    ensures { OnOk result (out.new.items ≡ out.old.items ++ frame (0x31 + 2 * level p.now.qos) (publication_body p.now)) }
+pub(crate) fn put_publish_reply(out: &mut Vec<u8>, p: &PublishReply) -> Result<(), AllocError>
+    ensures { OnOk result (out.new.items ≡ out.old.items ++ frame (0x31 + 2 * level p.now.qos) (publish_reply_body p.now)) }
 {
     let (len, section) = body_len(p);
     out.push(0x31 + 2 * p.qos.level())?;

@@ -171,7 +171,7 @@ fn known_turns(alloc: Global) -> Result<Vec<Listed>, AllocError>
 
 /// Two places, three connections.
 #[test]
-fn known_connections_are_answered(rt: HostRuntime) -> Result<(), Fail> {
+fn connections_in_memory_are_answered(rt: HostRuntime) -> Result<(), Fail> {
     let alloc = rt.alloc();
     let turns = known_turns(alloc)?;
     let places = PlaceCount::new(2).ok_or("two places")?;

@@ -143,7 +143,7 @@ fn counts<H: Wait>(
 }
 
 #[test]
-fn what_is_replied_does_not_change(rt: HostRuntime) -> Result<(), Fail> {
+fn look_ahead_changes_no_reply(rt: HostRuntime) -> Result<(), Fail> {
     for cut in 0..=SENT.len() {
         let halves = Cut {
             first: &SENT[..cut],

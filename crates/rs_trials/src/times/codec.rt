@@ -4,7 +4,7 @@ use super::row::nanos;
 use crate::failure::Failure;
 use bytes::Bytes;
 use rs_packet::{
-    Codes, Decoded, MAX_PACKET_SIZE, Message, Packet, Publication, Publish, Reply, Retained,
+    Codes, Decoded, MAX_PACKET_SIZE, Message, Packet, Publish, PublishReply, Reply, Retained,
     Subscribe, decode, encode,
 };
 use std::alloc::Global;
@@ -65,7 +65,7 @@ fn publication(alloc: Global, publish: Publish) -> Result<Reply, Failure> {
     let Ok(retained) = Retained::new(alloc, topic, message) else {
         return Err(Failure::NoMemory);
     };
-    let sent = Publication::new(retained, qos, id, expiry, None);
+    let sent = PublishReply::new(retained, qos, id, expiry, None);
     Ok(Reply::Publish(sent))
 }
 

@@ -92,7 +92,7 @@ fn reply_of(
     let Ok(retained) = Retained::new(alloc, topic, message) else {
         return None;
     };
-    let sent = Publication::new(retained, qos, id_at(qos), expiry, subscription);
+    let sent = PublishReply::new(retained, qos, id_at(qos), expiry, subscription);
     Some(Reply::Publish(sent))
 }
 

@@ -1,7 +1,7 @@
 use Rattle.std.proofs.Common.{ℕ, ◌<◌, ◌^◌, Option, length, ap, ◌∙◌, arith}
 use Rattle.rs_packet.specs.Replies.{publish_remaining}
 use Rattle.rs_packet.proofs.Lengths.{message_publish, remaining_is}
-use Rattle.rs_packet.proofs.reply.Publication.new.Goals as goal
+use Rattle.rs_packet.proofs.reply.PublishReply.new.Goals as goal
 
 pub invariant_of-result : goal.invariant_of-result
 invariant_of-result c = record {

@@ -1,5 +1,5 @@
 use Rattle.std.proofs.Common.{refl}
-use Rattle.rs_places_tests.proofs.places.known.known_connections_are_answered.Goals as goal
+use Rattle.rs_places_tests.proofs.places.known.connections_in_memory_are_answered.Goals as goal
 
 -- The plan of a list of connections is known, by its definition.
 pub answered-requires-clause-known : goal.answered-requires-clause-known
