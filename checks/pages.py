@@ -1,6 +1,6 @@
 """Compares what the documents say of the repository with the repository: each file that they name
-is there, each link leads somewhere, and each line of a caller that a crate's page shows stands in
-the file that the page names."""
+is there, each name of the code stands in some source, each link leads somewhere, and each line of a
+caller that a crate's page shows stands in the file that the page names."""
 
 import re
 import sys
@@ -11,6 +11,21 @@ from harness.words import given_words
 ROOT = Path(__file__).resolve().parent.parent
 # A file in backticks: of the repository, or of a crate, as `rs_store/src/tree.rt`.
 FILE = re.compile(r"`((?:[\w.-]+/)+[\w-]+(?:\.\w+)?)`")
+# A file in backticks of a crate that is named beside it, as `src/tree.rt`.
+CRATE_FILE = re.compile(r"`((?:src|specs|proofs|must-fail)/[\w./-]+)`")
+CRATE = re.compile(r"`(rs_\w+|rstored)[/`]")
+# A name in backticks, alone or with what it is of, as `Catalogue::apply`.
+NAME = re.compile(r"`([A-Za-z_]\w+(?:::\w+)*)`")
+WORD = re.compile(r"\w+")
+# Names of other programs and of std, parts of names, and bytes.
+ELSEWHERE = {
+    *("AF_NETLINK", "AF_UNIX", "MemoryMax", "RestartSec", "RestrictAddressFamilies", "stunnel4"),
+    *("UnixListener", "bind", "put_", "A2", "B0", "E0"),
+}
+SOURCES = (
+    *(f"crates/*/{folder}/**/*" for folder in ("src", "specs", "proofs", "must-fail", "data")),
+    *("checks/*", "bench/*", "harness/*", ".ci/*", "crates.txt", "HANDLES"),
+)
 LINK = re.compile(r"\]\(([^)#\s]+)(?:#([^)\s]*))?\)")
 CODE = re.compile(r"^```rust\n(.*?)^```$", re.DOTALL | re.MULTILINE)
 TITLE = re.compile(r"^#+ (.*)$", re.MULTILINE)
@@ -42,6 +57,33 @@ def files(page, text):
         is_file = path.startswith(FOLDERS) and "NAME" not in path and "/out" not in path
         if is_file and not named(path).exists():
             yield f"{page} names {path}, which is not there"
+
+
+def crate_files(page, text):
+    """Each file of a crate is there, in one of the crates that its section names up to its line, or
+    in any if it names none."""
+    own = set(Path(page).parts[1:2]) if page.startswith("crates/") else set()
+    crates = set()
+    for line in text.splitlines():
+        crates = (own if line.startswith("#") else crates) | set(CRATE.findall(line))
+        for path in CRATE_FILE.findall(line):
+            if not any(list((ROOT / "crates").glob(f"{name}/{path}")) for name in crates or "*"):
+                yield f"{page} names {path}, which no crate has that is named there"
+
+
+def known_words():
+    """Each word of the sources, and the names of their files."""
+    paths = (path for pattern in SOURCES for path in ROOT.glob(pattern))
+    sources = (it for it in paths if it.is_file() and it.suffix != ".pyc")
+    texts = (f"{it.stem} {it.read_text(errors='replace')}" for it in sources)
+    return ELSEWHERE.union(*(WORD.findall(text) for text in texts))
+
+
+def names(page, text, known=known_words()):
+    """Each name stands in some source."""
+    for name in NAME.findall(text):
+        if not known.issuperset(name.split("::")):
+            yield f"{page} names {name}, which stands in no source"
 
 
 def links(page, text):
@@ -77,7 +119,7 @@ def callers(page, text):
 def main():
     given_words()
     pages = {str(path.relative_to(ROOT)): path.read_text() for path in documents()}
-    kinds = (files, links, callers)
+    kinds = (files, crate_files, names, links, callers)
     wrong = [it for page, text in pages.items() for kind in kinds for it in kind(page, text)]
     for told in wrong:
         print(f"pages: {told}", file=sys.stderr)
