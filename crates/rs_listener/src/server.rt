@@ -89,9 +89,8 @@ impl Server {
     ///
     /// If a place's thread cannot be started, and it is not the first, the caller's thread serves it and those behind it, one after
     /// the other. A fault of a connection ends that connection alone. The log of `rt` has a line when each begins, and one
-    /// that says how it ended. If the result has a number of changes, they are those of a run of the store, as [`run_store`] says it;
-    /// it says nothing of its clients, so any number meets this clause. That it is the one of this run is seen in the code: it is what
-    /// `run_store` answers.
+    /// that says how it ended. If the result has a number of changes, they are those of a run of the store, as [`run_store`] says it.
+    /// The clause is weak: any number meets it, since it says nothing of the clients.
     ///
     /// # Errors
     ///

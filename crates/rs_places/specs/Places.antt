@@ -14,8 +14,8 @@ use Rattle.rs_places.specs.Turns.{AreAll, Ending, Plan, Streams, TakesBack, Took
 abbrev pub next_number : ℕ → ℕ
 next_number number = min (number + 1) (2 ^ 64 - 1)
 
--- a connection that was served: what contracts see of it before and after, the exchanges of its session, what was decoded behind them and not
--- handled, and what the gate knew after it
+-- a connection that was served: what contracts see of it before and after, the exchanges of its session, what was decoded behind them
+-- and not handled, and what the gate knew after it
 pub record Visit : Type 0 where
   pub given : Streams
   pub ending : Ending

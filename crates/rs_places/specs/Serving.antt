@@ -59,8 +59,8 @@ pub record IsServedAt (limit : ℕ) (from : Point State) (expected : List Operat
   pub tail : List Entry
   pub handed_on : HandsOn mark tail gate.mark
   pub none_ahead : gate.ahead ≡ []
-  -- They are changes of publications that the bytes hold behind the last packet that was handled, or of that one too, if it sent nothing and
-  -- ended the session.
+  -- They are changes of publications that the bytes hold behind the last packet that was handled, or of that one too, if it sent
+  -- nothing and ended the session.
   pub tail_is : expected ≡ [] → AreLeft from exchanges planned (operations_of tail)
   -- what the filters were answered is sent in order, each message once
   pub sent : (c : Connect) → Opens c exchanges → (made : IsReplaying c exchanges) × IsSentInOrder c exchanges made.made

@@ -21,8 +21,8 @@ use std::sync::Wait;
 ///   first too. All of them are prefixes of the list that the seat knows after the call (`lists`).
 /// - A retained publication that the client was told is stored stands once in every later list (`stored`).
 /// - The exchanges of the session sent the client's retained publications, in their order, each at most once, and each that the client was
-///   told is stored (`publications`). If the gate expected nothing before, its line sent at most a tail beyond that (`tail_is`): publications
-///   that the bytes hold behind the last packet that was handled, or that one, if it sent nothing and ended the session.
+///   told is stored (`publications`). If the gate expected nothing before, its line sent at most a tail beyond that (`tail_is`):
+///   publications that the bytes hold behind the last packet that was handled, or that one, if it sent nothing and ended the session.
 /// - The replay sends what the filters were answered, in order, each message once (`sent`).
 ///
 /// # Errors

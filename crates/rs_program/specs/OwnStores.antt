@@ -20,7 +20,8 @@ IsOfOwnPlace e = e.origin.place ≡ 1
 abbrev pub IsOwnEntry : Entry → Type 0
 IsOwnEntry e = IsOfOwnPlace e ⊎ ((e.origin.place ≡ 0) × (is_sweep e.operation ≡ true))
 
--- the content is that of the list, which is legal for its topics, and whose entries are of the one place, but for Sweeps that a Set of it would need there
+-- the content is that of the list, which is legal for its topics, and whose entries are of the one place, but for Sweeps that a Set of
+-- it would need there
 pub record IsOwn (c : Content) (history : List Entry) : Type 0 where
   pub stands : Stands c history
   pub legal : IsLegal MAX_OWN_TOPICS history
