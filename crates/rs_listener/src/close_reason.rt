@@ -46,7 +46,9 @@ impl Display for CloseReason {
                 f,
                 "closed by the server with 0x{code:02X}"
             ),
-            CloseReason::Served(Served::Dropped) => f.write_str("closed by the server without a reply"),
+            CloseReason::Served(Served::Dropped) => f.write_str(
+                "closed by the server without a reply",
+            ),
             CloseReason::ReadFailed => f.write_str("the read failed or was idle"),
             CloseReason::WriteFailed => f.write_str("the write failed or was idle"),
             CloseReason::NoMemory => f.write_str("out of memory"),

@@ -21,8 +21,8 @@ use crate::packet::{
 };
 use bytes::Bytes;
 use rs_field::{
-    PacketFault, Properties, PropertyFields, PropertyOwner, PropertyValues, note_octets, read_binary,
-    read_properties, read_string, read_u8, read_u16,
+    PacketFault, Properties, PropertyFields, PropertyOwner, PropertyValues, note_octets,
+    read_binary, read_properties, read_string, read_u8, read_u16,
 };
 use rs_topic::{Text, TopicName};
 use std::alloc::Global;

@@ -73,7 +73,13 @@ fn check_fault<H: Abort + Wait>(
         let behavior = Behavior { step, call, at };
         let own = both_are_served(rt, alloc, OwnGate::new(alloc)?, fault, behavior);
         assert!(rt; own, "{call:?} {at}");
-        let bare = both_are_served(rt, alloc, local_gate::<MapCatalogue>(alloc)?, fault, behavior);
+        let bare = both_are_served(
+            rt,
+            alloc,
+            local_gate::<MapCatalogue>(alloc)?,
+            fault,
+            behavior,
+        );
         assert!(rt; bare, "bare {call:?} {at}");
     }
     Ok(())
