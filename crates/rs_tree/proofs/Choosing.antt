@@ -1,5 +1,6 @@
 -- What a filter chooses of a branch, child by child.
-use Rattle.rs_tree.proofs.Chosen.{goes, stops, Test, all_here, chosen-append, chosen_same, dollar_stops, hash_goes, plain_goes, plus_goes, plus_not_here}
+use Rattle.rs_tree.proofs.Chosen.{goes, stops, all_here, chosen_same, dollar_stops, hash_goes, plain_goes, plus_goes, plus_not_here}
+use Rattle.rs_bucket.proofs.Chosen.{Test, chosen-append}
 use Rattle.std.proofs.Common.{◌≡◌, ℕ, suc, ◌+◌, ◌<◌, ◌≤◌, Bool, true, false, not, ◌&&◌, ◌||◌, List, [], ◌∷◌, ◌++◌, length, get_or, take, drop, refl, sym, ap, subst, ◌∙◌, append_assoc, add-one, Option, Some, None, Result, Ok, Err}
 use Rattle.std.proofs.lemmas.List.{append-nil, drop_all}
 use Rattle.std.specs.Prelude.{IfErr, OnOk}
@@ -13,9 +14,12 @@ use Rattle.rs_topic.specs.Topics.{hash, is_end, plus}
 use Rattle.rs_topic.specs.Order.{path_cmp}
 use Rattle.rs_topic.specs.TopicOrder.{path_total}
 use Rattle.rs_topic.specs.Matching.{begins_with_dollar, fits, is_wild}
-use Rattle.rs_tree.specs.Chosen.{chosen, chosen_at_root, chosen_by, is_matched, is_plain_below, own_chosen}
-use Rattle.rs_tree.specs.Spots.{own, under}
-use Rattle.rs_tree.specs.Answers.{Enters, EntersAs, Gives, Steps}
+use Rattle.rs_bucket.specs.Chosen.{chosen, chosen_by, own_chosen}
+use Rattle.rs_tree.specs.Chosen.{chosen_at_root, is_matched, is_plain_below}
+use Rattle.rs_tree.specs.Spots.{own}
+use Rattle.rs_bucket.specs.Spots.{under}
+use Rattle.rs_tree.specs.Answers.{Enters, EntersAs, Steps}
+use Rattle.rs_bucket.specs.Answers.{Gives}
 use Rattle.std.specs.declared.sync.Arc.{Arc}
 use Rattle.std.specs.declared.alloc.Global.{Global}
 use Rattle.rs_tree.specs.declared.branch.Below.{Below}
@@ -27,8 +31,8 @@ use Rattle.rs_tree.specs.Values.{BranchValue, ChildValue}
 use Rattle.rs_store.specs.declared.answer.Answer.{Answer}
 use Rattle.rs_store.specs.declared.answer.Stop.{Stop}
 use Rattle.rs_tree.proofs.Chunks.{Precedes, gap_front, gap_rear, in_front, in_rear, parts_at, split_at, split_gap}
-use Rattle.rs_tree.proofs.Under.{Spots, Path}
-use Rattle.rs_tree.proofs.Stopping.{stop_at, stop_more}
+use Rattle.rs_bucket.proofs.Spots.{Spots, Path}
+use Rattle.rs_bucket.proofs.Stopping.{stop_at, stop_more}
 
 -- ---- an answer in two parts
 

@@ -1,26 +1,18 @@
--- What a filter chooses of messages.
-use Rattle.rs_tree.proofs.Under.{Spots, Path}
-use Rattle.std.proofs.Common.{◌≡◌, ℕ, Bool, true, false, not, ◌&&◌, List, [], ◌∷◌, ◌++◌, refl, sym, ◌∙◌, Option, Some, None}
+-- What a filter chooses of a branch's messages.
+use Rattle.rs_bucket.proofs.Spots.{Spots, Path}
+use Rattle.std.proofs.Common.{◌≡◌, ℕ, Bool, true, false, not, ◌&&◌, List, [], ◌∷◌, refl, sym, ◌∙◌, Option, Some, None}
 use Rattle.std.specs.Str.{bytes_eq}
 use Rattle.rs_message.specs.declared.entry.Found.{Found}
 use Rattle.rs_topic.specs.Topics.{hash, plus}
 use Rattle.rs_topic.specs.Matching.{fits, is_wild, begins_with_dollar}
 use Rattle.rs_message.specs.Messages.{is_expired}
-use Rattle.rs_tree.specs.Spots.{under, own}
-use Rattle.rs_tree.specs.Chosen.{chosen_by, chosen, chosen_at_root, is_matched, is_plain_below, own_chosen}
+use Rattle.rs_bucket.specs.Spots.{under}
+use Rattle.rs_bucket.specs.Chosen.{chosen_by, chosen, own_chosen}
+use Rattle.rs_bucket.proofs.Chosen.{Test}
+use Rattle.rs_tree.specs.Spots.{own}
+use Rattle.rs_tree.specs.Chosen.{chosen_at_root, is_matched, is_plain_below}
 use Rattle.rs_topic.proofs.Rests.{fits_here}
 use Rattle.std.specs.Cmp.Lexicographic.{bytes_decides}
-
-abbrev pub Test : Type 0
-Test = List (List ℕ) → Bool
-
-pub chosen-append : (test : Test) (now : ℕ) (xs ys : Spots) → chosen_by test now (xs ++ ys) ≡ chosen_by test now xs ++ chosen_by test now ys
-chosen-append test now [] ys = refl
-chosen-append test now (s ∷ ss) ys = at (test s.0 && not (is_expired now s.1.message)) refl (chosen-append test now ss ys)
-  where
-    at : (b : Bool) → (test s.0 && not (is_expired now s.1.message)) ≡ b → chosen_by test now (ss ++ ys) ≡ chosen_by test now ss ++ chosen_by test now ys → chosen_by test now (s ∷ ss ++ ys) ≡ chosen_by test now (s ∷ ss) ++ chosen_by test now ys
-    at true is more = rw (is, more) refl
-    at false is more = rw (is, more) refl
 
 -- two tests with equal results choose the same messages
 pub chosen_same : (test other : Test) (now : ℕ) (ss : Spots) → ((p : List (List ℕ)) → test p ≡ other p) → chosen_by test now ss ≡ chosen_by other now ss

@@ -1,5 +1,6 @@
 -- Where a path belongs among the children of a branch.
-use Rattle.rs_tree.proofs.Under.{there_one, Spots, Path, level_cmp}
+use Rattle.rs_tree.proofs.Under.{there_one, level_cmp}
+use Rattle.rs_bucket.proofs.Spots.{Spots, Path}
 use Rattle.std.proofs.Common.{◌≡◌, ◌≢◌, ℕ, zero, suc, ◌+◌, ◌<◌, ◌≤◌, Bool, true, false, List, [], ◌∷◌, ◌++◌, length, get_or, take, drop, refl, sym, ap, subst, ◌∙◌, arith, append_assoc, add-one, Option, Some, None, is_some}
 use Rattle.std.specs.Cmp.Lexicographic.{bytes_decides}
 use Rattle.std.specs.Str.{bytes_eq}
@@ -10,7 +11,8 @@ use Rattle.std.proofs.lemmas.Map.Lookups.{exact_bytes}
 use Rattle.rs_message.specs.declared.entry.Found.{Found}
 use Rattle.rs_topic.specs.Order.{path_cmp}
 use Rattle.rs_topic.specs.TopicOrder.{exact_paths, path_total}
-use Rattle.rs_tree.specs.Spots.{IsFull, is_there, own, under}
+use Rattle.rs_bucket.specs.Spots.{IsFull, is_there, under}
+use Rattle.rs_tree.specs.Spots.{own}
 use Rattle.rs_tree.specs.Chunks.{IsBehind, IsChunk, IsEdge, IsFrom, IsGap, IsIn, IsNotBefore, IsPreceding, IsUpTo, Leads, LeadsAs, Passes, Takes, TakesAs, depth, parts}
 use Rattle.rs_tree.specs.Values.{ChildValue}
 

@@ -12,52 +12,22 @@ use Rattle.std.specs.declared.cmp.Ordering.{Ordering}
 use Rattle.std.specs.declared.cmp.Ordering.TheVariants.{Less, Equal, Greater}
 use Rattle.rs_message.specs.declared.entry.Found.{Found}
 use Rattle.rs_topic.specs.Order.{path_cmp}
-use Rattle.rs_tree.specs.Chains.{behind, under_all}
-use Rattle.rs_tree.specs.Spots.{IsFull, is_there, own, under}
+use Rattle.rs_bucket.specs.Chains.{behind, under_all}
+use Rattle.rs_bucket.specs.Spots.{IsFull, is_there, under}
+use Rattle.rs_tree.specs.Spots.{own}
 use Rattle.rs_tree.proofs.Stems.{full_below, not_behind, removed, there_behind}
-use Rattle.rs_tree.specs.Buckets.{spots_in}
-use Rattle.rs_tree.specs.Clearing.{Clears, ClearsAs}
-use Rattle.rs_tree.specs.declared.cleared.Cleared.{Cleared}
-use Rattle.rs_tree.specs.declared.cleared.Cleared.TheVariants.{Missing, Left, Last}
-use Rattle.rs_tree.specs.declared.leaf.Leaf.{Leaf}
+use Rattle.rs_bucket.specs.Clearing.{Clears, ClearsAs}
+use Rattle.rs_bucket.specs.declared.cleared.Cleared.{Cleared}
+use Rattle.rs_bucket.specs.declared.cleared.Cleared.TheVariants.{Missing, Left, Last}
 use Rattle.rs_tree.specs.Chunks.{IsBefore, IsBehind, IsChunk, IsFrom, IsIn, IsUpTo, Takes, parts}
 use Rattle.rs_tree.specs.Values.{ChildValue}
 use Rattle.rs_tree.proofs.Dividing.{full_parts, level_rises, up_to_wider}
 use Rattle.rs_tree.proofs.Growing.{chunk_at, chunk_set, from_at, put_whole, same_parts}
 use Rattle.rs_tree.proofs.Chunks.{Precedes, around, in_front, in_rear, split_at, there_child, there_gap, there_own}
-use Rattle.rs_tree.proofs.Under.{Spots, Path}
-
--- ---- a bucket
-
-pub length_leaves : (ls : List Leaf) → length ls ≡ length (spots_in ls)
-length_leaves [] = refl
-length_leaves (l ∷ ls) = omega (arith, length_leaves ls)
-
-pub single_cleared : (p : Path) (w : Spots) → length w ≡ 1 → is_there p w ≡ true → remove_entry (is_at (path_cmp p)) w ≡ []
-single_cleared p [] n there = absurd (omega (arith, n))
-single_cleared p (s ∷ []) n there = at (path_cmp p s.0) refl
-  where
-    at : (o : Ordering) → path_cmp p s.0 ≡ o → remove_entry (is_at (path_cmp p)) (s ∷ []) ≡ []
-    at Less is = absurd (let e : false ≡ true = (rw is at there) in cc (e))
-    at Equal is = rw is refl
-    at Greater is = absurd (let e : false ≡ true = (rw is at there) in cc (e))
-single_cleared p (s ∷ t ∷ w) n there = absurd (omega (arith, n))
-
-pub more_cleared : (p : Path) (w : Spots) → length w ≢ 1 → is_there p w ≡ true → IsFull (remove_entry (is_at (path_cmp p)) w)
-more_cleared p [] n there = absurd (cc (there))
-more_cleared p (s ∷ []) n there = absurd (n (omega arith))
-more_cleared p (s ∷ t ∷ w) n there = at (path_cmp p s.0) refl
-  where
-    at : (o : Ordering) → path_cmp p s.0 ≡ o → IsFull (remove_entry (is_at (path_cmp p)) (s ∷ t ∷ w))
-    at Less is = rw is tt
-    at Equal is = rw is tt
-    at Greater is = rw is tt
+use Rattle.rs_bucket.proofs.Buckets.{none_below}
+use Rattle.rs_bucket.proofs.Spots.{Spots, Path}
 
 -- ---- below a chain
-
-none_below : (ks : Path) → under_all ks [] ≡ []
-none_below [] = refl
-none_below (k ∷ ks) = ap (under k) (none_below ks)
 
 clears_as_chain : (ks p r : Path) (b : Cleared) (w w' : Spots) → behind ks p ≡ Some r → ClearsAs b w w' r → ClearsAs b (under_all ks w) (under_all ks w') p
 clears_as_chain ks p r Missing w w' h c = (there_behind ks p r w h ∙ c.0, ap (under_all ks) c.1)

@@ -7,11 +7,12 @@ use Rattle.std.specs.declared.cmp.Ordering.{Ordering}
 use Rattle.std.specs.declared.cmp.Ordering.TheVariants.{Less, Equal, Greater}
 use Rattle.rs_topic.specs.Order.{path_cmp}
 use Rattle.rs_topic.specs.TopicOrder.{exact_paths, path_total}
-use Rattle.rs_tree.specs.Spots.{IsFull, under}
+use Rattle.rs_bucket.specs.Spots.{IsFull, under}
 use Rattle.rs_tree.proofs.Stems.{full_below}
 use Rattle.rs_tree.specs.Chunks.{AreHalves, IsBefore, IsChunk, IsFrom, IsUpTo, parts}
 use Rattle.rs_tree.specs.Values.{ChildValue}
-use Rattle.rs_tree.proofs.Under.{Spots, Path, level_cmp}
+use Rattle.rs_bucket.proofs.Spots.{Spots, Path}
+use Rattle.rs_tree.proofs.Under.{level_cmp}
 use Rattle.rs_tree.proofs.Chunks.{IsReached, back, between, level_not, parts_split, reached_first, takes_reached}
 
 -- ---- one child

@@ -2,11 +2,12 @@
 use Rattle.std.proofs.Common.{◌≡◌, ℕ, ◌+◌, ◌≤◌, Bool, true, false, List, [], ◌∷◌, ◌++◌, length, refl, ap, ◌∙◌, arith, length-append, min}
 use Rattle.std.specs.List.{filter}
 use Rattle.std.proofs.lemmas.List.Elements.{filter-append}
-use Rattle.rs_tree.specs.Chains.{under_all}
-use Rattle.rs_tree.specs.Spots.{Spot, under, pairs}
-use Rattle.rs_tree.specs.Sweeping.{is_expired_spot, spot_stays}
+use Rattle.rs_bucket.specs.Chains.{under_all}
+use Rattle.rs_bucket.specs.Spots.{Spot, under}
+use Rattle.rs_tree.specs.Spots.{pairs}
+use Rattle.rs_bucket.specs.Sweeping.{is_expired_spot, spot_stays}
 use Rattle.rs_store.proofs.Maps.{filter_few}
-use Rattle.rs_tree.specs.Expiring.{earliest}
+use Rattle.rs_bucket.specs.Expiring.{earliest}
 use Rattle.rs_store.specs.Expiring.{ends_at, first_end}
 
 pub earliest_both : (bound : ℕ) (xs ys : List Spot) → earliest bound (xs ++ ys) ≡ earliest (earliest bound xs) ys

@@ -2,12 +2,12 @@
 use Rattle.std.proofs.Common.{◌≡◌, ℕ, suc, ◌+◌, ◌<◌, ◌≤◌, List, [], ◌++◌, length, get_or, drop, sym, ap, ◌∙◌, add-one, length-append}
 use Rattle.std.proofs.lemmas.List.{drop_all}
 use Rattle.std.specs.List.{filter}
-use Rattle.rs_tree.specs.Expiring.{earliest}
-use Rattle.rs_tree.specs.Sweeping.{is_expired_spot}
+use Rattle.rs_bucket.specs.Expiring.{earliest}
+use Rattle.rs_bucket.specs.Sweeping.{is_expired_spot}
 use Rattle.rs_tree.proofs.Ends.{earliest_both, gone_both}
 use Rattle.rs_tree.specs.Chunks.{parts}
 use Rattle.rs_tree.specs.Values.{ChildValue}
-use Rattle.rs_tree.proofs.Under.{Spots}
+use Rattle.rs_bucket.proofs.Spots.{Spots}
 use Rattle.rs_tree.proofs.Chunks.{parts_at}
 
 module _ (cs : List ChildValue) (i : ℕ) (c : ChildValue) (small : i < length cs) (is : c ≡ get_or cs i c) where

@@ -1,5 +1,5 @@
 -- Chunks whose children stand in their place.
-use Rattle.std.proofs.Common.{◌≡◌, ◌≢◌, ℕ, false, Option, Some, None, is_some, ◌+◌, ◌<◌, ◌≤◌, List, [], ◌∷◌, ◌++◌, length, get_or, take, refl, sym, ap, subst, ◌∙◌, arith, append_assoc}
+use Rattle.std.proofs.Common.{◌≡◌, ◌≢◌, ℕ, false, Option, Some, None, is_some, ◌+◌, ◌<◌, ◌≤◌, List, [], ◌∷◌, ◌++◌, length, get_or, take, refl, sym, ap, subst, ◌∙◌, append_assoc}
 use Rattle.std.proofs.lemmas.List.{take_more}
 use Rattle.std.specs.declared.cmp.Ordering.TheVariants.{Less}
 use Rattle.rs_tree.specs.Chunks.{IsChunk, IsUpTo, parts}
@@ -9,7 +9,8 @@ use Rattle.rs_message.specs.declared.entry.Found.{Found}
 use Rattle.rs_tree.proofs.Dividing.{up_to_both, up_to_wider}
 use Rattle.rs_tree.proofs.Leaving.{parts_push, take_whole, up_to_at}
 use Rattle.rs_tree.proofs.Chunks.{level_not}
-use Rattle.rs_tree.proofs.Under.{Spots, level_cmp}
+use Rattle.rs_bucket.proofs.Spots.{Spots}
+use Rattle.rs_tree.proofs.Under.{level_cmp}
 
 -- what stands before a level, and the children before one that is not before the level, stand before that child
 pub before_child : (level : List ℕ) (w : Spots) (flat cs : List ChildValue) (i : ℕ) (c : ChildValue) → i < length cs → c ≡ get_or cs i c → IsChunk cs → IsUpTo level w → level_cmp c.level level ≢ Less

@@ -8,8 +8,10 @@ use Rattle.std.specs.declared.cmp.Ordering.{Ordering}
 use Rattle.std.specs.declared.cmp.Ordering.TheVariants.{Less, Equal, Greater}
 use Rattle.rs_message.specs.declared.entry.Found.{Found}
 use Rattle.rs_topic.specs.Order.{path_cmp}
-use Rattle.rs_tree.specs.Spots.{IsFull, is_there, own, under}
-use Rattle.rs_tree.proofs.Under.{was_by, full_insert, Spots, Path, level_cmp}
+use Rattle.rs_bucket.specs.Spots.{IsFull, is_there, under}
+use Rattle.rs_tree.specs.Spots.{own}
+use Rattle.rs_tree.proofs.Under.{was_by, full_insert, level_cmp}
+use Rattle.rs_bucket.proofs.Spots.{Spots, Path}
 use Rattle.rs_tree.proofs.Stems.{insert_all}
 use Rattle.rs_tree.specs.Chunks.{IsBefore, IsBehind, IsChunk, IsEdge, IsFrom, IsGap, IsIn, IsPreceding, IsUpTo, Takes, parts}
 use Rattle.rs_tree.specs.Values.{ChildValue}

@@ -1,11 +1,11 @@
 -- A message whose path is the chain above it.
 use Rattle.std.proofs.Common.{◌≡◌, ℕ, [], ◌∷◌, ◌++◌, refl, sym, ap, ◌∙◌, Some, append-nil}
-use Rattle.rs_tree.specs.Chains.{under_all, behind}
+use Rattle.rs_bucket.specs.Chains.{under_all, behind}
 use Rattle.rs_message.specs.declared.entry.Found.{Found}
 use Rattle.rs_topic.specs.Rests.{levels_from}
-use Rattle.rs_tree.specs.Spots.{spot_of, under}
-use Rattle.rs_tree.proofs.Under.{Spots, Path}
-use Rattle.rs_tree.proofs.Stems.{behind_is}
+use Rattle.rs_bucket.specs.Spots.{spot_of, under}
+use Rattle.rs_bucket.proofs.Spots.{Spots, Path}
+use Rattle.rs_bucket.proofs.Chains.{behind_is}
 
 lone_spots : (ks : Path) (f : Found) → (ks, f) ∷ [] ≡ under_all ks (([], f) ∷ [])
 lone_spots [] f = refl

@@ -5,10 +5,11 @@ use Rattle.std.proofs.lemmas.Bool.Decides.{nat_tests}
 use Rattle.std.proofs.lemmas.List.Elements.{filter-append}
 use Rattle.std.specs.List.{filter}
 use Rattle.rs_message.specs.declared.entry.Found.{Found}
-use Rattle.rs_tree.specs.Chains.{under_all}
-use Rattle.rs_tree.specs.Expiring.{earliest}
-use Rattle.rs_tree.specs.Spots.{IsFull, is_nothing, own, under, pairs}
-use Rattle.rs_tree.specs.Sweeping.{spot_stays}
+use Rattle.rs_bucket.specs.Chains.{under_all}
+use Rattle.rs_bucket.specs.Expiring.{earliest}
+use Rattle.rs_bucket.specs.Spots.{IsFull, is_nothing, under}
+use Rattle.rs_tree.specs.Spots.{own, pairs}
+use Rattle.rs_bucket.specs.Sweeping.{spot_stays}
 use Rattle.rs_tree.proofs.Ends.{swept_chain, pairs_end}
 use Rattle.rs_tree.specs.Chunks.{IsBefore, IsChunk, IsFrom, IsLeft, IsUpTo, parts}
 use Rattle.rs_tree.specs.Rests.{IsRestOf}
@@ -18,7 +19,7 @@ use Rattle.rs_message.specs.Messages.{is_expired}
 use Rattle.rs_store.specs.Contents.{is_gone}
 use Rattle.rs_store.proofs.Expiring.{calm_until}
 use Rattle.rs_tree.proofs.Growing.{chunk_at, from_at}
-use Rattle.rs_tree.proofs.Under.{Spots}
+use Rattle.rs_bucket.proofs.Spots.{Spots}
 
 -- ---- a chunk that grows at its end
 

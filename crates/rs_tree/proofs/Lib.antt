@@ -1,9 +1,8 @@
-pub mod Buckets
-pub mod Chains
 pub mod Choosing
 pub mod Chosen
 pub mod Chunks
 pub mod Clearing
+pub mod Cutting
 pub mod Dividing
 pub mod Ends
 pub mod Expiring
@@ -11,9 +10,8 @@ pub mod Flattening
 pub mod Growing
 pub mod Joining
 pub mod Leaving
+pub mod Parting
 pub mod Sent
 pub mod Stems
-pub mod Stopping
-pub mod Sweeping
 pub mod Trees
 pub mod Under

@@ -7,13 +7,13 @@ use Rattle.std.proofs.Crossing as std
 use Rattle.std.specs.contracts.alloc.Global as Global
 use Rattle.std.specs.contracts.impls.GlobalAllocator.TheImpl.{ghosts}
 use Rattle.std.specs.contracts.vec.Vec as Vec
-use Rattle.rs_tree.proofs.shared.Shared.TheSendSync as shared
-use Rattle.rs_tree.proofs.label.Label.TheSendSync as label
-use Rattle.rs_tree.proofs.bucket.Bucket.TheSendSync as bucket
+use Rattle.rs_bucket.proofs.shared.Shared.TheSendSync as shared
+use Rattle.rs_bucket.proofs.label.Label.TheSendSync as label
+use Rattle.rs_bucket.proofs.bucket.Bucket.TheSendSync as bucket
 use Rattle.rs_tree.proofs.branch.Branch.TheLaws.TheKnot as knot
 use Rattle.rs_tree.specs.contracts.branch.Branch as Branch
 use Rattle.rs_tree.specs.contracts.branch.Child as Child
-use Rattle.rs_tree.specs.contracts.shared.Shared as Shared
+use Rattle.rs_bucket.specs.contracts.shared.Shared as Shared
 use Rattle.rs_tree.specs.contracts.tree.TreeCatalogue as Tree
 
 chain_send : IsSend (Vec.the_row u8 Global.the_row ghosts)

@@ -1,5 +1,7 @@
 -- Messages below a chain of levels, level by level.
-use Rattle.rs_tree.proofs.Under.{Path, insert_one, remove_one, there_one, Spots, level_cmp, other_child}
+use Rattle.rs_bucket.proofs.Chains.{behind_is}
+use Rattle.rs_bucket.proofs.Spots.{Path, Spots}
+use Rattle.rs_tree.proofs.Under.{insert_one, remove_one, there_one, level_cmp, other_child}
 use Rattle.rs_tree.proofs.Chosen.{goes, stops, hash_goes}
 use Rattle.std.proofs.Common.{◌≡◌, ℕ, Bool, true, false, ◌||◌, List, [], ◌∷◌, ◌++◌, refl, sym, ap, ◌∙◌, Some, None}
 use Rattle.std.proofs.lemmas.List.{append-nil}
@@ -15,9 +17,9 @@ use Rattle.rs_message.specs.declared.entry.Found.{Found}
 use Rattle.rs_topic.specs.Topics.{plus}
 use Rattle.rs_topic.specs.Order.{path_cmp}
 use Rattle.rs_topic.specs.Matching.{fits}
-use Rattle.rs_tree.specs.Chains.{under_all, behind, past}
-use Rattle.rs_tree.specs.Chosen.{chosen}
-use Rattle.rs_tree.specs.Spots.{under, is_there, IsFull}
+use Rattle.rs_bucket.specs.Chains.{under_all, behind, past}
+use Rattle.rs_bucket.specs.Chosen.{chosen}
+use Rattle.rs_bucket.specs.Spots.{under, is_there, IsFull}
 use Rattle.rs_topic.proofs.Rests.{fits_on, fits_not}
 
 -- ---- whether there is anything
@@ -39,15 +41,6 @@ full_inside [] w f = f
 full_inside (k ∷ ks) w f = full_inside ks w (full_of k (under_all ks w) f)
 
 -- ---- paths behind a chain
-
-pub behind_is : (ks p r : Path) → behind ks p ≡ Some r → p ≡ ks ++ r
-behind_is [] p r h = cc (h)
-behind_is (k ∷ ks) [] r h = absurd (cc (h))
-behind_is (k ∷ ks) (q ∷ p) r h = at (bytes_eq k q) refl (behind_is ks p r)
-  where
-    at : (t : Bool) → bytes_eq k q ≡ t → (behind ks p ≡ Some r → p ≡ ks ++ r) → q ∷ p ≡ k ∷ ks ++ r
-    at true is more = let same : k ≡ q = (bytes_decides k q).0 is in cc (same, more (rw is at h))
-    at false is more = absurd (cc (h, is))
 
 other_level : (k q : List ℕ) → bytes_eq k q ≡ false → is_eq (level_cmp q k) ≡ false
 other_level k q h = at (level_cmp q k) refl
@@ -140,8 +133,3 @@ was_whole ks p q b old same is = rw (is, ← same) (sym (there_all ks q b))
 pub joined : (a b : Path) (w : Spots) → under_all (a ++ b) w ≡ under_all a (under_all b w)
 joined [] b w = refl
 joined (k ∷ a) b w = ap (under k) (joined a b w)
-
--- one message below a chain
-pub under_one : (ks r : Path) (g : Found) → under_all ks ((r, g) ∷ []) ≡ (ks ++ r, g) ∷ []
-under_one [] r g = refl
-under_one (k ∷ ks) r g = ap (under k) (under_one ks r g)

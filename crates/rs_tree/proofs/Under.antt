@@ -5,19 +5,14 @@ use Rattle.std.specs.Map.{remove_entry}
 use Rattle.std.specs.BTreeMap.{insert_entry, is_at}
 use Rattle.std.specs.Cmp.Lexicographic.{slice_cmp}
 use Rattle.std.specs.Ordering.{nat_cmp, is_eq}
-use Rattle.rs_tree.specs.Spots.{IsFull, Spot, under, is_there}
+use Rattle.rs_bucket.specs.Spots.{IsFull, under, is_there}
+use Rattle.rs_bucket.proofs.Spots.{Path, Spots}
 use Rattle.std.specs.Prelude.{IfOk}
 use Rattle.std.specs.declared.cmp.Ordering.{Ordering}
 use Rattle.std.specs.declared.cmp.Ordering.TheVariants.{Less, Equal, Greater}
 use Rattle.std.proofs.lemmas.Cmp.{nat_list_cmp_total, tied_itself}
 use Rattle.rs_message.specs.declared.entry.Found.{Found}
 use Rattle.rs_topic.specs.Order.{path_cmp}
-
-abbrev pub Path : Type 0
-Path = List (List ℕ)
-
-abbrev pub Spots : Type 0
-Spots = List Spot
 
 abbrev pub level_cmp : List ℕ → List ℕ → Ordering
 level_cmp = slice_cmp nat_cmp

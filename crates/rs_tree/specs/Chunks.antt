@@ -4,9 +4,9 @@ use Rattle.std.specs.Cmp.Lexicographic.{slice_cmp}
 use Rattle.std.specs.Ordering.{nat_cmp}
 use Rattle.std.specs.declared.cmp.Ordering.TheVariants.{Less, Greater}
 use Rattle.rs_topic.specs.Order.{path_cmp}
-use Rattle.rs_tree.specs.Spots.{Spot, IsFull}
+use Rattle.rs_bucket.specs.Spots.{Spot, IsFull}
 use Rattle.std.specs.List.{filter}
-use Rattle.rs_tree.specs.Sweeping.{spot_stays}
+use Rattle.rs_bucket.specs.Sweeping.{spot_stays}
 use Rattle.rs_tree.specs.Values.{ChildValue}
 
 abbrev pub parts : List ChildValue → List Spot

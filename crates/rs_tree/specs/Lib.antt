@@ -1,17 +1,10 @@
 pub mod Answers
-pub mod Buckets
-pub mod Chains
 pub mod Chosen
 pub mod Chunks
-pub mod Clearing
 pub mod Depths
-pub mod Expiring
 pub mod Heights
-pub mod Labels
-pub mod Messages
 pub mod Nodes
 pub mod Rests
 pub mod Spots
-pub mod Sweeping
 pub mod Trees
 pub mod Values

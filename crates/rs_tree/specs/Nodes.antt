@@ -1,8 +1,8 @@
 -- What a child of a branch holds.
 use Rattle.std.specs.Prelude.{◌+◌, ℕ, Bool, true, false, List}
-use Rattle.rs_tree.specs.Chains.{under_all}
+use Rattle.rs_bucket.specs.Chains.{under_all}
 use Rattle.rs_topic.specs.Rests.{levels_from}
-use Rattle.rs_tree.specs.Spots.{Spot, under}
+use Rattle.rs_bucket.specs.Spots.{Spot, under}
 use Rattle.rs_tree.specs.declared.branch.Below.{Below}
 use Rattle.rs_tree.specs.declared.branch.Below.TheVariants.{Chunk, Few, Inner}
 use Rattle.rs_tree.specs.declared.branch.Stem.{Stem}

@@ -2,8 +2,8 @@
 use Rattle.std.specs.Prelude.{◌≡◌, ℕ, Bool, true, false, List, [], Option, Some, None}
 use Rattle.std.specs.List.{filter}
 use Rattle.rs_tree.specs.Chunks.{IsChunk, parts}
-use Rattle.rs_tree.specs.Spots.{Spot, IsFull}
-use Rattle.rs_tree.specs.Sweeping.{spot_stays}
+use Rattle.rs_bucket.specs.Spots.{Spot, IsFull}
+use Rattle.rs_bucket.specs.Sweeping.{spot_stays}
 use Rattle.rs_tree.specs.Values.{BranchValue, ChildValue}
 use Rattle.rs_tree.specs.declared.branch.sweep.Rest.{Rest}
 use Rattle.rs_tree.specs.declared.branch.sweep.Rest.TheVariants.{All, Less, Nothing}
@@ -23,8 +23,3 @@ IsRestOf moment cs true left = IsChunk left × (parts left ≡ filter (spot_stay
 abbrev pub IsBranchRest : ℕ → List Spot → Option BranchValue → Type 0
 IsBranchRest moment ss None = filter (spot_stays moment) ss ≡ ss
 IsBranchRest moment ss (Some b) = b.spots ≡ filter (spot_stays moment) ss
-
--- the same of a bucket, where each message may go
-abbrev pub IsSomeRest : ℕ → List Spot → Option (List Spot) → Type 0
-IsSomeRest moment ss None = filter (spot_stays moment) ss ≡ []
-IsSomeRest moment ss (Some left) = (left ≡ filter (spot_stays moment) ss) × IsFull left

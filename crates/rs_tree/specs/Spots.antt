@@ -1,42 +1,14 @@
--- What a branch of the tree holds: the messages with their paths, in the order of replay. A path is a list of levels.
-use Rattle.std.specs.Prelude.{◌≡◌, ℕ, Bool, true, false, List, [], ◌∷◌, Option, Some, None, map}
-use Rattle.std.specs.Map.{lookup}
-use Rattle.std.specs.BTreeMap.{is_at}
-use Rattle.std.specs.Option.{is_some}
+-- What a branch of the tree holds of its own, and what the whole tree holds.
+use Rattle.std.specs.Prelude.{◌≡◌, ℕ, List, [], ◌∷◌, Option, Some, None, map}
 use Rattle.rs_topic.specs.Topics.{levels}
-use Rattle.rs_topic.specs.Order.{path_cmp}
-use Rattle.rs_topic.specs.Rests.{levels_from}
 use Rattle.rs_message.specs.Values.{MessageValue}
 use Rattle.rs_message.specs.declared.entry.Found.{Found}
+use Rattle.rs_bucket.specs.Spots.{Spot}
 
-abbrev pub Spot : Type 0
-Spot = List (List ℕ) × Found
-
--- a message at what its topic has from a byte on
-abbrev pub spot_of : ℕ → Found → Spot
-spot_of at f = (levels_from at f.topic, f)
-
--- the same messages one level further down
-abbrev pub under : List ℕ → List Spot → List Spot
-under level [] = []
-under level (s ∷ ss) = (level ∷ s.0, s.1) ∷ under level ss
-
+-- the message of a node itself, with its path there
 abbrev pub own : Option Found → List Spot
 own None = []
 own (Some f) = ([], f) ∷ []
-
-abbrev pub is_nothing : {X : Type 0} → List X → Bool
-is_nothing [] = true
-is_nothing (x ∷ xs) = false
-
--- there is a message at the path
-abbrev pub is_there : List (List ℕ) → List Spot → Bool
-is_there path ss = is_some (lookup (is_at (path_cmp path)) ss)
-
--- no child holds nothing
-abbrev pub IsFull : List Spot → Type 0
-IsFull [] = ⊥
-IsFull (s ∷ ss) = Unit {0}
 
 -- ---- the root
 

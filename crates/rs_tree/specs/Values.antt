@@ -1,6 +1,6 @@
 -- A branch and its children as contracts see them.
 use Rattle.std.specs.Prelude.{ℕ, Bool, List}
-use Rattle.rs_tree.specs.Spots.{Spot}
+use Rattle.rs_bucket.specs.Spots.{Spot}
 
 -- its messages with their paths, in the order of replay, and how deep it is
 pub record BranchValue : Type 0 where

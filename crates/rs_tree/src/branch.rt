@@ -19,11 +19,8 @@ mod remains;
 mod set;
 mod sweep;
 
-use crate::bucket::Bucket;
-use crate::label::Label;
-use crate::retained::retained_again;
-use crate::shared::Shared;
 pub use remains::Remains;
+use rs_bucket::{Bucket, Label, Shared, retained_again};
 use std::alloc::{AllocError, Global};
 use std::cmp::Ordering;
 use std::marker::Model;

@@ -23,8 +23,8 @@ use std::marker::Model;
 
 /// The messages in a tree of the levels of their topics.
 ///
-/// A few messages below one spot lie side by side, in order. If there are more, the spot has a chunk of the next levels, and the
-/// levels that all topics below share are one text. A chunk that grows too large becomes a chunk of chunks.
+/// A few messages below one spot lie side by side, in order. If there are more, the spot has a branch of the next levels, and the
+/// levels that all topics below share are one text. A branch that gets too many children is divided into chunks, and so is a chunk.
 ///
 /// A copy takes one count: it shares the whole tree. `apply` changes a node in place if no copy shares it, and else puts a copy of
 /// that node in its place, which shares what is below. So a copy never changes.

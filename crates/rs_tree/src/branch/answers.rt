@@ -1,15 +1,16 @@
 //! What a branch answers: copies of the messages that a filter fits, in the order of replay.
 
 ghost use Rattle.std.specs.Prelude.{◌≡◌};
-ghost use Rattle.rs_tree.specs.Chosen.{chosen, chosen_at_root, chosen_by, is_plain_below};
+ghost use Rattle.rs_bucket.specs.Chosen.{chosen, chosen_by};
+ghost use Rattle.rs_tree.specs.Chosen.{chosen_at_root, is_plain_below};
 ghost use Rattle.rs_topic.specs.Rests.{levels_from};
-ghost use Rattle.rs_tree.specs.Answers.{Enters, Gives, Steps};
+ghost use Rattle.rs_tree.specs.Answers.{Enters, Steps};
+ghost use Rattle.rs_bucket.specs.Answers.{Gives};
 ghost use Rattle.rs_tree.specs.Nodes.{stem_spots};
 ghost use Rattle.rs_tree.specs.Chunks.{parts};
 
 use super::{Below, Branch, Child, Stem, index_of};
-use crate::chain::past;
-use crate::retained::answer_retained;
+use rs_bucket::{answer_retained, past};
 use rs_store::{Answer, Stop};
 use rs_topic::{begins_with_dollar, is_all_below, is_plus, level_at};
 

@@ -2,14 +2,12 @@
 
 ghost use Rattle.std.specs.Prelude.{◌≡◌, ◌+◌, ◌∷◌, [], ◌<◌, false, length, slice_set, IfOk, IfSome, IsTrue};
 ghost use Rattle.std.specs.List.{insert};
-ghost use Rattle.rs_tree.specs.Spots.{IsFull, spot_of, under};
+ghost use Rattle.rs_bucket.specs.Spots.{IsFull, spot_of, under};
 ghost use Rattle.rs_tree.specs.Nodes.{stem_spots};
 ghost use Rattle.rs_tree.specs.Chunks.{AreHalves, IsChunk, IsFrom, parts};
 
 use super::{Below, Branch, Child, Stem, copies, insert_at};
-use crate::bucket::Bucket;
-use crate::label::Label;
-use crate::shared::Shared;
+use rs_bucket::{Bucket, Label, Shared};
 use std::alloc::{AllocError, Global};
 use std::sync::Arc;
 

@@ -4,14 +4,12 @@ ghost use Rattle.std.specs.Prelude.{◌≡◌, ◌<◌, false, [], length, is_so
 ghost use Rattle.std.specs.List.{remove};
 ghost use Rattle.std.specs.Arc.{arc_value};
 ghost use Rattle.rs_topic.specs.Rests.{levels_from};
-ghost use Rattle.rs_tree.specs.Clearing.{Clears, ClearsAs};
+ghost use Rattle.rs_bucket.specs.Clearing.{Clears, ClearsAs};
 ghost use Rattle.rs_tree.specs.Nodes.{stem_spots};
 ghost use Rattle.rs_tree.specs.Chunks.{Leads};
 
 use super::{Below, Branch, Child, Stem, index_of};
-use crate::chain::behind;
-use crate::cleared::Cleared;
-use crate::shared::Shared;
+use rs_bucket::{Cleared, Shared, behind};
 use rs_topic::level_at;
 use std::alloc::{AllocError, Global};
 use std::sync::Arc;

@@ -1,12 +1,12 @@
 //! The first moment at which a message of a branch is expired.
 
 ghost use Rattle.std.specs.Prelude.{◌≡◌};
-ghost use Rattle.rs_tree.specs.Expiring.{earliest};
+ghost use Rattle.rs_bucket.specs.Expiring.{earliest};
 ghost use Rattle.rs_tree.specs.Spots.{own};
 ghost use Rattle.rs_tree.specs.Chunks.{parts};
 
 use super::{Below, Branch, Child};
-use crate::shared::Shared;
+use rs_bucket::Shared;
 use rs_store::lowered;
 
 /// A bound, or the first moment at which the message of one spot is expired if that is earlier.

@@ -3,12 +3,12 @@
 ghost use Rattle.std.specs.Prelude.{◌≡◌, ◌+◌, ◌≤◌, length};
 ghost use Rattle.std.specs.List.{filter};
 ghost use Rattle.rs_tree.specs.Spots.{own};
-ghost use Rattle.rs_tree.specs.Sweeping.{is_expired_spot};
+ghost use Rattle.rs_bucket.specs.Sweeping.{is_expired_spot};
 ghost use Rattle.rs_store.specs.declared.limit.TheConstants.{MAX_TOPICS};
 ghost use Rattle.rs_tree.specs.Chunks.{parts};
 
 use super::{Below, Branch, Child};
-use crate::shared::Shared;
+use rs_bucket::Shared;
 use rs_store::is_expired;
 
 /// Counts the message of one spot, if it is expired.

@@ -5,7 +5,7 @@
 
 ghost use Rattle.std.specs.Prelude.{◌≡◌, ◌++◌, OnOk};
 ghost use Rattle.rs_tree.specs.Chunks.{IsChunk, IsFrom, IsUpTo, parts};
-ghost use Rattle.rs_tree.specs.Spots.{IsFull};
+ghost use Rattle.rs_bucket.specs.Spots.{IsFull};
 
 use super::{Below, Branch, Child};
 use std::alloc::{AllocError, Global};

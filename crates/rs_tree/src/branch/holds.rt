@@ -2,12 +2,12 @@
 
 ghost use Rattle.std.specs.Prelude.{◌≡◌};
 ghost use Rattle.rs_topic.specs.Rests.{levels_from};
-ghost use Rattle.rs_tree.specs.Spots.{is_there};
+ghost use Rattle.rs_bucket.specs.Spots.{is_there};
 ghost use Rattle.rs_tree.specs.Nodes.{stem_spots};
 ghost use Rattle.rs_tree.specs.Chunks.{Leads};
 
 use super::{Below, Branch, Child, Stem, index_of};
-use crate::chain::behind;
+use rs_bucket::behind;
 use rs_topic::level_at;
 
 impl Stem {

@@ -4,16 +4,14 @@
 
 ghost use Rattle.std.specs.Prelude.{◌≡◌, ◌∷◌, [], IfOk, IfSome};
 ghost use Rattle.rs_topic.specs.Topics.{levels};
-ghost use Rattle.rs_tree.specs.Chains.{under_all};
+ghost use Rattle.rs_bucket.specs.Chains.{under_all};
 ghost use Rattle.rs_topic.specs.Rests.{levels_from};
-ghost use Rattle.rs_tree.specs.Spots.{under};
+ghost use Rattle.rs_bucket.specs.Spots.{under};
 ghost use Rattle.rs_tree.specs.Nodes.{stem_spots};
 ghost use Rattle.rs_tree.specs.Chunks.{IsChunk, parts};
 
 use super::{Below, Branch, Child, Stem, copies};
-use crate::chain::{behind, joined};
-use crate::label::Label;
-use crate::shared::Shared;
+use rs_bucket::{Label, Shared, behind, joined};
 use rs_topic::{is_level, level_at};
 use std::alloc::{AllocError, Global};
 use std::sync::Arc;

@@ -6,7 +6,7 @@ ghost use Rattle.rs_store.specs.declared.limit.TheConstants.{MAX_TOPICS};
 ghost use Rattle.rs_tree.specs.Chunks.{parts};
 
 use super::{Below, Branch, Child};
-use crate::shared::Shared;
+use rs_bucket::Shared;
 
 /// The number of messages of one spot.
 fn retained_len(retained: &Option<Shared>) -> usize

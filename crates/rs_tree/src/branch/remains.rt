@@ -37,7 +37,7 @@ impl Remains {
         }
     }
 
-    /// Keeps a tree in place of what is left of the one before, which is dropped at once: so Sweeps one after the other leave no more than
+    /// Keeps a tree instead of what is left of the one before, which is dropped at once: so Sweeps one after the other leave no more than
     /// one tree. If something else shares the tree, that drops it then.
     pub fn replace(&mut self, alloc: Global, tree: Arc<Branch>) {
         self.nodes = Vec::new(alloc);

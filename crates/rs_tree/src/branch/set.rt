@@ -5,23 +5,19 @@ ghost use Rattle.std.specs.Arc.{arc_value};
 ghost use Rattle.std.specs.BTreeMap.{insert_entry};
 ghost use Rattle.rs_topic.specs.Order.{path_cmp};
 ghost use Rattle.rs_topic.specs.Rests.{levels_from};
-ghost use Rattle.rs_tree.specs.Spots.{IsFull, is_there};
+ghost use Rattle.rs_bucket.specs.Spots.{IsFull, is_there};
 ghost use Rattle.rs_tree.specs.Nodes.{stem_spots};
 ghost use Rattle.rs_tree.specs.Chunks.{Leads};
 
 use super::chunks::single;
 use super::{Below, Branch, Child, Stem, index_of, insert_at};
-use crate::bucket::Bucket;
-use crate::chain::{behind, shared_levels};
-use crate::label::Label;
-use crate::leaves::Leaves;
-use crate::shared::Shared;
+use rs_bucket::{Bucket, Label, Leaves, Shared, behind, shared_levels};
 use rs_topic::level_at;
 use std::alloc::{AllocError, Global};
 use std::sync::Arc;
 
 /// A chain of the levels that the messages of a bucket share, and a branch of the same messages.
-fn parted(alloc: Global, bucket: &Leaves) -> Result<Stem, AllocError>
+fn stem_of(alloc: Global, bucket: &Leaves) -> Result<Stem, AllocError>
     ensures { IfOk result (λ s. stem_spots s ≡ bucket.now) }
 {
     let chain = bucket.shared(alloc)?;
@@ -91,7 +87,7 @@ impl Child {
         let Some(messages) = bucket.over() else {
             return;
         };
-        let Ok(stem) = parted(alloc, messages) else {
+        let Ok(stem) = stem_of(alloc, messages) else {
             return;
         };
         if let Ok(stem) = Arc::new(alloc, stem) {

@@ -2,13 +2,14 @@
 
 ghost use Rattle.std.specs.Prelude.{◌≡◌, ◌+◌, ◌≤◌, ◌<◌, true, if◌then◌else◌, length, take, IfOk, OnOk};
 ghost use Rattle.std.specs.List.{filter};
-ghost use Rattle.rs_tree.specs.Spots.{IsFull, is_nothing, own};
-ghost use Rattle.rs_tree.specs.Sweeping.{spot_stays};
+ghost use Rattle.rs_bucket.specs.Spots.{IsFull, is_nothing};
+ghost use Rattle.rs_tree.specs.Spots.{own};
+ghost use Rattle.rs_bucket.specs.Sweeping.{spot_stays};
 ghost use Rattle.rs_tree.specs.Rests.{IsBranchRest, IsRest, IsRestOf};
 ghost use Rattle.rs_tree.specs.Chunks.{IsChunk, Notes};
 
 use super::{Below, Branch, Child, Stem, copies};
-use crate::shared::Shared;
+use rs_bucket::Shared;
 use rs_store::is_expired;
 use std::alloc::{AllocError, Global};
 use std::sync::Arc;

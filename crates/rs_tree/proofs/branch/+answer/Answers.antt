@@ -1,7 +1,7 @@
 use Rattle.std.proofs.Common.{◌≡◌, ℕ, List, ◌+◌, ◌≤◌, subst, Err, ◌<◌, ◌∷◌, [], true, false, length, refl, sym, ap, ◌∙◌, arith, Some, None}
 use Rattle.rs_topic.specs.Matching.{fits}
-use Rattle.rs_tree.specs.Chains.{past}
-use Rattle.rs_tree.specs.Chosen.{chosen, own_chosen}
+use Rattle.rs_bucket.specs.Chains.{past}
+use Rattle.rs_bucket.specs.Chosen.{chosen, own_chosen}
 use Rattle.rs_topic.specs.Rests.{levels_from}
 use Rattle.rs_tree.proofs.Stems.{chosen_past, none_past}
 use Rattle.rs_tree.specs.Nodes.{stem_spots}

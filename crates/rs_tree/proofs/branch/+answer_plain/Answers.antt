@@ -1,10 +1,11 @@
 use Rattle.std.proofs.Common.{◌≡◌, ◌+◌, ◌≤◌, true, false, refl, sym, ap, ◌∙◌, arith}
-use Rattle.rs_tree.specs.Chosen.{chosen, is_plain_below}
+use Rattle.rs_bucket.specs.Chosen.{chosen}
+use Rattle.rs_tree.specs.Chosen.{is_plain_below}
 use Rattle.rs_topic.specs.Rests.{levels_from}
 use Rattle.rs_tree.specs.Chunks.{depth}
 use Rattle.rs_tree.specs.Values.{BranchValue}
 use Rattle.rs_topic.specs.Matching.{begins_with_dollar}
-use Rattle.rs_tree.specs.Answers.{Gives}
+use Rattle.rs_bucket.specs.Answers.{Gives}
 use Rattle.rs_tree.specs.Nodes.{spots_of}
 use Rattle.rs_tree.proofs.Choosing.{dollar_below, gives_none, gives_same, own_plain, plain_below, so_far_end, so_far_more, so_far_stop, steps_in}
 use Rattle.rs_tree.proofs.Chunks.{deep_child}

@@ -1,16 +1,17 @@
 use Rattle.std.proofs.Common.{◌≡◌, ◌+◌, ◌<◌, ◌≤◌, ◌∷◌, ◌++◌, List, arith, length, refl, subst, sym, ap, ◌∙◌, Some, None}
 use Rattle.std.proofs.Math.ListN.{length-set}
-use Rattle.rs_tree.specs.Chains.{behind}
+use Rattle.rs_bucket.specs.Chains.{behind}
 use Rattle.rs_topic.specs.Rests.{levels_from}
-use Rattle.rs_tree.specs.Spots.{own, under}
-use Rattle.rs_tree.specs.Clearing.{Clears, ClearsAs}
+use Rattle.rs_tree.specs.Spots.{own}
+use Rattle.rs_bucket.specs.Spots.{under}
+use Rattle.rs_bucket.specs.Clearing.{Clears, ClearsAs}
 use Rattle.rs_tree.specs.Nodes.{stem_spots}
 use Rattle.rs_tree.specs.Chunks.{IsGap, IsIn, depth, parts}
 use Rattle.rs_tree.specs.Values.{BranchValue, ChildValue}
 use Rattle.rs_tree.proofs.Clearing.{chunk_cleared, chunk_removed, chunk_unchanged, clears_chain, clears_child, clears_last, clears_left, clears_level, clears_missing, clears_none, clears_same, remove_set}
-use Rattle.rs_tree.proofs.Under.{Spots}
+use Rattle.rs_bucket.proofs.Spots.{Spots}
 use Rattle.rs_tree.proofs.Chunks.{deep_child, leads_child, there_gap}
-use Rattle.rs_tree.specs.declared.cleared.Cleared.TheVariants.{Last, Left, Missing}
+use Rattle.rs_bucket.specs.declared.cleared.Cleared.TheVariants.{Last, Left, Missing}
 use Rattle.rs_tree.proofs.branch.+clear.Goals as goal
 
 pub Child::clear-returns-in-Few-clause-cleared : goal.Child::clear-returns-in-Few-clause-cleared

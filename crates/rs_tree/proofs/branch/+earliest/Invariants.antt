@@ -1,5 +1,5 @@
 use Rattle.std.proofs.Common.{◌≡◌, ◌+◌, ◌*◌, drop}
-use Rattle.rs_tree.specs.Expiring.{earliest}
+use Rattle.rs_bucket.specs.Expiring.{earliest}
 use Rattle.rs_tree.specs.Chunks.{depth, parts}
 use Rattle.rs_tree.proofs.branch.+earliest.Given as goal
 

@@ -2,12 +2,12 @@ use Rattle.std.proofs.Common.{◌≡◌, List, ◌+◌, ◌≤◌, ◌∷◌, []
 use Rattle.std.specs.List.{filter}
 use Rattle.rs_topic.specs.Rests.{levels_from}
 use Rattle.rs_tree.specs.Spots.{own}
-use Rattle.rs_tree.specs.Sweeping.{is_expired_spot}
+use Rattle.rs_bucket.specs.Sweeping.{is_expired_spot}
 use Rattle.rs_tree.proofs.Ends.{gone_both, gone_chain, gone_few, many_chain}
 use Rattle.rs_tree.specs.Chunks.{depth, parts}
 use Rattle.rs_tree.specs.Values.{BranchValue, ChildValue}
 use Rattle.rs_tree.proofs.Expiring.{gone_step, many_step, none_left}
-use Rattle.rs_tree.proofs.Under.{Spots}
+use Rattle.rs_bucket.proofs.Spots.{Spots}
 use Rattle.rs_tree.proofs.Chunks.{deep_child}
 use Rattle.rs_tree.proofs.branch.+expired.Goals as goal
 

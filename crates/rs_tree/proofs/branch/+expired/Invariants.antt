@@ -1,6 +1,6 @@
 use Rattle.std.proofs.Common.{◌≡◌, ◌+◌, ◌*◌, ◌≤◌, drop, length}
 use Rattle.std.specs.List.{filter}
-use Rattle.rs_tree.specs.Sweeping.{is_expired_spot}
+use Rattle.rs_bucket.specs.Sweeping.{is_expired_spot}
 use Rattle.rs_store.specs.declared.limit.TheConstants.{MAX_TOPICS}
 use Rattle.rs_tree.specs.Chunks.{depth, parts}
 use Rattle.rs_tree.proofs.branch.+expired.Given as goal

@@ -1,5 +1,5 @@
 use Rattle.std.proofs.Common.{◌≡◌, ◌+◌, ◌<◌, ◌≤◌, ◌∷◌, arith, length, sym, ap, ◌∙◌, Some, None}
-use Rattle.rs_tree.specs.Chains.{behind}
+use Rattle.rs_bucket.specs.Chains.{behind}
 use Rattle.rs_topic.specs.Rests.{levels_from}
 use Rattle.rs_tree.proofs.Stems.{not_behind, there_behind}
 use Rattle.rs_tree.specs.Nodes.{stem_spots}

@@ -5,7 +5,7 @@ use Rattle.rs_tree.proofs.Ends.{many_chain}
 use Rattle.rs_tree.specs.Chunks.{depth, parts}
 use Rattle.rs_tree.specs.Values.{BranchValue, ChildValue}
 use Rattle.rs_tree.proofs.Expiring.{many_step, none_left}
-use Rattle.rs_tree.proofs.Under.{Spots}
+use Rattle.rs_bucket.proofs.Spots.{Spots}
 use Rattle.rs_tree.proofs.Chunks.{deep_child}
 use Rattle.rs_tree.proofs.branch.+len.Goals as goal
 

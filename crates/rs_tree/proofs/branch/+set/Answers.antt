@@ -1,11 +1,12 @@
 use Rattle.std.proofs.Common.{◌≡◌, ◌+◌, ◌<◌, ◌≤◌, ◌∷◌, [], List, arith, length, refl, sym, ap, ◌∙◌, Some}
 use Rattle.std.proofs.lemmas.Result.{on_ok_weaker, on_err_weaker}
 use Rattle.rs_topic.specs.Rests.{levels_from}
-use Rattle.rs_tree.specs.Spots.{IsFull, spot_of, under}
+use Rattle.rs_bucket.specs.Spots.{IsFull, spot_of, under}
 use Rattle.rs_tree.proofs.Under.{was_by}
 use Rattle.rs_tree.specs.Chunks.{IsGap, IsIn, depth}
-use Rattle.rs_tree.specs.Chains.{behind, under_all}
-use Rattle.rs_tree.proofs.Stems.{behind_is, full_inside, set_whole, was_whole}
+use Rattle.rs_bucket.specs.Chains.{behind, under_all}
+use Rattle.rs_bucket.proofs.Chains.{behind_is}
+use Rattle.rs_tree.proofs.Stems.{full_inside, set_whole, was_whole}
 use Rattle.rs_tree.specs.Nodes.{stem_spots}
 use Rattle.rs_tree.specs.Values.{BranchValue, ChildValue}
 use Rattle.rs_tree.proofs.Growing.{chunk_new, chunk_put, full_child, grown_gap, grown_in, grown_under, own_first, same_in, was_under}

@@ -1,17 +1,17 @@
 use Rattle.std.proofs.Common.{◌≡◌, ◌+◌, ◌≤◌, ◌∷◌, [], ℕ, List, false, subst, arith, refl, sym, ap, ◌∙◌}
 use Rattle.std.proofs.lemmas.Result.{on_ok_weaker}
 use Rattle.std.specs.List.{filter}
-use Rattle.rs_tree.specs.Sweeping.{spot_stays}
+use Rattle.rs_bucket.specs.Sweeping.{spot_stays}
 use Rattle.rs_topic.specs.Rests.{levels_from}
-use Rattle.rs_tree.specs.Spots.{IsFull, under}
+use Rattle.rs_bucket.specs.Spots.{IsFull, under}
 use Rattle.rs_tree.specs.Nodes.{stem_spots}
 use Rattle.rs_tree.specs.Rests.{IsRestOf}
 use Rattle.rs_tree.specs.Chunks.{depth}
 use Rattle.rs_tree.specs.Values.{BranchValue, ChildValue}
 use Rattle.rs_tree.proofs.Leaving.{chain_gone, chain_left, chain_stays, full_at, full_not, joined_left, level_left, none_is, rest_again, rest_gone, rest_unchanged, rest_none, rest_put, rest_whole, stays_all}
-use Rattle.rs_tree.specs.Chains.{under_all}
+use Rattle.rs_bucket.specs.Chains.{under_all}
 use Rattle.rs_tree.proofs.Stems.{full_below}
-use Rattle.rs_tree.proofs.Under.{Spots}
+use Rattle.rs_bucket.proofs.Spots.{Spots}
 use Rattle.rs_tree.proofs.Chunks.{deep_child}
 use Rattle.rs_tree.proofs.branch.+swept.Goals as goal
 

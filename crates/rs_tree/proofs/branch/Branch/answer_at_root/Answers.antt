@@ -1,6 +1,7 @@
 use Rattle.std.proofs.Common.{◌≡◌, ◌∷◌, [], true, false, sym, ◌∙◌, Err}
 use Rattle.rs_topic.specs.Matching.{fits}
-use Rattle.rs_tree.specs.Chosen.{chosen_by, is_plain_below, own_chosen}
+use Rattle.rs_bucket.specs.Chosen.{chosen_by, own_chosen}
+use Rattle.rs_tree.specs.Chosen.{is_plain_below}
 use Rattle.rs_topic.specs.Rests.{levels_from}
 use Rattle.rs_tree.proofs.Chosen.{root_exact}
 use Rattle.rs_tree.specs.Chunks.{parts}

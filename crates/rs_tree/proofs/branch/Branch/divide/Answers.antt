@@ -3,7 +3,7 @@ use Rattle.rs_tree.specs.Spots.{own}
 use Rattle.rs_tree.specs.Chunks.{AreHalves}
 use Rattle.rs_tree.proofs.Dividing.{divided}
 use Rattle.rs_tree.proofs.Growing.{from_at}
-use Rattle.rs_tree.proofs.Under.{Spots}
+use Rattle.rs_bucket.proofs.Spots.{Spots}
 use Rattle.rs_tree.proofs.branch.Branch.divide.Goals as goal
 
 pub halved-requires : goal.halved-requires

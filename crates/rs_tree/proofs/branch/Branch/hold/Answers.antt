@@ -1,7 +1,7 @@
 use Rattle.std.proofs.Common.{◌≡◌, ◌<◌, ◌≤◌, ◌∷◌, [], List, length, sym, ap, ◌∙◌}
 use Rattle.std.proofs.lemmas.Result.{on_ok_weaker, on_err_weaker}
 use Rattle.rs_topic.specs.Rests.{levels_from}
-use Rattle.rs_tree.specs.Spots.{spot_of, under}
+use Rattle.rs_bucket.specs.Spots.{spot_of, under}
 use Rattle.rs_tree.proofs.Under.{was_by}
 use Rattle.rs_tree.specs.Chunks.{IsGap, IsIn}
 use Rattle.rs_tree.proofs.Growing.{chunk_new, chunk_put, grown_gap, grown_in, own_first, same_in}

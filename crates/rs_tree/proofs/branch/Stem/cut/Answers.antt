@@ -1,8 +1,8 @@
 use Rattle.std.proofs.Common.{◌≡◌, ◌∷◌, ◌++◌, sym, ap, ◌∙◌, drop, ◌-◌}
-use Rattle.rs_tree.specs.Chains.{under_all}
+use Rattle.rs_bucket.specs.Chains.{under_all}
 use Rattle.rs_topic.specs.Rests.{levels_from}
-use Rattle.rs_tree.specs.Spots.{under}
-use Rattle.rs_tree.proofs.Chains.{cut_levels}
+use Rattle.rs_bucket.specs.Spots.{under}
+use Rattle.rs_tree.proofs.Cutting.{cut_levels}
 use Rattle.rs_tree.proofs.Stems.{full_below, joined}
 use Rattle.rs_tree.proofs.branch.Stem.cut.Goals as goal
 

@@ -1,5 +1,5 @@
 use Rattle.std.proofs.Common.{◌≡◌, ◌∷◌, ◌++◌, ap, ◌∙◌}
-use Rattle.rs_tree.specs.Chains.{under_all}
+use Rattle.rs_bucket.specs.Chains.{under_all}
 use Rattle.rs_topic.specs.Rests.{levels_from}
 use Rattle.rs_tree.proofs.Stems.{joined}
 use Rattle.rs_tree.specs.Values.{BranchValue}

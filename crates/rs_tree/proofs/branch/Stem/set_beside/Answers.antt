@@ -1,6 +1,6 @@
 use Rattle.std.proofs.Common.{◌≡◌, ◌++◌, ap, ◌∙◌}
 use Rattle.std.proofs.lemmas.Result.{on_err_weaker, on_ok_weaker}
-use Rattle.rs_tree.specs.Chains.{under_all}
+use Rattle.rs_bucket.specs.Chains.{under_all}
 use Rattle.rs_topic.specs.Rests.{levels_from}
 use Rattle.rs_tree.proofs.Under.{was_by}
 use Rattle.rs_tree.proofs.Stems.{set_whole, was_whole}

@@ -1,6 +1,6 @@
 use Rattle.std.proofs.Common.{List, ℕ, ◌+◌, ap, ◌∙◌, false, refl}
-use Rattle.rs_tree.specs.Spots.{under}
-use Rattle.rs_tree.specs.Labels.{text_of}
+use Rattle.rs_bucket.specs.Spots.{under}
+use Rattle.rs_bucket.specs.Labels.{text_of}
 use Rattle.rs_tree.specs.Nodes.{stem_spots}
 use Rattle.rs_tree.specs.Values.{ChildValue}
 use Rattle.rs_tree.specs.declared.branch.Stem.{Stem}

@@ -1,7 +1,7 @@
 use Rattle.std.proofs.Common.{◌≡◌, ℕ, List, [], ◌∷◌, Some, ap, refl, ◌∙◌}
-use Rattle.rs_tree.specs.Chains.{behind}
+use Rattle.rs_bucket.specs.Chains.{behind}
 use Rattle.rs_topic.specs.Rests.{levels_from}
-use Rattle.rs_tree.specs.Spots.{spot_of, under}
+use Rattle.rs_bucket.specs.Spots.{spot_of, under}
 use Rattle.rs_tree.proofs.Joining.{lone}
 use Rattle.rs_tree.proofs.branch.join.lone.Goals as goal
 

@@ -1,6 +1,6 @@
 use Rattle.rs_tree.specs.Chosen.{chosen_at_root}
 use Rattle.rs_topic.specs.Rests.{levels_from}
-use Rattle.rs_tree.specs.Answers.{Gives}
+use Rattle.rs_bucket.specs.Answers.{Gives}
 use Rattle.rs_tree.proofs.Choosing.{gives_done, gives_room, gives_why}
 use Rattle.rs_tree.proofs.root.Root.answer.Goals as goal
 

@@ -1,0 +1,7 @@
+pub mod Buckets
+pub mod Chains
+pub mod Chosen
+pub mod Clearing
+pub mod Spots
+pub mod Stopping
+pub mod Sweeping

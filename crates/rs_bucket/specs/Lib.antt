@@ -1,0 +1,11 @@
+pub mod Answers
+pub mod Buckets
+pub mod Chains
+pub mod Chosen
+pub mod Clearing
+pub mod Expiring
+pub mod Labels
+pub mod Messages
+pub mod Rests
+pub mod Spots
+pub mod Sweeping

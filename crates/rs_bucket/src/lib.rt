@@ -1,0 +1,29 @@
+//! A few retained messages below one spot of a tree of topics: a [`Bucket`].
+//!
+//! The messages of a bucket lie side by side, in the order of replay, each with what its topic has below the spot. A bucket sets, clears
+//! and looks up the message of one topic, sweeps, counts what has expired, and answers a filter, each exactly as its messages say. It
+//! shares its messages with its copies, is changed in place while it has one owner, and is copied otherwise: so a copy never changes. If
+//! memory is refused, nothing changes.
+//!
+//! Here is also what a tree above buckets has of the same messages: the levels above them, as a [`Label`] of one level or as a chain of
+//! levels in one text ([`behind`], [`past`], [`joined`], [`shared_levels`]); the message of one spot alone ([`Shared`]); and what a Clear
+//! found ([`Cleared`]).
+#![tactic(auto)]
+
+mod bucket;
+mod chain;
+mod cleared;
+mod label;
+mod leaf;
+mod leaves;
+mod retained;
+mod shared;
+
+pub use bucket::Bucket;
+pub use chain::{SharedLevels, behind, joined, past, shared_levels};
+pub use cleared::Cleared;
+pub use label::Label;
+pub use leaf::Leaf;
+pub use leaves::Leaves;
+pub use retained::{answer_retained, retained_again};
+pub use shared::Shared;
