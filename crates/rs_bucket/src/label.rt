@@ -94,6 +94,7 @@ impl Label {
         Label::new(alloc, level)
     }
 
+    /// A label of these bytes.
     pub fn new(alloc: Global, level: &[u8]) -> Result<Label, AllocError>
         ensures { IfOk result (λ l. l ≡ level.now) }
     {

@@ -6,8 +6,8 @@
 //! memory is refused, nothing changes.
 //!
 //! Here is also what a tree above buckets has of the same messages: the levels above them, as a [`Label`] of one level or as a chain of
-//! levels in one text ([`behind`], [`past`], [`joined`], [`shared_levels`]); the message of one spot alone ([`Shared`]); and what a Clear
-//! found ([`Cleared`]).
+//! levels in one text ([`behind`], [`past`], [`joined`], [`shared_levels`]); the message of one spot alone ([`SpotMessage`]); and what a
+//! Clear found ([`Cleared`]).
 #![tactic(auto)]
 
 mod bucket;

@@ -6,7 +6,7 @@ ghost use Rattle.rs_store.specs.Contents.{empty, expired_in, followed};
 ghost use Rattle.rs_store.specs.Expiring.{NoneExpiredBefore};
 
 use crate::catalogue::Catalogue;
-use crate::expiring::lowered;
+use crate::expiry::lowered;
 use rs_message::{Entry, Operation};
 use std::marker::Model;
 

@@ -13,7 +13,7 @@ ghost use Rattle.rs_store.specs.declared.limit.TheConstants.{MAX_TOPICS};
 
 use crate::answer::{Answer, Stop};
 use crate::catalogue::Catalogue;
-use crate::expiring::{is_expired, lowered};
+use crate::expiry::{is_expired, lowered};
 use crate::fault::Refusal;
 use crate::ledger::Ledger;
 use crate::limit::TopicLimit;
