@@ -41,7 +41,7 @@ fn check_answered<H: Abort + Wait>(
 ) -> Result<(), Fail> {
     let input = joined(alloc, &[CONNECT, publish, PINGREQ])?;
     let wanted = joined(alloc, &[CONNACK, replies])?;
-    let gate = Refusing { fault };
+    let gate = Refusing { fault, serial: 0 };
     let ended = pipe(rt, alloc, input.as_slice(), Vec::new(alloc), gate, false, 0);
     assert!(rt; ended.served == Ok(ends));
     assert!(rt; ended.output.as_slice() == wanted.as_slice());
