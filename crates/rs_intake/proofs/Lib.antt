@@ -8,4 +8,4 @@ pub mod Sums
 pub mod Sent
 pub mod Sweeps
 pub mod Done
-pub mod Causess
+pub mod Causes

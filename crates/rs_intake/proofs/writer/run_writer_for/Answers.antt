@@ -7,7 +7,7 @@ use Rattle.rs_intake.specs.declared.job.TheConstants.{MAX_CHANGES}
 use Rattle.rs_intake.specs.QueueRule.{IsPlaced, ends_of, entries_in}
 use Rattle.rs_intake.specs.declared.ending.Cause.TheVariants.{AllEnded, MostTaken, QueueGone}
 use Rattle.rs_intake.proofs.Done.{AreTold, told_more, written_same}
-use Rattle.rs_intake.proofs.Endings.{all_ended, cause_same, placed_first}
+use Rattle.rs_intake.proofs.Causes.{all_ended, cause_same, placed_first}
 use Rattle.rs_intake.specs.Settling.{AreOfPlaces}
 use Rattle.rs_intake.specs.Sweeps.{without_sweeps}
 use Rattle.rs_intake.proofs.Sums.{placed_more}
