@@ -14,7 +14,7 @@ use Rattle.rs_intake.specs.Done.{Answer, AreAnswered, AreDone, AreRefusedBehind,
 use Rattle.rs_intake.specs.Parts.{IsPart}
 use Rattle.rs_intake.specs.declared.waiting.Gone.{Gone}
 use Rattle.rs_intake.specs.Sending.{AreToPut, ArePut, AreSent, AreSentNext}
-use Rattle.rs_intake.specs.Sweeps.{AreForEntries, IsSweptAtMost, IsKeptFrom, without_sweeps}
+use Rattle.rs_intake.specs.Sweeps.{AreForEntries, IsKeptFrom, IsSweptAtMost, without_sweeps}
 use Rattle.rs_intake.proofs.Parts.{part_front, part_rises}
 use Rattle.rs_intake.proofs.Sweeps.{entry_rises, adds_kept, held_kept, no_memory_kept, kept_from_entry, kept_from_refused, kept_from_start, released_kept, without_cleaned, without_more}
 
@@ -137,7 +137,7 @@ written_same limit entries entries' kept kept' same alike w =
 
 -- ---- what follows for the kept list
 
--- the entries are served, and what is kept of them and what is refused are all
+-- the list is what is kept of the entries, and what is kept of them and what is refused are all
 abbrev pub AreKeptFrom : ℕ → List Entry → ℕ → List Entry → ℕ → Type 0
 AreKeptFrom limit entries refused kept all = IsKeptFrom limit entries kept × (length (without_sweeps kept) + refused ≡ all)
 

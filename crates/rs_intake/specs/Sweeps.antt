@@ -19,7 +19,7 @@ pub record AreForEntries (limit : ℕ) (entries list : List Entry) : Type 0 wher
 abbrev pub IsSweptAtMost : ℕ → List Entry → Entry → List Entry → Type 0
 IsSweptAtMost limit history e list = (list ≡ history) ⊎ ((s : NeedsSweepAfter limit history e) × (list ≡ cleaned s.message.received history))
 
--- what is kept against the entries that were taken
+-- the list is kept from these entries: without its Sweeps it is a part of them, each of its Sweeps is for one of them, and serials rise
 pub record IsKeptFrom (limit : ℕ) (entries kept : List Entry) : Type 0 where
   pub part : IsPart (without_sweeps kept) entries
   pub sweeps : AreForEntries limit entries kept
