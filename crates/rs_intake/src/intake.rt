@@ -110,8 +110,8 @@ impl<N: LineName> Intake<N> {
     {
         let entry = line.send(rt, operation)?;
         match line.receive(rt) {
-            Some(reply) => read_reply(reply, &entry),
-            None => Err(SubmitFault::Open),
+            Ok(reply) => read_reply(reply, &entry),
+            Err(_) => Err(SubmitFault::Open),
         }
     }
 }

@@ -339,14 +339,19 @@ impl<N: LineName> SeatLine<N> {
         }
     }
 
-    /// For a line that is handed on. Nothing is expected any more, and what is ahead counts as submitted. It waits for the replies to it,
-    /// unless the writer is gone, and drops them, so that no later submit reads them.
-    pub fn hand_on<R: Wait>(&mut self, rt: &R)
+    /// For a line that is handed on. Nothing is expected any more, and what is ahead counts as submitted. It waits for as many replies as
+    /// there is ahead, and drops them with all others that came, so that no later submit reads them.
+    ///
+    /// # Errors
+    ///
+    /// [`Gone`] if the writer is, and fewer came. They are dropped, and the rest holds too: no reply is left for a later submit.
+    pub fn hand_on<R: Wait>(&mut self, rt: &R) -> Result<(), Gone>
         ensures place { self.new.place ≡ self.old.place }
         ensures serial { self.new.serial ≡ self.old.serial + length self.old.ahead }
         ensures sent { self.new.sent ≡ self.old.sent ++ self.old.ahead }
         ensures next { AreNext self.old.place self.old.serial self.old.ahead }
         ensures heard { (more : List ReplyValue) × (self.new.heard ≡ self.old.heard ++ self.old.came ++ more) }
+        ensures waited { IfOk result (λ _. length self.old.heard + length self.old.ahead ≤ length self.new.heard) }
         ensures came { self.new.came ≡ [] }
         ensures none { (self.new.expected ≡ []) × (self.new.ahead ≡ []) }
     {
@@ -354,7 +359,7 @@ impl<N: LineName> SeatLine<N> {
         self.serial = self.last_serial();
         self.ahead = VecDeque::new(self.alloc);
         self.expected = Vec::new(self.alloc);
-        self.replies.drop_next(rt, unread);
+        self.replies.drop_next(rt, unread)
     }
 
     /// Sends what is expected, as one job, if this is the first entry of it and nothing is ahead. Then all of it is ahead. Whatever comes
@@ -464,10 +469,10 @@ impl<N: LineName> SeatLine<N> {
         }
     }
 
-    /// What the writer answers. `None` if it is gone.
-    pub(crate) fn receive<R: Wait>(&mut self, rt: &R) -> Option<WriterReply<N>>
+    /// What the writer answers. `Gone` if it is gone.
+    pub(crate) fn receive<R: Wait>(&mut self, rt: &R) -> Result<WriterReply<N>, Gone>
         ensures same { (self.new.place ≡ self.old.place) × (self.new.serial ≡ self.old.serial) × (self.new.sent ≡ self.old.sent) }
-        ensures heard { MatchOption result (self.new.heard ≡ self.old.heard) (λ reply. self.new.heard ≡ self.old.heard ++ reply ∷ []) }
+        ensures heard { MatchResult result (λ reply. self.new.heard ≡ self.old.heard ++ reply ∷ []) (λ _. self.new.heard ≡ self.old.heard) }
         ensures ahead { (self.new.expected ≡ self.old.expected) × (self.new.ahead ≡ self.old.ahead) }
     {
         self.replies.wait(rt)

@@ -1,6 +1,6 @@
 //! The way back from the writer to a line.
 
-ghost use Rattle.std.specs.Prelude.{◌≡◌, ◌∷◌, ◌++◌, [], List, false, IfOk, MatchOption, MatchResult, map};
+ghost use Rattle.std.specs.Prelude.{◌≡◌, ◌+◌, ◌≤◌, ◌∷◌, ◌++◌, [], List, length, IfErr, IfOk, MatchOption, MatchResult, map};
 ghost use Rattle.rs_intake.specs.Done.{ReplyValue, is_held, is_refused, refused_reply, refused_in};
 
 use crate::job::MAX_CHANGES;
@@ -275,38 +275,46 @@ impl<N: StoreName> ReplyReceiver<N> {
         self.came.next()
     }
 
-    /// Waits for a message, if none is there. Whether one came. None did, if the writer is gone.
-    fn listen<R: Wait>(&mut self, rt: &R) -> bool
+    /// Waits for a message, if none is there.
+    ///
+    /// # Errors
+    ///
+    /// [`Gone`] if the writer is, and no message is left.
+    fn listen<R: Wait>(&mut self, rt: &R) -> Result<(), Gone>
         requires { self.old.came ≡ [] }
         ensures heard { self.new.heard ≡ self.old.heard }
-        ensures came { result ≡ false → self.new.came ≡ [] }
+        ensures came { IfErr result (λ _. self.new.came ≡ []) }
     {
-        match receive::<WriterReplies<N>, WayPass<N>, ReplyRule, Counting, R>(
+        let replies = receive::<WriterReplies<N>, WayPass<N>, ReplyRule, Counting, R>(
             rt,
             &self.from,
             &mut self.pass,
             &mut self.patience,
-        ) {
-            Ok(replies) => {
-                self.came = replies;
-                true
-            }
-            Err(_) => false,
-        }
+        )?;
+        self.came = replies;
+        Ok(())
     }
 
-    /// The next reply, for which it waits if none has come that was not taken. `None` if the writer is gone.
-    pub fn wait<R: Wait>(&mut self, rt: &R) -> Option<WriterReply<N>>
-        ensures heard { MatchOption result ((self.old.came ≡ []) × (self.new.heard ≡ self.old.heard)) (λ reply. self.new.heard ≡ self.old.heard ++ reply ∷ []) }
+    /// The next reply, for which it waits if none has come that was not taken.
+    ///
+    /// # Errors
+    ///
+    /// [`Gone`] if the writer is, and no reply is left.
+    pub fn wait<R: Wait>(&mut self, rt: &R) -> Result<WriterReply<N>, Gone>
+        ensures heard { MatchResult result (λ reply. self.new.heard ≡ self.old.heard ++ reply ∷ []) (λ _. (self.old.came ≡ []) × (self.new.heard ≡ self.old.heard)) }
         ensures came { (more : List ReplyValue) × (self.new.heard ++ self.new.came ≡ self.old.heard ++ self.old.came ++ more) }
     {
         if let Some(reply) = self.take() {
-            return Some(reply);
+            return Ok(reply);
         }
-        if !self.listen(rt) {
-            return None;
+        // The rule of the way back does not say that each message has a reply.
+        for _ in rt.forever() {
+            self.listen(rt)?;
+            if let Some(reply) = self.take() {
+                return Ok(reply);
+            }
         }
-        self.take()
+        unreachable!()
     }
 
     /// Takes all replies that came, and drops them.
@@ -316,23 +324,33 @@ impl<N: StoreName> ReplyReceiver<N> {
         self.came = WriterReplies::none(self.alloc);
     }
 
-    /// Waits for so many replies, unless the writer is gone.
-    fn wait_for<R: Wait>(&mut self, rt: &R, count: usize)
-        ensures { (more : List ReplyValue) × (self.new.heard ++ self.new.came ≡ self.old.heard ++ self.old.came ++ more) }
+    /// Takes the next replies, so many, for which it waits, and drops them.
+    ///
+    /// # Errors
+    ///
+    /// [`Gone`] if the writer is, and fewer are left. They are dropped.
+    fn wait_for<R: Wait>(&mut self, rt: &R, count: usize) -> Result<(), Gone>
+        ensures heard { (more : List ReplyValue) × (self.new.heard ++ self.new.came ≡ self.old.heard ++ self.old.came ++ more) }
+        ensures all { IfOk result (λ _. length self.new.heard ≡ length self.old.heard + count) }
     {
-        for _ in 0..count {
-            if self.wait(rt).is_none() {
-                break;
-            }
+        for _number in 0..count {
+            drop(self.wait(rt)?);
         }
+        Ok(())
     }
 
-    /// Drops the next replies, for which it waits unless the writer is gone, and all others that came with them.
-    pub fn drop_next<R: Wait>(&mut self, rt: &R, count: usize)
+    /// Drops the next replies, so many, for which it waits, and all others that came with them.
+    ///
+    /// # Errors
+    ///
+    /// [`Gone`] if the writer is, and fewer are left. They are dropped.
+    pub fn drop_next<R: Wait>(&mut self, rt: &R, count: usize) -> Result<(), Gone>
         ensures heard { (more : List ReplyValue) × (self.new.heard ≡ self.old.heard ++ self.old.came ++ more) }
         ensures came { self.new.came ≡ [] }
+        ensures all { IfOk result (λ _. length self.old.heard + count ≤ length self.new.heard) }
     {
-        self.wait_for(rt, count);
+        let waited = self.wait_for(rt, count);
         self.skip();
+        waited
     }
 }

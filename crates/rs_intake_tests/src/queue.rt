@@ -7,7 +7,7 @@ mod schedules;
 mod script;
 
 use crate::samples::is_shown;
-use log::{Log, Outcome, Reading, has_totals, is_settled};
+use log::{Log, Outcome, Reading, has_totals, is_settled, misses_answers};
 use places::{Setup, Writing, run};
 use rs_intake::SettleFault;
 use rs_message::{Found, MAX_PLACES, Operation};
@@ -111,7 +111,7 @@ fn each_change_of_a_job_has_its_own_answer(rt: HostRuntime) -> Result<(), Fail> 
         writing: Writing::All,
     };
     let outcome = run(rt, setup)?;
-    assert!(rt; has_answers(&outcome, 14, &TOGETHER));
+    assert!(rt; has_answers(&outcome, 14, &TOGETHER) && !misses_answers(&outcome));
     assert!(rt; has_totals(&outcome, 14, 1, 14) && is_settled(&outcome, 14));
     Ok(())
 }
@@ -129,6 +129,7 @@ fn answers_that_are_not_taken_hold_up_no_other(rt: HostRuntime) -> Result<(), Fa
     };
     let outcome = run(rt, setup)?;
     assert!(rt; have_answers(&outcome, (65, &[(1, 0), (66, 0)]), (1, &[(65, 0)])));
+    assert!(rt; !misses_answers(&outcome));
     assert!(rt; has_totals(&outcome, 66, 0, 66) && is_settled(&outcome, 66));
     Ok(())
 }
@@ -146,6 +147,7 @@ fn a_line_is_handed_on_without_a_writer(rt: HostRuntime) -> Result<(), Fail> {
     for _ in 0..TRIES {
         let outcome = run(rt, setup)?;
         if have_answers(&outcome, (65, &[(0, 42), (0, 44)]), (1, &[(0, 44)])) {
+            assert!(rt; misses_answers(&outcome));
             return Ok(());
         }
         assert!(rt; have_answers(&outcome, (2, &[(0, 44), (0, 44)]), (1, &[(0, 44)])));

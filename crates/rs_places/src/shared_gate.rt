@@ -58,7 +58,8 @@ impl<N: LineName, R: Wait + Copy> SharedGate<N, R> {
         // For the proof: this call says that the seat's list is legal.
         let _version = seat.version();
         let mut line = line;
-        line.hand_on(&rt);
+        // If the writer is gone, no answer is left for a later submit.
+        drop(line.hand_on(&rt));
         SharedGate {
             rt,
             intake,
@@ -101,7 +102,8 @@ impl<N: LineName, R: Wait + Copy> SharedGate<N, R> {
         ensures mark { (tail : List Entry) × HandsOn self.old.mark tail self.new.mark × IsPrefix (operations_of tail) self.old.ahead }
         ensures ahead { self.new.ahead ≡ [] }
     {
-        self.line.hand_on(&self.rt);
+        // If the writer is gone, no answer is left for a later submit.
+        drop(self.line.hand_on(&self.rt));
     }
 
     /// Gives the gate up. The line's end keeps what the queue took from the line, what was sent ahead too.

@@ -34,6 +34,8 @@ pub(crate) struct Log {
     pub(crate) known: u64,
     /// Whether each step was made.
     pub(crate) is_whole: bool,
+    /// Whether the line was handed on, and fewer answers came than were ahead.
+    pub(crate) misses_answers: bool,
     /// Of the line, once it is closed: its last serial, and how many jobs the queue took.
     pub(crate) serial: u64,
     pub(crate) sent: u64,
@@ -47,6 +49,7 @@ impl Log {
             readings: Vec::new(alloc),
             known: 0,
             is_whole: false,
+            misses_answers: false,
             serial: 0,
             sent: 0,
         }
@@ -91,6 +94,16 @@ pub(crate) struct Outcome {
     pub(crate) logs: Vec<Log>,
     /// `None` if the writer took no job.
     pub(crate) totals: Option<Totals>,
+}
+
+/// Whether the line of a place was handed on, and fewer answers came than were ahead.
+pub(crate) fn misses_answers(outcome: &Outcome) -> bool {
+    for log in &outcome.logs {
+        if log.misses_answers {
+            return true;
+        }
+    }
+    false
 }
 
 /// What the writer did, if each place took all its steps, no entry is held, and nothing is settled without the lines.

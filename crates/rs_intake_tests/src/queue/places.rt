@@ -153,7 +153,7 @@ fn take_step<N: LineName, R: Wait + Clock + Abort>(
             Some(())
         }
         Act::HandOn => {
-            line.hand_on(rt);
+            log.misses_answers = line.hand_on(rt).is_err();
             Some(())
         }
         Act::Read(now) => {
