@@ -84,7 +84,10 @@ impl Root {
     {
         match Branch::clear_in(&mut self.branch, alloc, topic, 0) {
             Ok(Cleared::Missing) => Ok(false),
-            Ok(Cleared::Left) => Ok(true),
+            Ok(Cleared::Left) => {
+                self.fold(alloc);
+                Ok(true)
+            }
             Ok(Cleared::Last) => {
                 self.branch = Arc::new(alloc, Branch::new(alloc))?;
                 Ok(true)

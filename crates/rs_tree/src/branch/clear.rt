@@ -50,7 +50,9 @@ impl Stem {
         let Some(next) = behind(self.chain.as_slice(), topic, at) else {
             return Ok(Cleared::Missing);
         };
-        self.branch.clear(alloc, topic, next)
+        let cleared = self.branch.clear(alloc, topic, next);
+        self.branch.fold(alloc);
+        cleared
     }
 
     /// The same in place if the stem has one owner, and else in a copy.
@@ -118,6 +120,7 @@ impl Branch {
         match self.children[i].clear(alloc, topic, at, next) {
             Ok(Cleared::Missing) => Ok(Cleared::Missing),
             Ok(Cleared::Left) => {
+                self.divide(alloc, i);
                 self.unfold(alloc);
                 Ok(Cleared::Left)
             }

@@ -4,7 +4,8 @@ ghost use Rattle.std.specs.Prelude.{◌≡◌, ◌<◌, false, IfOk};
 ghost use Rattle.rs_message.specs.Messages.{is_sweep};
 
 use super::joined::{
-    check_cleared_chunks, check_deep, check_lone_messages, check_narrow_chunks, check_swept_chunks,
+    check_cleared_chunks, check_deep, check_flat_list, check_lone_messages, check_narrow_chunks,
+    check_swept_chunks,
 };
 use super::wide::{check_grown, check_swept_grown};
 use super::{check_as_many, origin, set_at};
@@ -283,6 +284,7 @@ pub enum Case {
     ClearedChunks,
     SweptChunks,
     NarrowChunks,
+    FlatList,
     Grown(u64),
     SweptGrown,
 }
@@ -298,6 +300,7 @@ pub fn check_case(rt: &impl Abort, alloc: Global, topics: u32, case: Case) -> Re
         Case::ClearedChunks => check_cleared_chunks(rt, alloc, &mut map, &mut tree),
         Case::SweptChunks => check_swept_chunks(rt, alloc, &mut map, &mut tree),
         Case::NarrowChunks => check_narrow_chunks(rt, alloc, &mut map, &mut tree),
+        Case::FlatList => check_flat_list(rt, alloc, &mut map, &mut tree),
         Case::Grown(step) => check_grown(rt, alloc, &mut map, &mut tree, step),
         Case::SweptGrown => check_swept_grown(rt, alloc, &mut map, &mut tree),
     }

@@ -1,5 +1,7 @@
 //! How many branches are left when messages go.
 
+ghost use Rattle.std.specs.Prelude.{◌≤◌};
+
 use super::alike::{Case, LATE, check_all_alike, check_case, put_both};
 use rs_store::{CalmCatalogue, Catalogue, MapCatalogue};
 use rs_tree::TreeCatalogue;
@@ -174,8 +176,27 @@ fn swept_chunks_are_joined(rt: HostRuntime) -> Result<(), Fail> {
     check_case(&rt, rt.alloc(), 600, Case::SweptChunks)
 }
 
-/// Sets many topics before those that are there and clears all of them but one, time and again. The chunks that are left lie in one
-/// another, but no deeper each time.
+/// Sets many topics before those that are there and then clears all of them but one, or takes some of these steps.
+fn put_before(
+    alloc: Global,
+    map: &mut CalmCatalogue<MapCatalogue>,
+    tree: &mut CalmCatalogue<TreeCatalogue>,
+    round: u32,
+    steps: u32,
+) -> Result<(), Fail>
+    requires small { round ≤ 9 }
+    requires few { steps ≤ 1079 }
+{
+    for i in 0..steps {
+        let (number, kind) = if i < 540 { (i, 1) } else { (i - 539, 4) };
+        let name = format!(in alloc; "{}-{}", 900 - round, 1000 + number)?;
+        put_both(alloc, map, tree, name.as_bytes(), kind)?;
+    }
+    Ok(())
+}
+
+/// Topics are set before those that are there, and all but one are cleared, time and again. The chunks that are left lie in one another,
+/// but no deeper each time.
 pub fn check_narrow_chunks(
     rt: &impl Abort,
     alloc: Global,
@@ -183,11 +204,7 @@ pub fn check_narrow_chunks(
     tree: &mut CalmCatalogue<TreeCatalogue>,
 ) -> Result<(), Fail> {
     for round in 0..9u32 {
-        for i in 0..1079u32 {
-            let (number, kind) = if i < 540 { (i, 1) } else { (i - 539, 4) };
-            let name = format!(in alloc; "{}-{}", 900 - round, 1000 + number)?;
-            put_both(alloc, map, tree, name.as_bytes(), kind)?;
-        }
+        put_before(alloc, map, tree, round, 1079)?;
     }
     check_all_alike(rt, alloc, map.catalogue(), tree.catalogue(), FILTERS)?;
     let tree = tree.catalogue();
@@ -198,4 +215,29 @@ pub fn check_narrow_chunks(
 #[test]
 fn narrow_chunks_are_undone(rt: HostRuntime) -> Result<(), Fail> {
     check_case(&rt, rt.alloc(), 600, Case::NarrowChunks)
+}
+
+/// Chunks that are taken apart leave one long list, which Clears alone divide.
+pub fn check_flat_list(
+    rt: &impl Abort,
+    alloc: Global,
+    map: &mut CalmCatalogue<MapCatalogue>,
+    tree: &mut CalmCatalogue<TreeCatalogue>,
+) -> Result<(), Fail> {
+    for round in 0..5u32 {
+        put_before(alloc, map, tree, round, if round < 4 { 1079 } else { 512 })?;
+    }
+    assert!(rt; tree.catalogue().count() == 516 && tree.catalogue().branches() == 1);
+    for number in 0..9u32 {
+        let name = format!(in alloc; "896-{}", 1000 + number)?;
+        put_both(alloc, map, tree, name.as_bytes(), 4)?;
+    }
+    check_all_alike(rt, alloc, map.catalogue(), tree.catalogue(), FILTERS)?;
+    assert!(rt; 5 < tree.catalogue().branches());
+    Ok(())
+}
+
+#[test]
+fn a_flat_list_is_divided(rt: HostRuntime) -> Result<(), Fail> {
+    check_case(&rt, rt.alloc(), 600, Case::FlatList)
 }

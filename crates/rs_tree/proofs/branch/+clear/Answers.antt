@@ -1,6 +1,6 @@
 use Rattle.std.proofs.Common.{◌≡◌, ◌+◌, ◌<◌, ◌≤◌, ◌∷◌, ◌++◌, List, arith, length, refl, subst, sym, ap, ◌∙◌, Some, None}
 use Rattle.std.proofs.Math.ListN.{length-set}
-use Rattle.rs_bucket.specs.Chains.{behind}
+use Rattle.rs_bucket.specs.Chains.{behind, under_all}
 use Rattle.rs_topic.specs.Rests.{levels_from}
 use Rattle.rs_tree.specs.Spots.{own}
 use Rattle.rs_bucket.specs.Spots.{under}
@@ -38,7 +38,10 @@ pub Stem::clear_here-returns : goal.Stem::clear_here-returns
 Stem::clear_here-returns t c =
     let stem = c.args.self.now in
     let there : Some (levels_from c.in-Some.next c.args.topic.now) ≡ behind (levels_from 1 stem.chain.items) (levels_from c.args.at c.args.topic.now) = rw c.as_slice.ensures.value at c.in-Some.ensures.value in
-    clears_chain (levels_from 1 stem.chain.items) (levels_from c.args.at c.args.topic.now) (levels_from c.in-Some.next c.args.topic.now) c.clear.result stem.branch.spots c.clear.new.self.spots (sym there) c.clear.ensures
+    let path = levels_from c.args.at c.args.topic.now in
+    let P : Spots → Type 0 = λ w. Clears c.clear-cleared.result (stem_spots stem) w path in
+    subst P (sym (ap (under_all (levels_from 1 stem.chain.items)) c.fold.ensures))
+    (clears_chain (levels_from 1 stem.chain.items) path (levels_from c.in-Some.next c.args.topic.now) c.clear-cleared.result stem.branch.spots c.clear-cleared.new.self.spots (sym there) c.clear-cleared.ensures)
 
 pub Stem::clear_here-returns-in_default : goal.Stem::clear_here-returns-in_default
 Stem::clear_here-returns-in_default t c =
@@ -116,7 +119,7 @@ Branch::clear-returns-in-Ok-Left t c =
     let cleared : ClearsAs Left c.index_mut.result.now.spots c.clear.new.self.spots (c.in-Some.level.now ∷ levels_from c.in-Some.next c.args.topic.now) = rw (e, c.in-Ok-Left.field-0-is) at c.in-Ok-Left.ensures.cleared in
     let path = c.in-Some.level.now ∷ levels_from c.in-Some.next c.args.topic.now in
     let P : Spots → Type 0 = λ w. ClearsAs Left (own c.self.inside.retained ++ parts es) w path in
-    rw (e, ← c.self.view_is) (subst P (sym c.unfold.ensures) (clears_left c.self.inside.retained es c.self.invariant c.in-Some.level.now (levels_from c.in-Some.next c.args.topic.now) c.in-Ok.i c.index_mut.result.now c.clear.new.self small here c.index_mut.ensures.value c.clear.ensures.level cleared))
+    rw (e, ← c.self.view_is) (subst P (sym (c.unfold.ensures ∙ c.divide.ensures)) (clears_left c.self.inside.retained es c.self.invariant c.in-Some.level.now (levels_from c.in-Some.next c.args.topic.now) c.in-Ok.i c.index_mut.result.now c.clear.new.self small here c.index_mut.ensures.value c.clear.ensures.level cleared))
 
 pub Branch::clear-returns-in-Err : goal.Branch::clear-returns-in-Err
 Branch::clear-returns-in-Err t c =
