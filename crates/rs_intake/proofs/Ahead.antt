@@ -7,7 +7,7 @@ use Rattle.rs_message.specs.declared.entry.Entry.{Entry}
 use Rattle.rs_message.specs.declared.entry.Operation.{Operation}
 use Rattle.rs_store.specs.History.{last_serial}
 use Rattle.rs_store.proofs.Histories.{last_serial_more}
-use Rattle.rs_intake.specs.Changes.{AreChanges, AreOf, ArePlain}
+use Rattle.rs_intake.specs.Changes.{AreOfOneJob, AreOf, ArePlain}
 use Rattle.rs_intake.specs.Lines.{AreNext, IsAheadAfter, IsOther, IsSeatLine, entry_at, numbered}
 use Rattle.rs_intake.specs.Parts.{before}
 use Rattle.rs_intake.specs.QueueRule.{AreAbove}
@@ -101,7 +101,7 @@ numbered_last place serial (o ∷ os) entries low =
     let P : List Entry → Type 0 = λ l. last_serial place l ≤ serial + suc (length os) in
     subst P (append_assoc entries (e ∷ []) (numbered place (serial + 1) os)) (omega (arith, rest))
 
-pub numbered_changes : (place serial : ℕ) (os : List Operation) → 0 < place → 0 < length (numbered place serial os) → length os ≤ MAX_CHANGES → AllByRecursion (λ o. is_sweep o ≡ false) os → AreChanges (numbered place serial os)
+pub numbered_changes : (place serial : ℕ) (os : List Operation) → 0 < place → 0 < length (numbered place serial os) → length os ≤ MAX_CHANGES → AllByRecursion (λ o. is_sweep o ≡ false) os → AreOfOneJob (numbered place serial os)
 numbered_changes place serial [] above some few plain = absurd (omega (arith, some))
 numbered_changes place serial (o ∷ os) above some few plain =
     let n = numbered_length place serial (o ∷ os) in

@@ -6,7 +6,7 @@ use Rattle.rs_intake.specs.Changes.{place_of_all}
 use Rattle.rs_intake.specs.Causes.{HaveEnded, IsCause}
 use Rattle.rs_intake.specs.Lines.{Received}
 use Rattle.rs_intake.specs.QueueRule.{AreEnds, IsOutside, at_place}
-use Rattle.rs_intake.specs.declared.ending.Cause.{Cause}
+use Rattle.rs_intake.specs.declared.cause.Cause.{Cause}
 use Rattle.rs_intake.proofs.Queues.{at_place-head, at_place-tail}
 use Rattle.rs_intake.proofs.Sums.{compare, inside, sum_to, sum_to-add, sum_to-same, there_once, zeros}
 

@@ -9,8 +9,8 @@ use Rattle.rs_store.specs.Adding.{Adds}
 use Rattle.rs_store.specs.History.{SerialsRise, cleaned, extended}
 use Rattle.rs_version.specs.Writer.{Refuses, Written, kept_of, shows}
 use Rattle.rs_version.specs.declared.fault.PutFault.TheVariants.{Full, Held, NoMemory, Stale}
-use Rattle.rs_intake.specs.Changes.{AreChanges, AreOf, ArePlain, place_of_all}
-use Rattle.rs_intake.specs.Done.{Answer, AreAnswered, AreDone, AreRefusedBehind, AreReplied, IsAnswered, IsDone, IsPut, IsWritten, ReplyValue, accepted, has_held, is_held, is_refused, refused_reply, refused_in, replies_to}
+use Rattle.rs_intake.specs.Changes.{AreOfOneJob, AreOf, ArePlain, place_of_all}
+use Rattle.rs_intake.specs.Done.{Answer, AreAnswered, AreDone, AreRefusedBehind, AreReplied, IsAnswered, IsDone, IsPut, IsWritten, ReplyValue, not_refused, has_held, is_held, is_refused, refused_reply, refused_in, replies_to}
 use Rattle.rs_intake.specs.Parts.{IsPart}
 use Rattle.rs_intake.specs.declared.waiting.Gone.{Gone}
 use Rattle.rs_intake.specs.Sending.{AreToPut, ArePut, AreSent, AreSentNext}
@@ -73,7 +73,7 @@ without_swept limit kept entry kept' (inl same) = ap without_sweeps same
 without_swept limit kept entry kept' (inr s) = ap without_sweeps s.1 ∙ without_cleaned s.0.message.received kept
 
 without_done : (limit : ℕ) (kept : List Entry) (entry : Entry) (answer : Answer) (kept' : List Entry) → is_sweep entry.operation ≡ false → IsDone limit kept entry answer kept'
-    → without_sweeps kept' ≡ without_sweeps kept ++ accepted (entry ∷ []) (answer ∷ [])
+    → without_sweeps kept' ≡ without_sweeps kept ++ not_refused (entry ∷ []) (answer ∷ [])
 without_done limit kept entry answer kept' plain is = go (is_refused answer) refl
   where
     go : (b : Bool) → is_refused answer ≡ b → without_sweeps kept' ≡ without_sweeps kept ++ cond b [] (entry ∷ [])
@@ -88,30 +88,30 @@ done_append limit first [] (a ∷ answers) kept more behind kept' are rest = abs
 done_append limit first (e ∷ entries) [] kept more behind kept' are rest = absurd are
 done_append limit first (e ∷ entries) (a ∷ answers) kept more behind kept' are rest = (are.0, are.1, done_append limit are.0 entries answers kept more behind kept' are.2 rest)
 
-accepted_append : (limit : ℕ) (first entries : List Entry) (answers : List Answer) (kept more : List Entry) (behind : List Answer) → AreDone limit first entries answers kept
-    → accepted (entries ++ more) (answers ++ behind) ≡ accepted entries answers ++ accepted more behind
-accepted_append limit first [] [] kept more behind are = refl
-accepted_append limit first [] (a ∷ answers) kept more behind are = absurd are
-accepted_append limit first (e ∷ entries) [] kept more behind are = absurd are
-accepted_append limit first (e ∷ entries) (a ∷ answers) kept more behind are = go (is_refused a) (accepted_append limit are.0 entries answers kept more behind are.2)
+not_refused_append : (limit : ℕ) (first entries : List Entry) (answers : List Answer) (kept more : List Entry) (behind : List Answer) → AreDone limit first entries answers kept
+    → not_refused (entries ++ more) (answers ++ behind) ≡ not_refused entries answers ++ not_refused more behind
+not_refused_append limit first [] [] kept more behind are = refl
+not_refused_append limit first [] (a ∷ answers) kept more behind are = absurd are
+not_refused_append limit first (e ∷ entries) [] kept more behind are = absurd are
+not_refused_append limit first (e ∷ entries) (a ∷ answers) kept more behind are = go (is_refused a) (not_refused_append limit are.0 entries answers kept more behind are.2)
   where
-    go : (b : Bool) → accepted (entries ++ more) (answers ++ behind) ≡ accepted entries answers ++ accepted more behind
-        → cond b (accepted (entries ++ more) (answers ++ behind)) (e ∷ accepted (entries ++ more) (answers ++ behind))
-        ≡ cond b (accepted entries answers) (e ∷ accepted entries answers) ++ accepted more behind
+    go : (b : Bool) → not_refused (entries ++ more) (answers ++ behind) ≡ not_refused entries answers ++ not_refused more behind
+        → cond b (not_refused (entries ++ more) (answers ++ behind)) (e ∷ not_refused (entries ++ more) (answers ++ behind))
+        ≡ cond b (not_refused entries answers) (e ∷ not_refused entries answers) ++ not_refused more behind
     go true same = same
     go false same = ap (λ l. e ∷ l) same
 
 without_all : (limit : ℕ) (kept entries : List Entry) (answers : List Answer) (kept' : List Entry) → ArePlain entries → AreDone limit kept entries answers kept'
-    → without_sweeps kept' ≡ without_sweeps kept ++ accepted entries answers
+    → without_sweeps kept' ≡ without_sweeps kept ++ not_refused entries answers
 without_all limit kept [] [] kept' plain are = ap without_sweeps are ∙ sym (append-nil (without_sweeps kept))
 without_all limit kept [] (a ∷ answers) kept' plain are = absurd are
 without_all limit kept (e ∷ entries) [] kept' plain are = absurd are
 without_all limit kept (e ∷ entries) (a ∷ answers) kept' plain are =
     let one = without_done limit kept e a are.0 plain.0 are.1 in
     let rest = without_all limit are.0 entries answers kept' plain.1 are.2 in
-    rest ∙ (ap (λ l. l ++ accepted entries answers) one ∙ (append_assoc (without_sweeps kept) (accepted (e ∷ []) (a ∷ [])) (accepted entries answers) ∙ ap (λ l. without_sweeps kept ++ l) (go (is_refused a))))
+    rest ∙ (ap (λ l. l ++ not_refused entries answers) one ∙ (append_assoc (without_sweeps kept) (not_refused (e ∷ []) (a ∷ [])) (not_refused entries answers) ∙ ap (λ l. without_sweeps kept ++ l) (go (is_refused a))))
   where
-    go : (b : Bool) → cond b [] (e ∷ []) ++ accepted entries answers ≡ cond b (accepted entries answers) (e ∷ accepted entries answers)
+    go : (b : Bool) → cond b [] (e ∷ []) ++ not_refused entries answers ≡ cond b (not_refused entries answers) (e ∷ not_refused entries answers)
     go true = refl
     go false = refl
 
@@ -125,7 +125,7 @@ written_all limit entries entries' kept more answers kept' all plain w are =
       answers = w.answers ++ answers;
       done = done_append limit [] entries w.answers kept more answers kept' w.done are;
       changes = without_all limit kept more answers kept' plain are
-          ∙ (ap (λ l. l ++ accepted more answers) w.changes ∙ sym (accepted_append limit [] entries w.answers kept more answers w.done));
+          ∙ (ap (λ l. l ++ not_refused more answers) w.changes ∙ sym (not_refused_append limit [] entries w.answers kept more answers w.done));
     }
     )
 
@@ -317,7 +317,7 @@ left_none limit kept rest left none l =
     }
     )
 
-pub left_all : (limit : ℕ) (kept entries changes : List Entry) → IsKeptFrom limit entries kept → SerialsRise (entries ++ changes) → AreChanges changes → AreToPut limit kept changes
+pub left_all : (limit : ℕ) (kept entries changes : List Entry) → IsKeptFrom limit entries kept → SerialsRise (entries ++ changes) → AreOfOneJob changes → AreToPut limit kept changes
 left_all limit kept entries changes kept_from rise are =
     record { entries = entries; kept_from = kept_from; rise = rise; plain = are.plain; above = above_all (place_of_all changes) changes are.above are.place }
 

@@ -2,9 +2,9 @@
 use Rattle.std.specs.Prelude.{ℕ, ◌≡◌, ◌+◌, ◌<◌, ◌≤◌, ◌^◌, ◌⊎◌, List, length}
 use Rattle.rs_intake.specs.Lines.{Received}
 use Rattle.rs_intake.specs.QueueRule.{at_place}
-use Rattle.rs_intake.specs.declared.ending.Cause.{Cause}
+use Rattle.rs_intake.specs.declared.cause.Cause.{Cause}
 use Rattle.rs_intake.specs.declared.job.TheConstants.{MAX_CHANGES}
-use Rattle.rs_intake.specs.declared.ending.Cause.TheVariants.{AllEnded, MostTaken, QueueGone}
+use Rattle.rs_intake.specs.declared.cause.Cause.TheVariants.{AllEnded, MostTaken, QueueGone}
 
 -- of each place there is one End
 abbrev pub HaveEnded : ℕ → List ℕ → Type 0

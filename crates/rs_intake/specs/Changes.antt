@@ -19,7 +19,7 @@ place_of_all [] = 0
 place_of_all (e ∷ entries) = e.origin.place
 
 -- the entries may be those of one job: they are not too many, of one place, which is not the writer's, and none is a Sweep
-pub record AreChanges (entries : List Entry) : Type 0 where
+pub record AreOfOneJob (entries : List Entry) : Type 0 where
   pub some : 0 < length entries
   pub few : length entries ≤ MAX_CHANGES
   pub above : 0 < place_of_all entries

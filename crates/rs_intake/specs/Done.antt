@@ -73,10 +73,10 @@ abbrev pub refused_in : List Answer → ℕ
 refused_in answers = length (filter is_refused answers)
 
 -- the entries that were not refused, in their order
-abbrev pub accepted : List Entry → List Answer → List Entry
-accepted [] answers = []
-accepted (entry ∷ entries) [] = []
-accepted (entry ∷ entries) (answer ∷ answers) = cond (is_refused answer) (accepted entries answers) (entry ∷ accepted entries answers)
+abbrev pub not_refused : List Entry → List Answer → List Entry
+not_refused [] answers = []
+not_refused (entry ∷ entries) [] = []
+not_refused (entry ∷ entries) (answer ∷ answers) = cond (is_refused answer) (not_refused entries answers) (entry ∷ not_refused entries answers)
 
 -- whether the answer says that the entry is held
 abbrev pub is_held : Answer → Bool
@@ -101,7 +101,7 @@ AreRefusedBehind (answer ∷ answers) = (is_held answer ≡ true → AllByRecurs
 pub record IsWritten (limit : ℕ) (entries kept : List Entry) : Type 0 where
   pub answers : List Answer
   pub done : AreDone limit [] entries answers kept
-  pub changes : without_sweeps kept ≡ accepted entries answers
+  pub changes : without_sweeps kept ≡ not_refused entries answers
 
 -- the replies that have these answers, one to each entry
 abbrev pub replies_to : List Entry → List Answer → List ReplyValue

@@ -79,7 +79,7 @@ IsAheadAfter place serial expected [] operation after =
 IsAheadAfter place serial expected (e ∷ es) operation after = ((e.operation ≡ operation) × (after ≡ es)) ⊎ ((e.operation ≢ operation) × (after ≡ e ∷ es))
 
 -- a place, and what was sent from it
-pub record Open : Type 0 where
+pub record LineSenderValue : Type 0 where
   pub place : ℕ
   pub sent : List Entry
 

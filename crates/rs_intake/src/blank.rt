@@ -9,7 +9,7 @@ ghost use Rattle.rs_intake.specs.Lines.{new_lines};
 
 use crate::intake::Intake;
 use crate::job::Job;
-use crate::line::{OpenLine, SeatLine};
+use crate::line::{LineSender, SeatLine};
 use crate::name::LineName;
 use crate::reply::{ReplySender, way_back};
 use crate::rule::{JobReceiver, JobSender, PassView, QueueRule};
@@ -84,7 +84,7 @@ fn line<N: LineName>(
 {
     let (to, from) = way_back(alloc)?;
     let own = sender.try_clone()?;
-    let line = OpenLine::new(place, own, cut(sender, pass));
+    let line = LineSender::new(place, own, cut(sender, pass));
     Ok((SeatLine::new(alloc, line, from), to))
 }
 

@@ -2,7 +2,7 @@
 
 ghost use Rattle.std.specs.Prelude.{◌≡◌, ◌<◌, ◌≤◌, length};
 ghost use Rattle.rs_message.specs.declared.entry.TheConstants.{MAX_PLACES};
-ghost use Rattle.rs_intake.specs.Changes.{AreChanges, place_of_all};
+ghost use Rattle.rs_intake.specs.Changes.{AreOfOneJob, place_of_all};
 
 use rs_message::Entry;
 use std::marker::Model;
@@ -22,18 +22,18 @@ pub struct Changes {
 impl Model for Changes {
     ghost use Rattle.std.specs.Prelude.{List};
     ghost use Rattle.rs_message.specs.declared.entry.Entry.{Entry};
-    ghost use Rattle.rs_intake.specs.Changes.{AreChanges};
+    ghost use Rattle.rs_intake.specs.Changes.{AreOfOneJob};
 
     ghost Value = { List Entry };
 
     ghost view = { λ c. c.entries.items };
 
-    ghost invariant = { λ c. AreChanges c.entries.items };
+    ghost invariant = { λ c. AreOfOneJob c.entries.items };
 }
 
 impl Changes {
     pub(crate) fn new(entries: Vec<Entry>) -> Changes
-        requires { AreChanges entries.items }
+        requires { AreOfOneJob entries.items }
         ensures { result ≡ entries.items }
     {
         Changes { entries }
@@ -42,7 +42,7 @@ impl Changes {
     /// How many they are.
     pub fn len(&self) -> usize
         ensures len { result ≡ length self.now }
-        ensures changes { AreChanges self.now }
+        ensures changes { AreOfOneJob self.now }
     {
         self.entries.len()
     }
@@ -62,7 +62,7 @@ impl Changes {
     /// The entries, in their order.
     pub fn into_entries(self) -> Vec<Entry>
         ensures entries { result.items ≡ self }
-        ensures changes { AreChanges result.items }
+        ensures changes { AreOfOneJob result.items }
     {
         self.entries
     }

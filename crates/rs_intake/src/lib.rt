@@ -14,7 +14,7 @@
 #![tactic(auto)]
 
 mod blank;
-mod ending;
+mod cause;
 mod fault;
 mod intake;
 mod job;
@@ -31,7 +31,7 @@ mod ways_back;
 mod writer;
 
 pub use blank::{BlankQueue, blank_queue};
-pub use ending::Cause;
+pub use cause::Cause;
 pub use fault::SettleFault;
 pub use intake::{Intake, read_reply};
 pub use job::{Changes, Job, MAX_CHANGES};

@@ -34,7 +34,7 @@ use std::sync::Wait;
 
 /// The sending half of a line that was not closed: its place, and what the queue took from it.
 #[derive(Drop)]
-pub struct OpenLine<N: LineName> {
+pub struct LineSender<N: LineName> {
     place: u8,
     sent: u64,
     sender: JobSender,
@@ -42,20 +42,20 @@ pub struct OpenLine<N: LineName> {
     of: PhantomData<N>,
 }
 
-impl<N: LineName> Model for OpenLine<N> {
+impl<N: LineName> Model for LineSender<N> {
     ghost use Rattle.std.specs.Prelude.{◌≡◌, []};
     ghost use Rattle.crossbeam_channel.specs.Claims.{view as known_by};
     ghost use Rattle.crossbeam_channel.specs.Ends.{sends_on};
-    ghost use Rattle.rs_intake.specs.Lines.{IsLine, Open};
+    ghost use Rattle.rs_intake.specs.Lines.{IsLine, LineSenderValue};
 
-    ghost Value = { Open };
+    ghost Value = { LineSenderValue };
 
     ghost view = { λ l. record { place = l.place; sent = (known_by l.pass).entries } };
 
     ghost invariant = { λ l. IsLine N.queue N.places (sends_on l.sender) l.pass l.place l.sent × ((known_by l.pass).ends ≡ []) };
 }
 
-impl<N: LineName> OpenLine<N> {
+impl<N: LineName> LineSender<N> {
     fn place(&self) -> u8
         ensures place { result ≡ self.now.place }
         ensures some { 0 < result }
@@ -65,13 +65,13 @@ impl<N: LineName> OpenLine<N> {
         self.place
     }
 
-    pub(crate) fn new(place: u8, sender: JobSender, pass: Pass<Job, PassView>) -> OpenLine<N>
+    pub(crate) fn new(place: u8, sender: JobSender, pass: Pass<Job, PassView>) -> LineSender<N>
         requires queue { IsQueue N.queue (sends_on sender) × IsIn N.queue pass }
         requires new { ((known_by pass).sends ≡ true) × ((known_by pass).takes ≡ false) × ((known_by pass).from ≡ place) × ((known_by pass).entries ≡ []) × ((known_by pass).ends ≡ []) }
         requires place { (0 < place) × (place ≤ N.places) × (N.places ≤ MAX_PLACES) }
         ensures { (result.place ≡ place) × (result.sent ≡ []) }
     {
-        OpenLine {
+        LineSender {
             place,
             sent: 0,
             sender,
@@ -102,7 +102,7 @@ impl<N: LineName> OpenLine<N> {
     fn finish<R: Wait>(self, rt: &R) -> LineEnd<N>
         ensures { (result.place ≡ self.place) × (result.sent ≡ self.sent) }
     {
-        let OpenLine {
+        let LineSender {
             place,
             sent,
             sender,
@@ -254,7 +254,7 @@ fn alone(alloc: Global, entry: Entry) -> Option<Changes>
 /// then what is ahead.
 #[derive(Drop)]
 pub struct SeatLine<N: LineName> {
-    line: OpenLine<N>,
+    line: LineSender<N>,
     serial: u64,
     replies: ReplyReceiver<N>,
     expected: Vec<Operation>,
@@ -274,7 +274,7 @@ impl<N: LineName> Model for SeatLine<N> {
 }
 
 impl<N: LineName> SeatLine<N> {
-    pub(crate) fn new(alloc: Global, line: OpenLine<N>, replies: ReplyReceiver<N>) -> SeatLine<N>
+    pub(crate) fn new(alloc: Global, line: LineSender<N>, replies: ReplyReceiver<N>) -> SeatLine<N>
         requires { (line.sent ≡ []) × (replies.heard ≡ []) × (replies.came ≡ []) }
         ensures line { (result.place ≡ line.place) × (result.serial ≡ 0) × (result.sent ≡ []) }
         ensures replies { (result.heard ≡ []) × (result.came ≡ []) }
@@ -431,9 +431,9 @@ impl<N: LineName> SeatLine<N> {
         }
     }
 
-    /// Uses the next serial, and sends the operation under it, with what is expected behind it; or it was sent ahead. Its entry, or why
-    /// nothing was sent: `Full` if there is no further serial, `NoMemory`, `Closed`, or `Strange` if something else was sent ahead, and
-    /// then no serial is used.
+    /// Submits the operation under the next serial. If it is the first that is ahead, it was sent already; if it is the first that is
+    /// expected, all that is expected is sent with it; else it is sent alone. The result is its entry, or why nothing was sent: `Full` if
+    /// there is no further serial, `NoMemory`, `Closed`, or `Strange` if something else is ahead, and then no serial is used.
     pub(crate) fn send<R: Wait>(
         &mut self,
         rt: &R,

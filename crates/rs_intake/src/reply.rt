@@ -280,7 +280,7 @@ impl<N: StoreName> ReplyReceiver<N> {
     /// # Errors
     ///
     /// [`Gone`] if the writer is, and no message is left.
-    fn listen<R: Wait>(&mut self, rt: &R) -> Result<(), Gone>
+    fn wait_message<R: Wait>(&mut self, rt: &R) -> Result<(), Gone>
         requires { self.old.came ≡ [] }
         ensures heard { self.new.heard ≡ self.old.heard }
         ensures came { IfErr result (λ _. self.new.came ≡ []) }
@@ -309,7 +309,7 @@ impl<N: StoreName> ReplyReceiver<N> {
         }
         // The rule of the way back does not say that each message has a reply.
         for _ in rt.forever() {
-            self.listen(rt)?;
+            self.wait_message(rt)?;
             if let Some(reply) = self.take() {
                 return Ok(reply);
             }

@@ -13,7 +13,7 @@ ghost use Rattle.rs_intake.specs.Sweeps.{AreForEntries, without_sweeps};
 ghost use Rattle.rs_intake.specs.declared.job.TheConstants.{MAX_CHANGES};
 ghost use Rattle.rs_intake.specs.declared.reply.TheConstants.{FEW_REPLIES};
 
-use crate::ending::Cause;
+use crate::cause::Cause;
 use crate::job::{Job, MAX_CHANGES};
 use crate::name::LineName;
 use crate::reply::FEW_REPLIES;

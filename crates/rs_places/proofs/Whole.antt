@@ -15,7 +15,7 @@ use Rattle.rs_version.proofs.Origins.{origins_differ}
 use Rattle.rs_intake.specs.Lines.{Closed, Line, new_lines}
 use Rattle.rs_intake.specs.Parts.{IsPart}
 use Rattle.rs_intake.specs.QueueRule.{of_place}
-use Rattle.rs_intake.specs.Done.{Answer, IsWritten, accepted, is_refused}
+use Rattle.rs_intake.specs.Done.{Answer, IsWritten, not_refused, is_refused}
 use Rattle.rs_intake.specs.Settling.{AreOfPlaces, AreTaken, AreTakenInOrder, sent_in_all}
 use Rattle.rs_intake.specs.Sweeps.{without_sweeps}
 use Rattle.rs_packet.specs.declared.packet.Publish.{Publish}
@@ -137,17 +137,17 @@ published_part w entries place part =
     let split = subst P (filter-append _ w.published (listed w.held)) part in
     part_filter (λ e. e.origin.place == place) (without_sweeps w.published) entries (part_front_of (without_sweeps w.published) (without_sweeps (listed w.held)) entries split)
 
-accepted_part : (entries : List Entry) (answers : List Answer) → IsPart (accepted entries answers) entries
-accepted_part [] answers = tt
-accepted_part (entry ∷ entries) [] = tt
-accepted_part (entry ∷ entries) (answer ∷ answers) = go (is_refused answer) (accepted_part entries answers)
+not_refused_part : (entries : List Entry) (answers : List Answer) → IsPart (not_refused entries answers) entries
+not_refused_part [] answers = tt
+not_refused_part (entry ∷ entries) [] = tt
+not_refused_part (entry ∷ entries) (answer ∷ answers) = go (is_refused answer) (not_refused_part entries answers)
   where
-    go : (b : Bool) → IsPart (accepted entries answers) entries → IsPart (cond b (accepted entries answers) (entry ∷ accepted entries answers)) (entry ∷ entries)
-    go true h = part_behind (accepted entries answers) entries entry h
+    go : (b : Bool) → IsPart (not_refused entries answers) entries → IsPart (cond b (not_refused entries answers) (entry ∷ not_refused entries answers)) (entry ∷ entries)
+    go true h = part_behind (not_refused entries answers) entries entry h
     go false h = inl (refl, h)
 
 written_part : (limit : ℕ) (entries kept : List Entry) → IsWritten limit entries kept → IsPart (without_sweeps kept) entries
-written_part limit entries kept w = let P : List Entry → Type 0 = λ l. IsPart l entries in subst P (sym w.changes) (accepted_part entries w.answers)
+written_part limit entries kept w = let P : List Entry → Type 0 = λ l. IsPart l entries in subst P (sym w.changes) (not_refused_part entries w.answers)
 
 part_of_front : {A : Type 0} (xs ys zs : List A) → IsPart xs ys → IsPart xs (ys ++ zs)
 part_of_front [] ys zs part = tt
@@ -277,7 +277,7 @@ store_run limit places before after gates left w entries version changes new tur
       held = w.held;
       written = written;
       placed = placed;
-      accepted_of = λ place. ap (of_place place) written.changes;
+      not_refused_of = λ place. ap (of_place place) written.changes;
       left = left;
       each = each_of_store limit w.published entries (places_of before (new_gates places)) left legal (λ place. published_part w entries place part)
           (places_fresh before (new_lines places) (lines_fresh places)) (subst P new served) known taken;

@@ -6,7 +6,7 @@ use Rattle.rs_packet.specs.declared.reply.Reply.{Reply}
 use Rattle.rs_message.specs.declared.entry.Entry.{Entry}
 use Rattle.rs_store.specs.History.{IsLegal}
 use Rattle.rs_version.specs.Copies.{listed}
-use Rattle.rs_intake.specs.Done.{IsWritten, accepted}
+use Rattle.rs_intake.specs.Done.{IsWritten, not_refused}
 use Rattle.rs_intake.specs.Lines.{Line, new_lines}
 use Rattle.rs_intake.specs.Parts.{IsPart}
 use Rattle.rs_intake.specs.QueueRule.{of_place}
@@ -106,7 +106,7 @@ pub record IsStoreRun (limit places : ℕ) (before after : List Plan) (version :
   -- the entries that it took are of these places alone
   pub placed : AreOfPlaces places taken
   -- so of each place it has what was taken of the place less what was refused
-  pub accepted_of : (place : ℕ) → of_place place (without_sweeps (history ++ listed held)) ≡ of_place place (accepted taken written.answers)
+  pub not_refused_of : (place : ℕ) → of_place place (without_sweeps (history ++ listed held)) ≡ of_place place (not_refused taken written.answers)
   -- of each place: its connections, what they saw, what they sent, and what became of that
   pub left : List Left
   pub each : ArePlacesOf limit history taken (places_of before (new_gates places)) left

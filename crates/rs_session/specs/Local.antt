@@ -10,7 +10,7 @@ use Rattle.rs_session.specs.declared.local.LocalGate.{LocalGate}
 use Rattle.rs_session.specs.Gate.{Mark}
 
 abbrev pub catalogue_of : {C : Type 0} → LocalGate C → C
-catalogue_of gate = gate.store
+catalogue_of gate = gate.catalogue
 
 -- it serves as place 1, and keeps no list of what it sent
 abbrev pub local_mark : Content → Mark

@@ -21,7 +21,7 @@ const PLACE: u8 = 1;
 /// for each list of entries that its catalogue stands for.
 #[derive(Drop)]
 pub struct LocalGate<C: Catalogue> {
-    store: CalmCatalogue<C>,
+    catalogue: CalmCatalogue<C>,
 }
 
 impl<C: Catalogue> LocalGate<C> {
@@ -31,7 +31,7 @@ impl<C: Catalogue> LocalGate<C> {
         ensures list { IfOk result (λ gate. Stands (C.content (catalogue_of gate)) []) }
     {
         Ok(LocalGate {
-            store: CalmCatalogue::new(alloc, limit)?,
+            catalogue: CalmCatalogue::new(alloc, limit)?,
         })
     }
 
@@ -39,7 +39,7 @@ impl<C: Catalogue> LocalGate<C> {
     pub fn catalogue(&self) -> &C
         ensures { result.now ≡ catalogue_of self.now }
     {
-        self.store.catalogue()
+        self.catalogue.catalogue()
     }
 }
 
@@ -68,14 +68,14 @@ impl<C: Catalogue> Gate for LocalGate<C> {
         ensures done { OnOk result (IsAdded (C.content (catalogue_of self.old)) (next_entry (C.content (catalogue_of self.old)) operation) (C.content (catalogue_of self.new))) }
         ensures refused { IfErr result (λ fault. IsLeft (C.content (catalogue_of self.old)) operation fault (C.content (catalogue_of self.new))) }
     {
-        let last = self.store.catalogue().last_serial(PLACE);
+        let last = self.catalogue.catalogue().last_serial(PLACE);
         if last == u64::MAX {
             return Err(SubmitFault::Full);
         }
         let Some(origin) = Origin::new(PLACE, last + 1) else {
             return Err(SubmitFault::Full);
         };
-        match self.store.add(Entry { origin, operation }) {
+        match self.catalogue.add(Entry { origin, operation }) {
             Ok(()) => Ok(()),
             Err(Refusal::Full) => Err(SubmitFault::Full),
             Err(Refusal::Stale) => Err(SubmitFault::Full),
@@ -90,7 +90,7 @@ impl<C: Catalogue> Gate for LocalGate<C> {
         ensures mark { local_mark (C.content (catalogue_of self.new)) ≡ local_mark (C.content (catalogue_of self.old)) }
         ensures same { C.content (catalogue_of self.new) ≡ C.content (catalogue_of self.old) }
     {
-        self.store.catalogue().answer(filter, now)
+        self.catalogue.catalogue().answer(filter, now)
     }
 
     /// Refused only if memory is. The store stays as it is.
@@ -105,6 +105,6 @@ impl<C: Catalogue> Gate for LocalGate<C> {
         ensures mark { local_mark (C.content (catalogue_of self.new)) ≡ local_mark (C.content (catalogue_of self.old)) }
         ensures same { C.content (catalogue_of self.new) ≡ C.content (catalogue_of self.old) }
     {
-        self.store.catalogue().answer_within(filter, now, room)
+        self.catalogue.catalogue().answer_within(filter, now, room)
     }
 }

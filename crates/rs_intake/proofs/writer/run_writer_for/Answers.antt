@@ -5,7 +5,7 @@ use Rattle.rs_version.specs.Writer.{kept_of}
 use Rattle.rs_intake.specs.declared.job.Job.{Job}
 use Rattle.rs_intake.specs.declared.job.TheConstants.{MAX_CHANGES}
 use Rattle.rs_intake.specs.QueueRule.{IsPlaced, ends_of, entries_in}
-use Rattle.rs_intake.specs.declared.ending.Cause.TheVariants.{AllEnded, MostTaken, QueueGone}
+use Rattle.rs_intake.specs.declared.cause.Cause.TheVariants.{AllEnded, MostTaken, QueueGone}
 use Rattle.rs_intake.proofs.Done.{AreTold, told_more, written_same}
 use Rattle.rs_intake.proofs.Causes.{all_ended, cause_same, placed_first}
 use Rattle.rs_intake.specs.Settling.{AreOfPlaces}

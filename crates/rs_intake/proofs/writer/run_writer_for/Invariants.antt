@@ -3,7 +3,7 @@ use Rattle.crossbeam_channel.specs.Ends.{receives_on}
 use Rattle.rs_version.specs.Writer.{kept_of}
 use Rattle.rs_intake.specs.Names.{IsQueue}
 use Rattle.rs_intake.specs.Settling.{AreOfPlaces}
-use Rattle.rs_intake.specs.declared.ending.Cause.TheVariants.{MostTaken}
+use Rattle.rs_intake.specs.declared.cause.Cause.TheVariants.{MostTaken}
 use Rattle.rs_intake.proofs.Done.{AreTold}
 use Rattle.rs_intake.proofs.writer.run_writer_for.Given as goal
 
