@@ -7,7 +7,7 @@ use Rattle.rs_message.specs.declared.entry.Entry.{Entry}
 use Rattle.rs_message.specs.declared.entry.Operation.{Operation}
 use Rattle.rs_store.specs.History.{last_serial}
 use Rattle.rs_store.proofs.Histories.{last_serial_more}
-use Rattle.rs_intake.specs.Changes.{AreOfOneJob, AreOf, ArePlain}
+use Rattle.rs_intake.specs.Changes.{AreOf, AreOfOneJob, ArePlain}
 use Rattle.rs_intake.specs.Lines.{AreNext, IsAheadAfter, IsOther, IsSeatLine, entry_at, numbered}
 use Rattle.rs_intake.specs.Parts.{before}
 use Rattle.rs_intake.specs.QueueRule.{AreAbove}

@@ -9,8 +9,8 @@ use Rattle.rs_store.specs.Adding.{Adds}
 use Rattle.rs_store.specs.History.{SerialsRise, cleaned, extended}
 use Rattle.rs_version.specs.Writer.{Refuses, Written, kept_of, shows}
 use Rattle.rs_version.specs.declared.fault.PutFault.TheVariants.{Full, Held, NoMemory, Stale}
-use Rattle.rs_intake.specs.Changes.{AreOfOneJob, AreOf, ArePlain, place_of_all}
-use Rattle.rs_intake.specs.Done.{Answer, AreAnswered, AreDone, AreRefusedBehind, AreReplied, IsAnswered, IsDone, IsPut, IsWritten, ReplyValue, not_refused, has_held, is_held, is_refused, refused_reply, refused_in, replies_to}
+use Rattle.rs_intake.specs.Changes.{AreOf, AreOfOneJob, ArePlain, place_of_all}
+use Rattle.rs_intake.specs.Done.{Answer, AreAnswered, AreDone, AreRefusedBehind, AreReplied, IsAnswered, IsDone, IsPut, IsWritten, ReplyValue, has_held, is_held, is_refused, not_refused, refused_reply, refused_in, replies_to}
 use Rattle.rs_intake.specs.Parts.{IsPart}
 use Rattle.rs_intake.specs.declared.waiting.Gone.{Gone}
 use Rattle.rs_intake.specs.Sending.{AreToPut, ArePut, AreSent, AreSentNext}

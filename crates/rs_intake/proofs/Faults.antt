@@ -3,8 +3,8 @@ use Rattle.std.proofs.Common.{◌≡◌, sym, ap, ◌∙◌}
 use Rattle.std.specs.Prelude.{Result, Ok, Err}
 use Rattle.rs_message.specs.declared.fault.SubmitFault.{SubmitFault}
 
-pub not_refused : {A : Type 0} (r : Result A SubmitFault) (x : A) (f : SubmitFault) → r ≡ Ok x → r ≡ Err f → ⊥
-not_refused {A} r x f was is =
+pub ok_not_err : {A : Type 0} (r : Result A SubmitFault) (x : A) (f : SubmitFault) → r ≡ Ok x → r ≡ Err f → ⊥
+ok_not_err {A} r x f was is =
     let both : (let o : Result A SubmitFault = Ok x in o) ≡ Err f = sym was ∙ is in
     cc (both)
 

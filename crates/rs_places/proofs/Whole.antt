@@ -15,7 +15,7 @@ use Rattle.rs_version.proofs.Origins.{origins_differ}
 use Rattle.rs_intake.specs.Lines.{Closed, Line, new_lines}
 use Rattle.rs_intake.specs.Parts.{IsPart}
 use Rattle.rs_intake.specs.QueueRule.{of_place}
-use Rattle.rs_intake.specs.Done.{Answer, IsWritten, not_refused, is_refused}
+use Rattle.rs_intake.specs.Done.{Answer, IsWritten, is_refused, not_refused}
 use Rattle.rs_intake.specs.Settling.{AreOfPlaces, AreTaken, AreTakenInOrder, sent_in_all}
 use Rattle.rs_intake.specs.Sweeps.{without_sweeps}
 use Rattle.rs_packet.specs.declared.packet.Publish.{Publish}

@@ -6,7 +6,7 @@ use Rattle.rs_message.specs.declared.fault.SubmitFault.{SubmitFault}
 use Rattle.rs_session.specs.Gate.{Mark, Submits, TakesAhead, Uses}
 use Rattle.rs_message.specs.declared.fault.SubmitFault.TheVariants.{Strange}
 use Rattle.rs_intake.specs.Lines.{entry_at, next_serial}
-use Rattle.rs_intake.proofs.Faults.{not_refused, refused_as}
+use Rattle.rs_intake.proofs.Faults.{ok_not_err, refused_as}
 use Rattle.rs_places.specs.Shared.{IsOtherAhead, SharedValue, ahead_of, mark_of}
 use Rattle.rs_places.proofs.Receipts.{other_ahead, same_mark, sends_it, submits_err, submits_ok, takes_ahead, used_if_open}
 use Rattle.rs_places.proofs.shared_gate.SharedGateGate.submit.Goals as goal
@@ -57,7 +57,7 @@ returns-clause-ahead g c =
     let new = c.submit.new.line in
     let P : SharedValue → Type 0 = λ v. TakesAhead c.args.operation v.mark (mark_of new) (Ok tt) v.ahead (ahead_of new) in
     subst P c.self.view_is (takes_ahead old.place old.serial old.expected new.expected old.ahead new.ahead c.args.operation (mark_of old) (mark_of new) (Ok tt) c.self.invariant.1 s.expected s.ahead
-    (λ other. absurd (not_refused _ _ _ c.in_ok-receipt.was (s.other other).0)))
+    (λ other. absurd (ok_not_err _ _ _ c.in_ok-receipt.was (s.other other).0)))
 
 pub returns-in_err-receipt-clause-ahead : goal.returns-in_err-receipt-clause-ahead
 returns-in_err-receipt-clause-ahead g c =
@@ -74,7 +74,7 @@ returns-clause-serial g c =
     let s = c.submit.ensures in
     let new = c.submit.new.line in
     let P : SharedValue → Type 0 = λ v. (new.serial ≡ next_serial v.mark.serial) ⊎ ((Ok tt ≡ Err Strange) × (mark_of new ≡ v.mark) × IsOtherAhead v.ahead c.args.operation) in
-    subst P c.self.view_is (⊎_elim (λ t. inl t) (λ other. absurd (not_refused _ _ _ c.in_ok-receipt.was (s.other other).0)) s.serial)
+    subst P c.self.view_is (⊎_elim (λ t. inl t) (λ other. absurd (ok_not_err _ _ _ c.in_ok-receipt.was (s.other other).0)) s.serial)
 
 pub returns-in_err-receipt-clause-serial : goal.returns-in_err-receipt-clause-serial
 returns-in_err-receipt-clause-serial g c =
