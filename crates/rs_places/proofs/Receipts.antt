@@ -13,11 +13,11 @@ use Rattle.rs_store.specs.History.{IsLegal}
 use Rattle.rs_store.proofs.Entries.{Among, among, contains}
 use Rattle.rs_version.specs.Receipts.{StandsAt}
 use Rattle.rs_version.proofs.Origins.{origins_differ}
-use Rattle.rs_session.specs.Gate.{Mark, IsHandedOver, Sends, SendsAtMost, Submits, TakesAhead, Uses, UsesIfOpen, entry_by, last_origin}
+use Rattle.rs_session.specs.Gate.{Mark, IsHandedOver, Sends, SendsAtMost, Submits, TakesPending, Uses, UsesIfOpen, entry_by, last_origin}
 use Rattle.rs_intake.specs.Lines.{AddsAtMost, IsAheadAfter, IsOther, Line, announced, entry_at, next_serial, numbered}
 use Rattle.rs_intake.specs.Refusals.{IsRefused, IsUnsent}
 use Rattle.rs_intake.specs.declared.job.TheConstants.{MAX_CHANGES}
-use Rattle.rs_places.specs.Shared.{IsOtherAhead, SharedValue, gate_of, handed_on, mark_of, operations_of}
+use Rattle.rs_places.specs.Shared.{IsOtherPending, SharedValue, gate_of, handed_on, mark_of, operations_of}
 
 among_middle : (e : Entry) (before after : List Entry) → Among e (before ++ e ∷ after)
 among_middle e [] after = inl refl
@@ -125,34 +125,34 @@ sends_it operation before old new is place adds =
 
 -- ---- what is ahead
 
-pub other_ahead : (ahead : List Entry) (expected : List Operation) (operation : Operation) → IsOther ahead operation → IsOtherAhead (operations_of ahead ++ expected) operation
-other_ahead [] expected operation other = absurd other
-other_ahead (e ∷ es) expected operation other = other
+pub other_pending : (ahead : List Entry) (expected : List Operation) (operation : Operation) → IsOther ahead operation → IsOtherPending (operations_of ahead ++ expected) operation
+other_pending [] expected operation other = absurd other
+other_pending (e ∷ es) expected operation other = other
 
-some_ahead : (ahead : List Entry) (expected : List Operation) → (expected ≢ []) ⊎ (ahead ≢ []) → operations_of ahead ++ expected ≢ []
-some_ahead [] expected some = λ none. ⊎_elim (λ t. t none) (λ t. t refl) some
-some_ahead (e ∷ es) expected some = λ none. absurd (cc (none))
+some_pending : (ahead : List Entry) (expected : List Operation) → (expected ≢ []) ⊎ (ahead ≢ []) → operations_of ahead ++ expected ≢ []
+some_pending [] expected some = λ none. ⊎_elim (λ t. t none) (λ t. t refl) some
+some_pending (e ∷ es) expected some = λ none. absurd (cc (none))
 
 -- whether something is ahead, or expected
-pub has_ahead : (b : Bool) (expected : List Operation) (ahead : List Entry) (all : List Operation) → operations_of ahead ++ expected ≡ all
+pub is_pending : (b : Bool) (expected : List Operation) (ahead : List Entry) (all : List Operation) → operations_of ahead ++ expected ≡ all
     → MatchBool b ((expected ≢ []) ⊎ (ahead ≢ [])) ((expected ≡ []) × (ahead ≡ [])) → MatchBool b (all ≢ []) (all ≡ [])
-has_ahead true expected ahead all is some = λ none. some_ahead ahead expected some (is ∙ none)
-has_ahead false expected ahead all is none = sym is ∙ (ap (λ l. operations_of l ++ expected) none.1 ∙ none.0)
+is_pending true expected ahead all is some = λ none. some_pending ahead expected some (is ∙ none)
+is_pending false expected ahead all is none = sym is ∙ (ap (λ l. operations_of l ++ expected) none.1 ∙ none.0)
 
 operations_numbered : (place serial : ℕ) (os : List Operation) → operations_of (numbered place serial os) ++ [] ≡ os
 operations_numbered place serial [] = refl
 operations_numbered place serial (o ∷ os) = ap (λ l. o ∷ l) (operations_numbered place (serial + 1) os)
 
 -- what a submit leaves of what was ahead or expected. It was refused if something else was ahead
-pub takes_ahead : (place serial : ℕ) (expected after_expected : List Operation) (ahead after : List Entry) (operation : Operation) (old new : Mark) (answer : Result (Unit {0}) SubmitFault)
+pub takes_pending : (place serial : ℕ) (expected after_expected : List Operation) (ahead after : List Entry) (operation : Operation) (old new : Mark) (answer : Result (Unit {0}) SubmitFault)
     → (expected ≡ []) ⊎ (ahead ≡ []) → after_expected ≡ [] → IsAheadAfter place serial expected ahead operation after
-    → (IsOther ahead operation → (answer ≡ Err Strange) × (new ≡ old)) → TakesAhead operation old new answer (operations_of ahead ++ expected) (operations_of after ++ after_expected)
-takes_ahead place serial expected after_expected ahead after operation old new answer one none is other =
-    let P : List Operation → Type 0 = λ l. TakesAhead operation old new answer (operations_of ahead ++ expected) (operations_of after ++ l) in
+    → (IsOther ahead operation → (answer ≡ Err Strange) × (new ≡ old)) → TakesPending operation old new answer (operations_of ahead ++ expected) (operations_of after ++ after_expected)
+takes_pending place serial expected after_expected ahead after operation old new answer one none is other =
+    let P : List Operation → Type 0 = λ l. TakesPending operation old new answer (operations_of ahead ++ expected) (operations_of after ++ l) in
     subst P (sym none) (go ahead one is other)
   where
     go : (ahead : List Entry) → (expected ≡ []) ⊎ (ahead ≡ []) → IsAheadAfter place serial expected ahead operation after → (IsOther ahead operation → (answer ≡ Err Strange) × (new ≡ old))
-        → TakesAhead operation old new answer (operations_of ahead ++ expected) (operations_of after ++ [])
+        → TakesPending operation old new answer (operations_of ahead ++ expected) (operations_of after ++ [])
     go [] one (inl nothing) other = inl (ap (λ l. operations_of l ++ []) nothing)
     go [] one (inr (os, first, sent)) other =
         let rest : operations_of after ++ [] ≡ os = ap (λ l. operations_of l ++ []) sent ∙ operations_numbered place (serial + 1) os in
@@ -185,7 +185,7 @@ announces expected changes after_expected ahead after one same is =
 
 pub handed_on_is : (known : List Entry) (old new : Line) → new.place ≡ old.place → new.serial ≡ old.serial + length old.ahead → new.sent ≡ old.sent ++ old.ahead → new.expected ≡ [] → new.ahead ≡ [] → gate_of known new ≡ handed_on known old
 handed_on_is known old new place serial sent none_expected none =
-    let G : ℕ → ℕ → List Entry → List Operation → SharedValue = λ p n l a. record { known = known; mark = record { place = p; serial = n; sent = Some l }; ahead = a } in
+    let G : ℕ → ℕ → List Entry → List Operation → SharedValue = λ p n l a. record { known = known; mark = record { place = p; serial = n; sent = Some l }; pending = a } in
     let ahead : operations_of new.ahead ++ new.expected ≡ [] = ap (λ l. operations_of l ++ new.expected) none ∙ none_expected in
     ap (λ p. G p new.serial new.sent (operations_of new.ahead ++ new.expected)) place
     ∙ (ap (λ n. G old.place n new.sent (operations_of new.ahead ++ new.expected)) serial

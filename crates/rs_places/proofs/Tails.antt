@@ -3,7 +3,7 @@ use Rattle.std.proofs.Common.{◌≡◌, ◌⊎◌, inl, inr, Option, Some, None
 use mathlib.Core.List.{IsPrefix}
 use Rattle.rs_message.specs.declared.entry.Entry.{Entry}
 use Rattle.rs_message.specs.declared.entry.Operation.{Operation}
-use Rattle.rs_session.specs.Ahead.{AreChanges}
+use Rattle.rs_session.specs.Pending.{AreChanges}
 use Rattle.rs_session.specs.Gate.{Sends}
 use Rattle.rs_session.specs.Points.{Given, Point}
 use Rattle.rs_session.specs.Run.{Exchange}
@@ -12,10 +12,10 @@ use Rattle.rs_server.specs.Conversation.{AreLeft}
 use Rattle.rs_places.specs.Shared.{operations_of}
 
 -- nothing was sent ahead, if nothing was expected
-pub no_tail : (before : Option (List Entry)) (sent tail : List Entry) (ahead : List Operation) → Sends before tail (Some sent) → IsPrefix (operations_of tail) ahead → ahead ≡ [] → before ≡ Some sent
-no_tail None sent tail ahead sends front none = absurd sends
-no_tail (Some before) sent [] ahead sends front none = ap (λ (l : List Entry). Some l) (sym (sends ∙ append-nil before))
-no_tail (Some before) sent (e ∷ tail) ahead sends front none =
+pub no_tail : (before : Option (List Entry)) (sent tail : List Entry) (pending : List Operation) → Sends before tail (Some sent) → IsPrefix (operations_of tail) pending → pending ≡ [] → before ≡ Some sent
+no_tail None sent tail pending sends front none = absurd sends
+no_tail (Some before) sent [] pending sends front none = ap (λ (l : List Entry). Some l) (sym (sends ∙ append-nil before))
+no_tail (Some before) sent (e ∷ tail) pending sends front none =
     let more : e.operation ∷ (operations_of tail ++ front.0) ≡ [] = front.1 ∙ none in
     absurd (cc (more))
 

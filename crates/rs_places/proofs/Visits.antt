@@ -51,7 +51,7 @@ pub record ServedSoFar (limit : ℕ) (first : Place) (number : ℕ) (now : Place
   pub given : Gave first.plan.waiting (map (λ visit. visit.given) visits) now.plan.waiting
   pub ended : TookBack first.plan.ended (map (λ visit. visit.ending) visits) now.plan.ended
   pub place : now.gate.mark.place ≡ first.gate.mark.place
-  pub ahead : first.gate.ahead ≡ [] → now.gate.ahead ≡ []
+  pub pending : first.gate.pending ≡ [] → now.gate.pending ≡ []
 
 pub served_none : (limit : ℕ) (place : Place) → ServedSoFar limit place 1 place
 served_none limit place = record {
@@ -60,7 +60,7 @@ served_none limit place = record {
   given = gave_none place.plan.waiting;
   ended = took_none place.plan.ended;
   place = refl;
-  ahead = λ none. none;
+  pending = λ none. none;
 }
 
 pub served_more : (limit number : ℕ) (first now after : Place) (plan : Plan) (given : Streams) → ServedSoFar limit first number now → GivesNext now.plan (Some given) plan
@@ -87,12 +87,12 @@ served_more limit number first now after plan given so_far next one =
       place =
           let moved = (marks_through _ _ _ one.served.connection.marks one.served.connection.run).place in
           ap (λ (g : SharedValue). g.mark.place) (sym one.leaves) ∙ (one.served.connection.handed_on.place ∙ (moved ∙ so_far.place));
-      ahead = λ none. ap (λ (g : SharedValue). g.ahead) (sym one.leaves) ∙ one.served.connection.none_ahead;
+      pending = λ none. ap (λ (g : SharedValue). g.pending) (sym one.leaves) ∙ one.served.connection.none_pending;
     }
 
 -- the place, once its turn has no more connections and its line is closed
 pub place_served : (limit number : ℕ) (first now : Place) (plan : Plan) (told : List Entry) (line : Closed) → ServedSoFar limit first number now → GivesNext now.plan None plan
-    → told ≡ now.gate.known → line.place ≡ now.gate.mark.place → ((tail : List Entry) × Sends now.gate.mark.sent tail (Some line.sent) × IsPrefix (operations_of tail) now.gate.ahead) → IsClosed line.place line.ends line.gone → IsPlaceServed limit first (record { plan = plan; told = told; line = line })
+    → told ≡ now.gate.known → line.place ≡ now.gate.mark.place → ((tail : List Entry) × Sends now.gate.mark.sent tail (Some line.sent) × IsPrefix (operations_of tail) now.gate.pending) → IsClosed line.place line.ends line.gone → IsPlaceServed limit first (record { plan = plan; told = told; line = line })
 place_served limit number first now plan told line so_far next told_is place sent closed =
     let P : List Visit → Type 0 = λ l. AreConnectionsServed limit 1 first.gate l now.gate in
     let Q : List Ending → Type 0 = λ l. TookBack first.plan.ended l plan.ended in
@@ -105,7 +105,7 @@ place_served limit number first now plan told line so_far next told_is place sen
           (took_more first.plan.ended now.plan.ended plan.ended (map (λ (v : Visit). v.ending) so_far.visits) [] so_far.ended next.ended);
       told = told_is;
       number = place ∙ so_far.place;
-      sent = λ none. no_tail now.gate.mark.sent line.sent sent.0 now.gate.ahead sent.1 sent.2 (so_far.ahead none);
+      sent = λ none. no_tail now.gate.mark.sent line.sent sent.0 now.gate.pending sent.1 sent.2 (so_far.pending none);
       closed = closed;
     }
 
@@ -113,7 +113,7 @@ place_served limit number first now plan told line so_far next told_is place sen
 pub one_served : {R W C : Type 0} (remaining : R → Option (List ℕ)) (contents : W → Option (List ℕ)) (moments : C → Option (ℕ → ℕ)) (limit number : ℕ) (old new : Plan) (gate after : SharedValue)
     (input : R) (output : W) (reader read : Counted R) (writer written : Counted W) (clock clock_back : C) (result : Result Served ServeFault)
     → inner_of reader ≡ input → inner_of writer ≡ output → failures_of reader ≡ 0 → failures_of writer ≡ 0
-    → IsServedAt limit (start (assigned_of gate.mark.place number) gate.known gate.mark) gate.ahead
+    → IsServedAt limit (start (assigned_of gate.mark.place number) gate.known gate.mark) gate.pending
     (record { unread = remaining (inner_of reader); rest = remaining (inner_of read); written = contents (inner_of writer); more = contents (inner_of written); told = TellsInOrder (moments clock) (moments clock_back) }) result after
     → Causes result (failures_of reader) (failures_of read) (failures_of writer) (failures_of written)
     → TakesBack old (record { streams = record { unread = remaining (inner_of read); written = contents (inner_of written); moments = moments clock_back }; read_failures = failures_of read; write_failures = failures_of written; result = result }) new

@@ -156,14 +156,14 @@ part_of_front (x ∷ xs) (y ∷ ys) zs part = ⊎_elim (λ t. inl (t.0, part_of_
 
 -- ---- what the connections sent
 
-visits_send : (limit number : ℕ) (gate : SharedValue) (visits : List Visit) (last : SharedValue) → gate.ahead ≡ [] → AreConnectionsServed limit number gate visits last
+visits_send : (limit number : ℕ) (gate : SharedValue) (visits : List Visit) (last : SharedValue) → gate.pending ≡ [] → AreConnectionsServed limit number gate visits last
     → (entries : List Entry) × Sends gate.mark.sent entries last.mark.sent × ArePublications number gate visits entries
 visits_send limit number gate [] last none served = ([], none_sent gate.mark last.mark (ap (λ (g : SharedValue). g.mark) served), refl)
 visits_send limit number gate (visit ∷ visits) last none (one, rest) =
     let c = one.connection in
     let own = c.publications in
     let from = start (assigned_of gate.mark.place number) gate.known gate.mark in
-    let (more, sends, later) = visits_send limit (next_number number) visit.gate visits last c.none_ahead rest in
+    let (more, sends, later) = visits_send limit (next_number number) visit.gate visits last c.none_pending rest in
     let P : List Exchange → Type 0 = λ exchanges. AreSentBy from exchanges own.entries in
     let Q : List Exchange → Type 0 = λ exchanges. AreLeft from exchanges visit.planned (operations_of c.tail) in
     let R : List Given → Type 0 = λ planned. AreLeft from c.exchanges planned (operations_of c.tail) in
@@ -173,7 +173,7 @@ visits_send limit number gate (visit ∷ visits) last none (one, rest) =
       (own.entries, c.tail, more, refl, subst P (sym one.exchanges) own.publications, subst Q (sym one.exchanges) (subst R (sym one.planned) (c.tail_is none)), later),
     )
 
-place_sends : (limit : ℕ) (place : Place) (left : Left) → place.gate.mark.sent ≡ Some [] → place.gate.ahead ≡ [] → (served : IsPlaceServed limit place left) → ArePublications 1 place.gate served.visits left.line.sent
+place_sends : (limit : ℕ) (place : Place) (left : Left) → place.gate.mark.sent ≡ Some [] → place.gate.pending ≡ [] → (served : IsPlaceServed limit place left) → ArePublications 1 place.gate served.visits left.line.sent
 place_sends limit place left fresh none served =
     let (entries, sends, are) = visits_send limit 1 place.gate served.visits served.last none served.connections in
     let P : Option (List Entry) → Type 0 = λ o. Sends o entries served.last.mark.sent in
@@ -185,7 +185,7 @@ place_sends limit place left fresh none served =
 -- ---- the places
 
 each_of_store : (limit : ℕ) (history entries : List Entry) (places : List Place) (left : List Left) → IsLegal limit history → ((place : ℕ) → IsPart (of_place place (without_sweeps history)) (of_place place entries))
-    → AllByRecursion (λ place. (place.gate.mark.sent ≡ Some []) × (place.gate.ahead ≡ [])) places → AreEachServed limit places left
+    → AllByRecursion (λ place. (place.gate.mark.sent ≡ Some []) × (place.gate.pending ≡ [])) places → AreEachServed limit places left
     → AllByRecursion (λ end. Extends history end.told) left → AllByRecursion (λ end. Extends end.line.sent (of_place end.line.place entries)) left → ArePlacesOf limit history entries places left
 each_of_store limit history entries [] [] legal part fresh each told taken = tt
 each_of_store limit history entries [] (end ∷ left) legal part fresh each told taken = absurd each
@@ -252,7 +252,7 @@ lines_fresh : (places : ℕ) → AllByRecursion (λ line. line.sent ++ line.ahea
 lines_fresh zero = tt
 lines_fresh (suc n) = all_behind (λ (line : Line). line.sent ++ line.ahead ≡ []) (new_lines n) (record { place = suc n; serial = 0; sent = []; heard = []; came = []; expected = []; ahead = [] }) (lines_fresh n) refl
 
-places_fresh : (plans : List Plan) (lines : List Line) → AllByRecursion (λ line. line.sent ++ line.ahead ≡ []) lines → AllByRecursion (λ place. (place.gate.mark.sent ≡ Some []) × (place.gate.ahead ≡ [])) (places_of plans (map new_gate lines))
+places_fresh : (plans : List Plan) (lines : List Line) → AllByRecursion (λ line. line.sent ++ line.ahead ≡ []) lines → AllByRecursion (λ place. (place.gate.mark.sent ≡ Some []) × (place.gate.pending ≡ [])) (places_of plans (map new_gate lines))
 places_fresh [] lines fresh = tt
 places_fresh (plan ∷ plans) [] fresh = tt
 places_fresh (plan ∷ plans) (line ∷ lines) fresh = ((ap (λ (l : List Entry). Some l) fresh.0, refl), places_fresh plans lines fresh.1)

@@ -35,7 +35,7 @@ transfer_of before after = record {
 
 -- It was served under this number, from what the gate knew before, over these streams.
 pub record IsConnectionServed (limit number : ℕ) (before : SharedValue) (visit : Visit) : Type 0 where
-  pub connection : IsServedAt limit (start (assigned_of before.mark.place number) before.known before.mark) before.ahead
+  pub connection : IsServedAt limit (start (assigned_of before.mark.place number) before.known before.mark) before.pending
       (transfer_of visit.given visit.ending.streams) visit.ending.result visit.gate
   pub exchanges : visit.exchanges ≡ connection.exchanges
   pub planned : visit.planned ≡ connection.planned
@@ -84,7 +84,7 @@ pub record IsPlaceServed (limit : ℕ) (place : Place) (left : Left) : Type 0 wh
   -- what is left is what the gate had then
   pub told : left.told ≡ last.known
   pub number : left.line.place ≡ place.gate.mark.place
-  pub sent : place.gate.ahead ≡ [] → last.mark.sent ≡ Some left.line.sent
+  pub sent : place.gate.pending ≡ [] → last.mark.sent ≡ Some left.line.sent
   pub closed : IsClosed left.line.place left.line.ends left.line.gone
 
 -- the first turn with the first gate, and so on. What is left of the longer list is left out

@@ -58,7 +58,7 @@ pub record IsServedAt (limit : ℕ) (from : Point State) (expected : List Operat
   -- Behind that the gate's line sent these, which the gate handed on.
   pub tail : List Entry
   pub handed_on : HandsOn mark tail gate.mark
-  pub none_ahead : gate.ahead ≡ []
+  pub none_pending : gate.pending ≡ []
   -- They are changes of publications that the bytes hold behind the last packet that was handled, or of that one too, if it sent
   -- nothing and ended the session.
   pub tail_is : expected ≡ [] → AreLeft from exchanges planned (operations_of tail)

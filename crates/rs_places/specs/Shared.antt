@@ -11,7 +11,7 @@ use Rattle.rs_session.specs.Gate.{Mark, Sends}
 pub record SharedValue : Type 0 where
   pub known : List Entry
   pub mark : Mark
-  pub ahead : List Operation
+  pub pending : List Operation
 
 -- what these entries do to their topics
 abbrev pub operations_of : List Entry → List Operation
@@ -22,15 +22,15 @@ abbrev pub mark_of : Line → Mark
 mark_of line = record { place = line.place; serial = line.serial; sent = Some line.sent }
 
 -- what was sent ahead, and then what the line expects
-abbrev pub ahead_of : Line → List Operation
-ahead_of line = operations_of line.ahead ++ line.expected
+abbrev pub pending_of : Line → List Operation
+pending_of line = operations_of line.ahead ++ line.expected
 
 abbrev pub gate_of : List Entry → Line → SharedValue
-gate_of known line = record { known = known; mark = mark_of line; ahead = ahead_of line }
+gate_of known line = record { known = known; mark = mark_of line; pending = pending_of line }
 
 -- a gate with this list and this line, which is handed on: what was ahead of the line counts as submitted
 abbrev pub handed_on : List Entry → Line → SharedValue
-handed_on known line = record { known = known; mark = record { place = line.place; serial = line.serial + length line.ahead; sent = Some (line.sent ++ line.ahead) }; ahead = [] }
+handed_on known line = record { known = known; mark = record { place = line.place; serial = line.serial + length line.ahead; sent = Some (line.sent ++ line.ahead) }; pending = [] }
 
 -- the list is the one that the gate knows, and it is legal
 pub record Knows (limit : ℕ) (gate : SharedValue) (list : List Entry) : Type 0 where
@@ -38,9 +38,9 @@ pub record Knows (limit : ℕ) (gate : SharedValue) (list : List Entry) : Type 0
   pub legal : IsLegal limit list
 
 -- the first of these changes is another than this one
-abbrev pub IsOtherAhead : List Operation → Operation → Type 0
-IsOtherAhead [] operation = ⊥
-IsOtherAhead (first ∷ rest) operation = first ≢ operation
+abbrev pub IsOtherPending : List Operation → Operation → Type 0
+IsOtherPending [] operation = ⊥
+IsOtherPending (first ∷ rest) operation = first ≢ operation
 
 -- From the one mark to the other these entries, which were sent ahead, count as submitted. They are of the place, under the serials
 -- behind its last one, one after the other.

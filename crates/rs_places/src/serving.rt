@@ -39,7 +39,7 @@ pub fn serve_place<T: Wait, N: LineName, H: Wait + Copy, R: Read, W: Write, C: C
 ) -> (Result<Served, ServeFault>, SharedGate<N, H>)
     requires reader_can_rise { failures_of reader.old < 2 ^ 64 - 1 }
     requires writer_can_rise { failures_of writer.old < 2 ^ 64 - 1 }
-    ensures connection { IsServedAt N.limit (start (assigned_of gate.mark.place number) gate.known gate.mark) gate.ahead
+    ensures connection { IsServedAt N.limit (start (assigned_of gate.mark.place number) gate.known gate.mark) gate.pending
         (record {
           unread = R.remaining (inner_of reader.old);
           rest = R.remaining (inner_of reader.new);

@@ -7,8 +7,8 @@ ghost use Rattle.rs_message.specs.declared.entry.Entry.{Entry};
 ghost use Rattle.rs_message.specs.declared.entry.TheConstants.{MAX_PLACES};
 ghost use Rattle.rs_message.specs.declared.fault.SubmitFault.TheVariants.{Strange};
 ghost use Rattle.rs_message.specs.Messages.{is_sweep};
-ghost use Rattle.rs_places.specs.Shared.{HandsOn, IsOtherAhead, Knows, handed_on, operations_of};
-ghost use Rattle.rs_session.specs.Gate.{Grows, Sends, SendsAtMost, Submits, TakesAhead, Uses, entry_by};
+ghost use Rattle.rs_places.specs.Shared.{HandsOn, IsOtherPending, Knows, handed_on, operations_of};
+ghost use Rattle.rs_session.specs.Gate.{Grows, Sends, SendsAtMost, Submits, TakesPending, Uses, entry_by};
 ghost use Rattle.rs_store.specs.History.{IsLegal};
 
 use rs_intake::{Intake, LineEnd, LineName, MAX_CHANGES, SeatLine};
@@ -99,8 +99,8 @@ impl<N: LineName, R: Wait + Copy> SharedGate<N, R> {
     /// which it waits. Whoever serves the next connection with the gate calls it first.
     pub fn hand_on(&mut self)
         ensures known { self.new.known ≡ self.old.known }
-        ensures mark { (tail : List Entry) × HandsOn self.old.mark tail self.new.mark × IsPrefix (operations_of tail) self.old.ahead }
-        ensures ahead { self.new.ahead ≡ [] }
+        ensures mark { (tail : List Entry) × HandsOn self.old.mark tail self.new.mark × IsPrefix (operations_of tail) self.old.pending }
+        ensures pending { self.new.pending ≡ [] }
     {
         // If the writer is gone, no answer is left for a later submit.
         drop(self.line.hand_on(&self.rt));
@@ -109,7 +109,7 @@ impl<N: LineName, R: Wait + Copy> SharedGate<N, R> {
     /// Gives the gate up. The line's end keeps what the queue took from the line, what was sent ahead too.
     pub fn close(self) -> LineEnd<N>
         ensures place { result.place ≡ self.mark.place }
-        ensures sent { (tail : List Entry) × Sends self.mark.sent tail (Some result.sent) × IsPrefix (operations_of tail) self.ahead }
+        ensures sent { (tail : List Entry) × Sends self.mark.sent tail (Some result.sent) × IsPrefix (operations_of tail) self.pending }
         ensures end { IsClosed result.place result.ends result.gone }
     {
         let SharedGate {
@@ -130,7 +130,7 @@ impl<N: LineName, R: Wait + Copy> Gate for SharedGate<N, R> {
 
     ghost mark = { λ gate. gate.mark };
 
-    ghost ahead = { λ gate. gate.ahead };
+    ghost pending = { λ gate. gate.pending };
 
     ghost most = { MAX_CHANGES };
 
@@ -145,7 +145,7 @@ impl<N: LineName, R: Wait + Copy> Gate for SharedGate<N, R> {
     }
 
     /// Whether anything is ahead of the line, or expected.
-    fn is_ahead(&self) -> bool {
+    fn has_pending(&self) -> bool {
         self.line.has_announced()
     }
 
@@ -156,10 +156,10 @@ impl<N: LineName, R: Wait + Copy> Gate for SharedGate<N, R> {
         requires { is_sweep operation ≡ false }
         ensures list { Grows (Knows N.limit self.old) (Knows N.limit self.new) (Submits operation self.old.mark self.new.mark result) }
         ensures mark { Uses self.old.mark self.new.mark }
-        ensures serial { (self.new.mark.serial ≡ next_serial self.old.mark.serial) ⊎ ((result ≡ Err Strange) × (self.new.mark ≡ self.old.mark) × IsOtherAhead self.old.ahead operation) }
+        ensures serial { (self.new.mark.serial ≡ next_serial self.old.mark.serial) ⊎ ((result ≡ Err Strange) × (self.new.mark ≡ self.old.mark) × IsOtherPending self.old.pending operation) }
         ensures sent { SendsAtMost self.old.mark.sent (entry_by operation self.new.mark) self.new.mark.sent }
         ensures last { OnOk result (Sends self.old.mark.sent (entry_by operation self.new.mark ∷ []) self.new.mark.sent) }
-        ensures ahead { TakesAhead operation self.old.mark self.new.mark result self.old.ahead self.new.ahead }
+        ensures pending { TakesPending operation self.old.mark self.new.mark result self.old.pending self.new.pending }
     {
         // For the proof: this call says that the serial is a u64.
         let _serial = self.line.serial();

@@ -15,7 +15,7 @@ use Rattle.rs_session.specs.declared.phase.Closing.TheVariants as closing
 use Rattle.rs_session.specs.declared.phase.Phase.{Phase}
 use Rattle.rs_session.specs.declared.phase.Phase.TheVariants as phase
 use Rattle.rs_session.specs.declared.phase.Step.TheVariants.{End}
-use Rattle.rs_session.specs.Ahead.{AreChanges, LeavesAhead}
+use Rattle.rs_session.specs.Pending.{AreChanges, LeavesPending}
 use Rattle.rs_session.specs.Stored.{point_after}
 use Rattle.rs_session.specs.State.{State, fresh, closing_of, step_of}
 use Rattle.rs_session.specs.Table.{Answers}
@@ -78,15 +78,15 @@ first_input (Broken f) inputs buffered left (a, h) = (buffered, (a, refl), h)
 -- ---- the conversation
 
 -- if a row was taken and its replies were written, there was an exchange
-pub makes_exchange : {G : Type 0} (stands : G → List Entry → Type 0) (mark : G → Mark) (ahead : G → List Operation) (old mid new : G) (from : State) (given : Given) (due : Option Reply) (between to : State) (written : List ℕ → Type 0)
+pub makes_exchange : {G : Type 0} (stands : G → List Entry → Type 0) (mark : G → Mark) (pending : G → List Operation) (old mid new : G) (from : State) (given : Given) (due : Option Reply) (between to : State) (written : List ℕ → Type 0)
     → GrowsAnswering stands mark old mid (λ seen answered list. Answers given (point_at from seen (mark old)) answered due (point_at between list (mark mid)))
     → closing_of from.phase ≡ None
     → new ≡ mid
     → (replies : List Reply) × GivesAll given.now due between replies to × written (all_reply_bytes replies)
-    → (seen : List Entry) → stands old seen → MakesExchange (point_at from seen (mark old)) given (gate_view stands mark ahead new) to written
-makes_exchange {G} stands mark ahead old mid new from given due between to written grows ongoing same (replies, all_given, all) = λ seen s.
+    → (seen : List Entry) → stands old seen → MakesExchange (point_at from seen (mark old)) given (gate_view stands mark pending new) to written
+makes_exchange {G} stands mark pending old mid new from given due between to written grows ongoing same (replies, all_given, all) = λ seen s.
     let (list, stood, begins, (answered, each, (case, row))) = grows seen s in
-    let made : MakesExchange (point_at from seen (mark old)) given (gate_view stands mark ahead mid) to written =
+    let made : MakesExchange (point_at from seen (mark old)) given (gate_view stands mark pending mid) to written =
     record {
       exchange = record { given = given; answered = answered; replies = replies; to = point_at to list (mark mid) };
       seen = list;
@@ -97,7 +97,7 @@ makes_exchange {G} stands mark ahead old mid new from given due between to writt
       stood_for = stood;
       replies = all;
     } in
-    subst (λ (g : G). MakesExchange (point_at from seen (mark old)) given (gate_view stands mark ahead g) to written) (sym same) made
+    subst (λ (g : G). MakesExchange (point_at from seen (mark old)) given (gate_view stands mark pending g) to written) (sym same) made
 
 -- one exchange's replies are written behind those of all exchanges before
 all_written : (a b c : Option (List ℕ)) (exchanges : List Exchange) (exchange : Exchange) → AppendsReplies a b exchanges → Appends b c (all_reply_bytes exchange.replies) → AppendsReplies a c (exchanges ++ exchange ∷ [])
@@ -113,7 +113,7 @@ writes_exchange (Err Write) a b c exchanges exchange p q = front_written a b c e
 writes_exchange (Err NoMemory) a b c exchanges exchange p q = front_written a b c exchanges exchange p q
 
 -- what was planned and expected is left, but for the exchange's input, or that is the first of it too
-expected_after : (given : Given) (planned : List Given) (old new : List Operation) (Unused : Type 0) → AreChanges (given ∷ planned) old → LeavesAhead given old new Unused → AreChanges planned new ⊎ ((new ≡ old) × Unused)
+expected_after : (given : Given) (planned : List Given) (old new : List Operation) (Unused : Type 0) → AreChanges (given ∷ planned) old → LeavesPending given old new Unused → AreChanges planned new ⊎ ((new ≡ old) × Unused)
 expected_after given planned [] new Unused h e = inl (subst (AreChanges planned) (sym e) tt)
 expected_after given planned (operation ∷ operations) new Unused h l =
     elim (l h.0) as (λ l. AreChanges planned new ⊎ ((new ≡ operation ∷ operations) × Unused)) [
@@ -125,7 +125,7 @@ expected_after given planned (operation ∷ operations) new Unused h l =
     ]
 
 -- if the session goes on, what is planned is left
-pub expected_on : (given : Given) (planned : List Given) (old new : List Operation) (same : Type 0) (p : Phase) → closing_of p ≡ None → AreChanges (given ∷ planned) old → LeavesAhead given old new (same × (step_of p ≡ End)) → AreChanges planned new
+pub expected_on : (given : Given) (planned : List Given) (old new : List Operation) (same : Type 0) (p : Phase) → closing_of p ≡ None → AreChanges (given ∷ planned) old → LeavesPending given old new (same × (step_of p ≡ End)) → AreChanges planned new
 expected_on given planned old new same p on h l =
     elim (expected_after given planned old new (same × (step_of p ≡ End)) h l) as (λ x. AreChanges planned new) [
       | inl k ↦ k
@@ -150,13 +150,13 @@ abbrev pub traffic : (List ℕ → Type 0) → (List ℕ → Type 0) → (List E
 traffic consumed told written = record { consumed = consumed; told = told; written = written }
 
 -- a conversation goes on by the first of what is planned
-pub talks_exchange : {T G : Type 0} (stands : G → List Entry → Type 0) (mark : G → Mark) (ahead : G → List Operation) (old new : G) (from : Point State) (first : List Operation) (st1 st2 : State) (consumed told : List ℕ → Type 0) (planned : List Given) (left : List ℕ) (r : Result T ServeFault) (wrote w1 w2 : Option (List ℕ)) (given : Given)
-    → ((seen : List Entry) → stands old seen → MakesExchange (point_at st1 seen (mark old)) given (gate_view stands mark ahead new) st2 (Writes r w1 w2))
-    → (first ≡ [] → AreChanges (given ∷ planned) (ahead old))
-    → LeavesAhead given (ahead old) (ahead new) ((mark new ≡ mark old) × (step_of st2.phase ≡ End))
-    → Talks from first (gate_view stands mark ahead old) st1 (traffic consumed told (AppendsReplies wrote w1)) (given ∷ planned) left
-    → Talks from first (gate_view stands mark ahead new) st2 (traffic consumed told (WritesReplies r wrote w2)) planned left
-talks_exchange {T} {G} stands mark ahead old new from first st1 st2 consumed told planned left r wrote w1 w2 given exchange changes leaves talk =
+pub talks_exchange : {T G : Type 0} (stands : G → List Entry → Type 0) (mark : G → Mark) (pending : G → List Operation) (old new : G) (from : Point State) (first : List Operation) (st1 st2 : State) (consumed told : List ℕ → Type 0) (planned : List Given) (left : List ℕ) (r : Result T ServeFault) (wrote w1 w2 : Option (List ℕ)) (given : Given)
+    → ((seen : List Entry) → stands old seen → MakesExchange (point_at st1 seen (mark old)) given (gate_view stands mark pending new) st2 (Writes r w1 w2))
+    → (first ≡ [] → AreChanges (given ∷ planned) (pending old))
+    → LeavesPending given (pending old) (pending new) ((mark new ≡ mark old) × (step_of st2.phase ≡ End))
+    → Talks from first (gate_view stands mark pending old) st1 (traffic consumed told (AppendsReplies wrote w1)) (given ∷ planned) left
+    → Talks from first (gate_view stands mark pending new) st2 (traffic consumed told (WritesReplies r wrote w2)) planned left
+talks_exchange {T} {G} stands mark pending old new from first st1 st2 consumed told planned left r wrote w1 w2 given exchange changes leaves talk =
     let before = talk.conversation in
     let t = exchange before.seen before.stood_for in
     let (next, one, rest) = first_input given.input (planned_inputs planned) talk.buffered left talk.whole in
@@ -180,7 +180,7 @@ talks_exchange {T} {G} stands mark ahead old new from first st1 st2 consumed tol
       };
       whole = rest;
       expected = λ e.
-          elim (expected_after given planned (ahead old) (ahead new) ((mark new ≡ mark old) × (step_of st2.phase ≡ End)) (changes e) leaves) as (λ x. AreLeft from (before.exchanges ++ t.exchange ∷ []) planned (ahead new)) [
+          elim (expected_after given planned (pending old) (pending new) ((mark new ≡ mark old) × (step_of st2.phase ≡ End)) (changes e) leaves) as (λ x. AreLeft from (before.exchanges ++ t.exchange ∷ []) planned (pending new)) [
             | inl k ↦ inl k
             | inr k ↦ inr (record {
               before = before.exchanges;
@@ -188,7 +188,7 @@ talks_exchange {T} {G} stands mark ahead old new from first st1 st2 consumed tol
               whole = refl;
               unused = ap (λ (p : Point State). p.mark) t.to_is ∙ k.1.0 ∙ sym (ap (λ (p : Point State). p.mark) mid);
               ended = ap (λ (p : Point State). step_of p.state.phase) t.to_is ∙ k.1.1;
-              are = subst (λ (x : Given). AreChanges (x ∷ planned) (ahead new)) (sym t.given_is) (subst (AreChanges (given ∷ planned)) (sym k.0) (changes e));
+              are = subst (λ (x : Given). AreChanges (x ∷ planned) (pending new)) (sym t.given_is) (subst (AreChanges (given ∷ planned)) (sym k.0) (changes e));
             })
           ];
     }
@@ -226,11 +226,11 @@ talks_read from first gate state read r1 r2 left1 left2 more told r wrote w befo
     }
 
 -- what comes next is planned, and the gate may be told what to expect
-pub talks_planned : {G : Type 0} (stands : G → List Entry → Type 0) (mark : G → Mark) (ahead : G → List Operation) (old new : G) (from : Point State) (first : List Operation) (st1 st2 : State) (consumed : List ℕ → Type 0) (p1 p2 : List Given) (left1 left2 : List ℕ) (told c1 c2 : Option (ℕ → ℕ)) (written : List Exchange → Type 0)
-    → ((seen : List Entry) → stands old seen → stands new seen) → mark new ≡ mark old → st2 ≡ st1 → Plans p1 p2 left1 left2 c1 c2 → (first ≡ [] → AreChanges p2 (ahead new))
-    → Talks from first (gate_view stands mark ahead old) st1 (traffic consumed (TellsInOrder told c1) written) p1 left1
-    → Talks from first (gate_view stands mark ahead new) st2 (traffic consumed (TellsInOrder told c2) written) p2 left2
-talks_planned {G} stands mark ahead old new from first st1 st2 consumed p1 p2 left1 left2 told c1 c2 written stood m s (more, grown, inputs, moments) changes talk =
+pub talks_planned : {G : Type 0} (stands : G → List Entry → Type 0) (mark : G → Mark) (pending : G → List Operation) (old new : G) (from : Point State) (first : List Operation) (st1 st2 : State) (consumed : List ℕ → Type 0) (p1 p2 : List Given) (left1 left2 : List ℕ) (told c1 c2 : Option (ℕ → ℕ)) (written : List Exchange → Type 0)
+    → ((seen : List Entry) → stands old seen → stands new seen) → mark new ≡ mark old → st2 ≡ st1 → Plans p1 p2 left1 left2 c1 c2 → (first ≡ [] → AreChanges p2 (pending new))
+    → Talks from first (gate_view stands mark pending old) st1 (traffic consumed (TellsInOrder told c1) written) p1 left1
+    → Talks from first (gate_view stands mark pending new) st2 (traffic consumed (TellsInOrder told c2) written) p2 left2
+talks_planned {G} stands mark pending old new from first st1 st2 consumed p1 p2 left1 left2 told c1 c2 written stood m s (more, grown, inputs, moments) changes talk =
     let talked = talk.conversation in
     let all : planned_inputs p2 ≡ planned_inputs p1 ++ planned_inputs more = ap planned_inputs grown ∙ map-append (λ (x : Given). x.input) p1 more in
     let times : (moments_of talked.exchanges ++ planned_moments p1) ++ planned_moments more ≡ moments_of talked.exchanges ++ planned_moments p2 =
@@ -253,14 +253,14 @@ talks_planned {G} stands mark ahead old new from first st1 st2 consumed p1 p2 le
       expected = λ e. inl (changes e);
     }
 
-pub first_expected : {G : Type 0} (ahead : G → List Operation) (gate kept : G) (planned : List Given) → kept ≡ gate → ahead gate ≡ [] → AreChanges planned (ahead kept)
-first_expected ahead gate kept planned e first = subst (AreChanges planned) (sym (ap ahead e ∙ first)) tt
+pub first_expected : {G : Type 0} (pending : G → List Operation) (gate kept : G) (planned : List Given) → kept ≡ gate → pending gate ≡ [] → AreChanges planned (pending kept)
+first_expected pending gate kept planned e first = subst (AreChanges planned) (sym (ap pending e ∙ first)) tt
 
 -- at first nothing was written
-pub talks_first : {G : Type 0} (stands : G → List Entry → Type 0) (mark : G → Mark) (ahead : G → List Operation) (gate kept : G) (state : State) (planned : List Given) (buffered : List ℕ) (assigned : List ℕ) (read : Option (List ℕ)) (told : Option (ℕ → ℕ)) (wrote : Option (List ℕ))
+pub talks_first : {G : Type 0} (stands : G → List Entry → Type 0) (mark : G → Mark) (pending : G → List Operation) (gate kept : G) (state : State) (planned : List Given) (buffered : List ℕ) (assigned : List ℕ) (read : Option (List ℕ)) (told : Option (ℕ → ℕ)) (wrote : Option (List ℕ))
     → kept ≡ gate → state ≡ fresh assigned → buffered ≡ [] → planned ≡ []
-    → (seen : List Entry) → stands gate seen → Talks (start assigned seen (mark gate)) (ahead gate) (gate_view stands mark ahead kept) state (traffic (Consumes read read) (TellsInOrder told told) (AppendsReplies wrote wrote)) planned buffered
-talks_first {G} stands mark ahead gate kept state planned buffered assigned read told wrote e f h none = λ seen s.
+    → (seen : List Entry) → stands gate seen → Talks (start assigned seen (mark gate)) (pending gate) (gate_view stands mark pending kept) state (traffic (Consumes read read) (TellsInOrder told told) (AppendsReplies wrote wrote)) planned buffered
+talks_first {G} stands mark pending gate kept state planned buffered assigned read told wrote e f h none = λ seen s.
     record {
       buffered = buffered;
       conversation = record {
@@ -276,7 +276,7 @@ talks_first {G} stands mark ahead gate kept state planned buffered assigned read
         replies = Appends-nil wrote;
       };
       whole = subst (λ (l : List Given). InputsOf (planned_inputs l) buffered buffered) (sym none) refl;
-      expected = λ first. inl (first_expected ahead gate kept planned e first);
+      expected = λ first. inl (first_expected pending gate kept planned e first);
     }
 
 -- a fault says the same in a result of another type
@@ -315,15 +315,15 @@ pub talks_equal : (from : Point State) (first : List Operation) (gate : GateView
 talks_equal from first gate state t p q left e talk = subst (λ (l : List Given). Talks from first gate state t l left) e talk
 
 -- the gate comes back as it is
-pub talks_kept : {G : Type 0} (stands : G → List Entry → Type 0) (mark : G → Mark) (ahead : G → List Operation) (gate kept : G) (from : Point State) (first : List Operation) (state : State) (t : Traffic) (planned : List Given) (left : List ℕ) (at_end : List ℕ → Type 0)
-    → kept ≡ gate → (talk : Talks from first (gate_view stands mark ahead gate) state t planned left) × at_end talk.buffered
-    → (talk : Talks from first (gate_view stands mark ahead kept) state t planned left) × at_end talk.buffered
-talks_kept {G} stands mark ahead gate kept from first state t planned left at_end e talk =
-    subst (λ (g : G). (talk : Talks from first (gate_view stands mark ahead g) state t planned left) × at_end talk.buffered) (sym e) talk
+pub talks_kept : {G : Type 0} (stands : G → List Entry → Type 0) (mark : G → Mark) (pending : G → List Operation) (gate kept : G) (from : Point State) (first : List Operation) (state : State) (t : Traffic) (planned : List Given) (left : List ℕ) (at_end : List ℕ → Type 0)
+    → kept ≡ gate → (talk : Talks from first (gate_view stands mark pending gate) state t planned left) × at_end talk.buffered
+    → (talk : Talks from first (gate_view stands mark pending kept) state t planned left) × at_end talk.buffered
+talks_kept {G} stands mark pending gate kept from first state t planned left at_end e talk =
+    subst (λ (g : G). (talk : Talks from first (gate_view stands mark pending g) state t planned left) × at_end talk.buffered) (sym e) talk
 
 -- if there is no memory for the identifier, nothing is read
 pub talks_none : (T : Type 0) (gate : GateView) (assigned : List ℕ) (read : Option (List ℕ)) (told : Option (ℕ → ℕ)) (wrote : Option (List ℕ)) (seen : List Entry)
-    → gate.stands seen → Talks (start assigned seen gate.mark) gate.ahead gate (fresh assigned) (traffic (Consumes read read) (TellsInOrder told told) (WritesReplies {T = T} (Err NoMemory) wrote wrote)) [] []
+    → gate.stands seen → Talks (start assigned seen gate.mark) gate.pending gate (fresh assigned) (traffic (Consumes read read) (TellsInOrder told told) (WritesReplies {T = T} (Err NoMemory) wrote wrote)) [] []
 talks_none T gate assigned read told wrote seen s =
     record {
       buffered = [];

@@ -8,7 +8,7 @@ use Rattle.rs_session.specs.declared.phase.Input.{Input}
 use Rattle.rs_session.specs.declared.phase.Phase.{Phase}
 use Rattle.rs_session.specs.declared.phase.Phase.TheVariants as phase
 use Rattle.rs_session.specs.declared.phase.Step.TheVariants.{End}
-use Rattle.rs_session.specs.Ahead.{AreChanges, IsChange, LeavesAhead}
+use Rattle.rs_session.specs.Pending.{AreChanges, IsChange, LeavesPending}
 use Rattle.rs_session.specs.Gate.{Grows, Mark}
 use Rattle.rs_session.specs.Points.{Given}
 use Rattle.rs_session.specs.Run.{Gives, GivesAll}
@@ -99,8 +99,8 @@ gives_end now due old (reply ∷ replies) left new (later, mid, given, rest) e =
 all_end : (now : ℕ) (due : Option Reply) (old : State) (replies : List Reply) (new : State) → GivesAll now due old replies new → step_of old.phase ≡ End → step_of new.phase ≡ End
 all_end now due old replies new h e = given_ends now h.left h.last _ _ new h.none_left (gives_end now due old replies h.left h.last h.given e)
 
-pub exchange_ahead : {G : Type 0} (ahead : G → List Operation) (mark : G → Mark) (given : Given) (old mid new : G) (between to : State) (due : Option Reply) (replies : List Reply) → new ≡ mid → GivesAll given.now due between replies to
-    → LeavesAhead given (ahead old) (ahead mid) ((mark mid ≡ mark old) × (step_of between.phase ≡ End)) → LeavesAhead given (ahead old) (ahead new) ((mark new ≡ mark old) × (step_of to.phase ≡ End))
-exchange_ahead {G} ahead mark given old mid new between to due replies e all h =
-    subst (λ (x : G). LeavesAhead given (ahead old) (ahead x) ((mark x ≡ mark old) × (step_of to.phase ≡ End))) (sym e)
-    (leaves_weaker given (ahead old) (ahead mid) _ ((mark mid ≡ mark old) × (step_of to.phase ≡ End)) (λ k. (k.0, all_end given.now due between replies to all k.1)) h)
+pub exchange_pending : {G : Type 0} (pending : G → List Operation) (mark : G → Mark) (given : Given) (old mid new : G) (between to : State) (due : Option Reply) (replies : List Reply) → new ≡ mid → GivesAll given.now due between replies to
+    → LeavesPending given (pending old) (pending mid) ((mark mid ≡ mark old) × (step_of between.phase ≡ End)) → LeavesPending given (pending old) (pending new) ((mark new ≡ mark old) × (step_of to.phase ≡ End))
+exchange_pending {G} pending mark given old mid new between to due replies e all h =
+    subst (λ (x : G). LeavesPending given (pending old) (pending x) ((mark x ≡ mark old) × (step_of to.phase ≡ End))) (sym e)
+    (leaves_weaker given (pending old) (pending mid) _ ((mark mid ≡ mark old) × (step_of to.phase ≡ End)) (λ k. (k.0, all_end given.now due between replies to all k.1)) h)

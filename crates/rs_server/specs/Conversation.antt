@@ -12,7 +12,7 @@ use Rattle.rs_session.specs.declared.phase.Input.{Input}
 use Rattle.rs_session.specs.declared.phase.Input.TheVariants.{Whole, Broken}
 use Rattle.rs_session.specs.declared.phase.Closing.{Closing}
 use Rattle.rs_session.specs.declared.phase.Closing.TheVariants as closing
-use Rattle.rs_session.specs.Ahead.{AreChanges}
+use Rattle.rs_session.specs.Pending.{AreChanges}
 use Rattle.rs_session.specs.Gate.{Mark, StandsAt}
 use Rattle.rs_session.specs.Stored.{point_after}
 use Rattle.rs_session.specs.State.{State, fresh, closing_of, step_of}
@@ -110,10 +110,10 @@ pub record GateView : Type 1 where
   pub stands_at : Mark → List Entry → Type 0
   pub stands : List Entry → Type 0
   pub mark : Mark
-  pub ahead : List Operation
+  pub pending : List Operation
 
 abbrev pub gate_view : {G : Type 0} → (G → List Entry → Type 0) → (G → Mark) → (G → List Operation) → G → GateView
-gate_view stands mark ahead gate = record { stands_at = StandsAt stands mark; stands = stands gate; mark = mark gate; ahead = ahead gate }
+gate_view stands mark pending gate = record { stands_at = StandsAt stands mark; stands = stands gate; mark = mark gate; pending = pending gate }
 
 -- what holds of the bytes that were consumed, of the times that were told, and of the exchanges whose replies were written
 pub record Traffic : Type 1 where
@@ -155,7 +155,7 @@ pub record Talks (from : Point State) (first : List Operation) (gate : GateView)
   pub buffered : List ℕ
   pub conversation : Conversation from gate state (record traffic { told = λ moments. traffic.told (moments ++ planned_moments planned) }) buffered
   pub whole : InputsOf (planned_inputs planned) buffered left
-  pub expected : first ≡ [] → AreLeft from conversation.exchanges planned gate.ahead
+  pub expected : first ≡ [] → AreLeft from conversation.exchanges planned gate.pending
 
 -- one exchange of it
 pub record MakesExchange (from : Point State) (given : Given) (gate : GateView) (state : State) (written : List ℕ → Type 0) : Type 0 where

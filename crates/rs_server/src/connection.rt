@@ -4,7 +4,7 @@ ghost use Rattle.std.specs.Prelude.{◌≡◌, ◌<◌, ◌-◌, ◌^◌, ◌≤
 ghost use Rattle.std.specs.Io.KnownBytes.{Consumes, IsAtEnd};
 ghost use Rattle.rs_message.specs.declared.entry.Entry.{Entry};
 ghost use Rattle.rs_message.specs.declared.entry.Operation.{Operation};
-ghost use Rattle.rs_session.specs.Ahead.{AreChanges, IsChange, LeavesAhead};
+ghost use Rattle.rs_session.specs.Pending.{AreChanges, IsChange, LeavesPending};
 ghost use Rattle.rs_session.specs.Points.{Point, given_at};
 ghost use Rattle.rs_session.specs.State.{session_at, state_of, due_of, gate_of, closing_of, step_of, State};
 ghost use Rattle.rs_server.specs.Clock.{TellsInOrder};
@@ -84,7 +84,7 @@ pub fn serve<H: Wait, R: Read, W: Write, G: Gate, C: Clock>(
 
     // What was written are the replies of a session to the packets that the bytes read encode.
     ensures conversation { (seen : List Entry) → G.stands gate seen
-        → IsConnection (start (assigned_of id.place id.number) seen (G.mark gate)) (G.ahead gate) G.most (gate_view G.stands G.mark G.ahead result.1)
+        → IsConnection (start (assigned_of id.place id.number) seen (G.mark gate)) (G.pending gate) G.most (gate_view G.stands G.mark G.pending result.1)
         (record {
           unread = R.remaining (inner_of reader.old);
           rest = R.remaining (inner_of reader.new);
@@ -138,21 +138,21 @@ fn serve_once<R: Read, W: Write, G: Gate, C: Clock>(
 
     // Extends every conversation that led to the state before.
     ensures conversation { (from : Point State) (read wrote : Option (List ℕ)) (told : Option (ℕ → ℕ)) (first : List Operation)
-        → (first ≡ [] → AreChanges planned.old.items (G.ahead (gate_of session.old)))
-        → Talks from first (gate_view G.stands G.mark G.ahead (gate_of session.old)) (state_of session.old)
+        → (first ≡ [] → AreChanges planned.old.items (G.pending (gate_of session.old)))
+        → Talks from first (gate_view G.stands G.mark G.pending (gate_of session.old)) (state_of session.old)
         (record {
           consumed = Consumes read (R.remaining (inner_of reader.old));
           told = TellsInOrder told (C.moments clock.old);
           written = AppendsReplies wrote (W.contents (inner_of writer.old));
         }) planned.old.items buffered.old.items
-        → Talks from first (gate_view G.stands G.mark G.ahead (gate_of session.new)) (state_of session.new)
+        → Talks from first (gate_view G.stands G.mark G.pending (gate_of session.new)) (state_of session.new)
         (record {
           consumed = Consumes read (R.remaining (inner_of reader.new));
           told = TellsInOrder told (C.moments clock.new);
           written = WritesReplies result wrote (W.contents (inner_of writer.new));
         }) planned.new.items buffered.new.items }
-    ensures expected { closing_of (state_of session.new).phase ≡ None → AreChanges planned.old.items (G.ahead (gate_of session.old))
-        → AreChanges planned.new.items (G.ahead (gate_of session.new)) }
+    ensures expected { closing_of (state_of session.new).phase ≡ None → AreChanges planned.old.items (G.pending (gate_of session.old))
+        → AreChanges planned.new.items (G.pending (gate_of session.new)) }
     ensures few { length planned.old.items ≤ G.most → length planned.new.items ≤ G.most }
     ensures closes { Closes result (state_of session.new) buffered.new.items (IsAtEnd (R.remaining (inner_of reader.new))) }
     ensures rest { (planned.new.items ≡ []) ⊎ IsHandled result }
@@ -213,9 +213,9 @@ fn make_exchange<G: Gate, W: Write>(
     requires goes_on { closing_of (state_of session.old).phase ≡ None }
     requires change { IfSome change (λ operation. IsChange (given_at input now) operation) }
     ensures exchange { (seen : List Entry) → G.stands (gate_of session.old) seen
-        → MakesExchange (session_at G.mark session.old seen) (given_at input now) (gate_view G.stands G.mark G.ahead (gate_of session.new)) (state_of session.new)
+        → MakesExchange (session_at G.mark session.old seen) (given_at input now) (gate_view G.stands G.mark G.pending (gate_of session.new)) (state_of session.new)
         (Writes result (W.contents (inner_of writer.old)) (W.contents (inner_of writer.new))) }
-    ensures ahead { LeavesAhead (given_at input now) (G.ahead (gate_of session.old)) (G.ahead (gate_of session.new))
+    ensures pending { LeavesPending (given_at input now) (G.pending (gate_of session.old)) (G.pending (gate_of session.new))
         ((G.mark (gate_of session.new) ≡ G.mark (gate_of session.old)) × (step_of (state_of session.new).phase ≡ Step.End)) }
     ensures due { due_of session.new ≡ None }
     ensures cause { IsWriteCause result (failures_of writer.old) (failures_of writer.new) }

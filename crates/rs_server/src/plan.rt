@@ -8,7 +8,7 @@ ghost use Rattle.rs_message.specs.Messages.{is_sweep};
 ghost use Rattle.rs_packet.specs.Grammar.{HasPrefix};
 ghost use Rattle.rs_packet.specs.PacketReading.{Gives, answer};
 ghost use Rattle.rs_packet.specs.Prefixes.{IsMore};
-ghost use Rattle.rs_session.specs.Ahead.{AreChanges, IsChange};
+ghost use Rattle.rs_session.specs.Pending.{AreChanges, IsChange};
 ghost use Rattle.rs_session.specs.Gate.{Grows};
 ghost use Rattle.rs_session.specs.Points.{given_at};
 ghost use Rattle.rs_session.specs.State.{state_of, due_of, gate_of};
@@ -35,7 +35,7 @@ pub(crate) struct Planned {
 
 impl Model for Planned {
     ghost use Rattle.std.specs.Prelude.{IfSome};
-    ghost use Rattle.rs_session.specs.Ahead.{IsChange};
+    ghost use Rattle.rs_session.specs.Pending.{IsChange};
     ghost use Rattle.rs_session.specs.Points.{Given, given_at};
 
     ghost Value = { Given };
@@ -77,7 +77,7 @@ pub(crate) fn plan<G: Gate, C: Clock>(
     ensures due { due_of session.new ≡ due_of session.old }
     ensures list { (seen : List Entry) → G.stands (gate_of session.old) seen → G.stands (gate_of session.new) seen }
     ensures mark { G.mark (gate_of session.new) ≡ G.mark (gate_of session.old) }
-    ensures ahead { AreChanges planned.old.items (G.ahead (gate_of session.old)) → AreChanges planned.new.items (G.ahead (gate_of session.new)) }
+    ensures pending { AreChanges planned.old.items (G.pending (gate_of session.old)) → AreChanges planned.new.items (G.pending (gate_of session.new)) }
 {
     if !planned.is_empty() {
         return Ok(());
@@ -156,7 +156,7 @@ fn announce<G: Gate>(alloc: Global, session: &mut Session<G>, planned: &VecDeque
     ensures due { due_of session.new ≡ due_of session.old }
     ensures list { Grows (G.stands (gate_of session.old)) (G.stands (gate_of session.new)) (λ seen list. list ≡ seen) }
     ensures mark { G.mark (gate_of session.new) ≡ G.mark (gate_of session.old) }
-    ensures ahead { AreChanges planned.now.items (G.ahead (gate_of session.new)) ⊎ (G.ahead (gate_of session.new) ≡ G.ahead (gate_of session.old)) }
+    ensures pending { AreChanges planned.now.items (G.pending (gate_of session.new)) ⊎ (G.pending (gate_of session.new) ≡ G.pending (gate_of session.old)) }
 {
     if planned.len() < 2 {
         return;

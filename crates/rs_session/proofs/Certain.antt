@@ -81,12 +81,12 @@ by_submit_certain answer qos id old new outcome is used same e = by_answer_certa
 some_none : (operation : Operation) (operations : List Operation) → operation ∷ operations ≢ []
 some_none operation operations e = absurd (cc (e))
 
-unmade : (ahead : List Operation) (qos : Qos) (id : Option ℕ) → ahead ≡ [] → outcome_unmade ahead qos id ≢ Closes QuotaExceeded
+unmade : (pending : List Operation) (qos : Qos) (id : Option ℕ) → pending ≡ [] → outcome_unmade pending qos id ≢ Closes QuotaExceeded
 unmade [] qos id none e = replies _ e
 unmade (operation ∷ operations) qos id none e = some_none operation operations none
 
-pub by_refusal_certain : (stands : List Entry → Type 0) (ahead : List Operation) (old new : Mark) (qos : Qos) (id : Option ℕ) (outcome : Outcome) → outcome ≡ outcome_unmade ahead qos id → NoSerialUsed stands ahead old new → outcome ≢ Closes QuotaExceeded
-by_refusal_certain stands ahead old new qos id outcome is none e = unmade ahead qos id none.2 (sym is ∙ e)
+pub by_refusal_certain : (stands : List Entry → Type 0) (pending : List Operation) (old new : Mark) (qos : Qos) (id : Option ℕ) (outcome : Outcome) → outcome ≡ outcome_unmade pending qos id → NoSerialUsed stands pending old new → outcome ≢ Closes QuotaExceeded
+by_refusal_certain stands pending old new qos id outcome is none e = unmade pending qos id none.2 (sym is ∙ e)
 
 -- ---- a session
 
@@ -127,10 +127,10 @@ not_ended (Replies r) s o other e = open_ended o _ e
 not_ended (Closes code) s o other e = other (ap (λ (x : ReasonCode). Closes x) (code_is code (server_is _ _ e)))
 not_ended Leaves s o other e = by_client _ e
 
-pub took_certain : {G : Type 0} (stands : G → List Entry → Type 0) (ahead : G → List Operation) (mark : G → Mark) (old mid new : Session G) (left : Open) (s : State) (gate : G) (outcome : Outcome)
-    → new ≡ mid → gate_of mid ≡ gate → state_of mid ≡ state_after outcome s left → (NoSerialUsed (stands (gate_of old)) (ahead (gate_of old)) (mark (gate_of old)) (mark gate) → outcome ≢ Closes QuotaExceeded)
-    → NoSerialUsed (stands (gate_of old)) (ahead (gate_of old)) (mark (gate_of old)) (mark (gate_of new)) → (state_of new).phase ≢ phase.Ended (ByServer (reason_value QuotaExceeded))
-took_certain {G} stands ahead mark old mid new left s gate outcome e g d certain none is =
+pub took_certain : {G : Type 0} (stands : G → List Entry → Type 0) (pending : G → List Operation) (mark : G → Mark) (old mid new : Session G) (left : Open) (s : State) (gate : G) (outcome : Outcome)
+    → new ≡ mid → gate_of mid ≡ gate → state_of mid ≡ state_after outcome s left → (NoSerialUsed (stands (gate_of old)) (pending (gate_of old)) (mark (gate_of old)) (mark gate) → outcome ≢ Closes QuotaExceeded)
+    → NoSerialUsed (stands (gate_of old)) (pending (gate_of old)) (mark (gate_of old)) (mark (gate_of new)) → (state_of new).phase ≢ phase.Ended (ByServer (reason_value QuotaExceeded))
+took_certain {G} stands pending mark old mid new left s gate outcome e g d certain none is =
     let same : gate_of new ≡ gate = ap (λ (x : Session G). gate_of x) e ∙ g in
-    not_ended outcome s left (certain (subst (λ (x : G). NoSerialUsed (stands (gate_of old)) (ahead (gate_of old)) (mark (gate_of old)) (mark x)) same none))
+    not_ended outcome s left (certain (subst (λ (x : G). NoSerialUsed (stands (gate_of old)) (pending (gate_of old)) (mark (gate_of old)) (mark x)) same none))
     (sym (ap (λ (x : State). x.phase) d) ∙ (sym (ap (λ (x : Session G). (state_of x).phase) e) ∙ is))

@@ -19,13 +19,13 @@ use Rattle.rs_session.specs.declared.phase.Input.TheVariants.{Whole, Broken}
 use Rattle.rs_session.specs.declared.phase.Step.TheVariants.{End}
 use Rattle.rs_session.specs.declared.reason.ReasonCode.TheVariants.{Success}
 use Rattle.rs_session.specs.declared.session.Session.{Session}
-use Rattle.rs_session.specs.Gate.{Mark, TakesAhead}
+use Rattle.rs_session.specs.Gate.{Mark, TakesPending}
 use Rattle.rs_session.specs.Points.{Given, given_at}
 use Rattle.rs_session.specs.State.{State, gate_of, state_of, step_of}
-use Rattle.rs_session.specs.Steps.{IsLast, IsUnsent, TakesAheadBy, outcome_before, outcome_of_alias, outcome_of_id, outcome_of_submit, outcome_of_topic, outcome_unmade, topic_refusal}
+use Rattle.rs_session.specs.Steps.{IsLast, IsUnsent, TakesPendingBy, outcome_before, outcome_of_alias, outcome_of_id, outcome_of_submit, outcome_of_topic, outcome_unmade, topic_refusal}
 use Rattle.rs_session.specs.Table.{acknowledged_by, change, unreleased_id, is_unreleased, is_one_too_many, state_after}
 use Rattle.rs_session.proofs.Submitting.{no_sweep}
-use Rattle.rs_session.specs.Ahead.{IsChange, LeavesAhead, is_low, is_topic, may_be_announced}
+use Rattle.rs_session.specs.Pending.{IsChange, LeavesPending, is_low, is_topic, may_be_announced}
 
 whole_is : (p q : Packet) → Whole p ≡ Whole q → p ≡ q
 whole_is p q e = cc
@@ -65,7 +65,7 @@ passes_before p o h = passes p.retain p.qos p.alias p.topic p.id o h
 
 -- ---- what is left
 
-pub leaves_weaker : (given : Given) (old new : List Operation) (S T : Type 0) → (S → T) → LeavesAhead given old new S → LeavesAhead given old new T
+pub leaves_weaker : (given : Given) (old new : List Operation) (S T : Type 0) → (S → T) → LeavesPending given old new S → LeavesPending given old new T
 leaves_weaker given [] new S T f h = h
 leaves_weaker given (operation ∷ operations) new S T f h = λ is.
     elim (h is) as (λ h. (new ≡ operations) ⊎ ((new ≡ []) ⊎ ((new ≡ operation ∷ operations) × T))) [
@@ -77,7 +77,7 @@ leaves_weaker given (operation ∷ operations) new S T f h = λ is.
     ]
 
 -- all are left
-pub all_left : (given : Given) (old new : List Operation) (S : Type 0) → new ≡ old → ((operation : Operation) → IsChange given operation → S) → LeavesAhead given old new S
+pub all_left : (given : Given) (old new : List Operation) (S : Type 0) → new ≡ old → ((operation : Operation) → IsChange given operation → S) → LeavesPending given old new S
 all_left given [] new S e f = e
 all_left given (operation ∷ operations) new S e f = λ is. inr (inr (e, f operation is))
 
@@ -87,26 +87,26 @@ IsNoPublish (packet.Publish p) = ⊥
 IsNoPublish p = Unit {0}
 
 -- another packet changes nothing
-pub by_another : (p other : Packet) (now : ℕ) (old new : List Operation) (S : Type 0) → p ≡ other → IsNoPublish other → new ≡ old → LeavesAhead (given_at (Whole p) now) old new S
+pub by_another : (p other : Packet) (now : ℕ) (old new : List Operation) (S : Type 0) → p ≡ other → IsNoPublish other → new ≡ old → LeavesPending (given_at (Whole p) now) old new S
 by_another p other now old new S is another e = all_left _ old new S e (λ operation (q, topic, i, may, t, made). absurd (subst IsNoPublish (sym is ∙ whole_is _ _ i) another))
 
-pub by_fault : (f : PacketFault) (now : ℕ) (old new : List Operation) (S : Type 0) → new ≡ old → LeavesAhead (given_at (Broken f) now) old new S
+pub by_fault : (f : PacketFault) (now : ℕ) (old new : List Operation) (S : Type 0) → new ≡ old → LeavesPending (given_at (Broken f) now) old new S
 by_fault f now old new S e = all_left _ old new S e (λ operation (q, topic, i, may, t, made). absurd (not_broken _ f i))
 
-pub by_publish : (packet_ : Packet) (p : Publish) (now : ℕ) (old new : List Operation) (S : Type 0) → packet_ ≡ packet.Publish p → LeavesAhead (given_at (Whole (packet.Publish p)) now) old new S → LeavesAhead (given_at (Whole packet_) now) old new S
-by_publish packet_ p now old new S e h = subst (λ (x : Packet). LeavesAhead (given_at (Whole x) now) old new S) (sym e) h
+pub by_publish : (packet_ : Packet) (p : Publish) (now : ℕ) (old new : List Operation) (S : Type 0) → packet_ ≡ packet.Publish p → LeavesPending (given_at (Whole (packet.Publish p)) now) old new S → LeavesPending (given_at (Whole packet_) now) old new S
+by_publish packet_ p now old new S e h = subst (λ (x : Packet). LeavesPending (given_at (Whole x) now) old new S) (sym e) h
 
 some_none : (x : Outcome) → Some x ≡ None → ⊥
 some_none x e = absurd (cc)
 
-pub before_use_ahead : (p : Publish) (o : Open) (outcome : Outcome) (now : ℕ) (old new : List Operation) (S : Type 0) → outcome_before p o ≡ Some outcome → new ≡ old → LeavesAhead (given_at (Whole (packet.Publish p)) now) old new S
-before_use_ahead p o outcome now old new S b e = all_left _ old new S e (λ operation is. absurd (some_none outcome (sym b ∙ passes_before p o (its_change p now operation is).0)))
+pub before_use_pending : (p : Publish) (o : Open) (outcome : Outcome) (now : ℕ) (old new : List Operation) (S : Type 0) → outcome_before p o ≡ Some outcome → new ≡ old → LeavesPending (given_at (Whole (packet.Publish p)) now) old new S
+before_use_pending p o outcome now old new S b e = all_left _ old new S e (λ operation is. absurd (some_none outcome (sym b ∙ passes_before p o (its_change p now operation is).0)))
 
 err_ok : (topic : List ℕ) (f : TopicFault) → ◌≡◌ {A = Result (List ℕ) TopicFault} (Err f) (Ok topic) → ⊥
 err_ok topic f e = absurd (cc)
 
-pub topic_unread_ahead : (p : Publish) (f : TopicFault) (now : ℕ) (old new : List Operation) (S : Type 0) → p.topic ≡ Err f → new ≡ old → LeavesAhead (given_at (Whole (packet.Publish p)) now) old new S
-topic_unread_ahead p f now old new S t e = all_left _ old new S e (λ operation is. absurd (err_ok _ f (sym t ∙ (its_change p now operation is).2)))
+pub topic_unread_pending : (p : Publish) (f : TopicFault) (now : ℕ) (old new : List Operation) (S : Type 0) → p.topic ≡ Err f → new ≡ old → LeavesPending (given_at (Whole (packet.Publish p)) now) old new S
+topic_unread_pending p f now old new S t e = all_left _ old new S e (λ operation is. absurd (err_ok _ f (sym t ∙ (its_change p now operation is).2)))
 
 ok_is : (a b : List ℕ) → ◌≡◌ {A = Result (List ℕ) TopicFault} (Ok a) (Ok b) → a ≡ b
 ok_is a b e = cc
@@ -114,8 +114,8 @@ ok_is a b e = cc
 no_change : (operation : Operation) → ◌≡◌ {A = Option Operation} None (Some operation) → ⊥
 no_change operation e = absurd (cc)
 
-pub not_retained_ahead : (p : Publish) (topic : List ℕ) (now : ℕ) (old new : List Operation) (S : Type 0) → p.topic ≡ Ok topic → change p topic now ≡ None → new ≡ old → LeavesAhead (given_at (Whole (packet.Publish p)) now) old new S
-not_retained_ahead p topic now old new S t c e =
+pub not_retained_pending : (p : Publish) (topic : List ℕ) (now : ℕ) (old new : List Operation) (S : Type 0) → p.topic ≡ Ok topic → change p topic now ≡ None → new ≡ old → LeavesPending (given_at (Whole (packet.Publish p)) now) old new S
+not_retained_pending p topic now old new S t c e =
     all_left _ old new S e
     (λ operation is.
     let (may, other, u, made) = its_change p now operation is in
@@ -124,11 +124,11 @@ not_retained_ahead p topic now old new S t c e =
 -- ---- a submit
 
 pub by_answer : (operation : Operation) (old_mark new_mark : Mark) (answer : Result (Unit {0}) SubmitFault) (qos : Qos) (id : Option ℕ) (outcome : Outcome) (old new : List Operation)
-    → outcome ≡ outcome_of_submit answer qos id → TakesAhead operation old_mark new_mark answer old new → TakesAheadBy operation old_mark new_mark outcome old new
+    → outcome ≡ outcome_of_submit answer qos id → TakesPending operation old_mark new_mark answer old new → TakesPendingBy operation old_mark new_mark outcome old new
 by_answer operation old_mark new_mark answer qos id outcome old new d h =
-    elim h as (λ h. TakesAheadBy operation old_mark new_mark outcome old new) [
+    elim h as (λ h. TakesPendingBy operation old_mark new_mark outcome old new) [
       | inl e ↦ inl e
-      | inr h ↦ elim h as (λ h. TakesAheadBy operation old_mark new_mark outcome old new) [
+      | inr h ↦ elim h as (λ h. TakesPendingBy operation old_mark new_mark outcome old new) [
         | inl e ↦ inr (inl e)
         | inr k ↦ inr (inr (k.0, (k.2, subst IsLast (sym (d ∙ ap (λ (x : Result (Unit {0}) SubmitFault). outcome_of_submit x qos id) k.1)) tt)))
       ]
@@ -140,7 +140,7 @@ none_is operation operations e = absurd (cc)
 rest_is : (a b : Operation) (rest more : List Operation) → a ∷ rest ≡ b ∷ more → more ≡ rest
 rest_is a b rest more e = cc
 
-pub by_submit : (given : Given) (operation : Operation) (old_mark new_mark : Mark) (outcome : Outcome) (old new : List Operation) → TakesAheadBy operation old_mark new_mark outcome old new → LeavesAhead given old new (IsUnsent old_mark new_mark outcome)
+pub by_submit : (given : Given) (operation : Operation) (old_mark new_mark : Mark) (outcome : Outcome) (old new : List Operation) → TakesPendingBy operation old_mark new_mark outcome old new → LeavesPending given old new (IsUnsent old_mark new_mark outcome)
 by_submit given operation old_mark new_mark outcome [] new h =
     elim h as (λ h. new ≡ []) [
       | inl e ↦ e
@@ -159,28 +159,28 @@ by_submit given operation old_mark new_mark outcome (first ∷ rest) new h = λ 
     ]
 
 -- no memory for the change
-pub by_refusal : (given : Given) (qos : Qos) (id : Option ℕ) (mark : Mark) (outcome : Outcome) (old : List Operation) → outcome ≡ outcome_unmade old qos id → LeavesAhead given old old (IsUnsent mark mark outcome)
+pub by_refusal : (given : Given) (qos : Qos) (id : Option ℕ) (mark : Mark) (outcome : Outcome) (old : List Operation) → outcome ≡ outcome_unmade old qos id → LeavesPending given old old (IsUnsent mark mark outcome)
 by_refusal given qos id mark outcome [] d = refl
 by_refusal given qos id mark outcome (first ∷ rest) d = λ is. inr (inr (refl, (refl, subst IsLast (sym d) tt)))
 
 -- ---- a session
 
-pub stays_ahead : {G : Type 0} (ahead : G → List Operation) (mark : G → Mark) (p : Packet) (now : ℕ) (old mid new : Session G) → new ≡ mid → gate_of mid ≡ gate_of old → ((x : Publish) → p ≡ packet.Publish x → step_of (state_of mid).phase ≡ End)
-    → LeavesAhead (given_at (Whole p) now) (ahead (gate_of old)) (ahead (gate_of new)) ((mark (gate_of new) ≡ mark (gate_of old)) × (step_of (state_of new).phase ≡ End))
-stays_ahead {G} ahead mark p now old mid new e g f =
-    subst (λ (s : Session G). LeavesAhead (given_at (Whole p) now) (ahead (gate_of old)) (ahead (gate_of s)) ((mark (gate_of s) ≡ mark (gate_of old)) × (step_of (state_of s).phase ≡ End))) (sym e)
-    (all_left _ _ _ _ (ap ahead g) (λ operation (x, topic, i, may, t, made). (ap mark g, f x (whole_is _ _ i))))
+pub stays_pending : {G : Type 0} (pending : G → List Operation) (mark : G → Mark) (p : Packet) (now : ℕ) (old mid new : Session G) → new ≡ mid → gate_of mid ≡ gate_of old → ((x : Publish) → p ≡ packet.Publish x → step_of (state_of mid).phase ≡ End)
+    → LeavesPending (given_at (Whole p) now) (pending (gate_of old)) (pending (gate_of new)) ((mark (gate_of new) ≡ mark (gate_of old)) × (step_of (state_of new).phase ≡ End))
+stays_pending {G} pending mark p now old mid new e g f =
+    subst (λ (s : Session G). LeavesPending (given_at (Whole p) now) (pending (gate_of old)) (pending (gate_of s)) ((mark (gate_of s) ≡ mark (gate_of old)) × (step_of (state_of s).phase ≡ End))) (sym e)
+    (all_left _ _ _ _ (ap pending g) (λ operation (x, topic, i, may, t, made). (ap mark g, f x (whole_is _ _ i))))
 
 last_ends : (outcome : Outcome) (s : State) (o : Open) → IsLast outcome → step_of (state_after outcome s o).phase ≡ End
 last_ends (Replies r) s o h = absurd h
 last_ends (Closes code) s o h = refl
 last_ends Leaves s o h = refl
 
-pub took_ahead : {G : Type 0} (ahead : G → List Operation) (mark : G → Mark) (given : Given) (old mid new : Session G) (left : Open) (s : State) (gate : G) (outcome : Outcome) → new ≡ mid → gate_of mid ≡ gate → state_of mid ≡ state_after outcome s left
-    → LeavesAhead given (ahead (gate_of old)) (ahead gate) (IsUnsent (mark (gate_of old)) (mark gate) outcome)
-    → LeavesAhead given (ahead (gate_of old)) (ahead (gate_of new)) ((mark (gate_of new) ≡ mark (gate_of old)) × (step_of (state_of new).phase ≡ End))
-took_ahead {G} ahead mark given old mid new left s gate outcome e g d h =
-    subst (λ (x : Session G). LeavesAhead given (ahead (gate_of old)) (ahead (gate_of x)) ((mark (gate_of x) ≡ mark (gate_of old)) × (step_of (state_of x).phase ≡ End))) (sym e)
-    (leaves_weaker given (ahead (gate_of old)) (ahead (gate_of mid)) (IsUnsent (mark (gate_of old)) (mark (gate_of mid)) outcome) _
+pub took_pending : {G : Type 0} (pending : G → List Operation) (mark : G → Mark) (given : Given) (old mid new : Session G) (left : Open) (s : State) (gate : G) (outcome : Outcome) → new ≡ mid → gate_of mid ≡ gate → state_of mid ≡ state_after outcome s left
+    → LeavesPending given (pending (gate_of old)) (pending gate) (IsUnsent (mark (gate_of old)) (mark gate) outcome)
+    → LeavesPending given (pending (gate_of old)) (pending (gate_of new)) ((mark (gate_of new) ≡ mark (gate_of old)) × (step_of (state_of new).phase ≡ End))
+took_pending {G} pending mark given old mid new left s gate outcome e g d h =
+    subst (λ (x : Session G). LeavesPending given (pending (gate_of old)) (pending (gate_of x)) ((mark (gate_of x) ≡ mark (gate_of old)) × (step_of (state_of x).phase ≡ End))) (sym e)
+    (leaves_weaker given (pending (gate_of old)) (pending (gate_of mid)) (IsUnsent (mark (gate_of old)) (mark (gate_of mid)) outcome) _
     (λ k. (k.0, ap (λ (x : State). step_of x.phase) d ∙ last_ends outcome s left k.1))
-    (subst (λ (x : G). LeavesAhead given (ahead (gate_of old)) (ahead x) (IsUnsent (mark (gate_of old)) (mark x) outcome)) (sym g) h))
+    (subst (λ (x : G). LeavesPending given (pending (gate_of old)) (pending x) (IsUnsent (mark (gate_of old)) (mark x) outcome)) (sym g) h))

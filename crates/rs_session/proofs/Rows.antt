@@ -267,7 +267,7 @@ not_handed p topic now at e t r =
     }
 
 -- no memory for the change; it may have been sent ahead
-pub not_made : (p : Publish) (topic : List ℕ) (ahead : List Operation) (outcome : Outcome) (now : ℕ) (at : Point Open) → outcome_before p at.state ≡ None → p.topic ≡ Ok topic → p.retain ≡ true → outcome ≡ outcome_unmade ahead p.qos p.id
+pub not_made : (p : Publish) (topic : List ℕ) (pending : List Operation) (outcome : Outcome) (now : ℕ) (at : Point Open) → outcome_before p at.state ≡ None → p.topic ≡ Ok topic → p.retain ≡ true → outcome ≡ outcome_unmade pending p.qos p.id
     → LeadsTo (given_at (Whole (packet.Publish p)) now) at [] outcome at
 not_made p topic [] outcome now at e t r d = (Not_stored, refl, (p, topic, change_of topic (message_of p now) p.payload, refl, not_handed p topic now at e t r, d, refl))
 not_made p topic (operation ∷ operations) outcome now at e t r d = (Uncertain, refl, (p, topic, change_of topic (message_of p now) p.payload, refl, not_handed p topic now at e t r, d, refl))

@@ -71,8 +71,8 @@ pub record Submits (operation : Operation) (old new : Mark) (answer : Result (Un
 
 -- Of the changes that were expected, a submit leaves none; or it submits the first, and the rest is left; or it is refused as
 -- another than the first, and all are left and no serial is used.
-abbrev pub TakesAhead : Operation → Mark → Mark → Result (Unit {0}) SubmitFault → List Operation → List Operation → Type 0
-TakesAhead operation old_mark new_mark answer old new =
+abbrev pub TakesPending : Operation → Mark → Mark → Result (Unit {0}) SubmitFault → List Operation → List Operation → Type 0
+TakesPending operation old_mark new_mark answer old new =
     (new ≡ []) ⊎ ((old ≡ operation ∷ new) ⊎ ((new ≡ old) × (answer ≡ Err Strange) × (new_mark ≡ old_mark)))
 
 -- of gates of one type: one of them stands for the list while it has the mark

@@ -4,7 +4,7 @@ pub mod Subscriptions
 pub mod State
 pub mod Reasons
 pub mod Table
-pub mod Ahead
+pub mod Pending
 pub mod Steps
 pub mod Run
 pub mod Replay

@@ -92,7 +92,7 @@ outcome_unmade (operation ∷ operations) qos id = Closes QuotaExceeded
 
 -- A gate that stands for some list used no serial, and expected no change before.
 abbrev pub NoSerialUsed : (List Entry → Type 0) → List Operation → Mark → Mark → Type 0
-NoSerialUsed stands ahead old new = (seen : List Entry) × stands seen × (ahead ≡ []) × (new.serial ≡ old.serial)
+NoSerialUsed stands pending old new = (seen : List Entry) × stands seen × (pending ≡ []) × (new.serial ≡ old.serial)
 
 -- an outcome that ends the session
 abbrev pub IsLast : Outcome → Type 0
@@ -105,5 +105,5 @@ abbrev pub IsUnsent : Mark → Mark → Outcome → Type 0
 IsUnsent old new outcome = (new ≡ old) × IsLast outcome
 
 -- of the changes that were expected, none is left; or this was the first, and the rest is left; or all are
-abbrev pub TakesAheadBy : Operation → Mark → Mark → Outcome → List Operation → List Operation → Type 0
-TakesAheadBy operation old_mark new_mark outcome old new = (new ≡ []) ⊎ ((old ≡ operation ∷ new) ⊎ ((new ≡ old) × IsUnsent old_mark new_mark outcome))
+abbrev pub TakesPendingBy : Operation → Mark → Mark → Outcome → List Operation → List Operation → Type 0
+TakesPendingBy operation old_mark new_mark outcome old new = (new ≡ []) ⊎ ((old ≡ operation ∷ new) ⊎ ((new ≡ old) × IsUnsent old_mark new_mark outcome))

@@ -2,7 +2,7 @@
 
 ghost use Rattle.std.specs.Prelude.{◌≡◌, false, true, Ok, IfOk, IfSome};
 ghost use Rattle.rs_message.specs.Messages.{is_sweep};
-ghost use Rattle.rs_session.specs.Ahead.{IsChange, is_low, is_topic, may_be_announced};
+ghost use Rattle.rs_session.specs.Pending.{IsChange, is_low, is_topic, may_be_announced};
 ghost use Rattle.rs_session.specs.Points.{given_at};
 ghost use Rattle.rs_session.specs.Table.{change};
 

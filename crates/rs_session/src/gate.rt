@@ -7,7 +7,7 @@ ghost use Rattle.rs_message.specs.Messages.{is_sweep};
 ghost use Rattle.rs_message.specs.declared.entry.Entry.{Entry};
 ghost use Rattle.rs_store.specs.History.{IsAnswer, IsAnswerWithin};
 ghost use Rattle.rs_message.specs.declared.entry.Operation.{Operation};
-ghost use Rattle.rs_session.specs.Gate.{Mark, Grows, SendsAtMost, Submits, TakesAhead, Uses, entry_by};
+ghost use Rattle.rs_session.specs.Gate.{Mark, Grows, SendsAtMost, Submits, TakesPending, Uses, entry_by};
 
 use rs_message::{Found, Operation, SubmitFault};
 use rs_topic::TopicFilter;
@@ -24,7 +24,7 @@ pub trait Gate {
 
     /// The changes that it was told to expect and that were not submitted since, in their order. Some of them, or all, may
     /// have been sent to the store.
-    ghost ahead: { Self → List Operation } = { λ _. [] };
+    ghost pending: { Self → List Operation } = { λ _. [] };
 
     /// A bound of `most_expected`.
     ghost most: { ℕ } = { 0 };
@@ -42,14 +42,14 @@ pub trait Gate {
         requires { All (λ operation. is_sweep operation ≡ false) changes.items }
         ensures list { Grows (stands self.old) (stands self.new) (λ seen list. list ≡ seen) }
         ensures mark { mark self.new ≡ mark self.old }
-        ensures ahead { (ahead self.new ≡ changes.items) ⊎ (ahead self.new ≡ []) ⊎ (ahead self.new ≡ ahead self.old) }
+        ensures pending { (pending self.new ≡ changes.items) ⊎ (pending self.new ≡ []) ⊎ (pending self.new ≡ pending self.old) }
     {
         let _changes = changes;
     }
 
     /// Whether some change was expected and is not submitted yet. It may have been sent.
-    fn is_ahead(&self) -> bool
-        ensures { MatchBool result (ahead self.now ≢ []) (ahead self.now ≡ []) };
+    fn has_pending(&self) -> bool
+        ensures { MatchBool result (pending self.now ≢ []) (pending self.now ≡ []) };
 
     /// Hands a Set or a Clear to the store. At `Ok` the list has it as an entry of its own. The faults say what stands
     /// otherwise; the list may have grown by entries of others. Whatever is answered, no other change than this one
@@ -61,7 +61,7 @@ pub trait Gate {
         ensures list { Grows (stands self.old) (stands self.new) (Submits operation (mark self.old) (mark self.new) result) }
         ensures mark { Uses (mark self.old) (mark self.new) }
         ensures sent { SendsAtMost (mark self.old).sent (entry_by operation (mark self.new)) (mark self.new).sent }
-        ensures ahead { TakesAhead operation (mark self.old) (mark self.new) result (ahead self.old) (ahead self.new) };
+        ensures pending { TakesPending operation (mark self.old) (mark self.new) result (pending self.old) (pending self.new) };
 
     /// The retained messages that a filter matches and that have not expired at this time, in the
     /// order of replay. `now` is in seconds. `AllocError` if memory was refused; the list may have grown
@@ -70,7 +70,7 @@ pub trait Gate {
         ensures list { Grows (stands self.old) (stands self.new)
             (λ seen list. IfOk result (λ found. IsAnswer list filter.now now found.items)) }
         ensures mark { mark self.new ≡ mark self.old }
-        ensures ahead { ahead self.new ≡ ahead self.old };
+        ensures pending { pending self.new ≡ pending self.old };
 
     /// The same answer if it has at most `room` messages, else `None`. A gate gives up at the first message beyond the room,
     /// so that an answer that nobody can take costs little.
@@ -83,5 +83,5 @@ pub trait Gate {
         ensures list { Grows (stands self.old) (stands self.new)
             (λ seen list. IfOk result (λ answer. IsAnswerWithin room list filter.now now (option_map (λ found. found.items) answer))) }
         ensures mark { mark self.new ≡ mark self.old }
-        ensures ahead { ahead self.new ≡ ahead self.old };
+        ensures pending { pending self.new ≡ pending self.old };
 }

@@ -52,7 +52,7 @@ impl<C: Catalogue> Gate for LocalGate<C> {
     ghost mark = { λ gate. local_mark (C.content (catalogue_of gate)) };
 
     /// It sends nothing ahead.
-    fn is_ahead(&self) -> bool {
+    fn has_pending(&self) -> bool {
         false
     }
 

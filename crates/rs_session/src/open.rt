@@ -10,7 +10,7 @@ ghost use Rattle.rs_message.specs.declared.entry.Entry.{Entry};
 ghost use Rattle.rs_packet.specs.declared.packet.Publish.{Publish};
 ghost use Rattle.rs_session.specs.Gate.{GrowsAnswering};
 ghost use Rattle.rs_session.specs.Points.{given_at, point_at};
-ghost use Rattle.rs_session.specs.Ahead.{IsChange, LeavesAhead};
+ghost use Rattle.rs_session.specs.Pending.{IsChange, LeavesPending};
 ghost use Rattle.rs_session.specs.Steps.{IsUnsent, NoSerialUsed};
 ghost use Rattle.rs_session.specs.Table.{LeadsTo, open_for};
 
@@ -58,8 +58,8 @@ impl Open {
         requires { IfSome change (λ operation. IsChange (given_at (Input.Whole packet) now) operation) }
         ensures row { GrowsAnswering G.stands G.mark gate.old gate.new (λ seen answered list.
             LeadsTo (given_at (Input.Whole packet) now) (point_at self.old seen (G.mark gate.old)) answered result (point_at self.new list (G.mark gate.new))) }
-        ensures ahead { LeavesAhead (given_at (Input.Whole packet) now) (G.ahead gate.old) (G.ahead gate.new) (IsUnsent (G.mark gate.old) (G.mark gate.new) result) }
-        ensures certain { (p : Publish) → packet ≡ Packet.Publish p → NoSerialUsed (G.stands gate.old) (G.ahead gate.old) (G.mark gate.old) (G.mark gate.new) → result ≢ Outcome.Closes ReasonCode.QuotaExceeded }
+        ensures pending { LeavesPending (given_at (Input.Whole packet) now) (G.pending gate.old) (G.pending gate.new) (IsUnsent (G.mark gate.old) (G.mark gate.new) result) }
+        ensures certain { (p : Publish) → packet ≡ Packet.Publish p → NoSerialUsed (G.stands gate.old) (G.pending gate.old) (G.mark gate.old) (G.mark gate.new) → result ≢ Outcome.Closes ReasonCode.QuotaExceeded }
     {
         match packet {
             Packet::Connect(_c) => Outcome::Closes(ReasonCode::ProtocolError),

@@ -9,7 +9,7 @@ ghost use Rattle.rs_packet.specs.declared.packet.Packet.{Packet};
 ghost use Rattle.rs_packet.specs.declared.packet.Publish.{Publish};
 ghost use Rattle.rs_packet.specs.declared.reply.Reply.{Reply};
 ghost use Rattle.rs_message.specs.Messages.{is_sweep};
-ghost use Rattle.rs_session.specs.Ahead.{IsChange, LeavesAhead};
+ghost use Rattle.rs_session.specs.Pending.{IsChange, LeavesPending};
 ghost use Rattle.rs_session.specs.Gate.{Grows, GrowsAnswering};
 ghost use Rattle.rs_session.specs.Points.{given_at};
 ghost use Rattle.rs_session.specs.Reasons.{reason_value};
@@ -63,10 +63,10 @@ impl<G: Gate> Session<G> {
             Answers (given_at (Input.Whole packet) now) (session_at G.mark self.old seen) answered (due_of self.new) (session_at G.mark self.new list)) }
         ensures step { result ≡ step_of (state_of self.new).phase }
         ensures over { (closing : Closing) → (state_of self.old).phase ≡ Phase.Ended closing → self.new ≡ self.old }
-        ensures ahead { LeavesAhead (given_at (Input.Whole packet) now) (G.ahead (gate_of self.old)) (G.ahead (gate_of self.new))
+        ensures pending { LeavesPending (given_at (Input.Whole packet) now) (G.pending (gate_of self.old)) (G.pending (gate_of self.new))
             ((G.mark (gate_of self.new) ≡ G.mark (gate_of self.old)) × (step_of (state_of self.new).phase ≡ Step.End)) }
         ensures certain { (p : Publish) (o : Open) → packet ≡ Packet.Publish p → (state_of self.old).phase ≡ Phase.Open o
-            → NoSerialUsed (G.stands (gate_of self.old)) (G.ahead (gate_of self.old)) (G.mark (gate_of self.old)) (G.mark (gate_of self.new))
+            → NoSerialUsed (G.stands (gate_of self.old)) (G.pending (gate_of self.old)) (G.mark (gate_of self.old)) (G.mark (gate_of self.new))
             → (state_of self.new).phase ≢ Phase.Ended (Closing.ByServer (reason_value ReasonCode.QuotaExceeded)) }
     {
         self.on_packet_with(packet, None, now)
@@ -80,10 +80,10 @@ impl<G: Gate> Session<G> {
             Answers (given_at (Input.Whole packet) now) (session_at G.mark self.old seen) answered (due_of self.new) (session_at G.mark self.new list)) }
         ensures step { result ≡ step_of (state_of self.new).phase }
         ensures over { (closing : Closing) → (state_of self.old).phase ≡ Phase.Ended closing → self.new ≡ self.old }
-        ensures ahead { LeavesAhead (given_at (Input.Whole packet) now) (G.ahead (gate_of self.old)) (G.ahead (gate_of self.new))
+        ensures pending { LeavesPending (given_at (Input.Whole packet) now) (G.pending (gate_of self.old)) (G.pending (gate_of self.new))
             ((G.mark (gate_of self.new) ≡ G.mark (gate_of self.old)) × (step_of (state_of self.new).phase ≡ Step.End)) }
         ensures certain { (p : Publish) (o : Open) → packet ≡ Packet.Publish p → (state_of self.old).phase ≡ Phase.Open o
-            → NoSerialUsed (G.stands (gate_of self.old)) (G.ahead (gate_of self.old)) (G.mark (gate_of self.old)) (G.mark (gate_of self.new))
+            → NoSerialUsed (G.stands (gate_of self.old)) (G.pending (gate_of self.old)) (G.mark (gate_of self.old)) (G.mark (gate_of self.new))
             → (state_of self.new).phase ≢ Phase.Ended (Closing.ByServer (reason_value ReasonCode.QuotaExceeded)) }
     {
         match &mut self.phase {
@@ -107,7 +107,7 @@ impl<G: Gate> Session<G> {
             Answers (given_at (Input.Broken fault) now) (session_at G.mark self.old seen) answered (due_of self.new) (session_at G.mark self.new list)) }
         ensures step { result ≡ step_of (state_of self.new).phase }
         ensures over { (closing : Closing) → (state_of self.old).phase ≡ Phase.Ended closing → self.new ≡ self.old }
-        ensures ahead { G.ahead (gate_of self.new) ≡ G.ahead (gate_of self.old) }
+        ensures pending { G.pending (gate_of self.new) ≡ G.pending (gate_of self.old) }
     {
         match &self.phase {
             Phase::Before => self.first_fault(fault),
@@ -130,10 +130,10 @@ impl<G: Gate> Session<G> {
             Answers (given_at input now) (session_at G.mark self.old seen) answered (due_of self.new) (session_at G.mark self.new list)) }
         ensures step { result ≡ step_of (state_of self.new).phase }
         ensures over { (closing : Closing) → (state_of self.old).phase ≡ Phase.Ended closing → self.new ≡ self.old }
-        ensures ahead { LeavesAhead (given_at input now) (G.ahead (gate_of self.old)) (G.ahead (gate_of self.new))
+        ensures pending { LeavesPending (given_at input now) (G.pending (gate_of self.old)) (G.pending (gate_of self.new))
             ((G.mark (gate_of self.new) ≡ G.mark (gate_of self.old)) × (step_of (state_of self.new).phase ≡ Step.End)) }
         ensures certain { (p : Publish) (o : Open) → input ≡ Input.Whole (Packet.Publish p) → (state_of self.old).phase ≡ Phase.Open o
-            → NoSerialUsed (G.stands (gate_of self.old)) (G.ahead (gate_of self.old)) (G.mark (gate_of self.old)) (G.mark (gate_of self.new))
+            → NoSerialUsed (G.stands (gate_of self.old)) (G.pending (gate_of self.old)) (G.mark (gate_of self.old)) (G.mark (gate_of self.new))
             → (state_of self.new).phase ≢ Phase.Ended (Closing.ByServer (reason_value ReasonCode.QuotaExceeded)) }
     {
         match input {
@@ -174,8 +174,8 @@ impl<G: Gate> Session<G> {
         ensures due { due_of self.new ≡ due_of self.old }
         ensures list { Grows (G.stands (gate_of self.old)) (G.stands (gate_of self.new)) (λ seen list. list ≡ seen) }
         ensures mark { G.mark (gate_of self.new) ≡ G.mark (gate_of self.old) }
-        ensures ahead { (G.ahead (gate_of self.new) ≡ changes.items) ⊎ (G.ahead (gate_of self.new) ≡ [])
-            ⊎ (G.ahead (gate_of self.new) ≡ G.ahead (gate_of self.old)) }
+        ensures pending { (G.pending (gate_of self.new) ≡ changes.items) ⊎ (G.pending (gate_of self.new) ≡ [])
+            ⊎ (G.pending (gate_of self.new) ≡ G.pending (gate_of self.old)) }
     {
         if self.is_open() {
             self.gate.expect(changes);

@@ -27,7 +27,7 @@ impl Gate for Refusing {
 
     ghost mark = { λ gate. record { place = 1; serial = gate.serial; sent = Some [] } };
 
-    fn is_ahead(&self) -> bool {
+    fn has_pending(&self) -> bool {
         false
     }
 

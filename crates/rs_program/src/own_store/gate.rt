@@ -42,7 +42,7 @@ impl Gate for OwnGate {
     ghost mark = { λ gate. local_mark (content_of gate) };
 
     /// It sends nothing ahead.
-    fn is_ahead(&self) -> bool {
+    fn has_pending(&self) -> bool {
         false
     }
 

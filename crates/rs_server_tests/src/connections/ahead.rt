@@ -44,7 +44,7 @@ impl Gate for Expecting {
     }
 
     /// It sends nothing ahead to its store.
-    fn is_ahead(&self) -> bool {
+    fn has_pending(&self) -> bool {
         false
     }
 

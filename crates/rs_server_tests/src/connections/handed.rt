@@ -27,7 +27,7 @@ impl Gate for Recording {
 
     ghost mark = { λ _. record { place = 1; serial = 0; sent = None } };
 
-    fn is_ahead(&self) -> bool {
+    fn has_pending(&self) -> bool {
         false
     }
 

@@ -5,8 +5,8 @@ ghost use Rattle.rs_message.specs.Messages.{is_sweep};
 ghost use Rattle.rs_message.specs.declared.entry.Operation.{Operation};
 ghost use Rattle.rs_session.specs.Gate.{Grows, GrowsAnswering, IsHandedOver, SendsAtMost, Uses, entry_by};
 ghost use Rattle.rs_session.specs.Points.{given_at, point_at};
-ghost use Rattle.rs_session.specs.Ahead.{IsChange, LeavesAhead};
-ghost use Rattle.rs_session.specs.Steps.{IsConcluded, IsUnsent, NoSerialUsed, TakesAheadBy, outcome_before, outcome_of_submit, outcome_of_id, outcome_unmade, topic_refusal};
+ghost use Rattle.rs_session.specs.Pending.{IsChange, LeavesPending};
+ghost use Rattle.rs_session.specs.Steps.{IsConcluded, IsUnsent, NoSerialUsed, TakesPendingBy, outcome_before, outcome_of_submit, outcome_of_id, outcome_unmade, topic_refusal};
 ghost use Rattle.rs_session.specs.Table.{LeadsTo, acknowledged_by, unreleased_id, unreleased_with, is_unreleased, is_one_too_many};
 
 use super::{Open, Outcome};
@@ -30,8 +30,8 @@ impl Open {
         requires { IfSome change (λ operation. IsChange (given_at (Input.Whole (Packet.Publish p)) now) operation) }
         ensures row { GrowsAnswering G.stands G.mark gate.old gate.new (λ seen answered list.
             LeadsTo (given_at (Input.Whole (Packet.Publish p)) now) (point_at self.old seen (G.mark gate.old)) answered result (point_at self.new list (G.mark gate.new))) }
-        ensures ahead { LeavesAhead (given_at (Input.Whole (Packet.Publish p)) now) (G.ahead gate.old) (G.ahead gate.new) (IsUnsent (G.mark gate.old) (G.mark gate.new) result) }
-        ensures certain { NoSerialUsed (G.stands gate.old) (G.ahead gate.old) (G.mark gate.old) (G.mark gate.new) → result ≢ Outcome.Closes ReasonCode.QuotaExceeded }
+        ensures pending { LeavesPending (given_at (Input.Whole (Packet.Publish p)) now) (G.pending gate.old) (G.pending gate.new) (IsUnsent (G.mark gate.old) (G.mark gate.new) result) }
+        ensures certain { NoSerialUsed (G.stands gate.old) (G.pending gate.old) (G.mark gate.old) (G.mark gate.new) → result ≢ Outcome.Closes ReasonCode.QuotaExceeded }
     {
         match self.outcome_before(&p) {
             Some(outcome) => outcome,
@@ -81,8 +81,8 @@ impl Open {
         requires change { IfSome change (λ operation. IsChange (given_at (Input.Whole (Packet.Publish p)) now) operation) }
         ensures row { GrowsAnswering G.stands G.mark gate.old gate.new (λ seen answered list.
             LeadsTo (given_at (Input.Whole (Packet.Publish p)) now) (point_at self.old seen (G.mark gate.old)) answered result (point_at self.new list (G.mark gate.new))) }
-        ensures ahead { LeavesAhead (given_at (Input.Whole (Packet.Publish p)) now) (G.ahead gate.old) (G.ahead gate.new) (IsUnsent (G.mark gate.old) (G.mark gate.new) result) }
-        ensures certain { NoSerialUsed (G.stands gate.old) (G.ahead gate.old) (G.mark gate.old) (G.mark gate.new) → result ≢ Outcome.Closes ReasonCode.QuotaExceeded }
+        ensures pending { LeavesPending (given_at (Input.Whole (Packet.Publish p)) now) (G.pending gate.old) (G.pending gate.new) (IsUnsent (G.mark gate.old) (G.mark gate.new) result) }
+        ensures certain { NoSerialUsed (G.stands gate.old) (G.pending gate.old) (G.mark gate.old) (G.mark gate.new) → result ≢ Outcome.Closes ReasonCode.QuotaExceeded }
     {
         let Publish {
             duplicate: _,
@@ -126,8 +126,8 @@ impl Open {
             × IsConcluded operation qos id (point_at self.old seen (G.mark gate.old)) result (point_at self.new list (G.mark gate.new))) }
         ensures mark { Uses (G.mark gate.old) (G.mark gate.new) }
         ensures sent { SendsAtMost (G.mark gate.old).sent (entry_by operation (G.mark gate.new)) (G.mark gate.new).sent }
-        ensures ahead { TakesAheadBy operation (G.mark gate.old) (G.mark gate.new) result (G.ahead gate.old) (G.ahead gate.new) }
-        ensures certain { NoSerialUsed (G.stands gate.old) (G.ahead gate.old) (G.mark gate.old) (G.mark gate.new) → result ≢ Outcome.Closes ReasonCode.QuotaExceeded }
+        ensures pending { TakesPendingBy operation (G.mark gate.old) (G.mark gate.new) result (G.pending gate.old) (G.pending gate.new) }
+        ensures certain { NoSerialUsed (G.stands gate.old) (G.pending gate.old) (G.mark gate.old) (G.mark gate.new) → result ≢ Outcome.Closes ReasonCode.QuotaExceeded }
     {
         let submitted = gate.submit(operation);
         if submitted.is_ok() {
@@ -154,9 +154,9 @@ impl Open {
 /// What no memory for the change of a PUBLISH leads to. If the gate expects changes, it may be one that was sent ahead, and become an
 /// entry.
 fn outcome_unmade<G: Gate>(gate: &G, qos: Qos, id: Option<PacketId>) -> Outcome
-    ensures { result ≡ outcome_unmade (G.ahead gate.now) qos id }
+    ensures { result ≡ outcome_unmade (G.pending gate.now) qos id }
 {
-    if gate.is_ahead() {
+    if gate.has_pending() {
         return Outcome::Closes(ReasonCode::QuotaExceeded);
     }
     Outcome::Replies(acknowledged_by(qos, id, ReasonCode::QuotaExceeded))

@@ -26,7 +26,7 @@ impl Open {
     ) -> Outcome
         ensures row { GrowsAnswering G.stands G.mark gate.old gate.new (λ seen answered list.
             LeadsTo (given_at (Input.Whole (Packet.Subscribe s)) now) (point_at self.old seen (G.mark gate.old)) answered result (point_at self.new list (G.mark gate.new))) }
-        ensures ahead { G.ahead gate.new ≡ G.ahead gate.old }
+        ensures pending { G.pending gate.new ≡ G.pending gate.old }
     {
         if any_shared_local(s.filters.as_slice()) {
             return Outcome::Closes(ReasonCode::ProtocolError);
@@ -59,7 +59,7 @@ impl Open {
         ensures list { Grows (G.stands gate.old) (G.stands gate.new) (λ seen list.
             IsGranted now asked identifier list self.old result self.new) }
         ensures mark { G.mark gate.new ≡ G.mark gate.old }
-        ensures ahead { G.ahead gate.new ≡ G.ahead gate.old }
+        ensures pending { G.pending gate.new ≡ G.pending gate.old }
     {
         let (filter, options) = asked;
         match filter {
@@ -95,7 +95,7 @@ impl Open {
         ensures list { Grows (G.stands gate.old) (G.stands gate.new) (λ seen list.
             MatchBool result (IsSubscribed now filter subscription list self.old self.new) (self.new ≡ self.old)) }
         ensures mark { G.mark gate.new ≡ G.mark gate.old }
-        ensures ahead { G.ahead gate.new ≡ G.ahead gate.old }
+        ensures pending { G.pending gate.new ≡ G.pending gate.old }
     {
         let kept = subscription;
         if !self.replay(gate, &filter, subscription, true, now) {
@@ -117,7 +117,7 @@ impl Open {
         ensures list { Grows (G.stands gate.old) (G.stands gate.new) (λ seen list.
             MatchBool result (IsSubscribed now filter subscription list self.old self.new) (self.new ≡ self.old)) }
         ensures mark { G.mark gate.new ≡ G.mark gate.old }
-        ensures ahead { G.ahead gate.new ≡ G.ahead gate.old }
+        ensures pending { G.pending gate.new ≡ G.pending gate.old }
     {
         if self.subscriptions.len() >= MAX_SUBSCRIPTIONS {
             return false;
@@ -151,7 +151,7 @@ impl Open {
             (MatchBool (replays subscription.options.retain_handling is_there) (IsQueued now filter.now subscription list self.old self.new) (self.new.window ≡ self.old.window))
             (self.new ≡ self.old)) }
         ensures mark { G.mark gate.new ≡ G.mark gate.old }
-        ensures ahead { G.ahead gate.new ≡ G.ahead gate.old }
+        ensures pending { G.pending gate.new ≡ G.pending gate.old }
         ensures rest { self.new ≡ record self.old { window = self.new.window } }
     {
         if !replays(subscription.options.retain_handling, is_there) {

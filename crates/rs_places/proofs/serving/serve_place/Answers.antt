@@ -30,7 +30,7 @@ returns-clause-connection g c =
     let P : ℕ → Type 0 = λ place. Run (start (assigned_of place number) gate.known gate.mark) exchanges (point_at state conversation.seen before.mark) in
     let Q : List Entry → Type 0 = λ list. Run from exchanges (point_at state list before.mark) in
     let run : Run from exchanges to = subst Q known (subst P c.place.ensures.place conversation.run) in
-    let A : ℕ → Type 0 = λ place. AreLeft (start (assigned_of place number) gate.known gate.mark) exchanges planned before.ahead in
+    let A : ℕ → Type 0 = λ place. AreLeft (start (assigned_of place number) gate.known gate.mark) exchanges planned before.pending in
     let L : List Entry → Type 0 = λ list. IsLegal limit list in
     let legal : AreOfGate (λ mark list. IsLegal limit list) exchanges = of_gate_weaker _ (λ mark list. IsLegal limit list) exchanges (λ mark list h. h.1.legal) conversation.of_gate in
     let rises : AreOfGate (λ mark list. SerialsRise list) exchanges = of_gate_weaker (λ mark list. IsLegal limit list) (λ mark list. SerialsRise list) exchanges (λ mark list h. h.rises) legal in
@@ -59,7 +59,7 @@ returns-clause-connection g c =
       publications = run_sends from to exchanges run;
       tail = tail;
       handed_on = hands_on;
-      none_ahead = c.hand_on.ensures.ahead;
-      tail_is = λ none. left_front from exchanges planned (operations_of tail) before.ahead front (subst A c.place.ensures.place (talk.expected none));
+      none_pending = c.hand_on.ensures.pending;
+      tail_is = λ none. left_front from exchanges planned (operations_of tail) before.pending front (subst A c.place.ensures.place (talk.expected none));
       sent = λ connect opens. let made = run_replays (assigned_of gate.mark.place number) from to exchanges connect refl run opens in (made, replay_sends connect exchanges made);
     }

@@ -5,7 +5,7 @@ use Rattle.std.specs.Prelude.{IfSome}
 use Rattle.std.specs.List.{All}
 use Rattle.rs_message.specs.declared.entry.Operation.{Operation}
 use Rattle.rs_message.specs.Messages.{is_sweep}
-use Rattle.rs_session.specs.Ahead.{AreChanges, IsChange}
+use Rattle.rs_session.specs.Pending.{AreChanges, IsChange}
 use Rattle.rs_session.specs.Points.{Given, given_at}
 use Rattle.rs_session.proofs.Expecting.{no_change_sweeps}
 use Rattle.rs_server.proofs.Planning.{expected_more, one_change_more}

@@ -2,7 +2,7 @@
 use Rattle.std.proofs.Common.{◌≡◌, ◌≤◌, false, length, take, vec_len, vec_capacity}
 use Rattle.std.specs.List.{All}
 use Rattle.rs_message.specs.Messages.{is_sweep}
-use Rattle.rs_session.specs.Ahead.{AreChanges}
+use Rattle.rs_session.specs.Pending.{AreChanges}
 use Rattle.rs_server.proofs.plan.changes_of.Given as goal
 
 abbrev pub invariant-made : goal.invariant-made

@@ -8,5 +8,5 @@ use Rattle.rs_places.proofs.shared_gate.SharedGate.close.Goals as goal
 pub returns-clause-sent : goal.returns-clause-sent
 returns-clause-sent g c =
     let line = c.self.inside.line in
-    let P : SharedValue → Type 0 = λ v. (tail : List Entry) × Sends v.mark.sent tail (Some c.close.result.sent) × IsPrefix (operations_of tail) v.ahead in
+    let P : SharedValue → Type 0 = λ v. (tail : List Entry) × Sends v.mark.sent tail (Some c.close.result.sent) × IsPrefix (operations_of tail) v.pending in
     subst P c.self.view_is (line.ahead, c.close.ensures.sent, (line.expected, refl))

@@ -3,7 +3,7 @@ use Rattle.rs_message.specs.declared.entry.Entry.{Entry}
 use Rattle.rs_message.specs.declared.entry.Operation.{Operation}
 use Rattle.rs_intake.specs.Lines.{Line}
 use Rattle.rs_session.specs.Gate.{Mark}
-use Rattle.rs_places.specs.Shared.{SharedValue, ahead_of, mark_of}
+use Rattle.rs_places.specs.Shared.{SharedValue, pending_of, mark_of}
 use Rattle.rs_places.proofs.Receipts.{announced_one, announces, same_mark}
 use Rattle.rs_places.proofs.shared_gate.SharedGateGate.expect.Goals as goal
 
@@ -20,8 +20,8 @@ returns-clause-mark g c =
     let e = c.expect.ensures in
     same_mark c.self.inside.line c.expect.new.self e.place.0 e.place.1 e.same.0 ∙ ap (λ (v : SharedValue). v.mark) c.self.view_is
 
-pub returns-clause-ahead : goal.returns-clause-ahead
-returns-clause-ahead g c =
-    let new = ahead_of c.expect.new.self in
-    let P : SharedValue → Type 0 = λ v. (new ≡ c.args.changes.items) ⊎ ((new ≡ []) ⊎ (new ≡ v.ahead)) in
+pub returns-clause-pending : goal.returns-clause-pending
+returns-clause-pending g c =
+    let new = pending_of c.expect.new.self in
+    let P : SharedValue → Type 0 = λ v. (new ≡ c.args.changes.items) ⊎ ((new ≡ []) ⊎ (new ≡ v.pending)) in
     subst P c.self.view_is (announces c.self.inside.line.expected c.args.changes.items _ c.self.inside.line.ahead _ c.self.invariant.1 c.expect.ensures.same.2 c.expect.ensures.expected)

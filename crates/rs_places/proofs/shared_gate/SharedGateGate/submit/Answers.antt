@@ -3,12 +3,12 @@ use mathlib.Core.List.{IsPrefix}
 use Rattle.std.proofs.lemmas.Result.{err_from_is_err_and}
 use Rattle.rs_message.specs.declared.entry.Entry.{Entry}
 use Rattle.rs_message.specs.declared.fault.SubmitFault.{SubmitFault}
-use Rattle.rs_session.specs.Gate.{Mark, Submits, TakesAhead, Uses}
+use Rattle.rs_session.specs.Gate.{Mark, Submits, TakesPending, Uses}
 use Rattle.rs_message.specs.declared.fault.SubmitFault.TheVariants.{Strange}
 use Rattle.rs_intake.specs.Lines.{entry_at, next_serial}
 use Rattle.rs_intake.proofs.Faults.{ok_not_err, refused_as}
-use Rattle.rs_places.specs.Shared.{IsOtherAhead, SharedValue, ahead_of, mark_of}
-use Rattle.rs_places.proofs.Receipts.{other_ahead, same_mark, sends_it, submits_err, submits_ok, takes_ahead, used_if_open}
+use Rattle.rs_places.specs.Shared.{IsOtherPending, SharedValue, pending_of, mark_of}
+use Rattle.rs_places.proofs.Receipts.{other_pending, same_mark, sends_it, submits_err, submits_ok, takes_pending, used_if_open}
 use Rattle.rs_places.proofs.shared_gate.SharedGateGate.submit.Goals as goal
 
 pub returns-clause-list : goal.returns-clause-list
@@ -50,30 +50,30 @@ returns-in_err-receipt-clause-list g c = λ seen knows.
       subst (λ (m : Mark). Submits c.args.operation m (mark_of new) c.from_residual.result seen seen) plain (submits_err c.args.operation (mark_of old) (mark_of new) c.from_residual.result _ seen is used),
     )
 
-pub returns-clause-ahead : goal.returns-clause-ahead
-returns-clause-ahead g c =
+pub returns-clause-pending : goal.returns-clause-pending
+returns-clause-pending g c =
     let s = c.submit.ensures in
     let old = c.self.inside.line in
     let new = c.submit.new.line in
-    let P : SharedValue → Type 0 = λ v. TakesAhead c.args.operation v.mark (mark_of new) (Ok tt) v.ahead (ahead_of new) in
-    subst P c.self.view_is (takes_ahead old.place old.serial old.expected new.expected old.ahead new.ahead c.args.operation (mark_of old) (mark_of new) (Ok tt) c.self.invariant.1 s.expected s.ahead
+    let P : SharedValue → Type 0 = λ v. TakesPending c.args.operation v.mark (mark_of new) (Ok tt) v.pending (pending_of new) in
+    subst P c.self.view_is (takes_pending old.place old.serial old.expected new.expected old.ahead new.ahead c.args.operation (mark_of old) (mark_of new) (Ok tt) c.self.invariant.1 s.expected s.ahead
     (λ other. absurd (ok_not_err _ _ _ c.in_ok-receipt.was (s.other other).0)))
 
-pub returns-in_err-receipt-clause-ahead : goal.returns-in_err-receipt-clause-ahead
-returns-in_err-receipt-clause-ahead g c =
+pub returns-in_err-receipt-clause-pending : goal.returns-in_err-receipt-clause-pending
+returns-in_err-receipt-clause-pending g c =
     let s = c.submit.ensures in
     let p = err_from_is_err_and c.from_residual.result c.from_residual.ensures.1 in
     let old = c.self.inside.line in
     let new = c.submit.new.line in
-    let P : SharedValue → Type 0 = λ v. TakesAhead c.args.operation v.mark (mark_of new) c.from_residual.result v.ahead (ahead_of new) in
-    subst P c.self.view_is (takes_ahead old.place old.serial old.expected new.expected old.ahead new.ahead c.args.operation (mark_of old) (mark_of new) c.from_residual.result c.self.invariant.1 s.expected s.ahead
+    let P : SharedValue → Type 0 = λ v. TakesPending c.args.operation v.mark (mark_of new) c.from_residual.result v.pending (pending_of new) in
+    subst P c.self.view_is (takes_pending old.place old.serial old.expected new.expected old.ahead new.ahead c.args.operation (mark_of old) (mark_of new) c.from_residual.result c.self.invariant.1 s.expected s.ahead
     (λ other. let o = s.other other in (refused_as _ _ _ _ _ c.in_err-receipt.was o.0 p.1 p.2, same_mark old new s.place o.1 o.2)))
 
 pub returns-clause-serial : goal.returns-clause-serial
 returns-clause-serial g c =
     let s = c.submit.ensures in
     let new = c.submit.new.line in
-    let P : SharedValue → Type 0 = λ v. (new.serial ≡ next_serial v.mark.serial) ⊎ ((Ok tt ≡ Err Strange) × (mark_of new ≡ v.mark) × IsOtherAhead v.ahead c.args.operation) in
+    let P : SharedValue → Type 0 = λ v. (new.serial ≡ next_serial v.mark.serial) ⊎ ((Ok tt ≡ Err Strange) × (mark_of new ≡ v.mark) × IsOtherPending v.pending c.args.operation) in
     subst P c.self.view_is (⊎_elim (λ t. inl t) (λ other. absurd (ok_not_err _ _ _ c.in_ok-receipt.was (s.other other).0)) s.serial)
 
 pub returns-in_err-receipt-clause-serial : goal.returns-in_err-receipt-clause-serial
@@ -82,6 +82,6 @@ returns-in_err-receipt-clause-serial g c =
     let p = err_from_is_err_and c.from_residual.result c.from_residual.ensures.1 in
     let old = c.self.inside.line in
     let new = c.submit.new.line in
-    let P : SharedValue → Type 0 = λ v. (new.serial ≡ next_serial v.mark.serial) ⊎ ((c.from_residual.result ≡ Err Strange) × (mark_of new ≡ v.mark) × IsOtherAhead v.ahead c.args.operation) in
+    let P : SharedValue → Type 0 = λ v. (new.serial ≡ next_serial v.mark.serial) ⊎ ((c.from_residual.result ≡ Err Strange) × (mark_of new ≡ v.mark) × IsOtherPending v.pending c.args.operation) in
     subst P c.self.view_is (⊎_elim (λ t. inl t)
-    (λ other. let o = s.other other in inr (refused_as _ _ _ _ _ c.in_err-receipt.was o.0 p.1 p.2, same_mark old new s.place o.1 o.2, other_ahead old.ahead old.expected c.args.operation other)) s.serial)
+    (λ other. let o = s.other other in inr (refused_as _ _ _ _ _ c.in_err-receipt.was o.0 p.1 p.2, same_mark old new s.place o.1 o.2, other_pending old.ahead old.expected c.args.operation other)) s.serial)

@@ -7,12 +7,12 @@ use Rattle.rs_message.specs.declared.entry.Operation.{Operation}
 use Rattle.rs_session.specs.declared.open.Outcome.TheVariants.{Replies}
 use Rattle.rs_session.specs.declared.phase.Input.TheVariants.{Whole}
 use Rattle.rs_session.specs.Gate.{Mark, GrowsAnswering}
-use Rattle.rs_session.specs.Ahead.{IsChange, LeavesAhead}
+use Rattle.rs_session.specs.Pending.{IsChange, LeavesPending}
 use Rattle.rs_session.specs.Steps.{IsUnsent, outcome_before}
 use Rattle.rs_session.specs.Points.{given_at, point_at}
 use Rattle.rs_session.specs.Table.{LeadsTo}
 use Rattle.rs_session.proofs.Rows.{unmoved, topic_unread, submitted, not_made, not_retained}
-use Rattle.rs_session.proofs.Expecting.{by_refusal, by_submit, its_change, no_change_sweeps, not_retained_ahead, topic_unread_ahead}
+use Rattle.rs_session.proofs.Expecting.{by_refusal, by_submit, its_change, no_change_sweeps, not_retained_pending, topic_unread_pending}
 use Rattle.rs_session.proofs.Certain.{by_refusal_certain, replies}
 use Rattle.rs_session.proofs.open.Open.hand_over.Goals as goal
 
@@ -52,25 +52,25 @@ returns-in-Err-clause-row g c =
     let Leads : PublishValue → List Entry → List (List Entry) → List Entry → Mark → Type 0 = λ p seen answered list used. LeadsTo (given_at (Whole (packet.Publish p)) c.args.now) (point_at o seen (g.G.Gate.mark c.args.gate.now)) answered outcome (point_at o list used) in
     unmoved g.G.Gate.stands g.G.Gate.mark c.args.gate.now c.args.gate.now (Leads c.args.p) refl
     (λ list. subst (λ (p : PublishValue). outcome_before p o ≡ None → Leads p list [] list (g.G.Gate.mark c.args.gate.now)) c.p.view_is
-    (λ e. not_made _ c.in-Ok.topic (g.G.Gate.ahead c.args.gate.now) outcome c.args.now (point_at o list _) e c.in-Ok.is c.in-Err.ensures.err.0 c.outcome_unmade.ensures) c.requires.before)
+    (λ e. not_made _ c.in-Ok.topic (g.G.Gate.pending c.args.gate.now) outcome c.args.now (point_at o list _) e c.in-Ok.is c.in-Err.ensures.err.0 c.outcome_unmade.ensures) c.requires.before)
 
-pub returns-in_default-topic-clause-ahead : goal.returns-in_default-topic-clause-ahead
-returns-in_default-topic-clause-ahead g c =
-    let ahead = g.G.Gate.ahead c.args.gate.now in
+pub returns-in_default-topic-clause-pending : goal.returns-in_default-topic-clause-pending
+returns-in_default-topic-clause-pending g c =
+    let pending = g.G.Gate.pending c.args.gate.now in
     let Unused = IsUnsent (g.G.Gate.mark c.args.gate.now) (g.G.Gate.mark c.args.gate.now) (Replies c.acknowledged_by.result) in
-    subst (λ (p : PublishValue). LeavesAhead (given_at (Whole (packet.Publish p)) c.args.now) ahead ahead Unused) c.p.view_is (topic_unread_ahead _ c.in_default-topic.field-0 c.args.now ahead ahead Unused c.in_default-topic.is refl)
+    subst (λ (p : PublishValue). LeavesPending (given_at (Whole (packet.Publish p)) c.args.now) pending pending Unused) c.p.view_is (topic_unread_pending _ c.in_default-topic.field-0 c.args.now pending pending Unused c.in_default-topic.is refl)
 
-pub returns-in-Ok-Some-clause-ahead : goal.returns-in-Ok-Some-clause-ahead
-returns-in-Ok-Some-clause-ahead g c = by_submit _ c.in-Ok-Some.operation _ _ _ (g.G.Gate.ahead c.args.gate.now) (g.G.Gate.ahead c.submit-in-Ok-Some.new.gate) c.submit-in-Ok-Some.ensures.ahead
+pub returns-in-Ok-Some-clause-pending : goal.returns-in-Ok-Some-clause-pending
+returns-in-Ok-Some-clause-pending g c = by_submit _ c.in-Ok-Some.operation _ _ _ (g.G.Gate.pending c.args.gate.now) (g.G.Gate.pending c.submit-in-Ok-Some.new.gate) c.submit-in-Ok-Some.ensures.pending
 
-pub returns-in-Ok-None-clause-ahead : goal.returns-in-Ok-None-clause-ahead
-returns-in-Ok-None-clause-ahead g c =
-    let ahead = g.G.Gate.ahead c.args.gate.now in
+pub returns-in-Ok-None-clause-pending : goal.returns-in-Ok-None-clause-pending
+returns-in-Ok-None-clause-pending g c =
+    let pending = g.G.Gate.pending c.args.gate.now in
     let Unused = IsUnsent (g.G.Gate.mark c.args.gate.now) (g.G.Gate.mark c.args.gate.now) (Replies c.acknowledged_by-in-Ok-None.result) in
-    subst (λ (p : PublishValue). LeavesAhead (given_at (Whole (packet.Publish p)) c.args.now) ahead ahead Unused) c.p.view_is (not_retained_ahead _ c.in-Ok.topic c.args.now ahead ahead Unused c.in-Ok.is (sym c.in-Ok-None.ensures.ok ∙ c.in-Ok-None.field-0-is) refl)
+    subst (λ (p : PublishValue). LeavesPending (given_at (Whole (packet.Publish p)) c.args.now) pending pending Unused) c.p.view_is (not_retained_pending _ c.in-Ok.topic c.args.now pending pending Unused c.in-Ok.is (sym c.in-Ok-None.ensures.ok ∙ c.in-Ok-None.field-0-is) refl)
 
-pub returns-in-Err-clause-ahead : goal.returns-in-Err-clause-ahead
-returns-in-Err-clause-ahead g c = by_refusal (given_at (Whole (packet.Publish c.args.p)) c.args.now) _ _ (g.G.Gate.mark c.args.gate.now) c.outcome_unmade.result (g.G.Gate.ahead c.args.gate.now) c.outcome_unmade.ensures
+pub returns-in-Err-clause-pending : goal.returns-in-Err-clause-pending
+returns-in-Err-clause-pending g c = by_refusal (given_at (Whole (packet.Publish c.args.p)) c.args.now) _ _ (g.G.Gate.mark c.args.gate.now) c.outcome_unmade.result (g.G.Gate.pending c.args.gate.now) c.outcome_unmade.ensures
 
 pub submit-requires-clause-change : goal.submit-requires-clause-change
 submit-requires-clause-change g c =
@@ -88,8 +88,8 @@ returns-in-Some-clause-row g c =
     c.p.view_is
     (λ e i. let (may, topic, t, made) = its_change _ c.args.now c.in-Some.made i in submitted g.G.Gate.stands g.G.Gate.mark old new _ topic c.in-Some.made c.args.now _ o _ e t made c.submit.ensures.mark c.submit.ensures.sent c.submit.ensures.list) c.requires.before is
 
-pub returns-in-Some-clause-ahead : goal.returns-in-Some-clause-ahead
-returns-in-Some-clause-ahead g c = by_submit _ c.in-Some.made _ _ _ (g.G.Gate.ahead c.args.gate.now) (g.G.Gate.ahead c.submit.new.gate) c.submit.ensures.ahead
+pub returns-in-Some-clause-pending : goal.returns-in-Some-clause-pending
+returns-in-Some-clause-pending g c = by_submit _ c.in-Some.made _ _ _ (g.G.Gate.pending c.args.gate.now) (g.G.Gate.pending c.submit.new.gate) c.submit.ensures.pending
 
 pub returns-in_default-topic-clause-certain : goal.returns-in_default-topic-clause-certain
 returns-in_default-topic-clause-certain g c = λ none. replies _
@@ -101,7 +101,7 @@ pub returns-in-Ok-None-clause-certain : goal.returns-in-Ok-None-clause-certain
 returns-in-Ok-None-clause-certain g c = λ none. replies _
 
 pub returns-in-Err-clause-certain : goal.returns-in-Err-clause-certain
-returns-in-Err-clause-certain g c = λ none. by_refusal_certain _ (g.G.Gate.ahead c.args.gate.now) (g.G.Gate.mark c.args.gate.now) (g.G.Gate.mark c.args.gate.now) _ _ _ c.outcome_unmade.ensures none
+returns-in-Err-clause-certain g c = λ none. by_refusal_certain _ (g.G.Gate.pending c.args.gate.now) (g.G.Gate.mark c.args.gate.now) (g.G.Gate.mark c.args.gate.now) _ _ _ c.outcome_unmade.ensures none
 
 pub returns-in-Some-clause-certain : goal.returns-in-Some-clause-certain
 returns-in-Some-clause-certain g c = c.submit.ensures.certain

@@ -5,7 +5,7 @@ use Rattle.rs_packet.specs.declared.reply.Reply.TheVariants as reply
 use Rattle.rs_session.specs.declared.reason.ReasonCode.TheVariants.{ProtocolError}
 use Rattle.rs_session.specs.declared.open.Outcome.TheVariants.{Replies, Closes, Leaves}
 use Rattle.rs_session.specs.declared.phase.Input.TheVariants.{Whole}
-use Rattle.rs_session.specs.Ahead.{IsChange}
+use Rattle.rs_session.specs.Pending.{IsChange}
 use Rattle.rs_session.specs.Points.{given_at, point_at}
 use Rattle.rs_session.specs.Table.{LeadsTo}
 use Rattle.rs_session.proofs.Rows.{unmoved, connected_twice, pinged, disconnected}
@@ -66,35 +66,35 @@ returns-in-Disconnect-clause-row g c =
     unmoved g.G.Gate.stands g.G.Gate.mark c.args.gate.now c.args.gate.now (λ seen answered list used. LeadsTo (given_at (Whole c.args.packet) c.args.now) (point_at o seen (g.G.Gate.mark c.args.gate.now)) answered Leaves (point_at o list used)) refl
     (λ list. disconnected c.args.packet c.in-Disconnect._code c.args.now (point_at o list _) c.in-Disconnect.is)
 
-pub returns-in-Connect-clause-ahead : goal.returns-in-Connect-clause-ahead
-returns-in-Connect-clause-ahead g c = by_another c.args.packet _ c.args.now (g.G.Gate.ahead c.args.gate.now) (g.G.Gate.ahead c.args.gate.now) _ c.in-Connect.is tt refl
+pub returns-in-Connect-clause-pending : goal.returns-in-Connect-clause-pending
+returns-in-Connect-clause-pending g c = by_another c.args.packet _ c.args.now (g.G.Gate.pending c.args.gate.now) (g.G.Gate.pending c.args.gate.now) _ c.in-Connect.is tt refl
 
-pub returns-in-Puback-clause-ahead : goal.returns-in-Puback-clause-ahead
-returns-in-Puback-clause-ahead g c = by_another c.args.packet _ c.args.now (g.G.Gate.ahead c.args.gate.now) (g.G.Gate.ahead c.args.gate.now) _ c.in-Puback.is tt refl
+pub returns-in-Puback-clause-pending : goal.returns-in-Puback-clause-pending
+returns-in-Puback-clause-pending g c = by_another c.args.packet _ c.args.now (g.G.Gate.pending c.args.gate.now) (g.G.Gate.pending c.args.gate.now) _ c.in-Puback.is tt refl
 
-pub returns-in-Pubrec-clause-ahead : goal.returns-in-Pubrec-clause-ahead
-returns-in-Pubrec-clause-ahead g c = by_another c.args.packet _ c.args.now (g.G.Gate.ahead c.args.gate.now) (g.G.Gate.ahead c.args.gate.now) _ c.in-Pubrec.is tt refl
+pub returns-in-Pubrec-clause-pending : goal.returns-in-Pubrec-clause-pending
+returns-in-Pubrec-clause-pending g c = by_another c.args.packet _ c.args.now (g.G.Gate.pending c.args.gate.now) (g.G.Gate.pending c.args.gate.now) _ c.in-Pubrec.is tt refl
 
-pub returns-in-Pubrel-clause-ahead : goal.returns-in-Pubrel-clause-ahead
-returns-in-Pubrel-clause-ahead g c = by_another c.args.packet _ c.args.now (g.G.Gate.ahead c.args.gate.now) (g.G.Gate.ahead c.args.gate.now) _ c.in-Pubrel.is tt refl
+pub returns-in-Pubrel-clause-pending : goal.returns-in-Pubrel-clause-pending
+returns-in-Pubrel-clause-pending g c = by_another c.args.packet _ c.args.now (g.G.Gate.pending c.args.gate.now) (g.G.Gate.pending c.args.gate.now) _ c.in-Pubrel.is tt refl
 
-pub returns-in-Pubcomp-clause-ahead : goal.returns-in-Pubcomp-clause-ahead
-returns-in-Pubcomp-clause-ahead g c = by_another c.args.packet _ c.args.now (g.G.Gate.ahead c.args.gate.now) (g.G.Gate.ahead c.args.gate.now) _ c.in-Pubcomp.is tt refl
+pub returns-in-Pubcomp-clause-pending : goal.returns-in-Pubcomp-clause-pending
+returns-in-Pubcomp-clause-pending g c = by_another c.args.packet _ c.args.now (g.G.Gate.pending c.args.gate.now) (g.G.Gate.pending c.args.gate.now) _ c.in-Pubcomp.is tt refl
 
-pub returns-in-Unsubscribe-clause-ahead : goal.returns-in-Unsubscribe-clause-ahead
-returns-in-Unsubscribe-clause-ahead g c = by_another c.args.packet _ c.args.now (g.G.Gate.ahead c.args.gate.now) (g.G.Gate.ahead c.args.gate.now) _ c.in-Unsubscribe.is tt refl
+pub returns-in-Unsubscribe-clause-pending : goal.returns-in-Unsubscribe-clause-pending
+returns-in-Unsubscribe-clause-pending g c = by_another c.args.packet _ c.args.now (g.G.Gate.pending c.args.gate.now) (g.G.Gate.pending c.args.gate.now) _ c.in-Unsubscribe.is tt refl
 
-pub returns-in-Pingreq-clause-ahead : goal.returns-in-Pingreq-clause-ahead
-returns-in-Pingreq-clause-ahead g c = by_another c.args.packet _ c.args.now (g.G.Gate.ahead c.args.gate.now) (g.G.Gate.ahead c.args.gate.now) _ c.in-Pingreq.is tt refl
+pub returns-in-Pingreq-clause-pending : goal.returns-in-Pingreq-clause-pending
+returns-in-Pingreq-clause-pending g c = by_another c.args.packet _ c.args.now (g.G.Gate.pending c.args.gate.now) (g.G.Gate.pending c.args.gate.now) _ c.in-Pingreq.is tt refl
 
-pub returns-in-Disconnect-clause-ahead : goal.returns-in-Disconnect-clause-ahead
-returns-in-Disconnect-clause-ahead g c = by_another c.args.packet _ c.args.now (g.G.Gate.ahead c.args.gate.now) (g.G.Gate.ahead c.args.gate.now) _ c.in-Disconnect.is tt refl
+pub returns-in-Disconnect-clause-pending : goal.returns-in-Disconnect-clause-pending
+returns-in-Disconnect-clause-pending g c = by_another c.args.packet _ c.args.now (g.G.Gate.pending c.args.gate.now) (g.G.Gate.pending c.args.gate.now) _ c.in-Disconnect.is tt refl
 
-pub returns-in-Subscribe-clause-ahead : goal.returns-in-Subscribe-clause-ahead
-returns-in-Subscribe-clause-ahead g c = by_another c.args.packet _ c.args.now (g.G.Gate.ahead c.args.gate.now) (g.G.Gate.ahead c.subscribe.new.gate) _ c.in-Subscribe.is tt c.subscribe.ensures.ahead
+pub returns-in-Subscribe-clause-pending : goal.returns-in-Subscribe-clause-pending
+returns-in-Subscribe-clause-pending g c = by_another c.args.packet _ c.args.now (g.G.Gate.pending c.args.gate.now) (g.G.Gate.pending c.subscribe.new.gate) _ c.in-Subscribe.is tt c.subscribe.ensures.pending
 
-pub returns-in-Publish-clause-ahead : goal.returns-in-Publish-clause-ahead
-returns-in-Publish-clause-ahead g c = by_publish c.args.packet c.in-Publish.p c.args.now (g.G.Gate.ahead c.args.gate.now) (g.G.Gate.ahead c.publish.new.gate) _ c.in-Publish.is c.publish.ensures.ahead
+pub returns-in-Publish-clause-pending : goal.returns-in-Publish-clause-pending
+returns-in-Publish-clause-pending g c = by_publish c.args.packet c.in-Publish.p c.args.now (g.G.Gate.pending c.args.gate.now) (g.G.Gate.pending c.publish.new.gate) _ c.in-Publish.is c.publish.ensures.pending
 
 pub publish-requires : goal.publish-requires
 publish-requires g c = subst (λ (p : Packet). IfSome c.args.change (λ operation. IsChange (given_at (Whole p) c.args.now) operation)) c.in-Publish.is c.requires

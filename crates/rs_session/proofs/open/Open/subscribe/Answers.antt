@@ -44,7 +44,7 @@ filters-preserved g c =
             rw (c.push_reserved.ensures.items) (grants_more _ _ _ _ _ _ _ _ _ _ so_far begins step),
           );
       mark = c.grant-code.ensures.mark ∙ c.filters.invariant.mark;
-      ahead = c.grant-code.ensures.ahead ∙ c.filters.invariant.ahead;
+      pending = c.grant-code.ensures.pending ∙ c.filters.invariant.pending;
       all = append_assoc c.filters.yielded (c.in-Some.asked ∷ []) rest ∙ (ap (λ (l : List Asked). c.filters.yielded ++ l) (sym c.in-Some.ensures.steps.0) ∙ c.filters.invariant.all);
       capacity = omega (arith, c.filters.invariant.capacity, ap (λ (l : List Asked). length l) c.in-Some.ensures.steps.0, c.push_reserved.ensures.len, c.push_reserved.ensures.capacity);
       few = omega (arith, c.filters.invariant.few, ap (λ (l : List Asked). length l) c.in-Some.ensures.steps.0, c.push_reserved.ensures.len);

@@ -17,7 +17,7 @@ invariant-filters g l = record {
       × (answered : List (List Entry)) × All (StandsAt g.G.Gate.stands g.G.Gate.mark (g.G.Gate.mark l.initial.gate)) answered
       × Grants l.now l.yielded l.subscription (point_at l.initial.self seen (g.G.Gate.mark l.initial.gate)) l.codes.items answered (point_at l.self list (g.G.Gate.mark l.gate));
   mark : g.G.Gate.mark l.gate ≡ g.G.Gate.mark l.initial.gate;
-  ahead : g.G.Gate.ahead l.gate ≡ g.G.Gate.ahead l.initial.gate;
+  pending : g.G.Gate.pending l.gate ≡ g.G.Gate.pending l.initial.gate;
   all : l.yielded ++ into_iter_items l.asked-iterator ≡ l.fn.s.filters;
   capacity : vec_len l.codes + length (into_iter_items l.asked-iterator) ≤ vec_capacity l.codes;
   few : vec_len l.codes + length (into_iter_items l.asked-iterator) ≤ MAX_PACKET_SIZE;

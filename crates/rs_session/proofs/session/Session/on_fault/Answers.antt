@@ -22,10 +22,10 @@ returns-clause-row g c = λ now.
       | in-Ended w ↦ stays g.G.Gate.stands g.G.Gate.mark (given_at (Broken c.args.fault) now) old old c.match-self.self w.self-is refl (λ list. over _ (session_at g.G.Gate.mark old list) _ _ w.in-Ended.is c.requires)
     ]
 
-pub returns-clause-ahead : goal.returns-clause-ahead
-returns-clause-ahead g c =
+pub returns-clause-pending : goal.returns-clause-pending
+returns-clause-pending g c =
     elim c.match-self.branch [
-      | in-Before w ↦ ap (λ s. g.G.Gate.ahead (gate_of s)) w.self-is ∙ ap (λ x. g.G.Gate.ahead x) w.first_fault.ensures.gate
-      | in-Open w ↦ ap (λ s. g.G.Gate.ahead (gate_of s)) w.self-is ∙ ap (λ x. g.G.Gate.ahead x) w.conclude.ensures.gate
-      | in-Ended w ↦ ap (λ s. g.G.Gate.ahead (gate_of s)) w.self-is
+      | in-Before w ↦ ap (λ s. g.G.Gate.pending (gate_of s)) w.self-is ∙ ap (λ x. g.G.Gate.pending x) w.first_fault.ensures.gate
+      | in-Open w ↦ ap (λ s. g.G.Gate.pending (gate_of s)) w.self-is ∙ ap (λ x. g.G.Gate.pending x) w.conclude.ensures.gate
+      | in-Ended w ↦ ap (λ s. g.G.Gate.pending (gate_of s)) w.self-is
     ]

@@ -4,7 +4,7 @@ use Rattle.rs_session.specs.Points.{given_at}
 use Rattle.rs_session.specs.State.{session_at, gate_of, state_of, step_of}
 use Rattle.rs_session.specs.declared.phase.Phase.{Phase}
 use Rattle.rs_session.proofs.Rows.{stays, took, over, after_same}
-use Rattle.rs_session.proofs.Expecting.{stays_ahead, took_ahead}
+use Rattle.rs_session.proofs.Expecting.{stays_pending, took_pending}
 use Rattle.rs_session.proofs.Certain.{open_before, open_ended, took_certain}
 use Rattle.rs_session.proofs.session.Session.on_packet_with.Goals as goal
 use Rattle.rs_session.proofs.session.Session.on_packet_with.Goals.{in-Before, in-Open, in-Ended}
@@ -23,16 +23,16 @@ returns-clause-row g c =
       | in-Ended w ↦ stays g.G.Gate.stands g.G.Gate.mark (given_at (Whole c.args.packet) now) old old c.match-self.self w.self-is refl (λ list. over _ (session_at g.G.Gate.mark old list) _ _ w.in-Ended.is c.requires.due)
     ]
 
-pub returns-clause-ahead : goal.returns-clause-ahead
-returns-clause-ahead g c =
+pub returns-clause-pending : goal.returns-clause-pending
+returns-clause-pending g c =
     let old = c.args.self.now in
     elim c.match-self.branch [
-      | in-Before w ↦ stays_ahead g.G.Gate.ahead g.G.Gate.mark c.args.packet c.args.now old w.first_packet.new.self c.match-self.self w.self-is w.first_packet.ensures.gate (λ p e. ap (λ (x : Phase). step_of x) (w.first_packet.ensures.early p e))
+      | in-Before w ↦ stays_pending g.G.Gate.pending g.G.Gate.mark c.args.packet c.args.now old w.first_packet.new.self c.match-self.self w.self-is w.first_packet.ensures.gate (λ p e. ap (λ (x : Phase). step_of x) (w.first_packet.ensures.early p e))
       | in-Open w ↦
-          took_ahead g.G.Gate.ahead g.G.Gate.mark (given_at (Whole c.args.packet) c.args.now) old w.conclude.new.self c.match-self.self w.handle-outcome.new.self (state_of old) w.handle-outcome.new.gate w.handle-outcome.result w.self-is w.conclude.ensures.gate
+          took_pending g.G.Gate.pending g.G.Gate.mark (given_at (Whole c.args.packet) c.args.now) old w.conclude.new.self c.match-self.self w.handle-outcome.new.self (state_of old) w.handle-outcome.new.gate w.handle-outcome.result w.self-is w.conclude.ensures.gate
           (w.conclude.ensures.state w.handle-outcome.new.self refl ∙ after_same w.handle-outcome.result _ (state_of old) w.handle-outcome.new.self refl)
-          w.handle-outcome.ensures.ahead
-      | in-Ended w ↦ stays_ahead g.G.Gate.ahead g.G.Gate.mark c.args.packet c.args.now old old c.match-self.self w.self-is refl (λ p e. ap (λ (x : Phase). step_of x) w.in-Ended.is)
+          w.handle-outcome.ensures.pending
+      | in-Ended w ↦ stays_pending g.G.Gate.pending g.G.Gate.mark c.args.packet c.args.now old old c.match-self.self w.self-is refl (λ p e. ap (λ (x : Phase). step_of x) w.in-Ended.is)
     ]
 
 pub returns-clause-certain : goal.returns-clause-certain
@@ -41,7 +41,7 @@ returns-clause-certain g c = λ p o is was.
     elim c.match-self.branch [
       | in-Before w ↦ absurd (open_before o (sym was ∙ w.in-Before.is))
       | in-Open w ↦
-          took_certain g.G.Gate.stands g.G.Gate.ahead g.G.Gate.mark old w.conclude.new.self c.match-self.self w.handle-outcome.new.self (state_of old) w.handle-outcome.new.gate w.handle-outcome.result w.self-is w.conclude.ensures.gate
+          took_certain g.G.Gate.stands g.G.Gate.pending g.G.Gate.mark old w.conclude.new.self c.match-self.self w.handle-outcome.new.self (state_of old) w.handle-outcome.new.gate w.handle-outcome.result w.self-is w.conclude.ensures.gate
           (w.conclude.ensures.state w.handle-outcome.new.self refl ∙ after_same w.handle-outcome.result _ (state_of old) w.handle-outcome.new.self refl)
           (w.handle-outcome.ensures.certain p is)
       | in-Ended w ↦ absurd (open_ended o _ (sym was ∙ w.in-Ended.is))

@@ -37,7 +37,7 @@ AreChanges (given ∷ givens) (operation ∷ operations) = IsChange given operat
 
 -- What is left of the changes that were expected once this was handled, if the first is its change: the rest; or none; or all, and
 -- then the last holds.
-abbrev pub LeavesAhead : Given → List Operation → List Operation → Type 0 → Type 0
-LeavesAhead given [] new Unused = new ≡ []
-LeavesAhead given (operation ∷ operations) new Unused =
+abbrev pub LeavesPending : Given → List Operation → List Operation → Type 0 → Type 0
+LeavesPending given [] new Unused = new ≡ []
+LeavesPending given (operation ∷ operations) new Unused =
     IsChange given operation → (new ≡ operations) ⊎ ((new ≡ []) ⊎ ((new ≡ operation ∷ operations) × Unused))
