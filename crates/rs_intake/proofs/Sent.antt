@@ -7,7 +7,7 @@ use Rattle.rs_message.proofs.entry.Origin.TheSendSync as origin
 use Rattle.rs_message.specs.contracts.entry.Origin as Origin
 use Rattle.rs_version.proofs.Sent.{writer_send}
 use Rattle.rs_version.specs.declared.history.StoreName as StoreName
-use Rattle.rs_intake.proofs.ending.Cause.TheSendSync as cause
+use Rattle.rs_intake.proofs.cause.Cause.TheSendSync as cause
 use Rattle.rs_intake.proofs.taken.Taken.TheSendSync as taken
 use Rattle.rs_intake.specs.contracts.writer.Ended as Ended
 use Rattle.rs_intake.specs.declared.name.LineName as LineName
