@@ -17,6 +17,9 @@ CRATE = re.compile(r"`(rs_\w+|rstored)[/`]")
 # A name in backticks, alone or with what it is of, as `Catalogue::apply`.
 NAME = re.compile(r"`([A-Za-z_]\w+(?:::\w+)*)`")
 WORD = re.compile(r"\w+")
+COMMENT = {".rt": re.compile("//.*"), ".antt": re.compile("--.*")}
+# A file of the repository, without its folder.
+ALONE = re.compile(r"`([\w-]+\.(?:rt|antt|py))`")
 # Names of other programs and of std, parts of names, and bytes.
 ELSEWHERE = {
     *("AF_NETLINK", "AF_UNIX", "MemoryMax", "RestartSec", "RestrictAddressFamilies", "stunnel4"),
@@ -72,18 +75,26 @@ def crate_files(page, text):
 
 
 def known_words():
-    """Each word of the sources, and the names of their files."""
-    paths = (path for pattern in SOURCES for path in ROOT.glob(pattern))
-    sources = (it for it in paths if it.is_file() and it.suffix != ".pyc")
-    texts = (f"{it.stem} {it.read_text(errors='replace')}" for it in sources)
-    return ELSEWHERE.union(*(WORD.findall(text) for text in texts))
+    """The words of each source but for its comments, with the name of its file."""
+    for path in {path for pattern in SOURCES for path in ROOT.glob(pattern)}:
+        if path.is_file() and path.suffix != ".pyc" and path != Path(__file__).resolve():
+            text = path.read_text(errors="replace")
+            code = COMMENT[path.suffix].sub("", text) if path.suffix in COMMENT else text
+            yield {path.stem, *WORD.findall(code)}
 
 
-def names(page, text, known=known_words()):
-    """Each name stands in some source."""
+def names(page, text, known=(ELSEWHERE, *known_words())):
+    """Each name stands in some source, with what it is of."""
     for name in NAME.findall(text):
-        if not known.issuperset(name.split("::")):
+        if not any(words.issuperset(name.split("::")) for words in known):
             yield f"{page} names {name}, which stands in no source"
+
+
+def alone(page, text, there=frozenset(path.name for path in ROOT.rglob("*.*"))):
+    """Each file that the page names without its folder is somewhere."""
+    for name in ALONE.findall(text):
+        if name not in there:
+            yield f"{page} names {name}, and there is no such file"
 
 
 def links(page, text):
@@ -119,7 +130,7 @@ def callers(page, text):
 def main():
     given_words()
     pages = {str(path.relative_to(ROOT)): path.read_text() for path in documents()}
-    kinds = (files, crate_files, names, links, callers)
+    kinds = (files, crate_files, names, alone, links, callers)
     wrong = [it for page, text in pages.items() for kind in kinds for it in kind(page, text)]
     for told in wrong:
         print(f"pages: {told}", file=sys.stderr)
