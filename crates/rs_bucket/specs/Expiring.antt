@@ -1,4 +1,4 @@
--- When the messages of a branch expire.
+-- When messages below a spot expire.
 use Rattle.std.specs.Prelude.{ℕ, min, List, [], ◌∷◌}
 use Rattle.rs_bucket.specs.Spots.{Spot}
 use Rattle.rs_store.specs.Expiring.{ends_at}

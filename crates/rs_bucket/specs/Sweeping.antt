@@ -1,4 +1,4 @@
--- Which messages of a branch a Sweep leaves.
+-- Which messages below a spot a Sweep leaves.
 use Rattle.std.specs.Prelude.{ℕ, Bool, not}
 use Rattle.rs_message.specs.Messages.{is_expired}
 use Rattle.rs_bucket.specs.Spots.{Spot}

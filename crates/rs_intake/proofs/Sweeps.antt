@@ -88,7 +88,7 @@ part_same entries entries' kept kept' same alike is =
     let Q : List Entry → Type 0 = λ l. IsPart (without_sweeps l) entries in
     subst P (sym same) (subst Q (sym alike) is)
 
--- what the entries serve, after one more
+-- what is kept from the entries, after one more
 abbrev pub OneMore : ℕ → List Entry → List Entry → List Entry → Type 0
 OneMore limit entries kept kept' = IsKeptFrom limit entries kept' × (length (without_sweeps kept') ≡ length (without_sweeps kept) + 1)
 

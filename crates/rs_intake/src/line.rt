@@ -344,7 +344,7 @@ impl<N: LineName> SeatLine<N> {
     ///
     /// # Errors
     ///
-    /// [`Gone`] if the writer is, and fewer came. They are dropped, and the rest holds too: no reply is left for a later submit.
+    /// [`Gone`] if the writer is, and fewer came. Those that came are dropped, and the line is handed on all the same.
     pub fn hand_on<R: Wait>(&mut self, rt: &R) -> Result<(), Gone>
         ensures place { self.new.place ≡ self.old.place }
         ensures serial { self.new.serial ≡ self.old.serial + length self.old.ahead }
@@ -352,6 +352,7 @@ impl<N: LineName> SeatLine<N> {
         ensures next { AreNext self.old.place self.old.serial self.old.ahead }
         ensures heard { (more : List ReplyValue) × (self.new.heard ≡ self.old.heard ++ self.old.came ++ more) }
         ensures waited { IfOk result (λ _. length self.old.heard + length self.old.ahead ≤ length self.new.heard) }
+        ensures fewer { IfErr result (λ _. length self.new.heard < length self.old.heard + length self.old.ahead) }
         ensures came { self.new.came ≡ [] }
         ensures none { (self.new.expected ≡ []) × (self.new.ahead ≡ []) }
     {

@@ -1,6 +1,6 @@
 //! The way back from the writer to a line.
 
-ghost use Rattle.std.specs.Prelude.{◌≡◌, ◌+◌, ◌≤◌, ◌∷◌, ◌++◌, [], List, length, IfErr, IfOk, MatchOption, MatchResult, map};
+ghost use Rattle.std.specs.Prelude.{◌≡◌, ◌+◌, ◌<◌, ◌≤◌, ◌∷◌, ◌++◌, [], List, length, IfErr, IfOk, MatchOption, MatchResult, map};
 ghost use Rattle.rs_intake.specs.Done.{ReplyValue, is_held, is_refused, refused_reply, refused_in};
 
 use crate::job::MAX_CHANGES;
@@ -303,6 +303,7 @@ impl<N: StoreName> ReplyReceiver<N> {
     pub fn wait<R: Wait>(&mut self, rt: &R) -> Result<WriterReply<N>, Gone>
         ensures heard { MatchResult result (λ reply. self.new.heard ≡ self.old.heard ++ reply ∷ []) (λ _. (self.old.came ≡ []) × (self.new.heard ≡ self.old.heard)) }
         ensures came { (more : List ReplyValue) × (self.new.heard ++ self.new.came ≡ self.old.heard ++ self.old.came ++ more) }
+        ensures none { IfErr result (λ _. self.new.came ≡ []) }
     {
         if let Some(reply) = self.take() {
             return Ok(reply);
@@ -324,14 +325,15 @@ impl<N: StoreName> ReplyReceiver<N> {
         self.came = WriterReplies::none(self.alloc);
     }
 
-    /// Takes the next replies, so many, for which it waits, and drops them.
+    /// Waits for the next `count` replies, and drops them.
     ///
     /// # Errors
     ///
-    /// [`Gone`] if the writer is, and fewer are left. They are dropped.
+    /// [`Gone`] if the writer is, and fewer are left. Those are dropped.
     fn wait_for<R: Wait>(&mut self, rt: &R, count: usize) -> Result<(), Gone>
         ensures heard { (more : List ReplyValue) × (self.new.heard ++ self.new.came ≡ self.old.heard ++ self.old.came ++ more) }
-        ensures all { IfOk result (λ _. length self.new.heard ≡ length self.old.heard + count) }
+        ensures waited { IfOk result (λ _. length self.new.heard ≡ length self.old.heard + count) }
+        ensures fewer { IfErr result (λ _. (length self.new.heard < length self.old.heard + count) × (self.new.came ≡ [])) }
     {
         for _number in 0..count {
             drop(self.wait(rt)?);
@@ -339,15 +341,16 @@ impl<N: StoreName> ReplyReceiver<N> {
         Ok(())
     }
 
-    /// Drops the next replies, so many, for which it waits, and all others that came with them.
+    /// Waits for the next `count` replies, and drops them and all others that came with them.
     ///
     /// # Errors
     ///
-    /// [`Gone`] if the writer is, and fewer are left. They are dropped.
+    /// [`Gone`] if the writer is, and fewer are left. Those are dropped.
     pub fn drop_next<R: Wait>(&mut self, rt: &R, count: usize) -> Result<(), Gone>
         ensures heard { (more : List ReplyValue) × (self.new.heard ≡ self.old.heard ++ self.old.came ++ more) }
         ensures came { self.new.came ≡ [] }
-        ensures all { IfOk result (λ _. length self.old.heard + count ≤ length self.new.heard) }
+        ensures waited { IfOk result (λ _. length self.old.heard + count ≤ length self.new.heard) }
+        ensures fewer { IfErr result (λ _. length self.new.heard < length self.old.heard + count) }
     {
         let waited = self.wait_for(rt, count);
         self.skip();

@@ -7,7 +7,7 @@ use rs_session::Gate;
 use rs_topic::TopicFilter;
 use std::alloc::AllocError;
 
-/// It stands for the empty list and for no other, and sends nothing. Its place is 1.
+/// A gate that refuses each change. It stands for the empty list and for no other, and sends nothing. Its place is 1.
 #[derive(Drop)]
 pub struct Refusing {
     /// What each change is answered.

@@ -1,5 +1,5 @@
-//! What several crates of tests share: packets as bytes, streams of which a call fails, a table of what one failing call comes to, and a
-//! gate that refuses all. It is a crate of its own so that nothing of it stands, and is proved, twice.
+//! What several crates of tests share: packets as bytes, streams of which a call fails, a table of what one failing call comes to, a gate
+//! that refuses all, and how a fault is shown. It is a crate of its own so that nothing of it stands, and is proved, twice in them.
 #![tactic(auto)]
 
 mod faults;

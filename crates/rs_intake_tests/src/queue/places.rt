@@ -153,7 +153,9 @@ fn take_step<N: LineName, R: Wait + Clock + Abort>(
             Some(())
         }
         Act::HandOn => {
-            log.misses_answers = line.hand_on(rt).is_err();
+            if line.hand_on(rt).is_err() {
+                log.misses_answers = true;
+            }
             Some(())
         }
         Act::Read(now) => {
