@@ -20,7 +20,7 @@ ghost use Rattle.rs_message.specs.declared.entry.Found.{Found};
 use crate::cleared::Cleared;
 use crate::leaf::{Leaf, answer_one};
 use crate::leaves::Leaves;
-use crate::shared::Shared;
+use crate::spot_message::SpotMessage;
 use rs_store::{Answer, Stop, is_expired, lowered};
 use rs_topic::compare_rests;
 use std::alloc::{AllocError, Global};
@@ -32,7 +32,7 @@ use std::sync::Arc;
 #[derive(Drop)]
 enum Messages {
     /// One message, which needs no block of its own, and the byte at which the rest of its topic begins.
-    One(u32, Shared),
+    One(u32, SpotMessage),
     /// More of them, which are changed in place while the bucket is their only owner, and copied otherwise.
     More(Arc<Leaves>),
 }
@@ -54,7 +54,7 @@ impl Model for Bucket {
 }
 
 /// The rest of a topic is that of a message.
-fn is_same(topic: &[u8], at: usize, found: &Shared, from: u32) -> bool
+fn is_same(topic: &[u8], at: usize, found: &SpotMessage, from: u32) -> bool
     ensures { result ≡ is_there (levels_from at topic.now) (spot_of from found.now ∷ []) }
 {
     match compare_rests(topic, at, found.topic(), from as usize) {
@@ -83,7 +83,7 @@ fn clear_in(
 
 impl Bucket {
     /// The bucket of one message.
-    pub fn new(alloc: Global, found: Shared, at: usize) -> Result<Bucket, AllocError>
+    pub fn new(alloc: Global, found: SpotMessage, at: usize) -> Result<Bucket, AllocError>
         ensures { IfOk result (λ b. b ≡ spot_of at found ∷ []) }
     {
         match u32::try_from(at) {
@@ -173,7 +173,7 @@ impl Bucket {
     }
 
     /// Sets the message at the rest of its topic, and returns whether there was one. If memory is refused, nothing changes.
-    pub fn set(&mut self, alloc: Global, found: Shared, at: usize) -> Result<bool, AllocError>
+    pub fn set(&mut self, alloc: Global, found: SpotMessage, at: usize) -> Result<bool, AllocError>
         ensures done { OnOk result (self.new ≡ insert_entry path_cmp self.old (levels_from at found.topic) found) }
         ensures existed { IfOk result (λ was. was ≡ is_there (levels_from at found.topic) self.old) }
         ensures refused { OnErr result (self.new ≡ self.old) }

@@ -2,7 +2,7 @@
 
 ghost use Rattle.std.specs.Prelude.{◌≡◌, ◌≤◌, [], length, take, IfOk, IfSome};
 
-use crate::shared::Shared;
+use crate::spot_message::SpotMessage;
 use std::alloc::{AllocError, Global};
 use std::marker::Model;
 use std::sync::Arc;
@@ -15,7 +15,7 @@ enum LabelText {
     /// So many of these bytes.
     Short(u8, [u8; SHORT]),
     /// So many bytes of a message's topic, from this one on.
-    Part(u16, u32, Shared),
+    Part(u16, u32, SpotMessage),
     /// More bytes, which are shared.
     Long(Arc<Vec<u8>>),
 }
@@ -52,7 +52,7 @@ fn padded(level: &[u8]) -> [u8; SHORT]
 }
 
 /// A level of more bytes as a part of a topic, if it stands there at this byte.
-fn part(level: &[u8], found: &Shared, at: usize) -> Result<Option<Label>, AllocError>
+fn part(level: &[u8], found: &SpotMessage, at: usize) -> Result<Option<Label>, AllocError>
     ensures { IfOk result (λ o. IfSome o (λ l. l ≡ level.now)) }
 {
     let topic = found.topic();
@@ -81,7 +81,7 @@ impl Label {
     pub fn from_topic(
         alloc: Global,
         level: &[u8],
-        found: &Shared,
+        found: &SpotMessage,
         at: usize,
     ) -> Result<Label, AllocError>
         ensures { IfOk result (λ l. l ≡ level.now) }
@@ -118,6 +118,7 @@ impl Label {
         }
     }
 
+    /// The bytes of the level.
     pub fn as_slice(&self) -> &[u8]
         ensures { result.now ≡ self.now }
     {

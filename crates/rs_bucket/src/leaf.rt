@@ -8,7 +8,7 @@ ghost use Rattle.rs_topic.specs.Rests.{levels_from};
 ghost use Rattle.rs_bucket.specs.Spots.{spot_of};
 
 use crate::chain::behind;
-use crate::shared::Shared;
+use crate::spot_message::SpotMessage;
 use rs_store::{Answer, Stop, is_expired};
 use rs_topic::{compare_rests, level_at, levels_fit};
 use std::alloc::AllocError;
@@ -17,14 +17,14 @@ use std::cmp::Ordering;
 /// A message below a spot, however many levels are left of its topic.
 #[derive(Drop)]
 pub struct Leaf {
-    pub found: Shared,
+    pub found: SpotMessage,
     /// The byte at which the rest of the topic begins.
     pub at: usize,
 }
 
 /// Appends a copy of a message if the filter fits the rest of its topic and it is not expired.
 pub(crate) fn answer_one(
-    found: &Shared,
+    found: &SpotMessage,
     from: usize,
     filter: &[u8],
     at: usize,

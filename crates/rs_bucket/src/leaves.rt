@@ -20,7 +20,7 @@ ghost use Rattle.rs_store.specs.declared.limit.TheConstants.{MAX_TOPICS};
 use crate::chain::shared_levels;
 use crate::cleared::Cleared;
 use crate::leaf::Leaf;
-use crate::shared::Shared;
+use crate::spot_message::SpotMessage;
 use rs_store::{Answer, Stop, is_expired, lowered};
 use std::alloc::{AllocError, Global};
 use std::cmp::Ordering;
@@ -156,7 +156,7 @@ impl Leaves {
     }
 
     /// One message.
-    pub(crate) fn one(alloc: Global, found: Shared, at: usize) -> Result<Leaves, AllocError>
+    pub(crate) fn one(alloc: Global, found: SpotMessage, at: usize) -> Result<Leaves, AllocError>
         ensures { IfOk result (λ b. b ≡ spot_of at found ∷ []) }
     {
         let mut leaves = Leaves::new(alloc);
@@ -164,6 +164,7 @@ impl Leaves {
         Ok(leaves)
     }
 
+    /// The messages, in the order of replay.
     pub fn as_slice(&self) -> &[Leaf]
         ensures same { spots_in result.now ≡ self.now }
         ensures sorted { IsStrictlySortedBy path_cmp (keys_of self.now) }
@@ -193,7 +194,7 @@ impl Leaves {
     }
 
     /// Sets the message at the rest of its topic, and returns whether there was one. If memory is refused, nothing changes.
-    pub(crate) fn set(&mut self, found: Shared, at: usize) -> Result<bool, AllocError>
+    pub(crate) fn set(&mut self, found: SpotMessage, at: usize) -> Result<bool, AllocError>
         ensures done { OnOk result (self.new ≡ insert_entry path_cmp self.old (levels_from at found.topic) found) }
         ensures existed { IfOk result (λ was. was ≡ is_there (levels_from at found.topic) self.old) }
         ensures refused { OnErr result (self.new ≡ self.old) }

@@ -18,7 +18,7 @@ mod label;
 mod leaf;
 mod leaves;
 mod retained;
-mod shared;
+mod spot_message;
 
 pub use bucket::Bucket;
 pub use chain::{SharedLevels, behind, joined, past, shared_levels};
@@ -27,4 +27,4 @@ pub use label::Label;
 pub use leaf::Leaf;
 pub use leaves::Leaves;
 pub use retained::{answer_retained, retained_again};
-pub use shared::Shared;
+pub use spot_message::SpotMessage;

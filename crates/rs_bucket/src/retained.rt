@@ -4,12 +4,16 @@ ghost use Rattle.std.specs.Prelude.{◌≡◌, IfOk};
 ghost use Rattle.rs_bucket.specs.Chosen.{own_chosen};
 ghost use Rattle.rs_bucket.specs.Answers.{Gives};
 
-use crate::shared::Shared;
+use crate::spot_message::SpotMessage;
 use rs_store::{Answer, Stop, is_expired};
 use std::alloc::AllocError;
 
 /// Appends a copy of the message of one spot, unless it is expired.
-pub fn answer_retained(retained: &Option<Shared>, now: u64, answer: &mut Answer) -> Result<(), Stop>
+pub fn answer_retained(
+    retained: &Option<SpotMessage>,
+    now: u64,
+    answer: &mut Answer,
+) -> Result<(), Stop>
     ensures { Gives result answer.old answer.new (own_chosen now retained.now) }
 {
     let Some(found) = retained else {
@@ -22,7 +26,7 @@ pub fn answer_retained(retained: &Option<Shared>, now: u64, answer: &mut Answer)
 }
 
 /// One more owner of the message of one spot, if there is one.
-pub fn retained_again(retained: &Option<Shared>) -> Result<Option<Shared>, AllocError>
+pub fn retained_again(retained: &Option<SpotMessage>) -> Result<Option<SpotMessage>, AllocError>
     ensures { IfOk result (λ h. h ≡ retained.now) }
 {
     match retained {

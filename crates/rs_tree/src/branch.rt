@@ -20,7 +20,7 @@ mod set;
 mod sweep;
 
 pub use remains::Remains;
-use rs_bucket::{Bucket, Label, Shared, retained_again};
+use rs_bucket::{Bucket, Label, SpotMessage, retained_again};
 use std::alloc::{AllocError, Global};
 use std::cmp::Ordering;
 use std::marker::Model;
@@ -30,7 +30,7 @@ use std::sync::Arc;
 #[cycle(tree)]
 #[derive(Drop)]
 pub struct Branch {
-    retained: Option<Shared>,
+    retained: Option<SpotMessage>,
     children: Vec<Child>,
 }
 
@@ -43,6 +43,7 @@ pub struct Child {
     below: Below,
 }
 
+/// The messages of a child.
 #[cycle(tree)]
 #[derive(Drop)]
 pub enum Below {
@@ -100,6 +101,7 @@ impl Model for Branch {
 }
 
 impl Branch {
+    /// No messages.
     pub fn new(alloc: Global) -> Branch
         ensures { result.spots ≡ [] }
     {

@@ -14,7 +14,7 @@ ghost use Rattle.rs_store.specs.declared.limit.TheConstants.{MAX_TOPICS};
 ghost use Rattle.rs_store.specs.Room.{IsStop};
 
 use crate::branch::{Branch, Remains};
-use rs_bucket::{Cleared, Shared};
+use rs_bucket::{Cleared, SpotMessage};
 use rs_message::Found;
 use rs_store::{Answer, Stop};
 use std::alloc::{AllocError, Global};
@@ -38,6 +38,7 @@ impl Model for Root {
 }
 
 impl Root {
+    /// No messages.
     pub fn new(alloc: Global) -> Result<Root, AllocError>
         ensures { IfOk result (λ r. r ≡ []) }
     {
@@ -70,8 +71,8 @@ impl Root {
         ensures existed { IfOk result (λ was. was ≡ is_there (levels_from 0 found.topic) self.old) }
         ensures refused { OnErr result (self.new ≡ self.old) }
     {
-        let shared = Shared::new(found);
-        let done = Branch::set_in(&mut self.branch, alloc, shared, 0);
+        let message = SpotMessage::new(found);
+        let done = Branch::set_in(&mut self.branch, alloc, message, 0);
         self.fold(alloc);
         done
     }

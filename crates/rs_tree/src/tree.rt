@@ -183,7 +183,7 @@ fn answers(
     let mut answer = Answer::new(alloc, room);
     match root.answer(filter.as_bytes(), now, &mut answer) {
         Ok(()) => Ok(Some(answer.into_found())),
-        Err(Stop::Full) => Ok(None),
+        Err(Stop::NoRoom) => Ok(None),
         Err(Stop::NoMemory) => Err(AllocError),
     }
 }

@@ -7,7 +7,7 @@ ghost use Rattle.rs_tree.specs.Nodes.{stem_spots};
 ghost use Rattle.rs_tree.specs.Chunks.{AreHalves, IsChunk, IsFrom, parts};
 
 use super::{Below, Branch, Child, Stem, copies, insert_at};
-use rs_bucket::{Bucket, Label, Shared};
+use rs_bucket::{Bucket, Label, SpotMessage};
 use std::alloc::{AllocError, Global};
 use std::sync::Arc;
 
@@ -49,7 +49,12 @@ fn halves(alloc: Global, level: Label, children: &[Child]) -> Result<(Child, Chi
 
 impl Child {
     /// One message below a level.
-    pub fn new(alloc: Global, level: Label, found: Shared, at: usize) -> Result<Child, AllocError>
+    pub fn new(
+        alloc: Global,
+        level: Label,
+        found: SpotMessage,
+        at: usize,
+    ) -> Result<Child, AllocError>
         ensures level { IfOk result (λ c. c.level ≡ level) }
         ensures spots { IfOk result (λ c. c.spots ≡ under level (spot_of at found ∷ [])) }
     {

@@ -9,7 +9,7 @@ ghost use Rattle.rs_tree.specs.Nodes.{stem_spots};
 ghost use Rattle.rs_tree.specs.Chunks.{Leads};
 
 use super::{Below, Branch, Child, Stem, index_of};
-use rs_bucket::{Cleared, Shared, behind};
+use rs_bucket::{Cleared, SpotMessage, behind};
 use rs_topic::level_at;
 use std::alloc::{AllocError, Global};
 use std::sync::Arc;
@@ -76,7 +76,7 @@ impl Stem {
 }
 
 /// There is one child, and no message beside it.
-fn is_lone(retained: &Option<Shared>, children: &[Child]) -> bool
+fn is_lone(retained: &Option<SpotMessage>, children: &[Child]) -> bool
     ensures lone { IsTrue result → (is_some retained.now ≡ false) × (length children.now ≡ 1) }
     ensures more { result ≡ false → is_some retained.now ≡ false → length children.now ≡ 1 → ⊥ }
 {

@@ -11,7 +11,7 @@ ghost use Rattle.rs_tree.specs.Nodes.{stem_spots};
 ghost use Rattle.rs_tree.specs.Chunks.{IsChunk, parts};
 
 use super::{Below, Branch, Child, Stem, copies};
-use rs_bucket::{Label, Shared, behind, joined};
+use rs_bucket::{Label, SpotMessage, behind, joined};
 use rs_topic::{is_level, level_at};
 use std::alloc::{AllocError, Global};
 use std::sync::Arc;
@@ -21,7 +21,7 @@ fn lone(
     alloc: Global,
     level: &Label,
     chain: &[u8],
-    found: &Shared,
+    found: &SpotMessage,
 ) -> Result<Option<Child>, AllocError>
     ensures level { IfOk result (λ o. IfSome o (λ c. c.level ≡ level.now)) }
     ensures spots { IfOk result (λ o. IfSome o (λ c. c.spots ≡ under level.now (under_all (levels_from 1 chain.now) (([], found.now) ∷ [])))) }

@@ -6,10 +6,10 @@ ghost use Rattle.rs_store.specs.declared.limit.TheConstants.{MAX_TOPICS};
 ghost use Rattle.rs_tree.specs.Chunks.{parts};
 
 use super::{Below, Branch, Child};
-use rs_bucket::Shared;
+use rs_bucket::SpotMessage;
 
 /// The number of messages of one spot.
-fn retained_len(retained: &Option<Shared>) -> usize
+fn retained_len(retained: &Option<SpotMessage>) -> usize
     ensures { result ≡ length (own retained.now) }
 {
     match retained {

@@ -16,6 +16,7 @@ pub struct Remains {
 }
 
 impl Remains {
+    /// Nothing.
     pub fn none(alloc: Global) -> Remains {
         Remains {
             nodes: Vec::new(alloc),

@@ -11,7 +11,7 @@ ghost use Rattle.rs_tree.specs.Chunks.{Leads};
 
 use super::chunks::single;
 use super::{Below, Branch, Child, Stem, index_of, insert_at};
-use rs_bucket::{Bucket, Label, Leaves, Shared, behind, shared_levels};
+use rs_bucket::{Bucket, Label, Leaves, SpotMessage, behind, shared_levels};
 use rs_topic::level_at;
 use std::alloc::{AllocError, Global};
 use std::sync::Arc;
@@ -38,7 +38,7 @@ fn renewed(
     alloc: Global,
     level: &Label,
     bucket: &Bucket,
-    found: &Shared,
+    found: &SpotMessage,
     at: usize,
     next: usize,
 ) -> Result<Label, AllocError>
@@ -55,7 +55,7 @@ impl Child {
     fn hold(
         &mut self,
         alloc: Global,
-        found: Shared,
+        found: SpotMessage,
         at: usize,
         next: usize,
     ) -> Result<bool, AllocError>
@@ -101,7 +101,7 @@ impl Child {
     fn set(
         &mut self,
         alloc: Global,
-        found: Shared,
+        found: SpotMessage,
         at: usize,
         next: usize,
     ) -> Result<bool, AllocError>
@@ -160,7 +160,12 @@ impl Stem {
     }
 
     /// Sets a message whose topic leaves the chain. If memory is refused, nothing changes.
-    fn set_beside(&mut self, alloc: Global, found: Shared, at: usize) -> Result<bool, AllocError>
+    fn set_beside(
+        &mut self,
+        alloc: Global,
+        found: SpotMessage,
+        at: usize,
+    ) -> Result<bool, AllocError>
         requires { IsFull self.old.branch.spots }
         ensures done { OnOk result (stem_spots self.new ≡ insert_entry path_cmp (stem_spots self.old) (levels_from at found.topic) found) }
         ensures existed { IfOk result (λ was. was ≡ is_there (levels_from at found.topic) (stem_spots self.old)) }
@@ -173,7 +178,7 @@ impl Stem {
 
     /// Sets the message at the rest of its topic, and returns whether there was one. If memory is refused, nothing changes.
     #[cycle(set)]
-    fn set_here(&mut self, alloc: Global, found: Shared, at: usize) -> Result<bool, AllocError>
+    fn set_here(&mut self, alloc: Global, found: SpotMessage, at: usize) -> Result<bool, AllocError>
         requires { IsFull self.old.branch.spots }
         ensures done { OnOk result (stem_spots self.new ≡ insert_entry path_cmp (stem_spots self.old) (levels_from at found.topic) found) }
         ensures existed { IfOk result (λ was. was ≡ is_there (levels_from at found.topic) (stem_spots self.old)) }
@@ -192,7 +197,7 @@ impl Stem {
     fn set(
         this: &mut Arc<Stem>,
         alloc: Global,
-        found: Shared,
+        found: SpotMessage,
         at: usize,
     ) -> Result<bool, AllocError>
         requires { IsFull (arc_value this.old).branch.spots }
@@ -213,7 +218,7 @@ impl Stem {
 impl Branch {
     /// Sets a message in a branch whose children are buckets, and returns whether there was one. If memory is refused, nothing
     /// changes.
-    fn hold(&mut self, alloc: Global, found: Shared, at: usize) -> Result<bool, AllocError>
+    fn hold(&mut self, alloc: Global, found: SpotMessage, at: usize) -> Result<bool, AllocError>
         ensures done { OnOk result (self.new.spots ≡ insert_entry path_cmp self.old.spots (levels_from at found.topic) found) }
         ensures existed { IfOk result (λ was. was ≡ is_there (levels_from at found.topic) self.old.spots) }
         ensures refused { OnErr result (self.new.spots ≡ self.old.spots) }
@@ -236,7 +241,7 @@ impl Branch {
 
     /// Sets the message at the rest of its topic, and returns whether there was one. If memory is refused, nothing changes.
     #[cycle(set)]
-    pub fn set(&mut self, alloc: Global, found: Shared, at: usize) -> Result<bool, AllocError>
+    pub fn set(&mut self, alloc: Global, found: SpotMessage, at: usize) -> Result<bool, AllocError>
         ensures done { OnOk result (self.new.spots ≡ insert_entry path_cmp self.old.spots (levels_from at found.topic) found) }
         ensures existed { IfOk result (λ was. was ≡ is_there (levels_from at found.topic) self.old.spots) }
         ensures refused { OnErr result (self.new.spots ≡ self.old.spots) }
@@ -266,7 +271,7 @@ impl Branch {
     pub fn set_in(
         this: &mut Arc<Branch>,
         alloc: Global,
-        found: Shared,
+        found: SpotMessage,
         at: usize,
     ) -> Result<bool, AllocError>
         ensures done { OnOk result ((arc_value this.new).spots ≡ insert_entry path_cmp (arc_value this.old).spots (levels_from at found.topic) found) }

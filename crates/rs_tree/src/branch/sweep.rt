@@ -9,7 +9,7 @@ ghost use Rattle.rs_tree.specs.Rests.{IsBranchRest, IsRest, IsRestOf};
 ghost use Rattle.rs_tree.specs.Chunks.{IsChunk, Notes};
 
 use super::{Below, Branch, Child, Stem, copies};
-use rs_bucket::Shared;
+use rs_bucket::SpotMessage;
 use rs_store::is_expired;
 use std::alloc::{AllocError, Global};
 use std::sync::Arc;
@@ -26,10 +26,10 @@ enum Rest {
 
 /// The message of one spot, unless it is expired, and notes if it goes.
 fn retained_swept(
-    retained: &Option<Shared>,
+    retained: &Option<SpotMessage>,
     moment: u64,
     goes: &mut bool,
-) -> Result<Option<Shared>, AllocError>
+) -> Result<Option<SpotMessage>, AllocError>
     ensures left { IfOk result (λ h. own h ≡ filter (spot_stays moment) (own retained.now)) }
     ensures noted { OnOk result (Notes moment (own retained.now) goes.old goes.new) }
 {

@@ -8,11 +8,11 @@ use std::marker::Model;
 
 /// A topic and its message. Contracts see them as they are.
 #[derive(Drop)]
-pub struct Shared {
+pub struct SpotMessage {
     found: Found,
 }
 
-impl Model for Shared {
+impl Model for SpotMessage {
     ghost use Rattle.rs_message.specs.declared.entry.Found.{Found};
 
     ghost Value = { Found };
@@ -20,11 +20,12 @@ impl Model for Shared {
     ghost view = { λ s. s.found };
 }
 
-impl Shared {
-    pub fn new(found: Found) -> Shared
+impl SpotMessage {
+    /// The message of a topic.
+    pub fn new(found: Found) -> SpotMessage
         ensures { result ≡ found }
     {
-        Shared { found }
+        SpotMessage { found }
     }
 
     pub(crate) fn get(&self) -> &Found
@@ -40,6 +41,7 @@ impl Shared {
         self.found.topic().as_bytes()
     }
 
+    /// The message.
     pub fn message(&self) -> &Message
         ensures { result.now ≡ self.now.message }
     {
@@ -47,10 +49,10 @@ impl Shared {
     }
 
     /// One more owner of the same. The error says that the count of owners is full.
-    pub fn again(&self) -> Result<Shared, AllocError>
+    pub fn again(&self) -> Result<SpotMessage, AllocError>
         ensures { IfOk result (λ s. s ≡ self.now) }
     {
-        Ok(Shared {
+        Ok(SpotMessage {
             found: self.found.copy()?,
         })
     }
