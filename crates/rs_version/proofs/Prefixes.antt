@@ -1,5 +1,5 @@
 -- Prefixes of one list.
-use Rattle.std.proofs.Common.{◌≡◌, ℕ, zero, suc, ◌≤◌, List, [], ◌∷◌, ◌++◌, length, Some, slice_get, refl, ap, sym, ◌∙◌, arith, append_assoc, length-append}
+use Rattle.std.proofs.Common.{◌≡◌, ℕ, zero, suc, ◌≤◌, List, [], ◌∷◌, ◌++◌, length, Some, slice_get, refl, ap, sym, subst, ◌∙◌, arith, append_assoc, length-append}
 use mathlib.Core.List.{IsPrefix}
 
 -- each list is a prefix of itself
@@ -37,3 +37,9 @@ prefix_get [] ys k x p h = absurd cc
 prefix_get (y ∷ xs) [] k x p h = absurd (cc (p.1))
 prefix_get (y ∷ xs) (z ∷ ys) zero x p h = cc (p.1, h)
 prefix_get (y ∷ xs) (z ∷ ys) (suc k) x p h = prefix_get xs ys k x (p.0, cc (p.1)) h
+
+-- two prefixes of a list that is no longer than the first: the second is a prefix of the first
+pub prefix_of_whole : {A : Type 0} (own other seen all : List A) → IsPrefix own seen → IsPrefix other seen → IsPrefix seen all → length all ≤ length own → IsPrefix other own
+prefix_of_whole {A} own other seen all p q r few =
+    let P : List A → Type 0 = λ l. IsPrefix other l in
+    subst P (sym (prefix_whole own all (prefix_trans own seen all p r) few)) (prefix_trans other seen all q r)

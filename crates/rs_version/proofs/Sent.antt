@@ -23,9 +23,9 @@ use Rattle.rs_store.proofs.limit.TopicLimit.TheSendSync as limit
 use Rattle.rs_store.specs.contracts.content.Content as Content
 use Rattle.rs_tree.proofs.Sent.{tree_send, tree_sync}
 use Rattle.rs_version.proofs.catalogue_copy.CopyStep.TheSendSync as step
-use Rattle.rs_version.proofs.named.HistoryWord.TheSendSync as word
 use Rattle.rs_version.proofs.named.NamedList.TheSendSync as list
-use Rattle.rs_version.proofs.named.NewHistory.TheSendSync as history
+use Rattle.rs_version.proofs.named.NewHistory.TheSendSync as new_history
+use Rattle.rs_version.proofs.named.WholeHistory.TheSendSync as whole
 use Rattle.rs_version.proofs.prefix.Prefix.TheSendSync as prefix
 use Rattle.rs_version.specs.contracts.blank.Blank as Blank
 use Rattle.rs_version.specs.contracts.blank.Blank.TheInside as InBlank
@@ -83,13 +83,10 @@ module _ (N : RattleType) (g : StoreName.Ghosts N.Denot) where
           (
             copies_send,
             (
-              word.the_field_send N g,
+              whole.the_send N g,
               (
-                list.the_send N g,
-                (
-                  calm.the_send,
-                  (option.the_field_send Entry.the_row entry.the_send, tt),
-                ),
+                calm.the_send,
+                (option.the_field_send Entry.the_row entry.the_send, tt),
               ),
             ),
           ),
@@ -109,7 +106,7 @@ pub blank_send : IsSend Blank.the_row
 blank_send = view_send InBlank.the_row _ _ _ _
     (recorded_send InBlank.the_field.row _ _ InBlank.the_type.to_one (struct_send (shape InBlank.the_type) (
       heap.the_field_send,
-      (history.the_field_send, (limit.the_send, (count.the_send, (tree_send, (tree_send, tt))))),
+      (new_history.the_field_send, (limit.the_send, (count.the_send, (tree_send, (tree_send, tt))))),
     )))
 
 all_rows : (Ts : List RattleType) → AllSend Ts → AllSend (rows (parts Ts))

@@ -11,7 +11,7 @@ use crate::catalogue::StoreCatalogue;
 use crate::catalogue_copy::CatalogueCopy;
 use crate::copies::{CopyWriter, inform, publish_once};
 use crate::history::StoreName;
-use crate::named::{HistoryWord, NamedList, NewHistory};
+use crate::named::{NamedList, NewHistory, WholeHistory};
 use crate::seat::Seat;
 use crate::writer::VersionWriter;
 use left_right::writer::Writer;
@@ -114,9 +114,10 @@ impl Blank {
     {
         let first = StoreCatalogue::new(alloc, limit)?;
         let second = first.copy()?;
+        let new_history = NewHistory::new().ok_or(AllocError)?;
         Ok(Blank {
             alloc,
-            new_history: NewHistory::new(),
+            new_history,
             limit,
             places,
             first,
@@ -148,7 +149,11 @@ impl Blank {
             first,
             second,
         } = self;
-        let NewHistory { word, prefix } = new_history;
+        let NewHistory {
+            word,
+            right,
+            prefix,
+        } = new_history;
         let places = places.get();
         let first = CatalogueCopy {
             catalogue: first,
@@ -163,7 +168,7 @@ impl Blank {
         let list: NamedList<N> = NamedList::new(prefix);
         match seats(alloc, &mut writer, &list, places) {
             Ok(seats) => Ok((
-                VersionWriter::over(rt, writer, HistoryWord::new(word), list),
+                VersionWriter::over(rt, writer, WholeHistory::new(list, word, right)),
                 seats,
             )),
             Err(_) => {

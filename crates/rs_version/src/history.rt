@@ -1,4 +1,5 @@
-//! The history of a store: the list of its entries, which exists only in proofs. At run time there is only its length, one counter.
+//! The history of a store: the list of its entries, which exists only in proofs. At run time there is only one counter, of the rights to
+//! add an entry.
 
 use logbook::{Gain, Plain, Play, Rule};
 use rs_message::Entry;
@@ -23,15 +24,18 @@ impl StoreName for Brand {
     ghost limit = { 0 };
 }
 
-/// The rule of the word: it is the length of the history.
-pub struct LengthRule;
+/// The rule of the history: who has the right to add an entry, and did not use it, knows that the history has no such entry yet.
+///
+/// A right is a word of the logbook that is not brought home. Its key says which entry it adds. There is one right for each key, and it
+/// is used up by the step that adds the entry.
+pub struct RightsRule;
 
-impl Rule<Entry, u64> for LengthRule {
+impl Rule<Entry, u64> for RightsRule {
     ghost use Rattle.std.specs.Prelude.{[]};
     ghost use base.Fml.{ftrue};
-    ghost use Rattle.rs_version.specs.HistoryRule.{IsLength};
+    ghost use Rattle.rs_version.specs.HistoryRule.{AreRights};
 
-    ghost holds = { λ cells log. IsLength cells log };
+    ghost holds = { λ cells log. AreRights cells log };
 
     ghost first = { [] };
 
@@ -53,7 +57,26 @@ impl Gain<Entry, u64> for NoGain {
     ghost after = { λ names about answer. ftrue };
 }
 
-/// The step that adds an entry.
+/// The step that makes the next right.
+pub struct MakesRight;
+
+impl Play<Entry, u64> for MakesRight {
+    ghost use Rattle.rs_version.specs.HistoryRule.{MakesNext};
+
+    ghost then = { MakesNext };
+}
+
+/// That step asks for no entry.
+impl Plain<u64, Entry, u64> for MakesRight {
+    ghost use Rattle.std.specs.Prelude.{None};
+    ghost use Rattle.rs_version.specs.HistoryRule.{no_entry};
+
+    ghost ask = { λ number. no_entry };
+
+    ghost state = { λ number. None };
+}
+
+/// The step that adds an entry, and uses the right up.
 pub struct AddsEntry;
 
 impl Play<Entry, u64> for AddsEntry {
@@ -69,4 +92,23 @@ impl Plain<Entry, Entry, u64> for AddsEntry {
     ghost ask = { λ entry. entry };
 
     ghost state = { λ entry. None };
+}
+
+/// The step that changes nothing. Whoever has the next right sees by it that the history is not longer.
+pub struct SeesWhole;
+
+impl Play<Entry, u64> for SeesWhole {
+    ghost use Rattle.rs_version.specs.HistoryRule.{SeesAll};
+
+    ghost then = { SeesAll };
+}
+
+/// That step asks for no entry.
+impl Plain<u64, Entry, u64> for SeesWhole {
+    ghost use Rattle.std.specs.Prelude.{None};
+    ghost use Rattle.rs_version.specs.HistoryRule.{no_entry};
+
+    ghost ask = { λ number. no_entry };
+
+    ghost state = { λ number. None };
 }

@@ -2,7 +2,8 @@
 //!
 //! The history of a store is the list of its entries. It exists only in proofs. [`VersionWriter::put`] adds one entry to it
 //! and publishes the list with that entry, a version. If only a Sweep makes space for the entry, the Sweep is added and published
-//! first. [`Seat::answer`] answers from a version whose list has the list that the seat knows as a prefix. A token ([`Told`])
+//! first. [`Seat::answer`] answers from a version whose list has the list that the seat knows as a prefix; [`Seat::read`] gives that
+//! version ([`Version`]), to be asked without the seat. A token ([`Told`])
 //! names a published list; a seat that learned it ([`Seat::learn`]) never reads less from then on. A [`Receipt`] says at which
 //! number of the list an entry is. A type that implements [`StoreName`] ties the writer, the seats and the tokens of one store
 //! together, and [`Blank::open`] makes them.
@@ -27,6 +28,7 @@ mod prefix;
 mod receipt;
 mod rule;
 mod seat;
+mod version;
 mod writer;
 
 pub use blank::Blank;
@@ -35,4 +37,5 @@ pub use history::StoreName;
 pub use law::origin_law;
 pub use receipt::{Receipt, Told};
 pub use seat::{Seat, Snapshot};
+pub use version::Version;
 pub use writer::VersionWriter;

@@ -1,53 +1,39 @@
-//! Prefixes of the history of a named store, which the writer, the seats and the tokens know.
-ghost use Rattle.std.specs.Prelude.{◌≡◌, [], length, IfSome, MatchBool};
+//! Prefixes of the history of a named store, which the seats and the tokens know, and the whole of it, which the writer has.
+ghost use Rattle.std.specs.Prelude.{◌≡◌, [], length, MatchBool, MatchResult};
 ghost use mathlib.Core.List.{IsPrefix};
 ghost use Rattle.rs_store.specs.History.{IsLegal, extended};
-ghost use Rattle.rs_version.specs.HistoryRule.{word_of};
+ghost use Rattle.rs_version.specs.HistoryRule.{right_of, word_of};
 
-use crate::history::{LengthRule, StoreName};
-use crate::prefix::Prefix;
-use logbook::{Seen, Start, Word};
+use crate::history::{RightsRule, StoreName};
+use crate::prefix::{Prefix, right_to_add};
+use logbook::{Pen, Seen, Start, Word};
 use rs_message::Entry;
+use std::alloc::AllocError;
 use std::marker::{Model, PhantomData};
 
-/// A new history, which is empty and has no name yet.
+/// A new history, which is empty and has no name yet, and the right to add its first entry.
 #[derive(Drop)]
 pub struct NewHistory {
-    pub word: Word<Entry, u64, LengthRule>,
+    pub word: Word<Entry, u64, RightsRule>,
+    pub right: Pen,
     pub prefix: Prefix,
     ghost empty: { prefix.log ≡ [] },
     ghost word_is: { word ≡ word_of prefix.history },
+    ghost right_is: { (right.book ≡ prefix.history) × (right.nib ≡ right_of 0) },
 }
 
 impl NewHistory {
-    /// The history has two words, of which this crate uses the first.
-    pub fn new() -> NewHistory {
+    /// The history has two words, of which this crate uses the first. Never `None`: no right was made before. The rule of the word cannot
+    /// express that.
+    pub fn new() -> Option<NewHistory> {
         let (seen, mut first, _second) = Seen::open(Start::alone(), 0, 0);
         let word = Word::tracked(0, &mut first);
-        NewHistory {
+        let right = right_to_add(&seen, &word, 0)?;
+        Some(NewHistory {
             word,
+            right,
             prefix: Prefix::empty(seen),
-        }
-    }
-}
-
-/// The word of the history of a named store.
-#[derive(Drop)]
-pub struct HistoryWord<N: StoreName> {
-    word: Word<Entry, u64, LengthRule>,
-    of: PhantomData<N>,
-    ghost word_is: { word ≡ word_of N.history },
-}
-
-impl<N: StoreName> HistoryWord<N> {
-    /// Gives the word the name.
-    pub fn new(word: Word<Entry, u64, LengthRule>) -> HistoryWord<N>
-        requires { word ≡ word_of N.history }
-    {
-        HistoryWord {
-            word,
-            of: PhantomData,
-        }
+        })
     }
 }
 
@@ -114,16 +100,78 @@ impl<N: StoreName> NamedList<N> {
     {
         self.prefix.reaches(&other.prefix)
     }
+}
 
-    /// The list with one more entry, which it adds to the history. `None` if the history is longer than this list.
-    pub fn followed(&self, history_word: &HistoryWord<N>, entry: &Entry) -> Option<NamedList<N>>
-        requires { IsLegal N.limit (extended self.now entry.now) }
-        ensures { IfSome result (λ f. f ≡ extended self.now entry.now) }
+/// The whole history of a named store, and the right to add to it. Contracts see it as its entries.
+///
+/// There is one of a store, since there is one right.
+#[derive(Drop)]
+pub struct WholeHistory<N: StoreName> {
+    list: NamedList<N>,
+    word: Word<Entry, u64, RightsRule>,
+    right: Pen,
+}
+
+impl<N: StoreName> Model for WholeHistory<N> {
+    ghost use Rattle.std.specs.Prelude.{◌≡◌, List, length};
+    ghost use Rattle.rs_message.specs.declared.entry.Entry.{Entry};
+    ghost use Rattle.rs_version.specs.HistoryRule.{right_of, word_of};
+
+    ghost Value = { List Entry };
+
+    ghost view = { λ h. h.list };
+
+    ghost invariant = { λ h. (h.word ≡ word_of N.history) × (h.right.book ≡ N.history) × (h.right.nib ≡ right_of (length h.list)) };
+}
+
+impl<N: StoreName> WholeHistory<N> {
+    /// The list, with the right to add the entry behind it.
+    pub fn new(
+        list: NamedList<N>,
+        word: Word<Entry, u64, RightsRule>,
+        right: Pen,
+    ) -> WholeHistory<N>
+        requires word { word ≡ word_of N.history }
+        requires right { (right.book ≡ N.history) × (right.nib ≡ right_of (length list)) }
+        ensures { result ≡ list }
     {
-        let prefix = self.prefix.followed(&history_word.word, entry)?;
-        Some(NamedList {
-            prefix,
-            of: PhantomData,
-        })
+        WholeHistory { list, word, right }
+    }
+
+    /// The list.
+    pub fn list(&self) -> NamedList<N>
+        ensures { result ≡ self.now }
+    {
+        self.list.again()
+    }
+
+    /// Adds an entry.
+    ///
+    /// # Errors
+    ///
+    /// [`AllocError`] if the next right is for another entry. Never: there is one word that counts the rights, and it is here. The rule of
+    /// the word cannot express that.
+    pub fn add(&mut self, entry: &Entry) -> Result<(), AllocError>
+        requires { IsLegal N.limit (extended self.old entry.now) }
+        ensures { MatchResult result (λ _. self.new ≡ extended self.old entry.now) (λ _. self.new ≡ self.old) }
+    {
+        let prefix = self.list.prefix();
+        let Some(longer) = prefix.followed(&self.word, &mut self.right, entry) else {
+            return Err(AllocError);
+        };
+        self.list = NamedList::new(longer);
+        Ok(())
+    }
+
+    /// Says that another list of the store is a prefix of the history. It compares nothing.
+    pub fn covers(&mut self, other: &NamedList<N>)
+        ensures prefix { IsPrefix other.now self.old }
+        ensures legal { IsLegal N.limit self.old }
+        ensures same { self.new ≡ self.old }
+    {
+        // For the proof: this call says that the list is legal.
+        let _version = self.list.version();
+        let prefix = self.list.prefix();
+        prefix.covers(&self.word, &mut self.right, &other.prefix);
     }
 }

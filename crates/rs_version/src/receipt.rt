@@ -10,9 +10,9 @@ use crate::named::NamedList;
 use rs_message::Entry;
 use std::marker::Model;
 
-/// A token of a list that was published. Contracts see it as the list.
+/// A token of a list that the history has reached. Contracts see it as the list. The writer makes tokens of published lists alone.
 ///
-/// It holds no entry, only a proof that the list was published and its length.
+/// It holds no entry, only a proof that the history has reached the list, and its length.
 #[derive(Drop)]
 pub struct Told<N: StoreName> {
     pub(crate) list: NamedList<N>,

@@ -4,17 +4,17 @@ ghost use Rattle.std.specs.Prelude.{◌≡◌, ◌⊎◌, length, IfOk, IfSome, 
 ghost use Rattle.std.specs.Option.{option_map};
 ghost use mathlib.Core.List.{IsPrefix};
 ghost use Rattle.left_right.specs.Sides.{view};
-ghost use Rattle.rs_store.specs.History.{IsAnswer, IsAnswerWithin, IsLegal, Stands};
+ghost use Rattle.rs_store.specs.History.{IsAnswer, IsAnswerWithin, IsLegal};
 ghost use Rattle.rs_version.specs.Catalogues.{content_of};
 ghost use Rattle.rs_version.specs.VersionRule.{Names, IsSound};
 
-use crate::catalogue::StoreCatalogue;
 use crate::catalogue_copy::CatalogueCopy;
 use crate::copies::CopyReader;
 use crate::history::StoreName;
 use crate::named::NamedList;
 use crate::receipt::Told;
 use crate::rule::Sees;
+use crate::version::Version;
 use rs_message::Found;
 use rs_store::Catalogue;
 use rs_topic::TopicFilter;
@@ -52,18 +52,17 @@ impl<N: StoreName> Model for Seat<N> {
     ghost invariant = { λ s. MatchOption s.reader (Unit {0}) (λ r. Names N.history N.limit (known_by r.place)) };
 }
 
-/// The list that the published copy is of, and its catalogue with one more owner. An error if this list is shorter than the known
+/// The version that the published copy is of, with one more owner of its catalogue. An error if its list is shorter than the known
 /// one.
 fn take_from<N: StoreName>(
     published: &CatalogueCopy,
     known: &NamedList<N>,
-) -> Result<(NamedList<N>, StoreCatalogue), AllocError>
+) -> Result<Version<N>, AllocError>
     requires sound { IsSound published.now }
     requires history { published.now.prefix.history ≡ N.history }
     requires limit { (content_of published.now.catalogue).limit ≡ N.limit }
-    ensures later { IfOk result (λ r. IsPrefix known.now r.0) }
-    ensures legal { IfOk result (λ r. IsLegal N.limit r.0) }
-    ensures stands { IfOk result (λ r. Stands (content_of r.1) r.0) }
+    ensures later { IfOk result (λ v. IsPrefix known.now v) }
+    ensures legal { IfOk result (λ v. IsLegal N.limit v) }
 {
     let list: NamedList<N> = NamedList::new(published.prefix.again());
     // Never: a publish is no shorter than what was published before. The rule of the published copy says so of what was read,
@@ -71,42 +70,38 @@ fn take_from<N: StoreName>(
     if !list.reaches(known) {
         return Err(AllocError);
     }
-    Ok((list, published.catalogue.copy()?))
+    Ok(Version::new(list, published.catalogue.copy()?))
 }
 
-/// What the catalogue of this list answers.
+/// What the version answers, with its number of entries.
 fn look<N: StoreName>(
-    list: &NamedList<N>,
-    catalogue: &StoreCatalogue,
+    version: &Version<N>,
     filter: &TopicFilter,
     now: u64,
 ) -> Result<Snapshot, AllocError>
-    requires { Stands (content_of catalogue.now) list.now }
-    ensures version { IfOk result (λ s. s.version ≡ length list.now) }
-    ensures found { IfOk result (λ s. IsAnswer list.now filter.now now s.found.items) }
+    ensures version { IfOk result (λ s. s.version ≡ length version.now) }
+    ensures found { IfOk result (λ s. IsAnswer version.now filter.now now s.found.items) }
 {
-    let found = catalogue.answer(filter, now)?;
+    let found = version.answer(filter, now)?;
     Ok(Snapshot {
-        version: list.version(),
+        version: version.len(),
         found,
     })
 }
 
 /// The same if there are at most `room` messages, else no snapshot.
 fn look_within<N: StoreName>(
-    list: &NamedList<N>,
-    catalogue: &StoreCatalogue,
+    version: &Version<N>,
     filter: &TopicFilter,
     now: u64,
     room: usize,
 ) -> Result<Option<Snapshot>, AllocError>
-    requires { Stands (content_of catalogue.now) list.now }
-    ensures version { IfOk result (λ answer. IfSome answer (λ s. s.version ≡ length list.now)) }
-    ensures found { IfOk result (λ answer. IsAnswerWithin room list.now filter.now now (option_map (λ s. s.found.items) answer)) }
+    ensures version { IfOk result (λ answer. IfSome answer (λ s. s.version ≡ length version.now)) }
+    ensures found { IfOk result (λ answer. IsAnswerWithin room version.now filter.now now (option_map (λ s. s.found.items) answer)) }
 {
-    match catalogue.answer_within(filter, now, room)? {
+    match version.answer_within(filter, now, room)? {
         Some(found) => Ok(Some(Snapshot {
-            version: list.version(),
+            version: version.len(),
             found,
         })),
         None => Ok(None),
@@ -158,13 +153,12 @@ impl<N: StoreName> Seat<N> {
         }
     }
 
-    /// Takes the list and the catalogue out of the published copy. The seat is inside of it for as long as a count takes, so a
-    /// publish does not wait for a walk.
-    fn take(&mut self) -> Result<(NamedList<N>, StoreCatalogue), AllocError>
+    /// Takes the version out of the published copy. The seat is inside of it for as long as a count takes, so a publish does not
+    /// wait for a walk.
+    fn take(&mut self) -> Result<Version<N>, AllocError>
         ensures same { self.new ≡ self.old }
-        ensures later { IfOk result (λ r. IsPrefix self.old r.0) }
-        ensures legal { IfOk result (λ r. IsLegal N.limit r.0) }
-        ensures stands { IfOk result (λ r. Stands (content_of r.1) r.0) }
+        ensures later { IfOk result (λ v. IsPrefix self.old v) }
+        ensures legal { IfOk result (λ v. IsLegal N.limit v) }
     {
         let Some(reader) = self.reader.take() else {
             return Err(AllocError);
@@ -182,6 +176,30 @@ impl<N: StoreName> Seat<N> {
         }
     }
 
+    /// Makes the known list that of the version.
+    fn know(&mut self, version: &Version<N>)
+        ensures { self.new ≡ version.now }
+    {
+        self.known = version.list.again();
+    }
+
+    /// The version that is published now. The seat knows its list from then on. It waits for nobody, and no answer is made yet, so
+    /// whoever shares the seat has it only for as long as a count takes.
+    ///
+    /// # Errors
+    ///
+    /// [`AllocError`] if memory is refused, or the writer has ended. The known list is as before.
+    pub fn read(&mut self) -> Result<Version<N>, AllocError>
+        ensures later { IsPrefix self.old self.new }
+        ensures refused { OnErr result (self.new ≡ self.old) }
+        ensures version { IfOk result (λ v. v ≡ self.new) }
+        ensures legal { OnOk result (IsLegal N.limit self.new) }
+    {
+        let version = self.take()?;
+        self.know(&version);
+        Ok(version)
+    }
+
     /// Takes the catalogue out of the published copy, and answers from it: copies of the messages that the filter matches and that
     /// have not expired at `now`, in seconds, in the order of replay (3.8.4). It waits for nobody.
     ///
@@ -195,9 +213,9 @@ impl<N: StoreName> Seat<N> {
         ensures legal { OnOk result (IsLegal N.limit self.new) }
         ensures found { IfOk result (λ s. IsAnswer self.new filter.now now s.found.items) }
     {
-        let (list, catalogue) = self.take()?;
-        let snapshot = look(&list, &catalogue, filter, now)?;
-        self.known = list;
+        let version = self.take()?;
+        let snapshot = look(&version, filter, now)?;
+        self.know(&version);
         Ok(snapshot)
     }
 
@@ -218,9 +236,9 @@ impl<N: StoreName> Seat<N> {
         ensures legal { OnOk result (IsLegal N.limit self.new) }
         ensures found { IfOk result (λ answer. IsAnswerWithin room self.new filter.now now (option_map (λ s. s.found.items) answer)) }
     {
-        let (list, catalogue) = self.take()?;
-        let answer = look_within(&list, &catalogue, filter, now, room)?;
-        self.known = list;
+        let version = self.take()?;
+        let answer = look_within(&version, filter, now, room)?;
+        self.know(&version);
         Ok(answer)
     }
 }

@@ -2,6 +2,7 @@
 
 ghost use Rattle.std.specs.Prelude.{◌≡◌, ◌≢◌, ◌⊎◌, false, List, [], length, drop, Some, None, MatchOption, MatchResult, IfOk, IfErr, IfNone, IfSome, OnErr, OnOk, OnSome};
 ghost use Rattle.std.specs.Option.{option_map};
+ghost use mathlib.Core.List.{IsPrefix};
 ghost use Rattle.rs_message.specs.Messages.{is_sweep};
 ghost use Rattle.rs_store.specs.Adding.{Adds};
 ghost use Rattle.rs_store.specs.Contents.{empty};
@@ -17,7 +18,7 @@ use crate::catalogue_copy::CopyStep;
 use crate::copies::{Copies, CopyWriter};
 use crate::fault::PutFault;
 use crate::history::StoreName;
-use crate::named::{HistoryWord, NamedList};
+use crate::named::{NamedList, WholeHistory};
 use crate::receipt::{Receipt, Told};
 use rs_message::{Entry, Origin};
 use rs_store::{Calm, Refusal, judge};
@@ -33,9 +34,8 @@ use std::sync::Wait;
 pub struct VersionWriter<N: StoreName, R: Wait + Drop> {
     rt: R,
     copies: Copies,
-    history_word: HistoryWord<N>,
-    // The kept list.
-    list: NamedList<N>,
+    // The kept list, which is the whole history.
+    history: WholeHistory<N>,
     // Of the catalogue that the kept list makes. Entries are judged by it, on the published copy.
     calm: Calm,
     held: Option<Entry>,
@@ -49,7 +49,7 @@ impl<N: StoreName, R: Wait + Drop> Model for VersionWriter<N, R> {
 
     ghost view = { λ w. record { published = (shown w.copies).prefix.log; held = w.held } };
 
-    ghost invariant = { λ w. IsWriting N.history N.limit w.copies w.list w.calm w.held };
+    ghost invariant = { λ w. IsWriting N.history N.limit w.copies w.history w.calm w.held };
 }
 
 /// Whether the entry may come next, or after which Sweep.
@@ -72,25 +72,22 @@ fn judge_on(
     }
 }
 
-/// Adds an entry to the history: its step, and the list with it. Its copy is made first, so a refusal leaves the history as it was.
+/// Adds an entry to the history, and gives its step. Its copy is made first, so a refusal leaves the history as it was.
 fn next_step<N: StoreName>(
-    list: &NamedList<N>,
-    history_word: &HistoryWord<N>,
+    history: &mut WholeHistory<N>,
     entry: &Entry,
-) -> Result<(CopyStep, NamedList<N>), AllocError>
-    requires { IsLegal N.limit (extended list.now entry.now) }
-    ensures step { IfOk result (λ r. (r.0.entry ≡ entry.now) × (r.0.after.history ≡ N.history) × (r.0.after.log ≡ r.1)) }
-    ensures list { IfOk result (λ r. r.1 ≡ extended list.now entry.now) }
+) -> Result<CopyStep, AllocError>
+    requires { IsLegal N.limit (extended history.old entry.now) }
+    ensures step { IfOk result (λ s. (s.entry ≡ entry.now) × (s.after.history ≡ N.history) × (s.after.log ≡ history.new)) }
+    ensures history { MatchResult result (λ _. history.new ≡ extended history.old entry.now) (λ _. history.new ≡ history.old) }
 {
     let copy = entry.copy()?;
-    let Some(list) = list.followed(history_word, entry) else {
-        return Err(AllocError);
-    };
-    let step = CopyStep {
+    history.add(entry)?;
+    let list = history.list();
+    Ok(CopyStep {
         entry: copy,
         after: list.prefix(),
-    };
-    Ok((step, list))
+    })
 }
 
 impl<N: StoreName, R: Wait + Drop> Drop for VersionWriter<N, R> {
@@ -98,8 +95,7 @@ impl<N: StoreName, R: Wait + Drop> Drop for VersionWriter<N, R> {
         let VersionWriter {
             rt,
             copies,
-            history_word: _word,
-            list: _list,
+            history: _history,
             calm: _calm,
             held: _held,
         } = self;
@@ -109,14 +105,9 @@ impl<N: StoreName, R: Wait + Drop> Drop for VersionWriter<N, R> {
 
 impl<N: StoreName, R: Wait + Drop> VersionWriter<N, R> {
     /// Over copies without entries.
-    pub(crate) fn over(
-        rt: R,
-        writer: CopyWriter,
-        history_word: HistoryWord<N>,
-        list: NamedList<N>,
-    ) -> VersionWriter<N, R>
+    pub(crate) fn over(rt: R, writer: CopyWriter, history: WholeHistory<N>) -> VersionWriter<N, R>
         requires steps { drop writer.behind writer.log.items ≡ [] }
-        requires history { (writer.desk.shown.value.prefix.history ≡ N.history) × (list ≡ []) × (writer.desk.shown.value.prefix.log ≡ []) }
+        requires history { (writer.desk.shown.value.prefix.history ≡ N.history) × (history ≡ []) × (writer.desk.shown.value.prefix.log ≡ []) }
         requires content { content_of writer.desk.shown.value.catalogue ≡ empty N.limit }
         ensures { result ≡ record { published = []; held = None } }
     {
@@ -126,8 +117,7 @@ impl<N: StoreName, R: Wait + Drop> VersionWriter<N, R> {
                 writer,
                 waiting: None,
             },
-            history_word,
-            list,
+            history,
             calm: Calm::new(),
             held: None,
         }
@@ -164,9 +154,8 @@ impl<N: StoreName, R: Wait + Drop> VersionWriter<N, R> {
         // For the proof: these calls say which places and serials an origin may have.
         let (_place, _serial) = (entry.origin.place(), entry.origin.serial());
         let calm = self.calm.after(&entry);
-        let (step, list) = next_step(&self.list, &self.history_word, &entry)?;
+        let step = next_step(&mut self.history, &entry)?;
         self.copies.push(step);
-        self.list = list;
         self.calm = calm;
         self.held = Some(entry);
         Ok(())
@@ -273,6 +262,16 @@ impl<N: StoreName, R: Wait + Drop> VersionWriter<N, R> {
         Told {
             list: NamedList::new(self.copies.published()),
         }
+    }
+
+    /// Says that the token's list is a prefix of the kept list. It compares nothing: the writer alone has the right to add to the history, and
+    /// keeps all of it, and each token is of a prefix of it.
+    pub fn covers(&mut self, told: &Told<N>)
+        ensures prefix { IsPrefix told.now (kept_of self.old) }
+        ensures legal { IsLegal N.limit (kept_of self.old) }
+        ensures same { self.new ≡ self.old }
+    {
+        self.history.covers(&told.list);
     }
 
     /// The origin of the held entry.

@@ -1,4 +1,5 @@
 use Rattle.std.proofs.Common.{length, sym, ap, ◌∙◌}
+use Rattle.rs_version.specs.HistoryRule.{right_of}
 use Rattle.rs_version.proofs.HistoryRule.{adds_moves}
 use Rattle.rs_version.proofs.prefix.Prefix.followed.Goals as goal
 
@@ -7,11 +8,12 @@ compare_exchange-found-requires c =
     let h = c.requires.word in
     let seen = c.again-seen.ensures in
     let offer = c.plain-offer.ensures in
-    let pen = c.no_pen-pen.ensures in
-    let book = ap (λ s. s.book) seen ∙ (ap (λ b. b.history) c.self.view_is ∙ sym (ap (λ w. w.book) h)) in (
+    let same = ap (λ b. b.history) c.self.view_is ∙ sym (ap (λ w. w.book) h) in
+    let own = ap (λ s. s.log) seen ∙ ap (λ b. b.log) c.self.view_is in
+    let nib = c.requires.right.1 ∙ sym (ap (λ l. right_of (length l)) own) in (
       ap (λ w. w.tracked) h,
-      book,
-      pen.0 ∙ book,
+      ap (λ s. s.book) seen ∙ same,
+      c.requires.right.0 ∙ sym (ap (λ w. w.book) h),
       offer.0,
-      rw (ap (λ w. w.key) h, pen.1, offer.1, offer.3) (adds_moves c.again-seen.result.log c.args.entry.now c.self.inside.version (ap (λ s. length s.log) seen ∙ sym c.self.invariant)),
+      rw (ap (λ w. w.key) h, nib, offer.1, offer.3) (adds_moves c.again-seen.result.log c.args.entry.now),
     )
