@@ -1,5 +1,5 @@
 -- What was done with the entries that the writer took, one after the other.
-use Rattle.std.proofs.Common.{◌≡◌, ℕ, zero, suc, ◌+◌, Bool, true, false, cond, All, ◌<◌, ◌≤◌, ◌||◌, List, [], ◌∷◌, ◌++◌, length, map, inl, inr, refl, sym, ap, subst, ◌∙◌, append_assoc, length-append, zero-add, Result, Ok, Err, OnOk, IfOk, IfErr, arith}
+use Rattle.std.proofs.Common.{◌≡◌, ℕ, zero, suc, ◌+◌, Bool, true, false, cond, All, ◌<◌, ◌≤◌, ◌||◌, List, [], ◌∷◌, ◌++◌, length, replicate, map, inl, inr, refl, sym, ap, subst, ◌∙◌, append_assoc, length-append, zero-add, Ok, Err, OnOk, IfOk, IfErr, arith}
 use Rattle.std.specs.List.{AllByRecursion, filter}
 use Rattle.std.proofs.lemmas.List.{append-nil}
 use Rattle.std.proofs.lemmas.List.Elements.{filter-append}
@@ -10,12 +10,12 @@ use Rattle.rs_store.specs.History.{SerialsRise, cleaned, extended}
 use Rattle.rs_version.specs.Writer.{Refuses, Written, kept_of, shows}
 use Rattle.rs_version.specs.declared.fault.PutFault.TheVariants.{Full, Held, NoMemory, Stale}
 use Rattle.rs_intake.specs.Changes.{AreOf, AreOfOneJob, ArePlain, place_of_all}
-use Rattle.rs_intake.specs.Done.{Answer, AreAnswered, AreDone, AreRefusedBehind, AreReplied, IsAnswered, IsDone, IsPut, IsWritten, ReplyValue, has_held, is_held, is_refused, not_refused, refused_reply, refused_in, replies_to}
+use Rattle.rs_intake.specs.Done.{Answer, AreAnswered, AreDone, AreRefusedBehind, AreReplied, IsAnswered, IsDone, IsPut, AreTold, IsWritten, ReplyValue, Told, has_held, is_held, is_refused, not_refused, refused_reply, refused_in, replies_to, untold}
 use Rattle.rs_intake.specs.Parts.{IsPart}
-use Rattle.rs_intake.specs.declared.waiting.Gone.{Gone}
-use Rattle.rs_intake.specs.Sending.{AreToPut, ArePut, AreSent, AreSentNext}
+use Rattle.rs_intake.specs.Sending.{AreSentTo, AreToPut, ArePut}
 use Rattle.rs_intake.specs.Sweeps.{AreForEntries, IsKeptFrom, IsSweptAtMost, without_sweeps}
-use Rattle.rs_intake.proofs.Parts.{part_front, part_rises}
+use Rattle.rs_intake.proofs.Parts.{all_append, part_front, part_rises}
+use Rattle.rs_intake.proofs.Telling.{told_more, told_none}
 use Rattle.rs_intake.proofs.Sweeps.{entry_rises, adds_kept, held_kept, no_memory_kept, kept_from_entry, kept_from_refused, kept_from_start, released_kept, without_cleaned, without_more}
 
 -- ---- a put
@@ -115,26 +115,6 @@ without_all limit kept (e ∷ entries) (a ∷ answers) kept' plain are =
     go true = refl
     go false = refl
 
--- the entries of one job more
-pub written_all : (limit : ℕ) (entries entries' kept more : List Entry) (answers : List Answer) (kept' : List Entry) → entries' ≡ entries ++ more → ArePlain more
-    → IsWritten limit entries kept → AreDone limit kept more answers kept' → IsWritten limit entries' kept'
-written_all limit entries entries' kept more answers kept' all plain w are =
-    let P : List Entry → Type 0 = λ l. IsWritten limit l kept' in
-    subst P (sym all) (
-    record {
-      answers = w.answers ++ answers;
-      done = done_append limit [] entries w.answers kept more answers kept' w.done are;
-      changes = without_all limit kept more answers kept' plain are
-          ∙ (ap (λ l. l ++ not_refused more answers) w.changes ∙ sym (not_refused_append limit [] entries w.answers kept more answers w.done));
-    }
-    )
-
-pub written_same : (limit : ℕ) (entries entries' kept kept' : List Entry) → entries' ≡ entries → kept' ≡ kept → IsWritten limit entries kept → IsWritten limit entries' kept'
-written_same limit entries entries' kept kept' same alike w =
-    let P : List Entry → Type 0 = λ l. IsWritten limit l kept' in
-    let Q : List Entry → Type 0 = λ l. IsWritten limit entries l in
-    subst P (sym same) (subst Q (sym alike) w)
-
 -- ---- what follows for the kept list
 
 -- the list is what is kept of the entries, and what is kept of them and what is refused are all
@@ -219,10 +199,6 @@ or_false false = refl
 has_held_append : (answers behind : List Answer) → has_held (answers ++ behind) ≡ (has_held answers || has_held behind)
 has_held_append [] behind = refl
 has_held_append (a ∷ answers) behind = ap (λ b. is_held a || b) (has_held_append answers behind) ∙ or_assoc (is_held a) (has_held answers) (has_held behind)
-
-all_append : {A : Type 0} (P : A → Type 0) (xs ys : List A) → AllByRecursion P xs → AllByRecursion P ys → AllByRecursion P (xs ++ ys)
-all_append P [] ys all more = more
-all_append P (x ∷ xs) ys all more = (all.0, all_append P xs ys all.1 more)
 
 -- the answer is that memory was refused
 abbrev IsNoMemory : Answer → Type 0
@@ -402,40 +378,64 @@ all_put limit w changes replies refused held rest w' none p =
     let P : List Entry → Type 0 = λ l. AreReplied limit w l replies refused w' in
     subst P (sym same) p.replied
 
--- ---- what is sent
+-- ---- the writer's loop
 
--- what was told so far, once these replies were to be sent behind the others
-pub sent_more : (replies sent more : List ReplyValue) (before after : Result (Unit {0}) Gone) (first told told' : List ReplyValue) → told ≡ first ++ sent → AreSent replies sent before → AreSentNext before told more after told' → 0 < length more
-    → (sent' : List ReplyValue) × (told' ≡ first ++ sent') × AreSent (replies ++ more) sent' after
-sent_more replies sent more (Ok x) (Ok y) first told told' is all next some = (sent ++ more, next ∙ (ap (λ l. l ++ more) is ∙ append_assoc first sent more), ap (λ l. l ++ more) all)
-sent_more replies sent more (Ok x) (Err gone) first told told' is all next some = (sent, next ∙ is, (more, some, ap (λ l. l ++ more) (sym all)))
-sent_more replies sent more (Err g) (Err gone) first told told' is all next some =
-    let n = length-append all.0 more in
-    (sent, next ∙ is, (all.0 ++ more, omega (arith, n, some), ap (λ l. l ++ more) all.2 ∙ append_assoc sent all.0 more))
-sent_more replies sent more (Err g) (Ok y) first told told' is all next some = absurd next
-
--- what the writer's loop knows of what it took, kept and refused
-pub record AreTold (limit : ℕ) (entries kept : List Entry) (taken refused : ℕ) : Type 0 where
+-- what the loop knows of what it took, kept, refused and told
+pub record IsUnderWay (limit places : ℕ) (entries kept : List Entry) (ways : List Told) (taken refused : ℕ) : Type 0 where
   pub kept_from : IsKeptFrom limit entries kept
   pub number : taken ≡ length entries
   pub sum : length (without_sweeps kept) + refused ≡ taken
-  pub written : IsWritten limit entries kept
+  pub written : IsWritten limit places entries kept ways
+
+-- nothing was taken
+pub none_taken : (limit places : ℕ) (entries kept : List Entry) (ways : List Told) → entries ≡ [] → kept ≡ [] → ways ≡ replicate places untold → IsUnderWay limit places entries kept ways 0 0
+none_taken limit places entries kept ways none empty new =
+    let P : List Entry → Type 0 = λ l. IsUnderWay limit places l kept ways 0 0 in
+    let Q : List Entry → Type 0 = λ l. IsUnderWay limit places [] l ways 0 0 in
+    subst P (sym none) (subst Q (sym empty) (
+    record {
+      kept_from = kept_from_start limit [] [] refl refl;
+      number = refl;
+      sum = refl;
+      written = record { answers = []; done = refl; changes = refl; told = told_none places ways new };
+    }
+    ))
 
 -- the same once it has put the changes of one job more
-pub told_more : (limit : ℕ) (entries entries' changes : List Entry) (replies : List ReplyValue) (w w' : Written) (taken refused count : ℕ) → entries' ≡ entries ++ changes → ArePlain changes
-    → AreTold limit entries (kept_of w) taken refused → AreReplied limit w changes replies count w' → AreTold limit entries' (kept_of w') (taken + length changes) (refused + count)
-told_more limit entries entries' changes replies w w' taken refused count more plain t r =
-    let all = all_kept_from limit entries changes r.answers (kept_of w) (kept_of w') t.kept_from (all_plain changes plain) r.done in
-    let P : List Entry → Type 0 = λ l. IsKeptFrom limit l (kept_of w') in
+pub one_more : (limit places : ℕ) (entries entries' changes : List Entry) (replies : List ReplyValue) (w w' : Written) (ways ways' : List Told) (taken refused count : ℕ) → entries' ≡ entries ++ changes
+    → AreOfOneJob changes → place_of_all changes ≤ places → IsUnderWay limit places entries (kept_of w) ways taken refused → AreReplied limit w changes replies count w'
+    → AreSentTo (place_of_all changes) ways replies ways' → IsUnderWay limit places entries' (kept_of w') ways' (taken + length changes) (refused + count)
+one_more limit places entries entries' changes replies w w' ways ways' taken refused count more are few u r to =
+    let written = u.written in
+    let all = all_kept_from limit entries changes r.answers (kept_of w) (kept_of w') u.kept_from (all_plain changes are.plain) r.done in
+    let S : List ReplyValue → Type 0 = λ l. AreSentTo (place_of_all changes) ways l ways' in
+    let told = told_more places (place_of_all changes) (replies_to entries written.answers) changes r.answers ways ways' are.above few are.place written.told (subst S r.replies_are to) in
+    let T : List ReplyValue → Type 0 = λ l. AreTold places l ways' in
+    let P : List Entry → Type 0 = λ l. IsUnderWay limit places l (kept_of w') ways' (taken + length changes) (refused + count) in
     let n = length-append entries changes in
-    let m = ap length more in
-    let number = t.number in
-    let sum = t.sum in
+    let number = u.number in
+    let sum = u.sum in
     let rest = all.1 in
     let refusals = r.refused_are in
+    subst P (sym more) (
     record {
-      kept_from = subst P (sym more) all.0;
-      number = omega (arith, n, m, number);
+      kept_from = all.0;
+      number = omega (arith, n, number);
       sum = omega (arith, sum, rest, refusals);
-      written = written_all limit entries entries' (kept_of w) changes r.answers (kept_of w') more plain t.written r.done;
+      written = record {
+        answers = written.answers ++ r.answers;
+        done = done_append limit [] entries written.answers (kept_of w) changes r.answers (kept_of w') written.done r.done;
+        changes = without_all limit (kept_of w) changes r.answers (kept_of w') are.plain r.done
+            ∙ (ap (λ l. l ++ not_refused changes r.answers) written.changes ∙ sym (not_refused_append limit [] entries written.answers (kept_of w) changes r.answers written.done));
+        told = subst T (sym (replies_append limit [] entries written.answers (kept_of w) changes r.answers written.done)) told;
+      };
     }
+    )
+
+-- what is left of the ways back tells the same
+pub written_same : (limit places : ℕ) (entries entries' kept kept' : List Entry) (ways ways' : List Told) → entries' ≡ entries → kept' ≡ kept → ways' ≡ ways → IsWritten limit places entries kept ways → IsWritten limit places entries' kept' ways'
+written_same limit places entries entries' kept kept' ways ways' same alike told w =
+    let P : List Entry → Type 0 = λ l. IsWritten limit places l kept' ways' in
+    let Q : List Entry → Type 0 = λ l. IsWritten limit places entries l ways' in
+    let R : List Told → Type 0 = λ l. IsWritten limit places entries kept l in
+    subst P (sym same) (subst Q (sym alike) (subst R (sym told) w))

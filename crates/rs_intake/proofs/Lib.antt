@@ -9,3 +9,4 @@ pub mod Sent
 pub mod Sweeps
 pub mod Done
 pub mod Causes
+pub mod Telling

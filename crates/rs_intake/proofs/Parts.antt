@@ -70,3 +70,8 @@ part_rises xs ys p rises place = sorted_part (serials_of place xs) (serials_of p
 pub rises_none : SerialsRise []
 unfolding IsStrictlySortedBy
 rises_none place = tt
+
+-- what holds of each of two lists
+pub all_append : {A : Type 0} (P : A → Type 0) (xs ys : List A) → AllByRecursion P xs → AllByRecursion P ys → AllByRecursion P (xs ++ ys)
+all_append P [] ys all more = more
+all_append P (x ∷ xs) ys all more = (all.0, all_append P xs ys all.1 more)

@@ -17,18 +17,19 @@ use Rattle.rs_intake.specs.declared.rule.PassView.{PassView}
 use Rattle.rs_intake.specs.declared.rule.SentFrom.{SentFrom}
 use Rattle.rs_intake.specs.declared.job.Job.{Job}
 use Rattle.rs_intake.specs.declared.job.Job.TheVariants.{Put, End}
-use Rattle.rs_intake.proofs.Parts.{part_front, part_rises, rises_none}
+use Rattle.rs_intake.proofs.Parts.{all_append, part_front, part_rises, rises_none}
 use Rattle.rs_intake.specs.Changes.{AreOf}
+use Rattle.rs_intake.specs.Lines.{AreOfLine}
 use Rattle.rs_intake.specs.QueueRule.{AreAbove, AreEnds, AreLast, AreWhole, Balances, Closes, ClosesLine, ClosesTaker, Delivers, FitsLine, FitsTaker, IsAbove, IsOf, IsOutside, IsPlaced, Keeps, Sends, SumsUp, Takes, at_place, end_of, ends_of, entries_in, entries_of, job_more, new_line, of_place, one_line_less, one_line_more, spent, taker}
 
 pub clash : {b : Bool} → b ≡ false → b ≡ true → ⊥
 clash p q = cc (p, q)
 
-then_is : {A : Type 0} (b : Bool) (x y : A) → b ≡ true → cond b x y ≡ x
+pub then_is : {A : Type 0} (b : Bool) (x y : A) → b ≡ true → cond b x y ≡ x
 then_is true x y is = refl
 then_is false x y is = absurd (cc (is))
 
-else_is : {A : Type 0} (b : Bool) (x y : A) → b ≡ false → cond b x y ≡ y
+pub else_is : {A : Type 0} (b : Bool) (x y : A) → b ≡ false → cond b x y ≡ y
 else_is true x y is = absurd (cc (is))
 else_is false x y is = refl
 
@@ -137,6 +138,19 @@ rises_all from (e ∷ es) known entries of above mine rises =
     let more : of_place from (entries ++ e ∷ []) ≡ known ++ e ∷ [] = of_place-append from entries (e ∷ []) ∙ (ap (λ l. l ++ of_place from (e ∷ [])) mine ∙ ap (λ l. known ++ l) (of_place-here from e of.0)) in
     let P : List Entry → Type 0 = λ l. SerialsRise l in
     subst P (append_assoc entries (e ∷ []) es) (rises_all from es (known ++ e ∷ []) (entries ++ e ∷ []) of.1 above.1 more one)
+
+-- a line has sent nothing
+pub line_none : (place : ℕ) (sent : List Entry) → sent ≡ [] → AreOfLine place sent
+line_none place sent empty =
+    let P : List Entry → Type 0 = λ l. AreOfLine place l in
+    subst P (sym empty) (record { of_place = tt; rise = rises_none })
+
+-- a line sends one job more
+pub line_more : (place : ℕ) (sent es : List Entry) → AreOf place es → AreAbove sent es → AreOfLine place sent → AreOfLine place (sent ++ es)
+line_more place sent es of above line = record {
+  of_place = all_append (λ (e : Entry). e.origin.place ≡ place) sent es line.of_place of;
+  rise = rises_all place es sent sent of above (of_place_all place sent line.of_place) line.rise;
+}
 
 puts_delivers : (n pass : ℕ) (v : PassView) (x : Job) → v.sends ≡ true → v.takes ≡ false → IsOf v.from x → IsAbove v.entries x → Pushes Delivers n pass v x (Sends v x)
 puts_delivers n pass v (Put es) sends takes of above = puts_with n pass v (Put es) sends takes

@@ -7,8 +7,11 @@ use Rattle.rs_message.proofs.entry.Origin.TheSendSync as origin
 use Rattle.rs_message.specs.contracts.entry.Origin as Origin
 use Rattle.rs_version.proofs.Sent.{writer_send}
 use Rattle.rs_version.specs.declared.history.StoreName as StoreName
+use Rattle.std.proofs.Crossing as std
 use Rattle.rs_intake.proofs.cause.Cause.TheSendSync as cause
+use Rattle.rs_intake.proofs.reply.WayEnd.TheSendSync as way_end
 use Rattle.rs_intake.proofs.taken.Taken.TheSendSync as taken
+use Rattle.rs_intake.specs.contracts.reply.WayEnd as WayEnd
 use Rattle.rs_intake.specs.contracts.writer.Ended as Ended
 use Rattle.rs_intake.specs.declared.name.LineName as LineName
 
@@ -16,5 +19,5 @@ pub ended_send : (N R : RattleType) (g : LineName.Ghosts N.Denot) (h : StoreName
 ended_send N R g h s =
     recorded_send (Ended.the_field N R g h).row _ _ (Ended.the_type N R g h).to_one (struct_send (shape (Ended.the_type N R g h)) (
       writer_send N h R s,
-      (plain_send _ _ _ _ _, (plain_send _ _ _ _ _, (option.the_field_send Origin.the_row origin.the_send, (taken.the_send N g h, (cause.the_field_send, tt))))),
+      (plain_send _ _ _ _ _, (plain_send _ _ _ _ _, (option.the_field_send Origin.the_row origin.the_send, (taken.the_send N g h, (cause.the_field_send, (std.Vec-send (WayEnd.the_row N h) (way_end.the_send N h), tt)))))),
     ))

@@ -1,5 +1,5 @@
 -- What was done with the entries that the writer took, and what was answered to their lines: what is sent by their ways back.
-use Rattle.std.specs.Prelude.{ℕ, ◌≡◌, ◌-◌, ◌⊎◌, ◌||◌, Bool, true, false, cond, List, [], ◌∷◌, ◌++◌, length, slice_set, slice_index_or, Result, Ok, Err}
+use Rattle.std.specs.Prelude.{ℕ, ◌≡◌, ◌==◌, ◌<◌, ◌≤◌, ◌-◌, ◌⊎◌, ◌||◌, Bool, true, false, cond, List, [], ◌∷◌, ◌++◌, length, slice_index_or, Option, Some, None, Result, Ok, Err}
 use Rattle.std.specs.List.{AllByRecursion, filter}
 use Rattle.rs_message.specs.declared.entry.Entry.{Entry}
 use Rattle.rs_message.specs.declared.entry.Origin.{Origin}
@@ -11,6 +11,7 @@ use Rattle.rs_version.specs.Writer.{Refuses, Written, kept_of, shows}
 use Rattle.rs_version.specs.declared.fault.PutFault.{PutFault}
 use Rattle.rs_version.specs.declared.fault.PutFault.TheVariants.{Full, Held, NoMemory, Stale}
 use Rattle.rs_intake.specs.Sweeps.{IsSweptAtMost, without_sweeps}
+use Rattle.rs_intake.specs.declared.waiting.Gone.{Gone}
 
 -- the answer to an entry: a receipt, or why there is none
 abbrev pub Answer : Type 0
@@ -96,18 +97,47 @@ abbrev pub AreRefusedBehind : List Answer → Type 0
 AreRefusedBehind [] = Unit {0}
 AreRefusedBehind (answer ∷ answers) = (is_held answer ≡ true → AllByRecursion (λ a. a ≡ Err NoMemory) answers) × AreRefusedBehind answers
 
--- There are answers, one to each entry, in their order, by which this list came to be. They are the writer's; that each was sent is no
--- part of this. Without its Sweeps the list is the entries that were not refused.
-pub record IsWritten (limit : ℕ) (entries kept : List Entry) : Type 0 where
-  pub answers : List Answer
-  pub done : AreDone limit [] entries answers kept
-  pub changes : without_sweeps kept ≡ not_refused entries answers
-
 -- the replies that have these answers, one to each entry
 abbrev pub replies_to : List Entry → List Answer → List ReplyValue
 replies_to [] answers = []
 replies_to (entry ∷ entries) [] = []
 replies_to (entry ∷ entries) (answer ∷ answers) = record { origin = entry.origin; answer = answer } ∷ replies_to entries answers
+
+-- what the writer's end of a way back knows: the replies that it sent, and the send that failed, behind which it sends none
+pub record Told : Type 0 where
+  pub sent : List ReplyValue
+  pub gone : Option Gone
+
+-- of these replies, the first were sent: all of them, unless a send failed, and then not all
+abbrev pub AreSent : List ReplyValue → List ReplyValue → Option Gone → Type 0
+AreSent replies sent None = sent ≡ replies
+AreSent replies sent (Some gone) = (unsent : List ReplyValue) × (0 < length unsent) × (replies ≡ sent ++ unsent)
+
+-- the replies to entries of this place, in their order
+abbrev pub replies_for : ℕ → List ReplyValue → List ReplyValue
+replies_for place replies = filter (λ r. r.origin.place == place) replies
+
+-- a way back by which nothing was sent
+abbrev pub untold : Told
+untold = record { sent = []; gone = None }
+
+-- the way back to this place. That of place 1 is the first
+abbrev pub way_to : ℕ → List Told → Told
+way_to place ways = slice_index_or ways (place - 1) untold
+
+-- There is a way back to each of so many places. By each, those of these replies were sent that are to entries of its place, in their
+-- order: all of them, unless a send failed, and then a prefix of them
+pub record AreTold (places : ℕ) (replies : List ReplyValue) (ways : List Told) : Type 0 where
+  pub count : length ways ≡ places
+  pub each : (place : ℕ) → 0 < place → place ≤ places → AreSent (replies_for place replies) (way_to place ways).sent (way_to place ways).gone
+
+-- There are answers, one to each entry, in their order, by which this list came to be, and by these ways back each place was told those to
+-- its own entries. Without its Sweeps the list is the entries that were not refused
+pub record IsWritten (limit places : ℕ) (entries kept : List Entry) (ways : List Told) : Type 0 where
+  pub answers : List Answer
+  pub done : AreDone limit [] entries answers kept
+  pub changes : without_sweeps kept ≡ not_refused entries answers
+  pub told : AreTold places (replies_to entries answers) ways
 
 -- There are answers to these entries, one to each, in their order, which say what was done with them, one after the other; these are the
 -- replies that have them, and so many of the entries are not kept. Behind an entry that is held the others of these are refused
@@ -122,7 +152,3 @@ pub record AreReplied (limit : ℕ) (w : Written) (entries : List Entry) (replie
 -- the reply that memory was refused
 abbrev pub refused_reply : Entry → ReplyValue
 refused_reply entry = record { origin = entry.origin; answer = Err NoMemory }
-
--- what each line was answered, once the line of this place was answered this behind all else
-abbrev pub answered_more : List (List ReplyValue) → ℕ → List ReplyValue → List (List ReplyValue)
-answered_more answered place replies = slice_set answered (place - 1) (slice_index_or answered (place - 1) [] ++ replies)

@@ -10,12 +10,13 @@ use Rattle.rs_message.specs.Messages.{is_sweep}
 use Rattle.rs_message.specs.declared.entry.TheConstants.{MAX_PLACES}
 use Rattle.rs_message.specs.declared.entry.Entry.{Entry}
 use Rattle.rs_message.specs.declared.entry.Operation.{Operation}
-use Rattle.rs_store.specs.History.{last_serial}
+use Rattle.rs_store.specs.History.{SerialsRise, last_serial}
 use Rattle.rs_intake.specs.declared.rule.PassView.{PassView}
 use Rattle.rs_intake.specs.declared.rule.SentFrom.{SentFrom}
 use Rattle.rs_intake.specs.declared.job.Job.{Job}
 use Rattle.rs_intake.specs.declared.job.TheConstants.{MAX_CHANGES}
 use Rattle.rs_intake.specs.declared.waiting.Gone.{Gone}
+use Rattle.rs_intake.specs.Changes.{AreOf}
 use Rattle.rs_intake.specs.Done.{ReplyValue}
 use Rattle.rs_intake.specs.Names.{QueueName, IsQueue, IsIn}
 use Rattle.rs_intake.specs.Parts.{before}
@@ -89,6 +90,11 @@ pub record Closed : Type 0 where
   pub sent : List Entry
   pub ends : List ℕ
   pub gone : Option Gone
+
+-- the entries that a line of this place sent: all are of the place, and their serials strictly rise
+pub record AreOfLine (place : ℕ) (sent : List Entry) : Type 0 where
+  pub of_place : AreOf place sent
+  pub rise : SerialsRise sent
 
 -- one End was sent, which is the place's own; or none, since its send failed
 abbrev pub IsClosed : ℕ → List ℕ → Option Gone → Type 0

@@ -1,12 +1,12 @@
 -- How the writer puts the changes of a job and sends the replies to them, some at a time.
-use Rattle.std.specs.Prelude.{ℕ, ◌≡◌, ◌<◌, ◌||◌, Bool, true, List, ◌++◌, length, Result, Ok, Err}
+use Rattle.std.specs.Prelude.{ℕ, ◌≡◌, ◌<◌, ◌-◌, ◌||◌, Bool, true, List, ◌++◌, slice_set, Option, Some, None, Err}
 use Rattle.std.specs.List.{AllByRecursion}
 use Rattle.rs_message.specs.declared.entry.Entry.{Entry}
 use Rattle.rs_store.specs.History.{SerialsRise}
 use Rattle.rs_version.specs.Writer.{Written}
 use Rattle.rs_version.specs.declared.fault.PutFault.TheVariants.{NoMemory}
 use Rattle.rs_intake.specs.Changes.{ArePlain}
-use Rattle.rs_intake.specs.Done.{AreReplied, ReplyValue, has_held}
+use Rattle.rs_intake.specs.Done.{AreReplied, AreSent, ReplyValue, Told, has_held, way_to}
 use Rattle.rs_intake.specs.Sweeps.{IsKeptFrom}
 use Rattle.rs_intake.specs.declared.waiting.Gone.{Gone}
 
@@ -28,14 +28,16 @@ pub record ArePut (limit : ℕ) (w : Written) (held : Bool) (rest : List Entry) 
   pub behind : held ≡ true → AllByRecursion (λ a. a ≡ Err NoMemory) replied.answers
   pub held_is : held' ≡ (held || has_held replied.answers)
 
--- of these replies, the first were sent: all of them, unless a send failed, and then not all
-abbrev pub AreSent : List ReplyValue → List ReplyValue → Result (Unit {0}) Gone → Type 0
-AreSent replies sent (Ok x) = sent ≡ replies
-AreSent replies sent (Err gone) = (unsent : List ReplyValue) × (0 < length unsent) × (replies ≡ sent ++ unsent)
+-- These replies were sent behind those before: all of them, unless a send failed, and then not all. If a send before them failed, none
+-- was, and nothing changed
+abbrev pub AreSentBehind : Option Gone → List ReplyValue → List ReplyValue → Told → Type 0
+AreSentBehind None sent replies after = (more : List ReplyValue) × (after.sent ≡ sent ++ more) × AreSent replies more after.gone
+AreSentBehind (Some gone) sent replies after = after ≡ record { sent = sent; gone = Some gone }
 
--- these replies were sent behind those before, or none was, since this send failed, or one before it
-abbrev pub AreSentNext : Result (Unit {0}) Gone → List ReplyValue → List ReplyValue → Result (Unit {0}) Gone → List ReplyValue → Type 0
-AreSentNext (Ok x) told replies (Ok y) told' = told' ≡ told ++ replies
-AreSentNext (Ok x) told replies (Err gone) told' = told' ≡ told
-AreSentNext (Err before) told replies (Err gone) told' = told' ≡ told
-AreSentNext (Err before) told replies (Ok y) told' = ⊥
+-- the same of a way back before and after
+abbrev pub AreSentNext : Told → List ReplyValue → Told → Type 0
+AreSentNext before replies after = AreSentBehind before.gone before.sent replies after
+
+-- these replies were sent next by the way back to this place, and nothing by any other
+abbrev pub AreSentTo : ℕ → List Told → List ReplyValue → List Told → Type 0
+AreSentTo place ways replies ways' = (told : Told) × AreSentNext (way_to place ways) replies told × (ways' ≡ slice_set ways (place - 1) told)

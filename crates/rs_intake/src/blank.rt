@@ -5,6 +5,7 @@ ghost use Rattle.crossbeam_channel.specs.Claims.{view as known_by};
 ghost use Rattle.crossbeam_channel.specs.Ends.{sends_on};
 ghost use Rattle.rs_message.specs.declared.entry.TheConstants.{MAX_PLACES};
 ghost use Rattle.rs_intake.specs.Names.{IsQueue, IsIn};
+ghost use Rattle.rs_intake.specs.Done.{untold};
 ghost use Rattle.rs_intake.specs.Lines.{new_lines};
 
 use crate::intake::Intake;
@@ -78,7 +79,7 @@ fn line<N: LineName>(
     requires pass { ((known_by pass.old).takes ≡ true) × ((known_by pass.old).sends ≡ false) × ((known_by pass.old).known ≡ []) × ((known_by pass.old).made + 1 ≡ place) }
     requires place { (place ≤ N.places) × (N.places ≤ MAX_PLACES) }
     ensures line { IfOk result (λ r. r.0 ≡ record { place = place; serial = 0; sent = []; heard = []; came = []; expected = []; ahead = [] }) }
-    ensures told { IfOk result (λ r. r.1 ≡ []) }
+    ensures told { IfOk result (λ r. r.1 ≡ untold) }
     ensures queue { IfOk result (λ _. IsIn N.queue pass.new) }
     ensures pass { IfOk result (λ _. ((known_by pass.new).takes ≡ true) × ((known_by pass.new).sends ≡ false) × ((known_by pass.new).known ≡ []) × ((known_by pass.new).entries ≡ (known_by pass.old).entries) × ((known_by pass.new).ends ≡ (known_by pass.old).ends) × ((known_by pass.new).made ≡ place)) }
 {
@@ -115,10 +116,11 @@ impl BlankQueue {
             lines.push(line).map_err(|_| AllocError)?;
             replies.push(to).map_err(|_| AllocError)?;
         }
+        let ends = Vec::with_capacity(alloc, places as usize)?;
         let queue = Queue::new(
             receiver,
             Taken::new(places, pass),
-            WaysBack::new(alloc, replies),
+            WaysBack::new(alloc, replies, ends),
         );
         Ok((Intake::new(), lines, queue))
     }

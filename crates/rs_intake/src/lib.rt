@@ -38,7 +38,7 @@ pub use job::{Changes, Job, MAX_CHANGES};
 pub use law::{answered_law, line_order_law, reply_order_law};
 pub use line::{LineEnd, SeatLine};
 pub use name::LineName;
-pub use reply::{WriterReplies, WriterReply};
+pub use reply::{WayEnd, WriterReplies, WriterReply};
 pub use settling::settle;
 pub use taken::Taken;
 pub use waiting::Gone;

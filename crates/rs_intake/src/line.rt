@@ -13,7 +13,7 @@ ghost use Rattle.rs_store.specs.History.{last_serial};
 ghost use Rattle.rs_intake.specs.Changes.{AreOf};
 ghost use Rattle.rs_intake.specs.Done.{ReplyValue};
 ghost use Rattle.rs_intake.specs.Names.{IsQueue, IsIn};
-ghost use Rattle.rs_intake.specs.Lines.{AreNext, IsAheadAfter, IsClosed, IsOther, announced, entry_at, next_serial, numbered};
+ghost use Rattle.rs_intake.specs.Lines.{AreNext, AreOfLine, IsAheadAfter, IsClosed, IsOther, announced, entry_at, next_serial, numbered};
 ghost use Rattle.rs_intake.specs.QueueRule.{AreAbove};
 ghost use Rattle.rs_intake.specs.Refusals.{IsUnsent};
 ghost use Rattle.rs_intake.specs.declared.job.TheConstants.{MAX_CHANGES};
@@ -46,13 +46,13 @@ impl<N: LineName> Model for LineSender<N> {
     ghost use Rattle.std.specs.Prelude.{◌≡◌, []};
     ghost use Rattle.crossbeam_channel.specs.Claims.{view as known_by};
     ghost use Rattle.crossbeam_channel.specs.Ends.{sends_on};
-    ghost use Rattle.rs_intake.specs.Lines.{IsLine, LineSenderValue};
+    ghost use Rattle.rs_intake.specs.Lines.{AreOfLine, IsLine, LineSenderValue};
 
     ghost Value = { LineSenderValue };
 
     ghost view = { λ l. record { place = l.place; sent = (known_by l.pass).entries } };
 
-    ghost invariant = { λ l. IsLine N.queue N.places (sends_on l.sender) l.pass l.place l.sent × ((known_by l.pass).ends ≡ []) };
+    ghost invariant = { λ l. IsLine N.queue N.places (sends_on l.sender) l.pass l.place l.sent × ((known_by l.pass).ends ≡ []) × AreOfLine l.place (known_by l.pass).entries };
 }
 
 impl<N: LineName> LineSender<N> {
@@ -140,13 +140,13 @@ pub struct LineEnd<N: LineName> {
 impl<N: LineName> Model for LineEnd<N> {
     ghost use Rattle.crossbeam_channel.specs.Claims.{view as known_by};
     ghost use Rattle.crossbeam_channel.specs.Ends.{sends_on};
-    ghost use Rattle.rs_intake.specs.Lines.{Closed, IsClosed, IsLine};
+    ghost use Rattle.rs_intake.specs.Lines.{AreOfLine, Closed, IsClosed, IsLine};
 
     ghost Value = { Closed };
 
     ghost view = { λ l. record { place = l.place; sent = (known_by l.pass).entries; ends = (known_by l.pass).ends; gone = l.gone } };
 
-    ghost invariant = { λ l. IsLine N.queue N.places (sends_on l.sender) l.pass l.place l.sent × IsClosed l.place (known_by l.pass).ends l.gone };
+    ghost invariant = { λ l. IsLine N.queue N.places (sends_on l.sender) l.pass l.place l.sent × IsClosed l.place (known_by l.pass).ends l.gone × AreOfLine l.place (known_by l.pass).entries };
 }
 
 impl<N: LineName> LineEnd<N> {
@@ -160,9 +160,10 @@ impl<N: LineName> LineEnd<N> {
         self.place
     }
 
-    /// How many entries the queue took from the line.
+    /// How many entries the queue took from the line. All are of its place, and their serials rise.
     pub fn sent(&self) -> u64
-        ensures { result ≡ length self.now.sent }
+        ensures count { result ≡ length self.now.sent }
+        ensures line { AreOfLine self.now.place self.now.sent }
     {
         self.sent
     }
@@ -484,6 +485,7 @@ impl<N: LineName> SeatLine<N> {
     pub fn close<R: Wait>(self, rt: &R) -> LineEnd<N>
         ensures place { result.place ≡ self.place }
         ensures sent { result.sent ≡ self.sent ++ self.ahead }
+        ensures line { AreOfLine result.place result.sent }
         ensures end { IsClosed result.place result.ends result.gone }
     {
         let SeatLine {

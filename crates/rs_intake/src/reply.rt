@@ -1,7 +1,8 @@
 //! The way back from the writer to a line.
 
 ghost use Rattle.std.specs.Prelude.{◌≡◌, ◌+◌, ◌<◌, ◌≤◌, ◌∷◌, ◌++◌, [], List, length, IfErr, IfOk, MatchOption, MatchResult, map};
-ghost use Rattle.rs_intake.specs.Done.{ReplyValue, is_held, is_refused, refused_reply, refused_in};
+ghost use Rattle.rs_intake.specs.Done.{ReplyValue, is_held, is_refused, refused_reply, refused_in, untold};
+ghost use Rattle.rs_intake.specs.Sending.{AreSentNext};
 
 use crate::job::MAX_CHANGES;
 use crate::waiting;
@@ -186,24 +187,44 @@ impl<N: StoreName> Split<WayPass<N>> for Halves {
     ghost right = { receiving_end };
 }
 
-/// The writer's end. Contracts see the replies that were sent.
+/// The writer's end. Contracts see the replies that were sent, and the send that failed. Behind that one nothing is sent.
 #[derive(Drop)]
 pub struct ReplySender<N: StoreName> {
     to: RuledSender<WriterReplies<N>, WayPass<N>, ReplyRule>,
     pass: Pass<WriterReplies<N>, WayPass<N>>,
+    gone: Option<Gone>,
 }
 
 impl<N: StoreName> Model for ReplySender<N> {
-    ghost use Rattle.std.specs.Prelude.{◌≡◌, List, true, false};
+    ghost use Rattle.std.specs.Prelude.{◌≡◌, true, false};
     ghost use Rattle.crossbeam_channel.specs.Claims.{view as known_by, IsSeatAt};
     ghost use Rattle.crossbeam_channel.specs.Ends.{sends_on};
-    ghost use Rattle.rs_intake.specs.Done.{ReplyValue};
+    ghost use Rattle.rs_intake.specs.Done.{Told};
 
-    ghost Value = { List ReplyValue };
+    ghost Value = { Told };
 
-    ghost view = { λ s. (known_by s.pass).replies };
+    ghost view = { λ s. record { sent = (known_by s.pass).replies; gone = s.gone } };
 
     ghost invariant = { λ s. IsSeatAt (sends_on s.to) s.pass × ((known_by s.pass).sends ≡ true) × ((known_by s.pass).receives ≡ false) };
+}
+
+/// What is left of the writer's end, once it sends no more. Contracts see the replies that were sent, and the send that failed.
+#[derive(Drop)]
+pub struct WayEnd<N: StoreName> {
+    pass: Pass<WriterReplies<N>, WayPass<N>>,
+    gone: Option<Gone>,
+}
+
+impl<N: StoreName> Model for WayEnd<N> {
+    ghost use Rattle.std.specs.Prelude.{◌≡◌, true};
+    ghost use Rattle.crossbeam_channel.specs.Claims.{view as known_by};
+    ghost use Rattle.rs_intake.specs.Done.{Told};
+
+    ghost Value = { Told };
+
+    ghost view = { λ e. record { sent = (known_by e.pass).replies; gone = e.gone } };
+
+    ghost invariant = { λ e. (known_by e.pass).sends ≡ true };
 }
 
 /// The line's end. Contracts see the replies that were taken from it, and those that came and were not taken yet.
@@ -234,7 +255,7 @@ impl<N: StoreName> Model for ReplyReceiver<N> {
 pub fn way_back<N: StoreName>(
     alloc: Global,
 ) -> Result<(ReplySender<N>, ReplyReceiver<N>), AllocError>
-    ensures { IfOk result (λ r. (r.0 ≡ []) × (r.1.heard ≡ []) × (r.1.came ≡ [])) }
+    ensures { IfOk result (λ r. (r.0 ≡ untold) × (r.1.heard ≡ []) × (r.1.came ≡ [])) }
 {
     let (to, from, mut pass) = bounded_with::<WriterReplies<N>, WayPass<N>, ReplyRule, Global>(
         alloc,
@@ -242,7 +263,11 @@ pub fn way_back<N: StoreName>(
     )?;
     let other = to.another::<Halves>(&mut pass);
     Ok((
-        ReplySender { to, pass },
+        ReplySender {
+            to,
+            pass,
+            gone: None,
+        },
         ReplyReceiver {
             from,
             pass: other,
@@ -254,16 +279,33 @@ pub fn way_back<N: StoreName>(
 }
 
 impl<N: StoreName> ReplySender<N> {
-    /// Sends the replies. If the line is gone, they are dropped. Takes no memory.
-    pub fn send<R: Wait>(&mut self, rt: &R, replies: WriterReplies<N>) -> Result<(), Gone>
-        ensures { MatchResult result (λ _. self.new ≡ self.old ++ replies) (λ _. self.new ≡ self.old) }
+    /// Sends the replies. If the line is gone, or was for a send before, they are dropped. Takes no memory.
+    pub fn send<R: Wait>(&mut self, rt: &R, replies: WriterReplies<N>)
+        requires { 0 < length replies }
+        ensures { AreSentNext self.old replies self.new }
     {
-        waiting::send::<WriterReplies<N>, WayPass<N>, ReplyRule, Counting, R>(
+        if self.gone.is_some() {
+            return;
+        }
+        let sent = waiting::send::<WriterReplies<N>, WayPass<N>, ReplyRule, Counting, R>(
             rt,
             &self.to,
             &mut self.pass,
             replies,
-        )
+        );
+        self.gone = sent.err();
+    }
+
+    /// Gives the end up. The line learns that nothing more comes.
+    pub fn end(self) -> WayEnd<N>
+        ensures { result ≡ self }
+    {
+        let ReplySender {
+            to: _to,
+            pass,
+            gone,
+        } = self;
+        WayEnd { pass, gone }
     }
 }
 

@@ -1,20 +1,47 @@
 //! A send, and a receive that looks for a while before it sleeps.
 
-ghost use Rattle.std.specs.Prelude.{◌≡◌, MatchResult};
+ghost use Rattle.std.specs.Prelude.{◌≡◌, MatchOption, MatchResult};
 ghost use Rattle.crossbeam_channel.specs.Claims.{view, IsSeatAt};
+ghost use Rattle.crossbeam_channel.specs.Err.{IsSendOutOfMemory};
+ghost use Rattle.crossbeam_channel.specs.declared.err.TryRecvError.TheVariants.{Disconnected, Empty};
 ghost use Rattle.crossbeam_channel.specs.Ends.{receives_on, ruled_capacity, sends_on};
 ghost use Rattle.crossbeam_channel.specs.Fifo.{Held, Learns, Pops, Pushes};
 
 use crossbeam_channel::protocol::{Lesson, Outcome, Protocol};
-use crossbeam_channel::{Pass, RuledReceiver, RuledSender, TryRecvError};
+use crossbeam_channel::{Pass, RecvError, RuledReceiver, RuledSender, SendError, TryRecvError};
 use std::hint::spin_loop;
 use std::sync::Wait;
 
-/// A send or a receive failed: the other ends of its channel were gone. Only the two functions below make such a value, and only
-/// after a call that failed, so it stands for that call in contracts.
+/// A send or a receive failed: the other ends of its channel were gone. Only the two functions below make such a value, of the failure
+/// that their call on the channel answered, so it stands for that call in contracts.
 #[derive(Debug, Drop)]
 pub struct Gone {
     seen: (),
+}
+
+impl Gone {
+    /// That of a send.
+    fn of_send<T: Drop>(failure: SendError<T>) -> Gone
+        requires { ¬ IsSendOutOfMemory failure }
+    {
+        drop(failure);
+        Gone { seen: () }
+    }
+
+    /// That of a receive.
+    fn of_receive(_failure: RecvError) -> Gone {
+        Gone { seen: () }
+    }
+
+    /// That of a look. `None` if it found no message, but the other ends are there.
+    fn of_look(failure: TryRecvError) -> Option<Gone>
+        ensures { MatchOption result (failure ≡ Empty) (λ _. failure ≡ Disconnected) }
+    {
+        match failure {
+            TryRecvError::Empty => None,
+            TryRecvError::Disconnected => Some(Gone { seen: () }),
+        }
+    }
 }
 
 /// How often a receive of the writer looks. It takes some tens of microseconds, in which a place decodes its next job. To wake a thread
@@ -79,7 +106,7 @@ pub fn send<T: Drop, V, P: Protocol<T, V>, M: Outcome<T, V> + Lesson<T, V>, R: W
 {
     match to.send_as::<M, R>(rt, pass, message) {
         Ok(()) => Ok(()),
-        Err(_) => Err(Gone { seen: () }),
+        Err(failure) => Err(Gone::of_send(failure)),
     }
 }
 
@@ -106,14 +133,18 @@ pub fn receive<T: Drop, V, P: Protocol<T, V>, M: Outcome<T, V> + Lesson<T, V>, R
                 }
                 return Ok(message);
             }
-            Err(TryRecvError::Disconnected) => return Err(Gone { seen: () }),
-            Err(TryRecvError::Empty) => spin_loop(),
+            Err(failure) => {
+                if let Some(gone) = Gone::of_look(failure) {
+                    return Err(gone);
+                }
+                spin_loop();
+            }
         }
     }
     patience.has_waited = true;
     patience.in_vain = patience.in_vain.wrapping_add(1);
     match from.recv_as::<M, R>(rt, pass) {
         Ok(message) => Ok(message),
-        Err(_) => Err(Gone { seen: () }),
+        Err(failure) => Err(Gone::of_receive(failure)),
     }
 }

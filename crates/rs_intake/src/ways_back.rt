@@ -7,16 +7,15 @@ ghost use Rattle.rs_store.specs.History.{SerialsRise, extended};
 ghost use Rattle.rs_version.specs.Writer.{kept_of};
 ghost use Rattle.rs_version.specs.declared.fault.PutFault.TheVariants.{NoMemory};
 ghost use Rattle.rs_intake.specs.Changes.{place_of_all};
-ghost use Rattle.rs_intake.specs.Done.{AreReplied, IsAnswered, IsDone, IsPut, ReplyValue, answered_more, is_held};
-ghost use Rattle.rs_intake.specs.Sending.{AreToPut, ArePut, AreSent, AreSentNext};
+ghost use Rattle.rs_intake.specs.Done.{AreReplied, IsAnswered, IsDone, IsPut, ReplyValue, is_held};
+ghost use Rattle.rs_intake.specs.Sending.{AreSentNext, AreSentTo, AreToPut, ArePut};
 ghost use Rattle.rs_intake.specs.Sweeps.{IsKeptFrom};
 ghost use Rattle.rs_intake.specs.declared.job.TheConstants.{MAX_CHANGES};
 ghost use Rattle.rs_intake.specs.declared.reply.TheConstants.{FEW_REPLIES};
 
 use crate::job::Changes;
 use crate::name::LineName;
-use crate::reply::{ReplySender, WriterReplies, WriterReply};
-use crate::waiting::Gone;
+use crate::reply::{ReplySender, WayEnd, WriterReplies, WriterReply};
 use rs_message::Entry;
 use rs_version::{PutFault, VersionWriter};
 use std::alloc::Global;
@@ -128,22 +127,8 @@ fn next_replies<N: LineName, R: Wait + Drop>(
     (WriterReplies::new(alloc, replies), refused)
 }
 
-/// Sends the replies, unless a send before them failed: then they are dropped.
-fn send_next<N: LineName, W: Wait>(
-    rt: &W,
-    to: &mut ReplySender<N>,
-    sent: &mut Result<(), Gone>,
-    replies: WriterReplies<N>,
-)
-    ensures { AreSentNext sent.old to.old replies sent.new to.new }
-{
-    if sent.is_ok() {
-        *sent = to.send(rt, replies);
-    }
-}
-
 /// Puts the changes of a job, and sends `at_once` replies in each message. If memory for the replies of one is refused, it refuses all
-/// changes that are left, and is the last.
+/// changes that are left, and is the last. The result is how many changes are refused.
 fn put_and_send<N: LineName, R: Wait + Drop, W: Wait>(
     rt: &W,
     alloc: Global,
@@ -151,23 +136,21 @@ fn put_and_send<N: LineName, R: Wait + Drop, W: Wait>(
     writer: &mut VersionWriter<N, R>,
     changes: VecDeque<Entry>,
     at_once: usize,
-) -> (u64, Result<(), Gone>)
+) -> u64
     requires many { FEW_REPLIES ≤ at_once }
     requires few { length changes.items ≤ MAX_CHANGES }
     requires left { AreToPut N.limit (kept_of writer.old) changes.items }
-    ensures { (replies sent : List ReplyValue) × AreReplied N.limit writer.old changes.items replies result.0 writer.new
-        × (to.new ≡ to.old ++ sent) × AreSent replies sent result.1 }
+    ensures { (replies : List ReplyValue) × AreReplied N.limit writer.old changes.items replies result writer.new × AreSentNext to.old replies to.new }
 {
     let mut rest = changes;
     let mut has_held = false;
     let mut refused = 0u64;
-    let mut sent = Ok(());
     while !rest.is_empty() {
         let (replies, count) = next_replies(alloc, writer, &mut rest, &mut has_held, at_once);
         refused += count;
-        send_next(rt, to, &mut sent, replies);
+        to.send(rt, replies);
     }
-    (refused, sent)
+    refused
 }
 
 /// The writer's ends of the ways back to the lines, that of place 1 first. A line learns only what is sent by its way back, and
@@ -176,30 +159,42 @@ fn put_and_send<N: LineName, R: Wait + Drop, W: Wait>(
 pub struct WaysBack<N: LineName> {
     alloc: Global,
     senders: Vec<ReplySender<N>>,
+    // It is empty, and has the capacity for what is left of each.
+    ends: Vec<WayEnd<N>>,
+    ghost reserved: { (ends.items ≡ []) × (length senders.items ≤ vec_capacity ends) },
 }
 
 impl<N: LineName> WaysBack<N> {
-    pub(crate) fn new(alloc: Global, senders: Vec<ReplySender<N>>) -> WaysBack<N>
+    pub(crate) fn new(
+        alloc: Global,
+        senders: Vec<ReplySender<N>>,
+        ends: Vec<WayEnd<N>>,
+    ) -> WaysBack<N>
+        requires { (ends.items ≡ []) × (length senders.items ≤ vec_capacity ends) }
         ensures { result.senders ≡ senders }
     {
-        WaysBack { alloc, senders }
+        WaysBack {
+            alloc,
+            senders,
+            ends,
+        }
     }
 
     /// Puts the changes of a job, one after the other, and sends the replies to their line, `at_once` in each message, and nothing to any
-    /// other. The result is how many changes are refused, and whether a send of replies failed. It does, if the line is gone.
+    /// other. If a send of replies fails, as it does if the line is gone, no more are sent to this line. The result is how many changes
+    /// are refused.
     pub(crate) fn put_job<R: Wait + Drop, W: Wait>(
         &mut self,
         rt: &W,
         writer: &mut VersionWriter<N, R>,
         changes: Changes,
         at_once: usize,
-    ) -> (u64, Result<(), Gone>)
+    ) -> u64
         requires many { FEW_REPLIES ≤ at_once }
         requires place { place_of_all changes ≤ length self.old.senders.items }
         requires rises { (before : List Entry) × IsKeptFrom N.limit before (kept_of writer.old) × SerialsRise (before ++ changes) }
-        ensures done { (replies sent : List ReplyValue) × AreReplied N.limit writer.old changes replies result.0 writer.new
-            × (self.new.senders.items ≡ answered_more self.old.senders.items (place_of_all changes) sent) × AreSent replies sent result.1 }
-        ensures ways { length self.new.senders.items ≡ length self.old.senders.items }
+        ensures { (replies : List ReplyValue) × AreReplied N.limit writer.old changes replies result writer.new
+            × AreSentTo (place_of_all changes) self.old.senders.items replies self.new.senders.items }
     {
         let index = changes.place() as usize - 1;
         let entries = VecDeque::from_vec(changes.into_entries());
@@ -211,5 +206,22 @@ impl<N: LineName> WaysBack<N> {
             entries,
             at_once,
         )
+    }
+
+    /// What is left of each way back. The lines learn that nothing more comes. Takes no memory.
+    pub(crate) fn end(self) -> Vec<WayEnd<N>>
+        ensures { result.items ≡ self.senders.items }
+    {
+        let WaysBack {
+            alloc: _,
+            senders,
+            mut ends,
+        } = self;
+        for sender in senders {
+            let Ok(()) = ends.push(sender.end()) else {
+                unreachable!()
+            };
+        }
+        ends
     }
 }

@@ -1,10 +1,10 @@
 //! The writer's loop over the queue.
 
-ghost use Rattle.std.specs.Prelude.{◌≡◌, ◌+◌, ◌<◌, ◌≤◌, ◌^◌, ◌⊎◌, [], length, MatchBool};
+ghost use Rattle.std.specs.Prelude.{◌≡◌, ◌+◌, ◌<◌, ◌≤◌, ◌^◌, ◌⊎◌, [], length, replicate, MatchBool};
 ghost use Rattle.std.specs.Option.{option_map};
 ghost use Rattle.crossbeam_channel.specs.Ends.{receives_on};
 ghost use Rattle.rs_version.specs.Writer.{kept_of};
-ghost use Rattle.rs_intake.specs.Done.{IsWritten};
+ghost use Rattle.rs_intake.specs.Done.{IsWritten, untold};
 ghost use Rattle.rs_intake.specs.Causes.{IsCause};
 ghost use Rattle.rs_intake.specs.Names.{IsQueue};
 ghost use Rattle.rs_intake.specs.Parts.{IsPart};
@@ -16,7 +16,7 @@ ghost use Rattle.rs_intake.specs.declared.reply.TheConstants.{FEW_REPLIES};
 use crate::cause::Cause;
 use crate::job::{Job, MAX_CHANGES};
 use crate::name::LineName;
-use crate::reply::FEW_REPLIES;
+use crate::reply::{FEW_REPLIES, WayEnd};
 use crate::rule::JobReceiver;
 use crate::taken::Taken;
 use crate::waiting::{Patience, WRITER_LOOKS};
@@ -33,14 +33,14 @@ pub struct Queue<N: LineName> {
     ways: WaysBack<N>,
     ghost queue: { IsQueue N.queue (receives_on receiver) },
     ghost new: { (received.entries ≡ []) × (received.ends ≡ []) },
-    ghost lines: { length ways.senders.items ≡ N.places },
+    ghost lines: { ways.senders.items ≡ replicate N.places untold },
 }
 
 impl<N: LineName> Queue<N> {
     pub(crate) fn new(receiver: JobReceiver, received: Taken<N>, ways: WaysBack<N>) -> Queue<N>
         requires queue { IsQueue N.queue (receives_on receiver) }
         requires new { (received.entries ≡ []) × (received.ends ≡ []) }
-        requires lines { length ways.senders.items ≡ N.places }
+        requires lines { ways.senders.items ≡ replicate N.places untold }
     {
         Queue {
             receiver,
@@ -65,6 +65,8 @@ pub struct Ended<N: LineName, R: Wait + Drop> {
     pub received: Taken<N>,
     /// Why the loop ended.
     pub cause: Cause,
+    /// What is left of the ways back to the lines, that to place 1 first.
+    pub ways: Vec<WayEnd<N>>,
     pub ghost counted: { taken ≡ length received.entries },
 }
 
@@ -75,11 +77,12 @@ impl<N: LineName, R: Wait + Drop> Ended<N, R> {
         refused: u64,
         received: Taken<N>,
         cause: Cause,
+        ways: Vec<WayEnd<N>>,
     ) -> Ended<N, R>
         requires { taken ≡ length received.entries }
         ensures values { (result.writer ≡ writer) × (result.taken ≡ taken) × (result.refused ≡ refused) }
         ensures held { result.held ≡ option_map (λ e. e.origin) writer.held }
-        ensures received { (result.received ≡ received) × (result.cause ≡ cause) }
+        ensures received { (result.received ≡ received) × (result.cause ≡ cause) × (result.ways ≡ ways) }
     {
         let held = writer.held();
         Ended {
@@ -89,6 +92,7 @@ impl<N: LineName, R: Wait + Drop> Ended<N, R> {
             held,
             received,
             cause,
+            ways,
         }
     }
 }
@@ -126,7 +130,8 @@ fn replies_at_once(patience: &Patience) -> usize
 /// the one before, then the Sweep that the entry needs, if it needs one, then the entry. After a full store the list is the same, and the
 /// entry may not come. If memory was refused, the list is the same, or has the Sweep that the entry needs. So what the writer keeps,
 /// without its Sweeps, is the entries that were not refused, in their order (`IsWritten`), and each Sweep is the one that one of these
-/// entries needed there (`sweeps`). No entry is of a place beyond 1 to the number of places (`placed`).
+/// entries needed there (`sweeps`). By the way back to each place, the answers to its entries were sent, in their order: all of them,
+/// unless a send failed, and then a prefix. No entry is of a place beyond 1 to the number of places (`placed`).
 pub fn run_writer<N: LineName, R: Wait + Drop, W: Wait>(
     rt: &W,
     queue: Queue<N>,
@@ -139,7 +144,7 @@ pub fn run_writer<N: LineName, R: Wait + Drop, W: Wait>(
     ensures refused { length (without_sweeps (kept_of result.writer)) + result.refused ≡ result.taken }
     ensures sweeps { AreForEntries N.limit result.received.entries (kept_of result.writer) }
     ensures held { result.held ≡ option_map (λ e. e.origin) result.writer.held }
-    ensures done { IsWritten N.limit result.received.entries (kept_of result.writer) }
+    ensures done { IsWritten N.limit N.places result.received.entries (kept_of result.writer) result.ways.items }
     ensures cause { IsCause N.places u64.MAX result.received result.cause }
 {
     run_writer_for(rt, queue, writer, u64::MAX)
@@ -159,7 +164,7 @@ pub fn run_writer_for<N: LineName, R: Wait + Drop, W: Wait>(
     ensures refused { length (without_sweeps (kept_of result.writer)) + result.refused ≡ result.taken }
     ensures sweeps { AreForEntries N.limit result.received.entries (kept_of result.writer) }
     ensures held { result.held ≡ option_map (λ e. e.origin) result.writer.held }
-    ensures done { IsWritten N.limit result.received.entries (kept_of result.writer) }
+    ensures done { IsWritten N.limit N.places result.received.entries (kept_of result.writer) result.ways.items }
     ensures cause { IsCause N.places most result.received result.cause }
 {
     let Queue {
@@ -181,7 +186,7 @@ pub fn run_writer_for<N: LineName, R: Wait + Drop, W: Wait>(
             Ok(Job::Put(changes)) => {
                 taken += changes.len() as u64;
                 let at_once = replies_at_once(&patience);
-                let (count, _sent) = ways.put_job(rt, &mut writer, changes, at_once);
+                let count = ways.put_job(rt, &mut writer, changes, at_once);
                 refused += count;
             }
             Ok(Job::End(_)) => {
@@ -198,5 +203,5 @@ pub fn run_writer_for<N: LineName, R: Wait + Drop, W: Wait>(
         }
     }
     drop(writer.retry());
-    Ended::new(writer, taken, refused, received, cause)
+    Ended::new(writer, taken, refused, received, cause, ways.end())
 }

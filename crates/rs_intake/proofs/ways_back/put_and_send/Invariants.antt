@@ -1,14 +1,13 @@
-use Rattle.std.proofs.Common.{◌≡◌, ◌+◌, ◌≤◌, ◌++◌, List, false, length}
+use Rattle.std.proofs.Common.{◌+◌, ◌≤◌, List, false, length}
 use Rattle.rs_version.specs.Writer.{kept_of}
 use Rattle.rs_intake.specs.Done.{ReplyValue}
-use Rattle.rs_intake.specs.Sending.{AreToPut, ArePut, AreSent}
+use Rattle.rs_intake.specs.Sending.{AreSentNext, AreToPut, ArePut}
 use Rattle.rs_intake.specs.declared.job.TheConstants.{MAX_CHANGES}
 use Rattle.rs_intake.proofs.ways_back.put_and_send.Given as goal
 
 abbrev pub invariant-loop-alloc : goal.invariant-loop-alloc
 invariant-loop-alloc g l = AreToPut g.N.StoreName.limit (kept_of l.writer) l.rest.items
-    × ((replies sent : List ReplyValue) × ArePut g.N.StoreName.limit l.fn.writer false l.fn.changes.items replies l.refused l.has_held l.rest.items l.writer
-    × (l.to ≡ l.fn.to ++ sent) × AreSent replies sent l.sent)
+    × ((replies : List ReplyValue) × ArePut g.N.StoreName.limit l.fn.writer false l.fn.changes.items replies l.refused l.has_held l.rest.items l.writer × AreSentNext l.fn.to replies l.to)
     × (l.refused + length l.rest.items ≤ MAX_CHANGES)
 
 abbrev pub decreases-loop-alloc : goal.decreases-loop-alloc

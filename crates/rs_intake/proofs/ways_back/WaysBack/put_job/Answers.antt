@@ -1,13 +1,22 @@
-use Rattle.std.proofs.Common.{rules, ◌≡◌, List, subst, arith}
-use Rattle.std.proofs.lemmas.Grind.{common_steps}
+use Rattle.std.proofs.Common.{rules, ◌≡◌, ℕ, ◌-◌, ◌<◌, List, length, set, subst, ap, ◌∙◌, arith}
+use Rattle.std.proofs.lemmas.List.{get_or_read}
 use Rattle.rs_message.specs.declared.entry.Entry.{Entry}
-use Rattle.rs_intake.specs.Done.{AreReplied}
+use Rattle.rs_intake.specs.Changes.{place_of_all}
+use Rattle.rs_intake.specs.Done.{AreReplied, Told, untold, way_to}
+use Rattle.rs_intake.specs.Sending.{AreSentNext}
 use Rattle.rs_intake.proofs.ways_back.WaysBack.put_job.Goals as goal
 
-pub returns-clause-done : goal.returns-clause-done
-returns-clause-done g c =
+pub returns : goal.returns
+returns g c =
     let e = c.put_and_send.ensures in
+    let told = c.put_and_send.new.to in
+    let ways = c.args.self.now.senders.items in
+    let place = c.place.ensures.place in
+    let some = c.place.ensures.some in
+    let there = c.requires.place in
     let is : c.from_vec-entries.result.items ≡ c.args.changes = search rules in
-    let R : List Entry → Type 0 = λ l. AreReplied g.N.StoreName.limit c.args.writer.now l e.0 c.put_and_send.result.0 c.put_and_send.new.writer in
-    let told = e.3 in
-    (e.0, e.1, subst R is e.2, grind (arith, common_steps, told), e.4)
+    let R : List Entry → Type 0 = λ l. AreReplied g.N.StoreName.limit c.args.writer.now l e.0 c.put_and_send.result c.put_and_send.new.writer in
+    let here : c.place.result - 1 < length ways = omega (arith, place, some, there) in
+    let way : c.index_mut.result.now ≡ way_to (place_of_all c.args.changes) ways = get_or_read ways _ _ here c.index_mut.ensures.value untold ∙ ap (λ (p : ℕ). way_to p ways) place in
+    let S : Told → Type 0 = λ w. AreSentNext w e.0 told in
+    (e.0, subst R is e.1, (told, subst S way e.2, ap (λ (p : ℕ). set ways (p - 1) told) place))
