@@ -1,6 +1,6 @@
 //! A gate that is told which changes come next. What a connection replies does not change by it.
 
-ghost use Rattle.std.specs.Prelude.{None, ◌^◌};
+ghost use Rattle.std.specs.Prelude.{true, None, ◌^◌};
 
 use rs_message::{Found, Operation, SubmitFault};
 use rs_server::{ConnectionId, Counted, Moments, Served, serve};
@@ -30,7 +30,7 @@ struct Expecting {
 impl Gate for Expecting {
     ghost stands = { λ _ _. ⊥ };
 
-    ghost mark = { λ _. record { place = 1; serial = 0; sent = None } };
+    ghost mark = { λ _. record { place = 1; serial = 0; alone = true; sent = None } };
 
     ghost most = { 2 ^ 64 };
 
