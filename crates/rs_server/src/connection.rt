@@ -53,6 +53,10 @@ pub enum Served {
 /// How many bytes one read may give.
 const READ_SIZE: usize = 8192;
 
+/// How many bytes the buffer of a client that is waited for has at most, if nothing is buffered. Reads that end inside a short packet
+/// need no more.
+const MAX_KEPT: usize = 2 * READ_SIZE;
+
 /// Serves one connection: reads packets and writes the session's replies, each of which is flushed, until
 /// the session or the input ends.
 ///
@@ -164,7 +168,7 @@ fn serve_once<R: Read, W: Write, G: Gate, C: Clock>(
         return Err(fault);
     }
     let Some(next) = planned.pop_front() else {
-        return read_more(reader, buffered);
+        return read_more(alloc, reader, buffered);
     };
     let Planned { input, now, change } = next;
     match make_exchange(alloc, session, writer, input, change, now) {
@@ -173,8 +177,22 @@ fn serve_once<R: Read, W: Write, G: Gate, C: Clock>(
     }
 }
 
+/// Gives back the memory that a long packet took, if nothing is buffered.
+fn give_back(alloc: Global, buffered: &mut BytesMut)
+    ensures { buffered.new.items ≡ buffered.old.items }
+{
+    if !buffered.is_empty() {
+        return;
+    }
+    buffered.clear();
+    if buffered.capacity() > MAX_KEPT {
+        *buffered = BytesMut::new(alloc);
+    }
+}
+
 /// Reads once and appends to what is buffered.
 fn read_more<R: Read>(
+    alloc: Global,
     reader: &mut Counted<R>,
     buffered: &mut BytesMut,
 ) -> Result<Option<Served>, ServeFault>
@@ -184,6 +202,7 @@ fn read_more<R: Read>(
     ensures end { IsEnd result buffered.old.items buffered.new.items (IsAtEnd (R.remaining (inner_of reader.new))) }
     ensures cause { IsReadCause result (failures_of reader.old) (failures_of reader.new) }
 {
+    give_back(alloc, buffered);
     if buffered.reserve(READ_SIZE).is_err() {
         return Err(ServeFault::NoMemory);
     }
