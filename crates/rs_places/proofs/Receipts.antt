@@ -1,6 +1,6 @@
 -- What a receipt says of the list that its token names.
-use Rattle.std.proofs.Common.{◌≡◌, ◌⊎◌, ⊎_elim, Bool, true, false, cond, ℕ, zero, suc, ◌+◌, List, [], ◌∷◌, ◌++◌, length, refl, inl, inr, sym, ap, subst, ◌∙◌, Some, append-nil, arith, length-append}
-use Rattle.std.specs.Prelude.{Contains, ◌≢◌, ◌-◌, ◌<◌, ◌≤◌, ◌^◌, min, nat_le, MatchBool, Result, Ok, Err}
+use Rattle.std.proofs.Common.{◌≡◌, ◌⊎◌, ⊎_elim, Bool, true, false, cond, ℕ, ◌+◌, List, [], ◌∷◌, ◌++◌, length, refl, inl, inr, sym, ap, subst, ◌∙◌, Some, append-nil, arith, length-append}
+use Rattle.std.specs.Prelude.{Contains, ◌≢◌, ◌<◌, ◌^◌, nat_le, MatchBool, Result, Ok, Err}
 use Rattle.std.specs.List.{All}
 use Rattle.std.proofs.lemmas.List.Elements.{All-weaker, All-contains_itself, Contains-append_left, Contains-append_right}
 use mathlib.Core.List.{IsPrefix}
@@ -23,11 +23,11 @@ among_middle : (e : Entry) (before after : List Entry) → Among e (before ++ e 
 among_middle e [] after = inl refl
 among_middle e (x ∷ xs) after = inr (among_middle e xs after)
 
-stands_contained : (e : Entry) (number : ℕ) (list : List Entry) → StandsAt e number list → Contains list e
+pub stands_contained : (e : Entry) (number : ℕ) (list : List Entry) → StandsAt e number list → Contains list e
 stands_contained e number list s = let P : List Entry → Type 0 = λ l. Contains l e in subst P (sym s.whole) (contains e (s.before ++ e ∷ s.after) (among_middle e s.before s.after))
 
 -- whatever is in a list stands somewhere in it
-stands_somewhere : (e : Entry) (xs : List Entry) → Among e xs → (n : ℕ) × StandsAt e n xs
+pub stands_somewhere : (e : Entry) (xs : List Entry) → Among e xs → (n : ℕ) × StandsAt e n xs
 stands_somewhere e [] h = absurd h
 stands_somewhere e (x ∷ xs) (inl same) = (1, record { before = []; after = xs; whole = ap (λ w. w ∷ xs) same; counted = refl })
 stands_somewhere e (x ∷ xs) (inr later) =
@@ -185,7 +185,7 @@ announces expected changes after_expected ahead after one same is =
 
 pub handed_on_is : (known : List Entry) (old new : Line) → new.place ≡ old.place → new.serial ≡ old.serial + length old.ahead → new.sent ≡ old.sent ++ old.ahead → new.expected ≡ [] → new.ahead ≡ [] → gate_of known new ≡ handed_on known old
 handed_on_is known old new place serial sent none_expected none =
-    let G : ℕ → ℕ → List Entry → List Operation → SharedValue = λ p n l a. record { known = known; mark = record { place = p; serial = n; sent = Some l }; pending = a } in
+    let G : ℕ → ℕ → List Entry → List Operation → SharedValue = λ p n l a. record { known = known; mark = record { place = p; serial = n; alone = true; sent = Some l }; pending = a } in
     let ahead : operations_of new.ahead ++ new.expected ≡ [] = ap (λ l. operations_of l ++ new.expected) none ∙ none_expected in
     ap (λ p. G p new.serial new.sent (operations_of new.ahead ++ new.expected)) place
     ∙ (ap (λ n. G old.place n new.sent (operations_of new.ahead ++ new.expected)) serial
@@ -195,7 +195,7 @@ handed_on_is known old new place serial sent none_expected none =
 -- nothing of a line changed
 pub same_mark : (old new : Line) → new.place ≡ old.place → new.serial ≡ old.serial → new.sent ≡ old.sent → mark_of new ≡ mark_of old
 same_mark old new place serial sent =
-    let M : ℕ → ℕ → List Entry → Mark = λ p n l. record { place = p; serial = n; sent = Some l } in
+    let M : ℕ → ℕ → List Entry → Mark = λ p n l. record { place = p; serial = n; alone = true; sent = Some l } in
     ap (λ p. M p new.serial new.sent) place ∙ (ap (λ n. M old.place n new.sent) serial ∙ ap (λ l. M old.place old.serial l) sent)
 
 -- one serial is used at most

@@ -1,7 +1,10 @@
--- Lists that grow by one, and the ends of places beside their gates.
-use Rattle.std.proofs.Common.{◌≡◌, ◌⊎◌, ⊎_elim, ℕ, suc, ◌+◌, ◌<◌, ◌≤◌, List, [], ◌∷◌, ◌++◌, length, map, refl, sym, ap, subst, ◌∙◌, append_assoc, length-append, arith}
+-- Lists that grow by one, and what is left of places and clients beside what they began with.
+use Rattle.std.proofs.Common.{◌≡◌, ◌⊎◌, ⊎_elim, ℕ, suc, ◌+◌, ◌==◌, ◌<◌, ◌≤◌, Bool, true, List, [], ◌∷◌, ◌++◌, length, map, refl, sym, ap, subst, ◌∙◌, append_assoc, length-append, arith}
+use Rattle.std.proofs.lemmas.Bool.Decides.{nat_tests}
 use Rattle.std.proofs.lemmas.List.{append-nil, length-map, map-append}
-use Rattle.rs_places.specs.Places.{AreEachServed, IsPlaceServed, Left, Place, places_of}
+use Rattle.std.specs.List.{AllByRecursion, AllZip}
+use Rattle.rs_places.specs.Fleet.{Client, client_at, client_with, clients_of}
+use Rattle.rs_places.specs.Places.{Place, places_of}
 use Rattle.rs_places.specs.Shared.{SharedValue}
 use Rattle.rs_places.specs.Turns.{Plan}
 
@@ -22,45 +25,84 @@ same_place {T} plan t u g h e f =
     let P : T → SharedValue → Place = λ t g. record { plan = plan t; gate = g } in
     ap (λ (t : T). P t g) e ∙ ap (P u) f
 
-each_more : (limit : ℕ) (places : List Place) (left : List Left) (place : Place) (end : Left)
-    → AreEachServed limit places left → IsPlaceServed limit place end → AreEachServed limit (places ++ place ∷ []) (left ++ end ∷ [])
-each_more limit [] [] place end all one = (one, tt)
-each_more limit [] (e ∷ es) place end all one = absurd all
-each_more limit (p ∷ ps) [] place end all one = absurd all
-each_more limit (p ∷ ps) (e ∷ es) place end all one = (all.0, each_more limit ps es place end all.1 one)
+each_more : {X Y : Type 0} (R : X → Y → Type 0) (xs : List X) (ys : List Y) (x : X) (y : Y) → AllZip R xs ys → R x y → AllZip R (xs ++ x ∷ []) (ys ++ y ∷ [])
+each_more R [] [] x y all one = (one, tt)
+each_more R [] (e ∷ es) x y all one = absurd all
+each_more R (p ∷ ps) [] x y all one = absurd all
+each_more R (p ∷ ps) (e ∷ es) x y all one = (all.0, each_more R ps es x y all.1 one)
 
--- one place more was served
-pub each_of_both : {A B : Type 0} (limit : ℕ) (f : A → Place) (h : B → Left) (xs : List A) (x : A) (ends more : List B) (end : B)
-    → more ≡ ends ++ end ∷ [] → AreEachServed limit (map f xs) (map h ends) → IsPlaceServed limit (f x) (h end) → AreEachServed limit (map f (xs ++ x ∷ [])) (map h more)
-each_of_both {A} {B} limit f h xs x ends more end is all one =
-    let P : List Place → Type 0 = λ l. AreEachServed limit l (map h more) in
-    let Q : List Left → Type 0 = λ l. AreEachServed limit (map f xs ++ f x ∷ []) l in
+-- one more was served
+pub each_of_both : {A B X Y : Type 0} (R : X → Y → Type 0) (f : A → X) (h : B → Y) (xs : List A) (x : A) (ends more : List B) (end : B)
+    → more ≡ ends ++ end ∷ [] → AllZip R (map f xs) (map h ends) → R (f x) (h end) → AllZip R (map f (xs ++ x ∷ [])) (map h more)
+each_of_both {A} {B} {X} {Y} R f h xs x ends more end is all one =
+    let P : List X → Type 0 = λ l. AllZip R l (map h more) in
+    let Q : List Y → Type 0 = λ l. AllZip R (map f xs ++ f x ∷ []) l in
     let grown : map h more ≡ map h ends ++ h end ∷ [] = ap (map h) is ∙ map-append h ends (end ∷ []) in
-    subst P (sym (map-append f xs (x ∷ []))) (subst Q (sym grown) (each_more limit (map f xs) (map h ends) (f x) (h end) all one))
+    subst P (sym (map-append f xs (x ∷ []))) (subst Q (sym grown) (each_more R (map f xs) (map h ends) (f x) (h end) all one))
 
 -- nothing is left
-pub each_of_whole : {A : Type 0} (limit : ℕ) (f : A → Place) (xs rest whole : List A) (ends : List Left)
-    → AreEachServed limit (map f xs) ends → xs ++ rest ≡ whole → rest ≡ [] → AreEachServed limit (map f whole) ends
-each_of_whole {A} limit f xs rest whole ends all is none =
-    let P : List A → Type 0 = λ l. AreEachServed limit (map f l) ends in
+pub each_of_whole : {A X Y : Type 0} (R : X → Y → Type 0) (f : A → X) (xs rest whole : List A) (ends : List Y)
+    → AllZip R (map f xs) ends → xs ++ rest ≡ whole → rest ≡ [] → AllZip R (map f whole) ends
+each_of_whole {A} R f xs rest whole ends all is none =
+    let P : List A → Type 0 = λ l. AllZip R (map f l) ends in
     subst P (sym (append-nil xs) ∙ (ap (λ l. xs ++ l) (sym none) ∙ is)) all
 
--- the places of both lists were served
-pub each_both : (limit : ℕ) (places more : List Place) (left rest : List Left) → AreEachServed limit places left → AreEachServed limit more rest → AreEachServed limit (places ++ more) (left ++ rest)
-each_both limit [] more [] rest all others = others
-each_both limit [] more (e ∷ es) rest all others = absurd all
-each_both limit (p ∷ ps) more [] rest all others = absurd all
-each_both limit (p ∷ ps) more (e ∷ es) rest all others = (all.0, each_both limit ps more es rest all.1 others)
+-- those of both lists were served
+pub each_both : {X Y : Type 0} (R : X → Y → Type 0) (xs more : List X) (ys rest : List Y) → AllZip R xs ys → AllZip R more rest → AllZip R (xs ++ more) (ys ++ rest)
+each_both R [] more [] rest all others = others
+each_both R [] more (e ∷ es) rest all others = absurd all
+each_both R (p ∷ ps) more [] rest all others = absurd all
+each_both R (p ∷ ps) more (e ∷ es) rest all others = (all.0, each_both R ps more es rest all.1 others)
 
-each_none : (limit : ℕ) (places : List Place) → AreEachServed limit places [] → places ≡ []
-each_none limit [] all = refl
-each_none limit (p ∷ ps) all = absurd all
+each_none : {X Y : Type 0} (R : X → Y → Type 0) (xs : List X) → AllZip R xs [] → xs ≡ []
+each_none R [] all = refl
+each_none R (p ∷ ps) all = absurd all
 
-pub each_length : (limit : ℕ) (places : List Place) (left : List Left) → AreEachServed limit places left → length places ≡ length left
-each_length limit [] [] each = refl
-each_length limit [] (end ∷ left) each = absurd each
-each_length limit (place ∷ places) [] each = absurd each
-each_length limit (place ∷ places) (end ∷ left) each = let h = each_length limit places left each.1 in omega (arith, h)
+pub each_length : {X Y : Type 0} (R : X → Y → Type 0) (xs : List X) (ys : List Y) → AllZip R xs ys → length xs ≡ length ys
+each_length R [] [] each = refl
+each_length R [] (end ∷ ys) each = absurd each
+each_length R (x ∷ xs) [] each = absurd each
+each_length R (x ∷ xs) (end ∷ ys) each = let h = each_length R xs ys each.1 in omega (arith, h)
+
+-- what holds of each of both lists, with what holds of them together
+pub each_with : {X Y : Type 0} (R S : X → Y → Type 0) (P : X → Type 0) (Q : Y → Type 0) → ((x : X) (y : Y) → R x y → P x → Q y → S x y)
+    → (xs : List X) (ys : List Y) → AllZip R xs ys → AllByRecursion P xs → AllByRecursion Q ys → AllZip S xs ys
+each_with R S P Q to [] [] each first second = tt
+each_with R S P Q to [] (y ∷ ys) each first second = absurd each
+each_with R S P Q to (x ∷ xs) [] each first second = absurd each
+each_with R S P Q to (x ∷ xs) (y ∷ ys) each first second = (to x y each.0 first.0 second.0, each_with R S P Q to xs ys each.1 first.1 second.1)
+
+-- the first turn that is left is that of the next client
+pub next_client : {T E : Type 0} (gates : List SharedValue) (plan : T → Plan) (f : E → Client) (all more : List E) (one : E) (turns left : List T) (turn : T) (number next : ℕ) (whole : List Client)
+    → more ≡ all ++ one ∷ [] → f one ≡ client_at gates number (plan turn) → turns ≡ turn ∷ left → next ≡ number + 1 → map f all ++ clients_of gates number (map plan turns) ≡ whole
+    → map f more ++ clients_of gates next (map plan left) ≡ whole
+next_client {T} gates plan f all more one turns left turn number next whole pushed is taken following so_far =
+    let rest : ℕ → List Client = λ n. clients_of gates n (map plan left) in
+    let grown : map f more ≡ map f all ++ f one ∷ [] = ap (map f) pushed ∙ map-append f all (one ∷ []) in
+    let first_is : clients_of gates number (map plan turns) ≡ client_at gates number (plan turn) ∷ rest (number + 1) = ap (λ (l : List T). clients_of gates number (map plan l)) taken in
+    ap (λ l. l ++ rest next) grown
+    ∙ (append_assoc (map f all) (f one ∷ []) (rest next)
+    ∙ (ap (λ c. map f all ++ c ∷ rest next) is
+    ∙ (ap (λ n. map f all ++ client_at gates number (plan turn) ∷ rest n) following ∙ (ap (λ l. map f all ++ l) (sym first_is) ∙ so_far))))
+
+-- no turn is left
+pub no_client : {T E : Type 0} (gates : List SharedValue) (plan : T → Plan) (f : E → Client) (all : List E) (turns : List T) (number : ℕ) (whole : List Client)
+    → map f all ++ clients_of gates number (map plan turns) ≡ whole → turns ≡ [] → map f all ≡ whole
+no_client {T} gates plan f all turns number whole so_far none =
+    sym (append-nil (map f all)) ∙ (ap (λ (l : List T). map f all ++ clients_of gates number (map plan l)) (sym none) ∙ so_far)
+
+pub same_client : {T : Type 0} (plan : T → Plan) (t u : T) (g h : SharedValue) (m n : ℕ) → t ≡ u → g ≡ h → m ≡ n → client_with (plan t) g m ≡ client_with (plan u) h n
+same_client {T} plan t u g h m n e f k = ap (λ (t : T). client_with (plan t) g m) e ∙ (ap (λ v. client_with (plan u) v m) f ∙ ap (client_with (plan u) h) k)
+
+pub clients_length : (gates : List SharedValue) (number : ℕ) (plans : List Plan) → length (clients_of gates number plans) ≡ length plans
+clients_length gates number [] = refl
+clients_length gates number (plan ∷ plans) = let h = clients_length gates (number + 1) plans in omega (arith, h)
+
+pub next_of : {A B : Type 0} (f : A → B) (xs left : List A) (x : A) → xs ≡ x ∷ left → map f xs ≡ f x ∷ map f left
+next_of f xs left x first = ap (map f) first
+
+pub same_of : {A B : Type 0} (f : A → B) (xs ys : List A) → xs ≡ ys → map f xs ≡ map f ys
+same_of f xs ys same = ap (map f) same
 
 -- ---- one more within a capacity, in numbers alone
 
@@ -85,49 +127,53 @@ thread_fits threads served left rest all capacity few next fits = omega arith
 pub served_fits : (threads served left rest all capacity : ℕ) → threads + served + left ≤ all → left ≡ suc rest → all ≤ capacity → served < capacity
 served_fits threads served left rest all capacity few next fits = omega arith
 
--- ---- places that are started
+-- ---- threads that are started
 
--- These places have a thread, those behind them were served, and the rest comes behind these.
-pub record StartedSoFar (limit : ℕ) (threads : List Place) (left : List Left) (rest whole : List Place) : Type 0 where
-  pub places : List Place
-  pub all : threads ++ (places ++ rest) ≡ whole
-  pub each : AreEachServed limit places left
+-- These have a thread, those behind them were served, and the rest comes behind these.
+pub record StartedSoFar {X Y : Type 0} (R : X → Y → Type 0) (threads : List X) (left : List Y) (rest whole : List X) : Type 0 where
+  pub here : List X
+  pub all : threads ++ (here ++ rest) ≡ whole
+  pub each : AllZip R here left
 
-pub started_none : {A B : Type 0} (limit : ℕ) (f : A → Place) (h : B → Left) (threads : List A) (served : List B) (rest whole : List Place) → threads ≡ [] → served ≡ [] → rest ≡ whole → StartedSoFar limit (map f threads) (map h served) rest whole
-started_none {A} {B} limit f h threads served rest whole no_threads none same =
-    let P : List A → Type 0 = λ l. StartedSoFar limit (map f l) (map h served) rest whole in
-    let Q : List B → Type 0 = λ l. StartedSoFar limit [] (map h l) rest whole in
-    subst P (sym no_threads) (subst Q (sym none) (record { places = []; all = same; each = tt }))
+pub started_none : {A B X Y : Type 0} (R : X → Y → Type 0) (f : A → X) (h : B → Y) (threads : List A) (served : List B) (rest whole : List X) → threads ≡ [] → served ≡ [] → rest ≡ whole → StartedSoFar R (map f threads) (map h served) rest whole
+started_none {A} {B} R f h threads served rest whole no_threads none same =
+    let P : List A → Type 0 = λ l. StartedSoFar R (map f l) (map h served) rest whole in
+    let Q : List B → Type 0 = λ l. StartedSoFar R [] (map h l) rest whole in
+    subst P (sym no_threads) (subst Q (sym none) (record { here = []; all = same; each = tt }))
+
+-- what is empty has no length
+pub is_zero : (len : ℕ) (empty : Bool) → empty ≡ (len == 0) → empty ≡ true → len ≡ 0
+is_zero len empty same full = grind (arith, nat_tests)
 
 no_items : {A : Type 0} (xs : List A) → length xs ≡ 0 → xs ≡ []
 no_items [] none = refl
 no_items (x ∷ xs) none = absurd (omega (arith, none))
 
--- a thread more, before any place was served without one
-pub thread_more : {A B : Type 0} (limit : ℕ) (f : A → Place) (h : B → Left) (threads more : List A) (thread : A) (served : List B) (rest left whole : List Place) (place : Place)
-    → more ≡ threads ++ thread ∷ [] → length served ≡ 0 → f thread ≡ place → rest ≡ place ∷ left → StartedSoFar limit (map f threads) (map h served) rest whole → StartedSoFar limit (map f more) (map h served) left whole
-thread_more {A} {B} limit f h threads more thread served rest left whole place pushed none is first so_far =
+-- a thread more, before any was served without one
+pub thread_more : {A B X Y : Type 0} (R : X → Y → Type 0) (f : A → X) (h : B → Y) (threads more : List A) (thread : A) (served : List B) (rest left whole : List X) (one : X)
+    → more ≡ threads ++ thread ∷ [] → length served ≡ 0 → f thread ≡ one → rest ≡ one ∷ left → StartedSoFar R (map f threads) (map h served) rest whole → StartedSoFar R (map f more) (map h served) left whole
+thread_more {A} {B} {X} R f h threads more thread served rest left whole one pushed none is first so_far =
     let empty : served ≡ [] = no_items served none in
-    let P : List B → Type 0 = λ l. AreEachServed limit so_far.places (map h l) in
-    let no_places : so_far.places ≡ [] = each_none limit so_far.places (subst P empty so_far.each) in
-    let Q : List Place → Type 0 = λ l. AreEachServed limit l (map h served) in
-    let grown : map f more ≡ map f threads ++ place ∷ [] = ap (map f) pushed ∙ (map-append f threads (thread ∷ []) ∙ ap (λ c. map f threads ++ c ∷ []) is) in
+    let P : List B → Type 0 = λ l. AllZip R so_far.here (map h l) in
+    let nobody : so_far.here ≡ [] = each_none R so_far.here (subst P empty so_far.each) in
+    let Q : List X → Type 0 = λ l. AllZip R l (map h served) in
+    let grown : map f more ≡ map f threads ++ one ∷ [] = ap (map f) pushed ∙ (map-append f threads (thread ∷ []) ∙ ap (λ c. map f threads ++ c ∷ []) is) in
     record {
-      places = [];
-      all = ap (λ l. l ++ left) grown ∙ (append_assoc (map f threads) (place ∷ []) left ∙ (ap (λ l. map f threads ++ l) (sym first) ∙ (ap (λ l. map f threads ++ (l ++ rest)) (sym no_places) ∙ so_far.all)));
-      each = subst Q no_places so_far.each;
+      here = [];
+      all = ap (λ l. l ++ left) grown ∙ (append_assoc (map f threads) (one ∷ []) left ∙ (ap (λ l. map f threads ++ l) (sym first) ∙ (ap (λ l. map f threads ++ (l ++ rest)) (sym nobody) ∙ so_far.all)));
+      each = subst Q nobody so_far.each;
     }
 
--- a place more that was served
-pub served_here : {B : Type 0} (limit : ℕ) (threads : List Place) (h : B → Left) (served more : List B) (end : B) (rest left whole : List Place) (place : Place)
-    → more ≡ served ++ end ∷ [] → IsPlaceServed limit place (h end) → rest ≡ place ∷ left → StartedSoFar limit threads (map h served) rest whole → StartedSoFar limit threads (map h more) left whole
-served_here {B} limit threads h served more end rest left whole place pushed one first so_far =
+-- one more was served here
+pub served_here : {B X Y : Type 0} (R : X → Y → Type 0) (threads : List X) (h : B → Y) (served more : List B) (end : B) (rest left whole : List X) (one : X)
+    → more ≡ served ++ end ∷ [] → R one (h end) → rest ≡ one ∷ left → StartedSoFar R threads (map h served) rest whole → StartedSoFar R threads (map h more) left whole
+served_here {B} {X} {Y} R threads h served more end rest left whole one pushed here first so_far =
     let grown : map h more ≡ map h served ++ h end ∷ [] = ap (map h) pushed ∙ map-append h served (end ∷ []) in
-    let P : List Left → Type 0 = λ l. AreEachServed limit (so_far.places ++ place ∷ []) l in
+    let P : List Y → Type 0 = λ l. AllZip R (so_far.here ++ one ∷ []) l in
     record {
-      places = so_far.places ++ place ∷ [];
-      all = ap (λ l. threads ++ l) (append_assoc so_far.places (place ∷ []) left ∙ ap (λ l. so_far.places ++ l) (sym first)) ∙ so_far.all;
-      each = subst P (sym grown) (each_more limit so_far.places (map h served) place (h end) so_far.each one);
+      here = so_far.here ++ one ∷ [];
+      all = ap (λ l. threads ++ l) (append_assoc so_far.here (one ∷ []) left ∙ ap (λ l. so_far.here ++ l) (sym first)) ∙ so_far.all;
+      each = subst P (sym grown) (each_more R so_far.here (map h served) one (h end) so_far.each here);
     }
 
 -- there is no turn or no gate for another place
@@ -136,18 +182,18 @@ no_places plan [] gates none = refl
 no_places plan (turn ∷ turns) [] none = refl
 no_places plan (turn ∷ turns) (gate ∷ gates) none = ⊎_elim (λ t. absurd (omega (arith, t))) (λ t. absurd (omega (arith, t))) none
 
-pub all_started : (limit : ℕ) (threads : List Place) (left : List Left) (rest whole : List Place) → rest ≡ [] → StartedSoFar limit threads left rest whole
-    → (places : List Place) × (threads ++ places ≡ whole) × AreEachServed limit places left
-all_started limit threads left rest whole none so_far =
-    (so_far.places, ap (λ l. threads ++ l) (sym (append-nil so_far.places) ∙ ap (λ l. so_far.places ++ l) (sym none)) ∙ so_far.all, so_far.each)
+pub all_started : {X Y : Type 0} (R : X → Y → Type 0) (threads : List X) (left : List Y) (rest whole : List X) → rest ≡ [] → StartedSoFar R threads left rest whole
+    → (here : List X) × (threads ++ here ≡ whole) × AllZip R here left
+all_started R threads left rest whole none so_far =
+    (so_far.here, ap (λ l. threads ++ l) (sym (append-nil so_far.here) ∙ ap (λ l. so_far.here ++ l) (sym none)) ∙ so_far.all, so_far.each)
 
 -- the threads were joined, and the rest was served before
-pub all_joined : {B : Type 0} (limit : ℕ) (threads places whole : List Place) (h : B → Left) (joined served ends : List B) → threads ++ places ≡ whole → ends ≡ joined ++ served
-    → AreEachServed limit threads (map h joined) → AreEachServed limit places (map h served) → AreEachServed limit whole (map h ends)
-all_joined {B} limit threads places whole h joined served ends all is first second =
-    let P : List Place → Type 0 = λ l. AreEachServed limit l (map h ends) in
-    let Q : List Left → Type 0 = λ l. AreEachServed limit (threads ++ places) l in
-    subst P all (subst Q (sym (ap (map h) is ∙ map-append h joined served)) (each_both limit threads places (map h joined) (map h served) first second))
+pub all_joined : {B X Y : Type 0} (R : X → Y → Type 0) (threads here whole : List X) (h : B → Y) (joined served ends : List B) → threads ++ here ≡ whole → ends ≡ joined ++ served
+    → AllZip R threads (map h joined) → AllZip R here (map h served) → AllZip R whole (map h ends)
+all_joined {B} {X} {Y} R threads here whole h joined served ends all is first second =
+    let P : List X → Type 0 = λ l. AllZip R l (map h ends) in
+    let Q : List Y → Type 0 = λ l. AllZip R (threads ++ here) l in
+    subst P all (subst Q (sym (ap (map h) is ∙ map-append h joined served)) (each_both R threads here (map h joined) (map h served) first second))
 
 -- ---- how many they are
 
@@ -163,12 +209,17 @@ places_few (plan ∷ plans) [] = omega (arith)
 places_few (plan ∷ plans) (gate ∷ gates) = let h = places_few plans gates in omega (arith, h)
 
 -- there are no more ends than gates
-pub few_ends : {E : Type 0} (limit : ℕ) (plans : List Plan) (gates : List SharedValue) (h : E → Left) (ends : List E) → AreEachServed limit (places_of plans gates) (map h ends) → length ends ≤ length gates
-few_ends limit plans gates h ends served =
-    let each = each_length limit (places_of plans gates) (map h ends) served in
+pub few_ends : {E Y : Type 0} (R : Place → Y → Type 0) (plans : List Plan) (gates : List SharedValue) (h : E → Y) (ends : List E) → AllZip R (places_of plans gates) (map h ends) → length ends ≤ length gates
+few_ends R plans gates h ends served =
+    let each = each_length R (places_of plans gates) (map h ends) served in
     let few = places_few plans gates in
     omega (arith, each, few, length-map ends h)
 
 -- as many ends as threads
-pub as_many : {A B : Type 0} (limit : ℕ) (f : A → Place) (h : B → Left) (threads : List A) (ends : List B) → AreEachServed limit (map f threads) (map h ends) → length threads ≡ length ends
-as_many limit f h threads ends served = sym (length-map threads f) ∙ (each_length limit (map f threads) (map h ends) served ∙ length-map ends h)
+pub as_many : {A B X Y : Type 0} (R : X → Y → Type 0) (f : A → X) (h : B → Y) (threads : List A) (ends : List B) → AllZip R (map f threads) (map h ends) → length threads ≡ length ends
+as_many R f h threads ends served = sym (length-map threads f) ∙ (each_length R (map f threads) (map h ends) served ∙ length-map ends h)
+
+-- as many ends as turns
+pub as_many_clients : {T B Y : Type 0} (R : Client → Y → Type 0) (gates : List SharedValue) (plan : T → Plan) (turns : List T) (h : B → Y) (ends : List B) → AllZip R (clients_of gates 0 (map plan turns)) (map h ends) → length turns ≡ length ends
+as_many_clients R gates plan turns h ends served =
+    sym (clients_length gates 0 (map plan turns) ∙ length-map turns plan) ∙ (each_length R (clients_of gates 0 (map plan turns)) (map h ends) served ∙ length-map ends h)

@@ -2,7 +2,7 @@
 use Rattle.std.proofs.Common.{◌≡◌, ℕ, Option, Some, None, List, [], ◌∷◌, ◌++◌, map, refl, sym, ap, subst, ◌∙◌, append_assoc}
 use Rattle.std.proofs.lemmas.List.{append-nil, map-append}
 use Rattle.std.specs.Prelude.{Result}
-use Rattle.rs_intake.specs.Lines.{Closed, IsClosed}
+use Rattle.rs_intake.specs.Lines.{AreOfLine, Closed, IsClosed}
 use Rattle.rs_message.specs.declared.entry.Entry.{Entry}
 use mathlib.Core.List.{IsPrefix}
 use Rattle.rs_session.specs.Gate.{Sends}
@@ -12,7 +12,7 @@ use Rattle.rs_server.specs.Counts.{failures_of, inner_of}
 use Rattle.rs_server.specs.declared.counted.Counted.{Counted}
 use Rattle.rs_server.specs.declared.connection.Served.{Served}
 use Rattle.rs_server.specs.declared.writing.ServeFault.{ServeFault}
-use Rattle.rs_places.specs.Places.{AreConnectionsServed, IsPlaceServed, Left, Place, ServesOne, Visit, next_number, place_at}
+use Rattle.rs_places.specs.Places.{AreConnectionsServed, IsClientServed, IsPlaceServed, Place, ServesOne, Visit, next_number, place_at}
 use Rattle.rs_places.specs.Serving.{IsServedAt}
 use Rattle.rs_places.specs.Shared.{SharedValue, operations_of}
 use Rattle.rs_places.specs.Turns.{AreAll, Ending, Gave, GivesNext, Plan, Streams, TakesBack, TookBack}
@@ -45,16 +45,16 @@ took_more None (Some vs) (Some us) xs ys p q = absurd p
 took_more (Some ws) (Some vs) (Some us) xs ys p q = q ∙ (ap (λ l. l ++ ys) p ∙ append_assoc ws xs ys)
 
 -- Whatever is served from here on was served after what was served so far. The place stays.
-pub record ServedSoFar (limit : ℕ) (first : Place) (number : ℕ) (now : Place) : Type 0 where
+pub record ServedSoFar (limit begin : ℕ) (first : Place) (number : ℕ) (now : Place) : Type 0 where
   pub visits : List Visit
-  pub extends : (more : List Visit) (last : SharedValue) → AreConnectionsServed limit number now.gate more last → AreConnectionsServed limit 1 first.gate (visits ++ more) last
+  pub extends : (more : List Visit) (last : SharedValue) → AreConnectionsServed limit number now.gate more last → AreConnectionsServed limit begin first.gate (visits ++ more) last
   pub given : Gave first.plan.waiting (map (λ visit. visit.given) visits) now.plan.waiting
   pub ended : TookBack first.plan.ended (map (λ visit. visit.ending) visits) now.plan.ended
   pub place : now.gate.mark.place ≡ first.gate.mark.place
   pub pending : first.gate.pending ≡ [] → now.gate.pending ≡ []
 
-pub served_none : (limit : ℕ) (place : Place) → ServedSoFar limit place 1 place
-served_none limit place = record {
+pub served_none : (limit begin : ℕ) (place : Place) → ServedSoFar limit begin place begin place
+served_none limit begin place = record {
   visits = [];
   extends = λ more last h. h;
   given = gave_none place.plan.waiting;
@@ -63,9 +63,9 @@ served_none limit place = record {
   pending = λ none. none;
 }
 
-pub served_more : (limit number : ℕ) (first now after : Place) (plan : Plan) (given : Streams) → ServedSoFar limit first number now → GivesNext now.plan (Some given) plan
-    → ServesOne limit number (record { plan = plan; gate = now.gate }) given after → ServedSoFar limit first (next_number number) after
-served_more limit number first now after plan given so_far next one =
+pub served_more : (limit begin number : ℕ) (first now after : Place) (plan : Plan) (given : Streams) → ServedSoFar limit begin first number now → GivesNext now.plan (Some given) plan
+    → ServesOne limit number (record { plan = plan; gate = now.gate }) given after → ServedSoFar limit begin first (next_number number) after
+served_more limit begin number first now after plan given so_far next one =
     let visit = one.visit in
     let G : Streams → Type 0 = λ s. Gave now.plan.waiting (s ∷ []) plan.waiting in
     let gave : Gave now.plan.waiting (visit.given ∷ []) after.plan.waiting =
@@ -78,7 +78,7 @@ served_more limit number first now after plan given so_far next one =
       visits = so_far.visits ++ visit ∷ [];
       extends = λ more last h.
           let R : SharedValue → Type 0 = λ gate. AreConnectionsServed limit (next_number number) gate more last in
-          let S : List Visit → Type 0 = λ l. AreConnectionsServed limit 1 first.gate l last in
+          let S : List Visit → Type 0 = λ l. AreConnectionsServed limit begin first.gate l last in
           subst S (sym (append_assoc so_far.visits (visit ∷ []) more)) (so_far.extends (visit ∷ more) last (one.served, subst R (sym one.leaves) h));
       given = subst P (sym (map-append (λ (v : Visit). v.given) so_far.visits (visit ∷ [])))
           (gave_more first.plan.waiting now.plan.waiting after.plan.waiting (map (λ (v : Visit). v.given) so_far.visits) (visit.given ∷ []) so_far.given gave);
@@ -91,9 +91,9 @@ served_more limit number first now after plan given so_far next one =
     }
 
 -- the place, once its turn has no more connections and its line is closed
-pub place_served : (limit number : ℕ) (first now : Place) (plan : Plan) (told : List Entry) (line : Closed) → ServedSoFar limit first number now → GivesNext now.plan None plan
-    → told ≡ now.gate.known → line.place ≡ now.gate.mark.place → ((tail : List Entry) × Sends now.gate.mark.sent tail (Some line.sent) × IsPrefix (operations_of tail) now.gate.pending) → IsClosed line.place line.ends line.gone → IsPlaceServed limit first (record { plan = plan; told = told; line = line })
-place_served limit number first now plan told line so_far next told_is place sent closed =
+pub place_served : (limit number : ℕ) (first now : Place) (plan : Plan) (told : List Entry) (line : Closed) → ServedSoFar limit 1 first number now → GivesNext now.plan None plan
+    → told ≡ now.gate.known → line.place ≡ now.gate.mark.place → ((tail : List Entry) × Sends now.gate.mark.sent tail (Some line.sent) × IsPrefix (operations_of tail) now.gate.pending) → IsClosed line.place line.ends line.gone → AreOfLine line.place line.sent → IsPlaceServed limit first (record { plan = plan; told = told; line = line })
+place_served limit number first now plan told line so_far next told_is place sent closed of_line =
     let P : List Visit → Type 0 = λ l. AreConnectionsServed limit 1 first.gate l now.gate in
     let Q : List Ending → Type 0 = λ l. TookBack first.plan.ended l plan.ended in
     record {
@@ -107,6 +107,24 @@ place_served limit number first now plan told line so_far next told_is place sen
       number = place ∙ so_far.place;
       sent = λ none. no_tail now.gate.mark.sent line.sent sent.0 now.gate.pending sent.1 sent.2 (so_far.pending none);
       closed = closed;
+      line = of_line;
+    }
+
+-- a client of a place, once its turn has no more connections
+pub client_served : (limit begin number : ℕ) (first now : Place) (plan : Plan) (told : List Entry) → ServedSoFar limit begin first number now → GivesNext now.plan None plan → told ≡ now.gate.known
+    → IsClientServed limit begin first (record { plan = plan; told = told })
+client_served limit begin number first now plan told so_far next told_is =
+    let P : List Visit → Type 0 = λ l. AreConnectionsServed limit begin first.gate l now.gate in
+    let Q : List Ending → Type 0 = λ l. TookBack first.plan.ended l plan.ended in
+    record {
+      visits = so_far.visits;
+      last = now.gate;
+      connections = subst P (append-nil so_far.visits) (so_far.extends [] now.gate refl);
+      all = all_given first.plan.waiting now.plan.waiting (map (λ (v : Visit). v.given) so_far.visits) so_far.given next.waiting;
+      ended = subst Q (append-nil (map (λ (v : Visit). v.ending) so_far.visits))
+          (took_more first.plan.ended now.plan.ended plan.ended (map (λ (v : Visit). v.ending) so_far.visits) [] so_far.ended next.ended);
+      told = told_is;
+      place = so_far.place;
     }
 
 -- one connection, once it was given back

@@ -1,22 +1,21 @@
 -- From what is settled to one statement about a whole run.
 use Rattle.std.proofs.Common.{◌≡◌, ◌≢◌, ◌⊎◌, ⊎_elim, inl, inr, ℕ, zero, suc, ◌+◌, ◌==◌, ◌<◌, ◌≤◌, Bool, true, false, cond, List, [], ◌∷◌, ◌++◌, length, map, get_or, take, refl, sym, ap, subst, ◌∙◌, append_assoc, length-append, arith}
-use Rattle.std.specs.Prelude.{Option, Some, None, IfSome, IsTrue, MatchBool}
-use Rattle.std.specs.List.{All, AllByRecursion, HoldsAt, filter}
+use Rattle.std.specs.Prelude.{Option, Some, None, MatchOption}
+use Rattle.std.specs.List.{All, AllByRecursion, AllZip, filter}
 use mathlib.Core.List.{IsPrefix}
 use Rattle.std.proofs.lemmas.List.{append-nil, length-map, map-append}
-use Rattle.std.proofs.lemmas.List.Elements.{All-more, at_read, filter-append, recursion_from_All}
+use Rattle.std.proofs.lemmas.List.Elements.{All-more, recursion_from_All}
 use Rattle.rs_message.specs.declared.entry.Entry.{Entry}
 use Rattle.rs_store.specs.History.{IsLegal}
 use Rattle.rs_store.proofs.Entries.{all_weaker}
-use Rattle.rs_version.specs.Copies.{listed}
 use Rattle.rs_version.specs.Receipts.{StandsAt}
 use Rattle.rs_version.specs.Writer.{Written, kept_of}
 use Rattle.rs_version.proofs.Origins.{origins_differ}
-use Rattle.rs_intake.specs.Lines.{Closed, Line, new_lines}
+use Rattle.rs_intake.specs.Lines.{AreOfLine, Closed, IsClosed, Line, new_lines}
 use Rattle.rs_intake.specs.Parts.{IsPart}
 use Rattle.rs_intake.specs.QueueRule.{of_place}
-use Rattle.rs_intake.specs.Done.{Answer, IsWritten, is_refused, not_refused}
-use Rattle.rs_intake.specs.Settling.{AreOfPlaces, AreTaken, AreTakenInOrder, sent_in_all}
+use Rattle.rs_intake.specs.Done.{Answer, IsWritten, Told, is_refused, not_refused}
+use Rattle.rs_intake.specs.Settling.{AreOfPlaces, AreTakenInOrder, EachOnce}
 use Rattle.rs_intake.specs.Sweeps.{without_sweeps}
 use Rattle.rs_packet.specs.declared.packet.Publish.{Publish}
 use Rattle.rs_session.specs.Gate.{Extends, Mark, Sends}
@@ -26,11 +25,14 @@ use Rattle.rs_session.specs.Run.{Exchange}
 use Rattle.rs_session.specs.Sent.{AreSentBy}
 use Rattle.rs_session.proofs.Sending.{both_sent, none_sent}
 use Rattle.rs_server.specs.Conversation.{AreLeft, assigned_of, start}
-use Rattle.rs_places.specs.Places.{AreConnectionsServed, AreEachServed, IsConnectionServed, IsPlaceServed, Left, Place, Visit, left_at, next_number, places_of}
+use Rattle.rs_places.specs.Clients.{new_client, new_clients}
+use Rattle.rs_places.specs.Fleet.{Client, IsClientOf, IsFleetRun, IsTurnServed, clients_of, fleet_gates}
+use Rattle.rs_places.specs.Places.{AreConnectionsServed, ClientLeft, IsConnectionServed, IsPlaceServed, Left, Place, Visit, client_left, left_at, next_number, places_of}
 use Rattle.rs_places.specs.Shared.{SharedValue, handed_on, operations_of}
-use Rattle.rs_places.specs.Store.{ArePlacesOf, ArePublications, AreWithin, IsPlaceOf, IsSettled, IsStoreRun, IsWithin, gates_of, new_gates}
+use Rattle.rs_places.specs.Store.{ArePublications, AreWithin, IsLineOf, IsPlaceOf, IsSettled, IsStoreRun, IsUnsettled, IsWithin, IsWriterRun, gates_of, new_gates}
 use Rattle.rs_places.specs.Turns.{Plan}
-use Rattle.rs_places.proofs.Starting.{each_length, places_length}
+use Rattle.rs_places.proofs.EachOnce.{each_once}
+use Rattle.rs_places.proofs.Starting.{each_length, each_with, places_length}
 
 -- ---- the lists of connections
 
@@ -106,11 +108,6 @@ visits_within limit number list first (visit ∷ visits) last legal (one, more) 
 
 -- ---- what the writer took
 
-part_front_of : {A : Type 0} (xs ys zs : List A) → IsPart (xs ++ ys) zs → IsPart xs zs
-part_front_of [] ys zs p = tt
-part_front_of (x ∷ xs) ys [] p = absurd p
-part_front_of (x ∷ xs) ys (z ∷ zs) p = ⊎_elim (λ t. inl (t.0, part_front_of xs ys zs t.1)) (λ t. inr (part_front_of (x ∷ xs) ys zs t)) p
-
 part_behind : {A : Type 0} (xs ys : List A) (y : A) → IsPart xs ys → IsPart xs (y ∷ ys)
 part_behind [] ys y p = tt
 part_behind (x ∷ xs) ys y p = inr p
@@ -131,12 +128,6 @@ part_filter {A} f (x ∷ xs) (y ∷ ys) p = ⊎_elim
     more true h = part_behind (filter f (x ∷ xs)) (filter f ys) y h
     more false h = h
 
-published_part : (w : Written) (entries : List Entry) (place : ℕ) → IsPart (without_sweeps (kept_of w)) entries → IsPart (of_place place (without_sweeps w.published)) (of_place place entries)
-published_part w entries place part =
-    let P : List Entry → Type 0 = λ l. IsPart l entries in
-    let split = subst P (filter-append _ w.published (listed w.held)) part in
-    part_filter (λ e. e.origin.place == place) (without_sweeps w.published) entries (part_front_of (without_sweeps w.published) (without_sweeps (listed w.held)) entries split)
-
 not_refused_part : (entries : List Entry) (answers : List Answer) → IsPart (not_refused entries answers) entries
 not_refused_part [] answers = tt
 not_refused_part (entry ∷ entries) [] = tt
@@ -146,8 +137,8 @@ not_refused_part (entry ∷ entries) (answer ∷ answers) = go (is_refused answe
     go true h = part_behind (not_refused entries answers) entries entry h
     go false h = inl (refl, h)
 
-written_part : (limit : ℕ) (entries kept : List Entry) → IsWritten limit entries kept → IsPart (without_sweeps kept) entries
-written_part limit entries kept w = let P : List Entry → Type 0 = λ l. IsPart l entries in subst P (sym w.changes) (not_refused_part entries w.answers)
+written_part : (limit places : ℕ) (entries kept : List Entry) (ways : List Told) → IsWritten limit places entries kept ways → IsPart (without_sweeps kept) entries
+written_part limit places entries kept ways w = let P : List Entry → Type 0 = λ l. IsPart l entries in subst P (sym w.changes) (not_refused_part entries w.answers)
 
 part_of_front : {A : Type 0} (xs ys zs : List A) → IsPart xs ys → IsPart xs (ys ++ zs)
 part_of_front [] ys zs part = tt
@@ -182,29 +173,59 @@ place_sends limit place left fresh none served =
     let R : List Entry → Type 0 = λ l. ArePublications 1 place.gate served.visits l in
     subst R (sym is) are
 
--- ---- the places
+-- ---- the writer, the lines, the places and the clients
 
-each_of_store : (limit : ℕ) (history entries : List Entry) (places : List Place) (left : List Left) → IsLegal limit history → ((place : ℕ) → IsPart (of_place place (without_sweeps history)) (of_place place entries))
-    → AllByRecursion (λ place. (place.gate.mark.sent ≡ Some []) × (place.gate.pending ≡ [])) places → AreEachServed limit places left
-    → AllByRecursion (λ end. Extends history end.told) left → AllByRecursion (λ end. Extends end.line.sent (of_place end.line.place entries)) left → ArePlacesOf limit history entries places left
-each_of_store limit history entries [] [] legal part fresh each told taken = tt
-each_of_store limit history entries [] (end ∷ left) legal part fresh each told taken = absurd each
-each_of_store limit history entries (place ∷ places) [] legal part fresh each told taken = absurd each
-each_of_store limit history entries (place ∷ places) (end ∷ left) legal part fresh each told taken =
-    let served : IsPlaceServed limit place end = each.0 in
+abbrev writer_run : (limit places version : ℕ) (w : Written) (entries : List Entry) (ways : List Told) → IsWritten limit places entries (kept_of w) ways → IsLegal limit (kept_of w) → AreOfPlaces places entries → version ≡ length w.published
+    → IsWriterRun limit places version
+writer_run limit places version w entries ways written legal placed version_is = record {
+  history = kept_of w;
+  legal = legal;
+  published = w.published;
+  held = w.held;
+  whole = refl;
+  entries = version_is;
+  taken = entries;
+  ways = ways;
+  written = written;
+  placed = placed;
+  not_refused_of = λ place. ap (of_place place) written.changes;
+}
+
+line_of : (history entries : List Entry) (line : Closed) → IsPart (without_sweeps history) entries → Extends line.sent (of_place line.place entries) → IsLineOf history entries line
+line_of history entries line kept taken =
+    let own = of_place line.place (without_sweeps history) in
+    let Q : List Entry → Type 0 = λ l. IsPart own l in
+    let part = part_filter (λ e. e.origin.place == line.place) (without_sweeps history) entries kept in
+    record { taken = taken; part = subst Q (sym taken.1) (part_of_front own (of_place line.place entries) taken.0 part) }
+
+abbrev IsFresh : Place → Type 0
+IsFresh place = (place.gate.mark.sent ≡ Some []) × (place.gate.pending ≡ [])
+
+abbrev IsKnown : List Entry → List Entry → Left → Type 0
+IsKnown history entries left = Extends history left.told × Extends left.line.sent (of_place left.line.place entries)
+
+place_of : (limit : ℕ) (history entries : List Entry) (place : Place) (left : Left) → IsLegal limit history → IsPart (without_sweeps history) entries → IsPlaceServed limit place left → IsFresh place → IsKnown history entries left
+    → IsPlaceOf limit history entries place left
+place_of limit history entries place left legal kept served fresh known =
     let P : List Entry → Type 0 = λ l. Extends history l in
-    let own = of_place end.line.place (without_sweeps history) in
-    let Q : List Entry → Type 0 = λ l. IsPart own l in (
-      record {
-        served = served;
-        within = (visits_within limit 1 history place.gate served.visits served.last legal served.connections (subst P served.told told.0)).1;
-        known = told.0;
-        publications = place_sends limit place end fresh.0.0 fresh.0.1 served;
-        taken = taken.0;
-        part = subst Q (sym taken.0.1) (part_of_front own (of_place end.line.place entries) taken.0.0 (part end.line.place));
-      },
-      each_of_store limit history entries places left legal part fresh.1 each.1 told.1 taken.1,
-    )
+    record {
+      served = served;
+      within = (visits_within limit 1 history place.gate served.visits served.last legal served.connections (subst P served.told known.0)).1;
+      known = known.0;
+      publications = place_sends limit place left fresh.0 fresh.1 served;
+      line = line_of history entries left.line kept known.1;
+    }
+
+client_of : (limit : ℕ) (history : List Entry) (client : Client) (left : ClientLeft) → IsLegal limit history → IsTurnServed limit client left → Extends history left.told → IsClientOf limit history client left
+client_of limit history client left legal served known =
+    let P : List Entry → Type 0 = λ l. Extends history l in
+    record {
+      served = served;
+      within = (visits_within limit client.first history client.place.gate served.visits served.last legal served.connections (subst P served.told known)).1;
+      known = known;
+    }
+
+-- ---- new places
 
 new_lines_length : (places : ℕ) → length (new_lines places) ≡ places
 new_lines_length zero = refl
@@ -252,44 +273,31 @@ lines_fresh : (places : ℕ) → AllByRecursion (λ line. line.sent ++ line.ahea
 lines_fresh zero = tt
 lines_fresh (suc n) = all_behind (λ (line : Line). line.sent ++ line.ahead ≡ []) (new_lines n) (record { place = suc n; serial = 0; sent = []; heard = []; came = []; expected = []; ahead = [] }) (lines_fresh n) refl
 
-places_fresh : (plans : List Plan) (lines : List Line) → AllByRecursion (λ line. line.sent ++ line.ahead ≡ []) lines → AllByRecursion (λ place. (place.gate.mark.sent ≡ Some []) × (place.gate.pending ≡ [])) (places_of plans (map new_gate lines))
+places_fresh : (plans : List Plan) (lines : List Line) → AllByRecursion (λ line. line.sent ++ line.ahead ≡ []) lines → AllByRecursion IsFresh (places_of plans (map new_gate lines))
 places_fresh [] lines fresh = tt
 places_fresh (plan ∷ plans) [] fresh = tt
 places_fresh (plan ∷ plans) (line ∷ lines) fresh = ((ap (λ (l : List Entry). Some l) fresh.0, refl), places_fresh plans lines fresh.1)
 
--- the whole run
-store_run : (limit places : ℕ) (before after : List Plan) (gates : List SharedValue) (left : List Left) (w : Written) (entries : List Entry) (version : ℕ) (changes : Option ℕ)
-    → gates ≡ new_gates places → length before ≡ places → AreEachServed limit (places_of before gates) left → IsWritten limit entries (kept_of w) → IsLegal limit w.published
-    → AllByRecursion (λ end. Extends w.published end.told) left → AllByRecursion (λ end. Extends end.line.sent (of_place end.line.place entries)) left
-    → IfSome changes (IsSettled entries left) → AreOfPlaces places entries → version ≡ length w.published → after ≡ map (λ end. end.plan) left → IsStoreRun limit places before after version changes
-store_run limit places before after gates left w entries version changes new turns served written legal known taken settled placed version_is after_is =
-    let gates_count : length gates ≡ places = ap length new ∙ new_gates_length places in
-    let all = places_length before gates (turns ∙ sym gates_count) in
-    let each = each_length limit (places_of before gates) left served in
-    let count : length left ≡ places = omega (arith, each, all, gates_count) in
-    let P : List SharedValue → Type 0 = λ l. AreEachServed limit (places_of before l) left in
-    let part = written_part limit entries (kept_of w) written in
-    record {
-      history = w.published;
-      legal = legal;
-      entries = version_is;
-      taken = entries;
-      held = w.held;
-      written = written;
-      placed = placed;
-      not_refused_of = λ place. ap (of_place place) written.changes;
-      left = left;
-      each = each_of_store limit w.published entries (places_of before (new_gates places)) left legal (λ place. published_part w entries place part)
-          (places_fresh before (new_lines places) (lines_fresh places)) (subst P new served) known taken;
-      count = count;
-      turns = after_is;
-      settled = settled;
-    }
+-- the gates of new clients at new places
+clients_new : (seats : List (List Entry)) (lines : List Line) → length seats ≡ length lines → AllByRecursion (λ seat. seat ≡ []) seats → new_clients seats lines ≡ map (λ line. new_client [] line.place) lines
+clients_new [] [] same none = refl
+clients_new [] (line ∷ lines) same none = absurd (omega (arith, same))
+clients_new (seat ∷ seats) [] same none = absurd (omega (arith, same))
+clients_new (seat ∷ seats) (line ∷ lines) same none =
+    ap (λ known. new_client known line.place ∷ new_clients seats lines) none.0 ∙ ap (λ l. new_client [] line.place ∷ l) (clients_new seats lines (omega (arith, same)) none.1)
+
+fleet_gates_length : (places : ℕ) → length (fleet_gates places) ≡ places
+fleet_gates_length places = length-map (new_lines places) (λ line. new_client [] line.place) ∙ new_lines_length places
 
 -- ---- maps
 
 pub push_map : {A B : Type 0} (f : A → B) (xs : List A) (x : A) (ys more : List B) → more ≡ ys ++ f x ∷ [] → ys ≡ map f xs → more ≡ map f (xs ++ x ∷ [])
 push_map f xs x ys more pushed so_far = pushed ∙ (ap (λ l. l ++ f x ∷ []) so_far ∙ sym (map-append f xs (x ∷ [])))
+
+-- one more of each, seen as the same
+pub map_more : {A B C : Type 0} (f : A → C) (g : B → C) (xs more : List A) (x : A) (ys : List B) (y : B) → more ≡ xs ++ x ∷ [] → map f xs ≡ map g ys → f x ≡ g y → map f more ≡ map g (ys ++ y ∷ [])
+map_more f g xs more x ys y pushed so_far same =
+    ap (map f) pushed ∙ (map-append f xs (x ∷ []) ∙ (ap (λ l. l ++ f x ∷ []) so_far ∙ (ap (λ z. map g ys ++ z ∷ []) same ∙ sym (map-append g ys (y ∷ [])))))
 
 pub all_done : {A : Type 0} (xs rest whole : List A) → xs ++ rest ≡ whole → length rest ≡ 0 → xs ≡ whole
 all_done xs [] whole so_far none = sym (append-nil xs) ∙ so_far
@@ -299,22 +307,35 @@ pub map_map : {A B C : Type 0} (f : B → C) (g : A → B) (xs : List A) → map
 map_map f g [] = refl
 map_map f g (x ∷ xs) = ap (λ l. f (g x) ∷ l) (map_map f g xs)
 
--- what holds of each holds of each as it is seen
-pub all_at : {E A B : Type 0} (f : E → A) (g : E → B) (P : A → Type 0) (Q : B → Type 0) → ((e : E) → P (f e) → Q (g e)) → (es : List E) → AllByRecursion P (map f es) → AllByRecursion Q (map g es)
-all_at f g P Q to [] all = tt
-all_at f g P Q to (e ∷ es) all = (to e all.0, all_at f g P Q to es all.1)
+all_any : {A : Type 0} (xs : List A) → AllByRecursion (λ x. Unit {0}) xs
+all_any [] = tt
+all_any (x ∷ xs) = (tt, all_any xs)
 
-pub all_seen : {E B : Type 0} (g : E → B) (P : E → Type 0) (Q : B → Type 0) → ((e : E) → P e → Q (g e)) → (es : List E) → AllByRecursion P es → AllByRecursion Q (map g es)
+-- what holds of each, and what holds of each as it is seen
+all_both : {E A B : Type 0} (f : E → A) (P : E → Type 0) (C : A → Type 0) (g : E → B) (Q : B → Type 0) → ((e : E) → P e → C (f e) → Q (g e)) → (es : List E)
+    → AllByRecursion P es → AllByRecursion C (map f es) → AllByRecursion Q (map g es)
+all_both f P C g Q to [] first second = tt
+all_both f P C g Q to (e ∷ es) first second = (to e first.0 second.0, all_both f P C g Q to es first.1 second.1)
+
+all_seen : {E B : Type 0} (g : E → B) (P : E → Type 0) (Q : B → Type 0) → ((e : E) → P e → Q (g e)) → (es : List E) → AllByRecursion P es → AllByRecursion Q (map g es)
 all_seen g P Q to [] all = tt
 all_seen g P Q to (e ∷ es) all = (to e all.0, all_seen g P Q to es all.1)
+
+seen_back : {E B : Type 0} (g : E → B) (P : B → Type 0) (es : List E) → AllByRecursion P (map g es) → AllByRecursion (λ e. P (g e)) es
+seen_back g P [] all = tt
+seen_back g P (e ∷ es) all = (all.0, seen_back g P es all.1)
+
+-- what holds of each of a list holds of each of another that is seen as the same
+pub all_as_seen : {A B X : Type 0} (f : A → X) (g : B → X) (P : X → Type 0) (xs : List A) (ys : List B) → map f xs ≡ map g ys → All (λ a. P (f a)) xs → AllByRecursion (λ b. P (g b)) ys
+all_as_seen {A} {B} {X} f g P xs ys same all =
+    let Q : List X → Type 0 = λ l. AllByRecursion P l in
+    let R : A → Type 0 = λ a. P (f a) in
+    seen_back g P ys (subst Q same (all_seen f R P (λ a p. p) xs (recursion_from_All R xs all)))
 
 -- ---- one end after the other
 
 pub known_more : {A : Type 0} (xs ys : List A) (P : A → Type 0) (i : ℕ) (x : A) → xs ≡ ys → i < length ys → x ≡ get_or xs i x → P x → All P (take i ys) → All P (take (i + 1) ys)
 known_more xs ys P i x same there is here all = All-more P ys i x there all (subst P (is ∙ ap (λ l. get_or l i x) same) here)
-
-pub known_not : {A : Type 0} (xs ys : List A) (P : A → Type 0) (i : ℕ) (x : A) → xs ≡ ys → i < length ys → x ≡ get_or xs i x → P x → HoldsAt P ys i
-known_not xs ys P i x same there is here = at_read ys P i x there (is ∙ ap (λ l. get_or l i x) same) here
 
 take_whole : {A : Type 0} (i : ℕ) (ys : List A) → length ys ≤ i → take i ys ≡ ys
 take_whole zero [] few = refl
@@ -325,57 +346,88 @@ take_whole (suc i) (y ∷ ys) few = ap (λ l. y ∷ l) (take_whole i ys (omega (
 pub known_all : {A : Type 0} (ys : List A) (P : A → Type 0) (i : ℕ) → length ys ≤ i → All P (take i ys) → All P ys
 known_all {A} ys P i few all = let Q : List A → Type 0 = λ l. All P l in subst Q (take_whole i ys few) all
 
+none_more : {A : Type 0} (o : Option A) (N M : Type 0) (P : A → Type 0) → (N → M) → MatchOption o N P → MatchOption o M P
+none_more None N M P to h = to h
+none_more (Some x) N M P to h = h
+
 -- ---- the run
 
-matched : (b : Bool) (P Q : Type 0) → MatchBool b P Q → IsTrue b → P
-matched true P Q m is = m
-matched false P Q m is = absurd (cc (is))
-
--- if there are changes, the lists are in order
-pub if_ordered : (b : Bool) (P : Type 0) (changes : Option ℕ) → MatchBool b P (changes ≡ None) → IfSome changes (λ n. IsTrue b)
-if_ordered b P None m = tt
-if_ordered true P (Some n) m = refl
-if_ordered false P (Some n) m = absurd (cc (m))
-
-settled_so : {E : Type 0} (h : E → Left) (line : E → Closed) (entries : List Entry) (ends : List E) (n : ℕ) → ((e : E) → (h e).line ≡ line e)
-    → AreTaken entries (map line ends) × (n ≡ length entries) × (n ≡ sent_in_all (map line ends)) → IsSettled entries (map h ends) n
-settled_so {E} h line entries ends n is (taken, counted, sent) =
-    let P : Closed → Type 0 = λ e. of_place e.place entries ≡ e.sent in
-    record {
-      taken = all_at line h P (λ end. of_place end.line.place entries ≡ end.line.sent) (λ e t. subst P (sym (is e)) t) ends (recursion_from_All P (map line ends) taken);
-      entries_are = counted;
-      sent = sent ∙ ap sent_in_all (lines_same h line is ends);
-    }
-  where
-    lines_same : (h : E → Left) (line : E → Closed) → ((e : E) → (h e).line ≡ line e) → (ends : List E) → map line ends ≡ map (λ (end : Left). end.line) (map h ends)
-    lines_same h line is [] = refl
-    lines_same h line is (e ∷ es) = ap (λ c. c ∷ map line es) (sym (is e)) ∙ ap (λ l. (h e).line ∷ l) (lines_same h line is es)
-
-if_some_more : {A : Type 0} (o : Option A) (P Q : A → Type 0) → ((x : A) → P x → Q x) → IfSome o P → IfSome o Q
-if_some_more None P Q to h = tt
-if_some_more (Some x) P Q to h = to x h
-
-pub whole_run : {T E : Type 0} (turns : List T) (ends : List E) (plan : T → Plan) (turn : E → T) (told : E → List Entry) (line : E → Closed) (own limit places : ℕ) (turns_left : List T)
-    (seats : List (List Entry)) (lines : List Line) (gates : List SharedValue) (w : Written) (entries : List Entry) (version : ℕ) (changes : Option ℕ) (ordered : Bool)
+-- a run of a store with a turn for each place
+pub store_run : {T E : Type 0} (turns : List T) (ends : List E) (plan : T → Plan) (turn : E → T) (told : E → List Entry) (line : E → Closed) (own limit places : ℕ) (turns_left : List T)
+    (seats : List (List Entry)) (lines : List Line) (gates : List SharedValue) (closed : List Closed) (w : Written) (entries : List Entry) (ways : List Told) (version : ℕ) (changes : Option ℕ)
     → own ≡ limit → length seats ≡ places → All (λ seat. seat ≡ []) seats → lines ≡ new_lines places → gates ≡ gates_of seats lines → length turns ≡ places
-    → AreEachServed limit (places_of (map plan turns) gates) (map (λ e. left_at (plan (turn e)) (told e) (line e)) ends)
-    → IsWritten limit entries (kept_of w) → IsLegal limit w.published → MatchBool ordered (All (λ e. IsPrefix (told e) w.published) ends) (changes ≡ None)
-    → AreTakenInOrder entries (map line ends) → IfSome changes (λ n. AreTaken entries (map line ends) × (n ≡ length entries) × (n ≡ sent_in_all (map line ends)))
-    → AreOfPlaces places entries → version ≡ length w.published → turns_left ≡ map turn ends → IsTrue ordered
+    → AllZip (IsPlaceServed limit) (places_of (map plan turns) gates) (map (λ e. left_at (plan (turn e)) (told e) (line e)) ends)
+    → IsWritten limit places entries (kept_of w) ways → IsLegal limit (kept_of w) → AllByRecursion (λ e. IsPrefix (told e) (kept_of w)) ends
+    → closed ≡ map line ends → AreTakenInOrder entries closed → MatchOption changes (EachOnce places closed → IsUnsettled entries closed) (IsSettled places entries closed)
+    → AreOfPlaces places entries → version ≡ length w.published → turns_left ≡ map turn ends
     → IsStoreRun own places (map plan turns) (map plan turns_left) version changes
-whole_run {T} {E} turns ends plan turn told line own limit places turns_left seats lines gates w entries version changes ordered same count none lines_is gates_is turns_count served written legal known taken settled placed version_is left_is is_ordered =
+store_run {T} {E} turns ends plan turn told line own limit places turns_left seats lines gates closed w entries ways version changes same count none lines_is gates_is turns_count served written legal known closed_is taken settled placed version_is left_is =
+    let history = kept_of w in
+    let kept = written_part limit places entries history ways written in
     let h : E → Left = λ e. left_at (plan (turn e)) (told e) (line e) in
     let left = map h ends in
     let new : gates ≡ new_gates places =
     gates_is ∙ (ap (λ l. gates_of seats l) lines_is ∙ gates_of_new seats places count (recursion_from_All (λ seat. seat ≡ []) seats none)) in
     let after : map plan turns_left ≡ map (λ end. end.plan) left =
     ap (map plan) left_is ∙ (map_map plan turn ends ∙ sym (map_map (λ (end : Left). end.plan) h ends)) in
-    let K : E → Type 0 = λ e. IsPrefix (told e) w.published in
-    let all_known : AllByRecursion (λ end. Extends w.published end.told) left =
-    all_seen h K (λ end. Extends w.published end.told) (λ e k. (k.0, sym k.1)) ends (recursion_from_All K ends (matched ordered (All K ends) (changes ≡ None) known is_ordered)) in
+    let lines_left : closed ≡ map (λ end. end.line) left = closed_is ∙ sym (map_map (λ (end : Left). end.line) h ends) in
+    let K : E → Type 0 = λ e. IsPrefix (told e) history in
     let C : Closed → Type 0 = λ e. IsPrefix (of_place e.place entries) e.sent in
-    let all_taken : AllByRecursion (λ end. Extends end.line.sent (of_place end.line.place entries)) left =
-    all_at line h C (λ end. Extends end.line.sent (of_place end.line.place entries)) (λ e k. (k.0, sym k.1)) ends (recursion_from_All C (map line ends) taken) in
-    let so = if_some_more changes _ (IsSettled entries left) (λ n s. settled_so h line entries ends n (λ e. refl) s) settled in
-    let R : ℕ → Type 0 = λ l. IsStoreRun l places (map plan turns) (map plan turns_left) version changes in
-    subst R (sym same) (store_run limit places (map plan turns) (map plan turns_left) gates left w entries version changes new (length-map turns plan ∙ turns_count) served written legal all_known all_taken so placed version_is after)
+    let D : List Closed → Type 0 = λ l. All C l in
+    let both : AllByRecursion (IsKnown history entries) left =
+    all_both line K C h (IsKnown history entries) (λ e k c. ((k.0, sym k.1), (c.0, sym c.1))) ends known (recursion_from_All C (map line ends) (subst D closed_is taken)) in
+    let before = map plan turns in
+    let P : List SharedValue → Type 0 = λ l. AllZip (IsPlaceServed limit) (places_of before l) left in
+    let gates_count : length gates ≡ places = ap length new ∙ new_gates_length places in
+    let all = places_length before gates (length-map turns plan ∙ (turns_count ∙ sym gates_count)) in
+    let each = each_length (IsPlaceServed limit) (places_of before gates) left served in
+    let once = each_once limit places before left (length-map turns plan ∙ (turns_count ∙ sym (new_lines_length places))) (subst P new served) in
+    let S : List Closed → Type 0 = λ l. MatchOption changes (EachOnce places l → IsUnsettled entries l) (IsSettled places entries l) in
+    let R : ℕ → Type 0 = λ l. IsStoreRun l places before (map plan turns_left) version changes in
+    subst R (sym same) (record {
+      writer = writer_run limit places version w entries ways written legal placed version_is;
+      left = left;
+      each = each_with (IsPlaceServed limit) (IsPlaceOf limit history entries) IsFresh (IsKnown history entries) (λ place end one fresh k. place_of limit history entries place end legal kept one fresh k)
+          (places_of before (new_gates places)) left (subst P new served) (places_fresh before (new_lines places) (lines_fresh places)) both;
+      count = omega (arith, each, all, gates_count);
+      turns = after;
+      settled = none_more changes _ _ _ (λ unsettled. unsettled once) (subst S lines_left settled);
+    })
+
+-- a run of a store whose places clients shared
+pub fleet_run : {T E : Type 0} (turns : List T) (ends : List E) (plan : T → Plan) (turn : E → T) (told : E → List Entry) (own limit places : ℕ) (turns_left : List T)
+    (seats : List (List Entry)) (lines : List Line) (gates : List SharedValue) (closed : List Closed) (w : Written) (entries : List Entry) (ways : List Told) (version : ℕ) (changes : Option ℕ)
+    → own ≡ limit → length seats ≡ places → All (λ seat. seat ≡ []) seats → lines ≡ new_lines places → gates ≡ new_clients seats lines
+    → AllZip (IsTurnServed limit) (clients_of gates 0 (map plan turns)) (map (λ e. client_left (plan (turn e)) (told e)) ends)
+    → length closed ≡ length gates → All (λ line. IsClosed line.place line.ends line.gone × AreOfLine line.place line.sent) closed → IsWritten limit places entries (kept_of w) ways → IsLegal limit (kept_of w) → All (λ e. IsPrefix (told e) (kept_of w)) ends
+    → AreTakenInOrder entries closed → MatchOption changes (EachOnce places closed → IsUnsettled entries closed) (IsSettled places entries closed)
+    → AreOfPlaces places entries → version ≡ length w.published → turns_left ≡ map turn ends
+    → IsFleetRun own places (map plan turns) (map plan turns_left) version changes
+fleet_run {T} {E} turns ends plan turn told own limit places turns_left seats lines gates closed w entries ways version changes same count none lines_is gates_is served closed_count each_closed written legal known taken settled placed version_is left_is =
+    let history = kept_of w in
+    let kept = written_part limit places entries history ways written in
+    let h : E → ClientLeft = λ e. client_left (plan (turn e)) (told e) in
+    let left = map h ends in
+    let after : map plan turns_left ≡ map (λ end. end.plan) left =
+    ap (map plan) left_is ∙ (map_map plan turn ends ∙ sym (map_map (λ (end : ClientLeft). end.plan) h ends)) in
+    let K : E → Type 0 = λ e. IsPrefix (told e) history in
+    let Told : ClientLeft → Type 0 = λ end. Extends history end.told in
+    let all_known : AllByRecursion Told left = all_seen h K Told (λ e k. (k.0, sym k.1)) ends (recursion_from_All K ends known) in
+    let new : gates ≡ fleet_gates places =
+    gates_is ∙ (ap (λ l. new_clients seats l) lines_is ∙ clients_new seats (new_lines places) (count ∙ sym (new_lines_length places)) (recursion_from_All (λ seat. seat ≡ []) seats none)) in
+    let P : List SharedValue → Type 0 = λ l. AllZip (IsTurnServed limit) (clients_of l 0 (map plan turns)) left in
+    let clients = clients_of (fleet_gates places) 0 (map plan turns) in
+    let Any : Client → Type 0 = λ client. Unit {0} in
+    let R : ℕ → Type 0 = λ l. IsFleetRun l places (map plan turns) (map plan turns_left) version changes in
+    subst R (sym same) (record {
+      writer = writer_run limit places version w entries ways written legal placed version_is;
+      left = left;
+      each = each_with (IsTurnServed limit) (IsClientOf limit history) Any Told (λ client end one any k. client_of limit history client end legal one k) clients left (subst P new served) (all_any clients) all_known;
+      turns = after;
+      lines = closed;
+      count = closed_count ∙ (ap length new ∙ fleet_gates_length places);
+      each_line = λ k d within. let t = taken k d within in line_of history entries (get_or closed k d) kept (t.0, sym t.1);
+      closed = λ k d within. (each_closed k d within).0;
+      serials = λ k d within. (each_closed k d within).1;
+      settled = settled;
+    })

@@ -1,3 +1,5 @@
+pub mod Clients
+pub mod Fleet
 pub mod Places
 pub mod Serving
 pub mod Shared

@@ -1,5 +1,5 @@
 -- One connection of a place over a store that other places use too: sections 3.3.1.3, 3.8.4 and 4.3 of OASIS MQTT Version 5.0.
-use Rattle.std.specs.Prelude.{◌≡◌, ℕ, List, [], ◌∷◌, ◌++◌, Result}
+use Rattle.std.specs.Prelude.{◌≡◌, ◌≤◌, ℕ, List, [], ◌∷◌, ◌++◌, length, Result}
 use Rattle.std.specs.Io.KnownBytes.{Consumes, IsAtEnd}
 use Rattle.rs_packet.specs.declared.packet.Connect.{Connect}
 use Rattle.rs_packet.specs.declared.packet.Publish.{Publish}
@@ -7,6 +7,7 @@ use Rattle.rs_packet.specs.declared.reply.Reply.{Reply}
 use Rattle.rs_message.specs.declared.entry.Entry.{Entry}
 use Rattle.rs_message.specs.declared.entry.Operation.{Operation}
 use Rattle.rs_store.specs.History.{IsLegal}
+use Rattle.rs_intake.specs.declared.job.TheConstants.{MAX_CHANGES}
 use Rattle.rs_session.specs.Stored.{AreGrowing, IsStoredIn, IsToldStored, MarkGrows, lists_of, point_after}
 use Rattle.rs_session.specs.Replay.{IsReplaying, IsSentInOrder, Opens}
 use Rattle.rs_session.specs.Gate.{Mark}
@@ -28,8 +29,10 @@ pub record IsServedAt (limit : ℕ) (from : Point State) (expected : List Operat
   pub mark : Mark
   pub bytes : List ℕ
   pub buffered : List ℕ
-  -- what was whole behind the last packet that was handled, and decoded, and the bytes behind that
+  -- what was whole behind the last packet that was handled, and decoded: at most as many inputs as one job has changes. And the bytes
+  -- behind that
   pub planned : List Given
+  pub few : length planned ≤ MAX_CHANGES
   pub left : List ℕ
   -- the exchanges are those of a session, and what was written are their replies
   pub run : Run from exchanges (point_at state gate.known mark)

@@ -1,5 +1,5 @@
 -- What contracts see of a gate to a store that other places use too.
-use Rattle.std.specs.Prelude.{◌≡◌, ◌≢◌, ◌+◌, ◌++◌, ◌∷◌, ℕ, List, [], length, map, Some}
+use Rattle.std.specs.Prelude.{◌≡◌, ◌≢◌, ◌+◌, ◌++◌, ◌∷◌, ℕ, true, List, [], length, map, Some}
 use Rattle.rs_message.specs.declared.entry.Entry.{Entry}
 use Rattle.rs_message.specs.declared.entry.Operation.{Operation}
 use Rattle.rs_store.specs.History.{IsLegal}
@@ -19,7 +19,7 @@ operations_of entries = map (λ e. e.operation) entries
 
 -- the mark of a line, without what is ahead of it
 abbrev pub mark_of : Line → Mark
-mark_of line = record { place = line.place; serial = line.serial; sent = Some line.sent }
+mark_of line = record { place = line.place; serial = line.serial; alone = true; sent = Some line.sent }
 
 -- what was sent ahead, and then what the line expects
 abbrev pub pending_of : Line → List Operation
@@ -30,7 +30,7 @@ gate_of known line = record { known = known; mark = mark_of line; pending = pend
 
 -- a gate with this list and this line, which is handed on: what was ahead of the line counts as submitted
 abbrev pub handed_on : List Entry → Line → SharedValue
-handed_on known line = record { known = known; mark = record { place = line.place; serial = line.serial + length line.ahead; sent = Some (line.sent ++ line.ahead) }; pending = [] }
+handed_on known line = record { known = known; mark = record { place = line.place; serial = line.serial + length line.ahead; alone = true; sent = Some (line.sent ++ line.ahead) }; pending = [] }
 
 -- the list is the one that the gate knows, and it is legal
 pub record Knows (limit : ℕ) (gate : SharedValue) (list : List Entry) : Type 0 where

@@ -1,16 +1,16 @@
 -- A whole run of a store: its places, and the one history that they all saw.
-use Rattle.std.specs.Prelude.{◌≡◌, ℕ, List, [], ◌∷◌, ◌++◌, length, map, Option, IfSome}
-use Rattle.std.specs.List.{AllByRecursion}
+use Rattle.std.specs.Prelude.{◌≡◌, ℕ, List, [], ◌∷◌, ◌++◌, length, map, Option, MatchOption}
+use Rattle.std.specs.List.{AllByRecursion, AllZip}
 use Rattle.rs_packet.specs.declared.packet.Publish.{Publish}
 use Rattle.rs_packet.specs.declared.reply.Reply.{Reply}
 use Rattle.rs_message.specs.declared.entry.Entry.{Entry}
 use Rattle.rs_store.specs.History.{IsLegal}
 use Rattle.rs_version.specs.Copies.{listed}
-use Rattle.rs_intake.specs.Done.{IsWritten, not_refused}
-use Rattle.rs_intake.specs.Lines.{Line, new_lines}
+use Rattle.rs_intake.specs.Done.{IsWritten, Told, not_refused}
+use Rattle.rs_intake.specs.Lines.{Closed, Line, new_lines}
 use Rattle.rs_intake.specs.Parts.{IsPart}
 use Rattle.rs_intake.specs.QueueRule.{of_place}
-use Rattle.rs_intake.specs.Settling.{AreOfPlaces, sent_in_all}
+use Rattle.rs_intake.specs.Settling.{AreOfPlaces, AreTaken, EachOnce, sent_in_all}
 use Rattle.rs_intake.specs.Sweeps.{without_sweeps}
 use Rattle.rs_session.specs.Gate.{Extends}
 use Rattle.rs_session.specs.Stored.{IsStoredIn, IsToldStored, lists_of, point_after}
@@ -61,6 +61,13 @@ ArePublications number first (visit ∷ visits) entries =
     × AreLeft (start (assigned_of first.mark.place number) first.known first.mark) visit.exchanges visit.planned (operations_of tail)
     × ArePublications (next_number number) visit.gate visits rest
 
+-- What a place's line sent, over a store with this history, whose writer took these entries.
+pub record IsLineOf (history entries : List Entry) (line : Closed) : Type 0 where
+  -- what the writer took of the place is a prefix of that
+  pub taken : Extends line.sent (of_place line.place entries)
+  -- what the history has of the place, but for the Sweeps, is a part of what it sent, in order, each at most once
+  pub part : IsPart (of_place line.place (without_sweeps history)) line.sent
+
 -- A place was served its turn, over a store with this history, whose writer took these entries.
 pub record IsPlaceOf (limit : ℕ) (history entries : List Entry) (place : Place) (left : Left) : Type 0 where
   -- all its connections were served, in their order, and each was taken back as it ended
@@ -73,44 +80,51 @@ pub record IsPlaceOf (limit : ℕ) (history entries : List Entry) (place : Place
   -- What the place sent are the retained publications of its connections, in order, each at most once, and each that its client was
   -- told is stored; and behind those of each connection at most publications that its bytes hold behind the last one handled.
   pub publications : ArePublications 1 place.gate served.visits left.line.sent
-  -- what the writer took of the place is a prefix of that
-  pub taken : Extends left.line.sent (of_place left.line.place entries)
-  -- what the history has of the place, but for the Sweeps, is a part of what it sent, in order, each at most once
-  pub part : IsPart (of_place left.line.place (without_sweeps history)) left.line.sent
+  -- what became of that
+  pub line : IsLineOf history entries left.line
+  pub open line use *
 
--- of each place this is left
-abbrev pub ArePlacesOf : ℕ → List Entry → List Entry → List Place → List Left → Type 0
-ArePlacesOf limit history entries [] [] = Unit {0}
-ArePlacesOf limit history entries [] (left ∷ more) = ⊥
-ArePlacesOf limit history entries (place ∷ places) [] = ⊥
-ArePlacesOf limit history entries (place ∷ places) (left ∷ more) = IsPlaceOf limit history entries place left × ArePlacesOf limit history entries places more
-
--- so many changes are settled: all that each place sent was taken, and these are all that were taken
-pub record IsSettled (entries : List Entry) (left : List Left) (changes : ℕ) : Type 0 where
-  pub taken : AllByRecursion (λ end. of_place end.line.place entries ≡ end.line.sent) left
+-- so many changes are settled: each place has one of these lines, all that it sent was taken, and these are all that were taken
+pub record IsSettled (places : ℕ) (entries : List Entry) (lines : List Closed) (changes : ℕ) : Type 0 where
+  pub once : EachOnce places lines
+  pub taken : AreTaken entries lines
   pub entries_are : changes ≡ length entries
-  pub sent : changes ≡ sent_in_all (map (λ end. end.line) left)
+  pub sent : changes ≡ sent_in_all lines
 
--- A store of so many new places was run. Each place served its turn, from that before to that after; the writer published so many
--- entries; and so many changes are settled, if a number is given.
-pub record IsStoreRun (limit places : ℕ) (before after : List Plan) (version : ℕ) (changes : Option ℕ) : Type 0 where
-  -- there is one legal history, which the writer published
+-- these lines sent another number of entries than these
+abbrev pub IsUnsettled : List Entry → List Closed → Type 0
+IsUnsettled entries lines = ¬ (sent_in_all lines ≡ length entries)
+
+-- The writer of a run over so many places published so many entries.
+pub record IsWriterRun (limit places version : ℕ) : Type 0 where
+  -- There is one legal history, the list that the writer keeps. So many entries of it were published, from the first on: all, or all but
+  -- the last, which is held then. It would be published before any other.
   pub history : List Entry
   pub legal : IsLegal limit history
-  pub entries : version ≡ length history
-  -- The writer took these entries, and answered each. By its answers the history came to be, and an entry behind it that is not
-  -- published, if one is held. All of it but the Sweeps are the entries that were not refused.
-  pub taken : List Entry
+  pub published : List Entry
   pub held : Option Entry
-  pub written : IsWritten limit taken (history ++ listed held)
+  pub whole : history ≡ published ++ listed held
+  pub entries : version ≡ length published
+  -- The writer took these entries, and answered each. By its answers the history came to be. All of it but the Sweeps are the entries that
+  -- were not refused. The ways back by which it told them are tied to no line here.
+  pub taken : List Entry
+  pub ways : List Told
+  pub written : IsWritten limit places taken history ways
   -- the entries that it took are of these places alone
   pub placed : AreOfPlaces places taken
   -- so of each place it has what was taken of the place less what was refused
-  pub not_refused_of : (place : ℕ) → of_place place (without_sweeps (history ++ listed held)) ≡ of_place place (not_refused taken written.answers)
+  pub not_refused_of : (place : ℕ) → of_place place (without_sweeps history) ≡ of_place place (not_refused taken written.answers)
+
+-- A store of so many new places was run. Each place served its turn, from that before to that after; the writer published so many
+-- entries; and so many changes are settled, or it is known that not all were taken.
+pub record IsStoreRun (limit places : ℕ) (before after : List Plan) (version : ℕ) (changes : Option ℕ) : Type 0 where
+  -- the history, and what the writer took and published
+  pub writer : IsWriterRun limit places version
+  pub open writer use *
   -- of each place: its connections, what they saw, what they sent, and what became of that
   pub left : List Left
-  pub each : ArePlacesOf limit history taken (places_of before (new_gates places)) left
+  pub each : AllZip (IsPlaceOf limit history taken) (places_of before (new_gates places)) left
   pub count : length left ≡ places
   pub turns : after ≡ map (λ end. end.plan) left
-  -- all that the places sent was taken, once
-  pub settled : IfSome changes (IsSettled taken left)
+  -- all that the places sent was taken, once; no number is given only if another number was sent than taken
+  pub settled : MatchOption changes (IsUnsettled taken (map (λ end. end.line) left)) (IsSettled places taken (map (λ end. end.line) left))

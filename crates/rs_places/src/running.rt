@@ -1,7 +1,8 @@
 //! The connections of each place, on a thread of its own.
 
 ghost use Rattle.std.specs.Prelude.{◌≡◌, ◌≤◌, ◌+◌, ◌++◌, List, [], length, map, vec_capacity, IfOk, IfSome, MatchResult};
-ghost use Rattle.rs_places.specs.Places.{AreEachServed, IsPlaceServed, Place, ServesOne, left_at, place_at, places_of};
+ghost use Rattle.std.specs.List.{AllZip};
+ghost use Rattle.rs_places.specs.Places.{IsPlaceServed, Place, ServesOne, left_at, place_at, places_of};
 
 use crate::fault::StoreFault;
 use crate::serving::serve_place;
@@ -167,7 +168,7 @@ fn start_places<
 ) -> Result<StartedPlaces<T, N, H>, StoreFault>
     ensures served { IfOk result (λ started. (places : List Place)
         × (map (λ thread. place_at (T.plan thread.promise.turn.value) thread.promise.gate.value) started.0.items ++ places ≡ places_of (map T.plan turns.items) gates.items)
-        × AreEachServed N.limit places (map (λ end. left_at (T.plan end.turn) end.told end.line) started.1.items)) }
+        × AllZip (IsPlaceServed N.limit) places (map (λ end. left_at (T.plan end.turn) end.told end.line) started.1.items)) }
     ensures few { IfOk result (λ started. length started.0.items + length started.1.items ≤ length gates.items) }
 {
     let mut threads = Vec::with_capacity(alloc, gates.len())?;
@@ -194,7 +195,7 @@ fn join_places<T: Turn + Drop, N: LineName, H: Threads + Wait + Copy>(
 ) -> Vec<PlaceEnd<N, T>>
     requires empty { ends.items ≡ [] }
     requires capacity { length threads.items ≤ vec_capacity ends }
-    ensures served { AreEachServed N.limit (map (λ thread. place_at (T.plan thread.promise.turn.value) thread.promise.gate.value) threads.items) (map (λ end. left_at (T.plan end.turn) end.told end.line) result.items) }
+    ensures served { AllZip (IsPlaceServed N.limit) (map (λ thread. place_at (T.plan thread.promise.turn.value) thread.promise.gate.value) threads.items) (map (λ end. left_at (T.plan end.turn) end.told end.line) result.items) }
     ensures capacity { vec_capacity ends ≤ vec_capacity result }
 {
     let mut ends = ends;
@@ -223,7 +224,7 @@ pub fn run_places<
     turns: Vec<T>,
     gates: Vec<SharedGate<N, H>>,
 ) -> Result<PlacesEnd<N, T>, StoreFault>
-    ensures { IfOk result (λ end. AreEachServed N.limit (places_of (map T.plan turns.items) gates.items) (map (λ end. left_at (T.plan end.turn) end.told end.line) end.ends.items)) }
+    ensures { IfOk result (λ end. AllZip (IsPlaceServed N.limit) (places_of (map T.plan turns.items) gates.items) (map (λ end. left_at (T.plan end.turn) end.told end.line) end.ends.items)) }
 {
     // Before any thread starts, so that no end is lost.
     let ends = Vec::with_capacity(alloc, gates.len())?;

@@ -1,42 +1,35 @@
 //! What the places and the writer know together, once all have ended.
 
-ghost use Rattle.std.specs.Prelude.{◌≡◌, ◌<◌, ◌≤◌, ◌++◌, ◌∷◌, ℕ, All, IfSome, MatchBool, None, [], length, map, vec_capacity};
-ghost use Rattle.std.specs.List.{HoldsAt};
+ghost use Rattle.std.specs.Prelude.{◌≡◌, ◌<◌, ◌≤◌, ◌++◌, ◌∷◌, All, MatchOption, [], length, map, vec_capacity};
 ghost use mathlib.Core.List.{IsPrefix};
 ghost use Rattle.rs_store.specs.History.{IsLegal};
-ghost use Rattle.rs_intake.specs.Settling.{AreTaken, AreTakenInOrder, sent_in_all};
+ghost use Rattle.rs_intake.specs.Settling.{AreTakenInOrder, EachOnce};
+ghost use Rattle.rs_places.specs.Store.{IsSettled, IsUnsettled};
+ghost use Rattle.rs_version.specs.Writer.{kept_of};
 
-use crate::running::{PlaceEnd, PlacesEnd};
+use crate::clients::ClientEnd;
+use crate::running::PlaceEnd;
 use crate::store::StoreEnd;
 use crate::turn::Turn;
 use rs_intake::{Ended, LineEnd, LineName, settle};
+use rs_version::VersionWriter;
 use std::sync::Wait;
 
-/// Whether what the place knew last is a prefix of what the writer published. If not, what the writer published is a prefix of it.
-fn is_known<N: LineName, T: Turn + Drop, R: Wait + Drop>(
-    end: &PlaceEnd<N, T>,
-    ended: &Ended<N, R>,
-) -> bool
-    ensures { MatchBool result (IsPrefix end.now.told ended.now.writer.published) (IsPrefix ended.now.writer.published end.now.told) }
+/// Says that what each client or place knew last is a prefix of the list that the writer keeps.
+pub fn all_covered<N: LineName, T: Turn + Drop, R: Wait + Drop>(
+    ends: &Vec<ClientEnd<N, T>>,
+    writer: &mut VersionWriter<N, R>,
+)
+    ensures known { All (λ end. IsPrefix end.told (kept_of writer.old)) ends.now.items }
+    ensures legal { IsLegal N.limit (kept_of writer.old) }
+    ensures same { writer.new ≡ writer.old }
 {
-    ended.writer.tell().reaches(&end.told)
-}
-
-/// Whether what each place knew last is a prefix of what the writer published. If not, what the writer published is a prefix of what
-/// some place knew last.
-pub fn all_known<N: LineName, T: Turn + Drop, R: Wait + Drop>(
-    ends: &Vec<PlaceEnd<N, T>>,
-    ended: &Ended<N, R>,
-) -> bool
-    ensures { MatchBool result (All (λ end. IsPrefix end.told ended.now.writer.published) ends.now.items)
-        ((k : ℕ) × (k < length ends.now.items) × HoldsAt (λ end. IsPrefix ended.now.writer.published end.told) ends.now.items k) }
-{
+    // For the proof: this call says that the kept list is legal, also if there are no ends.
+    let told = writer.tell();
+    writer.covers(&told);
     for end in ends.iter() {
-        if !is_known(end, ended) {
-            return false;
-        }
+        writer.covers(&end.told);
     }
-    true
 }
 
 /// Appends an item. The caller has reserved the capacity for it.
@@ -50,63 +43,73 @@ pub(crate) fn push_reserved<X: Drop>(items: &mut Vec<X>, item: X)
     };
 }
 
-/// The lines and the turns of the ends, in their order. `lines` and `turns` are empty and have the capacity for all, so this takes no
-/// memory.
-fn unzipped<N: LineName, T: Turn + Drop>(
+/// The lines of the places, and what else is left of them, in their order. `lines` and `others` are empty and have the capacity for all,
+/// so this takes no memory.
+pub(crate) fn parted<N: LineName, T: Turn + Drop>(
     ends: Vec<PlaceEnd<N, T>>,
     lines: Vec<LineEnd<N>>,
-    turns: Vec<T>,
-) -> (Vec<LineEnd<N>>, Vec<T>)
-    requires empty { (lines.items ≡ []) × (turns.items ≡ []) }
-    requires capacity { (length ends.items ≤ vec_capacity lines) × (length ends.items ≤ vec_capacity turns) }
+    others: Vec<ClientEnd<N, T>>,
+) -> (Vec<LineEnd<N>>, Vec<ClientEnd<N, T>>)
+    requires empty { (lines.items ≡ []) × (others.items ≡ []) }
+    requires capacity { (length ends.items ≤ vec_capacity lines) × (length ends.items ≤ vec_capacity others) }
     ensures lines { result.0.items ≡ map (λ end. end.line) ends.items }
-    ensures turns { result.1.items ≡ map (λ end. end.turn) ends.items }
+    ensures told { map (λ other. other.told) result.1.items ≡ map (λ end. end.told) ends.items }
+    ensures turns { map (λ other. other.turn) result.1.items ≡ map (λ end. end.turn) ends.items }
 {
     let mut lines = lines;
-    let mut turns = turns;
+    let mut others = others;
     for end in ends {
-        let PlaceEnd {
-            line,
-            told: _told,
-            turn,
-        } = end;
+        let PlaceEnd { line, told, turn } = end;
         push_reserved(&mut lines, line);
-        push_reserved(&mut turns, turn);
+        push_reserved(&mut others, ClientEnd { told, turn });
     }
-    (lines, turns)
+    (lines, others)
 }
 
-/// Settles, once all places and the writer have ended. `lines` and `turns` are empty and have the capacity for all.
+/// The turns of the ends, in their order. `turns` is empty and has the capacity for all.
+fn turns_of<N: LineName, T: Turn + Drop>(ends: Vec<ClientEnd<N, T>>, turns: Vec<T>) -> Vec<T>
+    requires empty { turns.items ≡ [] }
+    requires capacity { length ends.items ≤ vec_capacity turns }
+    ensures { result.items ≡ map (λ end. end.turn) ends.items }
+{
+    let mut turns = turns;
+    for end in ends {
+        let ClientEnd { told: _told, turn } = end;
+        push_reserved(&mut turns, turn);
+    }
+    turns
+}
+
+/// Settles, once the writer has ended and all turns that had so many threads. `turns` is empty and has the capacity for all.
 pub(crate) fn settled<N: LineName, T: Turn + Drop, R: Wait + Drop>(
-    end: PlacesEnd<N, T>,
-    ended: Ended<N, R>,
+    ends: Vec<ClientEnd<N, T>>,
     lines: Vec<LineEnd<N>>,
+    threads: usize,
+    ended: Ended<N, R>,
     turns: Vec<T>,
 ) -> StoreEnd<T>
-    requires empty { (lines.items ≡ []) × (turns.items ≡ []) }
-    requires capacity { (length end.ends.items ≤ vec_capacity lines) × (length end.ends.items ≤ vec_capacity turns) }
-    ensures turns { result.turns.items ≡ map (λ end. end.turn) end.ends.items }
+    requires empty { turns.items ≡ [] }
+    requires capacity { length ends.items ≤ vec_capacity turns }
+    ensures turns { result.turns.items ≡ map (λ end. end.turn) ends.items }
     ensures version { result.version ≡ length ended.writer.published }
-    ensures legal { IsLegal N.limit ended.writer.published }
-    ensures ordered { MatchBool result.ordered (All (λ end. IsPrefix end.told ended.writer.published) end.ends.items) (result.changes ≡ None) }
-    ensures order { AreTakenInOrder ended.received.entries (map (λ end. end.line) end.ends.items) }
-    ensures settled { IfSome result.changes (λ changes. AreTaken ended.received.entries (map (λ end. end.line) end.ends.items)
-        × (changes ≡ length ended.received.entries) × (changes ≡ sent_in_all (map (λ end. end.line) end.ends.items))) }
+    ensures legal { IsLegal N.limit (kept_of ended.writer) }
+    ensures known { All (λ end. IsPrefix end.told (kept_of ended.writer)) ends.items }
+    ensures order { AreTakenInOrder ended.received.entries lines.items }
+    ensures settled { MatchOption result.changes (EachOnce N.places lines.items → IsUnsettled ended.received.entries lines.items)
+        (IsSettled N.places ended.received.entries lines.items) }
 {
     let version = ended.writer.tell().version();
-    let PlacesEnd { ends, threads } = end;
-    let ordered = all_known(&ends, &ended);
-    let (lines, turns) = unzipped(ends, lines, turns);
     let mut ended = ended;
+    all_covered(&ends, &mut ended.writer);
+    let turns = turns_of(ends, turns);
     let changes = match settle(lines, &mut ended) {
-        Ok(changes) if ordered => Some(changes),
-        _ => None,
+        Ok(changes) => Some(changes),
+        Err(_) => None,
     };
     StoreEnd {
         turns,
         threads,
         version,
-        ordered,
         changes,
     }
 }

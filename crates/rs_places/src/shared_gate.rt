@@ -2,7 +2,7 @@
 
 ghost use Rattle.std.specs.Prelude.{◌≡◌, ◌<◌, ◌≤◌, ◌⊎◌, ◌∷◌, [], List, false, length, Err, OnOk, Some};
 ghost use mathlib.Core.List.{IsPrefix};
-ghost use Rattle.rs_intake.specs.Lines.{IsClosed, next_serial};
+ghost use Rattle.rs_intake.specs.Lines.{AreOfLine, IsClosed, next_serial};
 ghost use Rattle.rs_message.specs.declared.entry.Entry.{Entry};
 ghost use Rattle.rs_message.specs.declared.entry.TheConstants.{MAX_PLACES};
 ghost use Rattle.rs_message.specs.declared.fault.SubmitFault.TheVariants.{Strange};
@@ -22,8 +22,8 @@ use std::sync::{Arc, Wait};
 
 /// A place's gate to a store that other places use too. It stands for the seat's known list, which is legal, and for no other.
 ///
-/// The changes that it is told to expect go to the writer in one job with the first of them that is submitted, and each is answered when
-/// its own submit comes.
+/// The changes that it is told to expect go to the writer in one job with the first of them that is submitted, if memory allows, and each
+/// is answered when its own submit comes.
 ///
 /// It keeps the handle `rt`, by which a submit waits for its receipt, and `hand_on` for the answers to what was sent ahead. An answer to
 /// a filter waits for nobody.
@@ -86,8 +86,7 @@ impl<N: LineName, R: Wait + Copy> SharedGate<N, R> {
         self.seat.version()
     }
 
-    /// A token of the list that the gate knows. By it this list is compared with those that other places know, and with those that
-    /// the writer published ([`Told::reaches`]).
+    /// A token of the list that the gate knows. By it this list is compared with those that other places know ([`Told::reaches`]).
     pub fn told(&self) -> Told<N>
         ensures told { result ≡ self.now.known }
         ensures legal { IsLegal N.limit self.now.known }
@@ -110,6 +109,7 @@ impl<N: LineName, R: Wait + Copy> SharedGate<N, R> {
     pub fn close(self) -> LineEnd<N>
         ensures place { result.place ≡ self.mark.place }
         ensures sent { (tail : List Entry) × Sends self.mark.sent tail (Some result.sent) × IsPrefix (operations_of tail) self.pending }
+        ensures line { AreOfLine result.place result.sent }
         ensures end { IsClosed result.place result.ends result.gone }
     {
         let SharedGate {

@@ -1,13 +1,16 @@
-//! A whole store: its writer and its places, each on a thread of its own, from the first connection to the settlement.
+//! A whole store: its writer and its places or clients, each on a thread of its own, from the first connection to the settlement.
 
-ghost use Rattle.std.specs.Prelude.{◌≡◌, ◌≤◌, IfOk, IfSome, IsTrue, [], length, map};
+ghost use Rattle.std.specs.Prelude.{◌≡◌, ◌≤◌, IfOk, [], length, map};
+ghost use Rattle.rs_places.specs.Fleet.{IsFleetRun};
 ghost use Rattle.rs_places.specs.Store.{IsStoreRun, gates_of};
 ghost use Rattle.rs_version.specs.Writer.{kept_of};
 
 use crate::fault::StoreFault;
-use crate::running::run_places;
-use crate::settled::settled;
+use crate::fleet::{FleetEnd, run_clients};
+use crate::running::{PlacesEnd, run_places};
+use crate::settled::{parted, settled};
 use crate::shared_gate::SharedGate;
+use crate::shared_places::SharedPlaces;
 use crate::turn::Turn;
 use rs_intake::{BlankQueue, Ended, Intake, LineName, Queue, SeatLine, run_writer};
 use rs_version::{Blank, Seat, VersionWriter};
@@ -19,16 +22,13 @@ use std::thread::{Promise, PromisedHandle, Threads, spawn_with};
 /// What a run of a store leaves.
 #[derive(Debug, Drop)]
 pub struct StoreEnd<T> {
-    /// The turns of the places, in their order.
+    /// The turns, in their order.
     pub turns: Vec<T>,
-    /// How many places had a thread of their own.
+    /// How many of them had a thread of their own.
     pub threads: usize,
     /// How many entries were published.
     pub version: u64,
-    /// Whether what each place knew last is a prefix of what was published. It always is, and contracts know it by this comparison.
-    pub ordered: bool,
-    /// How many changes the places sent to the writer, refused ones too. None if not all are known to be taken, or if the lists are not
-    /// `ordered`.
+    /// How many changes the places sent to the writer, refused ones too. None if not all are known to be taken.
     pub changes: Option<u64>,
 }
 
@@ -57,8 +57,8 @@ pub fn open_gates<N: LineName, H: Wait + Copy>(
     Ok(gates)
 }
 
-/// What the writer's thread promises: the list that it keeps came to be by its answers to the entries that it took, and these are of
-/// its places alone.
+/// What the writer's thread promises: the list that it keeps came to be by its answers to the entries that it took, each place was told
+/// the answers to its own entries, and these are of its places alone.
 #[derive(Drop)]
 struct AnswersJobs;
 
@@ -67,7 +67,7 @@ impl<N: LineName, R: Wait + Drop> Promise<Ended<N, R>> for AnswersJobs {
     ghost use Rattle.rs_intake.specs.Settling.{AreOfPlaces};
     ghost use Rattle.rs_version.specs.Writer.{kept_of};
 
-    ghost kept_by = { λ promise ended. IsWritten N.limit ended.received.entries (kept_of ended.writer) × AreOfPlaces N.places ended.received.entries };
+    ghost kept_by = { λ promise ended. IsWritten N.limit N.places ended.received.entries (kept_of ended.writer) ended.ways.items × AreOfPlaces N.places ended.received.entries };
 }
 
 /// The writer's thread.
@@ -87,10 +87,10 @@ fn start_writer<
 /// [`run_places`] does, with the writer on one more, and settles. The first turn goes with place 1, and so on.
 ///
 /// The contract is one statement about the run, `IsStoreRun`: there is one legal history, which the writer made by its answers to the
-/// entries that it took, all from these places; all lists that any connection of any place was answered from are prefixes of it; each
-/// retained publication that any client was told is stored stands in it once; each place served all connections of its turn, over their
-/// own bytes and at their own times; what a place sent are their retained publications, in order; and if the changes are given, all of
-/// it was taken, once.
+/// entries that it took, all from these places, and published, but for its last entry, if that is held; all lists that any connection
+/// of any place was answered from are prefixes of it; each retained publication that any client was told is stored stands in it once;
+/// each place served all connections of its turn, over their own bytes and at their own times; what a place sent are their retained
+/// publications, in order; and if the changes are given, all of it was taken, once.
 ///
 /// # Errors
 ///
@@ -104,8 +104,7 @@ pub fn run_store<T: Turn + Send + Drop + 'static, H: Threads + Wait + Copy + Sen
 ) -> Result<StoreEnd<T>, StoreFault>
     requires places { queue.places ≡ blank.places }
     requires turns { length turns.items ≡ blank.places }
-    ensures run { IfOk result (λ end. IsTrue end.ordered → IsStoreRun blank.limit blank.places (map T.plan turns.items) (map T.plan end.turns.items) end.version end.changes) }
-    ensures ordered { IfOk result (λ end. IfSome end.changes (λ changes. IsTrue end.ordered)) }
+    ensures { IfOk result (λ end. IsStoreRun blank.limit blank.places (map T.plan turns.items) (map T.plan end.turns.items) end.version end.changes) }
 {
     run_named::<Brand, T, H>(rt, alloc, blank, queue, turns)
 }
@@ -125,14 +124,14 @@ fn run_named<
     requires queue { (queue.name ≡ N.queue) × (queue.places ≡ N.places) }
     requires places { queue.places ≡ blank.places }
     requires turns { length turns.items ≡ blank.places }
-    ensures run { IfOk result (λ end. IsTrue end.ordered → IsStoreRun blank.limit blank.places (map T.plan turns.items) (map T.plan end.turns.items) end.version end.changes) }
-    ensures ordered { IfOk result (λ end. IfSome end.changes (λ changes. IsTrue end.ordered)) }
+    ensures { IfOk result (λ end. IsStoreRun blank.limit blank.places (map T.plan turns.items) (map T.plan end.turns.items) end.version end.changes) }
 {
     let (writer, seats) = blank.open::<N, H>(rt)?;
     let (intake, lines, queue) = queue.open::<N>()?;
     let gates = open_gates(rt, alloc, intake, seats, lines)?;
     // Before any thread starts, so that nothing is lost.
     let lines = Vec::with_capacity(alloc, gates.len())?;
+    let others = Vec::with_capacity(alloc, gates.len())?;
     let left = Vec::with_capacity(alloc, gates.len())?;
     let Some(writing) = start_writer(rt, queue, writer) else {
         return Err(StoreFault::NoThread);
@@ -141,5 +140,67 @@ fn run_named<
     // It ends once each line is closed, or all are gone.
     let ended = writing.join(&rt);
     let served = served?;
-    Ok(settled(served, ended, lines, left))
+    let PlacesEnd { ends, threads } = served;
+    let (lines, others) = parted(ends, lines, others);
+    Ok(settled(others, lines, threads, ended, left))
+}
+
+/// Runs a store that is empty at first, whose places many clients share: serves a turn for each client, each on a thread of its own, as
+/// [`run_clients`] does, with the writer on one more, and settles. The first turn goes with place 1, and so on, and after the last place
+/// comes place 1 again.
+///
+/// The contract is one statement about the run, `IsFleetRun`: what that of [`run_store`] says of the history, the writer and the changes;
+/// of each client, what that says of the connections of a place; and of each place, what the writer took of what it sent, and what the
+/// history has of that. It does not say which of the clients of a place sent what.
+///
+/// # Errors
+///
+/// [`StoreFault`]. No connection was served.
+pub fn run_fleet<T: Turn + Send + Drop + 'static, H: Threads + Wait + Copy + Send + Sync + 'static>(
+    rt: H,
+    alloc: Global,
+    blank: Blank,
+    queue: BlankQueue,
+    turns: Vec<T>,
+) -> Result<StoreEnd<T>, StoreFault>
+    requires { queue.places ≡ blank.places }
+    ensures { IfOk result (λ end. IsFleetRun blank.limit blank.places (map T.plan turns.items) (map T.plan end.turns.items) end.version end.changes) }
+{
+    run_fleet_named::<Brand, T, H>(rt, alloc, blank, queue, turns)
+}
+
+fn run_fleet_named<
+    N: LineName + Send + Sync + 'static,
+    T: Turn + Send + Drop + 'static,
+    H: Threads + Wait + Copy + Send + Sync + 'static,
+>(
+    rt: H,
+    alloc: Global,
+    blank: Blank,
+    queue: BlankQueue,
+    turns: Vec<T>,
+) -> Result<StoreEnd<T>, StoreFault>
+    requires store { (blank.history ≡ N.history) × (blank.limit ≡ N.limit) }
+    requires queue { (queue.name ≡ N.queue) × (queue.places ≡ N.places) }
+    requires places { queue.places ≡ blank.places }
+    ensures { IfOk result (λ end. IsFleetRun blank.limit blank.places (map T.plan turns.items) (map T.plan end.turns.items) end.version end.changes) }
+{
+    let (writer, seats) = blank.open::<N, H>(rt)?;
+    let (intake, lines, queue) = queue.open::<N>()?;
+    let shared = SharedPlaces::new(&rt, alloc, intake, seats, lines)?;
+    // Before any thread starts, so that nothing is lost.
+    let left = Vec::with_capacity(alloc, turns.len())?;
+    let Some(writing) = start_writer(rt, queue, writer) else {
+        return Err(StoreFault::NoThread);
+    };
+    let served = run_clients(rt, alloc, turns, shared);
+    // It ends once each line is closed, or all are gone.
+    let ended = writing.join(&rt);
+    let served = served?;
+    let FleetEnd {
+        clients,
+        lines,
+        threads,
+    } = served;
+    Ok(settled(clients, lines, threads, ended, left))
 }

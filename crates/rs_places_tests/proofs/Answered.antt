@@ -1,15 +1,16 @@
 -- From the contract of a run to what the clients were written.
 use Rattle.std.proofs.Common.{◌≡◌, ℕ, suc, Option, Some, None, is_some, true, All, List, [], ◌∷◌, ◌++◌, length, map, sym, subst, ◌∙◌, arith}
 use Rattle.std.specs.Prelude.{IfOk, Result, Ok, Err}
-use Rattle.std.specs.List.{AllByRecursion}
+use Rattle.std.specs.List.{AllByRecursion, AllZip}
 use Rattle.rs_session.specs.Gate.{Extends}
 use Rattle.rs_session.specs.Stored.{lists_of}
 use Rattle.rs_session.specs.Run.{Exchange}
 use Rattle.rs_places.proofs.Whole.{new_gates_length}
 use Rattle.rs_message.specs.declared.entry.Entry.{Entry}
+use Rattle.rs_version.specs.Copies.{listed}
 use Rattle.rs_places.specs.Places.{AreConnectionsServed, Left, Place, Visit, next_number, places_of}
 use Rattle.rs_places.specs.Shared.{SharedValue}
-use Rattle.rs_places.specs.Store.{ArePlacesOf, AreWithin, IsPlaceOf, IsStoreRun, new_gates}
+use Rattle.rs_places.specs.Store.{AreWithin, IsPlaceOf, IsStoreRun, new_gates}
 use Rattle.rs_places.specs.Turns.{AreAll, Ending, Plan, Streams, TookBack}
 use Rattle.rs_places_tests.specs.Answered.{AreAnswered, ArePlacesAnswered, EachAnswered, IsPlaceAnswered}
 
@@ -61,7 +62,7 @@ place_answered limit history entries place left some p =
     (visits_answered limit 1 history place.gate visits p.served.last p.served.connections p.within)
 
 places_answered : (limit : ℕ) (history entries : List Entry) (before : List Plan) (gates : List SharedValue) (left : List Left) → length before ≡ length gates
-    → AllByRecursion (λ plan. is_some plan.waiting ≡ true) before → ArePlacesOf limit history entries (places_of before gates) left → ArePlacesAnswered history before (map (λ end. end.plan) left)
+    → AllByRecursion (λ plan. is_some plan.waiting ≡ true) before → AllZip (IsPlaceOf limit history entries) (places_of before gates) left → ArePlacesAnswered history before (map (λ end. end.plan) left)
 places_answered limit history entries [] gates [] same known each = tt
 places_answered limit history entries [] gates (end ∷ left) same known each = absurd each
 places_answered limit history entries (plan ∷ plans) [] left same known each = absurd (omega (arith, same))
@@ -75,6 +76,8 @@ run_answered limit places before after version changes count known run =
     record {
       history = run.history;
       legal = run.legal;
+      published = run.published;
+      first = (listed run.held, run.whole);
       entries = run.entries;
       places = subst P (sym run.turns) (places_answered limit run.history run.taken before (new_gates places) run.left (count ∙ sym (new_gates_length places)) known run.each);
     }

@@ -58,9 +58,11 @@ ArePlacesAnswered history [] (after ∷ more) = ⊥
 ArePlacesAnswered history (before ∷ rest) [] = ⊥
 ArePlacesAnswered history (before ∷ rest) (after ∷ more) = IsPlaceAnswered history before.waiting before.ended after.ended × ArePlacesAnswered history rest more
 
--- of one legal history of so many entries
+-- of one legal history, of which so many entries were published
 pub record AreAnswered (limit : ℕ) (before after : List Plan) (version : ℕ) : Type 0 where
   pub history : List Entry
   pub legal : IsLegal limit history
-  pub entries : version ≡ length history
+  pub published : List Entry
+  pub first : Extends history published
+  pub entries : version ≡ length published
   pub places : ArePlacesAnswered history before after

@@ -9,11 +9,13 @@ mod ahead;
 mod bursts;
 mod ending;
 mod faults;
+mod fleet;
 mod known;
 mod peers;
 mod play;
 mod runs;
 mod script;
+mod shared;
 mod sweeping;
 
 use rs_message::PlaceCount;

@@ -1,12 +1,13 @@
-//! Bursts: what a client sends in one piece is answered as if each packet came alone.
+//! Bursts: what a client sends in one piece is answered as if each packet came alone, also if its place is one that clients share.
 
-use super::play::{PLAIN, as_wanted, ending, run};
+use super::play::{PLAIN, Played, as_wanted, ending, run, share};
 use super::script::{Counts, Course, Script};
 use rs_server::{ServeFault, Served};
 use rs_test_kit::{Behavior, CONNACK, CONNECT, Call, ServeResult};
 use std::alloc::{AllocError, Global};
-use std::sync::Arc;
+use std::sync::{Arc, Wait};
 use std::test::Fail;
+use std::thread::Threads;
 
 /// What a client sends, and what it has to be answered.
 #[derive(Drop)]
@@ -115,11 +116,33 @@ fn many(alloc: Global) -> Result<Talk, AllocError> {
     Ok(talk)
 }
 
+/// Runs a store of one place for this client: its own, or one that clients share.
+fn run_one<R: Threads + Wait + Copy + Send + Sync + 'static>(
+    rt: R,
+    alloc: Global,
+    topics: u32,
+    script: Script,
+    counts: &Arc<Counts>,
+    is_shared: bool,
+) -> Result<Played, Fail> {
+    let turns = vec![in alloc; script]?;
+    if is_shared {
+        share(rt, alloc, (topics, 1), turns, counts)
+    } else {
+        run(rt, alloc, topics, turns, counts)
+    }
+}
+
 /// In one piece, in pieces that hold no packet whole, and in pieces that end inside packets.
 #[test]
 fn a_burst_is_answered_as_single_packets_are(rt: HostRuntime) -> Result<(), Fail> {
     let alloc = rt.alloc();
-    for step in [usize::MAX, 1, 100] {
+    for (step, is_shared) in [
+        (usize::MAX, false),
+        (1, false),
+        (100, false),
+        (usize::MAX, true),
+    ] {
         let counts = Arc::new(alloc, Counts::new())?;
         let mut script = Script::new(alloc, Arc::try_clone(&counts)?);
         let Talk { sent, replies } = many(alloc)?;
@@ -128,7 +151,7 @@ fn a_burst_is_answered_as_single_packets_are(rt: HostRuntime) -> Result<(), Fail
             sent,
             replies,
         )?;
-        let ran = run(rt, alloc, 10, vec![in alloc; script]?, &counts)?;
+        let ran = run_one(rt, alloc, 10, script, &counts, is_shared)?;
         assert!(rt; ran == as_wanted(1, 1, 10_100, 10_100), "{step}");
     }
     Ok(())
@@ -180,24 +203,37 @@ const BREAKS: [Break; 5] = [
 ];
 
 /// The connection breaks off in the middle of a burst. What was acknowledged is there for the next client.
+fn is_kept<R: Threads + Wait + Copy + Send + Sync + 'static>(
+    rt: R,
+    alloc: Global,
+    (missing, at, ends, acknowledged, kept): Break,
+    is_shared: bool,
+) -> Result<bool, Fail> {
+    let counts = Arc::new(alloc, Counts::new())?;
+    let mut script = Script::new(alloc, Arc::try_clone(&counts)?);
+    let Talk {
+        mut sent,
+        mut replies,
+    } = publishes(alloc)?;
+    sent.truncate(sent.len().saturating_sub(missing));
+    replies.truncate(15 + 4 * acknowledged.min(150));
+    script.put(course(usize::MAX, at, ends), sent, replies)?;
+    let Talk { sent, replies } = reads(alloc, kept)?;
+    script.put(ending(PLAIN, Ok(Served::EndOfInput)), sent, replies)?;
+    let kept = u64::from(kept);
+    let ran = run_one(rt, alloc, 200, script, &counts, is_shared)?;
+    Ok(ran == as_wanted(1, 2, kept, kept))
+}
+
 #[test]
 fn what_was_acknowledged_of_a_broken_burst_is_kept(rt: HostRuntime) -> Result<(), Fail> {
     let alloc = rt.alloc();
-    for (missing, at, ends, acknowledged, kept) in BREAKS {
-        let counts = Arc::new(alloc, Counts::new())?;
-        let mut script = Script::new(alloc, Arc::try_clone(&counts)?);
-        let Talk {
-            mut sent,
-            mut replies,
-        } = publishes(alloc)?;
-        sent.truncate(sent.len().saturating_sub(missing));
-        replies.truncate(15 + 4 * acknowledged.min(150));
-        script.put(course(usize::MAX, at, ends), sent, replies)?;
-        let Talk { sent, replies } = reads(alloc, kept)?;
-        script.put(ending(PLAIN, Ok(Served::EndOfInput)), sent, replies)?;
-        let kept = u64::from(kept);
-        let ran = run(rt, alloc, 200, vec![in alloc; script]?, &counts)?;
-        assert!(rt; ran == as_wanted(1, 2, kept, kept), "{at}");
+    for broken in BREAKS {
+        let (_missing, at, _ends, _acknowledged, _kept) = broken;
+        for is_shared in [false, true] {
+            let kept = is_kept(rt, alloc, broken, is_shared)?;
+            assert!(rt; kept, "{at} {is_shared}");
+        }
     }
     Ok(())
 }

@@ -1,6 +1,6 @@
 //! A run over turns whose connections are known.
 
-ghost use Rattle.std.specs.Prelude.{◌≡◌, All, IfOk, IsTrue, is_some, length, map, true};
+ghost use Rattle.std.specs.Prelude.{◌≡◌, All, IfOk, is_some, length, map, true};
 ghost use Rattle.rs_server.specs.Counts.{failures_of, inner_of};
 ghost use Rattle.rs_places.specs.Turns.{TakesBack};
 ghost use Rattle.rs_places_tests.specs.Answered.{AreAnswered};
@@ -105,7 +105,7 @@ fn answered<T: Turn + Send + Drop + 'static, H: Threads + Wait + Copy + Send + S
     requires places { queue.places ≡ blank.places }
     requires turns { length turns.items ≡ blank.places }
     requires known { All (λ turn. is_some (T.plan turn).waiting ≡ true) turns.items }
-    ensures { IfOk result (λ end. IsTrue end.ordered → AreAnswered blank.limit (map T.plan turns.items) (map T.plan end.turns.items) end.version) }
+    ensures { IfOk result (λ end. AreAnswered blank.limit (map T.plan turns.items) (map T.plan end.turns.items) end.version) }
 {
     run_store(rt, alloc, blank, queue, turns)
 }
@@ -178,7 +178,7 @@ fn connections_in_memory_are_answered(rt: HostRuntime) -> Result<(), Fail> {
     let blank = blank_store(alloc, 10, places)?;
     let queue = blank_queue(alloc, places)?;
     let end = answered(rt, alloc, blank, queue, turns)?;
-    assert!(rt; end.ordered && end.threads == 2);
+    assert!(rt; end.threads == 2);
     assert!(rt; (end.changes, end.version) == (Some(1), 1));
     let turns = end.turns;
     let first = match turns.get(0) {

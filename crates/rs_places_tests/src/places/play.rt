@@ -4,7 +4,7 @@ use super::blank_store;
 use super::script::{Counts, Course, Script};
 use rs_intake::blank_queue;
 use rs_message::{MAX_PLACES, PlaceCount};
-use rs_places::{Turn, run_store};
+use rs_places::{Turn, run_fleet, run_store};
 use rs_server::Served;
 use rs_test_kit::{Behavior, Call, ServeResult, joined};
 use std::alloc::{AllocError, Global};
@@ -27,6 +27,7 @@ pub const PLAIN: Course = Course {
     together: 0,
     moments: &[0],
     behavior: SMOOTH,
+    stalls: (0, 0),
     ends: Ok(Served::ClientClosed),
 };
 
@@ -128,6 +129,25 @@ pub fn run<T: Turn + Send + Drop + 'static, R: Threads + Wait + Copy + Send + Sy
     let places = PlaceCount::new(count as u8).ok_or("no place")?;
     let blank = blank_store(alloc, topics, places)?;
     let end = run_store(rt, alloc, blank, blank_queue(alloc, places)?, turns)?;
+    Ok(Played {
+        threads: end.threads,
+        right: counts.right.load(Ordering::SeqCst),
+        changes: end.changes,
+        version: end.version,
+    })
+}
+
+/// Runs a store of so many topics and places, which the turns share as its clients.
+pub fn share<T: Turn + Send + Drop + 'static, R: Threads + Wait + Copy + Send + Sync + 'static>(
+    rt: R,
+    alloc: Global,
+    (topics, places): (u32, u8),
+    turns: Vec<T>,
+    counts: &Counts,
+) -> Result<Played, Fail> {
+    let places = PlaceCount::new(places).ok_or("places")?;
+    let blank = blank_store(alloc, topics, places)?;
+    let end = run_fleet(rt, alloc, blank, blank_queue(alloc, places)?, turns)?;
     Ok(Played {
         threads: end.threads,
         right: counts.right.load(Ordering::SeqCst),

@@ -56,7 +56,7 @@ fn publish_fifty(
 }
 
 /// The CONNACK of a client that is assigned an identifier.
-fn assigned(alloc: Global, place: u8, number: u8) -> Result<Vec<u8>, AllocError> {
+pub fn assigned(alloc: Global, place: u8, number: u64) -> Result<Vec<u8>, AllocError> {
     let name = format!(in alloc; "rs{place}-{number}")?;
     let len = name.as_bytes().len().min(20) as u8;
     let mut output = Vec::new(alloc);
@@ -70,7 +70,7 @@ fn assigned(alloc: Global, place: u8, number: u8) -> Result<Vec<u8>, AllocError>
 fn put_own(alloc: Global, place: u8, number: u8, script: &mut Script) -> Result<(), AllocError> {
     let topic = place.saturating_add(b'/');
     let last = number.saturating_mul(50);
-    let mut output = assigned(alloc, place, number)?;
+    let mut output = assigned(alloc, place, u64::from(number))?;
     let mut input = joined(
         alloc,
         &[b"\x10\x0D\x00\x04MQTT\x05\x02\x00\x3C\x00\x00\x00".as_slice()],

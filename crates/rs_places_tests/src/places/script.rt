@@ -30,6 +30,8 @@ pub struct Course {
     /// The times of its packets. The last one stands for all that follow.
     pub moments: &'static [u64],
     pub behavior: Behavior,
+    /// From its write of this number on, from 1, its client reads nothing until so many connections have ended. Never, if it is 0.
+    pub stalls: (u64, u64),
     /// How it has to end.
     pub ends: ServeResult,
 }
@@ -83,13 +85,21 @@ pub type Input = FaultyStream<VecDeque<u8>>;
 /// What is written to it.
 #[derive(Drop)]
 pub struct Output {
+    counts: Arc<Counts>,
     stream: FaultyStream<Vec<u8>>,
+    stalls: (u64, u64),
+    writes: u64,
     wanted: Vec<u8>,
     ends: ServeResult,
 }
 
 impl Write for Output {
     fn write(&mut self, buf: &[u8]) -> io::Result<usize> {
+        self.writes = self.writes.saturating_add(1);
+        let (first, ended) = self.stalls;
+        if self.writes == first && !comes(&self.counts.ended, ended) {
+            self.stalls = (0, u64::MAX);
+        }
         self.stream.write(buf)
     }
 
@@ -100,7 +110,10 @@ impl Write for Output {
 
 impl Output {
     fn is_right(&self, end: ServeResult) -> bool {
-        end == self.ends && self.stream.inner.as_slice() == self.wanted.as_slice()
+        let (_first, ended) = self.stalls;
+        end == self.ends
+            && ended != u64::MAX
+            && self.stream.inner.as_slice() == self.wanted.as_slice()
     }
 
     fn is_closed(&self, end: ServeResult) -> bool {
@@ -181,6 +194,7 @@ impl Turn for Script {
 
     fn next(&mut self) -> Option<Connection<Input, Output, ScriptClock>> {
         let counts = Arc::try_clone(&self.counts).ok()?;
+        let own_counts = Arc::try_clone(&self.counts).ok()?;
         let connection = self.waiting.pop_front()?;
         let ScriptConnection {
             course,
@@ -196,6 +210,9 @@ impl Turn for Script {
                 behavior: course.behavior,
             },
             output: Output {
+                counts: own_counts,
+                stalls: course.stalls,
+                writes: 0,
                 stream: FaultyStream {
                     inner: Vec::new(self.alloc),
                     behavior: course.behavior,

@@ -1,4 +1,4 @@
-use Rattle.std.proofs.Common.{◌≡◌, ◌+◌, ◌++◌, [], List, length, map, sym, ap, subst, ◌∙◌, arith}
+use Rattle.std.proofs.Common.{◌≡◌, [], length, sym, ap, ◌∙◌, arith}
 use Rattle.rs_intake.proofs.Sums.{no_more}
 use Rattle.rs_places.proofs.Starting.{each_of_both, each_of_whole, first_of_all, length_more}
 use Rattle.rs_places.proofs.running.join_places.Goals as goal

@@ -1,4 +1,4 @@
-use Rattle.std.proofs.Common.{length, arith}
+use Rattle.std.proofs.Common.{arith}
 use Rattle.rs_places.proofs.Starting.{all_joined, as_many}
 use Rattle.rs_places.proofs.running.run_places.Goals as goal
 

@@ -1,7 +1,6 @@
-use Rattle.std.proofs.Common.{rules, ◌≡◌, ◌⊎◌, ⊎_elim, inl, inr, ◌+◌, List, length, map, sym, ap, ◌∙◌, arith}
+use Rattle.std.proofs.Common.{rules, ◌≡◌, ◌⊎◌, ⊎_elim, inl, inr, length, map, sym, ap, ◌∙◌, arith}
 use Rattle.std.proofs.lemmas.Bool.Decides.{nat_tests}
-use Rattle.rs_places.specs.Places.{left_at, place_at, places_of}
-use Rattle.rs_places.specs.Shared.{SharedValue}
+use Rattle.rs_places.specs.Places.{places_of}
 use Rattle.rs_places.proofs.Starting.{all_started, few_at_first, few_served, few_so_far, few_threads, length_more, next_place, no_places, same_place, served_fits, served_here, started_none, still_fits, thread_fits, thread_more}
 use Rattle.rs_places.proofs.running.start_places.Goals as goal
 

@@ -1,11 +1,11 @@
 use Rattle.std.specs.Prelude.{◌+◌, ◌≤◌, map, length, vec_capacity}
-use Rattle.rs_places.specs.Places.{left_at, place_at, places_of}
+use Rattle.rs_places.specs.Places.{IsPlaceServed, left_at, place_at, places_of}
 use Rattle.rs_places.proofs.Starting.{StartedSoFar}
 use Rattle.rs_places.proofs.running.start_places.Given as goal
 
 abbrev pub invariant-loop-turn : goal.invariant-loop-turn
 invariant-loop-turn g l = record {
-  started : StartedSoFar g.N.StoreName.limit (map (λ thread. place_at (g.T.Turn.plan thread.promise.turn.value) thread.promise.gate.value) l.threads.items)
+  started : StartedSoFar (IsPlaceServed g.N.StoreName.limit) (map (λ thread. place_at (g.T.Turn.plan thread.promise.turn.value) thread.promise.gate.value) l.threads.items)
       (map (λ end. left_at (g.T.Turn.plan end.turn) end.told end.line) l.served.items)
       (places_of (map g.T.Turn.plan l.turn-iterator.a.rest.items) l.turn-iterator.b.rest.items) (places_of (map g.T.Turn.plan l.fn.turns.items) l.fn.gates.items);
   few : length l.threads.items + length l.served.items + length l.turn-iterator.b.rest.items ≤ length l.fn.gates.items;

@@ -1,65 +1,10 @@
-use Rattle.std.proofs.Common.{◌≡◌, ◌∷◌, ◌++◌, ℕ, List, refl, sym, subst, ◌∙◌}
-use Rattle.rs_message.specs.declared.entry.Entry.{Entry}
-use Rattle.rs_store.specs.History.{IsLegal, SerialsRise}
-use Rattle.rs_session.specs.Run.{AreOfGate, Run, Exchange}
-use Rattle.rs_session.proofs.Keeping.{run_lists, run_keeps}
-use Rattle.rs_session.proofs.Replaying.{run_replays, replay_sends}
-use Rattle.rs_session.proofs.Runs.{of_gate_weaker}
-use Rattle.rs_session.proofs.Sending.{run_sends}
-use Rattle.rs_session.specs.Points.{point_at}
-use Rattle.rs_server.specs.Conversation.{AreLeft, assigned_of, start}
-use Rattle.rs_places.specs.Shared.{operations_of}
-use Rattle.rs_places.proofs.Marks.{marks_between}
-use Rattle.rs_places.proofs.Tails.{left_front}
+use Rattle.std.proofs.Common.{refl}
+use Rattle.rs_places.proofs.ServedAt.{served_at}
 use Rattle.rs_places.proofs.serving.serve_place.Goals as goal
 
 pub returns-clause-connection : goal.returns-clause-connection
 returns-clause-connection g c =
-    let limit = g.N.StoreName.limit in
     let gate = c.args.gate in
-    let number = c.args.number in
-    let before = c.serve-served.result.1 in
-    let after = c.hand_on.new.self in
-    let (state, planned, left, few, talk, ends) = c.serve-served.ensures.conversation gate.known (record { known = refl; legal = c.version-version.ensures.legal }) in
-    let conversation = talk.conversation in
-    let exchanges = conversation.exchanges in
+    let conversation = c.serve-served.ensures.conversation gate.known (record { known = refl; legal = c.version-version.ensures.legal }) in
     let (tail, hands_on, front) = c.hand_on.ensures.mark in
-    let from = start (assigned_of gate.mark.place number) gate.known gate.mark in
-    let to = point_at state after.known before.mark in
-    let known : conversation.seen ≡ after.known = sym (c.hand_on.ensures.known ∙ conversation.stood_for.known) in
-    let P : ℕ → Type 0 = λ place. Run (start (assigned_of place number) gate.known gate.mark) exchanges (point_at state conversation.seen before.mark) in
-    let Q : List Entry → Type 0 = λ list. Run from exchanges (point_at state list before.mark) in
-    let run : Run from exchanges to = subst Q known (subst P c.place.ensures.place conversation.run) in
-    let A : ℕ → Type 0 = λ place. AreLeft (start (assigned_of place number) gate.known gate.mark) exchanges planned before.pending in
-    let L : List Entry → Type 0 = λ list. IsLegal limit list in
-    let legal : AreOfGate (λ mark list. IsLegal limit list) exchanges = of_gate_weaker _ (λ mark list. IsLegal limit list) exchanges (λ mark list h. h.1.legal) conversation.of_gate in
-    let rises : AreOfGate (λ mark list. SerialsRise list) exchanges = of_gate_weaker (λ mark list. IsLegal limit list) (λ mark list. SerialsRise list) exchanges (λ mark list h. h.rises) legal in
-    let R : List Exchange → Type 0 = λ ts. Run from ts to in
-    let S : List Exchange → Type 0 = λ ts. AreOfGate (λ mark list. SerialsRise list) ts in
-    record {
-      exchanges = exchanges;
-      state = state;
-      mark = before.mark;
-      bytes = conversation.bytes;
-      buffered = talk.buffered;
-      planned = planned;
-      left = left;
-      run = run;
-      read = conversation.read;
-      inputs = conversation.inputs;
-      whole = talk.whole;
-      moments = conversation.moments;
-      replies = conversation.replies;
-      ends = ends;
-      legal = legal;
-      last_legal = subst L known conversation.stood_for.legal;
-      lists = run_lists from to exchanges run;
-      stored = λ before exchange later o p answer whole is_open told. run_keeps from to before exchange later o p answer (subst R whole run) (subst S whole rises) is_open told;
-      marks = λ before between later whole. marks_between from to exchanges before between later run whole;
-      publications = run_sends from to exchanges run;
-      tail = tail;
-      handed_on = hands_on;
-      none_pending = c.hand_on.ensures.pending;
-      tail_is = λ none. left_front from exchanges planned (operations_of tail) before.pending front (subst A c.place.ensures.place (talk.expected none));
-      sent = λ connect opens. let made = run_replays (assigned_of gate.mark.place number) from to exchanges connect refl run opens in (made, replay_sends connect exchanges made);
-    }
+    served_at g.N.StoreName.limit c.args.number c.place.result gate c.serve-served.result.1 c.hand_on.new.self _ c.serve-served.result.0 tail c.place.ensures.place conversation c.hand_on.ensures.known hands_on front c.hand_on.ensures.pending

@@ -1,9 +1,5 @@
-use Rattle.std.proofs.Common.{◌≡◌, ◌⊎◌, ⊎_elim, inl, inr, List, [], ◌∷◌, ◌++◌, refl, sym, ap, subst, ◌∙◌, append-nil}
-use Rattle.rs_message.specs.declared.entry.Entry.{Entry}
-use Rattle.rs_message.specs.declared.entry.Operation.{Operation}
-use Rattle.rs_intake.specs.Lines.{Line}
-use Rattle.rs_session.specs.Gate.{Mark}
-use Rattle.rs_places.specs.Shared.{SharedValue, pending_of, mark_of}
+use Rattle.std.proofs.Common.{◌≡◌, ◌⊎◌, [], refl, sym, ap, subst, ◌∙◌, append-nil}
+use Rattle.rs_places.specs.Shared.{SharedValue, pending_of}
 use Rattle.rs_places.proofs.Receipts.{announced_one, announces, same_mark}
 use Rattle.rs_places.proofs.shared_gate.SharedGateGate.expect.Goals as goal
 

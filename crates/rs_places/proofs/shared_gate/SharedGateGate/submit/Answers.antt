@@ -3,7 +3,7 @@ use mathlib.Core.List.{IsPrefix}
 use Rattle.std.proofs.lemmas.Result.{err_from_is_err_and}
 use Rattle.rs_message.specs.declared.entry.Entry.{Entry}
 use Rattle.rs_message.specs.declared.fault.SubmitFault.{SubmitFault}
-use Rattle.rs_session.specs.Gate.{Mark, Submits, TakesPending, Uses}
+use Rattle.rs_session.specs.Gate.{Mark, Submits, TakesPending}
 use Rattle.rs_message.specs.declared.fault.SubmitFault.TheVariants.{Strange}
 use Rattle.rs_intake.specs.Lines.{entry_at, next_serial}
 use Rattle.rs_intake.proofs.Faults.{ok_not_err, refused_as}
