@@ -9,8 +9,8 @@ use std::io::Read;
 use std::net::{OpenStream, Shutdown};
 use std::time::{Clock, Duration, Instant};
 
-/// How many bytes one read discards.
-const DISCARD_SIZE: usize = 16_384;
+/// How many bytes one read discards. They lie in the stack of the connection's thread, which keeps what it has touched.
+const DISCARD_SIZE: usize = 4_096;
 
 /// Tells the peer that no more is written, and then reads and discards what it still sends: up to its end,
 /// at most [`MAX_DISCARDED`] bytes, and for about a second.

@@ -3,6 +3,7 @@
 use crate::closing::end;
 use crate::halves::{ReadHalf, WriteHalf};
 use crate::splitting::{finish, give_up, split};
+use crate::stream::SharedStream;
 use std::alloc::Global;
 use std::io;
 use std::io::{Read, Write};
@@ -10,17 +11,17 @@ use std::net::{OpenStream, TcpStream};
 use std::time::{Clock, Duration};
 
 /// What a client sends. Before each read, what was gathered for the client is written out.
-pub type FromClient = ReadHalf<TcpStream, TcpStream>;
+pub type FromClient = ReadHalf<SharedStream, SharedStream>;
 
 /// What is sent to a client, gathered.
-pub type ToClient = WriteHalf<TcpStream>;
+pub type ToClient = WriteHalf<SharedStream>;
 
 /// The two halves of a connection. What is written out is sent at once (TCP_NODELAY). If `idle` is given, a read fails for which no
 /// byte comes for so long, and so does a write of which no byte is taken for so long.
 ///
 /// # Errors
 ///
-/// If `idle` is zero, or a descriptor or memory is refused. The connection is closed.
+/// If `idle` is zero, or memory is refused. The connection is closed.
 pub fn open(
     alloc: Global,
     stream: TcpStream,
@@ -32,8 +33,8 @@ pub fn open(
         stream.set_read_timeout(idle)?;
         stream.set_write_timeout(idle)?;
     }
-    let reader = stream.try_clone()?;
-    split(alloc, reader, stream)
+    let (reader, writer) = SharedStream::pair(alloc, stream)?;
+    split(alloc, reader, writer)
 }
 
 /// Ends a connection: writes out what was gathered, tells the client that no more comes, reads and discards

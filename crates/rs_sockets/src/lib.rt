@@ -19,17 +19,23 @@
 mod clock;
 mod closing;
 mod connection;
+mod descriptors;
 mod gathered;
 mod halves;
 mod limits;
 mod listener;
 mod sharing;
 mod splitting;
+mod stream;
 
 pub use clock::SystemClock;
 pub use connection::{FromClient, ToClient, abandon, close, open};
+pub use descriptors::descriptor_limit;
 pub use gathered::Gathered;
 pub use halves::{ReadHalf, WriteHalf};
-pub use limits::{DISCARD_SECONDS, FIRST_PAUSE, LONGEST_PAUSE, MAX_DISCARDED, MAX_GATHERED};
+pub use limits::{
+    BACKLOG, DISCARD_SECONDS, FIRST_PAUSE, LONGEST_PAUSE, MAX_DISCARDED, MAX_GATHERED,
+};
 pub use listener::{Accepted, Listener};
 pub use splitting::{finish, split};
+pub use stream::SharedStream;

@@ -1,5 +1,11 @@
 //! The limits of connections and of accepting them.
 
+/// How many connections may wait to be accepted. A fleet connects at once, and the system drops the packets of a client
+/// that finds no room. That client tries again only a second later, and then after ever longer times.
+pub const BACKLOG: i32 = 4_096;
+
+const _: () = prove!(BACKLOG == 4_096);
+
 /// How many bytes of replies are gathered before they are written out.
 pub const MAX_GATHERED: usize = 65_536;
 

@@ -4,9 +4,11 @@ ghost use Rattle.std.specs.Prelude.{◌≡◌, ◌*◌, min};
 ghost use Rattle.rs_sockets.specs.declared.limits.TheConstants.{LONGEST_PAUSE};
 
 use crate::connection::{FromClient, ToClient, open};
-use crate::limits::{FIRST_PAUSE, LONGEST_PAUSE};
+use crate::limits::{BACKLOG, FIRST_PAUSE, LONGEST_PAUSE};
+use libc::net::listen;
 use std::alloc::Global;
 use std::net::{Net, SocketAddr, TcpListener, TcpStream};
+use std::os::fd::AsRawFd;
 use std::sync::atomic::{AtomicU64, Ordering};
 use std::time::{Clock, Duration};
 use std::{io, thread};
@@ -32,7 +34,8 @@ pub struct Accepted {
 
 impl Listener {
     /// Binds an address, which is a host's name, an IPv4 or an IPv6 address, and a port, as `localhost:1883`
-    /// or `[::1]:1883`. Port 0 takes one that is free. It will accept `connections` connections, none if that is 0.
+    /// or `[::1]:1883`. Port 0 takes one that is free. At most [`BACKLOG`] clients wait there at once, and fewer if the system has a
+    /// lower limit. It will accept `connections` connections, none if that is 0.
     /// A connection fails at a read or a write that is idle for as long as `idle` says, if it is given ([`open`]).
     ///
     /// # Errors
@@ -45,6 +48,8 @@ impl Listener {
         idle: Option<Duration>,
     ) -> io::Result<Listener> {
         let socket = TcpListener::bind(rt, address)?;
+        // std asks for 128. If the system refuses more, those stand.
+        let _ = listen(socket.as_raw_fd(), BACKLOG);
         Ok(Listener {
             socket,
             left: AtomicU64::new(connections),

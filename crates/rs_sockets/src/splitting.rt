@@ -25,7 +25,7 @@ pub fn split<R: Read + Drop, W: Write + Drop>(
     ensures reader { IfOk result (λ halves. unread_of R.remaining halves.0 ≡ R.remaining reader) }
     ensures writer { IfOk result (λ halves. Keeps (W.contents writer) (written_of halves.1)) }
 {
-    let gathered = Gathered::new(alloc, writer)?;
+    let gathered = Gathered::new(alloc, writer);
     let (shared, mut pass) = empty_cell::<W>(alloc)?;
     let shared_too = Arc::try_clone(&shared)?;
     let reading = shared.another::<ForReading>(&mut pass);

@@ -1,10 +1,10 @@
 //! A listener on the loopback.
 
-use rs_sockets::{Listener, finish};
+use rs_sockets::{BACKLOG, Listener, finish};
 use std::alloc::Global;
 use std::io;
 use std::io::ErrorKind;
-use std::net::{Net, TcpListener, TcpStream};
+use std::net::{Net, OpenStream, SocketAddr, TcpListener, TcpStream};
 use std::sync::atomic::{AtomicU64, Ordering};
 use std::test::Fail;
 use std::time::{Clock, Duration};
@@ -71,7 +71,7 @@ fn a_failed_accept_waits(rt: HostRuntime) -> Result<(), Fail> {
 fn sends_at_once<H: Clock>(rt: &H, alloc: Global, listener: &Listener) -> Option<bool> {
     let accepted = listener.accept(rt, alloc)?;
     let (_reader, stream) = finish(accepted.input, accepted.output).ok()?;
-    stream.nodelay().ok()
+    OpenStream::nodelay(&stream).ok()
 }
 
 #[test]
@@ -80,5 +80,33 @@ fn replies_are_sent_without_delay(rt: HostRuntime) -> Result<(), Fail> {
     let listener = Listener::bind(&rt, "127.0.0.1:0", 1, None)?;
     let _client = TcpStream::connect(&rt, listener.address(alloc)?.as_str())?;
     assert!(rt; sends_at_once(&rt, alloc, &listener) == Some(true));
+    Ok(())
+}
+
+/// How many clients wait, of so many that connect and are not accepted.
+fn waiting<H: Net<Listener = TcpListener, Stream = TcpStream>>(
+    rt: &H,
+    alloc: Global,
+    address: SocketAddr,
+    count: usize,
+) -> Result<usize, Fail> {
+    let mut clients = Vec::with_capacity(alloc, count)?;
+    for _ in 0..count {
+        match TcpStream::connect_timeout(rt, &address, Duration::from_secs(5)) {
+            Ok(client) => clients.push(client)?,
+            Err(_) => break,
+        }
+    }
+    Ok(clients.len())
+}
+
+/// More than the 128 for which std asks the system.
+#[test]
+fn many_clients_may_wait(rt: HostRuntime) -> Result<(), Fail> {
+    assert!(rt; BACKLOG == 4_096);
+    let alloc = rt.alloc();
+    let listener = Listener::bind(&rt, "127.0.0.1:0", 1, None)?;
+    let address = listener.address(alloc)?.as_str().parse::<SocketAddr>()?;
+    assert!(rt; waiting(&rt, alloc, address, 300)? == 300);
     Ok(())
 }
