@@ -1,29 +1,45 @@
-//! What each place gets.
+//! What each client gets.
 
 ghost use Rattle.std.specs.Prelude.{◌≡◌, IfOk, length};
 
 use crate::turn::ListenTurn;
 use log::Log;
+use rs_message::PlaceCount;
+use rs_places::first_number;
 use rs_sockets::Listener;
 use std::alloc::{AllocError, Global};
 use std::sync::Arc;
 use std::time::Clock;
 
-/// So many turns, those of the places 1, 2 and so on, which share the listener.
+/// The number of the connection before a client's first one, at its place.
+fn number_before(client: u16, is_shared: bool) -> u64 {
+    if is_shared {
+        first_number(usize::from(client)).saturating_sub(1)
+    } else {
+        0
+    }
+}
+
+/// A turn for each client, which share the listener. The first is of place 1, and so on, and after the last place comes place 1 again.
 pub(crate) fn turns<H: Clock + Log + Copy>(
     rt: H,
     alloc: Global,
     listener: Listener,
-    count: u8,
+    places: PlaceCount,
+    clients: u16,
 ) -> Result<Vec<ListenTurn<H>>, AllocError>
-    ensures { IfOk result (λ turns. length turns.items ≡ count) }
+    ensures { IfOk result (λ turns. length turns.items ≡ clients) }
 {
     let listener = Arc::new(alloc, listener).map_err(|_| AllocError)?;
     let mut turns = Vec::new(alloc);
-    for before in 0..count {
+    let is_shared = clients > u16::from(places.get());
+    let mut place = 0u8;
+    for client in 0..clients {
         let listener = Arc::try_clone(&listener)?;
+        place = if place < places.get() { place + 1 } else { 1 };
+        let before = number_before(client, is_shared);
         turns
-            .push(ListenTurn::new(rt, alloc, listener, before + 1))
+            .push(ListenTurn::new(rt, alloc, listener, place, before))
             .map_err(|_| AllocError)?;
     }
     Ok(turns)

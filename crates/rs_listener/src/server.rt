@@ -1,16 +1,17 @@
 //! The server.
 
-ghost use Rattle.std.specs.Prelude.{◌≡◌, ◌<◌, ◌≤◌, ℕ, List, IfOk, IfSome};
+ghost use Rattle.std.specs.Prelude.{◌≡◌, ◌<◌, ◌≤◌, ◌⊎◌, ℕ, List, IfOk};
+ghost use Rattle.rs_places.specs.Fleet.{IsFleetRun};
 ghost use Rattle.rs_places.specs.Store.{IsStoreRun};
 ghost use Rattle.rs_places.specs.Turns.{Plan};
 
 use crate::fault::ListenFault;
 use crate::opening::turns;
-use log::Log;
+use log::{Log, warn};
 use rs_intake::{BlankQueue, blank_queue};
 use rs_message::PlaceCount;
-use rs_places::run_store;
-use rs_sockets::Listener;
+use rs_places::{run_fleet, run_store};
+use rs_sockets::{Listener, descriptor_limit};
 use rs_store::TopicLimit;
 use rs_version::Blank;
 use std::alloc::Global;
@@ -27,6 +28,7 @@ pub struct Server {
     blank: Blank,
     queue: BlankQueue,
     places: PlaceCount,
+    clients: u16,
     ghost both: { queue.places ≡ blank.places },
     ghost each: { places ≡ blank.places },
 }
@@ -34,7 +36,7 @@ pub struct Server {
 /// What a server did.
 #[derive(Clone, Copy, Debug, PartialEq, Eq)]
 pub struct Summary {
-    /// How many places had a thread of their own.
+    /// How many clients had a thread of their own, of those that were to be served at the same time.
     pub threads: usize,
     /// How many changes all places sent to the writer, refused ones too. None if not all are known to be taken.
     pub changes: Option<u64>,
@@ -42,9 +44,9 @@ pub struct Summary {
 
 impl Server {
     /// Binds an address: a host's name, an IPv4 or an IPv6 address, and a port, as `localhost:1883` or `[::1]:1883`. Port 0 takes one
-    /// that is free. It will accept `connections` connections, none if that is 0, and serve as many clients at the same time as there are
-    /// `places`. Their store is empty, and holds messages of at most `limit` topics. If `idle` is given, a connection ends if no byte came
-    /// for so long, or if no byte of what waits for its client was taken for so long.
+    /// that is free. It will accept `connections` connections, none if that is 0, and serve `clients` clients at the same time, but at least
+    /// as many as there are `places`, which they share. Their store is empty, and holds messages of at most `limit` topics. If `idle` is
+    /// given, a connection ends if no byte came for so long, or if no byte of what waits for its client was taken for so long.
     ///
     /// # Errors
     ///
@@ -57,6 +59,7 @@ impl Server {
         connections: u64,
         limit: TopicLimit,
         places: PlaceCount,
+        clients: u16,
         idle: Option<Duration>,
     ) -> Result<Server, ListenFault> {
         let blank = Blank::new(alloc, limit, places)?;
@@ -68,6 +71,7 @@ impl Server {
                 blank,
                 queue,
                 places,
+                clients,
             }),
             Err(error) => Err(ListenFault::Address(error)),
         }
@@ -87,22 +91,24 @@ impl Server {
 
     /// Serves clients, until all connections were accepted and have ended.
     ///
-    /// If a place's thread cannot be started, and it is not the first, the caller's thread serves it and those behind it, one after
-    /// the other. A fault of a connection ends that connection alone. The log of `rt` has a line when each begins, and one
-    /// that says how it ended. If the result has a number of changes, they are those of a run of the store, as [`run_store`] says it.
-    /// The clause is weak: any number meets it, since it says nothing of the clients.
+    /// Each client has a thread, which serves one connection after the other. If it cannot be started, and is not the first, the caller's
+    /// thread serves this client and those behind it, one after the other. A fault of a connection ends that connection alone. The log of
+    /// `rt` has a line when each begins, and one that says how it ended, and before them a warning if the process may have fewer
+    /// descriptors than its clients need. The number of changes is that of a run of the store, as [`run_store`] says it, or [`run_fleet`],
+    /// if there are more clients than places. The clause is weak: any number meets it, since it says nothing of the clients.
     ///
     /// # Errors
     ///
-    /// [`NoMemory`](ListenFault::NoMemory) if memory is refused for the store, the queue, the gates or the threads of the places,
-    /// [`NoThread`](ListenFault::NoThread) if the thread of the store's writer, or that of the first place, cannot be started. No
+    /// [`NoMemory`](ListenFault::NoMemory) if memory is refused for the store, the queue, the gates or the threads of the clients,
+    /// [`NoThread`](ListenFault::NoThread) if the thread of the store's writer, or that of the first client, cannot be started. No
     /// client was served.
     pub fn run<H: Clock + Log + Threads + Wait + Copy + Send + Sync + 'static>(
         self,
         rt: H,
     ) -> Result<Summary, ListenFault>
-        ensures { IfOk result (λ summary. IfSome summary.changes (λ changes. (before : List Plan) × (after : List Plan) × (version : ℕ)
-            × IsStoreRun self.blank.limit self.blank.places before after version summary.changes)) }
+        ensures { IfOk result (λ summary. (before : List Plan) × (after : List Plan) × (version : ℕ)
+            × (IsStoreRun self.blank.limit self.blank.places before after version summary.changes
+            ⊎ ((self.places < self.clients) × IsFleetRun self.blank.limit self.blank.places before after version summary.changes))) }
     {
         let Server {
             alloc,
@@ -110,12 +116,46 @@ impl Server {
             blank,
             queue,
             places,
+            clients,
         } = self;
-        let turns = turns(rt, alloc, listener, places.get())?;
-        let end = run_store(rt, alloc, blank, queue, turns)?;
+        let alone = u16::from(places.get());
+        let served = affordable(&rt, clients, alone);
+        let end = if clients > alone {
+            run_fleet(
+                rt,
+                alloc,
+                blank,
+                queue,
+                turns(rt, alloc, listener, places, served)?,
+            )?
+        } else {
+            run_store(
+                rt,
+                alloc,
+                blank,
+                queue,
+                turns(rt, alloc, listener, places, alone)?,
+            )?
+        };
         Ok(Summary {
             threads: end.threads,
             changes: end.changes,
         })
+    }
+}
+
+/// How many of these clients the process has descriptors for: one each, and four for the listener and the standard streams. It is more than
+/// there are places in any case. If it is not all, the log has a warning. A thread that waits for a client has its descriptor already,
+/// so the accepts of more threads would fail all the time.
+fn affordable<H: Log>(rt: &H, clients: u16, places: u16) -> u16 {
+    let needed = u64::from(clients) + 4;
+    match descriptor_limit() {
+        Some(limit) if limit < needed => {
+            warn!(rt; target: "rstored", "{clients} clients need {needed} descriptors, and the process may have {limit}");
+            u16::try_from(limit.saturating_sub(4))
+                .unwrap_or(clients)
+                .max(places.saturating_add(1))
+        }
+        _ => clients,
     }
 }

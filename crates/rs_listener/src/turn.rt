@@ -1,4 +1,4 @@
-//! The connections of one place.
+//! The connections of one client of a place.
 
 ghost use Rattle.rs_server.specs.Counts.{failures_of, inner_of};
 ghost use Rattle.rs_places.specs.Turns.{TakesBack, none_given};
@@ -54,7 +54,7 @@ impl<H: Clock> rs_server::Clock for ConnectionClock<H> {
     }
 }
 
-/// The connections of one place, from the listener that all places share, and the system's time.
+/// The connections of one client of a place, from the listener that all share, and the system's time.
 #[derive(Drop)]
 pub(crate) struct ListenTurn<H: Clock> {
     rt: H,
@@ -63,19 +63,26 @@ pub(crate) struct ListenTurn<H: Clock> {
     // That of the last connection, so that its last moment stands if the clock cannot be read.
     clock: SystemClock,
     place: u8,
-    // How many connections it gave, as the place numbers them.
+    // That of the last connection that it gave, as the place numbers them.
     number: u64,
 }
 
 impl<H: Clock> ListenTurn<H> {
-    pub(crate) fn new(rt: H, alloc: Global, listener: Arc<Listener>, place: u8) -> ListenTurn<H> {
+    /// `before` is the number before that of the first connection.
+    pub(crate) fn new(
+        rt: H,
+        alloc: Global,
+        listener: Arc<Listener>,
+        place: u8,
+        before: u64,
+    ) -> ListenTurn<H> {
         ListenTurn {
             rt,
             alloc,
             listener,
             clock: SystemClock::new(),
             place,
-            number: 0,
+            number: before,
         }
     }
 }

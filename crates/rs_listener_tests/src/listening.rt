@@ -108,9 +108,10 @@ fn publish_and_read<
         + Sync
         + 'static,
 >(rt: H, alloc: Global, places: u8) -> Result<(bool, Option<Summary>), Fail> {
+    let clients = u16::from(places);
     let places = PlaceCount::new(places).ok_or("places")?;
     let limit = TopicLimit::new(10).ok_or("10 topics")?;
-    let server = Server::bind(&rt, alloc, "127.0.0.1:0", 3, limit, places, None)?;
+    let server = Server::bind(&rt, alloc, "127.0.0.1:0", 3, limit, places, clients, None)?;
     let address = server.address()?;
     let again = address.clone()?;
     let serving = spawn(&rt, move || server.run(rt).ok())?;

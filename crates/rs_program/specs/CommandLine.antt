@@ -1,5 +1,5 @@
 -- The command line, as the crate clap reads it.
-use Rattle.std.specs.Prelude.{◌≡◌, ◌≤◌, ◌-◌, ◌^◌, ℕ, true, false, Bool, List, [], ◌∷◌, Option, Some, None, IfSome, codes}
+use Rattle.std.specs.Prelude.{◌≡◌, ◌≤◌, ◌-◌, ◌^◌, ℕ, true, false, Bool, List, [], ◌∷◌, Option, Some, None, IfSome, is_some, not, unwrap_or, codes}
 use Rattle.std.specs.String.{string_bytes}
 use Rattle.std.specs.Str.Parse.{IsNumeral, digits_value, without_leading_plus}
 use Rattle.clap.specs.Words.{App, Rule, Row, Text, new_app, new_rule, with_rule, with_subcommand, first_of, one_of, subcommand_of}
@@ -8,7 +8,7 @@ use Rattle.clap.specs.declared.builder.action.ArgAction.TheVariants.{SetTrue}
 use Rattle.clap.specs.declared.builder.value_parser.ValueParser.TheVariants.{Unsigned}
 use Rattle.rs_message.specs.declared.entry.TheConstants.{MAX_PLACES}
 use Rattle.rs_store.specs.declared.limit.TheConstants.{MAX_TOPICS}
-use Rattle.rs_program.specs.declared.words.commands.TheConstants.{MAX_CONNECTIONS, MAX_IDLE}
+use Rattle.rs_program.specs.declared.words.commands.TheConstants.{MAX_CLIENTS, MAX_CONNECTIONS, MAX_IDLE}
 use Rattle.rs_program.specs.declared.words.Run.{Run}
 use Rattle.rs_program.specs.declared.words.Run.TheVariants.{Pipe, Listen}
 
@@ -32,13 +32,21 @@ address_option = record (new_rule (codes "address")) { long = Some (codes "addre
 abbrev pub places_option : Rule
 places_option = record (number_option (codes "places") 1 MAX_PLACES) { defaults = codes "4" ∷ [] }
 
+-- `--clients NUMBER`
+abbrev pub clients_option : Rule
+clients_option = number_option (codes "clients") 1 MAX_CLIENTS
+
 -- `--topics NUMBER`
 abbrev pub topics_option : Rule
 topics_option = record (number_option (codes "topics") 1 MAX_TOPICS) { defaults = codes "10000" ∷ [] }
 
--- `--connections NUMBER`, which has to be there
+-- `--connections NUMBER`
 abbrev pub connections_option : Rule
-connections_option = record (number_option (codes "connections") 1 MAX_CONNECTIONS) { required = true }
+connections_option = number_option (codes "connections") 1 MAX_CONNECTIONS
+
+-- `--endless`
+abbrev pub endless_option : Rule
+endless_option = record (new_rule (codes "endless")) { long = Some (codes "endless"); action = Some SetTrue }
 
 -- `--idle NUMBER`
 abbrev pub idle_option : Rule
@@ -52,7 +60,7 @@ abbrev pub pipe_words : App
 pipe_words = with_rule (with_rule (new_app (codes "pipe")) hex_option) at_option
 
 abbrev pub listen_words : App
-listen_words = with_rule (with_rule (with_rule (with_rule (with_rule (with_rule (new_app (codes "listen")) address_option) places_option) topics_option) connections_option) idle_option) log_option
+listen_words = with_rule (with_rule (with_rule (with_rule (with_rule (with_rule (with_rule (with_rule (new_app (codes "listen")) address_option) places_option) clients_option) topics_option) connections_option) endless_option) idle_option) log_option
 
 -- the words after the program's name: one of its commands, with its options
 abbrev pub rstored_words : App
@@ -78,19 +86,27 @@ pub record IsFlagOf (rows : List Row) (option : Text) (flag : Bool) : Type 0 whe
   pub unset : one_of option rows ≡ Some (codes "false") → flag ≡ false
   pub none : one_of option rows ≡ None → flag ≡ false
 
+-- There are as many clients as `--clients` says, or if it was not given as there are places.
+abbrev pub AreClientsOf : List Row → ℕ → ℕ → Type 0
+AreClientsOf rows places clients = (given : Option ℕ) × IsNumberGiven rows (codes "clients") 1 MAX_CLIENTS given × (clients ≡ unwrap_or given places)
+
+-- The program ends after this many connections, if `--connections` alone was given, or never, if `--endless` alone was.
+abbrev pub IsEndOf : List Row → Option ℕ → Type 0
+IsEndOf rows connections = IsNumberGiven rows (codes "connections") 1 MAX_CONNECTIONS connections × IsFlagOf rows (codes "endless") (not (is_some connections))
+
 -- what the values of a command's options ask for
 abbrev pub IsRunOf : Text → List Row → Run → Type 0
 IsRunOf name rows (Pipe hex at) = (name ≡ codes "pipe") × IsNumberOf rows (codes "at") 0 (2 ^ 64 - 1) at × IsFlagOf rows (codes "hex") hex
-IsRunOf name rows (Listen address places topics connections idle log) = (name ≡ codes "listen") × (first_of (codes "address") rows ≡ Some (string_bytes address))
-    × IsNumberOf rows (codes "places") 1 MAX_PLACES places × IsNumberOf rows (codes "topics") 1 MAX_TOPICS topics
-    × IsNumberOf rows (codes "connections") 1 MAX_CONNECTIONS connections
+IsRunOf name rows (Listen address places clients topics connections idle log) = (name ≡ codes "listen") × (first_of (codes "address") rows ≡ Some (string_bytes address))
+    × IsNumberOf rows (codes "places") 1 MAX_PLACES places × AreClientsOf rows places clients × IsNumberOf rows (codes "topics") 1 MAX_TOPICS topics
+    × IsEndOf rows connections
     × IsNumberGiven rows (codes "idle") 1 MAX_IDLE idle × IsFlagOf rows (codes "log") log
 
 -- each number is in its range
 abbrev pub IsInRange : Run → Type 0
 IsInRange (Pipe hex at) = at ≤ 2 ^ 64 - 1
-IsInRange (Listen address places topics connections idle log) = (1 ≤ places) × (places ≤ MAX_PLACES) × (1 ≤ topics) × (topics ≤ MAX_TOPICS)
-    × (1 ≤ connections) × (connections ≤ MAX_CONNECTIONS) × IfSome idle (λ seconds. (1 ≤ seconds) × (seconds ≤ MAX_IDLE))
+IsInRange (Listen address places clients topics connections idle log) = (1 ≤ places) × (places ≤ MAX_PLACES) × (places ≤ clients) × (clients ≤ MAX_CLIENTS) × (1 ≤ topics) × (topics ≤ MAX_TOPICS)
+    × IfSome connections (λ count. (1 ≤ count) × (count ≤ MAX_CONNECTIONS)) × IfSome idle (λ seconds. (1 ≤ seconds) × (seconds ≤ MAX_IDLE))
 
 -- the words name a command, and its options ask for this
 abbrev pub AskFor : List Text → Run → Type 0

@@ -25,4 +25,4 @@ pub use memory::serve_bytes;
 pub use own_store::{MAX_OWN_TOPICS, OwnGate};
 pub use piping::{PipeFault, Piped, pipe};
 pub use program::{RunFault, run};
-pub use words::{MAX_CONNECTIONS, MAX_IDLE, Run, WordsFault, read_words};
+pub use words::{MAX_CLIENTS, MAX_CONNECTIONS, MAX_IDLE, Run, WordsFault, read_words};

@@ -10,8 +10,8 @@ use std::sync::Wait;
 use std::thread::Threads;
 use std::time::{Clock, Duration};
 
-/// Serves clients by TCP until so many have connected. The address is printed before the first is accepted. A connection that is idle
-/// for as many seconds as `idle` says, if it is given, ends. With `log`, lines about each connection are written to standard error.
+/// Serves clients by TCP until so many have connected, or without an end. The address is printed before the first is accepted. A
+/// connection that is idle for as many seconds as `idle` says, if it is given, ends. With `log`, lines about each connection are written to standard error.
 ///
 /// # Errors
 ///
@@ -20,9 +20,10 @@ pub(crate) fn listen<H>(
     rt: &H,
     address: &str,
     places: PlaceCount,
+    clients: u16,
     topics: TopicLimit,
-    connections: u64,
-    idle: Option<u32>,
+    connections: Option<u64>,
+    idle: Option<u64>,
     log: bool,
 ) -> Result<Summary, ListenFault>
 where
@@ -38,9 +39,20 @@ where
         + Sync
         + 'static,
 {
-    let idle = idle.map(|seconds| Duration::from_secs(u64::from(seconds)));
+    // No server comes to the end of so many.
+    let connections = connections.unwrap_or(u64::MAX);
+    let idle = idle.map(Duration::from_secs);
     // By the plain handle, since the one that logs looks up no name.
-    let server = Server::bind(rt, rt.alloc(), address, connections, topics, places, idle)?;
+    let server = Server::bind(
+        rt,
+        rt.alloc(),
+        address,
+        connections,
+        topics,
+        places,
+        clients,
+        idle,
+    )?;
     let bound = server.address()?;
     // If nobody reads the output, clients are served all the same.
     let _ = println!(rt; "rstored: listening on {bound}");

@@ -33,13 +33,21 @@ pub enum RunFault {
     /// No client can be served, and why, if it is to be told.
     #[error("cannot listen")]
     Listen(Option<ListenFault>),
-    /// All connections were served, by fewer threads than were asked for.
+    /// All connections were served, by fewer threads than were asked for, at each place one.
     #[error("{threads} of {places} places had a thread")]
     FewThreads {
         /// How many places had a thread of their own.
         threads: usize,
         /// How many were to.
         places: u8,
+    },
+    /// The same, if there are more clients than places.
+    #[error("{threads} of {clients} clients had a thread")]
+    FewClients {
+        /// How many clients had a thread of their own.
+        threads: usize,
+        /// How many were to.
+        clients: u16,
     },
     /// All connections were served, but it is not known that the store took all changes.
     #[error("not all changes are known to be taken")]
@@ -54,7 +62,10 @@ impl RunFault {
         match self {
             RunFault::Words(fault) => fault.status(),
             RunFault::Pipe(fault) => fault.status(),
-            RunFault::Listen(_) | RunFault::FewThreads { .. } | RunFault::Unsettled => 1,
+            RunFault::Listen(_)
+            | RunFault::FewThreads { .. }
+            | RunFault::FewClients { .. }
+            | RunFault::Unsettled => 1,
         }
     }
 }
@@ -118,28 +129,43 @@ where
             Run::Listen {
                 address,
                 places,
+                clients,
                 topics,
                 connections,
                 idle,
                 log,
             },
-        ) => match listen(rt, address.as_str(), places, topics, connections, idle, log) {
-            Ok(summary) => server_outcome(summary, places.get()),
+        ) => match listen(
+            rt,
+            address.as_str(),
+            places,
+            clients,
+            topics,
+            connections,
+            idle,
+            log,
+        ) {
+            Ok(summary) => server_outcome(summary, places.get(), clients),
             Err(fault) => Err(RunFault::Listen(log.then_some(fault))),
         },
         Err(fault) => Err(RunFault::Words(fault)),
     }
 }
 
-/// Whether a server ended as it should: each place had a thread, and all changes are settled.
-fn server_outcome(summary: Summary, places: u8) -> Result<(), RunFault>
-    ensures { result ≡ server_outcome summary.threads summary.changes places }
+/// Whether a server ended as it should: each client that was to be served at the same time as others had a thread, and all changes are
+/// settled.
+fn server_outcome(summary: Summary, places: u8, clients: u16) -> Result<(), RunFault>
+    ensures { result ≡ server_outcome summary.threads summary.changes places clients }
 {
     let Summary { threads, changes } = summary;
     if changes.is_none() {
         return Err(RunFault::Unsettled);
     }
-    if threads < usize::from(places) {
+    if clients > u16::from(places) {
+        if threads < usize::from(clients) {
+            return Err(RunFault::FewClients { threads, clients });
+        }
+    } else if threads < usize::from(places) {
         return Err(RunFault::FewThreads { threads, places });
     }
     Ok(())
@@ -170,6 +196,7 @@ fn report<H: Print + Eprint>(rt: &H, fault: &RunFault) {
         RunFault::Pipe(_)
         | RunFault::Listen(None)
         | RunFault::FewThreads { .. }
+        | RunFault::FewClients { .. }
         | RunFault::Unsettled => eprintln!(rt; "rstored: {fault}"),
     };
 }

@@ -10,7 +10,7 @@ mod commands;
 mod values;
 
 use crate::words::commands::command;
-pub use crate::words::commands::{MAX_CONNECTIONS, MAX_IDLE};
+pub use crate::words::commands::{MAX_CLIENTS, MAX_CONNECTIONS, MAX_IDLE};
 use crate::words::values::{listen_of, pipe_of};
 use clap::ArgMatches;
 use clap::error::ErrorKind;
@@ -33,14 +33,16 @@ pub enum Run {
     Listen {
         /// The address to listen on, as it was given.
         address: String,
-        /// How many clients are served at the same time.
+        /// How many clients use the store at the same time.
         places: PlaceCount,
+        /// How many clients are served at the same time: as many as there are places, up to [`MAX_CLIENTS`].
+        clients: u16,
         /// How many topics may hold a message.
         topics: TopicLimit,
-        /// After how many connections the program ends: 1 to [`MAX_CONNECTIONS`].
-        connections: u64,
+        /// After how many connections the program ends: 1 to [`MAX_CONNECTIONS`]. `None` for no end.
+        connections: Option<u64>,
         /// After how many seconds an idle connection ends: 1 to [`MAX_IDLE`]. Never, if it is not given.
-        idle: Option<u32>,
+        idle: Option<u64>,
         /// Whether lines about each connection are written to standard error.
         log: bool,
     },

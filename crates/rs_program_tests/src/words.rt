@@ -1,7 +1,7 @@
 //! Command lines.
 
 use rs_message::{MAX_PLACES, PlaceCount};
-use rs_program::{MAX_CONNECTIONS, MAX_IDLE, Run, WordsFault, read_words};
+use rs_program::{MAX_CLIENTS, MAX_CONNECTIONS, MAX_IDLE, Run, WordsFault, read_words};
 use rs_store::{MAX_TOPICS, TopicLimit};
 use std::alloc::{AllocError, Global};
 use std::test::Fail;
@@ -44,14 +44,15 @@ fn words_ask_for_a_pipe(rt: HostRuntime) -> Result<(), Fail> {
 fn words_ask_to_listen(rt: HostRuntime) -> Result<(), Fail> {
     let alloc = rt.alloc();
     let all =
-        "listen --address [::1]:0 --places 64 --topics 65536 --connections 1000000 --idle 86400 --log";
+        "listen --address [::1]:0 --places 64 --clients 10000 --topics 65536 --connections 1000000 --idle 86400 --log";
     let commands = [
         (
             "listen --address a:1 --connections 1",
             "a:1",
             4,
+            4,
             10_000,
-            1,
+            Some(1),
             None,
             false,
         ),
@@ -60,16 +61,18 @@ fn words_ask_to_listen(rt: HostRuntime) -> Result<(), Fail> {
             "x",
             1,
             1,
-            7,
+            1,
+            Some(7),
             None,
             false,
         ),
         (
-            "listen --log --idle 1 --connections 2 --address x",
+            "listen --log --idle 1 --connections 2 --address x --clients 4",
             "x",
             4,
+            4,
             10_000,
-            2,
+            Some(2),
             Some(1),
             true,
         ),
@@ -77,8 +80,9 @@ fn words_ask_to_listen(rt: HostRuntime) -> Result<(), Fail> {
             "listen --address=:: --connections=+09 --places=02",
             "::",
             2,
+            2,
             10_000,
-            9,
+            Some(9),
             None,
             false,
         ),
@@ -86,16 +90,28 @@ fn words_ask_to_listen(rt: HostRuntime) -> Result<(), Fail> {
             all,
             "[::1]:0",
             MAX_PLACES,
+            MAX_CLIENTS,
             MAX_TOPICS,
-            MAX_CONNECTIONS,
+            Some(MAX_CONNECTIONS),
             Some(MAX_IDLE),
             true,
         ),
+        (
+            "listen --endless --idle=3 --clients=5 --address=e",
+            "e",
+            4,
+            5,
+            10_000,
+            None,
+            Some(3),
+            false,
+        ),
     ];
-    for (command, address, places, topics, connections, idle, log) in commands {
+    for (command, address, places, clients, topics, connections, idle, log) in commands {
         let wanted = Run::Listen {
             address: String::from_str(alloc, address)?,
             places: PlaceCount::new(places).ok_or("places")?,
+            clients,
             topics: TopicLimit::new(topics).ok_or("topics")?,
             connections,
             idle,
@@ -107,7 +123,7 @@ fn words_ask_to_listen(rt: HostRuntime) -> Result<(), Fail> {
 }
 
 // Each refused command line, and what the text says.
-const REFUSED: [(&str, &str); 26] = [
+const REFUSED: [(&str, &str); 33] = [
     ("", "requires a subcommand"),
     ("more", "unrecognized subcommand 'more'"),
     ("pipe", "--at <SECONDS>"),
@@ -125,7 +141,22 @@ const REFUSED: [(&str, &str); 26] = [
         "the argument '--at <SECONDS>' cannot be used multiple times",
     ),
     ("listen", "--address <ADDRESS>"),
-    ("listen --address a:1", "--connections <1-1000000>"),
+    (
+        "listen --address a:1",
+        "give either --connections or --endless",
+    ),
+    (
+        "listen --address a:1 --connections 1 --endless",
+        "give either --connections or --endless",
+    ),
+    (
+        "listen --address a:1 --endless --endless",
+        "the argument '--endless' cannot be used multiple times",
+    ),
+    (
+        "listen --address a:1 --endless 1",
+        "unexpected argument '1'",
+    ),
     ("listen --connections 1", "--address <ADDRESS>"),
     (
         "listen --address a:1 --connections 0",
@@ -146,6 +177,22 @@ const REFUSED: [(&str, &str); 26] = [
     (
         "listen --address a:1 --connections 1 --places x",
         "invalid value 'x' for '--places <1-64>'",
+    ),
+    (
+        "listen --address a:1 --connections 1 --clients 3",
+        "--clients is less than --places",
+    ),
+    (
+        "listen --address a:1 --connections 1 --clients 63 --places 64",
+        "--clients is less than --places",
+    ),
+    (
+        "listen --address a:1 --connections 1 --clients 0",
+        "for '--clients <1-10000>': 0 is not in 1..=10000",
+    ),
+    (
+        "listen --address a:1 --connections 1 --clients 10001",
+        "10001 is not in 1..=10000",
     ),
     (
         "listen --address a:1 --connections 1 --topics 0",
@@ -204,8 +251,9 @@ fn help_and_the_version_are_shown(rt: HostRuntime) -> Result<(), Fail> {
         ("--help", "Usage: rstored"),
         ("pipe --help", "Usage: rstored pipe"),
         ("listen --help", "Usage: rstored listen"),
-        ("listen --help", "A place serves one client at a time"),
+        ("listen --help", "Up to --clients clients are served"),
         ("listen --help", "Keep Alive is not enforced"),
+        ("listen --help", "With --endless it goes on"),
         ("listen --help", "lost at the end"),
         ("listen --help", "There is no TLS"),
         ("listen --help", "--places <1-64>"),

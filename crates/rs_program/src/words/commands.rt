@@ -3,7 +3,7 @@
 ghost use Rattle.std.specs.Prelude.{◌≡◌, IfOk, false};
 ghost use Rattle.clap.specs.Words.{app_of, rule_of};
 ghost use Rattle.clap.specs.declared.builder.command.Command.TheViews.{out-Command as fields_of};
-ghost use Rattle.rs_program.specs.CommandLine.{address_option, connections_option, idle_option, listen_words, log_option, number_option, pipe_words, places_option, rstored_words, topics_option};
+ghost use Rattle.rs_program.specs.CommandLine.{address_option, clients_option, connections_option, endless_option, idle_option, listen_words, log_option, number_option, pipe_words, places_option, rstored_words, topics_option};
 
 use crate::own_store::MAX_OWN_TOPICS;
 use clap::builder::ValueParser;
@@ -12,11 +12,14 @@ use rs_message::MAX_PLACES;
 use rs_store::MAX_TOPICS;
 use std::alloc::{AllocError, Global};
 
+/// The most clients that are served at the same time. A choice of this project.
+pub const MAX_CLIENTS: u16 = 10_000;
+
 /// The most connections after which `listen` ends. A choice of this project.
 pub const MAX_CONNECTIONS: u64 = 1_000_000;
 
 /// The most seconds for which a connection may be idle, a day. A choice of this project.
-pub const MAX_IDLE: u32 = 86_400;
+pub const MAX_IDLE: u64 = 86_400;
 
 const VERSION: &str = "0.1.0";
 
@@ -43,11 +46,12 @@ const LISTEN_ABOUT: &str = "Serve MQTT 5 clients that connect by TCP";
 const LISTEN_HELP: &str = "\
 Serves MQTT 5 clients that connect by TCP. They share one store of retained messages. It prints the
 address that it listens on. After --connections connections it prints how many they were, and ends,
-however each of them ended.
+however each of them ended. With --endless it goes on until a signal ends it. One of the two has to
+be given.
 
-A place serves one client at a time. If each place has a client, the next one waits until a place is
-free. Keep Alive is not enforced: without --idle a client that is silent keeps its place until it
-disconnects. With --idle its connection ends once it sent nothing, or took nothing of what waits for
+Up to --clients clients are served at the same time, each by a thread of its own, and share the
+places of the store. The next one waits until one of them is gone. Keep Alive is not enforced:
+without --idle a client that is silent stays until it disconnects. With --idle its connection ends once it sent nothing, or took nothing of what waits for
 it, for so many seconds. A client that keeps its Keep Alive is not cut off if --idle is at least one
 and a half times that interval.
 
@@ -64,18 +68,25 @@ const ADDRESS_HELP: &str =
     "The address to listen on: a host's name, an IPv4 or an IPv6 address, and a port, \
 as localhost:1883, 127.0.0.1:1883 or [::1]:1883. Port 0 takes one that is free";
 
-const PLACES_HELP: &str = "How many clients are served at the same time";
+const PLACES_HELP: &str = "How many clients use the store at the same time";
+
+const CLIENTS_HELP: &str =
+    "How many clients are served at the same time, at least as many as places; as many, if it is not given";
 
 const TOPICS_HELP: &str = "How many topics may hold a message";
 
 const CONNECTIONS_HELP: &str = "After how many connections the program ends";
 
+const ENDLESS_HELP: &str = "Go on until a signal ends the program, instead of --connections";
+
 const IDLE_HELP: &str = "After how many seconds an idle connection ends; never, if it is not given";
 
 const LOG_HELP: &str = "Write a line to standard error when a connection begins and when it ends";
 
-// The value names `1-64`, `1-65536`, `1-1000000` and `1-86400` below, and the default of `--topics`, which is the limit of `pipe`.
+// The value names `1-64`, `1-10000`, `1-65536`, `1-1000000` and `1-86400` below, and the default of `--topics`, which is the limit of `pipe`.
 const _: () = prove!(MAX_PLACES == 64);
+
+const _: () = prove!(MAX_CLIENTS == 10_000);
 
 const _: () = prove!(MAX_TOPICS == 65_536);
 
@@ -155,6 +166,13 @@ fn places_option<'a>(alloc: Global) -> Arg<'a>
         .help(PLACES_HELP)
 }
 
+fn clients_option<'a>(alloc: Global) -> Arg<'a>
+    ensures rule { rule_of result ≡ clients_option }
+    ensures local { result.global ≡ false }
+{
+    number_option(alloc, "clients", "1-10000", 1, u64::from(MAX_CLIENTS)).help(CLIENTS_HELP)
+}
+
 fn topics_option<'a>(alloc: Global) -> Arg<'a>
     ensures rule { rule_of result ≡ topics_option }
     ensures local { result.global ≡ false }
@@ -168,16 +186,24 @@ fn connections_option<'a>(alloc: Global) -> Arg<'a>
     ensures rule { rule_of result ≡ connections_option }
     ensures local { result.global ≡ false }
 {
-    number_option(alloc, "connections", "1-1000000", 1, MAX_CONNECTIONS)
-        .required(true)
-        .help(CONNECTIONS_HELP)
+    number_option(alloc, "connections", "1-1000000", 1, MAX_CONNECTIONS).help(CONNECTIONS_HELP)
+}
+
+fn endless_option<'a>(alloc: Global) -> Arg<'a>
+    ensures rule { rule_of result ≡ endless_option }
+    ensures local { result.global ≡ false }
+{
+    Arg::new(alloc, "endless")
+        .long("endless")
+        .action(ArgAction::SetTrue)
+        .help(ENDLESS_HELP)
 }
 
 fn idle_option<'a>(alloc: Global) -> Arg<'a>
     ensures rule { rule_of result ≡ idle_option }
     ensures local { result.global ≡ false }
 {
-    number_option(alloc, "idle", "1-86400", 1, u64::from(MAX_IDLE)).help(IDLE_HELP)
+    number_option(alloc, "idle", "1-86400", 1, MAX_IDLE).help(IDLE_HELP)
 }
 
 fn log_option<'a>(alloc: Global) -> Arg<'a>
@@ -199,8 +225,10 @@ fn listen_command<'a>(alloc: Global) -> Result<Command<'a>, AllocError>
         .long_about(LISTEN_HELP)
         .arg(address_option(alloc))?
         .arg(places_option(alloc))?
+        .arg(clients_option(alloc))?
         .arg(topics_option(alloc))?
         .arg(connections_option(alloc))?
+        .arg(endless_option(alloc))?
         .arg(idle_option(alloc))?
         .arg(log_option(alloc))
 }

@@ -1,12 +1,12 @@
 //! The values of a command's options.
 
-ghost use Rattle.std.specs.Prelude.{◌≡◌, IfOk, IfSome, codes};
+ghost use Rattle.std.specs.Prelude.{◌≡◌, ◌≤◌, IfOk, IfSome, codes};
 ghost use Rattle.clap.specs.Words.{found_of, rows_of};
 ghost use Rattle.rs_message.specs.declared.entry.TheConstants.{MAX_PLACES};
 ghost use Rattle.rs_store.specs.declared.limit.TheConstants.{MAX_TOPICS};
-ghost use Rattle.rs_program.specs.CommandLine.{IsInRange, IsNumberGiven, IsNumberOf, IsRunOf};
+ghost use Rattle.rs_program.specs.CommandLine.{AreClientsOf, IsFlagOf, IsInRange, IsNumberGiven, IsNumberOf, IsRunOf};
 
-use crate::words::commands::{MAX_CONNECTIONS, MAX_IDLE};
+use crate::words::commands::{MAX_CLIENTS, MAX_CONNECTIONS, MAX_IDLE};
 use crate::words::{Run, WordsFault, refused};
 use clap::ArgMatches;
 use rs_message::{MAX_PLACES, PlaceCount};
@@ -21,7 +21,7 @@ pub(super) fn pipe_of(alloc: Global, found: &ArgMatches<'_>) -> Result<Run, Word
         return Err(missing(alloc));
     };
     Ok(Run::Pipe {
-        hex: found.get_flag("hex"),
+        hex: flag(found, "hex"),
         at,
     })
 }
@@ -30,27 +30,35 @@ pub(super) fn listen_of(alloc: Global, found: &ArgMatches<'_>) -> Result<Run, Wo
     ensures run { IfOk result (IsRunOf (codes "listen") (rows_of (found_of found.now))) }
     ensures range { IfOk result IsInRange }
 {
-    let (Some(address), Some(places), Some(topics), Some(connections)) = (
+    let (Some(address), Some(places), Some(topics), Some(connections), Some(idle)) = (
         found.get_str("address"),
         place_count(found),
         topic_limit(found),
-        number(found, "connections", 1, MAX_CONNECTIONS),
+        number_given(found, "connections", 1, MAX_CONNECTIONS),
+        number_given(found, "idle", 1, MAX_IDLE),
     ) else {
         return Err(missing(alloc));
     };
-    let Some(idle) = number_given(found, "idle", 1, MAX_IDLE) else {
+    let Some(clients) = client_count(found, places) else {
         return Err(missing(alloc));
     };
+    if clients < u16::from(places.get()) {
+        return Err(refused(alloc, "error: --clients is less than --places\n"));
+    }
+    if connections.is_some() == flag(found, "endless") {
+        return Err(refused(alloc, "error: give either --connections or --endless\n"));
+    }
     let Ok(address) = String::from_str(alloc, address) else {
         return Err(WordsFault::NoMemory);
     };
     Ok(Run::Listen {
         address,
         places,
+        clients,
         topics,
         connections,
         idle,
-        log: found.get_flag("log"),
+        log: flag(found, "log"),
     })
 }
 
@@ -60,6 +68,17 @@ fn place_count(found: &ArgMatches<'_>) -> Option<PlaceCount>
 {
     let places = number(found, "places", 1, u64::from(MAX_PLACES))?;
     PlaceCount::new(places as u8)
+}
+
+/// How many clients are served at the same time: as many as there are places, if it was not given.
+fn client_count(found: &ArgMatches<'_>, places: PlaceCount) -> Option<u16>
+    ensures given { IfSome result (AreClientsOf (rows_of (found_of found.now)) places) }
+    ensures most { IfSome result (λ clients. clients ≤ MAX_CLIENTS) }
+{
+    match number_given(found, "clients", 1, u64::from(MAX_CLIENTS))? {
+        Some(clients) => Some(clients as u16),
+        None => Some(u16::from(places.get())),
+    }
 }
 
 /// How many topics may hold a message.
@@ -82,16 +101,23 @@ fn number(found: &ArgMatches<'_>, option: &str, least: u64, most: u64) -> Option
 }
 
 /// The number of an option that may be left out. `None` if it was given another text than a number from `least` to `most`.
-fn number_given(found: &ArgMatches<'_>, option: &str, least: u32, most: u32) -> Option<Option<u32>>
+fn number_given(found: &ArgMatches<'_>, option: &str, least: u64, most: u64) -> Option<Option<u64>>
     ensures { IfSome result (IsNumberGiven (rows_of (found_of found.now)) option.now least most) }
 {
     match found.get_str(option) {
         None => Some(None),
         Some(_) => {
-            let number = number(found, option, u64::from(least), u64::from(most))?;
-            Some(Some(number as u32))
+            let number = number(found, option, least, most)?;
+            Some(Some(number))
         }
     }
+}
+
+/// Whether a flag was given.
+fn flag(found: &ArgMatches<'_>, option: &str) -> bool
+    ensures { IsFlagOf (rows_of (found_of found.now)) option.now result }
+{
+    found.get_flag(option)
 }
 
 /// Never answered: each option is required, has a default or may be left out, and its values are in their range. What clap promises of a

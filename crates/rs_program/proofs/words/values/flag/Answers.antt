@@ -1,0 +1,13 @@
+use Rattle.std.proofs.Common.{◌∙◌}
+use Rattle.clap.specs.Words.{found_of}
+use Rattle.clap.proofs.WalkLemmas.{one_text-rows}
+use Rattle.rs_program.proofs.words.values.flag.Goals as goal
+
+pub returns : goal.returns
+returns c =
+    let rows = one_text-rows (found_of c.args.found.now) c.args.option.now in
+    record {
+      set = λ e. c.get_flag.ensures.value (rows ∙ e);
+      unset = λ e. c.get_flag.ensures.other (rows ∙ e);
+      none = λ e. c.get_flag.ensures.none (rows ∙ e);
+    }
