@@ -8,18 +8,19 @@ person, on a quiet machine. With `--once` each measure is made once and small, a
 import contextlib
 import itertools
 import os
-import socket
+import resource
 import statistics
 import subprocess
 import sys
 import tempfile
 import time
 from collections.abc import Callable
-from dataclasses import dataclass
+from dataclasses import dataclass, field
 from types import SimpleNamespace
 
 from bench.threads import busiest, on, pin, processor_time, thread_times
 from harness import debian
+from harness.mosquitto import Mosquitto
 from harness.patience import PATIENCE
 from harness.program import ROOT, most_memory
 from harness.server import Server
@@ -31,43 +32,11 @@ RUNS = 5
 PLACES = 8
 TOPICS = 65_536
 
-CONFIGURATION = """
-listener {port} 127.0.0.1
-allow_anonymous true
-max_queued_messages 0
-persistence false
-log_type none
-"""
-
-
-class Mosquitto:
-    """A running mosquitto, which is killed at the end of a `with`."""
-
-    def __enter__(self):
-        with socket.socket() as free:
-            free.bind(("127.0.0.1", 0))
-            self.port = free.getsockname()[1]
-        self.folder = tempfile.TemporaryDirectory()
-        path = f"{self.folder.name}/mosquitto.conf"
-        with open(path, "w") as file:
-            file.write(CONFIGURATION.format(port=self.port))
-        silent = {"stdout": subprocess.DEVNULL, "stderr": subprocess.DEVNULL}
-        self.run = subprocess.Popen(["/usr/sbin/mosquitto", "-c", path], **silent)
-        start = time.monotonic()
-        while not self.is_open():
-            if self.run.poll() is not None or time.monotonic() - start > PATIENCE:
-                sys.exit("bench: mosquitto does not listen")
-            time.sleep(0.01)
-        return self
-
-    def is_open(self):
-        with socket.socket() as client:
-            return client.connect_ex(("127.0.0.1", self.port)) == 0
-
-    def __exit__(self, *_):
-        self.run.kill()
-        self.run.wait()
-        self.folder.cleanup()
+# Clients that connect at once, the messages that each reads, and how a server is started for them.
+# Those of a run are still leaving when the next one begins.
+FLEET = 1_000
+GROUP = 10
+FOR_FLEETS = {"places": 64, "clients": 2 * FLEET}
 
 
 class Load:
@@ -272,6 +241,35 @@ def echo_wait(path, scale):
                 return one_at_a_time(Load(path, SimpleNamespace(port=port)), 20_000 // scale)
 
 
+def fleet(delay, stays=False, silent=0):
+    """The time in which clients that connect at once have each learnt the messages of a group, and
+    have left if they do not stay. Some milliseconds pass between what a client is answered and its
+    next packet. Beside them are so many connections that say nothing."""
+
+    def prepare(load, scale):
+        clients, groups = max(32, FLEET // scale), FLEET // scale
+        for number in range(GROUP):
+            load.fill(groups, 64, f"fleet/%02d%02d/{number}")
+
+        def learn():
+            with beside(load, int(silent > 0), "silent", silent, is_ready="ready\n"):
+                return load.times("fleet", clients, groups, 1_000 * delay, int(stays))[0]
+
+        return learn
+
+    return prepare
+
+
+def crowd(load, scale):
+    """Publications a second of clients that each publish one at a time."""
+
+    def rate():
+        published, micros = load.times("crowd", max(32, FLEET // scale), 2_000_000 // scale)
+        return published * 1_000_000 / micros
+
+    return rate
+
+
 def connects(load, scale):
     return lambda: statistics.median(load.times("connect", 500 // scale))
 
@@ -289,7 +287,7 @@ def memory(count, size):
 @dataclass
 class Measure:
     """What is measured, in which unit, what is wanted of it, whether the program's value and
-    mosquitto's reach that, and what is taken of some runs."""
+    mosquitto's reach that, what is taken of some runs, and options of the server."""
 
     name: str
     unit: str
@@ -297,20 +295,32 @@ class Measure:
     wanted: str
     is_reached: Callable
     choose: Callable = statistics.median
+    server: dict = field(default_factory=dict)
 
     def ratio(self, own, other):
         """How many times as fast the program is, or of memory, how many times as much it takes."""
         return other / own if self.unit == "us" else own / other
 
 
-def fast(name, unit, prepare, times):
+def fast(name, unit, prepare, times, **options):
     """A rate, or a time, that has to be so many times as good as mosquitto's."""
 
     def is_reached(own, other):
         return measure.ratio(own, other) >= times
 
-    measure = Measure(name, unit, prepare, f"at least {times}", is_reached)
+    measure = Measure(name, unit, prepare, f"at least {times}", is_reached, server=options)
     return measure
+
+
+def fleets():
+    """A fleet that connects at once: without and with a round trip between packets, leaving and
+    staying, alone and beside silent connections."""
+    for silent, delay, stays in itertools.product((0, 64), (0, 20), (False, True)):
+        trip = f", a round trip of {delay} ms" if delay else ""
+        beside = f", beside {silent} silent ones" if silent else ""
+        does = "stay" if stays else "leave"
+        name = f"{FLEET:,} clients connect at once, learn and {does}{trip}{beside}"
+        yield fast(name, TIME, fleet(delay, stays, silent), 0.67 if delay else 1, **FOR_FLEETS)
 
 
 def small(name, prepare, times=1.5):
@@ -343,6 +353,8 @@ MEASURES = (
     fast("answer to `a/b/#`, 10 of 60,000 topics", TIME, answers(*BELOW), 2),
     fast("answer to a filter of one of 60,000 topics", TIME, answers(*ONE_TOPIC), 1.5),
     fast("from connecting to CONNACK", TIME, connects, 1.2),
+    *fleets(),
+    fast("1,000 clients at QoS 1, one at a time each", RATE, crowd, 2, **FOR_FLEETS),
     Measure(
         "10 messages for a client with delayed acknowledgements",
         TIME,
@@ -374,7 +386,8 @@ MEASURES = (
 
 def values(measure, path, runs, scale):
     """The values of the program and of mosquitto, which are measured in turns."""
-    with Server(places=PLACES, topics=TOPICS) as server, Mosquitto() as mosquitto:
+    options = {"places": PLACES, **measure.server}
+    with Server(topics=TOPICS, **options) as server, Mosquitto() as mosquitto:
         tools = [measure.prepare(Load(path, broker), scale) for broker in (server, mosquitto)]
         found = [[tool() for tool in tools] for _ in range(runs)]
     return [measure.choose(each) for each in zip(*found)]
@@ -425,6 +438,9 @@ def main():
     is_once = bool(given_words("--once"))
     if not debian.has(["mosquitto", "gcc", "libc6-dev"]):
         return
+    # A fleet needs a descriptor for each connection, on both sides.
+    most = resource.getrlimit(resource.RLIMIT_NOFILE)[1]
+    resource.setrlimit(resource.RLIMIT_NOFILE, (most, most))
     with tempfile.TemporaryDirectory() as folder:
         path = f"{folder}/load"
         words = ["gcc", "-O2", "-pthread", "-o", path, ROOT / "bench" / "load.c"]

@@ -10,6 +10,15 @@
 //         the microseconds of each SUBSCRIBE, up to its last message
 //     load PORT connect ROUNDS
 //         the microseconds of each connection, up to its CONNACK
+//     load PORT fleet CLIENTS GROUPS DELAY STAYS
+//         the microseconds in which so many clients connect in the same moment, and each reads the
+//         messages of its group and leaves, or stays if STAYS is 1. DELAY microseconds pass between
+//         what a client is answered and its next packet
+//     load PORT crowd CLIENTS MICROS
+//         two numbers: how many publications of QoS 1 so many clients make, each one at a time, and
+//         microseconds
+//     load PORT silent CLIENTS
+//         a line when so many have connected that say nothing, until it is killed
 //     load PORT burn
 //         nothing: it keeps a processor busy until it is killed
 //     load PORT echo
@@ -18,16 +27,18 @@
 //
 // WINDOW is how many publications of QoS 1 wait for their PUBACK. NAME begins the topics of the
 // publications. PATTERN writes a topic, with the hundreds and the rest of its number. The messages
-// of a replay are those that were filled by it.
+// of a replay are those that were filled by it. The topics of a fleet's group are those of GROUP.
 
 #define _GNU_SOURCE
 #include <arpa/inet.h>
+#include <errno.h>
 #include <netinet/tcp.h>
 #include <pthread.h>
 #include <stdint.h>
 #include <stdio.h>
 #include <stdlib.h>
 #include <string.h>
+#include <sys/epoll.h>
 #include <sys/socket.h>
 #include <time.h>
 #include <unistd.h>
@@ -132,20 +143,24 @@ static size_t put_text(uint8_t *at, const char *text) {
     return 2 + size;
 }
 
-static void open_client(Client *client, const char *identifier) {
+// Begins to connect, by a socket of this kind.
+static void begin_client(Client *client, int kind) {
     struct sockaddr_in address = {.sin_family = AF_INET, .sin_port = htons(port)};
     address.sin_addr.s_addr = htonl(INADDR_LOOPBACK);
     int yes = 1;
-    client->fd = socket(AF_INET, SOCK_STREAM, 0);
+    client->fd = socket(AF_INET, SOCK_STREAM | kind, 0);
     client->start = client->end = client->waiting = 0;
     const struct sockaddr *to = (struct sockaddr *)&address;
-    if (client->fd < 0 || connect(client->fd, to, sizeof address) != 0) fail("connect");
+    if (client->fd < 0) fail("socket");
+    if (connect(client->fd, to, sizeof address) != 0 && errno != EINPROGRESS) fail("connect");
     setsockopt(client->fd, IPPROTO_TCP, TCP_NODELAY, &yes, sizeof yes);
+}
+
+static void send_connect(Client *client, const char *identifier) {
     uint8_t packet[100] = {0x10, 0, 0, 4, 'M', 'Q', 'T', 'T', 5, 2, 0, 60, 0};
     size_t size = 13 + put_text(packet + 13, identifier);
     packet[1] = (uint8_t)(size - 2);
     send_all(client, packet, size);
-    expect(client, CONNACK);
 }
 
 static void close_client(Client *client) {
@@ -154,10 +169,16 @@ static void close_client(Client *client) {
 }
 
 // A name of its own, so that no client takes another one's place.
-static void open_named(Client *client, char kind, int number) {
+static void send_named(Client *client, char kind, int number) {
     char identifier[20];
     snprintf(identifier, sizeof identifier, "%c%d", kind, number);
-    open_client(client, identifier);
+    send_connect(client, identifier);
+}
+
+static void open_named(Client *client, char kind, int number) {
+    begin_client(client, 0);
+    send_named(client, kind, number);
+    expect(client, CONNACK);
 }
 
 static size_t put_length(uint8_t *at, size_t length) {
@@ -203,6 +224,11 @@ static Publications publications(
     return made;
 }
 
+static void check_stored(const Packet *answer) {
+    int is_refused = answer->size > 2 && answer->body[2] >= 0x80;
+    if (answer->kind != PUBACK || is_refused) fail("no PUBACK");
+}
+
 // Sends them, those of QoS 1 until the time is over. How many were sent; all of them were handled
 // when this returns.
 static size_t publish_all(Client *client, const Publications *made, int qos, size_t window,
@@ -225,8 +251,7 @@ static size_t publish_all(Client *client, const Publications *made, int qos, siz
         Packet packet = take(client);
         if (now() - begun > *longest) *longest = now() - begun;
         do {
-            int is_refused = packet.size > 2 && packet.body[2] >= 0x80;
-            if (packet.kind != PUBACK || is_refused) fail("no PUBACK");
+            check_stored(&packet);
             acknowledged++;
         } while (acknowledged < count && has_packet(client, &packet));
     }
@@ -353,14 +378,21 @@ static void check_topics(Topic *topics, size_t count, const char *pattern, int i
     }
 }
 
+static size_t put_subscribe(uint8_t *at, const char *filter, int qos) {
+    const uint8_t head[] = {0x82, 0, 0, 1, 0};
+    memcpy(at, head, sizeof head);
+    size_t size = sizeof head + put_text(at + sizeof head, filter) + 1;
+    at[size - 1] = (uint8_t)qos;
+    at[1] = (uint8_t)(size - 2);
+    return size;
+}
+
 // So many rounds, or without an end if there are to be 0. In a round before them, which is not
 // measured, the topics are looked at.
 static void replay(int qos, const char *filter, size_t messages, size_t rounds, int is_delayed,
     const char *pattern, int is_ordered) {
-    uint8_t packet[200] = {0x82, 0, 0, 1, 0};
-    size_t size = 5 + put_text(packet + 5, filter) + 1;
-    packet[size - 1] = (uint8_t)qos;
-    packet[1] = (uint8_t)(size - 2);
+    uint8_t packet[200];
+    size_t size = put_subscribe(packet, filter, qos);
     open_named(&single, 'r', getpid());
     Topic *topics = calloc(messages, sizeof *topics);
     if (!topics) fail("calloc");
@@ -389,6 +421,160 @@ static void connect_often(size_t rounds) {
         printf("%.1f\n", now() - start);
         close_client(&single);
     }
+}
+
+// The clients of one thread, which waits for all of them at once.
+typedef struct {
+    int epoll, count;
+    Client *clients;
+} Crew;
+
+static Crew crew(int count) {
+    Crew made = {epoll_create1(0), count, calloc((size_t)count, sizeof(Client))};
+    if (made.epoll < 0 || !made.clients) fail("crew");
+    return made;
+}
+
+// Waits for a client until it can be read, or written if that is said.
+static void await(const Crew *crew, int number, uint32_t what, int operation) {
+    struct epoll_event event = {.events = what, .data.u32 = (uint32_t)number};
+    if (epoll_ctl(crew->epoll, operation, crew->clients[number].fd, &event) != 0) fail("epoll_ctl");
+}
+
+enum { EVENTS = 256 };
+
+// Those that can be read or written, after at most so many microseconds.
+static int ready(const Crew *crew, struct epoll_event *events, double micros) {
+    int count = epoll_wait(crew->epoll, events, EVENTS, micros < 0 ? -1 : (int)(micros / 1e3) + 1);
+    if (count < 0) fail("epoll_wait");
+    return count;
+}
+
+// The filter of a group. Each of its topics has a level more.
+#define GROUP "fleet/%02d%02d/+"
+enum { IN_GROUP = 10 };
+
+// Where a client of a fleet is, and when its next packet is due.
+typedef struct {
+    enum { CONNECTING, SUBSCRIBING, LEAVING } next;
+    size_t missing;
+    double due;
+} Member;
+
+static void send_next(Client *client, Member *member, int number, int groups) {
+    uint8_t packet[200];
+    Topic filter;
+    switch (member->next++) {
+    case CONNECTING:
+        send_named(client, 'm', number);
+        member->missing = 1;
+        break;
+    case SUBSCRIBING:
+        put_topic(filter, GROUP, (size_t)(number % groups));
+        send_all(client, packet, put_subscribe(packet, filter, 0));
+        member->missing = 1 + IN_GROUP;
+        break;
+    default: close_client(client);
+    }
+}
+
+// Reads what there is. Whether that was the last of what is missing.
+static int take_missing(Client *client, Member *member, int number, int groups) {
+    Packet packet;
+    Topic filter;
+    put_topic(filter, GROUP, (size_t)(number % groups));
+    for (read_more(client); has_packet(client, &packet); member->missing--) {
+        size_t same = strlen(filter) - 1;
+        int is_right = packet.kind == PUBLISH   ? memcmp(packet.body + 2, filter, same) == 0
+                       : packet.kind == CONNACK ? packet.body[1] == 0
+                                                : packet.body[packet.size - 1] < 0x80;
+        if (!is_right || member->missing == 0) fail("another packet");
+    }
+    return member->missing == 0;
+}
+
+static void fleet(int count, int groups, double delay, int stays) {
+    Crew own = crew(count);
+    Member *members = calloc((size_t)count, sizeof *members);
+    // Those whose next packet is due, in the order of their times: each is there twice at most.
+    int *line = calloc(2 * (size_t)count, sizeof *line), first = 0, last = 0, left = count;
+    if (!members || !line) fail("calloc");
+    double start = now();
+    for (int i = 0; i < count; i++) {
+        begin_client(&own.clients[i], SOCK_NONBLOCK);
+        await(&own, i, EPOLLOUT, EPOLL_CTL_ADD);
+    }
+    while (left > 0) {
+        struct epoll_event events[EVENTS];
+        int found = ready(&own, events, first < last ? members[line[first]].due - now() : -1);
+        for (int i = 0; i < found; i++) {
+            int number = (int)events[i].data.u32;
+            Member *member = &members[number];
+            Client *client = &own.clients[number];
+            if (member->next == CONNECTING) {
+                send_next(client, member, number, groups);
+                await(&own, number, EPOLLIN, EPOLL_CTL_MOD);
+            } else if (take_missing(client, member, number, groups)) {
+                member->due = now() + delay;
+                if (stays && member->next == LEAVING)
+                    left--;
+                else
+                    line[last++] = number;
+            }
+        }
+        for (; first < last && members[line[first]].due <= now(); first++) {
+            Member *member = &members[line[first]];
+            left -= member->next == LEAVING;
+            send_next(&own.clients[line[first]], member, line[first], groups);
+        }
+    }
+    printf("%.1f\n", now() - start);
+}
+
+static void publish_next(Client *client, int number) {
+    Topic topic;
+    put_topic(topic, "crowd/%02d%02d/state", (size_t)number);
+    uint8_t packet[TOPIC + 100] = {0x33};
+    size_t size = 2 + put_text(packet + 2, topic);
+    packet[size + 1] = 1;
+    memset(packet + size + 3, 'x', 64);
+    size += 3 + 64;
+    packet[1] = (uint8_t)(size - 2);
+    send_all(client, packet, size);
+}
+
+static void crowd(int count, double micros) {
+    Crew own = crew(count);
+    for (int i = 0; i < count; i++) {
+        open_named(&own.clients[i], 'm', i);
+        await(&own, i, EPOLLIN, EPOLL_CTL_ADD);
+    }
+    double start = now();
+    long published = 0;
+    int open = count;
+    for (int i = 0; i < count; i++) publish_next(&own.clients[i], i);
+    while (open > 0) {
+        struct epoll_event events[EVENTS];
+        int found = ready(&own, events, -1), is_over = now() - start > micros;
+        for (int i = 0; i < found; i++) {
+            int number = (int)events[i].data.u32;
+            Packet answer = take(&own.clients[number]);
+            check_stored(&answer);
+            published++;
+            if (is_over)
+                open--;
+            else
+                publish_next(&own.clients[number], number);
+        }
+    }
+    printf("%ld %.0f\n", published, now() - start);
+}
+
+static void silent(int count) {
+    for (Crew own = crew(count); count > 0; count--) begin_client(&own.clients[count - 1], 0);
+    puts("ready");
+    fflush(stdout);
+    pause();
 }
 
 static void echo(void) {
@@ -430,6 +616,12 @@ int main(int count, char **words) {
         replay((int)n[0], words[4], (size_t)n[2], (size_t)n[3], (int)n[4], words[8], (int)n[6]);
     else if (strcmp(job, "connect") == 0 && count == 4)
         connect_often((size_t)n[0]);
+    else if (strcmp(job, "fleet") == 0 && count == 7)
+        fleet((int)n[0], (int)n[1], (double)n[2], (int)n[3]);
+    else if (strcmp(job, "crowd") == 0 && count == 5)
+        crowd((int)n[0], (double)n[1]);
+    else if (strcmp(job, "silent") == 0 && count == 4)
+        silent((int)n[0]);
     else if (strcmp(job, "burn") == 0 && count == 3)
         for (volatile size_t i = 0;; i++) {}
     else if (strcmp(job, "echo") == 0 && count == 3)

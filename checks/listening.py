@@ -5,6 +5,7 @@ time: a time only excuses a refused client that was held up.
 """
 
 from checks.listening_addresses import addresses, restart
+from checks.listening_clients import many_clients, one_place_for_all, silent_connections
 from checks.listening_ends import (
     a_client_that_never_reads,
     abrupt_ends,
@@ -16,6 +17,7 @@ from checks.listening_messages import wanted
 from checks.listening_places import (
     all_connections_served,
     bursts,
+    endless,
     few_threads,
     refused_accepts,
     short_connections,
@@ -30,28 +32,47 @@ from harness.words import run_named
 
 def worked_examples():
     """Those that no clock changes are the same through a connection. One place serves the
-    connections of an example in turn."""
+    connections of an example in turn, for one client, and then for three that share it."""
     every = examples()
     chosen = [each for each in every if not any(own.moments for own in each.connections)]
     for example in chosen:
-        topics, count = example.topics or 10_000, len(example.connections)
-        with Server(places=1, topics=topics, connections=count) as server:
-            for connection in example.connections:
-                with Client(server) as client:
-                    for sent, answer in connection.turns:
-                        client.ask(sent, answer)
-                    client.half_close()
-                    client.take_end()
-            wanted(server.ended()[0] == 0, f"{example.name}: another end")
-    print(f"listening: {len(chosen)} of {len(every)} worked examples are the same")
+        run_example(example)
+    # Which of three clients a connection gets is not known, and an identifier that it is given
+    # depends on that.
+    shared = [each for each in chosen if not any(map(is_named, each.connections))]
+    for example in shared:
+        run_example(example, clients=3)
+    counts = f"{len(chosen)} of {len(every)} worked examples are the same"
+    print(f"listening: {counts}, {len(shared)} of them also with more clients than places")
+
+
+def run_example(example, clients=None):
+    topics, count = example.topics or 10_000, len(example.connections)
+    with Server(places=1, clients=clients, topics=topics, connections=count) as server:
+        for connection in example.connections:
+            with Client(server) as client:
+                for sent, answer in connection.turns:
+                    client.ask(sent, answer)
+                client.half_close()
+                client.take_end()
+        wanted(server.ended()[0] == 0, f"{example.name}: another end")
+
+
+def is_named(connection):
+    """Whether the server gives the client an identifier."""
+    return b"rs1-1" in connection.replies()
 
 
 CHECKS = (
     sixty_four_places,
     short_connections,
+    endless,
     bursts,
     one_history,
     few_threads,
+    many_clients,
+    one_place_for_all,
+    silent_connections,
     refused_accepts,
     abrupt_ends,
     a_client_that_never_reads,

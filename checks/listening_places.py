@@ -1,6 +1,7 @@
 """Places of a server: how many clients are served at once, one after the other, and by which
 threads. Part of `checks/listening`."""
 
+import signal
 import tempfile
 import threading
 from concurrent.futures import ThreadPoolExecutor
@@ -53,6 +54,17 @@ def short_connections(count=1_000):
         wanted(server.ended() == (0, f"rstored: served {count + 1}\n", ""), "another end")
 
 
+def endless(count=200):
+    """Without an end, clients are served until a signal ends the program, which says no more."""
+    with Server(places=2, connections=None, endless=True) as server:
+        for number in range(count):
+            with Client(server).connect() as client:
+                client.ask(publish(topic(number), b"x"), PUBACK)
+                client.disconnect()
+        server.run.terminate()
+        wanted(server.ended() == (-signal.SIGTERM, "", ""), "another end")
+
+
 def bursts(rounds=10, size=200, own=4):
     """64 clients at once send publications of QoS 0, and as many of QoS 1 as they may, in one
     piece, again and again. Each is acknowledged, the last of each topic is there, and at the end
@@ -93,30 +105,37 @@ def bursts(rounds=10, size=200, own=4):
         wanted(server.ended() == (0, f"rstored: served {MANY + 1}\n", ""), "another end")
 
 
-def few_threads(connections=2 * MANY):
-    """Of 64 places those that get a thread serve all connections, with one more at the same time
-    on the first thread, and at the end the program says how many they were. If the writer or every
-    place gets none, it cannot listen."""
-    served = f"rstored: served {connections}\n"
+def few_threads():
+    """The places, or the clients that share them, that get a thread serve all connections, with one
+    more at the same time on the first thread, and at the end the program says how many they were.
+    If the writer or all of them get none, it cannot listen."""
     with tempfile.TemporaryDirectory() as folder:
         library = preloaded("few_threads", folder)
-        for places in (-1, 0, 1, 2, 40, MANY - 1, MANY):
-            # The writer takes the first thread.
-            threads = places + 1
-            environment = {"LD_PRELOAD": library, "THREADS": str(threads)}
-            with Server(places=MANY, connections=connections, environment=environment) as server:
-                if places < 1:
-                    end = (1, "", "rstored: cannot listen\n")
-                    wanted(server.ended() == end, f"another end with {threads} threads")
-                    continue
-                clients = [Client(server).connect() for _ in range(min(threads, MANY))]
-                for client in clients:
-                    client.disconnect()
-                for _ in range(len(clients), connections):
-                    Client(server).connect().disconnect()
-                few = f"rstored: {places} of {MANY} places had a thread\n"
-                end = (0, served, "") if places == MANY else (1, served, few)
-                wanted(server.ended() == end, f"another end with {threads} threads")
+        for given in (-1, 0, 1, 2, 40, MANY - 1, MANY):
+            with_threads(library, given, MANY, "places", places=MANY)
+        for given in (-1, 0, 1, 3, 7, 8):
+            with_threads(library, given, 8, "clients", places=2, clients=8)
+
+
+def with_threads(library, given, most, what, **options):
+    """Runs a server that serves so many at the same time, of which so many are given a thread."""
+    # The writer takes the first thread.
+    threads, connections = given + 1, 2 * most
+    environment = {"LD_PRELOAD": library, "THREADS": str(threads)}
+    with Server(connections=connections, environment=environment, **options) as server:
+        if given < 1:
+            end = (1, "", "rstored: cannot listen\n")
+            wanted(server.ended() == end, f"another end with {threads} threads")
+            return
+        clients = [Client(server).connect() for _ in range(min(threads, most))]
+        for client in clients:
+            client.disconnect()
+        for _ in range(len(clients), connections):
+            Client(server).connect().disconnect()
+        few = f"rstored: {given} of {most} {what} had a thread\n"
+        status, errors = (0, "") if given == most else (1, few)
+        end = (status, f"rstored: served {connections}\n", errors)
+        wanted(server.ended() == end, f"another end with {threads} threads")
 
 
 def refused_accepts(refused=4, served=3):

@@ -19,6 +19,7 @@ from checks.operating_log import (
     a_late_write,
     cannot_listen,
     each_end,
+    few_descriptors,
     no_log,
     refused_memory,
     sixty_four_at_once,
@@ -38,6 +39,7 @@ CHECKS = (
     a_late_write,
     refused_memory,
     sixty_four_at_once,
+    few_descriptors,
     no_log,
     cannot_listen,
 )

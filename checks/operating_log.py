@@ -179,6 +179,19 @@ def sixty_four_at_once(rounds=5, places=64):
     wanted(told == dict.fromkeys(peers, end), "the log tells of other connections")
 
 
+def few_descriptors(limit=20):
+    """The log says at the start if the process may have fewer descriptors than its clients need:
+    one each, and four more."""
+    inside = ("sh", "-c", f'ulimit -n {limit}; exec "$@"', "sh")
+    for clients, is_told in ((limit - 4, False), (limit - 3, True)):
+        with Server(inside=inside, places=1, clients=clients, connections=1, log=True) as server:
+            Client(server).connect().disconnect()
+            _, _, errors = server.ended()
+        need = f"{clients} clients need {clients + 4} descriptors"
+        line = f"[WARN  rstored] {need}, and the process may have {limit}\n"
+        wanted(errors.startswith(line) == is_told, f"the log of {clients} clients is {errors!r}")
+
+
 def no_log():
     """A log that cannot be written harms no connection. Without `--log`, standard error is
     empty."""

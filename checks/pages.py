@@ -1,6 +1,7 @@
 """Compares what the documents say of the repository with the repository: each file that they name
-is there, each name of the code stands in some source, each link leads somewhere, and each line of a
-caller that a crate's page shows stands in the file that the page names."""
+is there, each name of the code stands in some source, each link leads somewhere, each line of a
+caller that a crate's page shows stands in the file that the page names, and each file of settings
+that a page shows is the same."""
 
 import re
 import sys
@@ -22,18 +23,29 @@ COMMENT = {".rt": re.compile("//.*"), ".antt": re.compile("--.*")}
 ALONE = re.compile(r"`([\w-]+\.(?:rt|antt|py))`")
 # Names of other programs and of std, parts of names, and bytes.
 ELSEWHERE = {
-    *("AF_NETLINK", "AF_UNIX", "MemoryMax", "RestartSec", "RestrictAddressFamilies", "stunnel4"),
-    *("UnixListener", "bind", "put_", "A2", "B0", "E0"),
+    *("AF_NETLINK", "AF_UNIX", "stunnel4", "UnixListener", "bind", "put_", "A2", "B0", "E0")
 }
 SOURCES = (
     *(f"crates/*/{folder}/**/*" for folder in ("src", "specs", "proofs", "must-fail", "data")),
-    *("checks/*", "bench/*", "harness/*", ".ci/*", "crates.txt", "HANDLES"),
+    *("checks/*", "bench/*", "contrib/*", "harness/*", ".ci/*", "crates.txt", "HANDLES"),
 )
 LINK = re.compile(r"\]\(([^)#\s]+)(?:#([^)\s]*))?\)")
 CODE = re.compile(r"^```rust\n(.*?)^```$", re.DOTALL | re.MULTILINE)
+# A file of settings that a page shows.
+SETTINGS = re.compile(r"^```ini\n(.*?)^```$", re.DOTALL | re.MULTILINE)
 TITLE = re.compile(r"^#+ (.*)$", re.MULTILINE)
 # Folders of the repository, by which a word with a slash is known to be a file.
-FOLDERS = ("crates/", "docs/", "checks/", "bench/", "harness/", ".ci/", "rs_", "rstored/")
+FOLDERS = (
+    "crates/",
+    "docs/",
+    "checks/",
+    "bench/",
+    "contrib/",
+    "harness/",
+    ".ci/",
+    "rs_",
+    "rstored/",
+)
 LEFT_OUT = "// .."
 
 
@@ -127,10 +139,18 @@ def callers(page, text):
                 yield f"{page} shows a line that no file has which it names: {line.strip()}"
 
 
+def settings(page, text):
+    """Each block of settings is the whole file that the text above it names last."""
+    for block in SETTINGS.finditer(text):
+        path = FILE.findall(text[: block.start()])[-1]
+        if not named(path).exists() or named(path).read_text() != block[1]:
+            yield f"{page} shows {path} as it is not"
+
+
 def main():
     given_words()
     pages = {str(path.relative_to(ROOT)): path.read_text() for path in documents()}
-    kinds = (files, crate_files, names, alone, links, callers)
+    kinds = (files, crate_files, names, alone, links, callers, settings)
     wrong = [it for page, text in pages.items() for kind in kinds for it in kind(page, text)]
     for told in wrong:
         print(f"pages: {told}", file=sys.stderr)

@@ -74,6 +74,7 @@ NOT_READ = End(1, "", "rstored: read failed\n")
 NOT_WRITTEN = End(1, None, "rstored: write failed\n")
 NO_MEMORY = End(1, "", "rstored: out of memory\n")
 NO_LISTENER = End(1, "", "rstored: cannot listen\n")
+NO_END = End(2, "", "error: give either --connections or --endless\n")
 
 ABOUT = "Keeps the retained message of each MQTT 5 topic and answers subscriptions from it"
 USAGE = "Usage: rstored <COMMAND>"
@@ -84,13 +85,15 @@ PIPE = f"pipe [OPTIONS] {AT}"
 PIPES = "Serves one MQTT 5 connection: "
 ADDRESS = "--address <ADDRESS>"
 PLACES = "places <1-64>"
+CLIENTS = "clients <1-10000>"
 TOPICS = "topics <1-65536>"
 CONNECTIONS = "connections <1-1000000>"
 IDLE = "idle <1-86400>"
-LISTEN = f"listen [OPTIONS] {ADDRESS} --{CONNECTIONS}"
+LISTEN = f"listen [OPTIONS] {ADDRESS}"
 LISTENS = "Serves MQTT 5 clients that connect by TCP."
-LIMITS = (f"--{PLACES}", "[default: 4]", f"--{TOPICS}", "[default: 10000]", f"--{CONNECTIONS}")
-MORE = (f"--{IDLE}", "--log")
+SIZES = (f"--{PLACES}", f"--{CLIENTS}", f"--{TOPICS}", f"--{CONNECTIONS}")
+LIMITS = (SIZES[0], "[default: 4]", SIZES[1], SIZES[2], "[default: 10000]", SIZES[3])
+MORE = ("--endless", f"--{IDLE}", "--log")
 MISSING = "the following required arguments were not provided:"
 LOOPBACK = "listen --address 127.0.0.1:0"
 ONE = f"{LOOPBACK} --connections 1"
@@ -106,7 +109,7 @@ WORDS = {
     "pipe -h": helped("Serve one MQTT 5 connection ", PIPE, "--hex ", f"{AT} "),
     "listen --help": helped(LISTENS, LISTEN, ADDRESS, *LIMITS, *MORE),
     "listen -h": helped(
-        "Serve MQTT 5 clients that connect by TCP", LISTEN, f"{ADDRESS} ", *LIMITS[::2], *MORE
+        "Serve MQTT 5 clients that connect by TCP", LISTEN, f"{ADDRESS} ", *SIZES, *MORE
     ),
     "pipe": refused(MISSING, AT, "Usage: rstored pipe"),
     "pipe --at": refused(f"a value is required for '{AT}' but none was supplied"),
@@ -114,9 +117,17 @@ WORDS = {
     f"pipe --at {2**64}": invalid(2**64, "at <SECONDS>", "number too large"),
     "pipe --at \xff": End(2, "", "error: the command line is not UTF-8\n"),
     "pipe --at 0 more": refused("unexpected argument 'more' found", f"Usage: rstored {PIPE}"),
-    "listen": refused(MISSING, ADDRESS, f"--{CONNECTIONS}", "Usage: rstored listen"),
+    "listen": refused(MISSING, ADDRESS, "Usage: rstored listen"),
+    LOOPBACK: NO_END,
+    f"{ONE} --endless": NO_END,
+    f"{LOOPBACK} --endless --endless": refused(
+        "the argument '--endless' cannot be used multiple times"
+    ),
     f"{LOOPBACK} --connections 0": invalid(0, CONNECTIONS, "0 is not in 1..=1000000"),
     f"{ONE} --places 65": invalid(65, PLACES, "65 is not in 1..=64"),
+    f"{ONE} --clients 0": invalid(0, CLIENTS, "0 is not in 1..=10000"),
+    f"{ONE} --clients 3": End(2, "", "error: --clients is less than --places\n"),
+    f"{ONE} --clients 10001": invalid(10001, CLIENTS, "10001 is not in 1..=10000"),
     f"{ONE} --topics 0": invalid(0, TOPICS, "0 is not in 1..=65536"),
     f"{ONE} --idle 0": invalid(0, IDLE, "0 is not in 1..=86400"),
     f"{ONE} --idle 86401": invalid(86401, IDLE, "86401 is not in 1..=86400"),

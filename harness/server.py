@@ -35,12 +35,13 @@ class Server:
     """A running `rstored listen`, which is killed at the end of a `with`."""
 
     def __init__(self, address="127.0.0.1:0", environment=None, errors=None, inside=(), **options):
-        """The options are those of the command line, a flag as True. Those that are left out are
-        here."""
+        """The options are those of the command line, a flag as True, and None for one that is not
+        to be given. Those that are left out are here."""
         options = {"places": 4, "topics": 10_000, "connections": 1_000_000, **options}
         words = []
         for name, value in options.items():
-            words += [f"--{name}"] if value is True else [f"--{name}", str(value)]
+            if value is not None:
+                words += [f"--{name}"] if value is True else [f"--{name}", str(value)]
         self.run = start(address, *words, environment=environment, errors=errors, inside=inside)
         line = self.run.stdout.readline()
         numbers = r"rstored: listening on ([0-9.]+|\[[0-9a-f:]+\]):([0-9]+)\n"

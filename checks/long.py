@@ -1,0 +1,214 @@
+"""Takes the program to large numbers, which no other check reaches. With `--short` the numbers are
+small, to see that this script works.
+
+Words name the checks to run. None fails by a time.
+"""
+
+import subprocess
+import sys
+import tempfile
+from concurrent.futures import ThreadPoolExecutor
+from time import monotonic
+
+from checks.listening_messages import all_replayed, publish, replayed, subscribe, topic, wanted
+from checks.out_of_memory import in_turn
+from harness import packets
+from harness.client import Client
+from harness.packets import CONNACK, CONNECT, DISCONNECT, NO_SPACE, PUBACK, SUBACK, puback
+from harness.patience import PATIENCE
+from harness.program import most_memory, preloaded, program
+from harness.server import Server
+from harness.sessions import QUOTA
+from harness.words import NAME, given_words
+
+# How many publications a client sends in one piece.
+PIECE = 1_000
+
+
+def ends(server, connections):
+    """The server ends after so many connections, and knows that all changes were taken."""
+    end = (0, f"rstored: served {connections}\n", "")
+    wanted(server.ended() == end, "another end")
+
+
+def serves_one_more(server):
+    """A client publishes a message, and another one reads it."""
+    with Client(server).connect() as client:
+        client.ask(publish(b"more", b"one"), PUBACK)
+        client.disconnect()
+    with Client(server).connect() as client:
+        client.ask(subscribe(b"more"), SUBACK + replayed(b"more", b"one"))
+        client.disconnect()
+
+
+def many_connections(count):
+    """So many clients come and go at two places, and one more is served."""
+
+    def visit(_):
+        with Client(server) as client:
+            client.ask(CONNECT + DISCONNECT, CONNACK)
+            client.take_end()
+
+    with Server(places=2, connections=count + 2) as server, ThreadPoolExecutor(4) as threads:
+        for _ in threads.map(visit, range(count)):
+            pass
+        serves_one_more(server)
+        ends(server, count + 2)
+
+
+def a_long_replay(count):
+    """So many messages go to one client at once, at QoS 0 and 1."""
+    with Server(places=1, topics=count, connections=2) as server:
+        with Client(server).connect() as client:
+            for first in range(0, count, PIECE):
+                numbers = range(first, min(first + PIECE, count))
+                sent = b"".join(publish(topic(number), b"x") for number in numbers)
+                client.ask(sent, len(numbers) * PUBACK)
+            client.disconnect()
+        with Client(server).connect() as client:
+            client.ask(subscribe(b"#"), SUBACK + all_replayed(count, b"x"))
+            client.send(packets.subscribe([b"#"], 1))
+            client.take(packets.suback(b"\x01"))
+            for number in range(count):
+                # An identifier that is free again is given next.
+                identifier = number % QUOTA + 1
+                client.take(packets.publish(topic(number), b"x", 1, identifier))
+                client.send(puback(identifier))
+            client.disconnect()
+        ends(server, 2)
+
+
+def many_publications(count):
+    """One client sends so many, and then one more, which is kept and read."""
+    names = [b"%d" % number for number in range(PIECE)]
+    piece = b"".join(packets.publish(name, b"x") for name in names)
+    with Server(places=1, connections=3) as server:
+        with Client(server).connect() as client:
+            for _ in range(count // PIECE):
+                client.send(piece)
+            client.ask(publish(b"last", b"x"), PUBACK)
+            client.ask(subscribe(b"last"), SUBACK + replayed(b"last", b"x"))
+            client.disconnect()
+        serves_one_more(server)
+        ends(server, 3)
+
+
+def many_refusals(count):
+    """So many publications find no space. Each is told so, and at the end the server knows what
+    it took."""
+    with Server(places=1, topics=1, connections=1) as server:
+        with Client(server).connect() as client:
+            client.ask(publish(b"kept", b"x"), PUBACK)
+            for _ in range(count // PIECE):
+                client.ask(PIECE * publish(b"other", b"x"), PIECE * NO_SPACE)
+            client.ask(publish(b"kept", b"y"), PUBACK)
+            client.ask(subscribe(b"#"), SUBACK + replayed(b"kept", b"y"))
+            client.disconnect()
+        ends(server, 1)
+
+
+def refused_accepts(count, places=8):
+    """So many accepts fail, as if no descriptor was left, and the next clients are served. After
+    some failures in a row a place waits for a second."""
+    with tempfile.TemporaryDirectory() as folder:
+        library = preloaded("failing_accepts", folder)
+        environment = {"LD_PRELOAD": library, "FAILING": str(count)}
+        options = {"places": places, "connections": count + 2, "environment": environment}
+        with Server(**options) as server:
+            serves_one_more(server)
+            ends(server, count + 2)
+
+
+def replaced_levels(rounds, count=50):
+    """Topics have long levels, which two topics share, and their first messages are large. Once
+    each is replaced so often, the process keeps the levels and what came last.
+
+    The large messages come in as many groups, each after the one before it is replaced, so that
+    only one group is there at a time."""
+    large = 190_000
+    for size in (1_000, 60_000):
+        with Server(places=1, connections=1) as server, Client(server).connect() as client:
+            started = most_memory(server.run.pid)
+            for group in range(rounds):
+                levels = [b"%d/%04d" % (group, at) + size * b"l" for at in range(count)]
+                names = [level + part for level in levels for part in (b"/a", b"/b")]
+                for payload in (large * b"x", *(b"%d" % turn for turn in range(rounds))):
+                    for name in names:
+                        client.ask(publish(name, payload), PUBACK)
+            taken = most_memory(server.run.pid) - started
+            # A level is in both topics and once for itself, in two trees. Of a group two messages
+            # are there in each place.
+            kept, passing = rounds * count * 4 * size // 1_000, 2 * count * large // 1_000
+            limit = 5 * kept // 4 + 2 * passing
+            shown = f"{taken} kB for levels of {size} bytes (less than {limit} needed)"
+            print(f"{NAME}: {shown}", flush=True)
+            wanted(taken < limit, shown)
+            client.disconnect()
+
+
+def a_refused_growth(count):
+    """Of the messages below one level memory is refused to one allocation, whichever it is. So
+    many that come later take no more memory, one by one, than if it was not refused.
+
+    This stands in for the work of a put: a bucket that should have become a branch, and did not,
+    is copied whole for each message that it gets.
+    """
+    first, after = (
+        [b"g/%05d" % number for number in range(begin, begin + size)]
+        for begin, size in ((0, 20), (20, count))
+    )
+    few, many = (
+        CONNECT + b"".join(publish(name, b"x") for name in names) + DISCONNECT
+        for names in (first, first + after)
+    )
+    words = [program(), "pipe", "--at", "0"]
+    with tempfile.TemporaryDirectory() as folder:
+        library = preloaded("failing_malloc", folder)
+        allocations = sum(1 for _ in in_turn(words, few, library))
+        asked = [bytes_asked(words, many, library, at) for at in range(1, allocations + 1)]
+        # The last one has none that fails.
+        least = bytes_asked(words, many, library, 0)
+    shown = f"{max(asked)} bytes are asked for, and {least} if nothing is refused"
+    print(f"{NAME}: {len(asked)} allocations refused in turn: {shown}", flush=True)
+    wanted(max(asked) < 11 * least // 10, shown)
+
+
+def bytes_asked(words, given, library, at):
+    """How many bytes a run asks for in all, while the allocation of this number fails."""
+    with tempfile.TemporaryFile() as told:
+        numbers = {"FAIL_AT": at, "FAIL_COUNT": 1, "FAIL_TELL": 1_000, "FAIL_ASKED": told.fileno()}
+        environment = {"LD_PRELOAD": library, **{key: str(own) for key, own in numbers.items()}}
+        options = {"capture_output": True, "timeout": PATIENCE, "pass_fds": [told.fileno()]}
+        subprocess.run(words, input=given, env=environment, **options)
+        told.seek(0)
+        return int.from_bytes(told.read(), sys.byteorder)
+
+
+CHECKS = (
+    (many_connections, 200_000, 2_000),
+    (a_long_replay, 65_536, 5_000),
+    (many_publications, 12_000_000, 100_000),
+    (many_refusals, 200_000, 2_000),
+    (refused_accepts, 200, 20),
+    (replaced_levels, 10, 2),
+    (a_refused_growth, 1_000, 200),
+)
+
+
+def main():
+    checks = {check.__name__: (check, whole, short) for check, whole, short in CHECKS}
+    words = given_words("--short", *checks)
+    names = [name for name in checks if name in words or not set(words) - {"--short"}]
+    for name in names:
+        check, whole, short = checks[name]
+        number, began = short if "--short" in words else whole, monotonic()
+        try:
+            check(number)
+        except (AssertionError, OSError, RuntimeError) as error:
+            sys.exit(f"{NAME}: {name}: {error}")
+        shown = name.replace("_", " ")
+        print(f"{NAME}: {shown}: {number:,} in {monotonic() - began:.0f} s", flush=True)
+
+
+if __name__ == "__main__":
+    main()
