@@ -200,7 +200,7 @@ def command_lines():
 
 
 def first_run():
-    """README.md begins with it."""
+    """PIPE.md shows it."""
     names = ("args", "stdin", "stdout")
     words, given, answered = ((crate() / name).read_text() for name in names)
     compare(words, given, End(0, answered))
