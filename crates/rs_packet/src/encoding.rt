@@ -8,8 +8,8 @@ ghost use Rattle.rs_packet.specs.Replies.{reply_body, reply_bytes, HasEncoding, 
 use crate::encoding::acknowledgements::{acknowledgement_len, put_acknowledgement};
 use crate::encoding::codes::{codes_len, put_codes};
 use crate::encoding::connack::{accepted_len, put_accepted};
-use crate::encoding::publish::{body_len, put_publish_reply};
-use crate::reply::Reply;
+use crate::encoding::publish::{body_len, put_publish_head, put_publish_reply};
+use crate::reply::{PublishReply, Reply};
 use bytes::Bytes;
 use rs_field::{put_varint, varint_len};
 use std::alloc::{AllocError, Global};
@@ -93,4 +93,30 @@ pub fn encode(alloc: Global, reply: &Reply) -> Result<Bytes, AllocError>
     let mut out = Vec::with_capacity(alloc, encoded_len(reply))?;
     put(&mut out, reply)?;
     Ok(Bytes::from_vec(out)?)
+}
+
+/// A longer payload is not copied to be sent.
+const MAX_COPIED: usize = 4_096;
+
+/// All of a PUBLISH but its payload.
+fn encode_head(alloc: Global, p: &PublishReply) -> Result<Bytes, AllocError>
+    ensures { IfOk result (λ head. head ++ p.now.payload ≡ reply_bytes (Reply.Publish p.now)) }
+{
+    let mut out = Vec::new(alloc);
+    put_publish_head(&mut out, p)?;
+    Ok(Bytes::from_vec(out)?)
+}
+
+/// The one encoding of a reply in two parts, the second of which is a long payload or empty. It takes no memory for a long payload.
+/// `AllocError` only if memory runs out.
+pub fn encode_parts(alloc: Global, reply: &Reply) -> Result<(Bytes, &[u8]), AllocError>
+    ensures { IfOk result (λ parts. parts.0 ++ parts.1.now ≡ reply_bytes reply.now) }
+{
+    if let Reply::Publish(p) = reply {
+        let payload = p.retained.message().payload().as_slice();
+        if payload.len() > MAX_COPIED {
+            return Ok((encode_head(alloc, p)?, payload));
+        }
+    }
+    Ok((encode(alloc, reply)?, &[]))
 }

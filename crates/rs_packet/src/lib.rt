@@ -1,7 +1,7 @@
 //! The packets of MQTT 5.0 (OASIS, sections 2 and 3): those that a client sends, read, and the replies of the server, written.
 //!
 //! `decode` gives the packet that some bytes begin with, and `needed_len` says how many bytes to collect before `decode` is called
-//! again. `encode` writes a `Reply`, and `encoded_len` says how long it gets. Nothing is kept from one call to the next, no packet
+//! again. `encode` writes a `Reply`, `encode_parts` does not copy a long payload, and `encoded_len` says how long it gets. Nothing is kept from one call to the next, no packet
 //! of more than `MAX_PACKET_SIZE` bytes is read, and texts and payloads that were read share the bytes that they were read from.
 //!
 //! Promised by contracts: `decode` answers a packet exactly if a prefix of the bytes encodes one by the grammar of the standard, and
@@ -26,7 +26,7 @@ mod reply;
 mod retained;
 
 pub use decoding::{decode, one_reading, wire_law};
-pub use encoding::{encode, encoded_len, publish_len};
+pub use encoding::{encode, encode_parts, encoded_len, publish_len};
 pub use header::needed_len;
 pub use limits::{MAX_PACKET_SIZE, RECEIVE_MAXIMUM};
 pub use message::{Message, Remaining};

@@ -20,11 +20,18 @@ front_after : (a b c : Option (List ℕ)) (xs ys : List ℕ) → Appends a b xs 
 front_after a b c xs ys p (front, back, e, q) = (xs ++ front, back, ap (λ l. xs ++ l) e ∙ sym (append_assoc xs front back), Appends-trans a b c xs front p q)
 
 -- what was written behind what was written
-writes_after : {T : Type 0} (r : Result T ServeFault) (a b c : Option (List ℕ)) (xs ys : List ℕ) → Appends a b xs → Writes r b c ys → Writes r a c (xs ++ ys)
+pub writes_after : {T : Type 0} (r : Result T ServeFault) (a b c : Option (List ℕ)) (xs ys : List ℕ) → Appends a b xs → Writes r b c ys → Writes r a c (xs ++ ys)
 writes_after (Ok x) a b c xs ys p q = Appends-trans a b c xs ys p q
 writes_after (Err Read) a b c xs ys p q = Appends-trans a b c xs ys p q
 writes_after (Err Write) a b c xs ys p q = front_after a b c xs ys p q
 writes_after (Err NoMemory) a b c xs ys p q = front_after a b c xs ys p q
+
+-- less than the first part was written
+pub writes_less : {T : Type 0} (r : Result T ServeFault) (a b : Option (List ℕ)) (before after : ℕ) (xs ys : List ℕ) → OnErr r (Writes r a b xs) → IsWriteCause r before after → OnErr r (Writes r a b (xs ++ ys))
+writes_less (Ok x) a b before after xs ys p w = tt
+writes_less (Err Read) a b before after xs ys p w = absurd w
+writes_less (Err Write) a b before after xs ys (front, back, e, q) w = (front, back ++ ys, ap (λ l. l ++ ys) e ∙ append_assoc front back ys, q)
+writes_less (Err NoMemory) a b before after xs ys (front, back, e, q) w = (front, back ++ ys, ap (λ l. l ++ ys) e ∙ append_assoc front back ys, q)
 
 longer : (a b : Option (List ℕ)) (replies : List Reply) (reply : Reply) → AppendsFront a b (all_reply_bytes replies) → AppendsFront a b (all_reply_bytes (replies ++ reply ∷ []))
 longer a b replies reply (front, back, e, q) =

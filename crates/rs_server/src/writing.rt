@@ -1,6 +1,6 @@
 //! What is written.
 
-ghost use Rattle.std.specs.Prelude.{◌≡◌, ◌<◌, ◌-◌, ◌^◌, List, None, OnOk, OnErr};
+ghost use Rattle.std.specs.Prelude.{◌≡◌, ◌<◌, ◌-◌, ◌^◌, ◌++◌, List, None, OnOk, OnErr};
 ghost use Rattle.rs_packet.specs.Replies.{reply_bytes};
 ghost use Rattle.rs_packet.specs.declared.reply.Reply.{Reply};
 ghost use Rattle.rs_session.specs.State.{state_of, due_of, gate_of};
@@ -9,7 +9,7 @@ ghost use Rattle.rs_server.specs.Counts.{inner_of, failures_of};
 ghost use Rattle.rs_server.specs.Writing.{IsWriteCause, Writes, all_reply_bytes, fault_number};
 
 use crate::counted::Counted;
-use rs_packet::{Reply, encode};
+use rs_packet::{Reply, encode_parts};
 use rs_session::{Gate, Session};
 use std::alloc::Global;
 use std::io::Write;
@@ -61,7 +61,23 @@ fn write_bytes<W: Write>(writer: &mut Counted<W>, bytes: &[u8]) -> Result<(), Se
     Ok(())
 }
 
-/// Writes a reply, and flushes.
+/// Writes all of the bytes of both parts.
+fn write_both<W: Write>(
+    writer: &mut Counted<W>,
+    first: &[u8],
+    rest: &[u8],
+) -> Result<(), ServeFault>
+    requires { failures_of writer.old < 2 ^ 64 - 1 }
+    ensures bytes { Writes result (W.contents (inner_of writer.old)) (W.contents (inner_of writer.new)) (first.now ++ rest.now) }
+    ensures cause { IsWriteCause result (failures_of writer.old) (failures_of writer.new) }
+{
+    match write_bytes(writer, first) {
+        Ok(()) => write_bytes(writer, rest),
+        Err(fault) => Err(fault),
+    }
+}
+
+/// Writes a reply, and flushes. A long payload is written from where it lies.
 fn write_reply<W: Write>(
     alloc: Global,
     writer: &mut Counted<W>,
@@ -71,10 +87,10 @@ fn write_reply<W: Write>(
     ensures bytes { Writes result (W.contents (inner_of writer.old)) (W.contents (inner_of writer.new)) (reply_bytes reply.now) }
     ensures cause { IsWriteCause result (failures_of writer.old) (failures_of writer.new) }
 {
-    let Ok(bytes) = encode(alloc, reply) else {
+    let Ok((first, rest)) = encode_parts(alloc, reply) else {
         return Err(ServeFault::NoMemory);
     };
-    write_bytes(writer, bytes.as_slice())?;
+    write_both(writer, first.as_slice(), rest)?;
     match writer.flush() {
         Ok(()) => Ok(()),
         Err(_) => Err(ServeFault::Write),

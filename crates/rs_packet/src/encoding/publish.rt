@@ -57,9 +57,9 @@ fn put_id(out: &mut Vec<u8>, id: Option<PacketId>) -> Result<(), AllocError>
     Ok(())
 }
 
-/// Appends a PUBLISH.
-pub(crate) fn put_publish_reply(out: &mut Vec<u8>, p: &PublishReply) -> Result<(), AllocError>
-    ensures { OnOk result (out.new.items ≡ out.old.items ++ frame (0x31 + 2 * level p.now.qos) (publish_reply_body p.now)) }
+/// Appends all of a PUBLISH but its payload.
+pub(crate) fn put_publish_head(out: &mut Vec<u8>, p: &PublishReply) -> Result<(), AllocError>
+    ensures { OnOk result (out.new.items ++ p.now.payload ≡ out.old.items ++ frame (0x31 + 2 * level p.now.qos) (publish_reply_body p.now)) }
 {
     let (len, section) = body_len(p);
     out.push(0x31 + 2 * p.qos.level())?;
@@ -73,6 +73,14 @@ pub(crate) fn put_publish_reply(out: &mut Vec<u8>, p: &PublishReply) -> Result<(
         p.subscription,
         p.retained.message().properties(),
     )?;
+    Ok(())
+}
+
+/// Appends a PUBLISH.
+pub(crate) fn put_publish_reply(out: &mut Vec<u8>, p: &PublishReply) -> Result<(), AllocError>
+    ensures { OnOk result (out.new.items ≡ out.old.items ++ frame (0x31 + 2 * level p.now.qos) (publish_reply_body p.now)) }
+{
+    put_publish_head(out, p)?;
     out.extend_from_slice(p.retained.message().payload().as_slice())?;
     Ok(())
 }
