@@ -1,34 +1,54 @@
 """Runs the program as a server under a limit of the system on its memory, and fills it until it
 refuses publications.
 
-The limit is that of `ulimit -d` and of `LimitDATA`. It is set once all places have their threads,
-whose stacks count, too.
+The limit is that of `ulimit -d` and of `LimitDATA`. It is set once all clients have their threads,
+whose stacks count, too. Each check is made with short messages, with longer ones, and with some of
+which each takes more than the server keeps free; by the settings of the service in `contrib/`, and
+without them where they are not needed.
 """
 
 import resource
+import subprocess
 from contextlib import contextmanager
 
 from checks.listening_messages import publish, replayed, subscribe, topic, wanted
 from harness.client import Client
-from harness.packets import NO_SPACE, PUBACK, SUBACK
+from harness.packets import NO_SPACE, PUBACK, SUBACK, packet, unsubscribe
+from harness.patience import PATIENCE
+from harness.program import ROOT, program
 from harness.server import Server
 from harness.words import run_named
 
+# The answer to an UNSUBSCRIBE.
+UNSUBACK = packet(0xB0, b"\x00\x01\x00\x00")
+
 PLACES = 4
-# How many bytes the server has for messages, and how many a message has.
-SPACE, SIZE = 6_000_000, 20_000
+# How many bytes a message has, and how many the server has for all of them.
+SPACES = {100: 2_000_000, 20_000: 6_000_000, 200_000: 6_000_000}
 # So many publications have to be refused before the server counts as full.
 REFUSED = 20
+# How many bytes a writer alone has.
+WRITER_SPACE = 64_000_000
+# How many clients are connected and silent, and how many bytes each may take: twice what it takes.
+IDLE, MOST_IDLE = 200, 64_000
 
 
-def payload(number):
-    return b"%d " % number + SIZE * b"x"
+def settings():
+    """What the service adds to the environment."""
+    lines = (ROOT / "contrib/rstored.service").read_text().splitlines()
+    given = [line.removeprefix("Environment=") for line in lines if line.startswith("Environment=")]
+    wanted(given, "the service adds nothing to the environment")
+    return dict(word.split("=") for word in given)
 
 
-def data_size(pid):
-    """The bytes that count for the limit."""
-    with open(f"/proc/{pid}/status") as lines:
-        return 1_000 * next(int(line.split()[1]) for line in lines if line.startswith("VmData:"))
+def payload(number, size):
+    return b"%d " % number + size * b"x"
+
+
+def size_of(server, field):
+    """A size of the process in bytes, such as VmData, which counts for the limit."""
+    with open(f"/proc/{server.run.pid}/status") as lines:
+        return 1_024 * next(int(line.split()[1]) for line in lines if line.startswith(f"{field}:"))
 
 
 def limit(server, size):
@@ -37,26 +57,26 @@ def limit(server, size):
 
 
 @contextmanager
-def full_server():
+def full_server(size, environment=None):
     """A server that has refused publications for want of memory, a client that was there before,
     and the numbers of the topics that it acknowledged."""
-    with Server(places=PLACES, topics=65_536) as server:
+    with Server(places=PLACES, topics=65_536, environment=environment) as server:
         clients = [Client(server).connect() for _ in range(PLACES)]
         staying = clients.pop()
         for client in clients:
             client.disconnect()
-        limit(server, data_size(server.run.pid) + SPACE)
-        yield server, staying, filled(server)
+        limit(server, size_of(server, "VmData") + SPACES[size])
+        yield server, staying, filled(server, size)
 
 
-def filled(server):
+def filled(server, size):
     """Publishes until enough publications were refused, by a client that comes again if its
     connection ends."""
     kept, refused, client = [], 0, None
-    for number in range(SPACE // SIZE + 10 * REFUSED):
+    for number in range(SPACES[size] // size + 10 * REFUSED):
         try:
             client = client or Client(server).connect()
-            client.send(publish(topic(number), payload(number)))
+            client.send(publish(topic(number), payload(number, size)))
             answer = client.take_packet()
             wanted(answer in (PUBACK, NO_SPACE) or answer[0] == 0xE0, f"{answer.hex()} came")
         except (AssertionError, OSError):
@@ -76,14 +96,16 @@ def filled(server):
     return kept
 
 
-def read_all(server, numbers, staying=None):
+def read_all(server, size, numbers, staying=None):
     """A client asks for one topic after the other, and gets its message. How many did not come."""
     missed, client = 0, staying
     for number in numbers:
         try:
             client = client or Client(server).connect()
             name = topic(number)
-            client.ask(subscribe(name), SUBACK + replayed(name, payload(number)))
+            client.ask(subscribe(name), SUBACK)
+            client.take(replayed(name, payload(number, size)))
+            client.ask(unsubscribe([name]), UNSUBACK)
         except (AssertionError, OSError):
             missed += 1
             if client:
@@ -92,37 +114,83 @@ def read_all(server, numbers, staying=None):
     return missed
 
 
+def is_lost(size, environment):
+    """Looks, once there is memory again, for each message that was acknowledged."""
+    with full_server(size, environment) as (server, _, kept):
+        limit(server, resource.RLIM_INFINITY)
+        missed = read_all(server, size, kept)
+        wanted(missed == 0, f"{missed} of {len(kept)} messages of {size} bytes are lost")
+
+
 def nothing_is_lost():
     """The server lives, and each message that was acknowledged is there once there is memory
     again."""
-    with full_server() as (server, _, kept):
-        limit(server, resource.RLIM_INFINITY)
-        missed = read_all(server, kept)
-        wanted(missed == 0, f"{missed} of {len(kept)} messages are lost")
+    for size in SPACES:
+        is_lost(size, None)
+    is_lost(max(SPACES), settings())
+
+
+def can_be_read(size, environment):
+    with full_server(size, environment) as (server, staying, kept):
+        told = f"of {len(kept)} messages of {size} bytes"
+        missed = read_all(server, size, kept)
+        wanted(missed == 0, f"a new client could not read {missed} {told}")
+        missed = read_all(server, size, kept, staying)
+        wanted(missed == 0, f"the staying one could not read {missed} {told}")
 
 
 def all_can_be_read():
     """At the limit, a client that comes and one that was there before read one topic after the
     other."""
-    with full_server() as (server, staying, kept):
-        missed = read_all(server, kept)
-        wanted(missed == 0, f"a new client could not read {missed} of {len(kept)} messages")
-        missed = read_all(server, kept, staying)
-        wanted(missed == 0, f"the staying one could not read {missed} of {len(kept)} messages")
+    for size in SPACES:
+        can_be_read(size, None)
+        can_be_read(size, settings())
 
 
 def new_ones_fit():
-    """Once a client has cleared topics, as many new messages fit."""
-    with full_server() as (server, _, kept):
-        with Client(server).connect() as client:
-            for number in kept[: len(kept) // 2]:
-                client.ask(publish(topic(number), b""), PUBACK)
-            for number in range(len(kept) // 4):
-                client.ask(publish(b"new/%d" % number, payload(number)), PUBACK)
-            client.disconnect()
+    """Once a client has cleared topics, new messages of others fit, if threads share their
+    memory."""
+    for size in SPACES:
+        with full_server(size, settings()) as (server, _, kept):
+            with Client(server).connect() as client:
+                for number in kept[: len(kept) // 2]:
+                    client.ask(publish(topic(number), b""), PUBACK)
+                for number in range(len(kept) // 4):
+                    client.ask(publish(b"new/%d" % number, payload(number, size)), PUBACK)
+                client.disconnect()
 
 
-CHECKS = (nothing_is_lost, all_can_be_read, new_ones_fit)
+def a_full_writer_clears():
+    """A writer alone that has no memory but its reserve refuses messages, and clears all topics."""
+
+    def limited():
+        resource.setrlimit(resource.RLIMIT_DATA, (WRITER_SPACE, WRITER_SPACE))
+
+    words = [program("rs_trials"), "refuse", "reserve"]
+    options = {"capture_output": True, "text": True, "timeout": PATIENCE}
+    run = subprocess.run(words, preexec_fn=limited, **options)
+    wanted(run.returncode == 0 and int(run.stdout) > 0, f"{run.stdout!r}, {run.stderr!r} came")
+
+
+def idle_clients_take_little():
+    """Clients that are connected, subscribed and silent."""
+    with Server(places=PLACES, clients=IDLE) as server:
+        before = size_of(server, "VmRSS")
+        clients = [Client(server).connect() for _ in range(IDLE)]
+        for client in clients:
+            client.ask(subscribe(topic(0)), SUBACK)
+        each = (size_of(server, "VmRSS") - before) // IDLE
+        print(f"full_memory: {each} bytes for each of {IDLE} idle clients ({MOST_IDLE} at most)")
+        wanted(each <= MOST_IDLE, f"an idle client takes {each} bytes")
+
+
+CHECKS = (
+    nothing_is_lost,
+    all_can_be_read,
+    new_ones_fit,
+    a_full_writer_clears,
+    idle_clients_take_little,
+)
 
 
 if __name__ == "__main__":

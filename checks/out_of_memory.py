@@ -146,24 +146,26 @@ def main():
         kinds += ["a topic behind a Sweep", "a Clear"]
         calls("tree", dict.fromkeys(kinds, 2), library, untold=2)
         calls("window", {"a queue": 2}, library)
-        for count in (1, 2):
-            # A held entry is refused only by a second failure in a row. Without one, `put` copies
-            # an entry, which takes no memory.
+        for count in (1, 2, 3):
+            # If a put is refused memory, it is made with that of the reserve. A second failure in a
+            # row holds its entry, and a third refuses the retry.
+            held = 2 if count > 1 else 0
             least = {
-                "a put that keeps nothing": count - 1,
-                "a put that keeps its Sweep alone": 2,
-                "a put that holds": 2,
-                "a put that holds behind its Sweep": 2,
-                "a retry": count - 1,
+                "a put that keeps nothing": 2,
+                "a put that keeps its Sweep alone": held,
+                "a put that holds": held,
+                "a put that holds behind its Sweep": held,
+                "a retry": 2 if count > 2 else 0,
                 "an answer": 2,
             }
-            calls("versions", least, library, count)
+            calls("versions", least, library, count, untold=2)
         for count in (1, 2):
             # A submit takes memory for its job, and the writer takes it for its replies.
+            held = 2 if count > 1 else 0
             least = {
                 "a submit that makes no entry": 2,
-                "a submit whose entry is held": 2,
-                "the last submit": 3 - count,
+                "a submit whose entry is held": held,
+                "the last submit": held,
             }
             calls("queue", least, library, count)
 

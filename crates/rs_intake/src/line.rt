@@ -21,6 +21,7 @@ ghost use Rattle.rs_intake.specs.declared.job.TheConstants.{MAX_CHANGES};
 use crate::job::{Changes, Job, MAX_CHANGES};
 use crate::name::LineName;
 use crate::reply::{ReplyReceiver, WriterReply};
+use crate::room::has_room;
 use crate::rule::{JobSender, PassView};
 use crate::steps::send;
 use crate::waiting::Gone;
@@ -213,7 +214,7 @@ fn copies(alloc: Global, entries: &Vec<Entry>) -> Option<Vec<Entry>>
 }
 
 /// What is expected, as one job, and a copy of its entries. `None` if this is not the first of them, no serials are left for all, or
-/// memory is refused.
+/// memory is refused or short.
 fn prepared(
     alloc: Global,
     place: u8,
@@ -229,6 +230,9 @@ fn prepared(
     ensures first { IfSome result (λ r. (es : List Entry) × (r.1.items ≡ first.now ∷ es)) }
     ensures small { IfSome result (λ r. serial + length r.1.items < 2 ^ 64) }
 {
+    if !has_room(alloc) {
+        return None;
+    }
     let entries = numbered(alloc, place, serial, expected)?;
     if !is_same(entries.first()?, first) {
         return None;
@@ -237,12 +241,23 @@ fn prepared(
     Some((Changes::new(job), VecDeque::from_vec(entries)))
 }
 
-/// This entry alone, as a job. `None` if memory is refused.
+/// Whether the entry stores a message.
+fn is_set(entry: &Entry) -> bool {
+    match &entry.operation {
+        Operation::Set(_) => true,
+        Operation::Clear(_) | Operation::Sweep(_) => false,
+    }
+}
+
+/// This entry alone, as a job. `None` if memory is refused, or is short and the entry takes more of it.
 fn alone(alloc: Global, entry: Entry) -> Option<Changes>
     requires plain { is_sweep entry.operation ≡ false }
     requires place { 0 < entry.origin.place }
     ensures { IfSome result (λ changes. changes ≡ entry ∷ []) }
 {
+    if is_set(&entry) && !has_room(alloc) {
+        return None;
+    }
     let mut entries = Vec::with_capacity(alloc, 1).ok()?;
     entries.push(entry).ok()?;
     Some(Changes::new(entries))
@@ -424,6 +439,7 @@ impl<N: LineName> SeatLine<N> {
             return Err(SubmitFault::NoMemory);
         };
         let Some(changes) = alone(self.alloc, copy) else {
+            // Refused: the memory for a list of one, or what has to be left.
             return Err(SubmitFault::NoMemory);
         };
         if self.line.send_changes(rt, changes) {

@@ -1,7 +1,7 @@
 //! Works single calls of the crates, for the checks and the benchmark, and prints numbers, one a line.
 //!
 //! `refuse tree`, `refuse window`, `refuse versions` and `refuse queue` look at what is shown after memory was refused, and count how
-//! often it was. The other tasks are timed, in nanoseconds, `decode` and `encode` in microseconds, and `window` from outside:
+//! often it was. `refuse reserve` takes all memory itself, and needs a limit of the system. The other tasks are timed, in nanoseconds, `decode` and `encode` in microseconds, and `window` from outside:
 //!
 //! - `tree TOPICS`: the calls of a tree in which so many topics, 1 to 65,536, hold a message;
 //! - `full TOPICS`: the adds to a full tree of so many topics, and one that sweeps half of it;
@@ -59,6 +59,7 @@ fn refused<H: Wait + Threads + Copy + Send + Sync + 'static>(
     match word {
         "tree" => refusals::tree::work(alloc),
         "queue" => refusals::queue::work(rt, alloc),
+        "reserve" => refusals::reserve::work(rt, alloc),
         "window" => refusals::window::work(alloc),
         "versions" => refusals::versions::work(rt, alloc),
         _ => Err(Failure::Words),

@@ -4,6 +4,7 @@
 //! again: 0 with ample memory.
 
 pub mod queue;
+pub mod reserve;
 pub mod tree;
 pub mod versions;
 mod view;

@@ -27,6 +27,7 @@ use Rattle.rs_version.proofs.named.NamedList.TheSendSync as list
 use Rattle.rs_version.proofs.named.NewHistory.TheSendSync as new_history
 use Rattle.rs_version.proofs.named.WholeHistory.TheSendSync as whole
 use Rattle.rs_version.proofs.prefix.Prefix.TheSendSync as prefix
+use Rattle.rs_version.proofs.reserve.Reserve.TheSendSync as reserve
 use Rattle.rs_version.specs.contracts.blank.Blank as Blank
 use Rattle.rs_version.specs.contracts.blank.Blank.TheInside as InBlank
 use Rattle.rs_version.specs.contracts.catalogue_copy.CatalogueCopy as CatalogueCopy
@@ -86,7 +87,7 @@ module _ (N : RattleType) (g : StoreName.Ghosts N.Denot) where
               whole.the_send N g,
               (
                 calm.the_send,
-                (option.the_field_send Entry.the_row entry.the_send, tt),
+                (option.the_field_send Entry.the_row entry.the_send, (reserve.the_field_send, tt)),
               ),
             ),
           ),

@@ -114,6 +114,7 @@ impl Blank {
     {
         let first = StoreCatalogue::new(alloc, limit)?;
         let second = first.copy()?;
+        // Never: no right to add was made before.
         let new_history = NewHistory::new().ok_or(AllocError)?;
         Ok(Blank {
             alloc,
@@ -168,7 +169,7 @@ impl Blank {
         let list: NamedList<N> = NamedList::new(prefix);
         match seats(alloc, &mut writer, &list, places) {
             Ok(seats) => Ok((
-                VersionWriter::over(rt, writer, WholeHistory::new(list, word, right)),
+                VersionWriter::over(rt, alloc, writer, WholeHistory::new(list, word, right)),
                 seats,
             )),
             Err(_) => {

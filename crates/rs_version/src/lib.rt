@@ -26,6 +26,7 @@ mod law;
 mod named;
 mod prefix;
 mod receipt;
+mod reserve;
 mod rule;
 mod seat;
 mod version;

@@ -149,14 +149,14 @@ impl<N: StoreName> WholeHistory<N> {
     ///
     /// # Errors
     ///
-    /// [`AllocError`] if the next right is for another entry. Never: there is one word that counts the rights, and it is here. The rule of
-    /// the word cannot express that.
+    /// [`AllocError`] if the next right is for another entry, which never is.
     pub fn add(&mut self, entry: &Entry) -> Result<(), AllocError>
         requires { IsLegal N.limit (extended self.old entry.now) }
         ensures { MatchResult result (λ _. self.new ≡ extended self.old entry.now) (λ _. self.new ≡ self.old) }
     {
         let prefix = self.list.prefix();
         let Some(longer) = prefix.followed(&self.word, &mut self.right, entry) else {
+            // Never: the one word that counts the rights is here. Its rule cannot express that.
             return Err(AllocError);
         };
         self.list = NamedList::new(longer);

@@ -161,6 +161,7 @@ impl<N: StoreName> Seat<N> {
         ensures legal { IfOk result (λ v. IsLegal N.limit v) }
     {
         let Some(reader) = self.reader.take() else {
+            // Never: the reader is put back after each look.
             return Err(AllocError);
         };
         match reader.enter_as::<Sees>() {

@@ -1,6 +1,6 @@
 //! The one writer of a store.
 
-ghost use Rattle.std.specs.Prelude.{◌≡◌, ◌≢◌, ◌⊎◌, false, List, [], length, drop, Some, None, MatchOption, MatchResult, IfOk, IfErr, IfNone, IfSome, OnErr, OnOk, OnSome};
+ghost use Rattle.std.specs.Prelude.{◌≡◌, ◌≢◌, ◌≤◌, ◌∷◌, ◌⊎◌, false, List, [], fold, length, drop, Some, None, MatchOption, MatchResult, IfOk, IfErr, IfNone, IfSome, OnErr, OnOk, OnSome};
 ghost use Rattle.std.specs.Option.{option_map};
 ghost use mathlib.Core.List.{IsPrefix};
 ghost use Rattle.rs_message.specs.Messages.{is_sweep};
@@ -10,7 +10,9 @@ ghost use Rattle.rs_store.specs.Expiring.{NoneExpiredBefore};
 ghost use Rattle.rs_message.specs.declared.entry.Entry.{Entry};
 ghost use Rattle.rs_store.specs.History.{IsLegal, Stands, extended};
 ghost use Rattle.rs_version.specs.Catalogues.{content_of};
+ghost use Rattle.rs_version.specs.Copies.{shown, steps_of};
 ghost use Rattle.rs_version.specs.Receipts.{StandsAt};
+ghost use Rattle.rs_version.specs.VersionRule.{Follows, applied, state};
 ghost use Rattle.rs_version.specs.Writer.{Written, Declines, IsReady, Precedes, Refuses, holds_back, kept_of, released, shows};
 
 use crate::catalogue::StoreCatalogue;
@@ -20,9 +22,10 @@ use crate::fault::PutFault;
 use crate::history::StoreName;
 use crate::named::{NamedList, WholeHistory};
 use crate::receipt::{Receipt, Told};
-use rs_message::{Entry, Origin};
+use crate::reserve::Reserve;
+use rs_message::{Entry, Operation, Origin};
 use rs_store::{Calm, Refusal, judge};
-use std::alloc::AllocError;
+use std::alloc::{AllocError, Global};
 use std::marker::Model;
 use std::sync::Wait;
 
@@ -39,6 +42,7 @@ pub struct VersionWriter<N: StoreName, R: Wait + Drop> {
     // Of the catalogue that the kept list makes. Entries are judged by it, on the published copy.
     calm: Calm,
     held: Option<Entry>,
+    reserve: Reserve,
 }
 
 impl<N: StoreName, R: Wait + Drop> Model for VersionWriter<N, R> {
@@ -72,15 +76,28 @@ fn judge_on(
     }
 }
 
-/// Adds an entry to the history, and gives its step. Its copy is made first, so a refusal leaves the history as it was.
+/// Whether the entry may take the last memory: what a Clear clears is given back.
+fn may_take_last(entry: &Entry) -> bool {
+    match &entry.operation {
+        Operation::Clear(_) => true,
+        Operation::Set(_) | Operation::Sweep(_) => false,
+    }
+}
+
+/// Adds an entry to the history, and gives its step. The reserve is filled first, unless the entry may take the last memory, and the copy
+/// is made, so a refusal leaves the history as it was.
 fn next_step<N: StoreName>(
     history: &mut WholeHistory<N>,
+    reserve: &mut Reserve,
     entry: &Entry,
 ) -> Result<CopyStep, AllocError>
     requires { IsLegal N.limit (extended history.old entry.now) }
     ensures step { IfOk result (λ s. (s.entry ≡ entry.now) × (s.after.history ≡ N.history) × (s.after.log ≡ history.new)) }
     ensures history { MatchResult result (λ _. history.new ≡ extended history.old entry.now) (λ _. history.new ≡ history.old) }
 {
+    if !may_take_last(entry) {
+        reserve.fill()?;
+    }
     let copy = entry.copy()?;
     history.add(entry)?;
     let list = history.list();
@@ -88,6 +105,24 @@ fn next_step<N: StoreName>(
         entry: copy,
         after: list.prefix(),
     })
+}
+
+/// Publishes the step, if there is one. If memory is refused, the reserve is given back, and it is tried once more.
+fn publish<R: Wait>(rt: &R, copies: &mut Copies, reserve: &mut Reserve) -> Result<(), AllocError>
+    requires one { length (steps_of copies.old) ≤ 1 }
+    requires follows { (s : CopyStep) → steps_of copies.old ≡ s ∷ [] → Follows (shown copies.old) s }
+    ensures { MatchResult result
+        (λ _. (state (shown copies.new) ≡ fold applied (state (shown copies.old)) (steps_of copies.old)) × (steps_of copies.new ≡ []))
+        (λ _. (shown copies.new ≡ shown copies.old) × (steps_of copies.new ≡ steps_of copies.old)) }
+{
+    if copies.publish(rt).is_ok() {
+        return Ok(());
+    }
+    if !reserve.give_back() {
+        // Refused: the publish.
+        return Err(AllocError);
+    }
+    copies.publish(rt)
 }
 
 impl<N: StoreName, R: Wait + Drop> Drop for VersionWriter<N, R> {
@@ -98,6 +133,7 @@ impl<N: StoreName, R: Wait + Drop> Drop for VersionWriter<N, R> {
             history: _history,
             calm: _calm,
             held: _held,
+            reserve: _reserve,
         } = self;
         copies.end(&rt);
     }
@@ -105,7 +141,12 @@ impl<N: StoreName, R: Wait + Drop> Drop for VersionWriter<N, R> {
 
 impl<N: StoreName, R: Wait + Drop> VersionWriter<N, R> {
     /// Over copies without entries.
-    pub(crate) fn over(rt: R, writer: CopyWriter, history: WholeHistory<N>) -> VersionWriter<N, R>
+    pub(crate) fn over(
+        rt: R,
+        alloc: Global,
+        writer: CopyWriter,
+        history: WholeHistory<N>,
+    ) -> VersionWriter<N, R>
         requires steps { drop writer.behind writer.log.items ≡ [] }
         requires history { (writer.desk.shown.value.prefix.history ≡ N.history) × (history ≡ []) × (writer.desk.shown.value.prefix.log ≡ []) }
         requires content { content_of writer.desk.shown.value.catalogue ≡ empty N.limit }
@@ -120,6 +161,7 @@ impl<N: StoreName, R: Wait + Drop> VersionWriter<N, R> {
             history,
             calm: Calm::new(),
             held: None,
+            reserve: Reserve::new(alloc),
         }
     }
 
@@ -130,7 +172,7 @@ impl<N: StoreName, R: Wait + Drop> VersionWriter<N, R> {
         let Some(_held) = &self.held else {
             return Ok(None);
         };
-        self.copies.publish(&self.rt)?;
+        publish(&self.rt, &mut self.copies, &mut self.reserve)?;
         Ok(self.held.take())
     }
 
@@ -154,7 +196,7 @@ impl<N: StoreName, R: Wait + Drop> VersionWriter<N, R> {
         // For the proof: these calls say which places and serials an origin may have.
         let (_place, _serial) = (entry.origin.place(), entry.origin.serial());
         let calm = self.calm.after(&entry);
-        let step = next_step(&mut self.history, &entry)?;
+        let step = next_step(&mut self.history, &mut self.reserve, &entry)?;
         self.copies.push(step);
         self.calm = calm;
         self.held = Some(entry);

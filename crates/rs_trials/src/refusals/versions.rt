@@ -20,8 +20,8 @@ const TOPICS: u32 = 16;
 /// How many rounds are made, of one or two new topics each. From some round on each topic needs a Sweep, which takes the oldest one.
 const ROUNDS: u32 = 24;
 
-/// How often a put is tried: memory is refused to two allocations in a row at most.
-const TRIES: u32 = 3;
+/// How often a put is tried: memory is refused to three allocations in a row at most.
+const TRIES: u32 = 4;
 
 /// What became of a `put` or a `retry`.
 #[derive(Clone, Copy)]
