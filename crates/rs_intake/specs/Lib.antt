@@ -12,3 +12,4 @@ pub mod ReplyRule
 pub mod Sending
 pub mod Settling
 pub mod Sweeps
+pub mod Fullness

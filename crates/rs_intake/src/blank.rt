@@ -8,6 +8,7 @@ ghost use Rattle.rs_intake.specs.Names.{IsQueue, IsIn};
 ghost use Rattle.rs_intake.specs.Done.{untold};
 ghost use Rattle.rs_intake.specs.Lines.{new_lines};
 
+use crate::fullness::{Fullness, FullnessWriter};
 use crate::intake::Intake;
 use crate::job::Job;
 use crate::line::{LineSender, SeatLine};
@@ -22,6 +23,7 @@ use crossbeam_channel::{Pass, bounded_with};
 use rs_message::PlaceCount;
 use std::alloc::{AllocError, Global};
 use std::marker::Model;
+use std::sync::Arc;
 
 /// A queue without lines, before it has a name. Contracts see which one it is, and the number of its places.
 #[derive(Drop)]
@@ -30,6 +32,7 @@ pub struct BlankQueue {
     receiver: JobReceiver,
     pass: Pass<Job, PassView>,
     places: PlaceCount,
+    fullness: Arc<Fullness>,
     alloc: Global,
 }
 
@@ -59,11 +62,13 @@ pub fn blank_queue(alloc: Global, places: PlaceCount) -> Result<BlankQueue, Allo
         alloc,
         places.get() as usize,
     )?;
+    let fullness = Arc::new(alloc, Fullness::new()).map_err(|_| AllocError)?;
     Ok(BlankQueue {
         sender,
         receiver,
         pass,
         places,
+        fullness,
         alloc,
     })
 }
@@ -90,6 +95,15 @@ fn line<N: LineName>(
 }
 
 impl BlankQueue {
+    /// Whether its store is full, for whoever wants to tell of it.
+    ///
+    /// # Errors
+    ///
+    /// [`AllocError`] if it has too many owners.
+    pub fn fullness(&self) -> Result<Arc<Fullness>, AllocError> {
+        Arc::try_clone(&self.fullness)
+    }
+
     /// The way to the writer, the lines of the places from 1 on, which have sent nothing, and the writer's end of the queue, under a name
     /// that names this queue.
     ///
@@ -106,6 +120,7 @@ impl BlankQueue {
             receiver,
             mut pass,
             places,
+            fullness,
             alloc,
         } = self;
         let places = places.get();
@@ -120,7 +135,7 @@ impl BlankQueue {
         let queue = Queue::new(
             receiver,
             Taken::new(places, pass),
-            WaysBack::new(alloc, replies, ends),
+            WaysBack::new(alloc, replies, ends, FullnessWriter::new(fullness)),
         );
         Ok((Intake::new(), lines, queue))
     }

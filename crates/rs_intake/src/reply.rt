@@ -4,6 +4,7 @@ ghost use Rattle.std.specs.Prelude.{◌≡◌, ◌+◌, ◌<◌, ◌≤◌, ◌�
 ghost use Rattle.rs_intake.specs.Done.{ReplyValue, is_held, is_refused, refused_reply, refused_in, untold};
 ghost use Rattle.rs_intake.specs.Sending.{AreSentNext};
 
+use crate::fullness::FullnessWriter;
 use crate::job::MAX_CHANGES;
 use crate::waiting;
 use crate::waiting::{Gone, LINE_LOOKS, Patience, receive};
@@ -109,6 +110,13 @@ impl<N: StoreName> WriterReplies<N> {
         }
     }
 
+    /// Tells what the answers say of whether the store is full.
+    pub(crate) fn show(&self, fullness: &mut FullnessWriter) {
+        for reply in self.made.iter() {
+            fullness.note(&reply.answer);
+        }
+    }
+
     /// A reply to each of these changes, that memory was refused. Takes no memory.
     pub(crate) fn refusing(alloc: Global, changes: VecDeque<Entry>) -> WriterReplies<N>
         ensures { result ≡ map refused_reply changes.items }
@@ -129,6 +137,7 @@ impl<N: StoreName> WriterReplies<N> {
         match self.refused.pop_front() {
             Some(change) => Some(WriterReply {
                 origin: change.origin,
+                // Refused: the memory for these replies.
                 answer: Err(PutFault::NoMemory),
             }),
             None => None,

@@ -13,6 +13,7 @@ ghost use Rattle.rs_intake.specs.Sweeps.{IsKeptFrom};
 ghost use Rattle.rs_intake.specs.declared.job.TheConstants.{MAX_CHANGES};
 ghost use Rattle.rs_intake.specs.declared.reply.TheConstants.{FEW_REPLIES};
 
+use crate::fullness::FullnessWriter;
 use crate::job::Changes;
 use crate::name::LineName;
 use crate::reply::{ReplySender, WayEnd, WriterReplies, WriterReply};
@@ -55,6 +56,7 @@ fn reply_to_next<N: LineName, R: Wait + Drop>(
     ensures held { has_held.new ≡ (has_held.old || is_held result.answer) }
 {
     if *has_held {
+        // Refused: the memory for the change that is held before this one.
         return WriterReply {
             origin: entry.origin,
             answer: Err(PutFault::NoMemory),
@@ -133,6 +135,7 @@ fn put_and_send<N: LineName, R: Wait + Drop, W: Wait>(
     rt: &W,
     alloc: Global,
     to: &mut ReplySender<N>,
+    fullness: &mut FullnessWriter,
     writer: &mut VersionWriter<N, R>,
     changes: VecDeque<Entry>,
     at_once: usize,
@@ -148,6 +151,7 @@ fn put_and_send<N: LineName, R: Wait + Drop, W: Wait>(
     while !rest.is_empty() {
         let (replies, count) = next_replies(alloc, writer, &mut rest, &mut has_held, at_once);
         refused += count;
+        replies.show(fullness);
         to.send(rt, replies);
     }
     refused
@@ -161,6 +165,7 @@ pub struct WaysBack<N: LineName> {
     senders: Vec<ReplySender<N>>,
     // It is empty, and has the capacity for what is left of each.
     ends: Vec<WayEnd<N>>,
+    fullness: FullnessWriter,
     ghost reserved: { (ends.items ≡ []) × (length senders.items ≤ vec_capacity ends) },
 }
 
@@ -169,6 +174,7 @@ impl<N: LineName> WaysBack<N> {
         alloc: Global,
         senders: Vec<ReplySender<N>>,
         ends: Vec<WayEnd<N>>,
+        fullness: FullnessWriter,
     ) -> WaysBack<N>
         requires { (ends.items ≡ []) × (length senders.items ≤ vec_capacity ends) }
         ensures { result.senders ≡ senders }
@@ -177,6 +183,7 @@ impl<N: LineName> WaysBack<N> {
             alloc,
             senders,
             ends,
+            fullness,
         }
     }
 
@@ -202,6 +209,7 @@ impl<N: LineName> WaysBack<N> {
             rt,
             self.alloc,
             &mut self.senders[index],
+            &mut self.fullness,
             writer,
             entries,
             at_once,
@@ -216,6 +224,7 @@ impl<N: LineName> WaysBack<N> {
             alloc: _,
             senders,
             mut ends,
+            fullness: _fullness,
         } = self;
         for sender in senders {
             let Ok(()) = ends.push(sender.end()) else {

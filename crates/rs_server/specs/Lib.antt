@@ -3,3 +3,4 @@ pub mod Moments
 pub mod Counts
 pub mod Writing
 pub mod Conversation
+pub mod Refusals

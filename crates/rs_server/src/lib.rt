@@ -2,6 +2,7 @@
 //!
 //! [`serve`] reads the packets of one client, runs its session over a gate to the store, and writes and
 //! flushes the replies. The reader and the writer are [`Counted`], and a [`Clock`] tells the times.
+//! [`serve_counted`] does so too, and counts what the gate refused.
 //!
 //! However the input is split into reads, the bytes written are exactly the replies of the session to the
 //! packets decoded from it; if a write or an allocation fails, a prefix of them. [`Served`] says how the
@@ -15,6 +16,7 @@ mod assigned;
 mod clock;
 mod connection;
 mod counted;
+mod counted_gate;
 mod law;
 mod plan;
 mod writing;
@@ -22,5 +24,6 @@ mod writing;
 pub use clock::{Clock, Moments};
 pub use connection::{ConnectionId, Served, serve};
 pub use counted::Counted;
+pub use counted_gate::{CountedGate, Refusals, serve_counted};
 pub use law::inputs_determined;
 pub use writing::ServeFault;

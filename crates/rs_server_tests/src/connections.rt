@@ -3,6 +3,7 @@
 mod ahead;
 mod counted;
 mod handed;
+mod refusals;
 mod streams;
 
 use rs_server::ServeFault;

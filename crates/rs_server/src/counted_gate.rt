@@ -1,0 +1,218 @@
+//! A gate that counts what is refused.
+
+ghost use Rattle.std.specs.Prelude.{◌≡◌, ◌<◌, ◌-◌, ◌^◌, List, false, IfOk};
+ghost use Rattle.std.specs.Option.{option_map};
+ghost use Rattle.rs_message.specs.declared.entry.Entry.{Entry};
+ghost use Rattle.rs_message.specs.Messages.{is_sweep};
+ghost use Rattle.rs_store.specs.History.{IsAnswer, IsAnswerWithin};
+ghost use Rattle.rs_session.specs.Gate.{Grows, SendsAtMost, Submits, TakesPending, Uses, entry_by};
+ghost use Rattle.rs_server.specs.Clock.{TellsInOrder};
+ghost use Rattle.rs_server.specs.Conversation.{Causes, IsConnection, assigned_of, gate_view, start};
+ghost use Rattle.rs_server.specs.Counts.{failures_of, inner_of, next_count};
+ghost use Rattle.rs_server.specs.Refusals.{gate_of, none_refused, refusals_of, with_change, with_filter, with_filter_within};
+
+use crate::clock::Clock;
+use crate::connection::{ConnectionId, Served, serve};
+use crate::counted::Counted;
+use crate::writing::ServeFault;
+use rs_message::{Found, Operation, SubmitFault};
+use rs_session::Gate;
+use rs_topic::TopicFilter;
+use std::alloc::{AllocError, Global};
+use std::io::{Read, Write};
+use std::sync::Wait;
+
+/// How many changes and filters a gate refused, by cause. Each count stays at [`u64::MAX`].
+#[derive(Clone, Copy, Debug, PartialEq, Eq)]
+pub struct Refusals {
+    /// Changes for which the store was full ([`SubmitFault::Full`]).
+    pub full: u64,
+    /// Changes for which memory was refused ([`SubmitFault::NoMemory`]).
+    pub no_memory: u64,
+    /// Changes of which it is not known whether they were made ([`SubmitFault::Open`], [`SubmitFault::Strange`]), and those that came
+    /// when the store took no more ([`SubmitFault::Closed`]).
+    pub unknown: u64,
+    /// Filters for whose answer memory was refused.
+    pub filters_no_memory: u64,
+    /// Filters whose answer has more messages than may wait.
+    pub filters_too_long: u64,
+}
+
+impl Refusals {
+    /// Nothing was refused.
+    pub fn none() -> Refusals
+        ensures { result ≡ none_refused }
+    {
+        Refusals {
+            full: 0,
+            no_memory: 0,
+            unknown: 0,
+            filters_no_memory: 0,
+            filters_too_long: 0,
+        }
+    }
+
+    /// Counts the answer to a change.
+    fn change(&mut self, answer: &Result<(), SubmitFault>)
+        ensures { self.new ≡ with_change answer.now self.old }
+    {
+        match answer {
+            Ok(()) => {}
+            Err(SubmitFault::Full) => self.full = self.full.saturating_add(1),
+            Err(SubmitFault::NoMemory) => self.no_memory = self.no_memory.saturating_add(1),
+            Err(SubmitFault::Open | SubmitFault::Strange | SubmitFault::Closed) => {
+                self.unknown = self.unknown.saturating_add(1);
+            }
+        }
+    }
+
+    /// Counts a filter for whose answer memory was refused.
+    fn filter_no_memory(&mut self)
+        ensures { self.new ≡ record self.old { filters_no_memory = next_count self.old.filters_no_memory } }
+    {
+        self.filters_no_memory = self.filters_no_memory.saturating_add(1);
+    }
+}
+
+/// A gate, and what it refused. It passes each call on.
+#[derive(Drop)]
+pub struct CountedGate<G> {
+    inner: G,
+    refusals: Refusals,
+}
+
+impl<G> CountedGate<G> {
+    /// A gate that has refused nothing yet.
+    pub fn new(inner: G) -> CountedGate<G>
+        ensures gate { gate_of result ≡ inner }
+        ensures counts { refusals_of result ≡ none_refused }
+    {
+        CountedGate {
+            inner,
+            refusals: Refusals::none(),
+        }
+    }
+
+    /// The gate, and what it refused.
+    pub fn into_parts(self) -> (G, Refusals)
+        ensures gate { result.0 ≡ gate_of self }
+        ensures counts { result.1 ≡ refusals_of self }
+    {
+        let CountedGate { inner, refusals } = self;
+        (inner, refusals)
+    }
+}
+
+impl<G: Gate> Gate for CountedGate<G> {
+    ghost stands = { λ it. G.stands it.inner };
+
+    ghost mark = { λ it. G.mark it.inner };
+
+    ghost pending = { λ it. G.pending it.inner };
+
+    ghost most = { G.most };
+
+    fn most_expected(&self) -> usize {
+        self.inner.most_expected()
+    }
+
+    fn expect(&mut self, changes: Vec<Operation>) {
+        self.inner.expect(changes);
+    }
+
+    fn has_pending(&self) -> bool {
+        self.inner.has_pending()
+    }
+
+    /// Counts the answer, if it is a fault.
+    fn submit(&mut self, operation: Operation) -> Result<(), SubmitFault>
+        requires { is_sweep operation ≡ false }
+        ensures list { Grows (G.stands (gate_of self.old)) (G.stands (gate_of self.new)) (Submits operation (G.mark (gate_of self.old)) (G.mark (gate_of self.new)) result) }
+        ensures mark { Uses (G.mark (gate_of self.old)) (G.mark (gate_of self.new)) }
+        ensures sent { SendsAtMost (G.mark (gate_of self.old)).sent (entry_by operation (G.mark (gate_of self.new))) (G.mark (gate_of self.new)).sent }
+        ensures pending { TakesPending operation (G.mark (gate_of self.old)) (G.mark (gate_of self.new)) result (G.pending (gate_of self.old)) (G.pending (gate_of self.new)) }
+        ensures counts { refusals_of self.new ≡ with_change result (refusals_of self.old) }
+    {
+        let answer = self.inner.submit(operation);
+        self.refusals.change(&answer);
+        answer
+    }
+
+    /// Counts the filter, if memory is refused.
+    fn answer(&mut self, filter: &TopicFilter, now: u64) -> Result<Vec<Found>, AllocError>
+        ensures list { Grows (G.stands (gate_of self.old)) (G.stands (gate_of self.new))
+            (λ seen list. IfOk result (λ found. IsAnswer list filter.now now found.items)) }
+        ensures mark { G.mark (gate_of self.new) ≡ G.mark (gate_of self.old) }
+        ensures pending { G.pending (gate_of self.new) ≡ G.pending (gate_of self.old) }
+        ensures counts { refusals_of self.new ≡ with_filter result (refusals_of self.old) }
+    {
+        let answer = self.inner.answer(filter, now);
+        if answer.is_err() {
+            self.refusals.filter_no_memory();
+        }
+        answer
+    }
+
+    /// Counts the filter, if memory is refused or the answer has more messages than there is room for.
+    fn answer_within(
+        &mut self,
+        filter: &TopicFilter,
+        now: u64,
+        room: usize,
+    ) -> Result<Option<Vec<Found>>, AllocError>
+        ensures list { Grows (G.stands (gate_of self.old)) (G.stands (gate_of self.new))
+            (λ seen list. IfOk result (λ answer. IsAnswerWithin room list filter.now now (option_map (λ found. found.items) answer))) }
+        ensures mark { G.mark (gate_of self.new) ≡ G.mark (gate_of self.old) }
+        ensures pending { G.pending (gate_of self.new) ≡ G.pending (gate_of self.old) }
+        ensures counts { refusals_of self.new ≡ with_filter_within result (refusals_of self.old) }
+    {
+        let answer = self.inner.answer_within(filter, now, room);
+        match &answer {
+            Ok(Some(_)) => {}
+            Ok(None) => {
+                self.refusals.filters_too_long = self.refusals.filters_too_long.saturating_add(1);
+            }
+            Err(AllocError) => self.refusals.filter_no_memory(),
+        }
+        answer
+    }
+}
+
+/// Serves one connection as [`serve`] does, over a [`CountedGate`]: how it ends, the gate, and what it refused. No clause says how many
+/// calls of the gate there are: one for each publication that asks for a change, and one for each filter whose retained messages are to be
+/// sent, if the session has the memory and the space for it.
+///
+/// # Errors
+///
+/// As [`serve`].
+pub fn serve_counted<H: Wait, R: Read, W: Write, G: Gate, C: Clock>(
+    rt: &H,
+    alloc: Global,
+    reader: &mut Counted<R>,
+    writer: &mut Counted<W>,
+    gate: G,
+    id: ConnectionId,
+    clock: &mut C,
+) -> (Result<Served, ServeFault>, G, Refusals)
+    requires reader_can_rise { failures_of reader.old < 2 ^ 64 - 1 }
+    requires writer_can_rise { failures_of writer.old < 2 ^ 64 - 1 }
+    ensures conversation { (seen : List Entry) → G.stands gate seen
+        → IsConnection (start (assigned_of id.place id.number) seen (G.mark gate)) (G.pending gate) G.most (gate_view G.stands G.mark G.pending result.1)
+        (record {
+          unread = R.remaining (inner_of reader.old);
+          rest = R.remaining (inner_of reader.new);
+          written = W.contents (inner_of writer.old);
+          more = W.contents (inner_of writer.new);
+          told = TellsInOrder (C.moments clock.old) (C.moments clock.new);
+        }) result.0 }
+    ensures cause { Causes result.0 (failures_of reader.old) (failures_of reader.new)
+        (failures_of writer.old) (failures_of writer.new) }
+{
+    let counted = CountedGate {
+        inner: gate,
+        refusals: Refusals::none(),
+    };
+    let (served, counted) = serve(rt, alloc, reader, writer, counted, id, clock);
+    let CountedGate { inner, refusals } = counted;
+    (served, inner, refusals)
+}
