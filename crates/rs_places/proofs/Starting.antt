@@ -1,9 +1,7 @@
--- Lists that grow by one, and what is left of places and clients beside what they began with.
-use Rattle.std.proofs.Common.{◌≡◌, ◌⊎◌, ⊎_elim, ℕ, suc, ◌+◌, ◌==◌, ◌<◌, ◌≤◌, Bool, true, List, [], ◌∷◌, ◌++◌, length, map, refl, sym, ap, subst, ◌∙◌, append_assoc, length-append, arith}
-use Rattle.std.proofs.lemmas.Bool.Decides.{nat_tests}
+-- Lists that grow by one, and what is left of places beside what they began with.
+use Rattle.std.proofs.Common.{◌≡◌, ◌⊎◌, ⊎_elim, ℕ, suc, ◌+◌, ◌<◌, ◌≤◌, List, [], ◌∷◌, ◌++◌, length, map, refl, sym, ap, subst, ◌∙◌, append_assoc, length-append, arith}
 use Rattle.std.proofs.lemmas.List.{append-nil, length-map, map-append}
 use Rattle.std.specs.List.{AllByRecursion, AllZip}
-use Rattle.rs_places.specs.Fleet.{Client, client_at, client_with, clients_of}
 use Rattle.rs_places.specs.Places.{Place, places_of}
 use Rattle.rs_places.specs.Shared.{SharedValue}
 use Rattle.rs_places.specs.Turns.{Plan}
@@ -72,38 +70,6 @@ each_with R S P Q to [] (y ∷ ys) each first second = absurd each
 each_with R S P Q to (x ∷ xs) [] each first second = absurd each
 each_with R S P Q to (x ∷ xs) (y ∷ ys) each first second = (to x y each.0 first.0 second.0, each_with R S P Q to xs ys each.1 first.1 second.1)
 
--- the first turn that is left is that of the next client
-pub next_client : {T E : Type 0} (gates : List SharedValue) (plan : T → Plan) (f : E → Client) (all more : List E) (one : E) (turns left : List T) (turn : T) (number next : ℕ) (whole : List Client)
-    → more ≡ all ++ one ∷ [] → f one ≡ client_at gates number (plan turn) → turns ≡ turn ∷ left → next ≡ number + 1 → map f all ++ clients_of gates number (map plan turns) ≡ whole
-    → map f more ++ clients_of gates next (map plan left) ≡ whole
-next_client {T} gates plan f all more one turns left turn number next whole pushed is taken following so_far =
-    let rest : ℕ → List Client = λ n. clients_of gates n (map plan left) in
-    let grown : map f more ≡ map f all ++ f one ∷ [] = ap (map f) pushed ∙ map-append f all (one ∷ []) in
-    let first_is : clients_of gates number (map plan turns) ≡ client_at gates number (plan turn) ∷ rest (number + 1) = ap (λ (l : List T). clients_of gates number (map plan l)) taken in
-    ap (λ l. l ++ rest next) grown
-    ∙ (append_assoc (map f all) (f one ∷ []) (rest next)
-    ∙ (ap (λ c. map f all ++ c ∷ rest next) is
-    ∙ (ap (λ n. map f all ++ client_at gates number (plan turn) ∷ rest n) following ∙ (ap (λ l. map f all ++ l) (sym first_is) ∙ so_far))))
-
--- no turn is left
-pub no_client : {T E : Type 0} (gates : List SharedValue) (plan : T → Plan) (f : E → Client) (all : List E) (turns : List T) (number : ℕ) (whole : List Client)
-    → map f all ++ clients_of gates number (map plan turns) ≡ whole → turns ≡ [] → map f all ≡ whole
-no_client {T} gates plan f all turns number whole so_far none =
-    sym (append-nil (map f all)) ∙ (ap (λ (l : List T). map f all ++ clients_of gates number (map plan l)) (sym none) ∙ so_far)
-
-pub same_client : {T : Type 0} (plan : T → Plan) (t u : T) (g h : SharedValue) (m n : ℕ) → t ≡ u → g ≡ h → m ≡ n → client_with (plan t) g m ≡ client_with (plan u) h n
-same_client {T} plan t u g h m n e f k = ap (λ (t : T). client_with (plan t) g m) e ∙ (ap (λ v. client_with (plan u) v m) f ∙ ap (client_with (plan u) h) k)
-
-pub clients_length : (gates : List SharedValue) (number : ℕ) (plans : List Plan) → length (clients_of gates number plans) ≡ length plans
-clients_length gates number [] = refl
-clients_length gates number (plan ∷ plans) = let h = clients_length gates (number + 1) plans in omega (arith, h)
-
-pub next_of : {A B : Type 0} (f : A → B) (xs left : List A) (x : A) → xs ≡ x ∷ left → map f xs ≡ f x ∷ map f left
-next_of f xs left x first = ap (map f) first
-
-pub same_of : {A B : Type 0} (f : A → B) (xs ys : List A) → xs ≡ ys → map f xs ≡ map f ys
-same_of f xs ys same = ap (map f) same
-
 -- ---- one more within a capacity, in numbers alone
 
 pub few_at_first : (threads served left all : ℕ) → threads ≡ 0 → served ≡ 0 → left ≡ all → threads + served + left ≤ all
@@ -118,14 +84,14 @@ few_threads threads more served left rest all few one next = omega arith
 pub few_so_far : (threads served left all : ℕ) → threads + served + left ≤ all → threads + served ≤ all
 few_so_far threads served left all few = omega arith
 
-pub still_fits : (all capacity more : ℕ) → all ≤ capacity → capacity ≤ more → all ≤ more
+pub still_fits : (all capacity more : ℕ) → all ≤ capacity → more ≡ capacity → all ≤ more
 still_fits all capacity more a b = omega arith
 
-pub thread_fits : (threads served left rest all capacity : ℕ) → threads + served + left ≤ all → left ≡ suc rest → all ≤ capacity → threads < capacity
-thread_fits threads served left rest all capacity few next fits = omega arith
+pub thread_fits : (threads served left rest all len capacity : ℕ) → threads + served + left ≤ all → left ≡ suc rest → len ≡ threads → all ≤ capacity → len < capacity
+thread_fits threads served left rest all len capacity few next is fits = omega arith
 
-pub served_fits : (threads served left rest all capacity : ℕ) → threads + served + left ≤ all → left ≡ suc rest → all ≤ capacity → served < capacity
-served_fits threads served left rest all capacity few next fits = omega arith
+pub served_fits : (threads served left rest all len capacity : ℕ) → threads + served + left ≤ all → left ≡ suc rest → len ≡ served → all ≤ capacity → len < capacity
+served_fits threads served left rest all len capacity few next is fits = omega arith
 
 -- ---- threads that are started
 
@@ -140,10 +106,6 @@ started_none {A} {B} R f h threads served rest whole no_threads none same =
     let P : List A → Type 0 = λ l. StartedSoFar R (map f l) (map h served) rest whole in
     let Q : List B → Type 0 = λ l. StartedSoFar R [] (map h l) rest whole in
     subst P (sym no_threads) (subst Q (sym none) (record { here = []; all = same; each = tt }))
-
--- what is empty has no length
-pub is_zero : (len : ℕ) (empty : Bool) → empty ≡ (len == 0) → empty ≡ true → len ≡ 0
-is_zero len empty same full = grind (arith, nat_tests)
 
 no_items : {A : Type 0} (xs : List A) → length xs ≡ 0 → xs ≡ []
 no_items [] none = refl
@@ -218,8 +180,3 @@ few_ends R plans gates h ends served =
 -- as many ends as threads
 pub as_many : {A B X Y : Type 0} (R : X → Y → Type 0) (f : A → X) (h : B → Y) (threads : List A) (ends : List B) → AllZip R (map f threads) (map h ends) → length threads ≡ length ends
 as_many R f h threads ends served = sym (length-map threads f) ∙ (each_length R (map f threads) (map h ends) served ∙ length-map ends h)
-
--- as many ends as turns
-pub as_many_clients : {T B Y : Type 0} (R : Client → Y → Type 0) (gates : List SharedValue) (plan : T → Plan) (turns : List T) (h : B → Y) (ends : List B) → AllZip R (clients_of gates 0 (map plan turns)) (map h ends) → length turns ≡ length ends
-as_many_clients R gates plan turns h ends served =
-    sym (clients_length gates 0 (map plan turns) ∙ length-map turns plan) ∙ (each_length R (clients_of gates 0 (map plan turns)) (map h ends) served ∙ length-map ends h)

@@ -12,7 +12,7 @@ use Rattle.rs_server.specs.Counts.{failures_of, inner_of}
 use Rattle.rs_server.specs.declared.counted.Counted.{Counted}
 use Rattle.rs_server.specs.declared.connection.Served.{Served}
 use Rattle.rs_server.specs.declared.writing.ServeFault.{ServeFault}
-use Rattle.rs_places.specs.Places.{AreConnectionsServed, IsClientServed, IsPlaceServed, Place, ServesOne, Visit, next_number, place_at}
+use Rattle.rs_places.specs.Places.{AreConnectionsServed, IsPlaceServed, Place, ServesOne, Visit, next_number, place_at}
 use Rattle.rs_places.specs.Serving.{IsServedAt}
 use Rattle.rs_places.specs.Shared.{SharedValue, operations_of}
 use Rattle.rs_places.specs.Turns.{AreAll, Ending, Gave, GivesNext, Plan, Streams, TakesBack, TookBack}
@@ -29,7 +29,7 @@ gave_more (Some ws) None last xs ys p q = absurd p
 gave_more (Some ws) (Some vs) None xs ys p q = absurd q
 gave_more (Some ws) (Some vs) (Some us) xs ys p q = p ∙ (ap (λ l. xs ++ l) q ∙ sym (append_assoc xs ys us))
 
-all_given : (first then : Option (List Streams)) (xs : List Streams) → Gave first xs then → AreAll then [] → AreAll first xs
+pub all_given : (first then : Option (List Streams)) (xs : List Streams) → Gave first xs then → AreAll then [] → AreAll first xs
 all_given None then xs p q = tt
 all_given (Some ws) None xs p q = absurd p
 all_given (Some ws) (Some vs) xs p q = p ∙ (ap (λ l. xs ++ l) q ∙ append-nil xs)
@@ -38,7 +38,7 @@ took_none : (ended : Option (List Ending)) → TookBack ended [] ended
 took_none None = tt
 took_none (Some ended) = sym (append-nil ended)
 
-took_more : (first then last : Option (List Ending)) (xs ys : List Ending) → TookBack first xs then → TookBack then ys last → TookBack first (xs ++ ys) last
+pub took_more : (first then last : Option (List Ending)) (xs ys : List Ending) → TookBack first xs then → TookBack then ys last → TookBack first (xs ++ ys) last
 took_more first then None xs ys p q = tt
 took_more first None (Some us) xs ys p q = absurd q
 took_more None (Some vs) (Some us) xs ys p q = absurd p
@@ -108,23 +108,6 @@ place_served limit number first now plan told line so_far next told_is place sen
       sent = λ none. no_tail now.gate.mark.sent line.sent sent.0 now.gate.pending sent.1 sent.2 (so_far.pending none);
       closed = closed;
       line = of_line;
-    }
-
--- a client of a place, once its turn has no more connections
-pub client_served : (limit begin number : ℕ) (first now : Place) (plan : Plan) (told : List Entry) → ServedSoFar limit begin first number now → GivesNext now.plan None plan → told ≡ now.gate.known
-    → IsClientServed limit begin first (record { plan = plan; told = told })
-client_served limit begin number first now plan told so_far next told_is =
-    let P : List Visit → Type 0 = λ l. AreConnectionsServed limit begin first.gate l now.gate in
-    let Q : List Ending → Type 0 = λ l. TookBack first.plan.ended l plan.ended in
-    record {
-      visits = so_far.visits;
-      last = now.gate;
-      connections = subst P (append-nil so_far.visits) (so_far.extends [] now.gate refl);
-      all = all_given first.plan.waiting now.plan.waiting (map (λ (v : Visit). v.given) so_far.visits) so_far.given next.waiting;
-      ended = subst Q (append-nil (map (λ (v : Visit). v.ending) so_far.visits))
-          (took_more first.plan.ended now.plan.ended plan.ended (map (λ (v : Visit). v.ending) so_far.visits) [] so_far.ended next.ended);
-      told = told_is;
-      place = so_far.place;
     }
 
 -- one connection, once it was given back

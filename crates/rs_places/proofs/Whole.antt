@@ -11,7 +11,7 @@ use Rattle.rs_store.proofs.Entries.{all_weaker}
 use Rattle.rs_version.specs.Receipts.{StandsAt}
 use Rattle.rs_version.specs.Writer.{Written, kept_of}
 use Rattle.rs_version.proofs.Origins.{origins_differ}
-use Rattle.rs_intake.specs.Lines.{AreOfLine, Closed, IsClosed, Line, new_lines}
+use Rattle.rs_intake.specs.Lines.{Closed, Line, new_lines}
 use Rattle.rs_intake.specs.Parts.{IsPart}
 use Rattle.rs_intake.specs.QueueRule.{of_place}
 use Rattle.rs_intake.specs.Done.{Answer, IsWritten, Told, is_refused, not_refused}
@@ -25,9 +25,7 @@ use Rattle.rs_session.specs.Run.{Exchange}
 use Rattle.rs_session.specs.Sent.{AreSentBy}
 use Rattle.rs_session.proofs.Sending.{both_sent, none_sent}
 use Rattle.rs_server.specs.Conversation.{AreLeft, assigned_of, start}
-use Rattle.rs_places.specs.Clients.{new_client, new_clients}
-use Rattle.rs_places.specs.Fleet.{Client, IsClientOf, IsFleetRun, IsTurnServed, clients_of, fleet_gates}
-use Rattle.rs_places.specs.Places.{AreConnectionsServed, ClientLeft, IsConnectionServed, IsPlaceServed, Left, Place, Visit, client_left, left_at, next_number, places_of}
+use Rattle.rs_places.specs.Places.{AreConnectionsServed, IsConnectionServed, IsPlaceServed, Left, Place, Visit, left_at, next_number, places_of}
 use Rattle.rs_places.specs.Shared.{SharedValue, handed_on, operations_of}
 use Rattle.rs_places.specs.Store.{ArePublications, AreWithin, IsLineOf, IsPlaceOf, IsSettled, IsStoreRun, IsUnsettled, IsWithin, IsWriterRun, gates_of, new_gates}
 use Rattle.rs_places.specs.Turns.{Plan}
@@ -98,7 +96,7 @@ connection_within limit number list gate visit legal one extends =
           stored_more limit _ exchange p (exchange.to.seen ∷ lists_of after) visit.gate.known list legal extends (served.stored before exchange after o p answer (sym one.exchanges ∙ whole) is_open told);
     }
 
-visits_within : (limit number : ℕ) (list : List Entry) (first : SharedValue) (visits : List Visit) (last : SharedValue) → IsLegal limit list → AreConnectionsServed limit number first visits last → Extends list last.known
+pub visits_within : (limit number : ℕ) (list : List Entry) (first : SharedValue) (visits : List Visit) (last : SharedValue) → IsLegal limit list → AreConnectionsServed limit number first visits last → Extends list last.known
     → Extends list first.known × AreWithin list number first visits
 visits_within limit number list first [] last legal same extends = let P : SharedValue → Type 0 = λ gate. Extends list gate.known in (subst P same extends, tt)
 visits_within limit number list first (visit ∷ visits) last legal (one, more) extends =
@@ -137,7 +135,7 @@ not_refused_part (entry ∷ entries) (answer ∷ answers) = go (is_refused answe
     go true h = part_behind (not_refused entries answers) entries entry h
     go false h = inl (refl, h)
 
-written_part : (limit places : ℕ) (entries kept : List Entry) (ways : List Told) → IsWritten limit places entries kept ways → IsPart (without_sweeps kept) entries
+pub written_part : (limit places : ℕ) (entries kept : List Entry) (ways : List Told) → IsWritten limit places entries kept ways → IsPart (without_sweeps kept) entries
 written_part limit places entries kept ways w = let P : List Entry → Type 0 = λ l. IsPart l entries in subst P (sym w.changes) (not_refused_part entries w.answers)
 
 part_of_front : {A : Type 0} (xs ys zs : List A) → IsPart xs ys → IsPart xs (ys ++ zs)
@@ -173,9 +171,9 @@ place_sends limit place left fresh none served =
     let R : List Entry → Type 0 = λ l. ArePublications 1 place.gate served.visits l in
     subst R (sym is) are
 
--- ---- the writer, the lines, the places and the clients
+-- ---- the writer, the lines and the places
 
-abbrev writer_run : (limit places version : ℕ) (w : Written) (entries : List Entry) (ways : List Told) → IsWritten limit places entries (kept_of w) ways → IsLegal limit (kept_of w) → AreOfPlaces places entries → version ≡ length w.published
+abbrev pub writer_run : (limit places version : ℕ) (w : Written) (entries : List Entry) (ways : List Told) → IsWritten limit places entries (kept_of w) ways → IsLegal limit (kept_of w) → AreOfPlaces places entries → version ≡ length w.published
     → IsWriterRun limit places version
 writer_run limit places version w entries ways written legal placed version_is = record {
   history = kept_of w;
@@ -191,7 +189,7 @@ writer_run limit places version w entries ways written legal placed version_is =
   not_refused_of = λ place. ap (of_place place) written.changes;
 }
 
-line_of : (history entries : List Entry) (line : Closed) → IsPart (without_sweeps history) entries → Extends line.sent (of_place line.place entries) → IsLineOf history entries line
+pub line_of : (history entries : List Entry) (line : Closed) → IsPart (without_sweeps history) entries → Extends line.sent (of_place line.place entries) → IsLineOf history entries line
 line_of history entries line kept taken =
     let own = of_place line.place (without_sweeps history) in
     let Q : List Entry → Type 0 = λ l. IsPart own l in
@@ -216,18 +214,9 @@ place_of limit history entries place left legal kept served fresh known =
       line = line_of history entries left.line kept known.1;
     }
 
-client_of : (limit : ℕ) (history : List Entry) (client : Client) (left : ClientLeft) → IsLegal limit history → IsTurnServed limit client left → Extends history left.told → IsClientOf limit history client left
-client_of limit history client left legal served known =
-    let P : List Entry → Type 0 = λ l. Extends history l in
-    record {
-      served = served;
-      within = (visits_within limit client.first history client.place.gate served.visits served.last legal served.connections (subst P served.told known)).1;
-      known = known;
-    }
-
 -- ---- new places
 
-new_lines_length : (places : ℕ) → length (new_lines places) ≡ places
+pub new_lines_length : (places : ℕ) → length (new_lines places) ≡ places
 new_lines_length zero = refl
 new_lines_length (suc n) = let h = new_lines_length n in omega (arith, h, length-append (new_lines n) (record { place = suc n; serial = 0; sent = []; heard = []; came = []; expected = []; ahead = [] } ∷ []))
 
@@ -278,17 +267,6 @@ places_fresh [] lines fresh = tt
 places_fresh (plan ∷ plans) [] fresh = tt
 places_fresh (plan ∷ plans) (line ∷ lines) fresh = ((ap (λ (l : List Entry). Some l) fresh.0, refl), places_fresh plans lines fresh.1)
 
--- the gates of new clients at new places
-clients_new : (seats : List (List Entry)) (lines : List Line) → length seats ≡ length lines → AllByRecursion (λ seat. seat ≡ []) seats → new_clients seats lines ≡ map (λ line. new_client [] line.place) lines
-clients_new [] [] same none = refl
-clients_new [] (line ∷ lines) same none = absurd (omega (arith, same))
-clients_new (seat ∷ seats) [] same none = absurd (omega (arith, same))
-clients_new (seat ∷ seats) (line ∷ lines) same none =
-    ap (λ known. new_client known line.place ∷ new_clients seats lines) none.0 ∙ ap (λ l. new_client [] line.place ∷ l) (clients_new seats lines (omega (arith, same)) none.1)
-
-fleet_gates_length : (places : ℕ) → length (fleet_gates places) ≡ places
-fleet_gates_length places = length-map (new_lines places) (λ line. new_client [] line.place) ∙ new_lines_length places
-
 -- ---- maps
 
 pub push_map : {A B : Type 0} (f : A → B) (xs : List A) (x : A) (ys more : List B) → more ≡ ys ++ f x ∷ [] → ys ≡ map f xs → more ≡ map f (xs ++ x ∷ [])
@@ -307,17 +285,13 @@ pub map_map : {A B C : Type 0} (f : B → C) (g : A → B) (xs : List A) → map
 map_map f g [] = refl
 map_map f g (x ∷ xs) = ap (λ l. f (g x) ∷ l) (map_map f g xs)
 
-all_any : {A : Type 0} (xs : List A) → AllByRecursion (λ x. Unit {0}) xs
-all_any [] = tt
-all_any (x ∷ xs) = (tt, all_any xs)
-
 -- what holds of each, and what holds of each as it is seen
 all_both : {E A B : Type 0} (f : E → A) (P : E → Type 0) (C : A → Type 0) (g : E → B) (Q : B → Type 0) → ((e : E) → P e → C (f e) → Q (g e)) → (es : List E)
     → AllByRecursion P es → AllByRecursion C (map f es) → AllByRecursion Q (map g es)
 all_both f P C g Q to [] first second = tt
 all_both f P C g Q to (e ∷ es) first second = (to e first.0 second.0, all_both f P C g Q to es first.1 second.1)
 
-all_seen : {E B : Type 0} (g : E → B) (P : E → Type 0) (Q : B → Type 0) → ((e : E) → P e → Q (g e)) → (es : List E) → AllByRecursion P es → AllByRecursion Q (map g es)
+pub all_seen : {E B : Type 0} (g : E → B) (P : E → Type 0) (Q : B → Type 0) → ((e : E) → P e → Q (g e)) → (es : List E) → AllByRecursion P es → AllByRecursion Q (map g es)
 all_seen g P Q to [] all = tt
 all_seen g P Q to (e ∷ es) all = (to e all.0, all_seen g P Q to es all.1)
 
@@ -392,42 +366,4 @@ store_run {T} {E} turns ends plan turn told line own limit places turns_left sea
       count = omega (arith, each, all, gates_count);
       turns = after;
       settled = none_more changes _ _ _ (λ unsettled. unsettled once) (subst S lines_left settled);
-    })
-
--- a run of a store whose places clients shared
-pub fleet_run : {T E : Type 0} (turns : List T) (ends : List E) (plan : T → Plan) (turn : E → T) (told : E → List Entry) (own limit places : ℕ) (turns_left : List T)
-    (seats : List (List Entry)) (lines : List Line) (gates : List SharedValue) (closed : List Closed) (w : Written) (entries : List Entry) (ways : List Told) (version : ℕ) (changes : Option ℕ)
-    → own ≡ limit → length seats ≡ places → All (λ seat. seat ≡ []) seats → lines ≡ new_lines places → gates ≡ new_clients seats lines
-    → AllZip (IsTurnServed limit) (clients_of gates 0 (map plan turns)) (map (λ e. client_left (plan (turn e)) (told e)) ends)
-    → length closed ≡ length gates → All (λ line. IsClosed line.place line.ends line.gone × AreOfLine line.place line.sent) closed → IsWritten limit places entries (kept_of w) ways → IsLegal limit (kept_of w) → All (λ e. IsPrefix (told e) (kept_of w)) ends
-    → AreTakenInOrder entries closed → MatchOption changes (EachOnce places closed → IsUnsettled entries closed) (IsSettled places entries closed)
-    → AreOfPlaces places entries → version ≡ length w.published → turns_left ≡ map turn ends
-    → IsFleetRun own places (map plan turns) (map plan turns_left) version changes
-fleet_run {T} {E} turns ends plan turn told own limit places turns_left seats lines gates closed w entries ways version changes same count none lines_is gates_is served closed_count each_closed written legal known taken settled placed version_is left_is =
-    let history = kept_of w in
-    let kept = written_part limit places entries history ways written in
-    let h : E → ClientLeft = λ e. client_left (plan (turn e)) (told e) in
-    let left = map h ends in
-    let after : map plan turns_left ≡ map (λ end. end.plan) left =
-    ap (map plan) left_is ∙ (map_map plan turn ends ∙ sym (map_map (λ (end : ClientLeft). end.plan) h ends)) in
-    let K : E → Type 0 = λ e. IsPrefix (told e) history in
-    let Told : ClientLeft → Type 0 = λ end. Extends history end.told in
-    let all_known : AllByRecursion Told left = all_seen h K Told (λ e k. (k.0, sym k.1)) ends (recursion_from_All K ends known) in
-    let new : gates ≡ fleet_gates places =
-    gates_is ∙ (ap (λ l. new_clients seats l) lines_is ∙ clients_new seats (new_lines places) (count ∙ sym (new_lines_length places)) (recursion_from_All (λ seat. seat ≡ []) seats none)) in
-    let P : List SharedValue → Type 0 = λ l. AllZip (IsTurnServed limit) (clients_of l 0 (map plan turns)) left in
-    let clients = clients_of (fleet_gates places) 0 (map plan turns) in
-    let Any : Client → Type 0 = λ client. Unit {0} in
-    let R : ℕ → Type 0 = λ l. IsFleetRun l places (map plan turns) (map plan turns_left) version changes in
-    subst R (sym same) (record {
-      writer = writer_run limit places version w entries ways written legal placed version_is;
-      left = left;
-      each = each_with (IsTurnServed limit) (IsClientOf limit history) Any Told (λ client end one any k. client_of limit history client end legal one k) clients left (subst P new served) (all_any clients) all_known;
-      turns = after;
-      lines = closed;
-      count = closed_count ∙ (ap length new ∙ fleet_gates_length places);
-      each_line = λ k d within. let t = taken k d within in line_of history entries (get_or closed k d) kept (t.0, sym t.1);
-      closed = λ k d within. (each_closed k d within).0;
-      serials = λ k d within. (each_closed k d within).1;
-      settled = settled;
     })

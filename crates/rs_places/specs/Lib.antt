@@ -1,5 +1,3 @@
-pub mod Clients
-pub mod Fleet
 pub mod Places
 pub mod Serving
 pub mod Shared

@@ -89,26 +89,6 @@ pub record IsPlaceServed (limit : ℕ) (place : Place) (left : Left) : Type 0 wh
   -- the serials of what was sent strictly rise
   pub line : AreOfLine left.line.place left.line.sent
 
--- what is left of one of several clients of a place: what contracts see of its turn, and the list that its gate knew last
-pub record ClientLeft : Type 0 where
-  pub plan : Plan
-  pub told : List Entry
-
-abbrev pub client_left : Plan → List Entry → ClientLeft
-client_left plan told = record { plan = plan; told = told }
-
--- The connections of one of several clients of a place were served, from this number on.
-pub record IsClientServed (limit first : ℕ) (client : Place) (left : ClientLeft) : Type 0 where
-  pub visits : List Visit
-  pub last : SharedValue
-  pub connections : AreConnectionsServed limit first client.gate visits last
-  -- they are all that waited, in their order, and each was taken back as it ended
-  pub all : AreAll client.plan.waiting (map (λ visit. visit.given) visits)
-  pub ended : TookBack client.plan.ended (map (λ visit. visit.ending) visits) left.plan.ended
-  -- what is left is what the gate had then, at the place that it had first
-  pub told : left.told ≡ last.known
-  pub place : last.mark.place ≡ client.gate.mark.place
-
 -- the first turn with the first gate, and so on. What is left of the longer list is left out
 abbrev pub places_of : List Plan → List SharedValue → List Place
 places_of [] gates = []

@@ -6,7 +6,6 @@ ghost use Rattle.rs_places.specs.Places.{IsPlaceServed, Place, ServesOne, left_a
 
 use crate::fault::StoreFault;
 use crate::serving::serve_place;
-use crate::settled::push_reserved;
 use crate::shared_gate::SharedGate;
 use crate::turn::{Connection, Turn};
 use rs_intake::{LineEnd, LineName};
@@ -23,6 +22,15 @@ pub struct PlaceEnd<N: LineName, T> {
     /// What is left of its line.
     pub line: LineEnd<N>,
     /// A token of the list that it knew last.
+    pub told: Told<N>,
+    /// The turn, which took its connections back.
+    pub turn: T,
+}
+
+/// What is left of a turn whose connections were served.
+#[derive(Drop)]
+pub struct TurnEnd<N: LineName, T> {
+    /// A token of the list that its gate knew last.
     pub told: Told<N>,
     /// The turn, which took its connections back.
     pub turn: T,
@@ -58,7 +66,7 @@ fn serve_connection<T: Turn + Drop, N: LineName, H: Wait + Copy>(
     let mut reader = Counted::new(input);
     let mut writer = Counted::new(output);
     // However it ended, the place goes on.
-    let (served, gate) = serve_place(
+    let (served, gate, refusals) = serve_place(
         rt,
         alloc,
         &mut reader,
@@ -72,7 +80,7 @@ fn serve_connection<T: Turn + Drop, N: LineName, H: Wait + Copy>(
         output: writer,
         clock,
     };
-    turn.end(connection, served);
+    turn.end(connection, served, refusals);
     gate
 }
 
@@ -175,11 +183,11 @@ fn start_places<
     let mut served = Vec::with_capacity(alloc, gates.len())?;
     for (turn, gate) in turns.into_iter().zip(gates) {
         if !served.is_empty() {
-            push_reserved(&mut served, serve_turns(&rt, alloc, turn, gate));
+            served.push_reserved(serve_turns(&rt, alloc, turn, gate));
         } else {
             match start_place(rt, alloc, turn, gate, !threads.is_empty()) {
-                Ok(thread) => push_reserved(&mut threads, thread),
-                Err(Some(end)) => push_reserved(&mut served, end),
+                Ok(thread) => threads.push_reserved(thread),
+                Err(Some(end)) => served.push_reserved(end),
                 Err(None) => return Err(StoreFault::NoThread),
             }
         }
@@ -200,7 +208,7 @@ fn join_places<T: Turn + Drop, N: LineName, H: Threads + Wait + Copy>(
 {
     let mut ends = ends;
     for thread in threads {
-        push_reserved(&mut ends, thread.join(rt));
+        ends.push_reserved(thread.join(rt));
     }
     ends
 }

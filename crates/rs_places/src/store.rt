@@ -1,16 +1,13 @@
-//! A whole store: its writer and its places or clients, each on a thread of its own, from the first connection to the settlement.
+//! A whole store: its writer and its places, each on a thread of its own, from the first connection to the settlement.
 
 ghost use Rattle.std.specs.Prelude.{◌≡◌, ◌≤◌, IfOk, [], length, map};
-ghost use Rattle.rs_places.specs.Fleet.{IsFleetRun};
 ghost use Rattle.rs_places.specs.Store.{IsStoreRun, gates_of};
 ghost use Rattle.rs_version.specs.Writer.{kept_of};
 
 use crate::fault::StoreFault;
-use crate::fleet::{FleetEnd, run_clients};
 use crate::running::{PlacesEnd, run_places};
-use crate::settled::{parted, settled};
+use crate::settling::{parted, settled};
 use crate::shared_gate::SharedGate;
-use crate::shared_places::SharedPlaces;
 use crate::turn::Turn;
 use rs_intake::{BlankQueue, Ended, Intake, LineName, Queue, SeatLine, run_writer};
 use rs_version::{Blank, Seat, VersionWriter};
@@ -60,7 +57,7 @@ pub fn open_gates<N: LineName, H: Wait + Copy>(
 /// What the writer's thread promises: the list that it keeps came to be by its answers to the entries that it took, each place was told
 /// the answers to its own entries, and these are of its places alone.
 #[derive(Drop)]
-struct AnswersJobs;
+pub struct AnswersJobs;
 
 impl<N: LineName, R: Wait + Drop> Promise<Ended<N, R>> for AnswersJobs {
     ghost use Rattle.rs_intake.specs.Done.{IsWritten};
@@ -71,10 +68,10 @@ impl<N: LineName, R: Wait + Drop> Promise<Ended<N, R>> for AnswersJobs {
 }
 
 /// The writer's thread.
-type WriterThread<N, H> = PromisedHandle<Ended<N, H>, AnswersJobs>;
+pub type WriterThread<N, H> = PromisedHandle<Ended<N, H>, AnswersJobs>;
 
-/// Starts the writer's thread. If it cannot be started, the writer and the queue are dropped.
-fn start_writer<
+/// Starts the writer's thread, which runs [`run_writer`]. None if it cannot be started: the writer and the queue are dropped then.
+pub fn start_writer<
     N: LineName + Send + Sync + 'static,
     H: Threads + Wait + Copy + Send + Sync + 'static,
 >(rt: H, queue: Queue<N>, writer: VersionWriter<N, H>) -> Option<WriterThread<N, H>>
@@ -143,64 +140,4 @@ fn run_named<
     let PlacesEnd { ends, threads } = served;
     let (lines, others) = parted(ends, lines, others);
     Ok(settled(others, lines, threads, ended, left))
-}
-
-/// Runs a store that is empty at first, whose places many clients share: serves a turn for each client, each on a thread of its own, as
-/// [`run_clients`] does, with the writer on one more, and settles. The first turn goes with place 1, and so on, and after the last place
-/// comes place 1 again.
-///
-/// The contract is one statement about the run, `IsFleetRun`: what that of [`run_store`] says of the history, the writer and the changes;
-/// of each client, what that says of the connections of a place; and of each place, what the writer took of what it sent, and what the
-/// history has of that. It does not say which of the clients of a place sent what.
-///
-/// # Errors
-///
-/// [`StoreFault`]. No connection was served.
-pub fn run_fleet<T: Turn + Send + Drop + 'static, H: Threads + Wait + Copy + Send + Sync + 'static>(
-    rt: H,
-    alloc: Global,
-    blank: Blank,
-    queue: BlankQueue,
-    turns: Vec<T>,
-) -> Result<StoreEnd<T>, StoreFault>
-    requires { queue.places ≡ blank.places }
-    ensures { IfOk result (λ end. IsFleetRun blank.limit blank.places (map T.plan turns.items) (map T.plan end.turns.items) end.version end.changes) }
-{
-    run_fleet_named::<Brand, T, H>(rt, alloc, blank, queue, turns)
-}
-
-fn run_fleet_named<
-    N: LineName + Send + Sync + 'static,
-    T: Turn + Send + Drop + 'static,
-    H: Threads + Wait + Copy + Send + Sync + 'static,
->(
-    rt: H,
-    alloc: Global,
-    blank: Blank,
-    queue: BlankQueue,
-    turns: Vec<T>,
-) -> Result<StoreEnd<T>, StoreFault>
-    requires store { (blank.history ≡ N.history) × (blank.limit ≡ N.limit) }
-    requires queue { (queue.name ≡ N.queue) × (queue.places ≡ N.places) }
-    requires places { queue.places ≡ blank.places }
-    ensures { IfOk result (λ end. IsFleetRun blank.limit blank.places (map T.plan turns.items) (map T.plan end.turns.items) end.version end.changes) }
-{
-    let (writer, seats) = blank.open::<N, H>(rt)?;
-    let (intake, lines, queue) = queue.open::<N>()?;
-    let shared = SharedPlaces::new(&rt, alloc, intake, seats, lines)?;
-    // Before any thread starts, so that nothing is lost.
-    let left = Vec::with_capacity(alloc, turns.len())?;
-    let Some(writing) = start_writer(rt, queue, writer) else {
-        return Err(StoreFault::NoThread);
-    };
-    let served = run_clients(rt, alloc, turns, shared);
-    // It ends once each line is closed, or all are gone.
-    let ended = writing.join(&rt);
-    let served = served?;
-    let FleetEnd {
-        clients,
-        lines,
-        threads,
-    } = served;
-    Ok(settled(clients, lines, threads, ended, left))
 }

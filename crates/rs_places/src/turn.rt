@@ -4,7 +4,7 @@ ghost use Rattle.std.specs.Option.{option_map};
 ghost use Rattle.rs_server.specs.Counts.{failures_of, inner_of};
 ghost use Rattle.rs_places.specs.Turns.{GivesNext, TakesBack};
 
-use rs_server::{Clock, Counted, ServeFault, Served};
+use rs_server::{Clock, Counted, Refusals, ServeFault, Served};
 use std::io::{Read, Write};
 
 /// A connection: what its client sends, what it is sent, and its clock.
@@ -41,11 +41,13 @@ pub trait Turn {
     fn next(&mut self) -> Option<Connection<Self::In, Self::Out, Self::Time>>
         ensures { GivesNext (plan self.old) (option_map (λ c. record { unread = Self.In.remaining c.input; written = Self.Out.contents c.output; moments = Self.Time.moments c.clock }) result) (plan self.new) };
 
-    /// Takes back a connection that was served, and how it ended. Its reader and its writer have counted how often they failed.
+    /// Takes back a connection that was served, how it ended, and what it was refused. Its reader and its writer have counted how often
+    /// they failed.
     fn end(
         &mut self,
         connection: Connection<Counted<Self::In>, Counted<Self::Out>, Self::Time>,
         served: Result<Served, ServeFault>,
+        refusals: Refusals,
     )
         ensures { TakesBack (plan self.old) (record { streams = record { unread = Self.In.remaining (inner_of connection.input); written = Self.Out.contents (inner_of connection.output); moments = Self.Time.moments connection.clock }; read_failures = failures_of connection.input; write_failures = failures_of connection.output; result = served }) (plan self.new) };
 }

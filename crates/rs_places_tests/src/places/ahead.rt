@@ -1,7 +1,6 @@
 //! Publications that came in one piece: their changes go to the writer together.
 
-use super::PUBLISHES;
-use super::play::{PLAIN, Row, as_wanted, ending, plain_row, play};
+use rs_places_kit::{PLAIN, PUBLISHES, Row, as_wanted, ending, plain_row, play};
 use rs_server::{ServeFault, Served};
 use rs_test_kit::{Behavior, CONNACK, Call, SECOND, ServeResult};
 use std::test::Fail;

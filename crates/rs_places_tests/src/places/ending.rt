@@ -2,12 +2,13 @@
 
 ghost use Rattle.std.specs.Prelude.{◌≡◌};
 
-use super::play::{ending, later, plain_row, put_rows, scripts};
-use super::script::{Counts, Script, comes};
-use super::{CLOSED, PUBLISHES, SUBSCRIBES, blank_store};
 use rs_intake::{BlankQueue, LineName, Queue, blank_queue};
 use rs_message::PlaceCount;
 use rs_places::{PlaceEnd, Turn, open_gates, run_places};
+use rs_places_kit::{
+    CLOSED, Counts, PUBLISHES, SUBSCRIBES, Script, blank_store, comes, ending, later, plain_row,
+    put_rows, scripts,
+};
 use rs_server::Served;
 use rs_test_kit::SUBSCRIBED;
 use rs_version::{Blank, VersionWriter};

@@ -1,7 +1,6 @@
 //! One failing read, write or flush, and what the next connections of the place get then.
 
-use super::PUBLISHES;
-use super::play::{PLAIN, Row, as_wanted, ending, plain_row, play};
+use rs_places_kit::{PLAIN, PUBLISHES, Row, as_wanted, ending, plain_row, play};
 use rs_server::Served;
 use rs_test_kit::{
     Behavior, CONNACK, FAULTS, FIRST, Fault, SECOND, ServeResult, first_replies, second_replies,

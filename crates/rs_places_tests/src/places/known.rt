@@ -5,12 +5,12 @@ ghost use Rattle.rs_server.specs.Counts.{failures_of, inner_of};
 ghost use Rattle.rs_places.specs.Turns.{TakesBack};
 ghost use Rattle.rs_places_tests.specs.Answered.{AreAnswered};
 
-use super::{PUBLISHES, SUBSCRIBES, blank_store};
 use rs_intake::{BlankQueue, blank_queue};
 use rs_message::PlaceCount;
 use rs_places::{Connection, StoreEnd, StoreFault, Turn, run_store};
-use rs_server::{Clock, Counted, Moments, ServeFault, Served};
-use rs_test_kit::{CONNACK, REPLAYED, SUBSCRIBED};
+use rs_places_kit::{PUBLISHES, SUBSCRIBES, blank_store};
+use rs_server::{Clock, Counted, Moments, Refusals, ServeFault, Served};
+use rs_test_kit::{CONNACK, CONNECT, REPLAYED, SUBSCRIBED, joined};
 use rs_version::Blank;
 use std::alloc::{AllocError, Global};
 use std::collections::VecDeque;
@@ -22,13 +22,14 @@ use std::thread::Threads;
 /// A connection in memory.
 type Played = Connection<VecDeque<u8>, Vec<u8>, Moments>;
 
-/// How a connection ended, and how often its reader and its writer failed.
+/// How a connection ended, how often its reader and its writer failed, and what it was refused.
 #[derive(Drop)]
 struct Outcome {
     connection: Played,
     read_failures: u64,
     write_failures: u64,
     served: Result<Served, ServeFault>,
+    refusals: Refusals,
 }
 
 /// Gives these connections, in their order, and keeps them once they have ended.
@@ -63,6 +64,7 @@ impl Turn for Listed {
         &mut self,
         connection: Connection<Counted<VecDeque<u8>>, Counted<Vec<u8>>, Moments>,
         served: Result<Served, ServeFault>,
+        refusals: Refusals,
     )
         ensures { TakesBack (⟦<Listed as Turn>⟧.plan self.old) (record { streams = record { unread = ⟦<VecDeque<u8> as Read>⟧.remaining (inner_of connection.input); written = ⟦<Vec<u8> as Write>⟧.contents (inner_of connection.output); moments = ⟦<Moments as Clock>⟧.moments connection.clock }; read_failures = failures_of connection.input; write_failures = failures_of connection.output; result = served }) (⟦<Listed as Turn>⟧.plan self.new) }
     {
@@ -82,6 +84,7 @@ impl Turn for Listed {
             read_failures,
             write_failures,
             served,
+            refusals,
         };
         let Some(mut ended) = self.ended.take() else {
             return;
@@ -191,5 +194,62 @@ fn connections_in_memory_are_answered(rt: HostRuntime) -> Result<(), Fail> {
         None => false,
     };
     assert!(rt; second);
+    Ok(())
+}
+
+/// PUBLISH with RETAIN 1 at QoS 0 to `a/b`, `a/c` and `a/d`, at QoS 1 to `a/e`, and at QoS 0 again to `a/b`; DISCONNECT.
+const FILLS: &[u8] = b"\x31\x07\x00\x03a/b\x00x\x31\x07\x00\x03a/c\x00x\x31\x07\x00\x03a/d\x00x\
+\x33\x09\x00\x03a/e\x00\x01\x00x\x31\x07\x00\x03a/b\x00x\xE0\x00";
+
+/// A place whose first client sends this, and whose next one reads.
+fn filling_turn(alloc: Global) -> Result<Vec<Listed>, AllocError>
+    ensures { IfOk result (λ turns. length turns.items ≡ 1) }
+{
+    let sent = joined(alloc, &[CONNECT, FILLS])?;
+    let fills = played(alloc, sent.as_slice())?;
+    let reads = played(alloc, SUBSCRIBES)?;
+    let place = place_of(alloc, vec![in alloc; fills, reads]?);
+    let mut turns = Vec::new(alloc);
+    turns.push(place).map_err(|_| AllocError)?;
+    Ok(turns)
+}
+
+/// Whether each connection was refused so many changes because the store was full, and nothing else.
+fn is_refused(turn: &Listed, wanted: &[u64]) -> bool {
+    let Some(ended) = &turn.ended else {
+        return false;
+    };
+    let mut at = 0usize;
+    for outcome in ended {
+        let Some(full) = wanted.get(at) else {
+            return false;
+        };
+        let refusals = Refusals {
+            full: *full,
+            ..Refusals::none()
+        };
+        if outcome.refusals != refusals {
+            return false;
+        }
+        at = at.saturating_add(1);
+    }
+    at == wanted.len()
+}
+
+/// In a store of one topic, a turn is told how many changes each of its connections was refused.
+#[test]
+fn a_turn_is_told_what_was_refused(rt: HostRuntime) -> Result<(), Fail> {
+    let alloc = rt.alloc();
+    let turns = filling_turn(alloc)?;
+    let places = PlaceCount::new(1).ok_or("a place")?;
+    let blank = blank_store(alloc, 1, places)?;
+    let queue = blank_queue(alloc, places)?;
+    let end = answered(rt, alloc, blank, queue, turns)?;
+    assert!(rt; (end.changes, end.version) == (Some(5), 2));
+    let told = match end.turns.get(0) {
+        Some(turn) => is_refused(turn, &[3, 0]),
+        None => false,
+    };
+    assert!(rt; told);
     Ok(())
 }

@@ -4,8 +4,7 @@
 //! of 128 and of 129 levels, sixteen identifiers of QoS 2 with a seventeenth or one of them again, acknowledgements of the wrong
 //! kind, and three filters that match 40,000 messages each.
 
-use super::play::{NONE, PLAIN, Row, as_wanted, ending, plain_row, play};
-use super::{PUBLISHES, SUBSCRIBES};
+use rs_places_kit::{NONE, PLAIN, PUBLISHES, Row, SUBSCRIBES, as_wanted, ending, plain_row, play};
 use rs_server::Served;
 use rs_test_kit::{CONNACK, CONNECT, REPLAYED, ServeResult};
 use std::alloc::{AllocError, Global};

@@ -1,8 +1,9 @@
 //! Places on threads of their own.
 
-use super::play::{NONE, PLAIN, Row, as_wanted, ending, later, plain_row, play, run, scripts};
-use super::script::{Counts, Script};
-use super::{PUBLISHES, SUBSCRIBES};
+use rs_places_kit::{
+    Counts, NONE, PLAIN, PUBLISHES, Row, SUBSCRIBES, Script, as_wanted, assigned, ending, later,
+    plain_row, play, run, scripts,
+};
 use rs_server::Served;
 use rs_test_kit::{CONNACK, CONNECT, REPLAYED, SUBSCRIBED, joined};
 use std::alloc::{AllocError, Global};
@@ -53,17 +54,6 @@ fn publish_fifty(
         output.extend_from_slice(&[0x40, 0x02, 0, id])?;
     }
     Ok(())
-}
-
-/// The CONNACK of a client that is assigned an identifier.
-pub fn assigned(alloc: Global, place: u8, number: u64) -> Result<Vec<u8>, AllocError> {
-    let name = format!(in alloc; "rs{place}-{number}")?;
-    let len = name.as_bytes().len().min(20) as u8;
-    let mut output = Vec::new(alloc);
-    output.extend_from_slice(&[0x20, 16 + len, 0, 0, 13 + len, 0x12, 0, len])?;
-    output.extend_from_slice(name.as_bytes())?;
-    output.extend_from_slice(b"\x21\x00\x10\x27\x00\x04\x00\x00\x2A\x00")?;
-    Ok(output)
 }
 
 /// A CONNECT without a client identifier, fifty PUBLISHes to the topic of the place, and a SUBSCRIBE of it.

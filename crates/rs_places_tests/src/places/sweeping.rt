@@ -1,6 +1,6 @@
 //! Expired messages make space for new topics.
 
-use super::play::{NONE, Row, as_wanted, ending, later, play};
+use rs_places_kit::{NONE, Row, as_wanted, ending, later, play};
 use rs_server::Served;
 use rs_test_kit::{CONNACK, CONNECT};
 use std::alloc::{AllocError, Global};

@@ -4,7 +4,7 @@ use Rattle.rs_places.proofs.Starting.{each_of_both, each_of_whole, first_of_all,
 use Rattle.rs_places.proofs.running.join_places.Goals as goal
 
 pub push_reserved-requires : goal.push_reserved-requires
-push_reserved-requires g c = omega (arith, c.loop-thread.invariant.2, ap length c.in-Some.ensures.steps.0)
+push_reserved-requires g c = omega (arith, c.loop-thread.invariant.2, ap length c.in-Some.ensures.steps.0, c.loop-thread.ends.ok.0)
 
 pub loop-thread-preserved : goal.loop-thread-preserved
 loop-thread-preserved g c =

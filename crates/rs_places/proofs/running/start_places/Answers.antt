@@ -56,13 +56,13 @@ loop-turn-preserved g c =
     }
 
 pub push_reserved-requires : goal.push_reserved-requires
-push_reserved-requires g c = served_fits _ _ _ _ _ _ c.loop-turn.invariant.few (ap length c.in-Some.ensures.steps.1.0) c.loop-turn.invariant.served_capacity
+push_reserved-requires g c = served_fits _ _ _ _ _ _ _ c.loop-turn.invariant.few (ap length c.in-Some.ensures.steps.1.0) c.loop-turn.served.ok.0 c.loop-turn.invariant.served_capacity
 
 pub push_reserved-requires-in-Ok : goal.push_reserved-requires-in-Ok
-push_reserved-requires-in-Ok g c = thread_fits _ _ _ _ _ _ c.loop-turn.invariant.few (ap length c.in-Some.ensures.steps.1.0) c.loop-turn.invariant.threads_capacity
+push_reserved-requires-in-Ok g c = thread_fits _ _ _ _ _ _ _ c.loop-turn.invariant.few (ap length c.in-Some.ensures.steps.1.0) c.loop-turn.threads.ok.0 c.loop-turn.invariant.threads_capacity
 
 pub push_reserved-requires-in-Err-Some : goal.push_reserved-requires-in-Err-Some
-push_reserved-requires-in-Err-Some g c = served_fits _ _ _ _ _ _ c.loop-turn.invariant.few (ap length c.in-Some.ensures.steps.1.0) c.loop-turn.invariant.served_capacity
+push_reserved-requires-in-Err-Some g c = served_fits _ _ _ _ _ _ _ c.loop-turn.invariant.few (ap length c.in-Some.ensures.steps.1.0) c.loop-turn.served.ok.0 c.loop-turn.invariant.served_capacity
 
 pub returns-clause-few : goal.returns-clause-few
 returns-clause-few g c = few_so_far _ _ _ _ c.loop-turn.invariant.few

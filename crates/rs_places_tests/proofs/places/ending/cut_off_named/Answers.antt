@@ -2,8 +2,8 @@ use denote.Param.{param, copied}
 use Rattle.std.proofs.Crossing.{Arc-send}
 use Rattle.rs_intake.proofs.writer.Queue.TheSendSync as queue
 use Rattle.rs_version.proofs.Sent.{parts_send-3, writer_send}
-use Rattle.rs_places_tests.proofs.places.script.Counts.TheSendSync as counts
-use Rattle.rs_places_tests.specs.contracts.places.script.Counts as Counts
+use Rattle.rs_places_kit.proofs.script.Counts.TheSendSync as counts
+use Rattle.rs_places_kit.specs.contracts.script.Counts as Counts
 use Rattle.rs_places_tests.proofs.places.ending.cut_off_named.Goals as goal
 
 pub spawn-requires-send-F : goal.spawn-requires-send-F

@@ -1,0 +1,5 @@
+pub mod Handing
+pub mod NewClients
+pub mod Sent
+pub mod Served
+pub mod Whole

@@ -1,0 +1,92 @@
+-- The clients of a store of which several share a place.
+use Rattle.std.specs.Prelude.{◌≡◌, ℕ, ◌+◌, ◌-◌, ◌*◌, ◌%◌, ◌^◌, min, All, List, [], ◌∷◌, length, map, slice_index_or, Option, MatchOption}
+use Rattle.std.specs.List.{AllZip}
+use Rattle.rs_intake.specs.Lines.{AreOfLine, Closed, IsClosed, new_lines}
+use Rattle.rs_intake.specs.Settling.{EachOnce}
+use Rattle.rs_message.specs.declared.entry.Entry.{Entry}
+use Rattle.rs_session.specs.Gate.{Extends}
+use Rattle.rs_places.specs.Places.{AreConnectionsServed, Place, Visit, place_at}
+use Rattle.rs_places.specs.Shared.{SharedValue}
+use Rattle.rs_places.specs.Store.{AreWithin, IsLineOf, IsSettled, IsUnsettled, IsWriterRun}
+use Rattle.rs_places.specs.Turns.{AreAll, Plan, TookBack}
+use Rattle.rs_clients.specs.Clients.{new_client}
+
+-- what is left of one of several clients of a place: what contracts see of its turn, and the list that its gate knew last
+pub record ClientLeft : Type 0 where
+  pub plan : Plan
+  pub told : List Entry
+
+abbrev pub client_left : Plan → List Entry → ClientLeft
+client_left plan told = record { plan = plan; told = told }
+
+-- The connections of one of several clients of a place were served, from this number on.
+pub record IsClientServed (limit first : ℕ) (client : Place) (left : ClientLeft) : Type 0 where
+  pub visits : List Visit
+  pub last : SharedValue
+  pub connections : AreConnectionsServed limit first client.gate visits last
+  -- they are all that waited, in their order, and each was taken back as it ended
+  pub all : AreAll client.plan.waiting (map (λ visit. visit.given) visits)
+  pub ended : TookBack client.plan.ended (map (λ visit. visit.ending) visits) left.plan.ended
+  -- what is left is what the gate had then, at the place that it had first
+  pub told : left.told ≡ last.known
+  pub place : last.mark.place ≡ client.gate.mark.place
+
+-- the number of a client's first connection: those of two clients lie 2^40 apart. The greatest u64 is repeated
+abbrev pub first_number : ℕ → ℕ
+first_number client = min (client * 2 ^ 40 + 1) (2 ^ 64 - 1)
+
+-- a client: what contracts see of its turn and of its gate, and the number of its first connection
+pub record Client : Type 0 where
+  pub place : Place
+  pub first : ℕ
+
+abbrev pub client_with : Plan → SharedValue → ℕ → Client
+client_with plan gate first = record { place = place_at plan gate; first = first }
+
+-- The client of this number, from 0 on, over one of these gates: the first goes with the first gate, and so on, and after the last gate
+-- comes the first again.
+abbrev pub client_at : List SharedValue → ℕ → Plan → Client
+client_at gates client plan = client_with plan (slice_index_or gates (client % length gates) (new_client [] 0)) (first_number client)
+
+-- a client for each turn, from this number on
+abbrev pub clients_of : List SharedValue → ℕ → List Plan → List Client
+clients_of gates client [] = []
+clients_of gates client (plan ∷ plans) = client_at gates client plan ∷ clients_of gates (client + 1) plans
+
+-- the gates of new clients at so many new places, one at each. They know nothing
+abbrev pub fleet_gates : ℕ → List SharedValue
+fleet_gates places = map (λ line. new_client [] line.place) (new_lines places)
+
+-- the connections of the client's turn were served
+abbrev pub IsTurnServed : ℕ → Client → ClientLeft → Type 0
+IsTurnServed limit client left = IsClientServed limit client.first client.place left
+
+-- A client was served its turn, over a store with this history.
+pub record IsClientOf (limit : ℕ) (history : List Entry) (client : Client) (left : ClientLeft) : Type 0 where
+  -- all its connections were served, in their order, and each was taken back as it ended
+  pub served : IsClientServed limit client.first client.place left
+  -- Each list that a filter of a connection was answered from is a prefix of the history. Each retained publication that its client
+  -- was told is stored stands there once
+  pub within : AreWithin history client.first client.place.gate served.visits
+  -- so is the list that the client knew last
+  pub known : Extends history left.told
+
+-- A store of so many new places was run, which clients shared. Each client was served its turn, from that before to that after; the
+-- writer published so many entries; and so many changes are settled, or it is known that not all were taken.
+pub record IsFleetRun (limit places : ℕ) (before after : List Plan) (version : ℕ) (changes : Option ℕ) : Type 0 where
+  -- the history, and what the writer took and published
+  pub writer : IsWriterRun limit places version
+  pub open writer use *
+  -- of each client, at its place: its connections, and what they saw
+  pub left : List ClientLeft
+  pub each : AllZip (IsClientOf limit history) (clients_of (fleet_gates places) 0 before) left
+  pub turns : after ≡ map (λ end. end.plan) left
+  -- of each place's line: what became of what it sent. The serials of that strictly rise
+  pub lines : List Closed
+  pub count : length lines ≡ places
+  pub each_line : All (IsLineOf history taken) lines
+  pub closed : All (λ line. IsClosed line.place line.ends line.gone) lines
+  pub serials : All (λ line. AreOfLine line.place line.sent) lines
+  -- all that the places sent was taken, once; no number is given only if not each place has one of these lines, or another number was
+  -- sent than taken
+  pub settled : MatchOption changes (EachOnce places lines → IsUnsettled taken lines) (IsSettled places taken lines)

@@ -1,0 +1,14 @@
+//! What tests of places have in common, whether clients share them or not: turns that play connections from memory ([`Script`]),
+//! connections as rows of a table ([`Row`]), and runs of a store over them. It is a crate of its own so that nothing of it is proved twice.
+#![tactic(auto)]
+
+mod rows;
+mod running;
+mod script;
+
+pub use rows::{
+    NONE, PLAIN, PUBLISHES, Row, SMOOTH, SUBSCRIBES, assigned, ending, later, plain_row, put_rows,
+    scripts,
+};
+pub use running::{Played, as_wanted, blank_store, outcome, play, run};
+pub use script::{CLOSED, Counts, Course, Input, Output, Script, ScriptClock, comes};
