@@ -16,7 +16,9 @@ from checks.operating_idle import (
     silent_clients_that_stay,
 )
 from checks.operating_log import (
+    a_full_store,
     a_late_write,
+    a_long_answer,
     cannot_listen,
     each_end,
     few_descriptors,
@@ -37,6 +39,8 @@ CHECKS = (
     many_that_vanish,
     each_end,
     a_late_write,
+    a_full_store,
+    a_long_answer,
     refused_memory,
     sixty_four_at_once,
     few_descriptors,

@@ -1,22 +1,43 @@
-"""What `--log` tells of each connection, and why a server cannot listen. Part of
-`checks/operating`."""
+"""What `--log` tells of each connection and of a store that is full, and why a server cannot
+listen. Part of `checks/operating`."""
 
 import re
 import tempfile
 from concurrent.futures import ThreadPoolExecutor
-from time import time
+from time import sleep, time
 
-from checks.listening_messages import publish, wanted
+from checks.listening_messages import all_replayed, publish, replayed, wanted
 from checks.operating_idle import LARGE, PINGREQ, is_cut_off
 from harness.client import Client
-from harness.packets import CONNACK, CONNECT, DISCONNECT, PUBACK, counted, packet, subscribe, varint
+from harness.packets import (
+    CONNACK,
+    CONNECT,
+    DISCONNECT,
+    NO_SPACE,
+    PUBACK,
+    counted,
+    packet,
+    suback,
+    subscribe,
+    varint,
+)
 from harness.patience import PATIENCE
 from harness.program import preloaded
 from harness.server import Server, start
+from harness.sessions import WAITING
 
 VISIT = r"([0-9]+) place ([0-9]+), connection ([0-9]+), ([0-9.]+:[0-9]+)"
 LINE = re.compile(rf"\[INFO  rstored\] {VISIT}: (.*)")
-END = re.compile(r"(.*), ([0-9]+) packets, ([0-9]+) bytes in, ([0-9]+) bytes out")
+COUNTS = r"([0-9]+) packets, ([0-9]+) bytes in, ([0-9]+) bytes out"
+END = re.compile(rf"(.*), {COUNTS}(?:, refused (.*))?")
+STORE = re.compile(r"\[(WARN|INFO)  rstored\] [0-9]+ (the store .*)")
+
+# What the log says when the store is full, and when there may be space again.
+FULL = ("WARN", "the store is full: a message for a new topic was refused")
+SPACE = (
+    "INFO",
+    "the store may take new topics again: topics were cleared, or their messages expired",
+)
 
 # A CONNECT of MQTT 3.1.1, and the answer.
 OLD_CONNECT = bytes.fromhex("100D00044D5154540402003C000161")
@@ -24,12 +45,15 @@ OLD_REFUSED = bytes.fromhex("2003008400")
 
 
 def visits(errors, places):
-    """The connections that a log tells of: by peer, how each ended, and its packets and bytes.
+    """The connections that a log tells of: by peer, how each ended, its packets and bytes, and
+    what it was refused, if anything.
 
     Each begins once and ends once, in the order in which its place had them.
     """
     current, numbers, told = {}, dict.fromkeys(range(1, places + 1), 0), {}
     for line in errors.splitlines():
+        if STORE.fullmatch(line):
+            continue
         found = LINE.fullmatch(line)
         wanted(found, f"a line of the log is {line!r}")
         moment, place, number = map(int, found.group(1, 2, 3))
@@ -44,7 +68,7 @@ def visits(errors, places):
         is_current = end and current.pop(place, None) == peer and number == numbers[place]
         wanted(is_current, f"{line!r} ends another connection")
         wanted(peer not in told, f"{line!r} ends a connection again")
-        told[peer] = (end[1], *map(int, end.group(2, 3, 4)))
+        told[peer] = (end[1], *map(int, end.group(2, 3, 4)), *filter(None, [end[5]]))
     wanted(not current, "a connection did not end")
     return told
 
@@ -130,6 +154,60 @@ def a_late_write():
     ending, _, _, written = visits(errors, 1)[stuck]
     is_right = ending == "the write failed or was idle" and written < 100 * 60_000
     wanted(is_right, f"a client that never reads ended as {ending} after {written} bytes")
+
+
+def of_the_store(errors):
+    """What a log says of the store, line by line."""
+    lines = (STORE.fullmatch(line) for line in errors.splitlines())
+    return [line.groups() for line in lines if line]
+
+
+def refused(errors):
+    """What a log says that each connection was refused, by peer, or None."""
+    lines = (LINE.fullmatch(line) for line in errors.splitlines())
+    ends = ((line[4], END.fullmatch(line[5])) for line in lines if line)
+    return {peer: end[5] for peer, end in ends if end}
+
+
+def a_full_store():
+    """Of a store of two topics: the log says once that it is full, however much it refuses, and
+    once that a topic was cleared. Of each connection it says what it was refused, if anything."""
+    first, second, third, fourth = (publish(b"s/%d" % number, b"x") for number in range(4))
+    untold, cleared = replayed(b"s/4", b"x"), publish(b"s/0", b"")
+    filled = first + second + third + untold * 3 + fourth + first
+    for clients in (1, 3):
+        expected, log = {}, {"places": 1, "clients": clients, "connections": 5, "log": True}
+        with Server(topics=2, **log) as server:
+            for sent, answer, what, is_later in (
+                (filled, PUBACK * 2 + NO_SPACE * 2 + PUBACK, "5 publications (store full)", False),
+                (first + second, PUBACK * 2, None, True),
+                (cleared, PUBACK, None, False),
+                (third, PUBACK, None, True),
+                (untold, b"", "1 publications (store full)", False),
+            ):
+                with Client(server).connect() as client:
+                    expected[name_of(client)] = what
+                    client.ask(sent, answer)
+                    client.disconnect()
+                # It tells of the store at most once a second.
+                sleep(1.1 if is_later else 0)
+            _, _, errors = server.ended()
+        wanted(refused(errors) == expected, f"with {clients} clients the log is {errors!r}")
+        wanted(of_the_store(errors) == [FULL, SPACE, FULL], f"of the store the log says {errors!r}")
+
+
+def a_long_answer(count=WAITING // 2 + 1):
+    """A filter whose answer is longer than what may wait is told as refused."""
+    stored = all_replayed(count, b"x")
+    with Server(places=1, topics=count, connections=1, log=True) as server:
+        with Client(server).connect() as client:
+            peer = name_of(client)
+            client.ask(stored + subscribe([b"#", b"t/#"]), suback(b"\x00\x97") + stored)
+            client.disconnect()
+        _, _, errors = server.ended()
+    told = visits(errors, 1)[peer]
+    wanted(told[1] == count + 3, f"{told[1]} packets came")
+    wanted(told[4:] == ("1 filters (too many messages)",), f"a long answer is told as {told}")
 
 
 def refused_memory():

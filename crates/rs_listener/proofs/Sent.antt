@@ -3,9 +3,12 @@ use denote.Builtin.{u16}
 use denote.Param.Send.{IsSend, recorded_send, sendable, struct_send}
 use denote.Struct.Declared.{shape}
 use Rattle.rs_intake.proofs.blank.BlankQueue.TheSendSync as queue
+use Rattle.rs_intake.proofs.fullness.Fullness.TheSendSync as fullness
+use Rattle.rs_intake.specs.contracts.fullness.Fullness as Fullness
 use Rattle.rs_message.proofs.places.PlaceCount.TheSendSync as count
 use Rattle.rs_sockets.proofs.listener.Listener.TheSendSync as listener
 use Rattle.rs_version.proofs.Sent.{blank_send}
+use Rattle.std.proofs.Crossing.{Arc-send}
 use Rattle.std.proofs.alloc.Global.TheSendSync as heap
 use Rattle.rs_listener.specs.contracts.server.Server as Server
 
@@ -13,4 +16,4 @@ clients_send : IsSend u16
 clients_send = search sendable
 
 pub server_send : IsSend Server.the_row
-server_send = recorded_send Server.the_field.row _ _ Server.the_type.to_one (struct_send (shape Server.the_type) (heap.the_field_send, (listener.the_field_send, (blank_send, (queue.the_send, (count.the_send, (clients_send, tt)))))))
+server_send = recorded_send Server.the_field.row _ _ Server.the_type.to_one (struct_send (shape Server.the_type) (heap.the_field_send, (listener.the_field_send, (blank_send, (queue.the_send, (Arc-send Fullness.the_row fullness.the_send fullness.the_sync, (count.the_send, (clients_send, tt))))))))

@@ -2,15 +2,18 @@
 //!
 //! [`Server::bind`] binds an address and makes an empty store, [`Server::address`] tells the address, and [`Server::run`] serves
 //! clients until so many have connected. Each place has a thread, which serves one client after the other, and the store's writer
-//! has one. A connection may have a limit for how long it is idle, and the log of the handle has a line when each begins and ends.
+//! has one. A connection may have a limit for how long it is idle, and the log of the handle has a line when each begins and ends, and
+//! when the store is full.
 //!
-//! What a place does with a connection is `serve_place` of `rs_places`. The contracts of this crate do not say what a socket gives or
-//! takes, that a thread runs, or that a call returns.
+//! What a place does with a connection is `serve_place` of `rs_places`, and what a client of several does with one is `serve_client` of
+//! `rs_clients`. The contracts of this crate do not say what a socket gives or takes, that a thread runs, or that a call returns.
 #![tactic(auto)]
 
 mod close_reason;
 mod fault;
+mod full_log;
 mod opening;
+mod refused;
 mod server;
 mod turn;
 

@@ -1,22 +1,24 @@
 //! The server.
 
 ghost use Rattle.std.specs.Prelude.{◌≡◌, ◌<◌, ◌≤◌, ◌⊎◌, ℕ, List, IfOk};
-ghost use Rattle.rs_places.specs.Fleet.{IsFleetRun};
+ghost use Rattle.rs_clients.specs.Fleet.{IsFleetRun};
 ghost use Rattle.rs_places.specs.Store.{IsStoreRun};
 ghost use Rattle.rs_places.specs.Turns.{Plan};
 
 use crate::fault::ListenFault;
+use crate::full_log::FullLog;
 use crate::opening::turns;
 use log::{Log, warn};
-use rs_intake::{BlankQueue, blank_queue};
+use rs_clients::run_fleet;
+use rs_intake::{BlankQueue, Fullness, blank_queue};
 use rs_message::PlaceCount;
-use rs_places::{run_fleet, run_store};
+use rs_places::run_store;
 use rs_sockets::{Listener, descriptor_limit};
 use rs_store::TopicLimit;
 use rs_version::Blank;
 use std::alloc::Global;
 use std::net::{Net, TcpListener, TcpStream};
-use std::sync::Wait;
+use std::sync::{Arc, Wait};
 use std::thread::Threads;
 use std::time::{Clock, Duration};
 
@@ -27,6 +29,7 @@ pub struct Server {
     listener: Listener,
     blank: Blank,
     queue: BlankQueue,
+    fullness: Arc<Fullness>,
     places: PlaceCount,
     clients: u16,
     ghost both: { queue.places ≡ blank.places },
@@ -64,12 +67,14 @@ impl Server {
     ) -> Result<Server, ListenFault> {
         let blank = Blank::new(alloc, limit, places)?;
         let queue = blank_queue(alloc, places)?;
+        let fullness = queue.fullness()?;
         match Listener::bind(rt, address, connections, idle) {
             Ok(listener) => Ok(Server {
                 alloc,
                 listener,
                 blank,
                 queue,
+                fullness,
                 places,
                 clients,
             }),
@@ -93,9 +98,10 @@ impl Server {
     ///
     /// Each client has a thread, which serves one connection after the other. If it cannot be started, and is not the first, the caller's
     /// thread serves this client and those behind it, one after the other. A fault of a connection ends that connection alone. The log of
-    /// `rt` has a line when each begins, and one that says how it ended, and before them a warning if the process may have fewer
-    /// descriptors than its clients need. The number of changes is that of a run of the store, as [`run_store`] says it, or [`run_fleet`],
-    /// if there are more clients than places. The clause is weak: any number meets it, since it says nothing of the clients.
+    /// `rt` has a line when each begins, and one that says how it ended and what it was refused, one when the store is full, one when it
+    /// may take new topics again, and before them all a warning if the process may have fewer descriptors than its clients need. The number
+    /// of changes is that of a run of the store, as [`run_store`] says it, or [`run_fleet`], if there are more clients than places. The clause
+    /// is weak: any number meets it, since it says nothing of the clients.
     ///
     /// # Errors
     ///
@@ -115,18 +121,20 @@ impl Server {
             listener,
             blank,
             queue,
+            fullness,
             places,
             clients,
         } = self;
         let alone = u16::from(places.get());
         let served = affordable(&rt, clients, alone);
+        let full = FullLog::new(fullness);
         let end = if clients > alone {
             run_fleet(
                 rt,
                 alloc,
                 blank,
                 queue,
-                turns(rt, alloc, listener, places, served)?,
+                turns(rt, alloc, listener, full, places, served)?,
             )?
         } else {
             run_store(
@@ -134,7 +142,7 @@ impl Server {
                 alloc,
                 blank,
                 queue,
-                turns(rt, alloc, listener, places, alone)?,
+                turns(rt, alloc, listener, full, places, alone)?,
             )?
         };
         Ok(Summary {

@@ -4,9 +4,11 @@ ghost use Rattle.rs_server.specs.Counts.{failures_of, inner_of};
 ghost use Rattle.rs_places.specs.Turns.{TakesBack, none_given};
 
 use crate::close_reason::CloseReason;
+use crate::full_log::FullLog;
+use crate::refused::Refused;
 use log::{Log, info};
 use rs_places::{Connection, Turn};
-use rs_server::{Counted, ServeFault, Served};
+use rs_server::{Counted, Refusals, ServeFault, Served};
 use rs_sockets::{Accepted, FromClient, Listener, SystemClock, ToClient, abandon, close};
 use std::alloc::Global;
 use std::fmt;
@@ -17,7 +19,7 @@ use std::net::SocketAddr;
 use std::sync::Arc;
 use std::time::Clock;
 
-/// The system's time, and what the log needs of its connection.
+/// The system's time, and what the log needs of its connection. With each packet it looks whether the log has to tell of a full store.
 #[derive(Drop)]
 pub(crate) struct ConnectionClock<H: Clock> {
     rt: H,
@@ -25,6 +27,8 @@ pub(crate) struct ConnectionClock<H: Clock> {
     // How often the time was asked for: once for each packet.
     packets: u64,
     id: LoggedConnection,
+    // None if it has too many owners.
+    full: Option<Arc<FullLog>>,
 }
 
 /// Which connection it is, as the log says.
@@ -46,11 +50,15 @@ impl Display for LoggedConnection {
     }
 }
 
-impl<H: Clock> rs_server::Clock for ConnectionClock<H> {
+impl<H: Clock + Log> rs_server::Clock for ConnectionClock<H> {
     /// The time, in whole seconds since 1970.
     fn now(&mut self) -> u64 {
         self.packets = self.packets.saturating_add(1);
-        self.clock.now(&self.rt)
+        let time = self.clock.now(&self.rt);
+        if let Some(full) = &self.full {
+            full.look(&self.rt, time);
+        }
+        time
     }
 }
 
@@ -60,6 +68,7 @@ pub(crate) struct ListenTurn<H: Clock> {
     rt: H,
     alloc: Global,
     listener: Arc<Listener>,
+    full: Arc<FullLog>,
     // That of the last connection, so that its last moment stands if the clock cannot be read.
     clock: SystemClock,
     place: u8,
@@ -73,6 +82,7 @@ impl<H: Clock> ListenTurn<H> {
         rt: H,
         alloc: Global,
         listener: Arc<Listener>,
+        full: Arc<FullLog>,
         place: u8,
         before: u64,
     ) -> ListenTurn<H> {
@@ -80,6 +90,7 @@ impl<H: Clock> ListenTurn<H> {
             rt,
             alloc,
             listener,
+            full,
             clock: SystemClock::new(),
             place,
             number: before,
@@ -118,6 +129,7 @@ impl<H: Clock + Log + Copy + Send> Turn for ListenTurn<H> {
                 clock,
                 packets: 0,
                 id,
+                full: Arc::try_clone(&self.full).ok(),
             },
         })
     }
@@ -127,6 +139,7 @@ impl<H: Clock + Log + Copy + Send> Turn for ListenTurn<H> {
         &mut self,
         connection: Connection<Counted<FromClient>, Counted<ToClient>, ConnectionClock<H>>,
         served: Result<Served, ServeFault>,
+        refusals: Refusals,
     )
         ensures { TakesBack none_given (record { streams = record { unread = ⟦<FromClient as Read>⟧.remaining (inner_of connection.input); written = ⟦<ToClient as Write>⟧.contents (inner_of connection.output); moments = ⟦<ConnectionClock<H> as rs_server::Clock>⟧.moments connection.clock }; read_failures = failures_of connection.input; write_failures = failures_of connection.output; result = served }) none_given }
     {
@@ -140,6 +153,7 @@ impl<H: Clock + Log + Copy + Send> Turn for ListenTurn<H> {
             clock,
             packets,
             id,
+            full: _full,
         } = clock;
         self.clock = clock;
         let (input, output) = (input.into_inner(), output.into_inner());
@@ -152,6 +166,8 @@ impl<H: Clock + Log + Copy + Send> Turn for ListenTurn<H> {
             let _ = close(&self.rt, input, output);
         }
         let time = self.clock.now(&self.rt);
-        info!(self.rt; target: "rstored", "{time} {id}: {reason}, {packets} packets, {read} bytes in, {written} bytes out");
+        self.full.look(&self.rt, time);
+        let refused = Refused(refusals);
+        info!(self.rt; target: "rstored", "{time} {id}: {reason}, {packets} packets, {read} bytes in, {written} bytes out{refused}");
     }
 }

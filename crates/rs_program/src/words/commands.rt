@@ -56,8 +56,9 @@ it, for so many seconds. A client that keeps its Keep Alive is not cut off if --
 and a half times that interval.
 
 With --log, it writes a line to standard error when a connection begins and when it ends, with its
-place, its number there, the client's address and how it ended, and a line if it cannot listen, with
-the reason.
+place, its number there, the client's address, how it ended and what it was refused; one when the
+store is full, and one when it may take new topics again; and one if it cannot listen, with the
+reason.
 
 The store is in memory. It is empty at the start, and lost at the end.
 
