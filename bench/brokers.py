@@ -2,7 +2,8 @@
 
 Both listen on the loopback of one machine, and are measured in turns; each number is the median of
 five runs, or the least if a measure says so. The clients are bench/load.c. The table is for a
-person, on a quiet machine. With `--once` each measure is made once and small, and none is judged.
+person, on a quiet machine. With `--fleets` it has all fleets of clients, and nothing else. With
+`--once` each measure is made once and small, and none is judged.
 """
 
 import contextlib
@@ -32,11 +33,21 @@ RUNS = 5
 PLACES = 8
 TOPICS = 65_536
 
-# Clients that connect at once, the messages that each reads, and how a server is started for them.
-# Those of a run are still leaving when the next one begins.
+# Clients that connect at once, of how many groups they are, and the messages of each group.
 FLEET = 1_000
+LARGE_FLEET = 5_000
+GROUPS = 1_000
 GROUP = 10
-FOR_FLEETS = {"places": 64, "clients": 2 * FLEET}
+
+# The most clients that a server serves, and a server whose clients share one place.
+MOST_CLIENTS = 10_000
+ONE_PLACE = {"places": 1, "clients": 128}
+
+
+def for_fleet(clients, silent=0):
+    """How a server is started for a fleet beside silent clients. Those of a run are still leaving
+    when the next one begins."""
+    return {"places": 16, "clients": min(2 * clients + silent, MOST_CLIENTS)}
 
 
 class Load:
@@ -164,9 +175,9 @@ def beside(load, count, *words, is_ready=""):
             job.communicate()
 
 
-def replaying(load, count, scale):
-    """So many clients that replay 10,000 messages all the time."""
-    messages, pattern = 10_000 // scale, "kept/%04d%02d"
+def replaying(load, count, scale, messages=10_000):
+    """So many clients that replay so many messages all the time."""
+    messages, pattern = messages // scale, "kept/%04d%02d"
     load.fill(messages, 64, pattern)
     words = load.replay("kept/#", pattern, messages, 0, 0)
     return lambda: beside(load, count, *words, is_ready="ready\n")
@@ -191,8 +202,9 @@ def beside_replays(readers=3):
 
 
 def one_at_a_time(load, count):
-    """The longest that one of some publications waits for its PUBACK."""
-    return load.publish(1, 1, count, window=1)[2]
+    """The longest that one of some publications waits for its PUBACK. Their topics fit in beside
+    60,000 others."""
+    return load.publish(1, 1, count, topics=1_000, window=1)[2]
 
 
 def shares(scale):
@@ -204,29 +216,33 @@ def shares(scale):
     return {usable[0]}, {usable[1]}, {usable[2]}, set(usable[3:])
 
 
-def longest_wait(load, scale):
+def longest_wait(messages):
     """The longest that one of 20,000 publications, sent one at a time, waits for its PUBACK beside
-    a client that replays 10,000 messages all the time. Each thread on its way has a processor of
+    a client that replays so many messages all the time. Each thread on its way has a processor of
     its own."""
-    replays, pid = replaying(load, 1, scale), load.broker.run.pid
-    client, place, own, rest = shares(scale)
-    # Each connection is served at another place, since idle places accept in turns, and all changes
-    # go through the writer.
-    writer = busiest(pid, lambda: one_at_a_time(load, 5_000 // scale), times=3)
 
-    def longest():
-        with on(rest), replays():
-            replayed = busiest(pid, lambda: time.sleep(0.1))
-            # It is not known which place will accept the publisher. The others are idle.
-            for thread in thread_times(pid):
-                pin(thread, place)
-            # mosquitto has one thread, which is both.
-            pin(replayed, rest)
-            pin(writer, own)
-            with on(client):
-                return one_at_a_time(load, 20_000 // scale)
+    def prepare(load, scale):
+        replays, pid = replaying(load, 1, scale, messages), load.broker.run.pid
+        client, place, own, rest = shares(scale)
+        # Each connection is served by another thread, since idle threads accept in turns, and all
+        # changes go through the writer.
+        writer = busiest(pid, lambda: one_at_a_time(load, 5_000 // scale), times=3)
 
-    return longest
+        def longest():
+            with on(rest), replays():
+                replayed = busiest(pid, lambda: time.sleep(0.1))
+                # It is not known which thread will accept the publisher. The others are idle.
+                for thread in thread_times(pid):
+                    pin(thread, place)
+                # mosquitto has one thread, which is both.
+                pin(replayed, rest)
+                pin(writer, own)
+                with on(client):
+                    return one_at_a_time(load, 20_000 // scale)
+
+        return longest
+
+    return prepare
 
 
 def echo_wait(path, scale):
@@ -241,21 +257,37 @@ def echo_wait(path, scale):
                 return one_at_a_time(Load(path, SimpleNamespace(port=port)), 20_000 // scale)
 
 
-def fleet(delay, stays=False, silent=0):
+def fleet(clients, delay, stays, silent):
     """The time in which clients that connect at once have each learnt the messages of a group, and
     have left if they do not stay. Some milliseconds pass between what a client is answered and its
     next packet. Beside them are so many connections that say nothing."""
 
     def prepare(load, scale):
-        clients, groups = max(32, FLEET // scale), FLEET // scale
+        count, groups = max(32, clients // scale), GROUPS // scale
         for number in range(GROUP):
             load.fill(groups, 64, f"fleet/%02d%02d/{number}")
 
         def learn():
             with beside(load, int(silent > 0), "silent", silent, is_ready="ready\n"):
-                return load.times("fleet", clients, groups, 1_000 * delay, int(stays))[0]
+                return load.times("fleet", count, groups, 1_000 * delay, int(stays))[0]
 
         return learn
+
+    return prepare
+
+
+def connected(clients):
+    """Peak memory in kilobytes, once so many clients have learnt the messages of a group and
+    stay."""
+
+    def prepare(load, scale):
+        learn = fleet(clients, delay=0, stays=True, silent=0)(load, scale)
+
+        def peak():
+            learn()
+            return most_memory(load.broker.run.pid)
+
+        return peak
 
     return prepare
 
@@ -268,6 +300,21 @@ def crowd(load, scale):
         return published * 1_000_000 / micros
 
     return rate
+
+
+def beside_publishers(publishers, *words):
+    """An answer's time beside clients that each publish one at a time."""
+
+    def prepare(load, scale):
+        answer = answers(*words)(load, scale)
+
+        def time_beside():
+            with beside(load, 1, "crowd", publishers, 0, is_ready="ready\n"):
+                return answer()
+
+        return time_beside
+
+    return prepare
 
 
 def connects(load, scale):
@@ -312,15 +359,16 @@ def fast(name, unit, prepare, times, **options):
     return measure
 
 
-def fleets():
-    """A fleet that connects at once: without and with a round trip between packets, leaving and
-    staying, alone and beside silent connections."""
-    for silent, delay, stays in itertools.product((0, 64), (0, 20), (False, True)):
+def fleets(clients, silents, delays):
+    """A fleet that connects at once: alone or beside silent connections, without or with a round
+    trip between packets, leaving and staying."""
+    for silent, delay, stays in itertools.product(silents, delays, (False, True)):
         trip = f", a round trip of {delay} ms" if delay else ""
-        beside = f", beside {silent} silent ones" if silent else ""
+        beside = f", beside {silent:,} silent ones" if silent else ""
         does = "stay" if stays else "leave"
-        name = f"{FLEET:,} clients connect at once, learn and {does}{trip}{beside}"
-        yield fast(name, TIME, fleet(delay, stays, silent), 0.67 if delay else 1, **FOR_FLEETS)
+        name = f"{clients:,} clients connect at once, learn and {does}{trip}{beside}"
+        prepare, times = fleet(clients, delay, stays, silent), 0.67 if delay else 1
+        yield fast(name, TIME, prepare, times, **for_fleet(clients, silent))
 
 
 def small(name, prepare, times=1.5):
@@ -353,8 +401,8 @@ MEASURES = (
     fast("answer to `a/b/#`, 10 of 60,000 topics", TIME, answers(*BELOW), 2),
     fast("answer to a filter of one of 60,000 topics", TIME, answers(*ONE_TOPIC), 1.5),
     fast("from connecting to CONNACK", TIME, connects, 1.2),
-    *fleets(),
-    fast("1,000 clients at QoS 1, one at a time each", RATE, crowd, 2, **FOR_FLEETS),
+    *fleets(FLEET, (0, 64), (0, 20)),
+    fast("1,000 clients at QoS 1, one at a time each", RATE, crowd, 2, **for_fleet(FLEET)),
     Measure(
         "10 messages for a client with delayed acknowledgements",
         TIME,
@@ -374,12 +422,41 @@ MEASURES = (
     Measure(
         "longest wait for a PUBACK beside a replaying client",
         TIME,
-        longest_wait,
+        longest_wait(10_000),
         "less than 2,000 us",
         lambda own, other: own < 2_000,
         # Now and then the machine stops a thread for some milliseconds, the echo's too. What a
         # broker causes comes in each run.
         choose=min,
+    ),
+    fast(
+        "answer to a filter of one of 60,000 topics beside 64 publishers at its place",
+        TIME,
+        beside_publishers(64, *ONE_TOPIC),
+        1,
+        **ONE_PLACE,
+    ),
+    Measure(
+        "longest wait for a PUBACK beside a client at the same place that replays 60,000 messages",
+        TIME,
+        longest_wait(60_000),
+        "less than 2,000 us",
+        lambda own, other: own < 2_000,
+        choose=min,
+        server=ONE_PLACE,
+    ),
+)
+
+FLEETS = (
+    *fleets(FLEET, (0, 64, 1_000), (0, 20, 100)),
+    *fleets(LARGE_FLEET, (0, 64, 1_000), (0, 20, 100)),
+    Measure(
+        "peak memory, 10,000 clients that stay",
+        "kB",
+        connected(MOST_CLIENTS),
+        "at most 500,000 kB",
+        lambda own, other: own <= 500_000,
+        server=for_fleet(MOST_CLIENTS),
     ),
 )
 
@@ -406,12 +483,12 @@ def processors():
     return f"{os.cpu_count()} processors, {(kinds or ['unknown'])[0]}"
 
 
-def table(path):
+def table(path, measures):
     """Prints the table; whether all that is wanted is reached."""
     print(f"mosquitto {debian.version('mosquitto')}; {processors()}\n")
     print("| Measure | rstored | mosquitto | ratio | wanted |\n|---|---|---|---|---|")
     missed = []
-    for measure in MEASURES:
+    for measure in measures:
         own, other = values(measure, path, RUNS, scale=1)
         texts = [f"{shown(value)} {measure.unit}".strip() for value in (own, other)]
         # A share is of a broker's own rate.
@@ -419,23 +496,24 @@ def table(path):
         print(f"| {measure.name} | {' | '.join(texts)} | {ratio} | {measure.wanted} |", flush=True)
         if not measure.is_reached(own, other):
             missed.append(measure.name)
-    waits = sorted(echo_wait(path, scale=1) for _ in range(RUNS))
-    print("\nlongest wait of an echo server beside the same replaying client, in each run, us:")
-    print(", ".join(map(shown, waits)))
+    if measures is MEASURES:
+        waits = sorted(echo_wait(path, scale=1) for _ in range(RUNS))
+        print("\nlongest wait of an echo server beside the same replaying client, each run, us:")
+        print(", ".join(map(shown, waits)))
     if missed:
         print(f"\nnot reached: {'; '.join(missed)}")
     return not missed
 
 
 def once(path):
-    for measure in MEASURES:
+    for measure in (*MEASURES, FLEETS[-1]):
         values(measure, path, runs=1, scale=100)
     echo_wait(path, scale=100)
     print("brokers: each measure was made once")
 
 
 def main():
-    is_once = bool(given_words("--once"))
+    words = given_words("--once", "--fleets")
     if not debian.has(["mosquitto", "gcc", "libc6-dev"]):
         return
     # A fleet needs a descriptor for each connection, on both sides.
@@ -443,11 +521,11 @@ def main():
     resource.setrlimit(resource.RLIMIT_NOFILE, (most, most))
     with tempfile.TemporaryDirectory() as folder:
         path = f"{folder}/load"
-        words = ["gcc", "-O2", "-pthread", "-o", path, ROOT / "bench" / "load.c"]
-        subprocess.run(words, check=True)
-        if is_once:
+        compile_load = ["gcc", "-O2", "-pthread", "-o", path, ROOT / "bench" / "load.c"]
+        subprocess.run(compile_load, check=True)
+        if "--once" in words:
             once(path)
-        elif not table(path):
+        elif not table(path, FLEETS if "--fleets" in words else MEASURES):
             sys.exit(1)
 
 

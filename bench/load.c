@@ -16,7 +16,8 @@
 //         what a client is answered and its next packet
 //     load PORT crowd CLIENTS MICROS
 //         two numbers: how many publications of QoS 1 so many clients make, each one at a time, and
-//         microseconds
+//         microseconds; or nothing but a line when they begin, if MICROS is 0: they go on until it
+//         is killed
 //     load PORT silent CLIENTS
 //         a line when so many have connected that say nothing, until it is killed
 //     load PORT burn
@@ -39,6 +40,7 @@
 #include <stdlib.h>
 #include <string.h>
 #include <sys/epoll.h>
+#include <sys/mman.h>
 #include <sys/socket.h>
 #include <time.h>
 #include <unistd.h>
@@ -430,8 +432,11 @@ typedef struct {
 } Crew;
 
 static Crew crew(int count) {
-    Crew made = {epoll_create1(0), count, calloc((size_t)count, sizeof(Client))};
-    if (made.epoll < 0 || !made.clients) fail("crew");
+    // Ten thousand have room for 20 GB, of which they use little.
+    enum { OWN = MAP_PRIVATE | MAP_ANONYMOUS | MAP_NORESERVE };
+    size_t size = (size_t)count * sizeof(Client);
+    Crew made = {epoll_create1(0), count, mmap(NULL, size, PROT_READ | PROT_WRITE, OWN, -1, 0)};
+    if (made.epoll < 0 || made.clients == MAP_FAILED) fail("crew");
     return made;
 }
 
@@ -549,13 +554,17 @@ static void crowd(int count, double micros) {
         open_named(&own.clients[i], 'm', i);
         await(&own, i, EPOLLIN, EPOLL_CTL_ADD);
     }
+    if (micros == 0) {
+        puts("ready");
+        fflush(stdout);
+    }
     double start = now();
     long published = 0;
     int open = count;
     for (int i = 0; i < count; i++) publish_next(&own.clients[i], i);
     while (open > 0) {
         struct epoll_event events[EVENTS];
-        int found = ready(&own, events, -1), is_over = now() - start > micros;
+        int found = ready(&own, events, -1), is_over = micros > 0 && now() - start > micros;
         for (int i = 0; i < found; i++) {
             int number = (int)events[i].data.u32;
             Packet answer = take(&own.clients[number]);
