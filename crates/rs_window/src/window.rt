@@ -150,6 +150,7 @@ impl Window {
         let quota = receive_maximum.min(MAX_QUOTA) as usize;
         let identifiers = Slab::with_capacity(alloc, quota)?;
         // An identifier is the number of a slot plus 1, and has two bytes (2.2.1).
+        // Never: there are as many slots as were asked for. The slab's contract allows more.
         if identifiers.capacity() > usize::from(u16::MAX) {
             return Err(AllocError);
         }

@@ -38,6 +38,7 @@ fn flat_each(children: &[Child], level: &[u8], flat: &mut Vec<Child>) -> Result<
     for i in 0..children.len() {
         let child = &children[i];
         match child.level().cmp(level) {
+            // Never: a chunk is in order.
             Ordering::Less => return Err(AllocError),
             _ => child.flat(flat)?,
         }
@@ -95,6 +96,7 @@ impl Branch {
         ensures same { OnOk result (parts flat.new.items ≡ parts flat.old.items ++ self.now.spots) }
     {
         if self.retained.is_some() {
+            // Never: a chunk has no message of its own.
             return Err(AllocError);
         }
         flat_each(self.children.as_slice(), level, flat)

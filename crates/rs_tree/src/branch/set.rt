@@ -24,7 +24,7 @@ fn stem_of(alloc: Global, bucket: &Leaves) -> Result<Stem, AllocError>
     let mut branch = Branch::new(alloc);
     let leaves = bucket.as_slice();
     for leaf in leaves {
-        // Never none: the messages are in order, so all share what the first and the last share.
+        // Never: the messages are in order, so all share what the first and the last share.
         let Some(next) = behind(chain.as_slice(), leaf.found.topic(), leaf.at) else {
             return Err(AllocError);
         };

@@ -1,0 +1,56 @@
+"""Looks where the sources make an *out of memory*: in the branch of a call that failed, or below a
+comment that says why.
+
+Contracts cannot see the allocator, so they allow a function to answer *out of memory* at any time.
+"""
+
+import re
+import sys
+from pathlib import Path
+
+from harness.words import given_words
+
+ROOT = Path(__file__).resolve().parent.parent
+# A refusal as a value, and not as the pattern of an arm or a part of a type.
+MADE = re.compile(r"\b(?:AllocError|\w+::NoMemory)\b(?=[),;]|$)(?!.*=>)")
+# What imports, clauses and types say of it.
+SAID = re.compile(r"\s*(?://|use |ghost|ensures|requires)|.*(?:\) -> |Result<)")
+# On the line itself: a refusal is passed on, under another name or under its own.
+PASSED_ON = re.compile(r"(?:\bErr\(.*|\w*NoMemory\b.*|OutOfMemory\b.*) => |map_err\(\|_\| ")
+# On the lines above: the branch of a call that failed begins, or a refusal is converted.
+FAILED = re.compile(r"\blet Ok\(|\bErr\(.*\) => \{$|\.is_err\(\) \{$|OutOfMemory \{$|fn from\(")
+REASON = re.compile(r"// (?:Never|Refused): ")
+# Tests and examples refuse on purpose.
+TRIES = ("_tests", "_kit", "rs_trials", "rs_examples")
+
+
+def sources():
+    for crate in sorted(ROOT.glob("crates/*")):
+        if not crate.name.endswith(TRIES):
+            yield from sorted(crate.glob("src/**/*.rt"))
+
+
+def unexplained(path):
+    """The lines of the file that make a refusal, and not for a reason that can be seen."""
+    lines = path.read_text(encoding="utf-8").splitlines()
+    for number, line in enumerate(lines):
+        if SAID.match(line) or not MADE.search(line) or PASSED_ON.search(line):
+            continue
+        above = lines[max(0, number - 2) : number]
+        reasons = lines[max(0, number - 4) : number]
+        if not any(map(FAILED.search, above)) and not any(map(REASON.search, reasons)):
+            yield number + 1
+
+
+def main():
+    given_words()
+    found = [(path, number) for path in sources() for number in unexplained(path)]
+    for path, number in found:
+        print(f"{path.relative_to(ROOT)}:{number}: out of memory, and no call failed")
+    if found:
+        sys.exit("refusals: say above each in a comment `// Refused: ..` or `// Never: ..` why")
+    print("refusals: each out of memory has its reason")
+
+
+if __name__ == "__main__":
+    main()
