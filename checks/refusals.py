@@ -12,13 +12,17 @@ from harness.words import given_words
 
 ROOT = Path(__file__).resolve().parent.parent
 # A refusal as a value, and not as the pattern of an arm or a part of a type.
-MADE = re.compile(r"\b(?:AllocError|\w+::NoMemory)\b(?=[),;]|$)(?!.*=>)")
+MADE = re.compile(r"\b(?:AllocError|NoMemory)\b(?=[),;]|$)(?!.*=>)")
 # What imports, clauses and types say of it.
-SAID = re.compile(r"\s*(?://|use |ghost|ensures|requires)|.*(?:\) -> |Result<)")
+SAID = re.compile(
+    r"\s*(?://|use |ghost|ensures|requires|NoMemory\b)|(?!\s*let ).*(?:\) -> |Result<)"
+)
 # On the line itself: a refusal is passed on, under another name or under its own.
 PASSED_ON = re.compile(r"(?:\bErr\(.*|\w*NoMemory\b.*|OutOfMemory\b.*) => |map_err\(\|_\| ")
 # On the lines above: the branch of a call that failed begins, or a refusal is converted.
-FAILED = re.compile(r"\blet Ok\(|\bErr\(.*\) => \{$|\.is_err\(\) \{$|OutOfMemory \{$|fn from\(")
+FAILED = re.compile(
+    r"\blet Ok\(.*\{$|\bErr\(.*\) => \{$|\.is_err\(\) \{$|OutOfMemory \{$|fn from\("
+)
 REASON = re.compile(r"// (?:Never|Refused): ")
 # Tests and examples refuse on purpose.
 TRIES = ("_tests", "_kit", "rs_trials", "rs_examples")
@@ -37,8 +41,7 @@ def unexplained(path):
         if SAID.match(line) or not MADE.search(line) or PASSED_ON.search(line):
             continue
         above = lines[max(0, number - 2) : number]
-        reasons = lines[max(0, number - 4) : number]
-        if not any(map(FAILED.search, above)) and not any(map(REASON.search, reasons)):
+        if not any(FAILED.search(each) or REASON.search(each) for each in above):
             yield number + 1
 
 

@@ -85,7 +85,7 @@ def the_health_check():
         with ExitStack() as clients:
             for _ in range(server.clients):
                 clients.enter_context(Client(server)).connect()
-            wanted(not is_healthy(server, 1), "all that may be are connected, and a client is answered")
+            wanted(not is_healthy(server, 1), "one client more than may be is answered")
         wanted(is_healthy(server), "a client is not answered any more")
     wanted(not is_healthy(server), "there is no server, and a client is answered")
 

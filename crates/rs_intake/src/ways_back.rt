@@ -56,9 +56,9 @@ fn reply_to_next<N: LineName, R: Wait + Drop>(
     ensures held { has_held.new ≡ (has_held.old || is_held result.answer) }
 {
     if *has_held {
-        // Refused: the memory for the change that is held before this one.
         return WriterReply {
             origin: entry.origin,
+            // Refused: the memory for the change that is held before this one.
             answer: Err(PutFault::NoMemory),
         };
     }

@@ -65,9 +65,9 @@ fn take_from<N: StoreName>(
     ensures legal { IfOk result (λ v. IsLegal N.limit v) }
 {
     let list: NamedList<N> = NamedList::new(published.prefix.again());
-    // Never: a publish is no shorter than what was published before. The rule of the published copy says so of what was read,
-    // and not of what was learned from a token.
     if !list.reaches(known) {
+        // Never: a publish is no shorter than what was published before. The rule of the published copy says so of what was read, and
+        // not of what was learned from a token.
         return Err(AllocError);
     }
     Ok(Version::new(list, published.catalogue.copy()?))
