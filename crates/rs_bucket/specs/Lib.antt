@@ -4,6 +4,7 @@ pub mod Chains
 pub mod Chosen
 pub mod Clearing
 pub mod Expiring
+pub mod Keys
 pub mod Labels
 pub mod Messages
 pub mod Rests

@@ -1,19 +1,18 @@
 //! A level of topics, as the children of a branch are named by it.
 
-ghost use Rattle.std.specs.Prelude.{◌≡◌, ◌≤◌, [], length, take, IfOk, IfSome};
+ghost use Rattle.std.specs.Prelude.{◌≡◌, [], IfOk, IfSome};
+ghost use Rattle.rs_bucket.specs.Labels.{IsKeyIfAny};
 
+use crate::key::{Key, SHORT, padded};
 use crate::spot_message::SpotMessage;
 use std::alloc::{AllocError, Global};
 use std::marker::Model;
 use std::sync::Arc;
 
-/// The most bytes of a level that stand in the label itself.
-const SHORT: usize = 14;
-
 #[derive(Drop)]
 enum LabelText {
-    /// So many of these bytes.
-    Short(u8, [u8; SHORT]),
+    /// So many of these bytes. Behind them are zeros.
+    Short([u8; SHORT], u8),
     /// So many bytes of a message's topic, from this one on.
     Part(u16, u32, SpotMessage),
     /// More bytes, which are shared.
@@ -36,19 +35,6 @@ impl Model for Label {
     ghost view = { λ l. text_of l.text };
 
     ghost invariant = { λ l. IsText l.text };
-}
-
-/// The bytes of a short level, and zeros behind them.
-fn padded(level: &[u8]) -> [u8; SHORT]
-    requires { length level.now ≤ 14 }
-    ensures same { take (length level.now) result ≡ level.now }
-    ensures wide { length level.now ≤ length result }
-{
-    let mut bytes = [0; SHORT];
-    for i in 0..level.len() {
-        bytes[i] = level[i];
-    }
-    bytes
 }
 
 /// A level of more bytes as a part of a topic, if it stands there at this byte.
@@ -100,7 +86,7 @@ impl Label {
     {
         if level.len() <= SHORT {
             return Ok(Label {
-                text: LabelText::Short(level.len() as u8, padded(level)),
+                text: LabelText::Short(padded(level), level.len() as u8),
             });
         }
         let bytes = Vec::from_slice(alloc, level)?;
@@ -114,7 +100,7 @@ impl Label {
         ensures { result ≡ [] }
     {
         Label {
-            text: LabelText::Short(0, [0; SHORT]),
+            text: LabelText::Short([0; SHORT], 0),
         }
     }
 
@@ -123,7 +109,7 @@ impl Label {
         ensures { result.now ≡ self.now }
     {
         match &self.text {
-            LabelText::Short(length, bytes) => {
+            LabelText::Short(bytes, length) => {
                 let (level, _) = bytes.as_slice().split_at(*length as usize);
                 level
             }
@@ -136,13 +122,31 @@ impl Label {
         }
     }
 
+    /// Its bytes stand in the label itself, which keeps nothing else in memory.
+    pub fn is_short(&self) -> bool {
+        match &self.text {
+            LabelText::Short(_, _) => true,
+            _ => false,
+        }
+    }
+
+    /// A short level as numbers.
+    pub(crate) fn key(&self) -> Option<Key>
+        ensures { IsKeyIfAny self.now result }
+    {
+        match &self.text {
+            LabelText::Short(bytes, length) => Some(Key::new(bytes, *length)),
+            _ => None,
+        }
+    }
+
     /// The same level. The error says that the count of owners is full.
     pub fn again(&self) -> Result<Label, AllocError>
         ensures { IfOk result (λ l. l ≡ self.now) }
     {
         match &self.text {
-            LabelText::Short(length, bytes) => Ok(Label {
-                text: LabelText::Short(*length, *bytes),
+            LabelText::Short(bytes, length) => Ok(Label {
+                text: LabelText::Short(*bytes, *length),
             }),
             LabelText::Part(length, from, found) => Ok(Label {
                 text: LabelText::Part(*length, *from, found.again()?),

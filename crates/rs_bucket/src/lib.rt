@@ -5,19 +5,21 @@
 //! expires, and answers a filter, each exactly as its messages say. It shares its messages with its copies, is changed in place while it
 //! has one owner, and is copied otherwise: so a copy never changes. If memory is refused, nothing changes.
 //!
-//! Here is also what a tree above buckets has of the same messages: the levels above them, as a [`Label`] of one level or as a chain of
-//! levels in one text ([`behind`], [`past`], [`joined`], [`shared_levels`]); the message of one spot alone ([`SpotMessage`],
-//! [`answer_retained`], [`retained_again`]); the messages of a bucket that has too many ([`Leaves`], [`Leaf`]); and what a Clear found
-//! ([`Cleared`]).
+//! Here is also what a tree above buckets has of the same messages: the levels above them, as a [`Label`] of one level, which a
+//! [`Sought`] level is compared with, or as a chain of levels in one text ([`behind`], [`past`], [`joined`], [`shared_levels`]); the
+//! message of one spot alone ([`SpotMessage`], [`answer_retained`], [`retained_again`]); the messages of a bucket that has too many
+//! ([`Leaves`], [`Leaf`]); and what a Clear found ([`Cleared`]).
 #![tactic(auto)]
 
 mod bucket;
 mod chain;
 mod cleared;
+mod key;
 mod label;
 mod leaf;
 mod leaves;
 mod retained;
+mod sought;
 mod spot_message;
 
 pub use bucket::Bucket;
@@ -27,4 +29,5 @@ pub use label::Label;
 pub use leaf::Leaf;
 pub use leaves::Leaves;
 pub use retained::{answer_retained, retained_again};
+pub use sought::Sought;
 pub use spot_message::SpotMessage;

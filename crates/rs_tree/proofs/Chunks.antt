@@ -2,7 +2,6 @@
 use Rattle.rs_tree.proofs.Under.{there_one, level_cmp}
 use Rattle.rs_bucket.proofs.Spots.{Spots, Path}
 use Rattle.std.proofs.Common.{◌≡◌, ◌≢◌, ℕ, zero, suc, ◌+◌, ◌<◌, ◌≤◌, Bool, true, false, List, [], ◌∷◌, ◌++◌, length, get_or, take, drop, refl, sym, ap, subst, ◌∙◌, arith, append_assoc, add-one, Option, Some, None, is_some}
-use Rattle.std.specs.Cmp.Lexicographic.{bytes_decides}
 use Rattle.std.specs.Str.{bytes_eq}
 use Rattle.std.specs.declared.cmp.Ordering.{Ordering}
 use Rattle.std.specs.declared.cmp.Ordering.TheVariants.{Less, Equal, Greater}
@@ -326,32 +325,26 @@ pub under_behind : (q k : List ℕ) (p : Path) (w : Spots) → level_cmp q k ≡
 under_behind q k p [] g = tt
 under_behind q k p (s ∷ ss) g = (rw g refl, under_behind q k p ss g)
 
-not_same : (q k own : List ℕ) (b : Bool) → own ≡ k → b ≡ bytes_eq own q → b ≡ false → level_cmp q k ≢ Less → level_cmp q k ≡ Greater
-not_same q k own b here is nay n = at (level_cmp q k) refl
+not_same : (q k : List ℕ) → q ≢ k → level_cmp q k ≢ Less → level_cmp q k ≡ Greater
+not_same q k other n = at (level_cmp q k) refl
   where
     at : (o : Ordering) → level_cmp q k ≡ o → level_cmp q k ≡ Greater
     at Less e = absurd (n e)
     at Greater e = e
-    at Equal e =
-        let same : own ≡ q = here ∙ sym (exact_bytes q k e) in
-        let yea : bytes_eq own q ≡ true = (bytes_decides own q).1 same in
-        absurd (cc (yea, is, nay))
+    at Equal e = absurd (other (exact_bytes q k e))
 
-pub passed_under : (q k own : List ℕ) (b : Bool) (w : Spots) → own ≡ k → b ≡ bytes_eq own q → level_cmp q k ≢ Less → b ≡ false → (p : Path) → IsBehind (q ∷ p) (under k w)
-passed_under q k own b w here is n nay p = under_behind q k p w (not_same q k own b here is nay n)
+pub passed_under : (q k : List ℕ) (w : Spots) → q ≢ k → level_cmp q k ≢ Less → (p : Path) → IsBehind (q ∷ p) (under k w)
+passed_under q k w other n p = under_behind q k p w (not_same q k other n)
 
 -- ---- the same as the calls say it
 
-pub low_step : (q : List ℕ) (cs : List ChildValue) (i n : ℕ) (c : ChildValue) (k : List ℕ) (o : Ordering) → n ≡ i + 1 → i < length cs → c ≡ get_or cs i c → k ≡ c.level → o ≡ level_cmp q k → o ≢ Less → IsLow q cs n
-low_step q cs i n c k o e small is same cmp nay =
-    let not : IsNotBefore q c = (λ l. nay (cmp ∙ (ap (level_cmp q) same ∙ l))) in
+pub low_step : (q : List ℕ) (cs : List ChildValue) (i n : ℕ) (c : ChildValue) → n ≡ i + 1 → i < length cs → c ≡ get_or cs i c → level_cmp q c.level ≢ Less → IsLow q cs n
+low_step q cs i n c e small is not =
     let here : IsNotBefore q (get_or cs i c) = (let P : ChildValue → Type 0 = λ w. IsNotBefore q w in subst P is not) in
     let P : ℕ → Type 0 = λ m. IsLow q cs m in subst P (sym (e ∙ add-one i)) (low_at q cs i c small here)
 
-pub high_step : (q : List ℕ) (cs : List ChildValue) (i : ℕ) (c : ChildValue) (k : List ℕ) (o : Ordering) → i < length cs → c ≡ get_or cs i c → k ≡ c.level → o ≡ level_cmp q k → o ≡ Less → IsHigh q cs i
-high_step q cs i c k o small is same cmp yea =
-    let less : level_cmp q c.level ≡ Less = ap (level_cmp q) (sym same) ∙ (sym cmp ∙ yea) in
-    high_at q cs i c small (let P : ChildValue → Type 0 = λ w. level_cmp q w.level ≡ Less in subst P is less)
+pub high_step : (q : List ℕ) (cs : List ChildValue) (i : ℕ) (c : ChildValue) → i < length cs → c ≡ get_or cs i c → level_cmp q c.level ≡ Less → IsHigh q cs i
+high_step q cs i c small is less = high_at q cs i c small (let P : ChildValue → Type 0 = λ w. level_cmp q w.level ≡ Less in subst P is less)
 
 pub edge_end : (q : List ℕ) (cs : List ChildValue) (i j : ℕ) → j ≡ i → IsLow q cs i → IsHigh q cs j → IsEdge (IsNotBefore q) q cs i
 edge_end q cs i j e l h = edge_between q cs i l (let P : ℕ → Type 0 = λ m. IsHigh q cs m in subst P e h)

@@ -1,7 +1,10 @@
 //! The retained messages as a tree of levels, whose nodes are shared.
 
 ghost use Rattle.std.specs.Prelude.{◌≡◌, ◌<◌, ◌≤◌, false, [], List, ℕ, length, IfErr, IfOk, IsTrue, MatchResult, OnErr, OnOk};
+ghost use Rattle.std.specs.Cmp.Lexicographic.{slice_cmp};
 ghost use Rattle.std.specs.List.{insert};
+ghost use Rattle.std.specs.Ordering.{nat_cmp};
+ghost use Rattle.std.specs.declared.cmp.Ordering.TheVariants.{Less};
 ghost use Rattle.rs_tree.specs.Nodes.{depth_of, is_chunk, spots_of};
 ghost use Rattle.rs_tree.specs.Chunks.{IsEdge, IsGap, IsIn, IsNotBefore, Passes, Takes};
 
@@ -20,9 +23,8 @@ mod set;
 mod sweep;
 
 pub use remains::Remains;
-use rs_bucket::{Bucket, Label, SpotMessage, retained_again};
+use rs_bucket::{Bucket, Label, Sought, SpotMessage, retained_again};
 use std::alloc::{AllocError, Global};
-use std::cmp::Ordering;
 use std::marker::Model;
 use std::sync::Arc;
 
@@ -134,15 +136,23 @@ impl Child {
         self.level.as_slice()
     }
 
+    /// Its level is behind another one.
+    fn is_behind(&self, level: &Sought<'_>) -> bool
+        ensures yes { IsTrue result → slice_cmp nat_cmp level.now self.now.level ≡ Less }
+        ensures no { result ≡ false → IsNotBefore level.now self.now }
+    {
+        level.is_before(&self.level)
+    }
+
     /// What is below a level belongs to this child. If not, it is behind all that is here.
-    fn takes(&self, level: &[u8]) -> bool
+    fn takes(&self, level: &Sought<'_>) -> bool
         requires { IsNotBefore level.now self.now }
         ensures taken { IsTrue result → Takes level.now self.now }
         ensures passed { result ≡ false → Passes level.now self.now }
     {
         match &self.below {
-            Below::Few(_) => self.level.as_slice() == level,
-            Below::Inner(_) => self.level.as_slice() == level,
+            Below::Few(_) => level.is(&self.level),
+            Below::Inner(_) => level.is(&self.level),
             Below::Chunk(_) => true,
         }
     }
@@ -193,16 +203,17 @@ fn insert_at(children: &mut Vec<Child>, i: usize, child: Child) -> Result<(), Al
 }
 
 /// The index of the first child whose level is behind a level.
-fn first_behind(children: &[Child], level: &[u8]) -> usize
+fn first_behind(children: &[Child], level: &Sought<'_>) -> usize
     ensures edge { IsEdge (IsNotBefore level.now) level.now children.now result }
     ensures small { result ≤ length children.now }
 {
     let (mut low, mut high) = (0, children.len());
     while low < high {
         let middle = low + (high - low) / 2;
-        match level.cmp(children[middle].level()) {
-            Ordering::Less => high = middle,
-            _ => low = middle + 1,
+        if children[middle].is_behind(level) {
+            high = middle;
+        } else {
+            low = middle + 1;
         }
     }
     low
@@ -214,11 +225,12 @@ fn index_of(children: &[Child], level: &[u8]) -> Result<usize, usize>
     ensures within { IfOk result (λ i. i < length children.now) }
     ensures up_to { IfErr result (λ i. i ≤ length children.now) }
 {
-    let i = first_behind(children, level);
+    let sought = Sought::new(level);
+    let i = first_behind(children, &sought);
     if i == 0 {
         return Err(0);
     }
-    if children[i - 1].takes(level) {
+    if children[i - 1].takes(&sought) {
         Ok(i - 1)
     } else {
         Err(i)

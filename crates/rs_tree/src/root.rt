@@ -72,9 +72,13 @@ impl Root {
         ensures refused { OnErr result (self.new ≡ self.old) }
     {
         let message = SpotMessage::new(found);
-        let done = Branch::set_in(&mut self.branch, alloc, message, 0);
+        let was = Branch::set_in(&mut self.branch, alloc, message, 0)?;
+        // A message that takes another one's place adds no child.
+        if was {
+            return Ok(true);
+        }
         self.fold(alloc);
-        done
+        Ok(false)
     }
 
     /// Removes the message of a topic, and returns whether there was one. If memory is refused, nothing changes.

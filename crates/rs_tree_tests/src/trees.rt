@@ -15,6 +15,7 @@ use std::test::Fail;
 mod alike;
 mod examples;
 mod joined;
+mod lengths;
 mod snapshots;
 mod sweeps;
 mod wide;

@@ -80,6 +80,15 @@ impl Child {
         })
     }
 
+    /// It is a chunk that has too many children.
+    fn is_over(&self) -> bool {
+        match &self.below {
+            Below::Few(_) => false,
+            Below::Inner(_) => false,
+            Below::Chunk(chunk) => chunk.children.len() > MOST,
+        }
+    }
+
     /// The halves of a chunk, if it has too many children.
     fn halved(&self, alloc: Global) -> Result<Option<(Child, Child)>, AllocError>
         requires { IsFrom self.now.level self.now.spots }
@@ -124,7 +133,7 @@ impl Branch {
     pub fn divide(&mut self, alloc: Global, i: usize)
         ensures { self.new.spots ≡ self.old.spots }
     {
-        if i >= self.children.len() {
+        if i >= self.children.len() || !self.children[i].is_over() {
             return;
         }
         let Ok(Some((low, high))) = self.children[i].halved(alloc) else {

@@ -33,7 +33,8 @@ fn stem_of(alloc: Global, bucket: &Leaves) -> Result<Stem, AllocError>
     Ok(Stem { chain, branch })
 }
 
-/// The level of a bucket to which a message comes: a part of its topic if no other is there then, or else bytes of its own.
+/// The level of a bucket to which a message comes. A long one is a part of its topic if no other is there then, or else has bytes of
+/// its own.
 fn renewed(
     alloc: Global,
     level: &Label,
@@ -44,6 +45,9 @@ fn renewed(
 ) -> Result<Label, AllocError>
     ensures { IfOk result (λ l. l ≡ level.now) }
 {
+    if level.is_short() {
+        return level.again();
+    }
     if bucket.is_one_at(found.topic(), next) {
         return Label::from_topic(alloc, level.as_slice(), found, at);
     }

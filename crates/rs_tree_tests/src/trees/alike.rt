@@ -7,6 +7,7 @@ use super::joined::{
     check_cleared_chunks, check_deep, check_flat_list, check_lone_messages, check_narrow_chunks,
     check_swept_chunks,
 };
+use super::lengths::check_lengths;
 use super::wide::{check_grown, check_swept_grown};
 use super::{check_as_many, origin, set_at};
 use rs_message::{Entry, Operation};
@@ -287,6 +288,7 @@ pub enum Case {
     FlatList,
     Grown(u64),
     SweptGrown,
+    Lengths,
 }
 
 pub fn check_case(rt: &impl Abort, alloc: Global, topics: u32, case: Case) -> Result<(), Fail> {
@@ -303,6 +305,7 @@ pub fn check_case(rt: &impl Abort, alloc: Global, topics: u32, case: Case) -> Re
         Case::FlatList => check_flat_list(rt, alloc, &mut map, &mut tree),
         Case::Grown(step) => check_grown(rt, alloc, &mut map, &mut tree, step),
         Case::SweptGrown => check_swept_grown(rt, alloc, &mut map, &mut tree),
+        Case::Lengths => check_lengths(rt, alloc, &mut map, &mut tree),
     }
 }
 

@@ -1,0 +1,62 @@
+//! Short levels as numbers.
+
+ghost use Rattle.std.specs.Prelude.{◌≡◌, ◌≢◌, ◌≤◌, false, length, take, IsTrue};
+ghost use Rattle.std.specs.declared.cmp.Ordering.TheVariants.{Equal, Less};
+ghost use Rattle.rs_bucket.specs.Keys.{IsKey, key_cmp, padded};
+
+/// The most bytes of a short level.
+pub(crate) const SHORT: usize = 14;
+
+/// The bytes of a short level, and zeros behind them.
+pub(crate) fn padded(level: &[u8]) -> [u8; SHORT]
+    requires { length level.now ≤ 14 }
+    ensures same { result ≡ padded 14 level.now }
+    ensures start { take (length level.now) result ≡ level.now }
+{
+    let mut bytes = [0; SHORT];
+    for i in 0..level.len() {
+        bytes[i] = level[i];
+    }
+    bytes
+}
+
+/// A short level as two numbers, which lie as the levels do: its bytes, zeros behind them, and its length. The middle byte is in both.
+#[derive(Clone, Copy)]
+pub(crate) struct Key {
+    first: u64,
+    last: u64,
+}
+
+impl Key {
+    /// The key of so many of these bytes.
+    pub(crate) fn new(bytes: &[u8; SHORT], length: u8) -> Key
+        requires short { length ≤ 14 }
+        requires padded { bytes.now ≡ padded 14 (take length bytes.now) }
+        ensures { IsKey (take length bytes.now) result }
+    {
+        Key {
+            first: u64::from_be_bytes([
+                bytes[0], bytes[1], bytes[2], bytes[3], bytes[4], bytes[5], bytes[6], bytes[7],
+            ]),
+            last: u64::from_be_bytes([
+                bytes[7], bytes[8], bytes[9], bytes[10], bytes[11], bytes[12], bytes[13], length,
+            ]),
+        }
+    }
+
+    /// The level comes before that of the other key.
+    pub(crate) fn is_before(self, other: Key) -> bool
+        ensures before { IsTrue result → key_cmp self other ≡ Less }
+        ensures from { result ≡ false → key_cmp self other ≢ Less }
+    {
+        self.first < other.first || (self.first == other.first && self.last < other.last)
+    }
+
+    /// The level is that of the other key.
+    pub(crate) fn is(self, other: Key) -> bool
+        ensures same { IsTrue result → key_cmp self other ≡ Equal }
+        ensures other { result ≡ false → key_cmp self other ≢ Equal }
+    {
+        self.first == other.first && self.last == other.last
+    }
+}
