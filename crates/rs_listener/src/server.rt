@@ -17,6 +17,7 @@ use rs_sockets::{Listener, descriptor_limit};
 use rs_store::TopicLimit;
 use rs_version::Blank;
 use std::alloc::Global;
+use std::io::ErrorKind;
 use std::net::{Net, TcpListener, TcpStream};
 use std::sync::{Arc, Wait};
 use std::thread::Threads;
@@ -68,7 +69,7 @@ impl Server {
         let blank = Blank::new(alloc, limit, places)?;
         let queue = blank_queue(alloc, places)?;
         let fullness = queue.fullness()?;
-        match Listener::bind(rt, address, connections, idle) {
+        match Listener::bind(rt, alloc, address, connections, idle) {
             Ok(listener) => Ok(Server {
                 alloc,
                 listener,
@@ -78,6 +79,7 @@ impl Server {
                 places,
                 clients,
             }),
+            Err(error) if error.kind() == ErrorKind::OutOfMemory => Err(ListenFault::NoMemory),
             Err(error) => Err(ListenFault::Address(error)),
         }
     }

@@ -2,3 +2,5 @@ pub mod Clock
 pub mod Gathered
 pub mod Sharing
 pub mod Halves
+pub mod Patience
+pub mod Looking

@@ -5,10 +5,12 @@ ghost use Rattle.rs_sockets.specs.declared.limits.TheConstants.{LONGEST_PAUSE};
 
 use crate::connection::{FromClient, ToClient, open};
 use crate::limits::{BACKLOG, FIRST_PAUSE, LONGEST_PAUSE};
+use crate::looking::Lookers;
 use libc::net::listen;
-use std::alloc::Global;
+use std::alloc::{AllocError, Global};
 use std::net::{Net, SocketAddr, TcpListener, TcpStream};
 use std::os::fd::AsRawFd;
+use std::sync::Arc;
 use std::sync::atomic::{AtomicU64, Ordering};
 use std::time::{Clock, Duration};
 use std::{io, thread};
@@ -19,6 +21,7 @@ pub struct Listener {
     socket: TcpListener,
     left: AtomicU64,
     idle: Option<Duration>,
+    lookers: Arc<Lookers>,
 }
 
 /// A connection that was accepted.
@@ -40,13 +43,15 @@ impl Listener {
     ///
     /// # Errors
     ///
-    /// If `address` is not an address, is in use, or may not be bound.
+    /// If `address` is not an address, is in use, or may not be bound, or if memory is refused.
     pub fn bind<H: Net<Listener = TcpListener, Stream = TcpStream>>(
         rt: &H,
+        alloc: Global,
         address: &str,
         connections: u64,
         idle: Option<Duration>,
     ) -> io::Result<Listener> {
+        let lookers = Arc::new(alloc, Lookers::of_processors()).map_err(|_| AllocError)?;
         let socket = TcpListener::bind(rt, address)?;
         // std asks for 128. If the system refuses more, those stand.
         let _ = listen(socket.as_raw_fd(), BACKLOG);
@@ -54,6 +59,7 @@ impl Listener {
             socket,
             left: AtomicU64::new(connections),
             idle,
+            lookers,
         })
     }
 
@@ -94,7 +100,8 @@ impl Listener {
 
     fn accept_once(&self, alloc: Global) -> io::Result<Accepted> {
         let (stream, peer) = self.socket.accept()?;
-        let (input, output) = open(alloc, stream, self.idle)?;
+        let lookers = Arc::try_clone(&self.lookers)?;
+        let (input, output) = open(alloc, stream, self.idle, lookers)?;
         Ok(Accepted {
             input,
             output,

@@ -1,16 +1,28 @@
 //! A TCP stream that both halves of a connection have.
 
+use crate::looking::Look;
+use libc::net::{POLLIN, poll};
+use libc::types::pollfd;
 use std::alloc::{AllocError, Global};
 use std::io;
 use std::io::{Read, Write};
 use std::net::{OpenStream, Shutdown, TcpStream};
+use std::os::fd::AsRawFd;
 use std::sync::Arc;
+use std::sync::atomic::{AtomicBool, Ordering};
 use std::time::Duration;
+
+/// A TCP stream, and whether something was sent by it since its reader last asked.
+#[derive(Drop)]
+struct Connected {
+    stream: TcpStream,
+    answered: AtomicBool,
+}
 
 /// One of the owners of a TCP stream. They share its descriptor, which is closed when the last of them is dropped.
 #[derive(Drop)]
 pub struct SharedStream {
-    stream: Arc<TcpStream>,
+    shared: Arc<Connected>,
 }
 
 impl SharedStream {
@@ -19,22 +31,44 @@ impl SharedStream {
         alloc: Global,
         stream: TcpStream,
     ) -> Result<(SharedStream, SharedStream), AllocError> {
-        let stream = Arc::new(alloc, stream).map_err(|_| AllocError)?;
-        let other = Arc::try_clone(&stream)?;
-        Ok((SharedStream { stream }, SharedStream { stream: other }))
+        let connected = Connected {
+            stream,
+            answered: AtomicBool::new(false),
+        };
+        let shared = Arc::new(alloc, connected).map_err(|_| AllocError)?;
+        let other = Arc::try_clone(&shared)?;
+        Ok((SharedStream { shared }, SharedStream { shared: other }))
     }
 }
 
 impl Read for SharedStream {
     fn read(&mut self, buf: &mut [u8]) -> io::Result<usize> {
-        let mut stream: &TcpStream = &self.stream;
+        let mut stream: &TcpStream = &self.shared.stream;
         stream.read(buf)
+    }
+}
+
+impl Look for SharedStream {
+    /// A poll, and not a read that does not block: that would need `unsafe`, and take an error away from the read that follows.
+    fn is_ready(&self) -> bool {
+        let mut asked = [pollfd {
+            fd: self.shared.stream.as_raw_fd(),
+            events: POLLIN,
+            revents: 0,
+        }];
+        // If it fails, the read tells.
+        poll(&mut asked, 0) != 0
+    }
+
+    fn take_answered(&self) -> bool {
+        self.shared.answered.swap(false, Ordering::SeqCst)
     }
 }
 
 impl Write for SharedStream {
     fn write(&mut self, buf: &[u8]) -> io::Result<usize> {
-        let mut stream: &TcpStream = &self.stream;
+        self.shared.answered.store(true, Ordering::SeqCst);
+        let mut stream: &TcpStream = &self.shared.stream;
         stream.write(buf)
     }
 
@@ -45,14 +79,14 @@ impl Write for SharedStream {
 
 impl OpenStream for SharedStream {
     fn shutdown(&self, how: Shutdown) -> io::Result<()> {
-        self.stream.shutdown(how)
+        self.shared.stream.shutdown(how)
     }
 
     fn nodelay(&self) -> io::Result<bool> {
-        self.stream.nodelay()
+        self.shared.stream.nodelay()
     }
 
     fn set_read_timeout(&self, time: Option<Duration>) -> io::Result<()> {
-        self.stream.set_read_timeout(time)
+        self.shared.stream.set_read_timeout(time)
     }
 }

@@ -3,6 +3,8 @@
 #![tactic(auto)]
 
 #[cfg(test)]
+mod answering;
+#[cfg(test)]
 mod clocks;
 #[cfg(test)]
 mod connections;
@@ -11,4 +13,8 @@ mod echo;
 #[cfg(test)]
 mod listening;
 #[cfg(test)]
+mod looking;
+#[cfg(test)]
 mod peer;
+#[cfg(test)]
+mod watched;

@@ -46,7 +46,7 @@ fn slept<H: Net<Listener = TcpListener, Stream = TcpStream>>(
     alloc: Global,
     connections: u64,
 ) -> io::Result<Option<u64>> {
-    let listener = Listener::bind(rt, "127.0.0.1:0", connections, Some(Duration::ZERO))?;
+    let listener = Listener::bind(rt, alloc, "127.0.0.1:0", connections, Some(Duration::ZERO))?;
     knock(rt, listener.address(alloc)?.as_str(), connections)?;
     let clock = Sleeping(AtomicU64::new(0));
     Ok(match listener.accept(&clock, alloc) {
@@ -77,7 +77,7 @@ fn sends_at_once<H: Clock>(rt: &H, alloc: Global, listener: &Listener) -> Option
 #[test]
 fn replies_are_sent_without_delay(rt: HostRuntime) -> Result<(), Fail> {
     let alloc = rt.alloc();
-    let listener = Listener::bind(&rt, "127.0.0.1:0", 1, None)?;
+    let listener = Listener::bind(&rt, alloc, "127.0.0.1:0", 1, None)?;
     let _client = TcpStream::connect(&rt, listener.address(alloc)?.as_str())?;
     assert!(rt; sends_at_once(&rt, alloc, &listener) == Some(true));
     Ok(())
@@ -105,7 +105,7 @@ fn waiting<H: Net<Listener = TcpListener, Stream = TcpStream>>(
 fn many_clients_may_wait(rt: HostRuntime) -> Result<(), Fail> {
     assert!(rt; BACKLOG == 4_096);
     let alloc = rt.alloc();
-    let listener = Listener::bind(&rt, "127.0.0.1:0", 1, None)?;
+    let listener = Listener::bind(&rt, alloc, "127.0.0.1:0", 1, None)?;
     let address = listener.address(alloc)?.as_str().parse::<SocketAddr>()?;
     assert!(rt; waiting(&rt, alloc, address, 300)? == 300);
     Ok(())
