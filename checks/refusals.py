@@ -1,7 +1,8 @@
-"""Looks where the sources make an *out of memory*: in the branch of a call that failed, or below a
-comment that says why.
+"""Looks where the sources make an *out of memory*, or a `Gone`: in the branch of a call that failed,
+or below a comment that says why.
 
-Contracts cannot see the allocator, so they allow a function to answer *out of memory* at any time.
+Contracts cannot see the allocator or the other end of a channel, so they allow a function to answer
+so at any time.
 """
 
 import re
@@ -12,7 +13,7 @@ from harness.words import given_words
 
 ROOT = Path(__file__).resolve().parent.parent
 # A refusal as a value, and not as the pattern of an arm or a part of a type.
-MADE = re.compile(r"\b(?:AllocError|NoMemory)\b(?=[),;]|$)(?!.*=>)")
+MADE = re.compile(r"\b(?:(?:AllocError|NoMemory)\b(?=[),;]|$)(?!.*=>)|Err\(Gone\b)")
 # What imports, clauses and types say of it.
 SAID = re.compile(
     r"\s*(?://|use |ghost|ensures|requires|NoMemory\b)|(?!\s*let ).*(?:\) -> |Result<)"
@@ -49,10 +50,10 @@ def main():
     given_words()
     found = [(path, number) for path in sources() for number in unexplained(path)]
     for path, number in found:
-        print(f"{path.relative_to(ROOT)}:{number}: out of memory, and no call failed")
+        print(f"{path.relative_to(ROOT)}:{number}: a refusal, and no call failed")
     if found:
         sys.exit("refusals: say above each in a comment `// Refused: ..` or `// Never: ..` why")
-    print("refusals: each out of memory has its reason")
+    print("refusals: each out of memory and each gone end has its reason")
 
 
 if __name__ == "__main__":
