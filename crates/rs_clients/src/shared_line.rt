@@ -12,13 +12,12 @@ use rs_message::Operation;
 use std::collections::VecDeque;
 use std::sync::{Arc, Wait};
 
-/// A line that several clients use, one after the other. Whoever uses it leaves it handed on: nothing is expected of it, and nothing is
-/// ahead.
+/// A line that several clients use, one after the other. Whoever uses it leaves it handed on: nothing is ahead.
 #[derive(Drop)]
 pub struct SharedLine<N: LineName> {
     intake: Arc<Intake<N>>,
     line: SeatLine<N>,
-    ghost handed_on: { (line.expected ≡ []) × (line.ahead ≡ []) },
+    ghost handed_on: { line.ahead ≡ [] },
 }
 
 /// Submits the change, of which `kept` is a copy, and says what became of it.
@@ -32,8 +31,7 @@ fn submit_one<N: LineName, R: Wait>(
     requires plain { is_sweep operation ≡ false }
     requires kept { kept ≡ operation }
     ensures operation { result.operation ≡ operation }
-    ensures expected { line.new.expected ≡ [] }
-    ensures ahead { IsAheadAfter line.old.place line.old.serial line.old.expected line.old.ahead operation line.new.ahead }
+    ensures ahead { IsAheadAfter line.old.ahead operation line.new.ahead }
 {
     match intake.submit(rt, line, operation) {
         Ok(receipt) => Answered::new(line.place(), line.serial(), kept, Ok(receipt.told())),
@@ -102,7 +100,7 @@ impl<N: LineName> SharedLine<N> {
         requires capacity { length kept.items ≤ vec_capacity answers }
         ensures { changes_of result.items ≡ kept.items }
     {
-        self.line.expect(announced);
+        self.line.expect(rt, announced);
         let answers = submit_each(rt, &self.intake, &mut self.line, operations, kept, answers);
         // Nothing is left. If the writer is gone, no answer is left for a later submit.
         drop(self.line.hand_on(rt));

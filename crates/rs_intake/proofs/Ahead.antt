@@ -1,5 +1,5 @@
 -- What is ahead of a line: its serials, and what holds of the line's parts.
-use Rattle.std.proofs.Common.{◌≡◌, ◌==◌, ℕ, suc, ◌+◌, ◌-◌, ◌<◌, ◌≤◌, ◌^◌, ◌⊎◌, inl, inr, All, Bool, true, false, cond, max, List, [], ◌∷◌, ◌++◌, length, take, get_or, Option, Some, None, MatchOption, refl, sym, ap, subst, ◌∙◌, append_assoc, length-append, arith}
+use Rattle.std.proofs.Common.{◌≡◌, ◌==◌, ℕ, suc, ◌+◌, ◌-◌, ◌<◌, ◌≤◌, ◌^◌, inl, All, Bool, true, false, cond, max, List, [], ◌∷◌, ◌++◌, length, take, get_or, Option, Some, None, MatchOption, refl, sym, ap, subst, ◌∙◌, append_assoc, length-append, arith}
 use Rattle.std.specs.List.{AllByRecursion}
 use Rattle.std.proofs.lemmas.List.{append-nil}
 use Rattle.rs_message.specs.Messages.{is_sweep}
@@ -115,30 +115,21 @@ numbered_changes place serial (o ∷ os) above some few plain =
 
 -- ---- the line's parts
 
-pub seat_expects : (place serial : ℕ) (taken ahead : List Entry) (old new : List Operation) → AllByRecursion (λ o. is_sweep o ≡ false) new → length new ≤ MAX_CHANGES
-    → IsSeatLine place serial taken old ahead → IsSeatLine place serial taken new ahead
-seat_expects place serial taken ahead old new plain few l = record { end = l.end; next = l.next; fits = l.fits; last = l.last; count = l.count; plain = plain; few = few }
+-- what is announced may be sent
+pub seat_above : (place serial : ℕ) (taken ahead : List Entry) (os : List Operation) → ahead ≡ [] → IsSeatLine place serial taken ahead → AreAbove taken (numbered place serial os)
+seat_above place serial taken ahead os none l = let low = l.last in let zero = ap length none in numbered_above place serial os taken (omega (arith, low, zero))
 
-pub seat_expects_none : (place serial : ℕ) (taken ahead : List Entry) (old new : List Operation) → new ≡ [] → IsSeatLine place serial taken old ahead → IsSeatLine place serial taken new ahead
-seat_expects_none place serial taken ahead old new none l =
-    let P : List Operation → Type 0 = λ os. IsSeatLine place serial taken os ahead in
-    subst P (sym none) (seat_expects place serial taken ahead old [] tt (omega arith) l)
-
--- what is expected may be sent
-pub seat_above : (place serial : ℕ) (taken ahead : List Entry) (old : List Operation) (os : List Operation) → ahead ≡ [] → IsSeatLine place serial taken old ahead → AreAbove taken (numbered place serial os)
-seat_above place serial taken ahead old os none l = let low = l.last in let zero = ap length none in numbered_above place serial os taken (omega (arith, low, zero))
-
-pub seat_sends : (place serial : ℕ) (taken taken' ahead ahead' : List Entry) (expected os : List Operation) → ahead ≡ [] → taken' ≡ taken ++ numbered place serial os → ahead' ≡ numbered place serial os → serial + length ahead' < 2 ^ 64
-    → IsSeatLine place serial taken expected ahead → IsSeatLine place serial taken' expected ahead'
-seat_sends place serial taken taken' ahead ahead' expected os none more is fits l =
+pub seat_sends : (place serial : ℕ) (taken taken' ahead ahead' : List Entry) (os : List Operation) → ahead ≡ [] → taken' ≡ taken ++ numbered place serial os → ahead' ≡ numbered place serial os → serial + length ahead' < 2 ^ 64
+    → IsSeatLine place serial taken ahead → IsSeatLine place serial taken' ahead'
+seat_sends place serial taken taken' ahead ahead' os none more is fits l =
     let low = l.last in
     let count = l.count in
     let zero = ap length none in
     let n = numbered_length place serial os in
     let sum = length-append taken (numbered place serial os) in
     let top = numbered_last place serial os taken (omega (arith, low, zero)) in
-    let P : List Entry → Type 0 = λ t. IsSeatLine place serial t expected ahead' in
-    let Q : List Entry → Type 0 = λ a. IsSeatLine place serial (taken ++ numbered place serial os) expected a in
+    let P : List Entry → Type 0 = λ t. IsSeatLine place serial t ahead' in
+    let Q : List Entry → Type 0 = λ a. IsSeatLine place serial (taken ++ numbered place serial os) a in
     subst P (sym more) (subst Q (sym is)
     (record {
       end = end_is (taken ++ numbered place serial os) taken (numbered place serial os) refl;
@@ -146,16 +137,14 @@ seat_sends place serial taken taken' ahead ahead' expected os none more is fits 
       fits = (let same = ap length is in omega (arith, fits, same));
       last = omega (arith, top, n);
       count = omega (arith, sum, count, zero);
-      plain = l.plain;
-      few = l.few;
     }))
 
-pub seat_submits : (place serial serial' : ℕ) (taken ahead ahead' : List Entry) (e : Entry) (expected : List Operation) → serial' ≡ serial + 1 → ahead ≡ e ∷ ahead'
-    → IsSeatLine place serial taken expected ahead → IsSeatLine place serial' taken expected ahead'
-seat_submits place serial serial' taken ahead ahead' e expected next first l =
-    let P : List Entry → Type 0 = λ a. IsSeatLine place serial taken expected a in
+pub seat_submits : (place serial serial' : ℕ) (taken ahead ahead' : List Entry) (e : Entry) → serial' ≡ serial + 1 → ahead ≡ e ∷ ahead'
+    → IsSeatLine place serial taken ahead → IsSeatLine place serial' taken ahead'
+seat_submits place serial serial' taken ahead ahead' e next first l =
+    let P : List Entry → Type 0 = λ a. IsSeatLine place serial taken a in
     let m = subst P first l in
-    let Q : ℕ → Type 0 = λ n. IsSeatLine place n taken expected ahead' in
+    let Q : ℕ → Type 0 = λ n. IsSeatLine place n taken ahead' in
     let fits = m.fits in
     let low = m.last in
     let count = m.count in
@@ -166,19 +155,15 @@ seat_submits place serial serial' taken ahead ahead' e expected next first l =
       fits = omega (arith, fits);
       last = omega (arith, low);
       count = omega (arith, count);
-      plain = m.plain;
-      few = m.few;
     })
 
-pub seat_handed_on : (place serial serial' : ℕ) (taken ahead ahead' : List Entry) (expected expected' : List Operation) → serial' ≡ serial + length ahead → expected' ≡ [] → ahead' ≡ []
-    → IsSeatLine place serial taken expected ahead → IsSeatLine place serial' taken expected' ahead'
-seat_handed_on place serial serial' taken ahead ahead' expected expected' next none_expected none l =
+pub seat_handed_on : (place serial serial' : ℕ) (taken ahead ahead' : List Entry) → serial' ≡ serial + length ahead → ahead' ≡ [] → IsSeatLine place serial taken ahead → IsSeatLine place serial' taken ahead'
+seat_handed_on place serial serial' taken ahead ahead' next none l =
     let fits = l.fits in
     let low = l.last in
     let count = l.count in
-    let P : List Operation → Type 0 = λ os. IsSeatLine place serial' taken os ahead' in
-    let Q : List Entry → Type 0 = λ es. IsSeatLine place serial' taken [] es in
-    subst P (sym none_expected) (subst Q (sym none) (record { end = end_is taken taken [] (sym (append-nil taken)); next = tt; fits = omega (arith, fits, next); last = omega (arith, low, next); count = omega (arith, count, next); plain = tt; few = omega arith }))
+    let P : List Entry → Type 0 = λ es. IsSeatLine place serial' taken es in
+    subst P (sym none) (record { end = end_is taken taken [] (sym (append-nil taken)); next = tt; fits = omega (arith, fits, next); last = omega (arith, low, next); count = omega (arith, count, next) })
 
 -- the first
 pub first_split : (es : List Entry) (e : Entry) → 0 < length es → e ≡ get_or es 0 e → (rest : List Entry) × (es ≡ e ∷ rest)
@@ -197,46 +182,23 @@ next_last place serial (e ∷ f ∷ es) d next some =
 
 -- ---- what is ahead once an operation was submitted
 
--- what is ahead once what is expected may have been sent, of which this is the first entry
-abbrev pub IsSentAtMost : ℕ → ℕ → List Operation → Entry → List Entry → List Entry → Type 0
-IsSentAtMost place serial expected entry old new = (new ≡ old) ⊎ ((old ≡ []) × (new ≡ numbered place serial expected) × (es : List Entry) × (new ≡ entry ∷ es))
+pub after_first : (ahead after : List Entry) (entry : Entry) → ahead ≡ entry ∷ after → IsAheadAfter ahead entry.operation after
+after_first ahead after entry first =
+    let P : List Entry → Type 0 = λ l. IsAheadAfter l entry.operation after in
+    subst P (sym first) (inl (refl, refl))
 
-sent_behind : (place serial : ℕ) (expected : List Operation) (after : List Entry) (entry : Entry) (operation : Operation) → entry.operation ≡ operation → numbered place serial expected ≡ entry ∷ after
-    → (os : List Operation) × (expected ≡ operation ∷ os) × (after ≡ numbered place (serial + 1) os)
-sent_behind place serial [] after entry operation is sent = absurd (cc (sent))
-sent_behind place serial (o ∷ os) after entry operation is sent =
-    let head : entry_at place (serial + 1) o ≡ entry = cc (sent) in
-    let tail : numbered place (serial + 1) os ≡ after = cc (sent) in
-    (os, ap (λ (x : Operation). x ∷ os) (ap (λ (e : Entry). e.operation) head ∙ is), sym tail)
+pub after_none : (ahead after : List Entry) (operation : Operation) → ahead ≡ [] → after ≡ [] → IsAheadAfter ahead operation after
+after_none ahead after operation none is =
+    let P : List Entry → Type 0 = λ l. IsAheadAfter l operation after in
+    subst P (sym none) is
 
-pub after_ahead : (place serial : ℕ) (expected : List Operation) (old new after : List Entry) (entry : Entry) (operation : Operation) → entry.operation ≡ operation
-    → IsSentAtMost place serial expected entry old new → new ≡ entry ∷ after → IsAheadAfter place serial expected old operation after
-after_ahead place serial expected old new after entry operation is (inl same) first =
-    let P : List Entry → Type 0 = λ l. IsAheadAfter place serial expected l operation after in
-    subst P (sym (sym same ∙ first)) (inl (is, refl))
-after_ahead place serial expected old new after entry operation is (inr sent) first =
-    let P : List Entry → Type 0 = λ l. IsAheadAfter place serial expected l operation after in
-    subst P (sym sent.0) (inr (sent_behind place serial expected after entry operation is (sym sent.1 ∙ first)))
+-- the first of what is ahead is no other, if it does this, or if nothing is
+pub not_other : (ahead after : List Entry) (entry : Entry) → ahead ≡ entry ∷ after → IsOther ahead entry.operation → ⊥
+not_other ahead after entry first other =
+    let P : List Entry → Type 0 = λ l. IsOther l entry.operation in
+    subst P first other refl
 
-pub after_none : (place serial : ℕ) (expected : List Operation) (old after : List Entry) (operation : Operation) → old ≡ [] → after ≡ [] → IsAheadAfter place serial expected old operation after
-after_none place serial expected old after operation nothing is =
-    let P : List Entry → Type 0 = λ l. IsAheadAfter place serial expected l operation after in
-    subst P (sym nothing) (inl is)
-
--- the first of what was ahead does this, if it is ahead now and does it, or if nothing is
-pub not_other : (place serial : ℕ) (expected : List Operation) (old new after : List Entry) (entry : Entry) (operation : Operation) → entry.operation ≡ operation
-    → IsSentAtMost place serial expected entry old new → new ≡ entry ∷ after → IsOther old operation → ⊥
-not_other place serial expected old new after entry operation is (inl same) first other =
+pub none_other : (ahead : List Entry) (operation : Operation) → ahead ≡ [] → IsOther ahead operation → ⊥
+none_other ahead operation none other =
     let P : List Entry → Type 0 = λ l. IsOther l operation in
-    subst P (sym same ∙ first) other is
-not_other place serial expected old new after entry operation is (inr sent) first other =
-    let P : List Entry → Type 0 = λ l. IsOther l operation in
-    subst P sent.0 other
-
-pub none_other : (place serial : ℕ) (expected : List Operation) (old new : List Entry) (entry : Entry) (operation : Operation) → IsSentAtMost place serial expected entry old new → new ≡ [] → IsOther old operation → ⊥
-none_other place serial expected old new entry operation (inl same) none other =
-    let P : List Entry → Type 0 = λ l. IsOther l operation in
-    subst P (sym same ∙ none) other
-none_other place serial expected old new entry operation (inr sent) none other =
-    let P : List Entry → Type 0 = λ l. IsOther l operation in
-    subst P sent.0 other
+    subst P none other

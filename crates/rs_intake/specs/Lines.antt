@@ -1,12 +1,10 @@
 -- What a line has sent.
-use Rattle.std.specs.Prelude.{ℕ, ◌≡◌, ◌≢◌, ◌<◌, ◌≤◌, ◌+◌, ◌-◌, ◌^◌, min, ◌⊎◌, ◌∷◌, ◌++◌, suc, zero, true, false, cond, nat_le, List, [], length, Option, Some, None}
-use Rattle.std.specs.List.{AllByRecursion}
+use Rattle.std.specs.Prelude.{ℕ, ◌≡◌, ◌≢◌, ◌<◌, ◌≤◌, ◌+◌, ◌-◌, ◌^◌, min, ◌⊎◌, ◌∷◌, ◌++◌, suc, zero, true, false, List, [], length, Option, Some, None}
 use Rattle.atomic_table.specs.declared.badge.Badge.{Badge}
 use Rattle.crossbeam_channel.specs.declared.flavors.array.Key.{Key}
 use Rattle.crossbeam_channel.specs.declared.flavors.array.Doing.{Doing}
 use Rattle.crossbeam_channel.specs.declared.flavors.array.Rows.{Rows}
 use Rattle.crossbeam_channel.specs.Claims.{Pass, view}
-use Rattle.rs_message.specs.Messages.{is_sweep}
 use Rattle.rs_message.specs.declared.entry.TheConstants.{MAX_PLACES}
 use Rattle.rs_message.specs.declared.entry.Entry.{Entry}
 use Rattle.rs_message.specs.declared.entry.Operation.{Operation}
@@ -14,7 +12,6 @@ use Rattle.rs_store.specs.History.{SerialsRise, last_serial}
 use Rattle.rs_intake.specs.declared.rule.PassView.{PassView}
 use Rattle.rs_intake.specs.declared.rule.SentFrom.{SentFrom}
 use Rattle.rs_intake.specs.declared.job.Job.{Job}
-use Rattle.rs_intake.specs.declared.job.TheConstants.{MAX_CHANGES}
 use Rattle.rs_intake.specs.declared.waiting.Gone.{Gone}
 use Rattle.rs_intake.specs.Changes.{AreOf}
 use Rattle.rs_intake.specs.Done.{ReplyValue}
@@ -30,15 +27,14 @@ abbrev pub entry_at : ℕ → ℕ → Operation → Entry
 entry_at place serial operation = record { origin = record { place = place; serial = serial }; operation = operation }
 
 -- A place, the last serial that was submitted there, what was sent from it and submitted; the replies that were taken, read or dropped,
--- and those that came and were not taken yet; the changes that it expects; and what was sent ahead, in one job with a change that was
--- submitted, and is not submitted itself yet. The queue took what was sent and then what is ahead
+-- and those that came and were not taken yet; and what was sent ahead, and is not submitted yet. The queue took what was sent and then what
+-- is ahead
 pub record Line : Type 0 where
   pub place : ℕ
   pub serial : ℕ
   pub sent : List Entry
   pub heard : List ReplyValue
   pub came : List ReplyValue
-  pub expected : List Operation
   pub ahead : List Entry
 
 -- the entries of this place that do this one after the other, under the serials behind this one
@@ -51,33 +47,23 @@ abbrev pub AreNext : ℕ → ℕ → List Entry → Type 0
 AreNext place serial [] = Unit {0}
 AreNext place serial (e ∷ es) = (e.origin ≡ record { place = place; serial = serial + 1 }) × AreNext place (serial + 1) es
 
--- what holds of a line's parts: its place, its last serial, what the queue took from it, what it expects, and what is ahead
-pub record IsSeatLine (place serial : ℕ) (taken : List Entry) (expected : List Operation) (ahead : List Entry) : Type 0 where
+-- what holds of a line's parts: its place, its last serial, what the queue took from it, and what is ahead
+pub record IsSeatLine (place serial : ℕ) (taken ahead : List Entry) : Type 0 where
   pub end : taken ≡ before taken ahead ++ ahead
   pub next : AreNext place serial ahead
   pub fits : serial + length ahead < 2 ^ 64
   pub last : last_serial place taken ≤ serial + length ahead
   pub count : length taken ≤ serial + length ahead
-  pub plain : AllByRecursion (λ o. is_sweep o ≡ false) expected
-  pub few : length expected ≤ MAX_CHANGES
 
 -- the first of what is ahead does something else
 abbrev pub IsOther : List Entry → Operation → Type 0
 IsOther [] operation = ⊥
 IsOther (e ∷ es) operation = e.operation ≢ operation
 
--- What a line expects, once these changes are announced to it: they, unless something is ahead, or they are too many
-abbrev pub announced : List Entry → List Operation → List Operation
-announced [] changes = cond (nat_le (length changes) MAX_CHANGES) changes []
-announced (e ∷ es) changes = []
-
--- What is ahead of a line of this place and serial that expects this, once the operation was submitted, by what was ahead before. The
--- first is ahead no more if it does that. If nothing was ahead: still nothing; or what was expected behind the operation, which was
--- sent in one job with it
-abbrev pub IsAheadAfter : ℕ → ℕ → List Operation → List Entry → Operation → List Entry → Type 0
-IsAheadAfter place serial expected [] operation after =
-    (after ≡ []) ⊎ ((os : List Operation) × (expected ≡ operation ∷ os) × (after ≡ numbered place (serial + 1) os))
-IsAheadAfter place serial expected (e ∷ es) operation after = ((e.operation ≡ operation) × (after ≡ es)) ⊎ ((e.operation ≢ operation) × (after ≡ e ∷ es))
+-- what is ahead of a line once the operation was submitted, by what was ahead before: the first is no more, if it does that
+abbrev pub IsAheadAfter : List Entry → Operation → List Entry → Type 0
+IsAheadAfter [] operation after = after ≡ []
+IsAheadAfter (e ∷ es) operation after = ((e.operation ≡ operation) × (after ≡ es)) ⊎ ((e.operation ≢ operation) × (after ≡ e ∷ es))
 
 -- a place, and what was sent from it
 pub record LineSenderValue : Type 0 where
@@ -116,7 +102,7 @@ pub record IsLine {Q M L A : Type 0} (name : QueueName) (places : ℕ) (c : Rows
 -- nothing was sent from these places
 abbrev pub new_lines : ℕ → List Line
 new_lines zero = []
-new_lines (suc n) = new_lines n ++ record { place = suc n; serial = 0; sent = []; heard = []; came = []; expected = []; ahead = [] } ∷ []
+new_lines (suc n) = new_lines n ++ record { place = suc n; serial = 0; sent = []; heard = []; came = []; ahead = [] } ∷ []
 
 -- the same, or with this entry behind the others
 abbrev pub AddsAtMost : List Entry → Entry → List Entry → Type 0

@@ -83,7 +83,7 @@ fn line<N: LineName>(
     requires queue { IsQueue N.queue (sends_on sender.now) × IsIn N.queue pass.old }
     requires pass { ((known_by pass.old).takes ≡ true) × ((known_by pass.old).sends ≡ false) × ((known_by pass.old).known ≡ []) × ((known_by pass.old).made + 1 ≡ place) }
     requires place { (place ≤ N.places) × (N.places ≤ MAX_PLACES) }
-    ensures line { IfOk result (λ r. r.0 ≡ record { place = place; serial = 0; sent = []; heard = []; came = []; expected = []; ahead = [] }) }
+    ensures line { IfOk result (λ r. r.0 ≡ record { place = place; serial = 0; sent = []; heard = []; came = []; ahead = [] }) }
     ensures told { IfOk result (λ r. r.1 ≡ untold) }
     ensures queue { IfOk result (λ _. IsIn N.queue pass.new) }
     ensures pass { IfOk result (λ _. ((known_by pass.new).takes ≡ true) × ((known_by pass.new).sends ≡ false) × ((known_by pass.new).known ≡ []) × ((known_by pass.new).entries ≡ (known_by pass.old).entries) × ((known_by pass.new).ends ≡ (known_by pass.old).ends) × ((known_by pass.new).made ≡ place)) }

@@ -74,10 +74,8 @@ impl<N: LineName> Intake<N> {
     /// used whatever is answered, unless there is no further one. The writer may make a Sweep first, so that there is space. The
     /// contract also says which reply came (`heard`), if one came.
     ///
-    /// If the line expects this operation first ([`expect`](SeatLine::expect)), all that it expects is sent, as one job; if memory for
-    /// that is refused, the operation goes by itself. If the operation was sent ahead, in a job with an earlier one, nothing is sent, and
-    /// the answer is the one to its entry. If something else was sent ahead, nothing is done, and no serial is used. Nothing is expected
-    /// any more.
+    /// If the operation is the first that was sent ahead ([`expect`](SeatLine::expect)), nothing is sent, and the answer is the one to its
+    /// entry. If something else is, nothing is done, and no serial is used.
     ///
     /// # Errors
     ///
@@ -105,8 +103,7 @@ impl<N: LineName> Intake<N> {
         ensures heard { IfOk result (λ r. line.new.heard ≡ line.old.heard ++ record { origin = r.entry.origin; answer = Ok r } ∷ []) }
         ensures stands { IfOk result (λ r. StandsAt r.entry r.number r.told) }
         ensures legal { IfOk result (λ r. IsLegal N.limit r.told) }
-        ensures expected { line.new.expected ≡ [] }
-        ensures ahead { IsAheadAfter line.old.place line.old.serial line.old.expected line.old.ahead operation line.new.ahead }
+        ensures ahead { IsAheadAfter line.old.ahead operation line.new.ahead }
     {
         let entry = line.send(rt, operation)?;
         match line.receive(rt) {

@@ -13,7 +13,7 @@ ghost use Rattle.rs_store.specs.History.{last_serial};
 ghost use Rattle.rs_intake.specs.Changes.{AreOf};
 ghost use Rattle.rs_intake.specs.Done.{ReplyValue};
 ghost use Rattle.rs_intake.specs.Names.{IsQueue, IsIn};
-ghost use Rattle.rs_intake.specs.Lines.{AreNext, AreOfLine, IsAheadAfter, IsClosed, IsOther, announced, entry_at, next_serial, numbered};
+ghost use Rattle.rs_intake.specs.Lines.{AreNext, AreOfLine, IsAheadAfter, IsClosed, IsOther, entry_at, next_serial, numbered};
 ghost use Rattle.rs_intake.specs.QueueRule.{AreAbove};
 ghost use Rattle.rs_intake.specs.Refusals.{IsUnsent};
 ghost use Rattle.rs_intake.specs.declared.job.TheConstants.{MAX_CHANGES};
@@ -30,7 +30,6 @@ use rs_message::{Entry, Operation, Origin, SubmitFault, is_same};
 use std::alloc::Global;
 use std::collections::VecDeque;
 use std::marker::{Model, PhantomData};
-use std::mem;
 use std::sync::Wait;
 
 /// The sending half of a line that was not closed: its place, and what the queue took from it.
@@ -213,30 +212,26 @@ fn copies(alloc: Global, entries: &Vec<Entry>) -> Option<Vec<Entry>>
     Some(copies)
 }
 
-/// What is expected, as one job, and a copy of its entries. `None` if this is not the first of them, no serials are left for all, or
-/// memory is refused or short.
+/// The entries of this place that do this under the serials behind this one, as one job, and a copy of them. `None` if no serials are left
+/// for all, or memory is refused or short.
 fn prepared(
     alloc: Global,
     place: u8,
     serial: u64,
-    expected: Vec<Operation>,
-    first: &Entry,
+    operations: Vec<Operation>,
 ) -> Option<(Changes, VecDeque<Entry>)>
     requires place { (0 < place) × (place ≤ MAX_PLACES) }
-    requires plain { AllByRecursion (λ o. is_sweep o ≡ false) expected.items }
-    requires few { length expected.items ≤ MAX_CHANGES }
-    ensures job { IfSome result (λ r. r.0 ≡ numbered place serial expected.items) }
-    ensures ahead { IfSome result (λ r. r.1.items ≡ numbered place serial expected.items) }
-    ensures first { IfSome result (λ r. (es : List Entry) × (r.1.items ≡ first.now ∷ es)) }
+    requires plain { AllByRecursion (λ o. is_sweep o ≡ false) operations.items }
+    requires some { 0 < length operations.items }
+    requires few { length operations.items ≤ MAX_CHANGES }
+    ensures job { IfSome result (λ r. r.0 ≡ numbered place serial operations.items) }
+    ensures ahead { IfSome result (λ r. r.1.items ≡ numbered place serial operations.items) }
     ensures small { IfSome result (λ r. serial + length r.1.items < 2 ^ 64) }
 {
     if !has_room(alloc) {
         return None;
     }
-    let entries = numbered(alloc, place, serial, expected)?;
-    if !is_same(entries.first()?, first) {
-        return None;
-    }
+    let entries = numbered(alloc, place, serial, operations)?;
     let job = copies(alloc, &entries)?;
     Some((Changes::new(job), VecDeque::from_vec(entries)))
 }
@@ -265,15 +260,13 @@ fn alone(alloc: Global, entry: Entry) -> Option<Changes>
 
 /// A place's way to the writer and back, with the last serial that was submitted. It is not shared: each place has its own.
 ///
-/// Changes that are announced ([`expect`](SeatLine::expect)) go to the writer together, in one job with the first of them that is
-/// submitted. Those behind it are ahead then: they were sent, and are not submitted yet. The queue took what was sent and submitted, and
-/// then what is ahead.
+/// Changes that are announced ([`expect`](SeatLine::expect)) go to the writer together, in one job. They are ahead then: they were sent,
+/// and are not submitted yet. The queue took what was sent and submitted, and then what is ahead.
 #[derive(Drop)]
 pub struct SeatLine<N: LineName> {
     line: LineSender<N>,
     serial: u64,
     replies: ReplyReceiver<N>,
-    expected: Vec<Operation>,
     ahead: VecDeque<Entry>,
     alloc: Global,
 }
@@ -284,9 +277,9 @@ impl<N: LineName> Model for SeatLine<N> {
 
     ghost Value = { Line };
 
-    ghost view = { λ l. record { place = l.line.place; serial = l.serial; sent = before l.line.sent l.ahead.items; heard = l.replies.heard; came = l.replies.came; expected = l.expected.items; ahead = l.ahead.items } };
+    ghost view = { λ l. record { place = l.line.place; serial = l.serial; sent = before l.line.sent l.ahead.items; heard = l.replies.heard; came = l.replies.came; ahead = l.ahead.items } };
 
-    ghost invariant = { λ l. IsSeatLine l.line.place l.serial l.line.sent l.expected.items l.ahead.items };
+    ghost invariant = { λ l. IsSeatLine l.line.place l.serial l.line.sent l.ahead.items };
 }
 
 impl<N: LineName> SeatLine<N> {
@@ -294,13 +287,12 @@ impl<N: LineName> SeatLine<N> {
         requires { (line.sent ≡ []) × (replies.heard ≡ []) × (replies.came ≡ []) }
         ensures line { (result.place ≡ line.place) × (result.serial ≡ 0) × (result.sent ≡ []) }
         ensures replies { (result.heard ≡ []) × (result.came ≡ []) }
-        ensures ahead { (result.expected ≡ []) × (result.ahead ≡ []) }
+        ensures ahead { result.ahead ≡ [] }
     {
         SeatLine {
             line,
             serial: 0,
             replies,
-            expected: Vec::new(alloc),
             ahead: VecDeque::new(alloc),
             alloc,
         }
@@ -323,26 +315,33 @@ impl<N: LineName> SeatLine<N> {
         self.serial
     }
 
-    /// Says which changes come next, none a Sweep, instead of those that were announced before. It sends nothing and takes no memory. If
-    /// something is ahead, or the changes are more than [`MAX_CHANGES`], none are expected.
-    pub fn expect(&mut self, changes: Vec<Operation>)
+    /// Says which changes come next, none a Sweep. They are sent at once, as one job, and are ahead then, under the next serials. Nothing
+    /// is sent if something is ahead, if they are none or more than [`MAX_CHANGES`], if no serials are left for all, if memory is refused
+    /// or short, or if the queue is gone.
+    pub fn expect<R: Wait>(&mut self, rt: &R, changes: Vec<Operation>)
         requires { All (λ o. is_sweep o ≡ false) changes.items }
-        ensures expected { self.new.expected ≡ announced self.old.ahead changes.items }
+        ensures ahead { (self.new.ahead ≡ self.old.ahead)
+            ⊎ ((self.old.ahead ≡ []) × (self.new.ahead ≡ numbered self.old.place self.old.serial changes.items)) }
         ensures place { (self.new.place ≡ self.old.place) × (self.new.serial ≡ self.old.serial) }
-        ensures same { (self.new.sent ≡ self.old.sent) × (self.new.heard ≡ self.old.heard) × (self.new.ahead ≡ self.old.ahead) }
+        ensures same { (self.new.sent ≡ self.old.sent) × (self.new.heard ≡ self.old.heard) × (self.new.came ≡ self.old.came) }
     {
-        if self.ahead.is_empty() && changes.len() <= MAX_CHANGES {
-            self.expected = changes;
-        } else {
-            self.expected = Vec::new(self.alloc);
+        if !self.ahead.is_empty() || changes.is_empty() || changes.len() > MAX_CHANGES {
+            return;
+        }
+        let place = self.line.place();
+        let Some((job, ahead)) = prepared(self.alloc, place, self.serial, changes) else {
+            return;
+        };
+        if self.line.send_changes(rt, job) {
+            self.ahead = ahead;
         }
     }
 
-    /// Whether some change that was announced is left: it is expected, or ahead.
-    pub fn has_announced(&self) -> bool
-        ensures { MatchBool result ((self.now.expected ≢ []) ⊎ (self.now.ahead ≢ [])) ((self.now.expected ≡ []) × (self.now.ahead ≡ [])) }
+    /// Whether some change was announced and sent, and is not submitted yet.
+    pub fn has_ahead(&self) -> bool
+        ensures { MatchBool result (self.now.ahead ≢ []) (self.now.ahead ≡ []) }
     {
-        !self.expected.is_empty() || !self.ahead.is_empty()
+        !self.ahead.is_empty()
     }
 
     /// The serial of the last that is ahead, or the last that was submitted.
@@ -355,8 +354,8 @@ impl<N: LineName> SeatLine<N> {
         }
     }
 
-    /// For a line that is handed on. Nothing is expected any more, and what is ahead counts as submitted. It waits for as many replies as
-    /// there is ahead, and drops them with all others that came, so that no later submit reads them.
+    /// For a line that is handed on. What is ahead counts as submitted. It waits for as many replies as there is ahead, and drops them with
+    /// all others that came, so that no later submit reads them.
     ///
     /// # Errors
     ///
@@ -370,34 +369,12 @@ impl<N: LineName> SeatLine<N> {
         ensures waited { IfOk result (λ _. length self.old.heard + length self.old.ahead ≤ length self.new.heard) }
         ensures fewer { IfErr result (λ _. length self.new.heard < length self.old.heard + length self.old.ahead) }
         ensures came { self.new.came ≡ [] }
-        ensures none { (self.new.expected ≡ []) × (self.new.ahead ≡ []) }
+        ensures none { self.new.ahead ≡ [] }
     {
         let unread = self.ahead.len();
         self.serial = self.last_serial();
         self.ahead = VecDeque::new(self.alloc);
-        self.expected = Vec::new(self.alloc);
         self.replies.drop_next(rt, unread)
-    }
-
-    /// Sends what is expected, as one job, if this is the first entry of it and nothing is ahead. Then all of it is ahead. Whatever comes
-    /// of it, nothing is expected any more.
-    fn send_expected<R: Wait>(&mut self, rt: &R, first: &Entry)
-        ensures place { (self.new.place ≡ self.old.place) × (self.new.serial ≡ self.old.serial) }
-        ensures same { (self.new.sent ≡ self.old.sent) × (self.new.heard ≡ self.old.heard) × (self.new.expected ≡ []) }
-        ensures ahead { (self.new.ahead ≡ self.old.ahead)
-            ⊎ ((self.old.ahead ≡ []) × (self.new.ahead ≡ numbered self.old.place self.old.serial self.old.expected) × (es : List Entry) × (self.new.ahead ≡ first.now ∷ es)) }
-    {
-        let expected = mem::replace(&mut self.expected, Vec::new(self.alloc));
-        if !self.ahead.is_empty() || expected.len() < 2 {
-            return;
-        }
-        let place = self.line.place();
-        let Some((job, ahead)) = prepared(self.alloc, place, self.serial, expected, first) else {
-            return;
-        };
-        if self.line.send_changes(rt, job) {
-            self.ahead = ahead;
-        }
     }
 
     /// Whether the first of what is ahead is this entry. `None` if nothing is ahead.
@@ -415,7 +392,7 @@ impl<N: LineName> SeatLine<N> {
         ensures place { (self.new.place ≡ self.old.place) × (self.new.serial ≡ self.old.serial + 1) }
         ensures sent { self.new.sent ≡ self.old.sent ++ entry.now ∷ [] }
         ensures ahead { self.old.ahead ≡ entry.now ∷ self.new.ahead }
-        ensures same { (self.new.heard ≡ self.old.heard) × (self.new.expected ≡ self.old.expected) }
+        ensures heard { self.new.heard ≡ self.old.heard }
     {
         drop(self.ahead.pop_front());
         self.serial = entry.origin.serial();
@@ -429,7 +406,7 @@ impl<N: LineName> SeatLine<N> {
         ensures place { (self.new.place ≡ self.old.place) × (self.new.serial ≡ self.old.serial + 1) }
         ensures entry { IfOk result (λ e. e ≡ entry) }
         ensures sent { MatchResult result (λ e. self.new.sent ≡ self.old.sent ++ e ∷ []) (λ _. self.new.sent ≡ self.old.sent) }
-        ensures same { (self.new.heard ≡ self.old.heard) × (self.new.expected ≡ self.old.expected) × (self.new.ahead ≡ []) }
+        ensures same { (self.new.heard ≡ self.old.heard) × (self.new.ahead ≡ []) }
         ensures unsent { IfErr result (λ f. IsUnsent self.old.serial f) }
     {
         self.serial = entry.origin.serial();
@@ -449,9 +426,9 @@ impl<N: LineName> SeatLine<N> {
         }
     }
 
-    /// Submits the operation under the next serial. If it is the first that is ahead, it was sent already; if it is the first that is
-    /// expected, all that is expected is sent with it; else it is sent alone. The result is its entry, or why nothing was sent: `Full` if
-    /// there is no further serial, `NoMemory`, `Closed`, or `Strange` if something else is ahead, and then no serial is used.
+    /// Submits the operation under the next serial. If it is the first that is ahead, it was sent already; if nothing is ahead, it is sent
+    /// alone. The result is its entry, or why nothing was sent: `Full` if there is no further serial, `NoMemory`, `Closed`, or `Strange` if
+    /// something else is ahead, and then no serial is used.
     pub(crate) fn send<R: Wait>(
         &mut self,
         rt: &R,
@@ -465,18 +442,15 @@ impl<N: LineName> SeatLine<N> {
         ensures sent { MatchResult result (λ e. self.new.sent ≡ self.old.sent ++ e ∷ []) (λ _. self.new.sent ≡ self.old.sent) }
         ensures heard { self.new.heard ≡ self.old.heard }
         ensures unsent { IfErr result (λ f. IsUnsent self.old.serial f ⊎ ((f ≡ Strange) × (self.new.serial ≡ self.old.serial) × IsOther self.old.ahead operation)) }
-        ensures expected { self.new.expected ≡ [] }
-        ensures ahead { IsAheadAfter self.old.place self.old.serial self.old.expected self.old.ahead operation self.new.ahead }
+        ensures ahead { IsAheadAfter self.old.ahead operation self.new.ahead }
     {
         let Some(serial) = self.serial.checked_add(1) else {
-            self.expected = Vec::new(self.alloc);
             return Err(SubmitFault::Full);
         };
         let Some(origin) = Origin::new(self.line.place(), serial) else {
             unreachable!()
         };
         let entry = Entry { origin, operation };
-        self.send_expected(rt, &entry);
         match self.is_first_ahead(&entry) {
             Some(true) => {
                 self.submit_ahead(&entry);
@@ -491,7 +465,7 @@ impl<N: LineName> SeatLine<N> {
     pub(crate) fn receive<R: Wait>(&mut self, rt: &R) -> Result<WriterReply<N>, Gone>
         ensures same { (self.new.place ≡ self.old.place) × (self.new.serial ≡ self.old.serial) × (self.new.sent ≡ self.old.sent) }
         ensures heard { MatchResult result (λ reply. self.new.heard ≡ self.old.heard ++ reply ∷ []) (λ _. self.new.heard ≡ self.old.heard) }
-        ensures ahead { (self.new.expected ≡ self.old.expected) × (self.new.ahead ≡ self.old.ahead) }
+        ensures ahead { self.new.ahead ≡ self.old.ahead }
     {
         self.replies.wait(rt)
     }
@@ -508,7 +482,6 @@ impl<N: LineName> SeatLine<N> {
             line,
             serial: _,
             replies: _replies,
-            expected: _expected,
             ahead: _ahead,
             alloc: _,
         } = self;

@@ -117,6 +117,30 @@ fn each_change_of_a_job_has_its_own_answer(rt: HostRuntime) -> Result<(), Fail> 
     Ok(())
 }
 
+/// What is announced reaches the writer before the first of it is submitted, and each submit has its own answer. What is ahead of a line
+/// that is handed on was sent, and no answer to it is taken for that to a later change.
+#[test]
+fn what_is_announced_is_sent_at_once(rt: HostRuntime) -> Result<(), Fail> {
+    let setup = Setup {
+        alloc: rt.alloc(),
+        limit: 3,
+        places: 2,
+        script: Script::Early,
+        writing: Writing::All,
+    };
+    let outcome = run(rt, setup)?;
+    assert!(rt;
+        have_answers(
+            &outcome,
+            (7, &[(1, 0), (2, 0), (3, 0), (8, 0)]),
+            (1, &[(4, 0)])
+        )
+    );
+    assert!(rt; !misses_answers(&outcome));
+    assert!(rt; has_totals(&outcome, 8, 0, 8) && is_settled(&outcome, 8));
+    Ok(())
+}
+
 /// A place that takes one answer of many holds up no other. Once its line is handed on, those that it left are not the answer to a later
 /// change.
 #[test]
@@ -174,6 +198,24 @@ fn submits_to_a_dropped_queue_are_answered(rt: HostRuntime) -> Result<(), Fail> 
         assert!(rt; has_answers(&outcome, 2, &[(0, 44), (0, 44)]));
     }
     Err(Fail::from("no job was sent before the queue was dropped"))
+}
+
+/// What is announced to a queue that is gone is not ahead: each submit is told that it was not sent.
+#[test]
+fn nothing_is_ahead_if_the_queue_is_gone(rt: HostRuntime) -> Result<(), Fail> {
+    let setup = Setup {
+        alloc: rt.alloc(),
+        limit: 2,
+        places: 1,
+        script: Script::Late,
+        writing: Writing::Never,
+    };
+    let outcome = run(rt, setup)?;
+    assert!(rt;
+        has_answers(&outcome, 3, &[(0, 42), (0, 44), (0, 44)])
+            || has_answers(&outcome, 3, &[(0, 44), (0, 44), (0, 44)])
+    );
+    Ok(())
 }
 
 /// How many entries of the place were kept, if it was answered as it may be: from some submit on the writer had ended, before its

@@ -31,7 +31,7 @@ abbrev number_of : Line → ℕ
 number_of line = line.place
 
 numbers_more : (n : ℕ) → map number_of (new_lines (suc n)) ≡ map number_of (new_lines n) ++ suc n ∷ []
-numbers_more n = map-append number_of (new_lines n) (record { place = suc n; serial = 0; sent = []; heard = []; came = []; expected = []; ahead = [] } ∷ [])
+numbers_more n = map-append number_of (new_lines n) (record { place = suc n; serial = 0; sent = []; heard = []; came = []; ahead = [] } ∷ [])
 
 count_more : (n place : ℕ) → count_of place (map number_of (new_lines (suc n))) ≡ count_of place (map number_of (new_lines n)) + count_of place (suc n ∷ [])
 count_more n place = ap (count_of place) (numbers_more n) ∙ count_append place (map number_of (new_lines n)) (suc n ∷ [])

@@ -1,6 +1,6 @@
 -- What a receipt says of the list that its token names.
-use Rattle.std.proofs.Common.{◌≡◌, ◌⊎◌, ⊎_elim, Bool, true, false, cond, ℕ, ◌+◌, List, [], ◌∷◌, ◌++◌, length, refl, inl, inr, sym, ap, subst, ◌∙◌, Some, append-nil, arith, length-append}
-use Rattle.std.specs.Prelude.{Contains, ◌≢◌, ◌<◌, ◌^◌, nat_le, MatchBool, Result, Ok, Err}
+use Rattle.std.proofs.Common.{◌≡◌, ◌⊎◌, ⊎_elim, Bool, true, false, ℕ, ◌+◌, List, [], ◌∷◌, ◌++◌, length, refl, inl, inr, sym, ap, subst, ◌∙◌, Some, append-nil, arith, length-append}
+use Rattle.std.specs.Prelude.{Contains, ◌≢◌, ◌<◌, ◌^◌, MatchBool, Result, Ok, Err}
 use Rattle.std.specs.List.{All}
 use Rattle.std.proofs.lemmas.List.Elements.{All-weaker, All-contains_itself, Contains-append_left, Contains-append_right}
 use mathlib.Core.List.{IsPrefix}
@@ -14,9 +14,8 @@ use Rattle.rs_store.proofs.Entries.{Among, among, contains}
 use Rattle.rs_version.specs.Receipts.{StandsAt}
 use Rattle.rs_version.proofs.Origins.{origins_differ}
 use Rattle.rs_session.specs.Gate.{Mark, IsHandedOver, Sends, SendsAtMost, Submits, TakesPending, Uses, UsesIfOpen, entry_by, last_origin}
-use Rattle.rs_intake.specs.Lines.{AddsAtMost, IsAheadAfter, IsOther, Line, announced, entry_at, next_serial, numbered}
+use Rattle.rs_intake.specs.Lines.{AddsAtMost, IsAheadAfter, IsOther, Line, entry_at, next_serial, numbered}
 use Rattle.rs_intake.specs.Refusals.{IsRefused, IsUnsent}
-use Rattle.rs_intake.specs.declared.job.TheConstants.{MAX_CHANGES}
 use Rattle.rs_places.specs.Shared.{IsOtherPending, SharedValue, gate_of, handed_on, mark_of, operations_of}
 
 among_middle : (e : Entry) (before after : List Entry) → Among e (before ++ e ∷ after)
@@ -125,72 +124,48 @@ sends_it operation before old new is place adds =
 
 -- ---- what is ahead
 
-pub other_pending : (ahead : List Entry) (expected : List Operation) (operation : Operation) → IsOther ahead operation → IsOtherPending (operations_of ahead ++ expected) operation
-other_pending [] expected operation other = absurd other
-other_pending (e ∷ es) expected operation other = other
+pub other_pending : (ahead : List Entry) (operation : Operation) → IsOther ahead operation → IsOtherPending (operations_of ahead) operation
+other_pending [] operation other = absurd other
+other_pending (e ∷ es) operation other = other
 
-some_pending : (ahead : List Entry) (expected : List Operation) → (expected ≢ []) ⊎ (ahead ≢ []) → operations_of ahead ++ expected ≢ []
-some_pending [] expected some = λ none. ⊎_elim (λ t. t none) (λ t. t refl) some
-some_pending (e ∷ es) expected some = λ none. absurd (cc (none))
+some_pending : (ahead : List Entry) → ahead ≢ [] → operations_of ahead ≢ []
+some_pending [] some = λ none. some refl
+some_pending (e ∷ es) some = λ none. absurd (cc (none))
 
--- whether something is ahead, or expected
-pub is_pending : (b : Bool) (expected : List Operation) (ahead : List Entry) (all : List Operation) → operations_of ahead ++ expected ≡ all
-    → MatchBool b ((expected ≢ []) ⊎ (ahead ≢ [])) ((expected ≡ []) × (ahead ≡ [])) → MatchBool b (all ≢ []) (all ≡ [])
-is_pending true expected ahead all is some = λ none. some_pending ahead expected some (is ∙ none)
-is_pending false expected ahead all is none = sym is ∙ (ap (λ l. operations_of l ++ expected) none.1 ∙ none.0)
+-- whether something is ahead
+pub is_pending : (b : Bool) (ahead : List Entry) (all : List Operation) → operations_of ahead ≡ all → MatchBool b (ahead ≢ []) (ahead ≡ []) → MatchBool b (all ≢ []) (all ≡ [])
+is_pending true ahead all is some = λ none. some_pending ahead some (is ∙ none)
+is_pending false ahead all is none = sym is ∙ ap operations_of none
 
-operations_numbered : (place serial : ℕ) (os : List Operation) → operations_of (numbered place serial os) ++ [] ≡ os
+operations_numbered : (place serial : ℕ) (os : List Operation) → operations_of (numbered place serial os) ≡ os
 operations_numbered place serial [] = refl
 operations_numbered place serial (o ∷ os) = ap (λ l. o ∷ l) (operations_numbered place (serial + 1) os)
 
--- what a submit leaves of what was ahead or expected. It was refused if something else was ahead
-pub takes_pending : (place serial : ℕ) (expected after_expected : List Operation) (ahead after : List Entry) (operation : Operation) (old new : Mark) (answer : Result (Unit {0}) SubmitFault)
-    → (expected ≡ []) ⊎ (ahead ≡ []) → after_expected ≡ [] → IsAheadAfter place serial expected ahead operation after
-    → (IsOther ahead operation → (answer ≡ Err Strange) × (new ≡ old)) → TakesPending operation old new answer (operations_of ahead ++ expected) (operations_of after ++ after_expected)
-takes_pending place serial expected after_expected ahead after operation old new answer one none is other =
-    let P : List Operation → Type 0 = λ l. TakesPending operation old new answer (operations_of ahead ++ expected) (operations_of after ++ l) in
-    subst P (sym none) (go ahead one is other)
-  where
-    go : (ahead : List Entry) → (expected ≡ []) ⊎ (ahead ≡ []) → IsAheadAfter place serial expected ahead operation after → (IsOther ahead operation → (answer ≡ Err Strange) × (new ≡ old))
-        → TakesPending operation old new answer (operations_of ahead ++ expected) (operations_of after ++ [])
-    go [] one (inl nothing) other = inl (ap (λ l. operations_of l ++ []) nothing)
-    go [] one (inr (os, first, sent)) other =
-        let rest : operations_of after ++ [] ≡ os = ap (λ l. operations_of l ++ []) sent ∙ operations_numbered place (serial + 1) os in
-        inr (inl (first ∙ ap (λ l. operation ∷ l) (sym rest)))
-    go (e ∷ es) (inr nothing) is other = absurd (cc (nothing))
-    go (e ∷ es) (inl nothing) (inl (here, left)) other =
-        inr (inl (ap (λ l. e.operation ∷ (operations_of es ++ l)) nothing ∙ (ap (λ o. o ∷ (operations_of es ++ [])) here ∙ ap (λ l. operation ∷ (operations_of l ++ [])) (sym left))))
-    go (e ∷ es) (inl nothing) (inr (unlike, left)) other =
-        let (refused, same) = other unlike in
-        inr (inr (ap (λ l. operations_of l ++ []) left ∙ ap (λ l. e.operation ∷ (operations_of es ++ l)) (sym nothing), refused, same))
+-- what a submit leaves of what was ahead. It was refused if something else was
+pub takes_pending : (ahead after : List Entry) (operation : Operation) (old new : Mark) (answer : Result (Unit {0}) SubmitFault) → IsAheadAfter ahead operation after
+    → (IsOther ahead operation → (answer ≡ Err Strange) × (new ≡ old)) → TakesPending operation old new answer (operations_of ahead) (operations_of after)
+takes_pending [] after operation old new answer none other = inl (ap operations_of none)
+takes_pending (e ∷ es) after operation old new answer (inl (here, left)) other =
+    inr (inl (ap (λ o. o ∷ operations_of es) here ∙ ap (λ l. operation ∷ operations_of l) (sym left)))
+takes_pending (e ∷ es) after operation old new answer (inr (unlike, left)) other =
+    let (refused, same) = other unlike in
+    inr (inr (ap operations_of left, refused, same))
 
--- what is left of what was ahead or expected, once these changes are announced
-pub announces : (expected changes after_expected : List Operation) (ahead after : List Entry) → (expected ≡ []) ⊎ (ahead ≡ []) → after ≡ ahead → after_expected ≡ announced ahead changes
-    → (operations_of after ++ after_expected ≡ changes) ⊎ ((operations_of after ++ after_expected ≡ []) ⊎ (operations_of after ++ after_expected ≡ operations_of ahead ++ expected))
-announces expected changes after_expected ahead after one same is =
-    let P : List Entry → Type 0 = λ l. (operations_of l ++ after_expected ≡ changes) ⊎ ((operations_of l ++ after_expected ≡ []) ⊎ (operations_of l ++ after_expected ≡ operations_of ahead ++ expected)) in
-    let Q : List Operation → Type 0 = λ l. (operations_of ahead ++ l ≡ changes) ⊎ ((operations_of ahead ++ l ≡ []) ⊎ (operations_of ahead ++ l ≡ operations_of ahead ++ expected)) in
-    subst P (sym same) (subst Q (sym is) (go ahead one))
-  where
-    few : (b : Bool) → (cond b changes [] ≡ changes) ⊎ ((cond b changes [] ≡ []) ⊎ (cond b changes [] ≡ expected))
-    few true = inl refl
-    few false = inr (inl refl)
-
-    go : (ahead : List Entry) → (expected ≡ []) ⊎ (ahead ≡ []) → (operations_of ahead ++ announced ahead changes ≡ changes) ⊎ ((operations_of ahead ++ announced ahead changes ≡ []) ⊎ (operations_of ahead ++ announced ahead changes ≡ operations_of ahead ++ expected))
-    go [] one = few (nat_le (length changes) MAX_CHANGES)
-    go (e ∷ es) (inr nothing) = absurd (cc (nothing))
-    go (e ∷ es) (inl nothing) = inr (inr (ap (λ l. e.operation ∷ (operations_of es ++ l)) (sym nothing)))
+-- what is ahead once these changes were announced
+pub announces : (place serial : ℕ) (changes : List Operation) (ahead after : List Entry) → (after ≡ ahead) ⊎ ((ahead ≡ []) × (after ≡ numbered place serial changes))
+    → (operations_of after ≡ changes) ⊎ ((operations_of after ≡ []) ⊎ (operations_of after ≡ operations_of ahead))
+announces place serial changes ahead after (inl same) = inr (inr (ap operations_of same))
+announces place serial changes ahead after (inr sent) = inl (ap operations_of sent.1 ∙ operations_numbered place serial changes)
 
 -- ---- a line that is handed on
 
-pub handed_on_is : (known : List Entry) (old new : Line) → new.place ≡ old.place → new.serial ≡ old.serial + length old.ahead → new.sent ≡ old.sent ++ old.ahead → new.expected ≡ [] → new.ahead ≡ [] → gate_of known new ≡ handed_on known old
-handed_on_is known old new place serial sent none_expected none =
-    let G : ℕ → ℕ → List Entry → List Operation → SharedValue = λ p n l a. record { known = known; mark = record { place = p; serial = n; alone = true; sent = Some l }; pending = a } in
-    let ahead : operations_of new.ahead ++ new.expected ≡ [] = ap (λ l. operations_of l ++ new.expected) none ∙ none_expected in
-    ap (λ p. G p new.serial new.sent (operations_of new.ahead ++ new.expected)) place
-    ∙ (ap (λ n. G old.place n new.sent (operations_of new.ahead ++ new.expected)) serial
-    ∙ (ap (λ l. G old.place (old.serial + length old.ahead) l (operations_of new.ahead ++ new.expected)) sent
-    ∙ ap (λ a. G old.place (old.serial + length old.ahead) (old.sent ++ old.ahead) a) ahead))
+pub handed_on_is : (known : List Entry) (old new : Line) → new.place ≡ old.place → new.serial ≡ old.serial + length old.ahead → new.sent ≡ old.sent ++ old.ahead → new.ahead ≡ [] → gate_of known new ≡ handed_on known old
+handed_on_is known old new place serial sent none =
+    let G : ℕ → ℕ → List Entry → List Entry → SharedValue = λ p n l a. record { known = known; mark = record { place = p; serial = n; alone = true; sent = Some l }; pending = operations_of a } in
+    ap (λ p. G p new.serial new.sent new.ahead) place
+    ∙ (ap (λ n. G old.place n new.sent new.ahead) serial
+    ∙ (ap (λ l. G old.place (old.serial + length old.ahead) l new.ahead) sent
+    ∙ ap (λ a. G old.place (old.serial + length old.ahead) (old.sent ++ old.ahead) a) none))
 
 -- nothing of a line changed
 pub same_mark : (old new : Line) → new.place ≡ old.place → new.serial ≡ old.serial → new.sent ≡ old.sent → mark_of new ≡ mark_of old
@@ -205,8 +180,3 @@ uses_one old new operation place small (inl next) same =
 uses_one old new operation place small (inr other) same =
     let is = same other in
     record { place = place; no_lower = omega (arith, is); no_higher = omega (arith, is) }
-
--- something is ahead, or expected, and not both
-pub announced_one : (changes after_expected : List Operation) (ahead after : List Entry) → after ≡ ahead → after_expected ≡ announced ahead changes → (after_expected ≡ []) ⊎ (after ≡ [])
-announced_one changes after_expected [] after same is = inr same
-announced_one changes after_expected (e ∷ es) after same is = inl is

@@ -1,8 +1,8 @@
 -- What is said of a connection, from what a session over its gate says.
 use Rattle.std.proofs.Common.{◌≡◌, ℕ, List, [], refl, sym, subst, ◌∙◌}
 use Rattle.std.specs.Prelude.{Result}
-use mathlib.Core.List.{IsPrefix}
 use Rattle.rs_message.specs.declared.entry.Entry.{Entry}
+use Rattle.rs_message.specs.declared.entry.Operation.{Operation}
 use Rattle.rs_store.specs.History.{IsLegal, SerialsRise}
 use Rattle.rs_intake.specs.declared.job.TheConstants.{MAX_CHANGES}
 use Rattle.rs_session.specs.Run.{AreOfGate, Run, Exchange}
@@ -17,15 +17,14 @@ use Rattle.rs_server.specs.declared.writing.ServeFault.{ServeFault}
 use Rattle.rs_places.specs.Serving.{IsServedAt}
 use Rattle.rs_places.specs.Shared.{HandsOn, Knows, SharedValue, operations_of}
 use Rattle.rs_places.proofs.Marks.{marks_between}
-use Rattle.rs_places.proofs.Tails.{left_front}
 
 -- a gate served a connection, and was handed on
 pub served_at : (limit number place : ℕ) (gate before after : SharedValue) (transfer : Transfer) (result : Result Served ServeFault) (tail : List Entry)
     → place ≡ gate.mark.place
     → IsConnection (start (assigned_of place number) gate.known gate.mark) gate.pending MAX_CHANGES (gate_view (Knows limit) (λ (g : SharedValue). g.mark) (λ (g : SharedValue). g.pending) before) transfer result
-    → after.known ≡ before.known → HandsOn before.mark tail after.mark → IsPrefix (operations_of tail) before.pending → after.pending ≡ []
+    → after.known ≡ before.known → HandsOn before.mark tail after.mark → operations_of tail ≡ before.pending → after.pending ≡ []
     → IsServedAt limit (start (assigned_of gate.mark.place number) gate.known gate.mark) gate.pending transfer result after
-served_at limit number place gate before after transfer result tail place_is (state, planned, left, few, talk, ends) known_is hands_on front none =
+served_at limit number place gate before after transfer result tail place_is (state, planned, left, few, talk, ends) known_is hands_on is none =
     let conversation = talk.conversation in
     let exchanges = conversation.exchanges in
     let from = start (assigned_of gate.mark.place number) gate.known gate.mark in
@@ -35,6 +34,7 @@ served_at limit number place gate before after transfer result tail place_is (st
     let Q : List Entry → Type 0 = λ list. Run from exchanges (point_at state list before.mark) in
     let run : Run from exchanges to = subst Q known (subst P place_is conversation.run) in
     let A : ℕ → Type 0 = λ p. AreLeft (start (assigned_of p number) gate.known gate.mark) exchanges planned before.pending in
+    let T : List Operation → Type 0 = λ l. AreLeft from exchanges planned l in
     let L : List Entry → Type 0 = λ list. IsLegal limit list in
     let legal : AreOfGate (λ mark list. IsLegal limit list) exchanges = of_gate_weaker _ (λ mark list. IsLegal limit list) exchanges (λ mark list h. h.1.legal) conversation.of_gate in
     let rises : AreOfGate (λ mark list. SerialsRise list) exchanges = of_gate_weaker (λ mark list. IsLegal limit list) (λ mark list. SerialsRise list) exchanges (λ mark list h. h.rises) legal in
@@ -65,6 +65,6 @@ served_at limit number place gate before after transfer result tail place_is (st
       tail = tail;
       handed_on = hands_on;
       none_pending = none;
-      tail_is = λ nothing. left_front from exchanges planned (operations_of tail) before.pending front (subst A place_is (talk.expected nothing));
+      tail_is = λ nothing. subst T (sym is) (subst A place_is (talk.expected nothing));
       sent = λ connect opens. let made = run_replays (assigned_of gate.mark.place number) from to exchanges connect refl run opens in (made, replay_sends connect exchanges made);
     }

@@ -4,7 +4,6 @@ use Rattle.std.proofs.lemmas.List.{append-nil, map-append}
 use Rattle.std.specs.Prelude.{Result}
 use Rattle.rs_intake.specs.Lines.{AreOfLine, Closed, IsClosed}
 use Rattle.rs_message.specs.declared.entry.Entry.{Entry}
-use mathlib.Core.List.{IsPrefix}
 use Rattle.rs_session.specs.Gate.{Sends}
 use Rattle.rs_server.specs.Clock.{TellsInOrder}
 use Rattle.rs_server.specs.Conversation.{Causes, assigned_of, start}
@@ -92,7 +91,7 @@ served_more limit begin number first now after plan given so_far next one =
 
 -- the place, once its turn has no more connections and its line is closed
 pub place_served : (limit number : ℕ) (first now : Place) (plan : Plan) (told : List Entry) (line : Closed) → ServedSoFar limit 1 first number now → GivesNext now.plan None plan
-    → told ≡ now.gate.known → line.place ≡ now.gate.mark.place → ((tail : List Entry) × Sends now.gate.mark.sent tail (Some line.sent) × IsPrefix (operations_of tail) now.gate.pending) → IsClosed line.place line.ends line.gone → AreOfLine line.place line.sent → IsPlaceServed limit first (record { plan = plan; told = told; line = line })
+    → told ≡ now.gate.known → line.place ≡ now.gate.mark.place → ((tail : List Entry) × Sends now.gate.mark.sent tail (Some line.sent) × (operations_of tail ≡ now.gate.pending)) → IsClosed line.place line.ends line.gone → AreOfLine line.place line.sent → IsPlaceServed limit first (record { plan = plan; told = told; line = line })
 place_served limit number first now plan told line so_far next told_is place sent closed of_line =
     let P : List Visit → Type 0 = λ l. AreConnectionsServed limit 1 first.gate l now.gate in
     let Q : List Ending → Type 0 = λ l. TookBack first.plan.ended l plan.ended in

@@ -6,8 +6,8 @@ use Rattle.rs_store.specs.History.{IsLegal}
 use Rattle.rs_intake.specs.Lines.{AreNext, Line}
 use Rattle.rs_session.specs.Gate.{Mark, Sends}
 
--- the list that its seat knows; its place, the last serial that was submitted, and what was sent and submitted; and the changes that it
--- was told to expect and that were not submitted since
+-- the list that its seat knows; its place, the last serial that was submitted, and what was sent and submitted; and the changes that were
+-- sent and not submitted since
 pub record SharedValue : Type 0 where
   pub known : List Entry
   pub mark : Mark
@@ -21,12 +21,8 @@ operations_of entries = map (λ e. e.operation) entries
 abbrev pub mark_of : Line → Mark
 mark_of line = record { place = line.place; serial = line.serial; alone = true; sent = Some line.sent }
 
--- what was sent ahead, and then what the line expects
-abbrev pub pending_of : Line → List Operation
-pending_of line = operations_of line.ahead ++ line.expected
-
 abbrev pub gate_of : List Entry → Line → SharedValue
-gate_of known line = record { known = known; mark = mark_of line; pending = pending_of line }
+gate_of known line = record { known = known; mark = mark_of line; pending = operations_of line.ahead }
 
 -- a gate with this list and this line, which is handed on: what was ahead of the line counts as submitted
 abbrev pub handed_on : List Entry → Line → SharedValue

@@ -1,7 +1,6 @@
 //! A gate over a seat and its line.
 
 ghost use Rattle.std.specs.Prelude.{◌≡◌, ◌<◌, ◌≤◌, ◌⊎◌, ◌∷◌, [], List, false, length, Err, OnOk, Some};
-ghost use mathlib.Core.List.{IsPrefix};
 ghost use Rattle.rs_intake.specs.Lines.{AreOfLine, IsClosed, next_serial};
 ghost use Rattle.rs_message.specs.declared.entry.Entry.{Entry};
 ghost use Rattle.rs_message.specs.declared.entry.TheConstants.{MAX_PLACES};
@@ -22,8 +21,8 @@ use std::sync::{Arc, Wait};
 
 /// A place's gate to a store that other places use too. It stands for the seat's known list, which is legal, and for no other.
 ///
-/// The changes that it is told to expect go to the writer in one job with the first of them that is submitted, if memory allows, and each
-/// is answered when its own submit comes.
+/// The changes that it is told to expect go to the writer at once, in one job, if memory allows, and each is answered when its own submit
+/// comes.
 ///
 /// It keeps the handle `rt`, by which a submit waits for its receipt, and `hand_on` for the answers to what was sent ahead. An answer to
 /// a filter waits for nobody.
@@ -36,7 +35,6 @@ pub struct SharedGate<N: LineName, R: Wait + Copy> {
 }
 
 impl<N: LineName, R: Wait + Copy> Model for SharedGate<N, R> {
-    ghost use Rattle.std.specs.Prelude.{◌≡◌, ◌⊎◌, []};
     ghost use Rattle.rs_store.specs.History.{IsLegal};
     ghost use Rattle.rs_places.specs.Shared.{SharedValue, gate_of};
 
@@ -44,7 +42,7 @@ impl<N: LineName, R: Wait + Copy> Model for SharedGate<N, R> {
 
     ghost view = { λ g. gate_of g.seat g.line };
 
-    ghost invariant = { λ g. IsLegal N.limit g.seat × ((g.line.expected ≡ []) ⊎ (g.line.ahead ≡ [])) };
+    ghost invariant = { λ g. IsLegal N.limit g.seat };
 }
 
 impl<N: LineName, R: Wait + Copy> SharedGate<N, R> {
@@ -94,11 +92,11 @@ impl<N: LineName, R: Wait + Copy> SharedGate<N, R> {
         self.seat.told()
     }
 
-    /// Nothing is expected any more, and what was sent ahead counts as submitted, as if the gate had done so and dropped the answers, for
-    /// which it waits. Whoever serves the next connection with the gate calls it first.
+    /// What was sent ahead counts as submitted, as if the gate had done so and dropped the answers, for which it waits. Whoever serves the
+    /// next connection with the gate calls it first.
     pub fn hand_on(&mut self)
         ensures known { self.new.known ≡ self.old.known }
-        ensures mark { (tail : List Entry) × HandsOn self.old.mark tail self.new.mark × IsPrefix (operations_of tail) self.old.pending }
+        ensures mark { (tail : List Entry) × HandsOn self.old.mark tail self.new.mark × (operations_of tail ≡ self.old.pending) }
         ensures pending { self.new.pending ≡ [] }
     {
         // If the writer is gone, no answer is left for a later submit.
@@ -108,7 +106,7 @@ impl<N: LineName, R: Wait + Copy> SharedGate<N, R> {
     /// Gives the gate up. The line's end keeps what the queue took from the line, what was sent ahead too.
     pub fn close(self) -> LineEnd<N>
         ensures place { result.place ≡ self.mark.place }
-        ensures sent { (tail : List Entry) × Sends self.mark.sent tail (Some result.sent) × IsPrefix (operations_of tail) self.pending }
+        ensures sent { (tail : List Entry) × Sends self.mark.sent tail (Some result.sent) × (operations_of tail ≡ self.pending) }
         ensures line { AreOfLine result.place result.sent }
         ensures end { IsClosed result.place result.ends result.gone }
     {
@@ -139,14 +137,16 @@ impl<N: LineName, R: Wait + Copy> Gate for SharedGate<N, R> {
         MAX_CHANGES
     }
 
-    /// The line expects the changes. Nothing is sent before the first of them is submitted.
+    /// The line sends the changes at once, if nothing is ahead of it, so that the writer works on them while the place goes on. The packet
+    /// of each lies whole in the buffer, so it is submitted, unless the session ends before. Then it may be an entry, as any publication
+    /// that was not acknowledged.
     fn expect(&mut self, changes: Vec<Operation>) {
-        self.line.expect(changes);
+        self.line.expect(&self.rt, changes);
     }
 
-    /// Whether anything is ahead of the line, or expected.
+    /// Whether anything is ahead of the line.
     fn has_pending(&self) -> bool {
-        self.line.has_announced()
+        self.line.has_ahead()
     }
 
     /// Hands the change to the writer and waits for the receipt. The seat learns its token before `Ok` is answered. Beside what each

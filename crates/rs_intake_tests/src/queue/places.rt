@@ -149,7 +149,7 @@ fn take_step<N: LineName, R: Wait + Clock + Abort>(
     match act {
         Act::Nothing => Some(()),
         Act::Expect(first, count) => {
-            line.expect(changes_of(task, line.place(), first, count)?);
+            line.expect(rt, changes_of(task, line.place(), first, count)?);
             Some(())
         }
         Act::HandOn => {

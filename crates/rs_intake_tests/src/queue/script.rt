@@ -26,7 +26,7 @@ pub(crate) enum Act {
     Largest,
     /// Submits the Clear of a topic.
     Clear([u8; 2]),
-    /// Announces the changes of so many steps, from this one on.
+    /// Announces the changes of so many steps, from this one on, which are sent.
     Expect(u32, u32),
     /// Hands the line on.
     HandOn,
@@ -44,8 +44,13 @@ pub(crate) enum Script {
     Changes,
     /// The first two of these changes.
     Two,
-    /// Changes that are announced, and sent three at a time.
+    /// Changes that are announced, in jobs of three and of five.
     Together,
+    /// The first place announces three changes. Then the other submits one, and then the first its three. At last it announces three, hands
+    /// its line on, and submits the first of them.
+    Early,
+    /// One change. Then two are announced, and submitted.
+    Late,
     /// The first place announces as many changes as a job carries, and submits one of them. Then the other submits one. Then the first
     /// hands its line on, and submits one more.
     Unread,
@@ -68,6 +73,8 @@ impl Script {
             Script::Changes => 5,
             Script::Together => 17,
             Script::Two | Script::Largest => 2,
+            Script::Early => 10,
+            Script::Late => 4,
             Script::Unread => 7,
             Script::Hundred => 102,
             Script::Beside => 502,
@@ -81,6 +88,9 @@ impl Script {
         match self {
             Script::Changes | Script::Two => change_at(step),
             Script::Together => act_together(step),
+            Script::Early => act_early(place, step),
+            Script::Late if step == 1 => Act::Expect(2, 2),
+            Script::Late => change_at(step),
             Script::Unread => act_unread(place, step),
             Script::Hundred => act_of_hundred(place, step),
             Script::Largest if place < MAX_PLACES => Act::Nothing,
@@ -136,6 +146,20 @@ fn act_together(step: u32) -> Act {
         13 => Act::HandOn,
         15 => Act::Clear(*b"d0"),
         _ => Act::Clear(*b"f0"),
+    }
+}
+
+fn act_early(place: u8, step: u32) -> Act {
+    match (place, step) {
+        (_, 1) => Act::Meet(1),
+        (_, 3) => Act::Meet(2),
+        (1, 0 | 7) => Act::Expect(4, 3),
+        (1, 4 | 9) => set(*b"a0", *b"04"),
+        (1, 5) => set(*b"b0", *b"05"),
+        (1, 6) => Act::Clear(*b"a0"),
+        (1, 8) => Act::HandOn,
+        (2, 2) => set(*b"c0", *b"02"),
+        _ => Act::Nothing,
     }
 }
 

@@ -22,7 +22,7 @@ const INPUT: ServeResult = Ok(Served::EndOfInput);
 const WRITE: ServeResult = Err(ServeFault::Write);
 
 /// Which write fails, if one does; how the first connection ends then; how many bytes of its replies are written; and whether its
-/// publications were kept. Once the first was handed over, all are.
+/// publications were kept. Once they were announced, all are.
 type Fault = (usize, ServeResult, usize, bool);
 
 const FAULTS: [Fault; 5] = [
@@ -49,7 +49,7 @@ fn rows(at: usize, ends: ServeResult, written: usize, kept: bool) -> [Row<'stati
     [first, second, third]
 }
 
-/// Three publications in one piece, from a client to which some write fails, or none. All are kept if the first was handed over; the next
+/// Three publications in one piece, from a client to which some write fails, or none. All are kept if they were announced; the next
 /// connection of the place reads them, and the one after it publishes.
 #[test]
 fn publications_of_one_piece_are_kept_together(rt: HostRuntime) -> Result<(), Fail> {

@@ -38,7 +38,7 @@ trait Place {
     ghost use Rattle.std.specs.Prelude.{◌≡◌, All, false};
     ghost use Rattle.rs_message.specs.Messages.{is_sweep};
 
-    /// Says which changes are submitted next.
+    /// Sends the changes that are submitted next.
     fn expect(&mut self, changes: Vec<Operation>)
         requires { All (λ o. is_sweep o ≡ false) changes.items };
 
@@ -60,7 +60,7 @@ struct Open<N: LineName, H: Wait + Copy + Drop> {
 
 impl<N: LineName, H: Wait + Copy + Drop> Place for Open<N, H> {
     fn expect(&mut self, changes: Vec<Operation>) {
-        self.line.expect(changes);
+        self.line.expect(&self.rt, changes);
     }
 
     fn submit(&mut self, change: Operation) -> Done {
@@ -133,7 +133,7 @@ fn read<P: Place>(place: &mut P, kept: u64) -> Result<(), Failure> {
     }
 }
 
-/// Sets of new topics, which are announced and then submitted. If they are more than one, they are one job.
+/// Sets of new topics. If they are more than one, they are announced, which makes them one job, and then submitted.
 #[derive(Drop)]
 struct Group {
     announced: Vec<Operation>,
@@ -161,7 +161,9 @@ fn submit<P: Place>(place: &mut P, book: &mut Book, change: Operation) -> Result
 /// Submits all of a group, and then reads.
 fn submit_group<P: Place>(place: &mut P, book: &mut Book, group: Group) -> Result<(), Failure> {
     let Group { announced, changes } = group;
-    place.expect(announced);
+    if announced.len() > 1 {
+        place.expect(announced);
+    }
     for change in changes {
         submit(place, book, change)?;
     }

@@ -1,7 +1,7 @@
-use Rattle.std.proofs.Common.{◌≡◌, ◌+◌, ◌<◌, ◌≤◌, ◌^◌, ⊎_elim, [], List, refl, sym, ap, subst, ◌∙◌, arith}
+use Rattle.std.proofs.Common.{◌≡◌, ◌+◌, ◌<◌, ◌≤◌, ◌^◌, ⊎_elim, [], sym, ap, ◌∙◌, arith}
 use Rattle.rs_message.specs.declared.entry.Entry.{Entry}
-use Rattle.rs_intake.specs.Lines.{IsOther, Line}
-use Rattle.rs_intake.proofs.Ahead.{after_ahead, after_none, none_other, not_other}
+use Rattle.rs_intake.specs.Lines.{Line}
+use Rattle.rs_intake.proofs.Ahead.{after_first, after_none, none_other, not_other}
 use Rattle.rs_intake.proofs.Sums.{compare, no_more}
 use Rattle.rs_intake.proofs.line.SeatLine.send.Goals as goal
 
@@ -10,27 +10,25 @@ returns-in_default-clause-ahead g c =
     let fits = c.self.invariant.fits in
     let full : 2 ^ 64 ≤ c.self.inside.serial + 1 = ⊎_elim (λ (t : c.self.inside.serial + 1 < 2 ^ 64). absurd (c.in_default.ensures t)) (λ t. t) (compare (c.self.inside.serial + 1) (2 ^ 64)) in
     let none : c.self.inside.ahead.items ≡ [] = no_more c.self.inside.ahead.items (omega (arith, fits, full)) in
-    after_none _ _ _ _ _ c.args.operation (sym (ap (λ (v : Line). v.ahead) c.self.view_is) ∙ none) none
-
-pub returns-in-Some-true-clause-ahead : goal.returns-in-Some-true-clause-ahead
-returns-in-Some-true-clause-ahead g c =
-    let e : Entry = record { origin = c.in-Some-new.origin; operation = c.args.operation } in
-    after_ahead _ _ _ _ c.send_expected.new.self.ahead _ e c.args.operation refl c.send_expected.ensures.ahead c.submit_ahead.ensures.ahead
+    let empty = sym (ap (λ (v : Line). v.ahead) c.self.view_is) ∙ none in
+    after_none _ _ c.args.operation empty empty
 
 pub returns-in_default-clause-other : goal.returns-in_default-clause-other
 returns-in_default-clause-other g c = λ other.
     let fits = c.self.invariant.fits in
     let full : 2 ^ 64 ≤ c.self.inside.serial + 1 = ⊎_elim (λ (t : c.self.inside.serial + 1 < 2 ^ 64). absurd (c.in_default.ensures t)) (λ t. t) (compare (c.self.inside.serial + 1) (2 ^ 64)) in
     let none : c.self.inside.ahead.items ≡ [] = no_more c.self.inside.ahead.items (omega (arith, fits, full)) in
-    let P : List Entry → Type 0 = λ l. IsOther l c.args.operation in
-    absurd (subst P (sym (ap (λ (v : Line). v.ahead) c.self.view_is) ∙ none) other)
+    absurd (none_other _ c.args.operation (sym (ap (λ (v : Line). v.ahead) c.self.view_is) ∙ none) other)
+
+pub returns-in-Some-true-clause-ahead : goal.returns-in-Some-true-clause-ahead
+returns-in-Some-true-clause-ahead g c =
+    let e : Entry = record { origin = c.in-Some-new.origin; operation = c.args.operation } in
+    after_first _ _ e c.submit_ahead.ensures.ahead
 
 pub returns-in-Some-true-clause-other : goal.returns-in-Some-true-clause-other
 returns-in-Some-true-clause-other g c = λ other.
     let e : Entry = record { origin = c.in-Some-new.origin; operation = c.args.operation } in
-    absurd (not_other _ _ _ _ c.send_expected.new.self.ahead _ e c.args.operation refl c.send_expected.ensures.ahead c.submit_ahead.ensures.ahead other)
+    absurd (not_other _ _ e c.submit_ahead.ensures.ahead other)
 
 pub returns-in-None-clause-other : goal.returns-in-None-clause-other
-returns-in-None-clause-other g c = λ other.
-    let e : Entry = record { origin = c.in-Some-new.origin; operation = c.args.operation } in
-    absurd (none_other _ _ _ _ c.send_expected.new.self.ahead e c.args.operation c.send_expected.ensures.ahead c.in-None.ensures other)
+returns-in-None-clause-other g c = λ other. absurd (none_other _ c.args.operation c.in-None.ensures other)

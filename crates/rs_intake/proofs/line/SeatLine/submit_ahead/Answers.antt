@@ -11,7 +11,7 @@ invariant_of-self g c =
     let left : c.pop_front.new.self.items ≡ c.requires.0 = c.pop_front.ensures.rest ∙ ap (λ (l : List Entry). drop 1 l) first in
     let N : List Entry → Type 0 = λ l. AreNext c.self.inside.line.place c.self.inside.serial l in
     let next = (subst N first c.self.invariant.next).0 in
-    seat_submits _ _ _ _ _ _ e _ (c.serial-self-inside.ensures.value ∙ ap (λ o. o.serial) next) (first ∙ ap (λ (l : List Entry). e ∷ l) (sym left)) c.self.invariant
+    seat_submits _ _ _ _ _ _ e (c.serial-self-inside.ensures.value ∙ ap (λ o. o.serial) next) (first ∙ ap (λ (l : List Entry). e ∷ l) (sym left)) c.self.invariant
 
 pub returns-clause-sent : goal.returns-clause-sent
 returns-clause-sent g c =

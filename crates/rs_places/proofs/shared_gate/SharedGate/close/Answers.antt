@@ -1,5 +1,4 @@
-use Rattle.std.proofs.Common.{List, Some, refl, subst}
-use mathlib.Core.List.{IsPrefix}
+use Rattle.std.proofs.Common.{◌≡◌, List, Some, refl, subst}
 use Rattle.rs_message.specs.declared.entry.Entry.{Entry}
 use Rattle.rs_session.specs.Gate.{Sends}
 use Rattle.rs_places.specs.Shared.{SharedValue, operations_of}
@@ -8,5 +7,5 @@ use Rattle.rs_places.proofs.shared_gate.SharedGate.close.Goals as goal
 pub returns-clause-sent : goal.returns-clause-sent
 returns-clause-sent g c =
     let line = c.self.inside.line in
-    let P : SharedValue → Type 0 = λ v. (tail : List Entry) × Sends v.mark.sent tail (Some c.close.result.sent) × IsPrefix (operations_of tail) v.pending in
-    subst P c.self.view_is (line.ahead, c.close.ensures.sent, (line.expected, refl))
+    let P : SharedValue → Type 0 = λ v. (tail : List Entry) × Sends v.mark.sent tail (Some c.close.result.sent) × (operations_of tail ≡ v.pending) in
+    subst P c.self.view_is (line.ahead, c.close.ensures.sent, refl)

@@ -1,10 +1,7 @@
 use Rattle.std.proofs.Common.{◌≡◌, ◌⊎◌, [], refl, sym, ap, subst, ◌∙◌, append-nil}
-use Rattle.rs_places.specs.Shared.{SharedValue, pending_of}
-use Rattle.rs_places.proofs.Receipts.{announced_one, announces, same_mark}
+use Rattle.rs_places.specs.Shared.{SharedValue, operations_of}
+use Rattle.rs_places.proofs.Receipts.{announces, same_mark}
 use Rattle.rs_places.proofs.shared_gate.SharedGateGate.expect.Goals as goal
-
-pub invariant_of-self : goal.invariant_of-self
-invariant_of-self g c = (c.self.invariant.0, announced_one _ _ _ _ c.expect.ensures.same.2 c.expect.ensures.expected)
 
 pub returns-clause-list : goal.returns-clause-list
 returns-clause-list g c = λ seen knows.
@@ -18,6 +15,7 @@ returns-clause-mark g c =
 
 pub returns-clause-pending : goal.returns-clause-pending
 returns-clause-pending g c =
-    let new = pending_of c.expect.new.self in
+    let old = c.self.inside.line in
+    let new = operations_of c.expect.new.self.ahead in
     let P : SharedValue → Type 0 = λ v. (new ≡ c.args.changes.items) ⊎ ((new ≡ []) ⊎ (new ≡ v.pending)) in
-    subst P c.self.view_is (announces c.self.inside.line.expected c.args.changes.items _ c.self.inside.line.ahead _ c.self.invariant.1 c.expect.ensures.same.2 c.expect.ensures.expected)
+    subst P c.self.view_is (announces old.place old.serial c.args.changes.items old.ahead _ c.expect.ensures.ahead)

@@ -7,7 +7,7 @@ use Rattle.rs_session.specs.Gate.{Mark, Submits, TakesPending}
 use Rattle.rs_message.specs.declared.fault.SubmitFault.TheVariants.{Strange}
 use Rattle.rs_intake.specs.Lines.{entry_at, next_serial}
 use Rattle.rs_intake.proofs.Faults.{ok_not_err, refused_as}
-use Rattle.rs_places.specs.Shared.{IsOtherPending, SharedValue, pending_of, mark_of}
+use Rattle.rs_places.specs.Shared.{IsOtherPending, SharedValue, mark_of, operations_of}
 use Rattle.rs_places.proofs.Receipts.{other_pending, same_mark, sends_it, submits_err, submits_ok, takes_pending, used_if_open}
 use Rattle.rs_places.proofs.shared_gate.SharedGateGate.submit.Goals as goal
 
@@ -55,8 +55,8 @@ returns-clause-pending g c =
     let s = c.submit.ensures in
     let old = c.self.inside.line in
     let new = c.submit.new.line in
-    let P : SharedValue → Type 0 = λ v. TakesPending c.args.operation v.mark (mark_of new) (Ok tt) v.pending (pending_of new) in
-    subst P c.self.view_is (takes_pending old.place old.serial old.expected new.expected old.ahead new.ahead c.args.operation (mark_of old) (mark_of new) (Ok tt) c.self.invariant.1 s.expected s.ahead
+    let P : SharedValue → Type 0 = λ v. TakesPending c.args.operation v.mark (mark_of new) (Ok tt) v.pending (operations_of new.ahead) in
+    subst P c.self.view_is (takes_pending old.ahead new.ahead c.args.operation (mark_of old) (mark_of new) (Ok tt) s.ahead
     (λ other. absurd (ok_not_err _ _ _ c.in_ok-receipt.was (s.other other).0)))
 
 pub returns-in_err-receipt-clause-pending : goal.returns-in_err-receipt-clause-pending
@@ -65,8 +65,8 @@ returns-in_err-receipt-clause-pending g c =
     let p = err_from_is_err_and c.from_residual.result c.from_residual.ensures.1 in
     let old = c.self.inside.line in
     let new = c.submit.new.line in
-    let P : SharedValue → Type 0 = λ v. TakesPending c.args.operation v.mark (mark_of new) c.from_residual.result v.pending (pending_of new) in
-    subst P c.self.view_is (takes_pending old.place old.serial old.expected new.expected old.ahead new.ahead c.args.operation (mark_of old) (mark_of new) c.from_residual.result c.self.invariant.1 s.expected s.ahead
+    let P : SharedValue → Type 0 = λ v. TakesPending c.args.operation v.mark (mark_of new) c.from_residual.result v.pending (operations_of new.ahead) in
+    subst P c.self.view_is (takes_pending old.ahead new.ahead c.args.operation (mark_of old) (mark_of new) c.from_residual.result s.ahead
     (λ other. let o = s.other other in (refused_as _ _ _ _ _ c.in_err-receipt.was o.0 p.1 p.2, same_mark old new s.place o.1 o.2)))
 
 pub returns-clause-serial : goal.returns-clause-serial
@@ -84,4 +84,4 @@ returns-in_err-receipt-clause-serial g c =
     let new = c.submit.new.line in
     let P : SharedValue → Type 0 = λ v. (new.serial ≡ next_serial v.mark.serial) ⊎ ((c.from_residual.result ≡ Err Strange) × (mark_of new ≡ v.mark) × IsOtherPending v.pending c.args.operation) in
     subst P c.self.view_is (⊎_elim (λ t. inl t)
-    (λ other. let o = s.other other in inr (refused_as _ _ _ _ _ c.in_err-receipt.was o.0 p.1 p.2, same_mark old new s.place o.1 o.2, other_pending old.ahead old.expected c.args.operation other)) s.serial)
+    (λ other. let o = s.other other in inr (refused_as _ _ _ _ _ c.in_err-receipt.was o.0 p.1 p.2, same_mark old new s.place o.1 o.2, other_pending old.ahead c.args.operation other)) s.serial)

@@ -1,33 +1,33 @@
-use Rattle.std.proofs.Common.{◌≡◌, ◌++◌, [], ℕ, List, length, sym, ap, subst, ◌∙◌, arith}
+use Rattle.std.proofs.Common.{◌≡◌, ◌++◌, ℕ, List, length, sym, ap, subst, ◌∙◌, arith}
 use Rattle.std.proofs.lemmas.Bool.Decides.{nat_tests}
 use Rattle.rs_message.specs.declared.entry.Entry.{Entry}
 use Rattle.rs_intake.specs.Changes.{AreOf}
 use Rattle.rs_intake.specs.Lines.{IsSeatLine, numbered}
 use Rattle.rs_intake.specs.QueueRule.{AreAbove}
-use Rattle.rs_intake.proofs.Ahead.{numbered_of, seat_above, seat_expects_none, seat_sends}
+use Rattle.rs_intake.proofs.Ahead.{each_plain, numbered_of, seat_above, seat_sends}
 use Rattle.rs_intake.proofs.Sums.{no_more}
-use Rattle.rs_intake.proofs.line.SeatLine.send_expected.Goals as goal
+use Rattle.rs_intake.proofs.line.SeatLine.expect.Goals as goal
 
 pub send_changes-requires-clause-place : goal.send_changes-requires-clause-place
 send_changes-requires-clause-place g c =
-    let os = c.replace-expected.result.items in
+    let os = c.args.changes.items in
     let P : List Entry → Type 0 = λ l. AreOf c.self.inside.line.place l in
     let job : c.in-Some.job ≡ numbered c.self.inside.line.place c.self.inside.serial os = c.in-Some.ensures.job ∙ ap (λ (p : ℕ). numbered p c.self.inside.serial os) c.place-place.ensures.place in
     subst P (sym job) (numbered_of c.self.inside.line.place c.self.inside.serial os)
 
 pub send_changes-requires-clause-above : goal.send_changes-requires-clause-above
 send_changes-requires-clause-above g c =
-    let os = c.replace-expected.result.items in
+    let os = c.args.changes.items in
     let P : List Entry → Type 0 = λ l. AreAbove c.self.inside.line.sent l in
     let job : c.in-Some.job ≡ numbered c.self.inside.line.place c.self.inside.serial os = c.in-Some.ensures.job ∙ ap (λ (p : ℕ). numbered p c.self.inside.serial os) c.place-place.ensures.place in
     let empty = c.if-not-is_empty.ensures in
     let ok = c.self.inside.ahead.ok.0 in
     let zero : length c.self.inside.ahead.items ≡ 0 = grind (arith, nat_tests) in
-    subst P (sym job) (seat_above _ _ _ _ _ os (no_more c.self.inside.ahead.items zero) c.self.invariant)
+    subst P (sym job) (seat_above _ _ _ _ os (no_more c.self.inside.ahead.items zero) c.self.invariant)
 
-pub invariant_of-self-then-send_changes : goal.invariant_of-self-then-send_changes
-invariant_of-self-then-send_changes g c =
-    let os = c.replace-expected.result.items in
+pub invariant_of-self : goal.invariant_of-self
+invariant_of-self g c =
+    let os = c.args.changes.items in
     let place = c.self.inside.line.place in
     let serial = c.self.inside.serial in
     let taken = c.self.inside.line.sent in
@@ -35,10 +35,11 @@ invariant_of-self-then-send_changes g c =
     let job : c.in-Some.job ≡ numbered place serial os = c.in-Some.ensures.job ∙ ap (λ (p : ℕ). numbered p serial os) same in
     let ahead : c.in-Some.ahead.items ≡ numbered place serial os = c.in-Some.ensures.ahead ∙ ap (λ (p : ℕ). numbered p serial os) same in
     let sent : c.send_changes.new.self.sent ≡ taken ++ numbered place serial os = c.if-send_changes.ensures.sent ∙ ap (λ l. taken ++ l) job in
-    let gone : c.replace-expected.new.dest.items ≡ [] = cc (c.replace-expected.ensures.after, c.new.ensures.items) in
     let empty = c.if-not-is_empty.ensures in
     let ok = c.self.inside.ahead.ok.0 in
     let zero : length c.self.inside.ahead.items ≡ 0 = grind (arith, nat_tests) in
-    let P : ℕ → Type 0 = λ p. IsSeatLine p serial c.send_changes.new.self.sent c.replace-expected.new.dest.items c.in-Some.ahead.items in
-    subst P (sym c.if-send_changes.ensures.place) (seat_expects_none _ _ _ _ _ _ gone
-    (seat_sends place serial taken _ _ _ _ os (no_more c.self.inside.ahead.items zero) sent ahead c.in-Some.ensures.small c.self.invariant))
+    let P : ℕ → Type 0 = λ p. IsSeatLine p serial c.send_changes.new.self.sent c.in-Some.ahead.items in
+    subst P (sym c.if-send_changes.ensures.place) (seat_sends place serial taken _ _ _ os (no_more c.self.inside.ahead.items zero) sent ahead c.in-Some.ensures.small c.self.invariant)
+
+pub prepared-requires-clause-plain : goal.prepared-requires-clause-plain
+prepared-requires-clause-plain g c = each_plain c.args.changes.items c.requires
