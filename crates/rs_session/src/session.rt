@@ -2,7 +2,7 @@
 
 mod connect;
 
-ghost use Rattle.std.specs.Prelude.{◌≡◌, ◌≢◌, ◌<◌, ◌≤◌, ◌⊎◌, ℕ, List, [], false, Some, None, IfSome, length};
+ghost use Rattle.std.specs.Prelude.{◌≡◌, ◌≢◌, ◌<◌, ◌≤◌, ◌⊎◌, ℕ, List, [], false, Some, None, IfSome, MatchBool, length};
 ghost use Rattle.std.specs.List.{All};
 ghost use Rattle.rs_message.specs.declared.entry.Entry.{Entry};
 ghost use Rattle.rs_packet.specs.declared.packet.Packet.{Packet};
@@ -164,6 +164,13 @@ impl<G: Gate> Session<G> {
             return self.gate.most_expected();
         }
         0
+    }
+
+    /// Whether some change was expected and is not submitted yet ([`Gate::has_pending`]).
+    pub fn has_pending(&self) -> bool
+        ensures { MatchBool result (G.pending (gate_of self.now) ≢ []) (G.pending (gate_of self.now) ≡ []) }
+    {
+        self.gate.has_pending()
     }
 
     /// Tells the gate which changes come next ([`Gate::expect`]), if the session is open: those of the inputs that it will be given, in
