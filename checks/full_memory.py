@@ -30,7 +30,7 @@ REFUSED = 20
 # How many bytes a writer alone has.
 WRITER_SPACE = 64_000_000
 # How many clients are connected and silent, and how many bytes each may take: twice what it takes.
-IDLE, MOST_IDLE = 200, 64_000
+IDLE, MOST_IDLE = 200, 62_000
 
 
 def settings():

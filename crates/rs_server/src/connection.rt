@@ -16,9 +16,11 @@ use crate::assigned::assigned_client;
 use crate::clock::Clock;
 use crate::counted::Counted;
 use crate::plan::{Planned, plan};
+use crate::read_size::ReadSize;
 use crate::writing::{ServeFault, write_replies};
 use bytes::BytesMut;
 use rs_message::Operation;
+use rs_packet::needed_len;
 use rs_session::{Closing, Gate, Input, Session, Step};
 use std::alloc::Global;
 use std::collections::VecDeque;
@@ -50,13 +52,6 @@ pub enum Served {
     Dropped,
 }
 
-/// How many bytes one read may give.
-const READ_SIZE: usize = 8192;
-
-/// How many bytes the buffer of a client that is waited for has at most, if nothing is buffered. Reads that end inside a short packet
-/// need no more.
-const MAX_KEPT: usize = 2 * READ_SIZE;
-
 /// Serves one connection: reads packets and writes the session's replies, each of which is flushed, until
 /// the session or the input ends.
 ///
@@ -64,10 +59,11 @@ const MAX_KEPT: usize = 2 * READ_SIZE;
 /// (3.2.2.3.7). The clock is asked once for each packet, and once for a fault. The gate is returned in
 /// every case.
 ///
-/// Packets that are whole in its buffer are decoded together, up to as many as the gate takes at once ([`Gate::most_expected`]), as long
-/// as they are publications whose changes may be announced, and the gate is told to expect these ([`Gate::expect`]). Then they are
-/// handled one by one. It never reads to do so. If the session ends before such a packet is handled, its time was asked all the same.
-/// For a gate that takes none, each packet is handled before the next one is decoded.
+/// Packets that are whole in its buffer are decoded before they are handled, up to as many as the gate takes at once
+/// ([`Gate::most_expected`]), as long as they are publications whose changes may be announced. The gate is told to expect half of these
+/// ([`Gate::expect`]) before the other half is decoded, and the others once the first are handled. All are handled one by one. It never
+/// reads to do so. If the session ends before such a packet is handled, its time was asked all the same. For a gate that takes none, each
+/// packet is handled before the next one is decoded.
 ///
 /// # Errors
 ///
@@ -106,6 +102,7 @@ pub fn serve<H: Wait, R: Read, W: Write, G: Gate, C: Clock>(
     };
     let mut session = Session::new(alloc, gate, assigned);
     let mut buffered = BytesMut::new(alloc);
+    let mut size = ReadSize::new();
     let mut planned = VecDeque::new(alloc);
     'serving: for _ in rt.forever() {
         match serve_once(
@@ -114,6 +111,7 @@ pub fn serve<H: Wait, R: Read, W: Write, G: Gate, C: Clock>(
             writer,
             &mut session,
             &mut buffered,
+            &mut size,
             &mut planned,
             clock,
         ) {
@@ -132,6 +130,7 @@ fn serve_once<R: Read, W: Write, G: Gate, C: Clock>(
     writer: &mut Counted<W>,
     session: &mut Session<G>,
     buffered: &mut BytesMut,
+    size: &mut ReadSize,
     planned: &mut VecDeque<Planned>,
     clock: &mut C,
 ) -> Result<Option<Served>, ServeFault>
@@ -168,7 +167,7 @@ fn serve_once<R: Read, W: Write, G: Gate, C: Clock>(
         return Err(fault);
     }
     let Some(next) = planned.pop_front() else {
-        return read_more(alloc, reader, buffered);
+        return read_more(alloc, reader, buffered, size);
     };
     let Planned { input, now, change } = next;
     match make_exchange(alloc, session, writer, input, change, now) {
@@ -177,15 +176,15 @@ fn serve_once<R: Read, W: Write, G: Gate, C: Clock>(
     }
 }
 
-/// Gives back the memory that a long packet took, if nothing is buffered.
-fn give_back(alloc: Global, buffered: &mut BytesMut)
+/// Gives back the memory that the next read does not need, if nothing is buffered.
+fn give_back(alloc: Global, buffered: &mut BytesMut, size: &ReadSize)
     ensures { buffered.new.items ≡ buffered.old.items }
 {
     if !buffered.is_empty() {
         return;
     }
     buffered.clear();
-    if buffered.capacity() > MAX_KEPT {
+    if size.is_below(buffered.capacity()) {
         *buffered = BytesMut::new(alloc);
     }
 }
@@ -195,6 +194,7 @@ fn read_more<R: Read>(
     alloc: Global,
     reader: &mut Counted<R>,
     buffered: &mut BytesMut,
+    size: &mut ReadSize,
 ) -> Result<Option<Served>, ServeFault>
     requires { failures_of reader.old < 2 ^ 64 - 1 }
     ensures bytes { (more : List ℕ) × (buffered.new.items ≡ buffered.old.items ++ more)
@@ -202,13 +202,15 @@ fn read_more<R: Read>(
     ensures end { IsEnd result buffered.old.items buffered.new.items (IsAtEnd (R.remaining (inner_of reader.new))) }
     ensures cause { IsReadCause result (failures_of reader.old) (failures_of reader.new) }
 {
-    give_back(alloc, buffered);
-    if buffered.reserve(READ_SIZE).is_err() {
+    give_back(alloc, buffered, size);
+    let asked = size.behind(buffered.len(), needed_len(buffered.as_slice()));
+    if buffered.reserve(asked).is_err() {
         return Err(ServeFault::NoMemory);
     }
     let Ok(n) = reader.read_into(buffered) else {
         return Err(ServeFault::Read);
     };
+    size.adapt(asked, n);
     if n > 0 {
         return Ok(None);
     }

@@ -19,6 +19,7 @@ mod counted;
 mod counted_gate;
 mod law;
 mod plan;
+mod read_size;
 mod writing;
 
 pub use clock::{Clock, Moments};
