@@ -1,6 +1,10 @@
 -- Lemmas on what is decoded before it is handled.
-use Rattle.std.proofs.Common.{◌≡◌, ◌≤◌, ◌+◌, ℕ, length-append, List, [], ◌∷◌, ◌++◌, length, refl, sym, subst, ap, ◌∙◌, append-nil, append_assoc, inl, inr, ◌⊎◌, Option, Some, None, arith}
-use Rattle.std.proofs.lemmas.List.{map-append}
+use Rattle.std.proofs.Common.{◌≡◌, ◌<◌, ◌≤◌, ◌+◌, ◌-◌, ℕ, length-append, List, [], ◌∷◌, ◌++◌, length, take, get_or, refl, sym, subst, ap, ◌∙◌, append-nil, append_assoc, inl, inr, ◌⊎◌, Option, Some, None, arith}
+use Rattle.std.proofs.lemmas.List.{map-append, take_more}
+use Rattle.std.proofs.lemmas.List.Elements.{All-nil, All-cons, All-append, All-take}
+use Rattle.std.proofs.Math.Seq.{take-append_seam, take-length}
+use Rattle.std.specs.Prelude.{is_some, true, IfSome}
+use Rattle.std.specs.List.{All}
 use Rattle.rs_packet.specs.declared.reply.Reply.{Reply}
 use Rattle.rs_message.specs.declared.entry.Entry.{Entry}
 use Rattle.rs_message.specs.declared.entry.Operation.{Operation}
@@ -15,7 +19,7 @@ use Rattle.rs_session.specs.Run.{Gives, GivesAll}
 use Rattle.rs_session.specs.State.{State, IsGiven, IsReplayed, step_of}
 use Rattle.rs_session.proofs.Expecting.{leaves_weaker}
 use Rattle.rs_server.specs.Clock.{TellsInOrder}
-use Rattle.rs_server.specs.Conversation.{InputsOf, Plans, PlansNext}
+use Rattle.rs_server.specs.Conversation.{AllButLastHaveChanges, HasChange, InputsOf, Plans, PlansNext, planned_inputs}
 use Rattle.rs_server.proofs.Conversations.{front_inputs, in_order_join, in_order_none, inputs_join}
 
 -- ---- what is planned grows
@@ -43,17 +47,54 @@ pub next_few : (p1 p2 : List Given) (h1 h2 : List ℕ) (c1 c2 : Option (ℕ → 
 next_few p1 p2 h1 h2 c1 c2 (inl (e, f, g)) = omega (arith, ap (λ (l : List Given). length l) e)
 next_few p1 p2 h1 h2 c1 c2 (inr (given, e, t, m)) = omega (arith, ap (λ (l : List Given). length l) e, length-append p1 (given ∷ []))
 
-pub not_empty : (planned : List Given) (given : Given) → planned ++ given ∷ [] ≡ [] → ⊥
-not_empty [] given e = absurd (cc)
-not_empty (first ∷ planned) given e = absurd (cc)
-
 front_empty : (planned more : List Given) → planned ++ more ≡ [] → planned ≡ []
 front_empty [] more e = refl
 front_empty (first ∷ planned) more e = absurd (cc)
 
--- if nothing is planned, nothing was planned before
-pub none_before : (p1 p2 : List Given) (h1 h2 : List ℕ) (c1 c2 : Option (ℕ → ℕ)) → Plans p1 p2 h1 h2 c1 c2 → p2 ≡ [] → p1 ≡ []
-none_before p1 p2 h1 h2 c1 c2 (more, e, i, m) none = front_empty p1 more (sym e ∙ none)
+back_empty : (planned more : List Given) → planned ++ more ≡ [] → more ≡ []
+back_empty [] more e = e
+back_empty (first ∷ planned) more e = absurd (cc)
+
+-- if nothing is planned, nothing was planned before, and what is buffered is as it was
+pub none_planned : (p1 p2 : List Given) (h1 h2 : List ℕ) (c1 c2 : Option (ℕ → ℕ)) → Plans p1 p2 h1 h2 c1 c2 → p2 ≡ [] → (p1 ≡ []) × (h2 ≡ h1)
+none_planned p1 p2 h1 h2 c1 c2 (more, e, i, m) none =
+    (front_empty p1 more (sym e ∙ none), sym (subst (λ (l : List Given). InputsOf (planned_inputs l) h1 h2) (back_empty p1 more (sym e ∙ none)) i))
+
+-- ---- what may be announced
+
+pub but_last_all : (planned : List Given) → All HasChange planned → AllButLastHaveChanges planned
+but_last_all planned all = All-take HasChange (length planned - 1) planned all
+
+but_last_more : (planned : List Given) (given : Given) → All HasChange planned → AllButLastHaveChanges (planned ++ given ∷ [])
+but_last_more planned given all =
+    let size : length (planned ++ given ∷ []) - 1 ≡ length planned = omega (arith, length-append planned (given ∷ [])) in
+    let front : take (length (planned ++ given ∷ []) - 1) (planned ++ given ∷ []) ≡ planned = ap (λ (n : ℕ). take n (planned ++ given ∷ [])) size ∙ take-append_seam planned (given ∷ []) in
+    subst (All HasChange) (sym front) all
+
+-- behind changes one more may be planned that has none
+pub but_last_next : (p1 p2 : List Given) (h1 h2 : List ℕ) (c1 c2 : Option (ℕ → ℕ)) → PlansNext p1 p2 h1 h2 c1 c2 → All HasChange p1 → AllButLastHaveChanges p2
+but_last_next p1 p2 h1 h2 c1 c2 (inl (e, f, g)) all = subst AllButLastHaveChanges (sym e) (but_last_all p1 all)
+but_last_next p1 p2 h1 h2 c1 c2 (inr (given, e, t, m)) all = subst AllButLastHaveChanges (sym e) (but_last_more p1 given all)
+
+pub but_last_first : (p1 p2 : List Given) (h1 h2 : List ℕ) (c1 c2 : Option (ℕ → ℕ)) → PlansNext p1 p2 h1 h2 c1 c2 → p1 ≡ [] → AllButLastHaveChanges p2
+but_last_first p1 p2 h1 h2 c1 c2 p none = but_last_next p1 p2 h1 h2 c1 c2 p (subst (All HasChange) (sym none) (All-nil HasChange))
+
+pub all_more : (planned : List Given) (given : Given) → All HasChange planned → HasChange given → All HasChange (planned ++ given ∷ [])
+all_more planned given all last = All-append HasChange planned (given ∷ []) all (All-cons HasChange given [] last (All-nil HasChange))
+
+pub has_change : (given : Given) (change : Option Operation) → is_some change ≡ true → IfSome change (λ operation. IsChange given operation) → HasChange given
+has_change given None some is = absurd (cc)
+has_change given (Some operation) some is = (operation, is)
+
+-- if the last one has a change too, all have
+pub all_with_last : (planned : List Given) (last : Given) → 0 < length planned → last ≡ get_or planned (length planned - 1) last → HasChange last → AllButLastHaveChanges planned → All HasChange planned
+all_with_last planned last some is has front =
+    let there : length planned - 1 < length planned = omega (arith, some) in
+    let size : length planned - 1 + 1 ≡ length planned = omega (arith, some) in
+    let split : take (length planned - 1 + 1) planned ≡ take (length planned - 1) planned ++ get_or planned (length planned - 1) last ∷ [] = take_more planned (length planned - 1) last there in
+    let whole : planned ≡ take (length planned - 1) planned ++ last ∷ [] =
+    sym (take-length planned) ∙ ap (λ (n : ℕ). take n planned) (sym size) ∙ split ∙ ap (λ (x : Given). take (length planned - 1) planned ++ x ∷ []) (sym is) in
+    subst (All HasChange) (sym whole) (all_more (take (length planned - 1) planned) last front has)
 
 -- ---- what is expected
 

@@ -1,6 +1,6 @@
 -- One connection, from the bytes that were read to those that were written.
-use Rattle.std.specs.Prelude.{◌⊎◌, ◌≡◌, ◌≢◌, ℕ, ◌<◌, ◌≤◌, Option, Some, None, List, [], ◌∷◌, ◌++◌, length, take, drop, map, Result, Ok, Err, codes}
-use Rattle.std.specs.List.{flat_map}
+use Rattle.std.specs.Prelude.{◌⊎◌, ◌≡◌, ◌≢◌, ℕ, ◌-◌, ◌<◌, ◌≤◌, Option, Some, None, List, [], ◌∷◌, ◌++◌, length, take, drop, map, Result, Ok, Err, codes}
+use Rattle.std.specs.List.{All, flat_map}
 use Rattle.std.specs.Io.KnownBytes.{Consumes, Appends, IsAtEnd}
 use Rattle.std.specs.Fmt.{decimal}
 use Rattle.rs_packet.specs.Grammar.{Encodes}
@@ -12,7 +12,7 @@ use Rattle.rs_session.specs.declared.phase.Input.{Input}
 use Rattle.rs_session.specs.declared.phase.Input.TheVariants.{Whole, Broken}
 use Rattle.rs_session.specs.declared.phase.Closing.{Closing}
 use Rattle.rs_session.specs.declared.phase.Closing.TheVariants as closing
-use Rattle.rs_session.specs.Pending.{AreChanges}
+use Rattle.rs_session.specs.Pending.{AreChanges, IsChange}
 use Rattle.rs_session.specs.Gate.{Mark, StandsAt}
 use Rattle.rs_session.specs.Stored.{point_after}
 use Rattle.rs_session.specs.State.{State, fresh, closing_of, step_of}
@@ -68,6 +68,14 @@ PlansNext planned new_planned buffered new_buffered told new_told =
 abbrev pub Plans : List Given → List Given → List ℕ → List ℕ → Option (ℕ → ℕ) → Option (ℕ → ℕ) → Type 0
 Plans planned new_planned buffered new_buffered told new_told =
     (more : List Given) × (new_planned ≡ planned ++ more) × InputsOf (planned_inputs more) buffered new_buffered × TellsInOrder told new_told (planned_moments more)
+
+-- its change may be announced
+abbrev pub HasChange : Given → Type 0
+HasChange given = (operation : Operation) × IsChange given operation
+
+-- of all of these but the last the changes may be announced
+abbrev pub AllButLastHaveChanges : List Given → Type 0
+AllButLastHaveChanges planned = All HasChange (take (length planned - 1) planned)
 
 -- ---- the run
 

@@ -1,6 +1,6 @@
 //! What is decoded before it is handled.
 
-ghost use Rattle.std.specs.Prelude.{◌≡◌, ◌≢◌, ◌≤◌, ◌+◌, ◌⊎◌, [], true, false, List, Ok, Some, OnErr, OnOk, IfOk, IfErr, IfSome, length};
+ghost use Rattle.std.specs.Prelude.{◌≡◌, ◌≤◌, ◌+◌, ◌⊎◌, [], ◌∷◌, ◌++◌, true, false, List, Ok, Some, OnErr, OnOk, IfOk, IfErr, IfSome, length, max};
 ghost use Rattle.std.specs.List.{All};
 ghost use Rattle.rs_message.specs.declared.entry.Entry.{Entry};
 ghost use Rattle.rs_message.specs.declared.entry.Operation.{Operation};
@@ -10,10 +10,10 @@ ghost use Rattle.rs_packet.specs.PacketReading.{Gives, answer};
 ghost use Rattle.rs_packet.specs.Prefixes.{IsMore};
 ghost use Rattle.rs_session.specs.Pending.{AreChanges, IsChange};
 ghost use Rattle.rs_session.specs.Gate.{Grows};
-ghost use Rattle.rs_session.specs.Points.{given_at};
+ghost use Rattle.rs_session.specs.Points.{Given, given_at};
 ghost use Rattle.rs_session.specs.State.{state_of, due_of, gate_of};
 ghost use Rattle.rs_server.specs.Clock.{TellsInOrder};
-ghost use Rattle.rs_server.specs.Conversation.{Plans, PlansNext, TakesInput};
+ghost use Rattle.rs_server.specs.Conversation.{AllButLastHaveChanges, HasChange, Plans, PlansNext, TakesInput};
 
 use crate::clock::Clock;
 use crate::writing::ServeFault;
@@ -58,9 +58,11 @@ fn copied(change: &Option<Operation>) -> Option<Operation>
     }
 }
 
-/// Plans what comes next, if nothing is planned: the first whole input of what is buffered; and, in an open session, while the last one
-/// is a publication that may be announced, the next, up to as many as its gate takes at once. The changes of two or more of them are
-/// announced. Nothing is read.
+/// Plans what comes next, unless the gate still waits for changes of what is planned. Nothing is read.
+///
+/// The first is the first whole input of what is buffered. While the last one is a publication that may be announced, in an open session,
+/// the next one follows: first up to half of what its gate takes at once, whose changes are announced, and then up to as many as it takes,
+/// which are decoded while the writer works on the others. These are announced once all before them are handled.
 pub(crate) fn plan<G: Gate, C: Clock>(
     alloc: Global,
     session: &mut Session<G>,
@@ -71,6 +73,7 @@ pub(crate) fn plan<G: Gate, C: Clock>(
     ensures plans { Plans planned.old.items planned.new.items buffered.old.items buffered.new.items (C.moments clock.old) (C.moments clock.new) }
     ensures more { OnOk result (planned.new.items ≡ [] → IsMore buffered.new.items) }
     ensures few { length planned.old.items ≤ G.most → length planned.new.items ≤ G.most + 1 }
+    ensures only_last { AllButLastHaveChanges planned.old.items → AllButLastHaveChanges planned.new.items }
     ensures none { OnErr result (planned.new.items ≡ planned.old.items) }
     ensures fault { IfErr result (λ fault. fault ≡ ServeFault.NoMemory) }
     ensures state { state_of session.new ≡ state_of session.old }
@@ -79,22 +82,50 @@ pub(crate) fn plan<G: Gate, C: Clock>(
     ensures mark { G.mark (gate_of session.new) ≡ G.mark (gate_of session.old) }
     ensures pending { AreChanges planned.old.items (G.pending (gate_of session.old)) → AreChanges planned.new.items (G.pending (gate_of session.new)) }
 {
-    if !planned.is_empty() {
+    if !planned.is_empty() && session.has_pending() {
         return Ok(());
     }
     let most = session.most_expected();
-    match plan_next(alloc, buffered, planned, clock, most > 1) {
-        Ok(true) => {
-            look_ahead(alloc, buffered, planned, clock, most);
-            announce(alloc, session, planned);
-            Ok(())
-        }
-        Ok(false) => Ok(()),
+    plan_first(alloc, buffered, planned, clock, most > 1)?;
+    look_ahead(alloc, buffered, planned, clock, batch(most));
+    announce(alloc, session, planned);
+    look_ahead(alloc, buffered, planned, clock, most);
+    Ok(())
+}
+
+/// How many inputs are planned before their changes are announced, for a gate that takes `most` changes at once: half of them, but two if
+/// it takes two.
+fn batch(most: usize) -> usize
+    ensures { result ≤ most }
+{
+    (most / 2).max(2).min(most)
+}
+
+/// Plans the next input, if nothing is planned and it is whole, with its change, if that is wanted and may be announced.
+fn plan_first<C: Clock>(
+    alloc: Global,
+    buffered: &mut BytesMut,
+    planned: &mut VecDeque<Planned>,
+    clock: &mut C,
+    announces: bool,
+) -> Result<(), ServeFault>
+    ensures plans { Plans planned.old.items planned.new.items buffered.old.items buffered.new.items (C.moments clock.old) (C.moments clock.new) }
+    ensures more { OnOk result (planned.new.items ≡ [] → IsMore buffered.new.items) }
+    ensures few { length planned.new.items ≤ max (length planned.old.items) 1 }
+    ensures only_last { AllButLastHaveChanges planned.old.items → AllButLastHaveChanges planned.new.items }
+    ensures none { OnErr result (planned.new.items ≡ planned.old.items) }
+    ensures fault { IfErr result (λ fault. fault ≡ ServeFault.NoMemory) }
+{
+    if !planned.is_empty() {
+        return Ok(());
+    }
+    match plan_next(alloc, buffered, planned, clock, announces) {
+        Ok(_goes_on) => Ok(()),
         Err(fault) => Err(fault),
     }
 }
 
-/// Plans the next input, if it is whole, with its change, if that is wanted and may be announced. Whether there is one.
+/// Plans the next input, if it is whole, with its change, if that is wanted and may be announced. Whether it has one.
 fn plan_next<C: Clock>(
     alloc: Global,
     buffered: &mut BytesMut,
@@ -104,7 +135,7 @@ fn plan_next<C: Clock>(
 ) -> Result<bool, ServeFault>
     ensures plans { PlansNext planned.old.items planned.new.items buffered.old.items buffered.new.items (C.moments clock.old) (C.moments clock.new) }
     ensures more { OnOk result (planned.new.items ≡ [] → IsMore buffered.new.items) }
-    ensures some { result ≡ Ok true → planned.new.items ≢ [] }
+    ensures change { result ≡ Ok true → (given : Given) × (planned.new.items ≡ planned.old.items ++ given ∷ []) × HasChange given }
     ensures none { OnErr result (planned.new.items ≡ planned.old.items) }
     ensures fault { IfErr result (λ fault. fault ≡ ServeFault.NoMemory) }
 {
@@ -131,7 +162,7 @@ fn change_of(alloc: Global, input: &Input, now: u64, announces: bool) -> Option<
     None
 }
 
-/// Plans whole inputs behind the first one, up to `most` with it, and to the first that may not be announced. If memory is refused it
+/// Plans whole inputs behind what is planned, up to `most` in all, and to the first that may not be announced. If memory is refused it
 /// stops.
 fn look_ahead<C: Clock>(
     alloc: Global,
@@ -141,13 +172,28 @@ fn look_ahead<C: Clock>(
     most: usize,
 )
     ensures plans { Plans planned.old.items planned.new.items buffered.old.items buffered.new.items (C.moments clock.old) (C.moments clock.new) }
-    ensures few { length planned.new.items ≤ length planned.old.items + most }
+    ensures few { length planned.new.items ≤ max (length planned.old.items) most }
+    ensures only_last { AllButLastHaveChanges planned.old.items → AllButLastHaveChanges planned.new.items }
 {
-    'next: for count in 1..most {
+    if !may_go_on(planned) {
+        return;
+    }
+    'next: for count in planned.len()..most {
         let Ok(true) = plan_next(alloc, buffered, planned, clock, true) else {
             return;
         };
     }
+}
+
+/// Whether the last input that is planned may be announced.
+fn may_go_on(planned: &VecDeque<Planned>) -> bool
+    ensures { result ≡ true → AllButLastHaveChanges planned.now.items → All HasChange planned.now.items }
+{
+    if planned.is_empty() {
+        return false;
+    }
+    let last = &planned[planned.len() - 1];
+    last.change.is_some()
 }
 
 /// Announces the changes of what is planned, if there are two or more.
