@@ -2,7 +2,9 @@
 
 mod bursts;
 mod fleet;
+mod numbers;
 mod shared;
+mod standing;
 
 use rs_clients::run_fleet;
 use rs_intake::blank_queue;

@@ -97,7 +97,7 @@ pub fn put_rows(alloc: Global, scripts: &mut [Script], rows: &[Row<'_>]) -> Resu
 /// The CONNACK of a client that is assigned an identifier.
 pub fn assigned(alloc: Global, place: u8, number: u64) -> Result<Vec<u8>, AllocError> {
     let name = format!(in alloc; "rs{place}-{number}")?;
-    let len = name.as_bytes().len().min(20) as u8;
+    let len = name.as_bytes().len().min(25) as u8;
     let mut output = Vec::new(alloc);
     output.extend_from_slice(&[0x20, 16 + len, 0, 0, 13 + len, 0x12, 0, len])?;
     output.extend_from_slice(name.as_bytes())?;

@@ -1,7 +1,7 @@
 //! Many clients at few places: each has a thread, and those of one place share its line.
 
 use super::share;
-use rs_places_kit::{Counts, PLAIN, Played, Script, as_wanted, assigned};
+use rs_places_kit::{Counts, PLAIN, Played, Script, as_wanted};
 use rs_test_kit::{CONNACK, CONNECT, joined};
 use rs_topic::MAX_LEVELS;
 use std::alloc::{AllocError, Global};
@@ -148,28 +148,5 @@ fn clients_publish_and_read_the_deepest_topics(rt: HostRuntime) -> Result<(), Fa
 fn a_place_may_have_no_client(rt: HostRuntime) -> Result<(), Fail> {
     assert!(rt; many(rt, rt.alloc(), 4, 3, 2, 1)? == as_wanted(3, 3, 6, 6));
     assert!(rt; many(rt, rt.alloc(), 2, 0, 0, 1)? == as_wanted(0, 0, 0, 0));
-    Ok(())
-}
-
-/// CONNECT without a client identifier, DISCONNECT.
-const NAMELESS: &[u8] = b"\x10\x0D\x00\x04MQTT\x05\x02\x00\x3C\x00\x00\x00\xE0\x00";
-
-/// No two connections are assigned one identifier, also if their clients share a place.
-#[test]
-fn clients_of_a_place_are_assigned_identifiers_of_their_own(rt: HostRuntime) -> Result<(), Fail> {
-    let alloc = rt.alloc();
-    let counts = Arc::new(alloc, Counts::new())?;
-    let mut turns = Vec::new(alloc);
-    for client in 0..6u8 {
-        let place = client % 4 + 1;
-        let first = u64::from(client) * (1 << 40) + 1;
-        let mut script = Script::new(alloc, Arc::try_clone(&counts)?);
-        for number in first..first + 3 {
-            let sent = joined(alloc, &[NAMELESS])?;
-            script.put(PLAIN, sent, assigned(alloc, place, number)?)?;
-        }
-        turns.push(script)?;
-    }
-    assert!(rt; share(rt, alloc, (10_000, 4), turns, &counts)? == as_wanted(6, 18, 0, 0));
     Ok(())
 }
