@@ -119,6 +119,46 @@ fn publish_and_read<
     Ok((went, serving.join(&rt)))
 }
 
+/// As many connections as `--endless` asks for.
+const ENDLESS: u64 = u64::MAX;
+
+/// How many of seven clients that come one after the other a server of one place serves, of so many connections.
+fn served_of<
+    H: Clock
+        + Log
+        + Net<Listener = TcpListener, Stream = TcpStream>
+        + Threads
+        + Wait
+        + Copy
+        + Send
+        + Sync
+        + 'static,
+>(rt: H, alloc: Global, connections: u64) -> Result<u8, Fail> {
+    let one = PlaceCount::new(1).ok_or("a place")?;
+    let limit = TopicLimit::new(10).ok_or("10 topics")?;
+    let server = Server::bind(&rt, alloc, "127.0.0.1:0", connections, limit, one, 1, None)?;
+    let address = server.address()?;
+    // One without an end goes on until the tests end.
+    drop(spawn(&rt, move || server.run(rt).ok())?);
+    let mut served = 0u8;
+    for _ in 0..7u8 {
+        if is_served(&rt, address.as_str(), b"\xC0\x00", b"\xD0\x00") {
+            served = served.saturating_add(1);
+        }
+    }
+    Ok(served)
+}
+
+/// Where a bounded server has ended, one without an end goes on.
+#[test]
+fn a_server_without_an_end_goes_on(rt: HostRuntime) -> Result<(), Fail> {
+    for (connections, wanted) in [(3u64, 3u8), (ENDLESS, 7)] {
+        let served = served_of(rt, rt.alloc(), connections)?;
+        assert!(rt; served == wanted, "{connections}");
+    }
+    Ok(())
+}
+
 #[test]
 fn faults_have_a_text(rt: HostRuntime) -> Result<(), Fail> {
     let taken = io::Error::from(ErrorKind::AddrInUse);
