@@ -4,7 +4,7 @@ Whole sessions go through the program. Each time it must end with status 0, and 
 of a session that was refused memory at one packet, which keeps nothing of that packet and takes it
 when it comes again; or with status 1, write all replies before one, and say on standard error what
 failed: never another answer. The program rs_trials does the same with the calls of a catalogue, of
-a window, of a store of versions and of the queue to its writer.
+a window, of a store of versions, of the queue to its writer, and of clients that share a place.
 """
 
 import os
@@ -168,6 +168,7 @@ def main():
                 "the last submit": held,
             }
             calls("queue", least, library, count)
+            calls("clients", least, library, count)
 
 
 if __name__ == "__main__":

@@ -1,6 +1,6 @@
 //! Works single calls of the crates, for the checks and the benchmark, and prints numbers, one a line.
 //!
-//! `refuse tree`, `refuse window`, `refuse versions` and `refuse queue` look at what is shown after memory was refused, and count how
+//! `refuse tree`, `refuse window`, `refuse versions`, `refuse queue` and `refuse clients` look at what is shown after memory was refused, and count how
 //! often it was. `refuse reserve` takes all memory itself, and needs a limit of the system. The other tasks are timed, in nanoseconds, `decode` and `encode` in microseconds, and `window` from outside:
 //!
 //! - `tree TOPICS`: the calls of a tree in which so many topics, 1 to 65,536, hold a message;
@@ -57,6 +57,7 @@ fn refused<H: Wait + Threads + Copy + Send + Sync + 'static>(
     word: &str,
 ) -> Result<Vec<u64>, Failure> {
     match word {
+        "clients" => refusals::clients::work(rt, alloc),
         "tree" => refusals::tree::work(alloc),
         "queue" => refusals::queue::work(rt, alloc),
         "reserve" => refusals::reserve::work(rt, alloc),

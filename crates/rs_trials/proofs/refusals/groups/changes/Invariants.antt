@@ -1,6 +1,6 @@
 use Rattle.std.proofs.Common.{◌≡◌, All, false}
 use Rattle.rs_message.specs.Messages.{is_sweep}
-use Rattle.rs_trials.proofs.refusals.queue.changes.Given as goal
+use Rattle.rs_trials.proofs.refusals.groups.changes.Given as goal
 
 -- none of the changes so far is a Sweep
 abbrev pub invariant-loop-number : goal.invariant-loop-number

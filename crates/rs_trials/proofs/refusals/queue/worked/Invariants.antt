@@ -1,4 +1,4 @@
-use Rattle.rs_trials.proofs.refusals.queue.refused.Given as goal
+use Rattle.rs_trials.proofs.refusals.queue.worked.Given as goal
 
 -- the store and the queue that were just made
 abbrev pub ghosts-tried-N-StoreName : goal.ghosts-tried-N-StoreName
