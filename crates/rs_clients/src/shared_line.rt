@@ -69,6 +69,7 @@ impl<N: LineName> SharedLine<N> {
     /// It waits for the writer only if something is ahead of the line.
     pub fn new<R: Wait>(rt: &R, intake: Arc<Intake<N>>, line: SeatLine<N>) -> SharedLine<N> {
         let mut line = line;
+        line.share();
         // If the writer is gone, no answer is left for a later submit.
         drop(line.hand_on(rt));
         SharedLine { intake, line }

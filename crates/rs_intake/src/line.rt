@@ -315,6 +315,13 @@ impl<N: LineName> SeatLine<N> {
         self.serial
     }
 
+    /// For a line that clients share: from now on it polls less before it sleeps, since their threads want the processors too.
+    pub fn share(&mut self)
+        ensures { self.new ≡ self.old }
+    {
+        self.replies.share();
+    }
+
     /// Says which changes come next, none a Sweep. They are sent at once, as one job, and are ahead then, under the next serials. Nothing
     /// is sent if something is ahead, if they are none or more than [`MAX_CHANGES`], if no serials are left for all, if memory is refused
     /// or short, or if the queue is gone.

@@ -7,7 +7,7 @@ ghost use Rattle.rs_intake.specs.Sending.{AreSentNext};
 use crate::fullness::FullnessWriter;
 use crate::job::MAX_CHANGES;
 use crate::waiting;
-use crate::waiting::{Gone, LINE_LOOKS, Patience, receive};
+use crate::waiting::{Gone, LINE_LOOKS, Patience, SHARED_LOOKS, receive};
 use crossbeam_channel::protocol::{Lesson, Outcome, Protocol, Split};
 use crossbeam_channel::{Pass, RuledReceiver, RuledSender, bounded_with};
 use rs_message::{Entry, Origin};
@@ -319,6 +319,13 @@ impl<N: StoreName> ReplySender<N> {
 }
 
 impl<N: StoreName> ReplyReceiver<N> {
+    /// It looks less from now on, as that of a line that clients share.
+    pub fn share(&mut self)
+        ensures { self.new ≡ self.old }
+    {
+        self.patience = Patience::new(SHARED_LOOKS);
+    }
+
     /// Takes the next reply that came.
     fn take(&mut self) -> Option<WriterReply<N>>
         ensures { MatchOption result ((self.old.came ≡ []) × (self.new.came ≡ []) × (self.new.heard ≡ self.old.heard)) (λ reply. (self.new.heard ≡ self.old.heard ++ reply ∷ []) × (self.old.came ≡ reply ∷ self.new.came)) }

@@ -52,6 +52,9 @@ pub const WRITER_LOOKS: u32 = 4096;
 /// There are many lines: if they looked longer, those that wait would take processors from the writer.
 pub const LINE_LOOKS: u32 = 1024;
 
+/// How often a receive looks of a line that clients share. Their threads are far more than the processors, so hardly any is free to wait.
+pub const SHARED_LOOKS: u32 = 64;
+
 /// After so many receives that looked in vain, the next ones look once and then sleep, until one finds its message at a later look.
 const MOST_IN_VAIN: u32 = 2;
 
