@@ -2,6 +2,7 @@
 
 mod ahead;
 mod counted;
+mod expecting;
 mod handed;
 mod refusals;
 mod streams;

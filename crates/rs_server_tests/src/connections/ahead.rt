@@ -1,82 +1,19 @@
-//! A gate that is told which changes come next. What a connection replies does not change by it.
+//! Changes are announced before they are handled. What a connection replies does not change by it, whatever its gate takes at once.
 
-ghost use Rattle.std.specs.Prelude.{true, None, ◌^◌};
-
-use rs_message::{Found, Operation, SubmitFault};
-use rs_server::{ConnectionId, Counted, Moments, Served, serve};
+use super::expecting::{Announced, Expecting};
+use rs_message::SubmitFault;
+use rs_server::{Clock, ConnectionId, Counted, Moments, ServeFault, Served, serve};
 use rs_session::{Gate, LocalGate};
 use rs_store::{MapCatalogue, TopicLimit};
-use rs_topic::TopicFilter;
+use rs_test_kit::{CONNECT, REFUSING_GATE, Refusing, joined};
 use std::alloc::{AllocError, Global};
-use std::collections::VecDeque;
 use std::io;
 use std::io::Read;
 use std::sync::Wait;
 use std::test::Fail;
 
-/// Answers as its store does, and refuses a change that is not the next of those that it was told to expect.
-#[derive(Drop)]
-struct Expecting {
-    store: LocalGate<MapCatalogue>,
-    /// How many changes it takes at once.
-    most: usize,
-    /// The changes that were not submitted yet.
-    next: VecDeque<Operation>,
-    /// How many it was told to expect, and how many of them were submitted.
-    announced: usize,
-    met: usize,
-}
-
-impl Gate for Expecting {
-    ghost stands = { λ _ _. ⊥ };
-
-    ghost mark = { λ _. record { place = 1; serial = 0; alone = true; sent = None } };
-
-    ghost most = { 2 ^ 64 };
-
-    fn most_expected(&self) -> usize {
-        self.most
-    }
-
-    fn expect(&mut self, changes: Vec<Operation>) {
-        self.announced = self.announced.saturating_add(changes.len());
-        self.next = VecDeque::from_vec(changes);
-    }
-
-    /// It sends nothing ahead to its store.
-    fn has_pending(&self) -> bool {
-        false
-    }
-
-    fn submit(&mut self, operation: Operation) -> Result<(), SubmitFault> {
-        if operation.is_sweep() {
-            return Err(SubmitFault::Strange);
-        }
-        if let Some(next) = self.next.pop_front() {
-            if next != operation {
-                return Err(SubmitFault::Strange);
-            }
-            self.met = self.met.saturating_add(1);
-        }
-        self.store.submit(operation)
-    }
-
-    fn answer(&mut self, filter: &TopicFilter, now: u64) -> Result<Vec<Found>, AllocError> {
-        self.store.answer(filter, now)
-    }
-
-    fn answer_within(
-        &mut self,
-        filter: &TopicFilter,
-        now: u64,
-        room: usize,
-    ) -> Result<Option<Vec<Found>>, AllocError> {
-        self.store.answer_within(filter, now, room)
-    }
-}
-
 /// Gives its first bytes by reads of their own.
-#[derive(Drop)]
+#[derive(Clone, Copy)]
 struct Cut<'a> {
     first: &'a [u8],
     rest: &'a [u8],
@@ -90,6 +27,15 @@ impl Read for Cut<'_> {
         self.first.read(buf)
     }
 }
+
+/// These bytes, cut there.
+fn cut_at(bytes: &[u8], at: usize) -> Cut<'_> {
+    let (first, rest) = bytes.split_at(at.min(bytes.len()));
+    Cut { first, rest }
+}
+
+/// How many changes the gates of these tests take at once.
+const MOSTS: [usize; 6] = [0, 1, 2, 3, 5, 64];
 
 /// CONNECT; PUBLISH with RETAIN 1 to `a`, `b` (QoS 1) and again `a`, with an empty payload; PINGREQ; one to `c` of QoS 2 and its PUBREL;
 /// one to `b` (QoS 1); one with RETAIN 0; two with RETAIN 1 to `d`, with an interval of 100 seconds, and `e`; SUBSCRIBE to all; one to `d`
@@ -107,70 +53,266 @@ const REPLIED: &[u8] = b"\x20\x0D\x00\x00\x0A\x21\x00\x10\x27\x00\x04\x00\x00\x2
 \x90\x04\x00\x01\x00\x00\x31\x05\x00\x01b\x00y\x31\x05\x00\x01c\x00x\x31\x0A\x00\x01d\x05\x02\x00\x00\x00\x62x\x31\x05\x00\x01e\x00x\
 \x40\x02\x00\x66\xE0\x01\x90";
 
-/// How many changes were announced and submitted, if the replies are these.
-fn counts<H: Wait>(
+/// CONNECT; PUBLISH with RETAIN 1 to `d`, with an interval of 3 seconds, and three times to `e`; SUBSCRIBE to all; PINGREQ. It is replied
+/// to by CONNACK, SUBACK and the message of `e`, and PINGRESP: that of `d` has expired.
+const EXPIRING: &[u8] = b"\x10\x0E\x00\x04MQTT\x05\x02\x00\x3C\x00\x00\x01a\
+\x31\x0A\x00\x01d\x05\x02\x00\x00\x00\x03x\x31\x05\x00\x01e\x00x\x31\x05\x00\x01e\x00x\x31\x05\x00\x01e\x00y\
+\x82\x07\x00\x01\x00\x00\x01#\x00\xC0\x00";
+
+const EXPIRED: &[u8] = b"\x20\x0D\x00\x00\x0A\x21\x00\x10\x27\x00\x04\x00\x00\x2A\x00\
+\x90\x04\x00\x01\x00\x00\x31\x05\x00\x01e\x00y\xD0\x00";
+
+/// What bursts are mixed of: PUBLISH with RETAIN 1 to `a`, to `b` with an empty payload, to `c` of QoS 1 and of QoS 2 with its PUBREL, to `d`
+/// with an interval of 9 seconds; one with RETAIN 0; PINGREQ; SUBSCRIBE to all at QoS 0, and UNSUBSCRIBE.
+const MIXED: [&[u8]; 16] = [
+    b"\x31\x05\x00\x01a\x00x",
+    b"\x31\x05\x00\x01a\x00y",
+    b"\x31\x05\x00\x01b\x00x",
+    b"\x31\x04\x00\x01b\x00",
+    b"\x33\x07\x00\x01c\x00\x63\x00x",
+    b"\x33\x06\x00\x01c\x00\x64\x00",
+    b"\x33\x07\x00\x01b\x00\x65\x00y",
+    b"\x31\x0A\x00\x01d\x05\x02\x00\x00\x00\x09x",
+    b"\x33\x0C\x00\x01d\x00\x66\x05\x02\x00\x00\x00\x09y",
+    b"\x31\x06\x00\x02e/\x00x",
+    b"\x31\x05\x00\x01f\x00z",
+    b"\x35\x07\x00\x01c\x00\x67\x00x\x62\x02\x00\x67",
+    b"\x30\x05\x00\x01a\x00z",
+    b"\xC0\x00",
+    b"\x82\x07\x00\x01\x00\x00\x01#\x00",
+    b"\xA2\x06\x00\x02\x00\x00\x01#",
+];
+
+/// A CONNECT and so many packets of these, in an order that repeats late.
+fn burst(alloc: Global, count: usize) -> Result<Vec<u8>, AllocError> {
+    let mut bytes = CONNECT.to_vec(alloc)?;
+    let mut state = 1u32;
+    for _ in 0..count {
+        state = state.wrapping_mul(1_103_515_245).wrapping_add(12_345);
+        bytes.extend_from_slice(MIXED[(state >> 16) as usize % MIXED.len()])?;
+    }
+    Ok(bytes)
+}
+
+/// The time that the clock of these tests tells first. Each one later is one second later.
+const FIRST: u64 = 7;
+
+/// What a connection comes to: how it ended, what was written, and for how many inputs the clock was asked.
+#[derive(Drop)]
+struct Outcome {
+    served: Result<Served, ServeFault>,
+    written: Vec<u8>,
+    told: u64,
+}
+
+fn is_same(one: &Outcome, other: &Outcome) -> bool {
+    one.served == other.served
+        && one.written.as_slice() == other.written.as_slice()
+        && one.told == other.told
+}
+
+/// The moments behind the first one, one for each byte.
+fn moments(alloc: Global, sent: &Cut) -> Result<Vec<u64>, AllocError> {
+    let mut moments = Vec::new(alloc);
+    let mut next = FIRST;
+    for _ in 0..sent.first.len().saturating_add(sent.rest.len()) {
+        next = next.saturating_add(1);
+        moments.push(next)?;
+    }
+    Ok(moments)
+}
+
+/// What a connection over the gate comes to, and the gate.
+fn serve_over<H: Wait, G: Gate>(
     rt: &H,
     alloc: Global,
     sent: Cut,
-    most: usize,
-    replied: &[u8],
-) -> Result<Option<(usize, usize)>, Fail> {
-    let Some(limit) = TopicLimit::new(100) else {
-        return Ok(None);
-    };
-    let gate = Expecting {
-        store: LocalGate::new(alloc, limit)?,
-        most,
-        next: VecDeque::new(alloc),
-        announced: 0,
-        met: 0,
-    };
+    gate: G,
+) -> Result<(Outcome, G), Fail>
+where
+    G: Drop,
+{
+    let mut clock = Moments::new(FIRST, moments(alloc, &sent)?);
     let mut reader = Counted::new(sent);
     let mut writer = Counted::new(Vec::new(alloc));
-    // Each packet has a moment of its own: `d` comes at 16, and SUBSCRIBE at 18.
-    let moments = vec![in alloc; 8u64, 9, 10, 11, 12, 13, 14, 15, 16, 17, 18, 19, 20, 21]?;
-    let mut clock = Moments::new(7, moments);
     let id = ConnectionId {
         place: 1,
         number: 1,
     };
     let (served, gate) = serve(rt, alloc, &mut reader, &mut writer, gate, id, &mut clock);
-    let is_ended = served == Ok(Served::ServerClosed(0x90));
-    if is_ended && writer.into_inner().as_slice() == replied {
-        return Ok(Some((gate.announced, gate.met)));
-    }
-    Ok(None)
+    let outcome = Outcome {
+        served,
+        written: writer.into_inner(),
+        told: clock.now().saturating_sub(FIRST),
+    };
+    Ok((outcome, gate))
+}
+
+fn local(alloc: Global) -> Result<LocalGate<MapCatalogue>, Fail> {
+    let Some(limit) = TopicLimit::new(100) else {
+        return Err(Fail::from("the limit"));
+    };
+    Ok(LocalGate::new(alloc, limit)?)
+}
+
+/// What a connection comes to over a gate that is told nothing.
+fn plain<H: Wait>(rt: &H, alloc: Global, sent: Cut) -> Result<Outcome, Fail> {
+    let (outcome, _gate) = serve_over(rt, alloc, sent, local(alloc)?)?;
+    Ok(outcome)
+}
+
+/// What it comes to over one that takes so many changes at once, and the gate.
+fn told<H: Wait>(
+    rt: &H,
+    alloc: Global,
+    sent: Cut,
+    most: usize,
+) -> Result<(Outcome, Expecting<LocalGate<MapCatalogue>>), Fail> {
+    serve_over(rt, alloc, sent, Expecting::new(alloc, local(alloc)?, most))
+}
+
+/// Whether it comes to this over such a gate, to which all that was announced came in order.
+fn is_met<H: Wait>(
+    rt: &H,
+    alloc: Global,
+    sent: Cut,
+    most: usize,
+    wanted: &Outcome,
+) -> Result<bool, Fail> {
+    let (outcome, gate) = told(rt, alloc, sent, most)?;
+    Ok(is_same(&outcome, wanted) && gate.is_met && gate.next.is_empty())
 }
 
 #[test]
 fn look_ahead_changes_no_reply(rt: HostRuntime) -> Result<(), Fail> {
-    for cut in 0..=SENT.len() {
-        let halves = Cut {
-            first: &SENT[..cut],
-            rest: &SENT[cut..],
-        };
-        let found = counts(&rt, rt.alloc(), halves, 64, REPLIED)?;
-        let is_met = match found {
-            Some((announced, met)) => announced == met,
-            None => false,
-        };
-        assert!(rt; is_met, "{cut}");
+    let wanted = plain(&rt, rt.alloc(), cut_at(SENT, 0))?;
+    assert!(rt; wanted.served == Ok(Served::ServerClosed(0x90)));
+    assert!(rt; wanted.written.as_slice() == REPLIED);
+    for at in 0..=SENT.len() {
+        for most in MOSTS {
+            assert!(rt;
+                is_met(&rt, rt.alloc(), cut_at(SENT, at), most, &wanted)?,
+                "{most} at {at}"
+            );
+        }
     }
     Ok(())
 }
 
-/// How many changes a gate takes at once, and how many of what came whole are announced to it. One change alone is not announced.
-const ANNOUNCED: [(usize, usize); 5] = [(0, 0), (1, 0), (2, 6), (3, 7), (64, 7)];
+// The client breaks off at each byte.
+#[test]
+fn look_ahead_changes_no_end(rt: HostRuntime) -> Result<(), Fail> {
+    for end in 0..=SENT.len() {
+        let sent = cut_at(&SENT[..end], 0);
+        let wanted = plain(&rt, rt.alloc(), sent)?;
+        for most in MOSTS {
+            assert!(rt;
+                is_met(&rt, rt.alloc(), sent, most, &wanted)?,
+                "{most} to {end}"
+            );
+        }
+    }
+    Ok(())
+}
 
 #[test]
-fn what_came_whole_is_announced(rt: HostRuntime) -> Result<(), Fail> {
-    for (most, count) in ANNOUNCED {
-        let whole = Cut {
-            first: SENT,
-            rest: b"",
+fn times_stay_in_order(rt: HostRuntime) -> Result<(), Fail> {
+    for most in MOSTS {
+        let (outcome, _gate) = told(&rt, rt.alloc(), cut_at(EXPIRING, 0), most)?;
+        assert!(rt; outcome.written.as_slice() == EXPIRED, "{most}");
+        assert!(rt; outcome.told == 7, "{most}");
+    }
+    Ok(())
+}
+
+#[test]
+fn bursts_are_answered_alike(rt: HostRuntime) -> Result<(), Fail> {
+    let bytes = burst(rt.alloc(), 10_000)?;
+    for at in [0, 50_001] {
+        let sent = cut_at(&bytes, at);
+        let wanted = plain(&rt, rt.alloc(), sent)?;
+        assert!(rt; wanted.served == Ok(Served::EndOfInput));
+        for most in MOSTS {
+            assert!(rt;
+                is_met(&rt, rt.alloc(), sent, most, &wanted)?,
+                "{most} at {at}"
+            );
+        }
+    }
+    Ok(())
+}
+
+/// A PUBLISH with RETAIN 1, and a PINGREQ.
+const SET: &[u8] = b"\x31\x05\x00\x01a\x00x";
+
+const PING: &[u8] = b"\xC0\x00";
+
+/// A CONNECT, so many times SET, PINGREQ, and again so many times SET.
+fn two_runs(alloc: Global, first: usize, second: usize) -> Result<Vec<u8>, AllocError> {
+    let mut bytes = CONNECT.to_vec(alloc)?;
+    for _ in 0..first {
+        bytes.extend_from_slice(SET)?;
+    }
+    bytes.extend_from_slice(PING)?;
+    for _ in 0..second {
+        bytes.extend_from_slice(SET)?;
+    }
+    Ok(bytes)
+}
+
+/// How many changes a gate takes at once; how many publications come before a PINGREQ and behind it; how many bytes the first read gives,
+/// where 0 stands for all; and what is announced. One change alone is not.
+const ANNOUNCED: &[(usize, usize, usize, usize, &[Announced])] = &[
+    (0, 9, 9, 0, &[]),
+    (1, 9, 9, 0, &[]),
+    (2, 4, 3, 0, &[(0, 2), (2, 2), (4, 2)]),
+    (3, 4, 0, 0, &[(0, 2), (2, 2)]),
+    (5, 9, 0, 0, &[(0, 2), (2, 3), (5, 2), (7, 2)]),
+    (64, 1, 1, 0, &[]),
+    (64, 31, 0, 0, &[(0, 31)]),
+    (64, 33, 2, 0, &[(0, 32), (33, 2)]),
+    (64, 100, 0, 0, &[(0, 32), (32, 32), (64, 32), (96, 4)]),
+    (64, 40, 40, 0, &[(0, 32), (32, 8), (40, 32), (72, 8)]),
+    (
+        64,
+        100,
+        0,
+        16 + 70,
+        &[(0, 10), (10, 32), (42, 32), (74, 26)],
+    ),
+];
+
+#[test]
+fn half_is_announced_and_then_the_next_half(rt: HostRuntime) -> Result<(), Fail> {
+    for (most, first, second, at, wanted) in ANNOUNCED {
+        let bytes = two_runs(rt.alloc(), *first, *second)?;
+        let (_, gate) = told(&rt, rt.alloc(), cut_at(&bytes, *at), *most)?;
+        assert!(rt; gate.is_met);
+        assert!(rt;
+            gate.announced.as_slice() == *wanted,
+            "{most} {first} {second}"
+        );
+    }
+    Ok(())
+}
+
+/// How many changes a gate takes at once, for how many inputs the clock is asked if the first change ends the session, and how many
+/// changes are still expected then.
+const LEFT: [(usize, u64, usize); 5] = [(0, 2, 0), (1, 2, 0), (2, 3, 1), (5, 6, 1), (64, 65, 31)];
+
+#[test]
+fn no_more_is_decoded_than_a_gate_takes(rt: HostRuntime) -> Result<(), Fail> {
+    let bytes = two_runs(rt.alloc(), 100, 0)?;
+    for (most, decoded, left) in LEFT {
+        let refusing = Refusing {
+            fault: SubmitFault::Closed,
+            ..REFUSING_GATE
         };
-        let found = counts(&rt, rt.alloc(), whole, most, REPLIED)?;
-        assert!(rt; found == Some((count, count)), "{most}");
+        let gate = Expecting::new(rt.alloc(), refusing, most);
+        let (outcome, gate) = serve_over(&rt, rt.alloc(), cut_at(&bytes, 0), gate)?;
+        assert!(rt; outcome.served == Ok(Served::ServerClosed(0x83)));
+        assert!(rt; outcome.told == decoded, "{most}");
+        assert!(rt; gate.next.len() == left, "{most}");
     }
     Ok(())
 }
