@@ -38,7 +38,7 @@ pub trait Gate {
     }
 
     /// Says which changes come next, in this order. Each is still handed over by a `submit` of its own, unless the session ends
-    /// before. A gate may send them to the store together with the first. By default it does nothing.
+    /// before. A gate may send them to the store at once. By default it does nothing.
     fn expect(&mut self, changes: Vec<Operation>)
         requires { All (λ operation. is_sweep operation ≡ false) changes.items }
         ensures list { Grows (stands self.old) (stands self.new) (λ seen list. list ≡ seen) }

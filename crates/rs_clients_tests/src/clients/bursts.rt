@@ -193,12 +193,13 @@ type Break = (usize, usize, ServeResult, usize, u8);
 
 const WRITE: ServeResult = Err(ServeFault::Write);
 
-/// Publications go to the writer by 64. Of those that went together all are kept, though the client hears of some only.
+/// Publications go to the writer by 32, or as many as are read: the first read ends behind the hundredth. Of those that went together all
+/// are kept, though the client hears of some only.
 const BREAKS: [Break; 5] = [
     (5, 0, Ok(Served::CutInput), 149, 149),
     (0, 65, WRITE, 63, 64),
-    (0, 66, WRITE, 64, 128),
-    (0, 101, WRITE, 99, 128),
+    (0, 66, WRITE, 64, 96),
+    (0, 101, WRITE, 99, 100),
     (0, 141, WRITE, 139, 150),
 ];
 
