@@ -1,16 +1,16 @@
 //! The queue to the writer of the store, and receipts back.
 //!
 //! Each place has a line ([`SeatLine`]). [`Intake::submit`] sends an operation by the line, under the line's next serial, and
-//! waits for the receipt of just that entry. Changes that a line expects ([`SeatLine::expect`]) are sent together, as one job, and
-//! submitted one by one. [`run_writer`] takes jobs from the [`Queue`], puts each of their changes into the store, and answers
+//! waits for the receipt of just that entry. Changes that are announced to a line ([`SeatLine::expect`]) are sent together, as one job,
+//! and submitted one by one. [`run_writer`] takes jobs from the [`Queue`], puts each of their changes into the store, and answers
 //! their line. What it takes of a place is always a prefix of what the line sent ([`line_order_law`]), and what a line has
 //! received of the replies is a prefix of those that were sent to it ([`reply_order_law`]).
 //!
 //! [`SeatLine::close`] ends a line. When all lines and the writer have ended, [`settle`] says whether all that was sent was taken.
 //! A type that implements [`LineName`] ties all of these to one store and one queue, and [`BlankQueue::open`] makes them.
 //!
-//! Not promised: that a submit, the writer's loop, or a line that is handed on or closed returns, since these wait; an order between
-//! places; that memory is there.
+//! Not promised: that an announcement, a submit, the writer's loop, or a line that is handed on or closed returns, since these wait; an
+//! order between places; that memory is there.
 #![tactic(auto)]
 
 mod blank;

@@ -5,7 +5,7 @@ use std::alloc::{AllocError, Global};
 /// How many blocks have to be left when a message is stored.
 const BLOCKS: usize = 6;
 
-/// How many bytes a block has: as many as a client that comes reads into. Cleared messages leave gaps, and few that are larger.
+/// How many bytes a block has: more than a client that comes reads into. Cleared messages leave gaps, and few that are larger.
 const BLOCK_SIZE: usize = 8_192;
 
 /// Whether so many blocks are left. None is kept.

@@ -218,7 +218,7 @@ place_of limit history entries place left legal kept served fresh known =
 
 pub new_lines_length : (places : ℕ) → length (new_lines places) ≡ places
 new_lines_length zero = refl
-new_lines_length (suc n) = let h = new_lines_length n in omega (arith, h, length-append (new_lines n) (record { place = suc n; serial = 0; sent = []; heard = []; came = []; expected = []; ahead = [] } ∷ []))
+new_lines_length (suc n) = let h = new_lines_length n in omega (arith, h, length-append (new_lines n) (record { place = suc n; serial = 0; sent = []; heard = []; came = []; ahead = [] } ∷ []))
 
 abbrev new_gate : Line → SharedValue
 new_gate line = handed_on [] line
@@ -260,7 +260,7 @@ gates_of_new seats places same none = gates_new seats (new_lines places) (same �
 -- a new gate sent nothing
 lines_fresh : (places : ℕ) → AllByRecursion (λ line. line.sent ++ line.ahead ≡ []) (new_lines places)
 lines_fresh zero = tt
-lines_fresh (suc n) = all_behind (λ (line : Line). line.sent ++ line.ahead ≡ []) (new_lines n) (record { place = suc n; serial = 0; sent = []; heard = []; came = []; expected = []; ahead = [] }) (lines_fresh n) refl
+lines_fresh (suc n) = all_behind (λ (line : Line). line.sent ++ line.ahead ≡ []) (new_lines n) (record { place = suc n; serial = 0; sent = []; heard = []; came = []; ahead = [] }) (lines_fresh n) refl
 
 places_fresh : (plans : List Plan) (lines : List Line) → AllByRecursion (λ line. line.sent ++ line.ahead ≡ []) lines → AllByRecursion IsFresh (places_of plans (map new_gate lines))
 places_fresh [] lines fresh = tt

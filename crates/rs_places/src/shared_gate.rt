@@ -24,8 +24,8 @@ use std::sync::{Arc, Wait};
 /// The changes that it is told to expect go to the writer at once, in one job, if memory allows, and each is answered when its own submit
 /// comes.
 ///
-/// It keeps the handle `rt`, by which a submit waits for its receipt, and `hand_on` for the answers to what was sent ahead. An answer to
-/// a filter waits for nobody.
+/// It keeps the handle `rt`, by which changes wait for space in the queue, a submit for its receipt, and `hand_on` for the answers to what
+/// was sent ahead. An answer to a filter waits for nobody.
 #[derive(Drop)]
 pub struct SharedGate<N: LineName, R: Wait + Copy> {
     rt: R,

@@ -16,7 +16,7 @@ use crate::assigned::assigned_client;
 use crate::clock::Clock;
 use crate::counted::Counted;
 use crate::plan::{Planned, plan};
-use crate::read_size::ReadSize;
+use crate::read_size::{MIN_READ, ReadSize};
 use crate::writing::{ServeFault, write_replies};
 use bytes::BytesMut;
 use rs_message::Operation;
@@ -189,6 +189,23 @@ fn give_back(alloc: Global, buffered: &mut BytesMut, size: &ReadSize)
     }
 }
 
+/// Makes room behind what is buffered for so many bytes, or, if that is refused, for the few that a small read takes. For how many there
+/// is room; `None` if there is none.
+fn make_room(buffered: &mut BytesMut, wanted: usize) -> Option<usize>
+    requires { 0 < wanted }
+    ensures same { buffered.new.items ≡ buffered.old.items }
+    ensures room { IfSome result (λ _. 0 < buffered.new.spare) }
+{
+    if buffered.reserve(wanted).is_ok() {
+        return Some(wanted);
+    }
+    let few = wanted.min(MIN_READ);
+    match buffered.reserve(few) {
+        Ok(()) => Some(few),
+        Err(_) => None,
+    }
+}
+
 /// Reads once and appends to what is buffered.
 fn read_more<R: Read>(
     alloc: Global,
@@ -203,14 +220,15 @@ fn read_more<R: Read>(
     ensures cause { IsReadCause result (failures_of reader.old) (failures_of reader.new) }
 {
     give_back(alloc, buffered, size);
-    let asked = size.behind(buffered.len(), needed_len(buffered.as_slice()));
-    if buffered.reserve(asked).is_err() {
+    let len = buffered.len();
+    let wanted = size.behind(len, needed_len(buffered.as_slice()));
+    let Some(asked) = make_room(buffered, wanted) else {
         return Err(ServeFault::NoMemory);
-    }
+    };
     let Ok(n) = reader.read_into(buffered) else {
         return Err(ServeFault::Read);
     };
-    size.adapt(asked, n);
+    size.adapt(len, asked, n);
     if n > 0 {
         return Ok(None);
     }

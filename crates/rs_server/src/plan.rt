@@ -94,7 +94,7 @@ pub(crate) fn plan<G: Gate, C: Clock>(
 }
 
 /// How many inputs are planned before their changes are announced, for a gate that takes `most` changes at once: half of them, but two if
-/// it takes two.
+/// it takes two or three.
 fn batch(most: usize) -> usize
     ensures { result ≤ most }
 {

@@ -4,7 +4,7 @@ ghost use Rattle.std.specs.Prelude.{◌<◌, ◌≤◌};
 ghost use Rattle.rs_server.specs.declared.read_size.TheConstants.{MAX_READ, MIN_READ};
 
 /// How many bytes the buffer of a client that is waited for has.
-const MIN_READ: usize = 1024;
+pub(crate) const MIN_READ: usize = 1024;
 
 /// How many bytes one read may ask for.
 const MAX_READ: usize = 32 * 1024;
@@ -37,11 +37,12 @@ impl ReadSize {
         missing.clamp(1, MAX_READ)
     }
 
-    /// Takes note that a read was asked for `asked` bytes, and gave `got`.
-    pub(crate) fn adapt(&mut self, asked: usize, got: usize) {
+    /// Takes note that a read behind `len` bytes was asked for `asked` bytes, and gave `got`. The rest of a packet that began before is
+    /// no sign of a client that sends little.
+    pub(crate) fn adapt(&mut self, len: usize, asked: usize, got: usize) {
         if got >= asked {
             self.bytes = (2 * self.bytes).min(MAX_READ);
-        } else if got < self.bytes / 4 {
+        } else if len.saturating_add(got) < self.bytes / 4 {
             self.bytes = MIN_READ;
         }
     }
