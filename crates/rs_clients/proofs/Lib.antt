@@ -1,3 +1,4 @@
+pub mod Dropped
 pub mod Handing
 pub mod NewClients
 pub mod Sent
