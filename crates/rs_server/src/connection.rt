@@ -223,6 +223,7 @@ fn read_more<R: Read>(
     let len = buffered.len();
     let wanted = size.behind(len, needed_len(buffered.as_slice()));
     let Some(asked) = make_room(buffered, wanted) else {
+        // Refused: both tries of `make_room` were.
         return Err(ServeFault::NoMemory);
     };
     let Ok(n) = reader.read_into(buffered) else {
