@@ -121,7 +121,8 @@ def refused_accepts(count, places=8):
 
 def replaced_levels(rounds, count=50):
     """Topics have long levels, which two topics share, and their first messages are large. Once
-    each is replaced so often, the process keeps the levels and what came last.
+    each is replaced so often, the process keeps the levels and what came last. A filter may be as
+    long.
 
     The large messages come in as many groups, each after the one before it is replaced, so that
     only one group is there at a time."""
@@ -135,6 +136,7 @@ def replaced_levels(rounds, count=50):
                 for payload in (large * b"x", *(b"%d" % turn for turn in range(rounds))):
                     for name in names:
                         client.ask(publish(name, payload), PUBACK)
+                client.ask(subscribe(names[0]), SUBACK + replayed(names[0], payload))
             taken = most_memory(server.run.pid) - started
             # A level is in both topics and once for itself, in two trees. Of a group two messages
             # are there in each place.
