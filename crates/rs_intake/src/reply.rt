@@ -6,8 +6,9 @@ ghost use Rattle.rs_intake.specs.Sending.{AreSentNext};
 
 use crate::fullness::FullnessWriter;
 use crate::job::MAX_CHANGES;
+use crate::looks::Looks;
 use crate::waiting;
-use crate::waiting::{Gone, LINE_LOOKS, Patience, SHARED_LOOKS, receive};
+use crate::waiting::{Gone, Patience, receive};
 use crossbeam_channel::protocol::{Lesson, Outcome, Protocol, Split};
 use crossbeam_channel::{Pass, RuledReceiver, RuledSender, bounded_with};
 use rs_message::{Entry, Origin};
@@ -241,6 +242,7 @@ impl<N: StoreName> Model for WayEnd<N> {
 pub struct ReplyReceiver<N: StoreName> {
     from: RuledReceiver<WriterReplies<N>, WayPass<N>, ReplyRule>,
     pass: Pass<WriterReplies<N>, WayPass<N>>,
+    looks: Looks,
     patience: Patience,
     came: WriterReplies<N>,
     alloc: Global,
@@ -263,6 +265,7 @@ impl<N: StoreName> Model for ReplyReceiver<N> {
 /// The two ends of the way back to one line, by which nothing was sent. Its capacity is that of the replies to one job.
 pub fn way_back<N: StoreName>(
     alloc: Global,
+    looks: Looks,
 ) -> Result<(ReplySender<N>, ReplyReceiver<N>), AllocError>
     ensures { IfOk result (λ r. (r.0 ≡ untold) × (r.1.heard ≡ []) × (r.1.came ≡ [])) }
 {
@@ -280,7 +283,8 @@ pub fn way_back<N: StoreName>(
         ReplyReceiver {
             from,
             pass: other,
-            patience: Patience::new(LINE_LOOKS),
+            looks,
+            patience: Patience::new(looks.line),
             came: WriterReplies::none(alloc),
             alloc,
         },
@@ -323,7 +327,7 @@ impl<N: StoreName> ReplyReceiver<N> {
     pub fn share(&mut self)
         ensures { self.new ≡ self.old }
     {
-        self.patience = Patience::new(SHARED_LOOKS);
+        self.patience = Patience::new(self.looks.shared);
     }
 
     /// Takes the next reply that came.

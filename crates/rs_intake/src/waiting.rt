@@ -44,17 +44,6 @@ impl Gone {
     }
 }
 
-/// How often a receive of the writer looks. A look took 18 ns where it was measured, so these take some 70 us, in which a place decodes
-/// its next job. To wake a thread that sleeps costs more than a put.
-pub const WRITER_LOOKS: u32 = 4096;
-
-/// How often a receive of a line looks. It takes some 18 us, in which the writer makes about as many puts as one message has replies.
-/// There are many lines: if they looked longer, those that wait would take processors from the writer.
-pub const LINE_LOOKS: u32 = 1024;
-
-/// How often a receive looks of a line that clients share. Their threads are far more than the processors, so hardly any is free to wait.
-pub const SHARED_LOOKS: u32 = 64;
-
 /// After so many receives that looked in vain, the next ones look once and then sleep, until one finds its message at a later look.
 const MOST_IN_VAIN: u32 = 2;
 
