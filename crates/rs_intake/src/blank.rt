@@ -10,18 +10,16 @@ ghost use Rattle.rs_intake.specs.Lines.{new_lines};
 
 use crate::fullness::{Fullness, FullnessWriter};
 use crate::intake::Intake;
-use crate::job::Job;
 use crate::line::{LineSender, SeatLine};
-use crate::looks::Looks;
 use crate::name::LineName;
 use crate::reply::{ReplySender, way_back};
-use crate::rule::{JobReceiver, JobSender, PassView, QueueRule};
-use crate::steps::cut;
 use crate::taken::Taken;
 use crate::ways_back::WaysBack;
 use crate::writer::Queue;
 use crossbeam_channel::{Pass, bounded_with};
 use rs_message::PlaceCount;
+use rs_queue::steps::cut;
+use rs_queue::{Job, JobReceiver, JobSender, Looks, PassView, QueueRule};
 use std::alloc::{AllocError, Global};
 use std::marker::Model;
 use std::sync::Arc;
@@ -42,7 +40,7 @@ impl Model for BlankQueue {
     ghost use Rattle.std.specs.Prelude.{◌≡◌};
     ghost use Rattle.crossbeam_channel.specs.Claims.{view as known_by, IsSeatAt};
     ghost use Rattle.crossbeam_channel.specs.Ends.{sends_on, receives_on};
-    ghost use Rattle.rs_intake.specs.QueueRule.{taker};
+    ghost use Rattle.rs_queue.specs.QueueRule.{taker};
     ghost use Rattle.rs_intake.specs.Names.{Unnamed, name_of};
 
     ghost Value = { Unnamed };

@@ -5,13 +5,10 @@ ghost use Rattle.rs_intake.specs.Done.{ReplyValue, is_held, is_refused, refused_
 ghost use Rattle.rs_intake.specs.Sending.{AreSentNext};
 
 use crate::fullness::FullnessWriter;
-use crate::job::MAX_CHANGES;
-use crate::looks::Looks;
-use crate::waiting;
-use crate::waiting::{Gone, Patience, receive};
 use crossbeam_channel::protocol::{Lesson, Outcome, Protocol, Split};
 use crossbeam_channel::{Pass, RuledReceiver, RuledSender, bounded_with};
 use rs_message::{Entry, Origin};
+use rs_queue::{Gone, Looks, MAX_CHANGES, Patience, receive, send};
 use rs_version::{PutFault, Receipt, StoreName};
 use std::alloc::{AllocError, Global};
 use std::collections::{LinkedList, VecDeque};
@@ -252,7 +249,7 @@ impl<N: StoreName> Model for ReplyReceiver<N> {
     ghost use Rattle.std.specs.Prelude.{◌≡◌, ◌++◌, true, false};
     ghost use Rattle.crossbeam_channel.specs.Claims.{view as known_by, IsSeatAt};
     ghost use Rattle.crossbeam_channel.specs.Ends.{receives_on};
-    ghost use Rattle.rs_intake.specs.Parts.{before};
+    ghost use Rattle.rs_queue.specs.Parts.{before};
     ghost use Rattle.rs_intake.specs.ReplyRule.{Heard};
 
     ghost Value = { Heard };
@@ -300,7 +297,7 @@ impl<N: StoreName> ReplySender<N> {
         if self.gone.is_some() {
             return;
         }
-        let sent = waiting::send::<WriterReplies<N>, WayPass<N>, ReplyRule, Counting, R>(
+        let sent = send::<WriterReplies<N>, WayPass<N>, ReplyRule, Counting, R>(
             rt,
             &self.to,
             &mut self.pass,

@@ -7,22 +7,19 @@ ghost use Rattle.rs_version.specs.Writer.{kept_of};
 ghost use Rattle.rs_intake.specs.Done.{IsWritten, untold};
 ghost use Rattle.rs_intake.specs.Causes.{IsCause};
 ghost use Rattle.rs_intake.specs.Names.{IsQueue};
-ghost use Rattle.rs_intake.specs.Parts.{IsPart};
+ghost use Rattle.rs_queue.specs.Parts.{IsPart};
 ghost use Rattle.rs_intake.specs.Settling.{AreOfPlaces};
 ghost use Rattle.rs_intake.specs.Sweeps.{AreForEntries, without_sweeps};
-ghost use Rattle.rs_intake.specs.declared.job.TheConstants.{MAX_CHANGES};
+ghost use Rattle.rs_queue.specs.declared.job.TheConstants.{MAX_CHANGES};
 ghost use Rattle.rs_intake.specs.declared.reply.TheConstants.{FEW_REPLIES};
 
 use crate::cause::Cause;
-use crate::job::{Job, MAX_CHANGES};
-use crate::looks::Looks;
 use crate::name::LineName;
 use crate::reply::{FEW_REPLIES, WayEnd};
-use crate::rule::JobReceiver;
 use crate::taken::Taken;
-use crate::waiting::Patience;
 use crate::ways_back::WaysBack;
 use rs_message::Origin;
+use rs_queue::{Job, JobReceiver, Looks, MAX_CHANGES, Patience};
 use rs_version::VersionWriter;
 use std::sync::Wait;
 

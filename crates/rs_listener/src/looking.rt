@@ -1,6 +1,6 @@
 //! How long a look of the queue's ends lasts on this machine.
 
-use rs_intake::{Looks, look_in_vain};
+use rs_queue::{Looks, look_in_vain};
 use std::alloc::Global;
 use std::sync::Wait;
 use std::time::{Clock, Instant};
