@@ -1,7 +1,7 @@
 -- A client's gate drops what is pending when it is handed on, and sends none of it.
 use Rattle.std.proofs.Common.{ℕ, List, [], inl}
 use Rattle.std.specs.Prelude.{Result}
-use Rattle.rs_intake.specs.declared.job.TheConstants.{MAX_CHANGES}
+use Rattle.rs_queue.specs.declared.job.TheConstants.{MAX_CHANGES}
 use Rattle.rs_message.specs.declared.entry.Operation.{Operation}
 use Rattle.rs_session.specs.Points.{Point}
 use Rattle.rs_session.specs.State.{State}

@@ -7,7 +7,7 @@ use Rattle.rs_message.specs.declared.entry.Operation.{Operation}
 use Rattle.rs_store.specs.History.{IsLegal}
 use Rattle.rs_store.proofs.Entries.{among}
 use Rattle.rs_version.specs.Receipts.{StandsAt}
-use Rattle.rs_intake.specs.Lines.{entry_at}
+use Rattle.rs_queue.specs.Changes.{entry_at}
 use Rattle.rs_session.specs.Gate.{Mark, Submits}
 use Rattle.rs_session.proofs.Submitting.{nothing_sent}
 use Rattle.rs_places.specs.Shared.{HandsOn}

@@ -8,7 +8,8 @@ use Rattle.std.proofs.lemmas.List.Elements.{recursion_from_All}
 use Rattle.rs_message.specs.declared.entry.Entry.{Entry}
 use Rattle.rs_store.specs.History.{IsLegal}
 use Rattle.rs_version.specs.Writer.{Written, kept_of}
-use Rattle.rs_intake.specs.Lines.{AreOfLine, Closed, IsClosed, Line, new_lines}
+use Rattle.rs_queue.specs.Changes.{AreOfLine}
+use Rattle.rs_intake.specs.Lines.{Closed, IsClosed, Line, new_lines}
 use Rattle.rs_intake.specs.Done.{IsWritten, Told}
 use Rattle.rs_intake.specs.Settling.{AreOfPlaces, AreTakenInOrder, EachOnce}
 use Rattle.rs_session.specs.Gate.{Extends}

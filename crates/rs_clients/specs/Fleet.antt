@@ -1,7 +1,8 @@
 -- The clients of a store of which several share a place.
 use Rattle.std.specs.Prelude.{◌≡◌, ℕ, ◌+◌, ◌-◌, ◌*◌, ◌%◌, ◌^◌, min, All, List, [], ◌∷◌, length, map, slice_index_or, Option, MatchOption}
 use Rattle.std.specs.List.{AllZip}
-use Rattle.rs_intake.specs.Lines.{AreOfLine, Closed, IsClosed, new_lines}
+use Rattle.rs_queue.specs.Changes.{AreOfLine}
+use Rattle.rs_intake.specs.Lines.{Closed, IsClosed, new_lines}
 use Rattle.rs_intake.specs.Settling.{EachOnce}
 use Rattle.rs_message.specs.declared.entry.Entry.{Entry}
 use Rattle.rs_session.specs.Gate.{Extends}

@@ -11,8 +11,9 @@ ghost use Rattle.rs_store.specs.History.{IsLegal};
 use crate::answered::Answered;
 use crate::burst::hand_over;
 use crate::shared_places::SharedPlaces;
-use rs_intake::{LineName, MAX_CHANGES};
+use rs_intake::LineName;
 use rs_message::{Found, Operation, SubmitFault};
+use rs_queue::MAX_CHANGES;
 use rs_session::Gate;
 use rs_topic::TopicFilter;
 use rs_version::{Told, Version};
@@ -244,7 +245,7 @@ impl<N: LineName, R: Wait + Copy> ClientGate<N, R> {
 }
 
 impl<N: LineName, R: Wait + Copy> Gate for ClientGate<N, R> {
-    ghost use Rattle.rs_intake.specs.declared.job.TheConstants.{MAX_CHANGES};
+    ghost use Rattle.rs_queue.specs.declared.job.TheConstants.{MAX_CHANGES};
     ghost use Rattle.rs_places.specs.Shared.{Knows};
 
     ghost stands = { Knows N.limit };

@@ -3,7 +3,8 @@
 ghost use Rattle.std.specs.Arc.{arc_value};
 ghost use Rattle.std.specs.Prelude.{◌≡◌, ◌≤◌, ◌+◌, ◌++◌, List, [], length, map, vec_capacity, All, IfOk, IfSome, MatchResult};
 ghost use Rattle.std.specs.List.{AllZip};
-ghost use Rattle.rs_intake.specs.Lines.{AreOfLine, IsClosed};
+ghost use Rattle.rs_queue.specs.Changes.{AreOfLine};
+ghost use Rattle.rs_intake.specs.Lines.{IsClosed};
 ghost use Rattle.rs_clients.specs.Fleet.{Client, IsTurnServed, client_at, client_left, client_with, clients_of, first_number};
 
 use crate::client_gate::ClientGate;

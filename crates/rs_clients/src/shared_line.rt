@@ -2,7 +2,8 @@
 
 ghost use Rattle.std.specs.Prelude.{◌≡◌, ◌≤◌, [], false, length, vec_capacity};
 ghost use Rattle.std.specs.List.{AllByRecursion};
-ghost use Rattle.rs_intake.specs.Lines.{AreOfLine, IsAheadAfter, IsClosed};
+ghost use Rattle.rs_queue.specs.Changes.{AreOfLine};
+ghost use Rattle.rs_intake.specs.Lines.{IsAheadAfter, IsClosed};
 ghost use Rattle.rs_message.specs.Messages.{is_sweep};
 ghost use Rattle.rs_clients.specs.Clients.{changes_of};
 

@@ -3,7 +3,8 @@
 ghost use Rattle.std.specs.Prelude.{◌≡◌, ◌<◌, ◌≤◌, [], length, slice_get, vec_capacity, All, IfOk, IfSome};
 ghost use Rattle.std.specs.Option.{option_map};
 ghost use mathlib.Core.List.{IsPrefix};
-ghost use Rattle.rs_intake.specs.Lines.{AreOfLine, IsClosed};
+ghost use Rattle.rs_queue.specs.Changes.{AreOfLine};
+ghost use Rattle.rs_intake.specs.Lines.{IsClosed};
 ghost use Rattle.rs_clients.specs.Clients.{new_client, new_clients};
 ghost use Rattle.rs_store.specs.History.{IsLegal};
 

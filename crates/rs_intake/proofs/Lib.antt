@@ -1,6 +1,4 @@
-pub mod Queues
 pub mod Ways
-pub mod Parts
 pub mod Opening
 pub mod Ahead
 pub mod Faults

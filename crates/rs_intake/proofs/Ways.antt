@@ -9,7 +9,7 @@ use Rattle.crossbeam_channel.specs.Fifo.{Pushes, Pops, Forks}
 use Rattle.atomic_table.proofs.Lists.{at_set}
 use Rattle.rs_intake.specs.Done.{ReplyValue}
 use Rattle.rs_intake.specs.ReplyRule.{Counts, FitsWay, Replies, WayView, both_ends, joined, receiving_end, replies_more, sending_end}
-use Rattle.rs_intake.proofs.Queues.{clash, snoc_at}
+use Rattle.rs_queue.proofs.Queues.{clash, snoc_at}
 
 -- the replies of one message more
 joined_more : (items : List (List ReplyValue)) (x : List ReplyValue) → joined (items ++ x ∷ []) ≡ joined items ++ x

@@ -11,7 +11,7 @@ use Rattle.rs_version.specs.Writer.{Refuses, Written, kept_of, shows}
 use Rattle.rs_version.specs.declared.fault.PutFault.{PutFault}
 use Rattle.rs_version.specs.declared.fault.PutFault.TheVariants.{Full, Held, NoMemory, Stale}
 use Rattle.rs_intake.specs.Sweeps.{IsSweptAtMost, without_sweeps}
-use Rattle.rs_intake.specs.declared.waiting.Gone.{Gone}
+use Rattle.rs_queue.specs.declared.waiting.Gone.{Gone}
 
 -- the answer to an entry: a receipt, or why there is none
 abbrev pub Answer : Type 0

@@ -1,12 +1,9 @@
 pub mod Causes
-pub mod Changes
 pub mod Codes
 pub mod Done
 pub mod Law
 pub mod Lines
 pub mod Names
-pub mod Parts
-pub mod QueueRule
 pub mod Refusals
 pub mod ReplyRule
 pub mod Sending

@@ -8,23 +8,18 @@ use Rattle.crossbeam_channel.specs.Claims.{Pass, view}
 use Rattle.rs_message.specs.declared.entry.TheConstants.{MAX_PLACES}
 use Rattle.rs_message.specs.declared.entry.Entry.{Entry}
 use Rattle.rs_message.specs.declared.entry.Operation.{Operation}
-use Rattle.rs_store.specs.History.{SerialsRise, last_serial}
-use Rattle.rs_intake.specs.declared.rule.PassView.{PassView}
-use Rattle.rs_intake.specs.declared.rule.SentFrom.{SentFrom}
-use Rattle.rs_intake.specs.declared.job.Job.{Job}
-use Rattle.rs_intake.specs.declared.waiting.Gone.{Gone}
-use Rattle.rs_intake.specs.Changes.{AreOf}
+use Rattle.rs_store.specs.History.{last_serial}
+use Rattle.rs_queue.specs.declared.rule.PassView.{PassView}
+use Rattle.rs_queue.specs.declared.rule.SentFrom.{SentFrom}
+use Rattle.rs_queue.specs.declared.job.Job.{Job}
+use Rattle.rs_queue.specs.declared.waiting.Gone.{Gone}
 use Rattle.rs_intake.specs.Done.{ReplyValue}
 use Rattle.rs_intake.specs.Names.{QueueName, IsQueue, IsIn}
-use Rattle.rs_intake.specs.Parts.{before}
+use Rattle.rs_queue.specs.Parts.{before}
 
 -- the serial after this one. The greatest u64 has none after it
 abbrev pub next_serial : ℕ → ℕ
 next_serial serial = min (serial + 1) (2 ^ 64 - 1)
-
--- the entry of this place and serial that does this
-abbrev pub entry_at : ℕ → ℕ → Operation → Entry
-entry_at place serial operation = record { origin = record { place = place; serial = serial }; operation = operation }
 
 -- A place, the last serial that was submitted there, what was sent from it and submitted; the replies that were taken, read or dropped,
 -- and those that came and were not taken yet; and what was sent ahead, and is not submitted yet. The queue took what was sent and then what
@@ -36,11 +31,6 @@ pub record Line : Type 0 where
   pub heard : List ReplyValue
   pub came : List ReplyValue
   pub ahead : List Entry
-
--- the entries of this place that do this one after the other, under the serials behind this one
-abbrev pub numbered : ℕ → ℕ → List Operation → List Entry
-numbered place serial [] = []
-numbered place serial (o ∷ os) = entry_at place (serial + 1) o ∷ numbered place (serial + 1) os
 
 -- the entries are of this place, and their serials are those behind this one, one after the other
 abbrev pub AreNext : ℕ → ℕ → List Entry → Type 0
@@ -76,11 +66,6 @@ pub record Closed : Type 0 where
   pub sent : List Entry
   pub ends : List ℕ
   pub gone : Option Gone
-
--- the entries that a line of this place sent: all are of the place, and their serials strictly rise
-pub record AreOfLine (place : ℕ) (sent : List Entry) : Type 0 where
-  pub of_place : AreOf place sent
-  pub rise : SerialsRise sent
 
 -- one End was sent, which is the place's own; or none, since its send failed
 abbrev pub IsClosed : ℕ → List ℕ → Option Gone → Type 0

@@ -6,8 +6,8 @@ use Rattle.crossbeam_channel.specs.declared.flavors.array.Key.{Key}
 use Rattle.crossbeam_channel.specs.declared.flavors.array.Doing.{Doing}
 use Rattle.crossbeam_channel.specs.declared.flavors.array.Rows.{Rows}
 use Rattle.crossbeam_channel.specs.Claims.{Pass, IsKeyed, no_key}
-use Rattle.rs_intake.specs.declared.rule.PassView.{PassView}
-use Rattle.rs_intake.specs.declared.job.Job.{Job}
+use Rattle.rs_queue.specs.declared.rule.PassView.{PassView}
+use Rattle.rs_queue.specs.declared.job.Job.{Job}
 
 pub record QueueName : Type 0 where
   pub table : TableId

@@ -5,10 +5,10 @@ use Rattle.rs_message.specs.declared.entry.Entry.{Entry}
 use Rattle.rs_store.specs.History.{SerialsRise}
 use Rattle.rs_version.specs.Writer.{Written}
 use Rattle.rs_version.specs.declared.fault.PutFault.TheVariants.{NoMemory}
-use Rattle.rs_intake.specs.Changes.{ArePlain}
+use Rattle.rs_queue.specs.Changes.{ArePlain}
 use Rattle.rs_intake.specs.Done.{AreReplied, AreSent, ReplyValue, Told, has_held, way_to}
 use Rattle.rs_intake.specs.Sweeps.{IsKeptFrom}
-use Rattle.rs_intake.specs.declared.waiting.Gone.{Gone}
+use Rattle.rs_queue.specs.declared.waiting.Gone.{Gone}
 
 -- The changes that are left of a job: they rise behind what was taken before them, from which this list came to be. None is a Sweep, and
 -- none is of the writer

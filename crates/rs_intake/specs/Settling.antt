@@ -2,9 +2,9 @@
 use Rattle.std.specs.Prelude.{ℕ, ◌≡◌, ◌==◌, ◌<◌, ◌≤◌, ◌+◌, List, [], ◌∷◌, ◌++◌, All, filter, length}
 use mathlib.Core.List.{IsPrefix}
 use Rattle.rs_message.specs.declared.entry.Entry.{Entry}
-use Rattle.rs_intake.specs.declared.rule.SentFrom.{SentFrom}
-use Rattle.rs_intake.specs.declared.job.Job.{Job}
-use Rattle.rs_intake.specs.QueueRule.{of_place, entries_of, IsOutside, SumsUp}
+use Rattle.rs_queue.specs.declared.rule.SentFrom.{SentFrom}
+use Rattle.rs_queue.specs.declared.job.Job.{Job}
+use Rattle.rs_queue.specs.QueueRule.{of_place, entries_of, IsOutside, SumsUp}
 use Rattle.rs_intake.specs.Lines.{Closed, Received}
 
 -- how many of the ends are of this place

@@ -5,7 +5,7 @@ use Rattle.rs_message.specs.Messages.{is_sweep}
 use Rattle.rs_message.specs.declared.entry.Entry.{Entry}
 use Rattle.rs_store.specs.History.{NeedsSweepAfter, SerialsRise, cleaned}
 use Rattle.rs_store.specs.Needed.{AreNeeded}
-use Rattle.rs_intake.specs.Parts.{IsPart}
+use Rattle.rs_queue.specs.Parts.{IsPart}
 
 -- the entries that are no Sweep
 abbrev pub without_sweeps : List Entry → List Entry

@@ -10,17 +10,16 @@ ghost use Rattle.rs_intake.specs.Lines.{new_lines};
 
 use crate::fullness::{Fullness, FullnessWriter};
 use crate::intake::Intake;
-use crate::job::Job;
 use crate::line::{LineSender, SeatLine};
 use crate::name::LineName;
 use crate::reply::{ReplySender, way_back};
-use crate::rule::{JobReceiver, JobSender, PassView, QueueRule};
-use crate::steps::cut;
 use crate::taken::Taken;
 use crate::ways_back::WaysBack;
 use crate::writer::Queue;
 use crossbeam_channel::{Pass, bounded_with};
 use rs_message::PlaceCount;
+use rs_queue::steps::cut;
+use rs_queue::{Job, JobReceiver, JobSender, Looks, PassView, QueueRule};
 use std::alloc::{AllocError, Global};
 use std::marker::Model;
 use std::sync::Arc;
@@ -33,6 +32,7 @@ pub struct BlankQueue {
     pass: Pass<Job, PassView>,
     places: PlaceCount,
     fullness: Arc<Fullness>,
+    looks: Looks,
     alloc: Global,
 }
 
@@ -40,7 +40,7 @@ impl Model for BlankQueue {
     ghost use Rattle.std.specs.Prelude.{◌≡◌};
     ghost use Rattle.crossbeam_channel.specs.Claims.{view as known_by, IsSeatAt};
     ghost use Rattle.crossbeam_channel.specs.Ends.{sends_on, receives_on};
-    ghost use Rattle.rs_intake.specs.QueueRule.{taker};
+    ghost use Rattle.rs_queue.specs.QueueRule.{taker};
     ghost use Rattle.rs_intake.specs.Names.{Unnamed, name_of};
 
     ghost Value = { Unnamed };
@@ -69,6 +69,7 @@ pub fn blank_queue(alloc: Global, places: PlaceCount) -> Result<BlankQueue, Allo
         pass,
         places,
         fullness,
+        looks: Looks::untimed(),
         alloc,
     })
 }
@@ -79,6 +80,7 @@ fn line<N: LineName>(
     sender: &JobSender,
     pass: &mut Pass<Job, PassView>,
     place: u8,
+    looks: Looks,
 ) -> Result<(SeatLine<N>, ReplySender<N>), AllocError>
     requires queue { IsQueue N.queue (sends_on sender.now) × IsIn N.queue pass.old }
     requires pass { ((known_by pass.old).takes ≡ true) × ((known_by pass.old).sends ≡ false) × ((known_by pass.old).known ≡ []) × ((known_by pass.old).made + 1 ≡ place) }
@@ -88,7 +90,7 @@ fn line<N: LineName>(
     ensures queue { IfOk result (λ _. IsIn N.queue pass.new) }
     ensures pass { IfOk result (λ _. ((known_by pass.new).takes ≡ true) × ((known_by pass.new).sends ≡ false) × ((known_by pass.new).known ≡ []) × ((known_by pass.new).entries ≡ (known_by pass.old).entries) × ((known_by pass.new).ends ≡ (known_by pass.old).ends) × ((known_by pass.new).made ≡ place)) }
 {
-    let (to, from) = way_back(alloc)?;
+    let (to, from) = way_back(alloc, looks)?;
     let own = sender.try_clone()?;
     let line = LineSender::new(place, own, cut(sender, pass));
     Ok((SeatLine::new(alloc, line, from), to))
@@ -102,6 +104,30 @@ impl BlankQueue {
     /// [`AllocError`] if it has too many owners.
     pub fn fullness(&self) -> Result<Arc<Fullness>, AllocError> {
         Arc::try_clone(&self.fullness)
+    }
+
+    /// The same queue, whose ends look so often before they sleep.
+    pub fn with_looks(self, looks: Looks) -> BlankQueue
+        ensures { result ≡ self }
+    {
+        let BlankQueue {
+            sender,
+            receiver,
+            pass,
+            places,
+            fullness,
+            looks: _,
+            alloc,
+        } = self;
+        BlankQueue {
+            sender,
+            receiver,
+            pass,
+            places,
+            fullness,
+            looks,
+            alloc,
+        }
     }
 
     /// The way to the writer, the lines of the places from 1 on, which have sent nothing, and the writer's end of the queue, under a name
@@ -121,13 +147,14 @@ impl BlankQueue {
             mut pass,
             places,
             fullness,
+            looks,
             alloc,
         } = self;
         let places = places.get();
         let mut lines = Vec::new(alloc);
         let mut replies = Vec::new(alloc);
         for before in 0..places {
-            let (line, to) = line::<N>(alloc, &sender, &mut pass, before + 1)?;
+            let (line, to) = line::<N>(alloc, &sender, &mut pass, before + 1, looks)?;
             lines.push(line).map_err(|_| AllocError)?;
             replies.push(to).map_err(|_| AllocError)?;
         }
@@ -136,6 +163,7 @@ impl BlankQueue {
             receiver,
             Taken::new(places, pass),
             WaysBack::new(alloc, replies, ends, FullnessWriter::new(fullness)),
+            looks,
         );
         Ok((Intake::new(), lines, queue))
     }

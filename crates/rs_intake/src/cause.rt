@@ -1,13 +1,13 @@
 //! The end of the writer's loop.
 
-use crate::waiting::Gone;
+use rs_queue::Gone;
 
 /// Why the writer's loop ended.
 #[derive(Debug, Drop)]
 pub enum Cause {
     /// The End of each place was taken.
     AllEnded,
-    /// At least as many entries were taken as may be, or fewer than [`MAX_CHANGES`](crate::MAX_CHANGES) more can be counted.
+    /// At least as many entries were taken as may be, or fewer than [`MAX_CHANGES`](rs_queue::MAX_CHANGES) more can be counted.
     MostTaken,
     /// A receive failed: all lines and their ends were gone.
     QueueGone(Gone),

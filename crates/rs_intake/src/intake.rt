@@ -5,7 +5,8 @@ ghost use Rattle.rs_message.specs.Messages.{is_sweep};
 ghost use Rattle.rs_message.specs.declared.fault.SubmitFault.TheVariants.{Closed, Strange};
 ghost use Rattle.rs_store.specs.History.{IsLegal};
 ghost use Rattle.rs_version.specs.Receipts.{StandsAt};
-ghost use Rattle.rs_intake.specs.Lines.{AddsAtMost, IsAheadAfter, IsOther, entry_at, next_serial};
+ghost use Rattle.rs_queue.specs.Changes.{entry_at};
+ghost use Rattle.rs_intake.specs.Lines.{AddsAtMost, IsAheadAfter, IsOther, next_serial};
 ghost use Rattle.rs_intake.specs.Refusals.{IsFaultOfReply, IsRefused, fault_for};
 
 use crate::line::SeatLine;

@@ -1,7 +1,6 @@
 //! The lines of the places.
 
 ghost use Rattle.std.specs.Prelude.{◌≡◌, ◌≢◌, ◌+◌, ◌-◌, ◌<◌, ◌≤◌, ◌^◌, ◌∷◌, ◌++◌, ◌⊎◌, [], List, All, length, true, false, IfErr, IfOk, IfSome, Decides, MatchBool, MatchOption, MatchResult, Err};
-ghost use Rattle.std.specs.List.{AllByRecursion};
 ghost use Rattle.crossbeam_channel.specs.Claims.{view as known_by};
 ghost use Rattle.crossbeam_channel.specs.Ends.{sends_on};
 ghost use Rattle.rs_message.specs.Messages.{is_sweep};
@@ -10,23 +9,20 @@ ghost use Rattle.rs_message.specs.declared.entry.Operation.{Operation};
 ghost use Rattle.rs_message.specs.declared.entry.TheConstants.{MAX_PLACES};
 ghost use Rattle.rs_message.specs.declared.fault.SubmitFault.TheVariants.{Strange};
 ghost use Rattle.rs_store.specs.History.{last_serial};
-ghost use Rattle.rs_intake.specs.Changes.{AreOf};
+ghost use Rattle.rs_queue.specs.Changes.{AreOf, AreOfLine, entry_at, numbered};
 ghost use Rattle.rs_intake.specs.Done.{ReplyValue};
 ghost use Rattle.rs_intake.specs.Names.{IsQueue, IsIn};
-ghost use Rattle.rs_intake.specs.Lines.{AreNext, AreOfLine, IsAheadAfter, IsClosed, IsOther, entry_at, next_serial, numbered};
-ghost use Rattle.rs_intake.specs.QueueRule.{AreAbove};
+ghost use Rattle.rs_intake.specs.Lines.{AreNext, IsAheadAfter, IsClosed, IsOther, next_serial};
+ghost use Rattle.rs_queue.specs.QueueRule.{AreAbove};
 ghost use Rattle.rs_intake.specs.Refusals.{IsUnsent};
-ghost use Rattle.rs_intake.specs.declared.job.TheConstants.{MAX_CHANGES};
+ghost use Rattle.rs_queue.specs.declared.job.TheConstants.{MAX_CHANGES};
 
-use crate::job::{Changes, Job, MAX_CHANGES};
 use crate::name::LineName;
 use crate::reply::{ReplyReceiver, WriterReply};
-use crate::room::has_room;
-use crate::rule::{JobSender, PassView};
-use crate::steps::send;
-use crate::waiting::Gone;
 use crossbeam_channel::Pass;
 use rs_message::{Entry, Operation, Origin, SubmitFault, is_same};
+use rs_queue::steps::send;
+use rs_queue::{Changes, Gone, Job, JobSender, MAX_CHANGES, PassView, alone, prepared};
 use std::alloc::Global;
 use std::collections::VecDeque;
 use std::marker::{Model, PhantomData};
@@ -46,7 +42,8 @@ impl<N: LineName> Model for LineSender<N> {
     ghost use Rattle.std.specs.Prelude.{◌≡◌, []};
     ghost use Rattle.crossbeam_channel.specs.Claims.{view as known_by};
     ghost use Rattle.crossbeam_channel.specs.Ends.{sends_on};
-    ghost use Rattle.rs_intake.specs.Lines.{AreOfLine, IsLine, LineSenderValue};
+    ghost use Rattle.rs_queue.specs.Changes.{AreOfLine};
+    ghost use Rattle.rs_intake.specs.Lines.{IsLine, LineSenderValue};
 
     ghost Value = { LineSenderValue };
 
@@ -140,7 +137,8 @@ pub struct LineEnd<N: LineName> {
 impl<N: LineName> Model for LineEnd<N> {
     ghost use Rattle.crossbeam_channel.specs.Claims.{view as known_by};
     ghost use Rattle.crossbeam_channel.specs.Ends.{sends_on};
-    ghost use Rattle.rs_intake.specs.Lines.{AreOfLine, Closed, IsClosed, IsLine};
+    ghost use Rattle.rs_queue.specs.Changes.{AreOfLine};
+    ghost use Rattle.rs_intake.specs.Lines.{Closed, IsClosed, IsLine};
 
     ghost Value = { Closed };
 
@@ -184,80 +182,6 @@ impl<N: LineName> LineEnd<N> {
     }
 }
 
-/// The entries of this place that do this one after the other, under the serials behind this one. `None` if there are no such serials,
-/// or memory is refused.
-fn numbered(alloc: Global, place: u8, serial: u64, operations: Vec<Operation>) -> Option<Vec<Entry>>
-    requires { (0 < place) × (place ≤ MAX_PLACES) }
-    ensures entries { IfSome result (λ es. es.items ≡ numbered place serial operations.items) }
-    ensures small { IfSome result (λ es. serial + length es.items < 2 ^ 64) }
-{
-    let mut entries = Vec::with_capacity(alloc, operations.len()).ok()?;
-    let mut last = serial;
-    for operation in operations {
-        last = last.checked_add(1)?;
-        let origin = Origin::new(place, last)?;
-        entries.push(Entry { origin, operation }).ok()?;
-    }
-    Some(entries)
-}
-
-/// Equal entries, which share the bytes. `None` if memory is refused.
-fn copies(alloc: Global, entries: &Vec<Entry>) -> Option<Vec<Entry>>
-    ensures { IfSome result (λ es. es.items ≡ entries.now.items) }
-{
-    let mut copies = Vec::with_capacity(alloc, entries.len()).ok()?;
-    for entry in entries.iter() {
-        copies.push(entry.copy().ok()?).ok()?;
-    }
-    Some(copies)
-}
-
-/// The entries of this place that do this under the serials behind this one, as one job, and a copy of them. `None` if no serials are left
-/// for all, or memory is refused or short.
-fn prepared(
-    alloc: Global,
-    place: u8,
-    serial: u64,
-    operations: Vec<Operation>,
-) -> Option<(Changes, VecDeque<Entry>)>
-    requires place { (0 < place) × (place ≤ MAX_PLACES) }
-    requires plain { AllByRecursion (λ o. is_sweep o ≡ false) operations.items }
-    requires some { 0 < length operations.items }
-    requires few { length operations.items ≤ MAX_CHANGES }
-    ensures job { IfSome result (λ r. r.0 ≡ numbered place serial operations.items) }
-    ensures ahead { IfSome result (λ r. r.1.items ≡ numbered place serial operations.items) }
-    ensures small { IfSome result (λ r. serial + length r.1.items < 2 ^ 64) }
-{
-    if !has_room(alloc) {
-        return None;
-    }
-    let entries = numbered(alloc, place, serial, operations)?;
-    let job = copies(alloc, &entries)?;
-    Some((Changes::new(job), VecDeque::from_vec(entries)))
-}
-
-/// Whether the entry stores a message.
-fn is_set(entry: &Entry) -> bool {
-    match &entry.operation {
-        Operation::Set(_) => true,
-        Operation::Clear(_) | Operation::Sweep(_) => false,
-    }
-}
-
-/// This entry alone, as a job. `None` if memory is refused, or is short and the entry takes more of it.
-fn alone(alloc: Global, entry: Entry) -> Option<Changes>
-    requires plain { is_sweep entry.operation ≡ false }
-    requires place { 0 < entry.origin.place }
-    ensures { IfSome result (λ changes. changes ≡ entry ∷ []) }
-{
-    if is_set(&entry) && !has_room(alloc) {
-        return None;
-    }
-    let mut entries = Vec::with_capacity(alloc, 1).ok()?;
-    entries.push(entry).ok()?;
-    Some(Changes::new(entries))
-}
-
 /// A place's way to the writer and back, with the last serial that was submitted. It is not shared: each place has its own.
 ///
 /// Changes that are announced ([`expect`](SeatLine::expect)) go to the writer together, in one job. They are ahead then: they were sent,
@@ -273,7 +197,7 @@ pub struct SeatLine<N: LineName> {
 
 impl<N: LineName> Model for SeatLine<N> {
     ghost use Rattle.rs_intake.specs.Lines.{IsSeatLine, Line};
-    ghost use Rattle.rs_intake.specs.Parts.{before};
+    ghost use Rattle.rs_queue.specs.Parts.{before};
 
     ghost Value = { Line };
 

@@ -5,12 +5,10 @@ ghost use Rattle.rs_intake.specs.Done.{ReplyValue, is_held, is_refused, refused_
 ghost use Rattle.rs_intake.specs.Sending.{AreSentNext};
 
 use crate::fullness::FullnessWriter;
-use crate::job::MAX_CHANGES;
-use crate::waiting;
-use crate::waiting::{Gone, LINE_LOOKS, Patience, SHARED_LOOKS, receive};
 use crossbeam_channel::protocol::{Lesson, Outcome, Protocol, Split};
 use crossbeam_channel::{Pass, RuledReceiver, RuledSender, bounded_with};
 use rs_message::{Entry, Origin};
+use rs_queue::{Gone, Looks, MAX_CHANGES, Patience, receive, send};
 use rs_version::{PutFault, Receipt, StoreName};
 use std::alloc::{AllocError, Global};
 use std::collections::{LinkedList, VecDeque};
@@ -241,6 +239,7 @@ impl<N: StoreName> Model for WayEnd<N> {
 pub struct ReplyReceiver<N: StoreName> {
     from: RuledReceiver<WriterReplies<N>, WayPass<N>, ReplyRule>,
     pass: Pass<WriterReplies<N>, WayPass<N>>,
+    looks: Looks,
     patience: Patience,
     came: WriterReplies<N>,
     alloc: Global,
@@ -250,7 +249,7 @@ impl<N: StoreName> Model for ReplyReceiver<N> {
     ghost use Rattle.std.specs.Prelude.{◌≡◌, ◌++◌, true, false};
     ghost use Rattle.crossbeam_channel.specs.Claims.{view as known_by, IsSeatAt};
     ghost use Rattle.crossbeam_channel.specs.Ends.{receives_on};
-    ghost use Rattle.rs_intake.specs.Parts.{before};
+    ghost use Rattle.rs_queue.specs.Parts.{before};
     ghost use Rattle.rs_intake.specs.ReplyRule.{Heard};
 
     ghost Value = { Heard };
@@ -263,6 +262,7 @@ impl<N: StoreName> Model for ReplyReceiver<N> {
 /// The two ends of the way back to one line, by which nothing was sent. Its capacity is that of the replies to one job.
 pub fn way_back<N: StoreName>(
     alloc: Global,
+    looks: Looks,
 ) -> Result<(ReplySender<N>, ReplyReceiver<N>), AllocError>
     ensures { IfOk result (λ r. (r.0 ≡ untold) × (r.1.heard ≡ []) × (r.1.came ≡ [])) }
 {
@@ -280,7 +280,8 @@ pub fn way_back<N: StoreName>(
         ReplyReceiver {
             from,
             pass: other,
-            patience: Patience::new(LINE_LOOKS),
+            looks,
+            patience: Patience::new(looks.line),
             came: WriterReplies::none(alloc),
             alloc,
         },
@@ -296,7 +297,7 @@ impl<N: StoreName> ReplySender<N> {
         if self.gone.is_some() {
             return;
         }
-        let sent = waiting::send::<WriterReplies<N>, WayPass<N>, ReplyRule, Counting, R>(
+        let sent = send::<WriterReplies<N>, WayPass<N>, ReplyRule, Counting, R>(
             rt,
             &self.to,
             &mut self.pass,
@@ -323,7 +324,7 @@ impl<N: StoreName> ReplyReceiver<N> {
     pub fn share(&mut self)
         ensures { self.new ≡ self.old }
     {
-        self.patience = Patience::new(SHARED_LOOKS);
+        self.patience = Patience::new(self.looks.shared);
     }
 
     /// Takes the next reply that came.

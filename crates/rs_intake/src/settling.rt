@@ -1,7 +1,7 @@
 //! What the lines and the writer know together, once both have ended.
 
 ghost use Rattle.std.specs.Prelude.{◌≡◌, ◌^◌, ◌<◌, ◌≤◌, List, MatchBool, MatchOption, IfOk, IfErr, length};
-ghost use Rattle.rs_intake.specs.declared.job.Job.{Job};
+ghost use Rattle.rs_queue.specs.declared.job.Job.{Job};
 ghost use Rattle.rs_intake.specs.Settling.{ends_at, EachOnce, sent_in_all, AreTaken, AreTakenInOrder, BalancesWith};
 
 use crate::fault::SettleFault;

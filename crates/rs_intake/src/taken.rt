@@ -4,18 +4,16 @@ ghost use Rattle.std.specs.Prelude.{◌≡◌, ◌<◌, ◌∷◌, ◌++◌, Lis
 ghost use Rattle.crossbeam_channel.specs.Claims.{view as known_by};
 ghost use Rattle.crossbeam_channel.specs.Ends.{sends_on, receives_on};
 ghost use Rattle.rs_store.specs.History.{SerialsRise};
-ghost use Rattle.rs_intake.specs.QueueRule.{AreEnds, IsPlaced, ends_of, entries_in};
+ghost use Rattle.rs_queue.specs.QueueRule.{AreEnds, IsPlaced, ends_of, entries_in};
 ghost use Rattle.rs_intake.specs.Names.{IsQueue, IsIn};
 ghost use Rattle.rs_intake.specs.Lines.{IsTaker};
 ghost use Rattle.rs_intake.specs.Settling.{IsBalanced};
-ghost use Rattle.rs_intake.specs.declared.job.Job.{Job};
+ghost use Rattle.rs_queue.specs.declared.job.Job.{Job};
 
-use crate::job::Job;
 use crate::name::LineName;
-use crate::rule::{JobReceiver, JobSender, PassView};
-use crate::steps::{compare, join, take};
-use crate::waiting::{Gone, Patience};
 use crossbeam_channel::Pass;
+use rs_queue::steps::{compare, join, take};
+use rs_queue::{Gone, Job, JobReceiver, JobSender, PassView, Patience};
 use std::marker::{Model, PhantomData};
 use std::sync::Wait;
 

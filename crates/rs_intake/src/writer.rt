@@ -7,21 +7,19 @@ ghost use Rattle.rs_version.specs.Writer.{kept_of};
 ghost use Rattle.rs_intake.specs.Done.{IsWritten, untold};
 ghost use Rattle.rs_intake.specs.Causes.{IsCause};
 ghost use Rattle.rs_intake.specs.Names.{IsQueue};
-ghost use Rattle.rs_intake.specs.Parts.{IsPart};
+ghost use Rattle.rs_queue.specs.Parts.{IsPart};
 ghost use Rattle.rs_intake.specs.Settling.{AreOfPlaces};
 ghost use Rattle.rs_intake.specs.Sweeps.{AreForEntries, without_sweeps};
-ghost use Rattle.rs_intake.specs.declared.job.TheConstants.{MAX_CHANGES};
+ghost use Rattle.rs_queue.specs.declared.job.TheConstants.{MAX_CHANGES};
 ghost use Rattle.rs_intake.specs.declared.reply.TheConstants.{FEW_REPLIES};
 
 use crate::cause::Cause;
-use crate::job::{Job, MAX_CHANGES};
 use crate::name::LineName;
 use crate::reply::{FEW_REPLIES, WayEnd};
-use crate::rule::JobReceiver;
 use crate::taken::Taken;
-use crate::waiting::{Patience, WRITER_LOOKS};
 use crate::ways_back::WaysBack;
 use rs_message::Origin;
+use rs_queue::{Job, JobReceiver, Looks, MAX_CHANGES, Patience};
 use rs_version::VersionWriter;
 use std::sync::Wait;
 
@@ -31,13 +29,19 @@ pub struct Queue<N: LineName> {
     receiver: JobReceiver,
     received: Taken<N>,
     ways: WaysBack<N>,
+    patience: Patience,
     ghost queue: { IsQueue N.queue (receives_on receiver) },
     ghost new: { (received.entries ≡ []) × (received.ends ≡ []) },
     ghost lines: { ways.senders.items ≡ replicate N.places untold },
 }
 
 impl<N: LineName> Queue<N> {
-    pub(crate) fn new(receiver: JobReceiver, received: Taken<N>, ways: WaysBack<N>) -> Queue<N>
+    pub(crate) fn new(
+        receiver: JobReceiver,
+        received: Taken<N>,
+        ways: WaysBack<N>,
+        looks: Looks,
+    ) -> Queue<N>
         requires queue { IsQueue N.queue (receives_on receiver) }
         requires new { (received.entries ≡ []) × (received.ends ≡ []) }
         requires lines { ways.senders.items ≡ replicate N.places untold }
@@ -46,6 +50,7 @@ impl<N: LineName> Queue<N> {
             receiver,
             received,
             ways,
+            patience: Patience::new(looks.writer),
         }
     }
 }
@@ -171,13 +176,13 @@ pub fn run_writer_for<N: LineName, R: Wait + Drop, W: Wait>(
         receiver,
         mut received,
         mut ways,
+        mut patience,
     } = queue;
     let mut writer = writer;
     let mut taken = 0u64;
     let mut refused = 0u64;
     let mut open = received.places();
     let mut cause = Cause::MostTaken;
-    let mut patience = Patience::new(WRITER_LOOKS);
     for _ in rt.forever() {
         if has_most(taken, most) {
             break;

@@ -1,5 +1,5 @@
-//! Tests of the shared store by its public calls: the versions of `rs_version` in `versions`, and the queue of `rs_intake` in
-//! `queue`. They stand in a crate of their own, so that neither is proved a second time with them.
+//! Tests of the shared store by its public calls: the versions of `rs_version` in `versions`, and the queue of `rs_queue` and
+//! `rs_intake` in `queue`. They stand in a crate of their own, so that none of these is proved a second time with them.
 #![tactic(auto)]
 
 #[cfg(test)]

@@ -2,6 +2,7 @@
 
 mod fullness;
 mod log;
+mod looks;
 mod places;
 mod replies;
 mod schedules;

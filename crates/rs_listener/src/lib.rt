@@ -12,6 +12,7 @@
 mod close_reason;
 mod fault;
 mod full_log;
+mod looking;
 mod opening;
 mod refused;
 mod server;

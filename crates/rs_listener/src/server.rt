@@ -7,6 +7,7 @@ ghost use Rattle.rs_places.specs.Turns.{Plan};
 
 use crate::fault::ListenFault;
 use crate::full_log::FullLog;
+use crate::looking::time_looks;
 use crate::opening::turns;
 use log::{Log, warn};
 use rs_clients::run_fleet;
@@ -130,6 +131,7 @@ impl Server {
         let alone = u16::from(places.get());
         let served = affordable(&rt, clients, alone);
         let full = FullLog::new(fullness);
+        let queue = queue.with_looks(time_looks(&rt, alloc));
         let end = if clients > alone {
             run_fleet(
                 rt,

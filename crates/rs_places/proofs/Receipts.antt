@@ -14,7 +14,8 @@ use Rattle.rs_store.proofs.Entries.{Among, among, contains}
 use Rattle.rs_version.specs.Receipts.{StandsAt}
 use Rattle.rs_version.proofs.Origins.{origins_differ}
 use Rattle.rs_session.specs.Gate.{Mark, IsHandedOver, Sends, SendsAtMost, Submits, TakesPending, Uses, UsesIfOpen, entry_by, last_origin}
-use Rattle.rs_intake.specs.Lines.{AddsAtMost, IsAheadAfter, IsOther, Line, entry_at, next_serial, numbered}
+use Rattle.rs_queue.specs.Changes.{entry_at, numbered}
+use Rattle.rs_intake.specs.Lines.{AddsAtMost, IsAheadAfter, IsOther, Line, next_serial}
 use Rattle.rs_intake.specs.Refusals.{IsRefused, IsUnsent}
 use Rattle.rs_places.specs.Shared.{IsOtherPending, SharedValue, gate_of, handed_on, mark_of, operations_of}
 

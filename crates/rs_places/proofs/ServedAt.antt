@@ -4,7 +4,7 @@ use Rattle.std.specs.Prelude.{Result}
 use Rattle.rs_message.specs.declared.entry.Entry.{Entry}
 use Rattle.rs_message.specs.declared.entry.Operation.{Operation}
 use Rattle.rs_store.specs.History.{IsLegal, SerialsRise}
-use Rattle.rs_intake.specs.declared.job.TheConstants.{MAX_CHANGES}
+use Rattle.rs_queue.specs.declared.job.TheConstants.{MAX_CHANGES}
 use Rattle.rs_session.specs.Run.{AreOfGate, Run, Exchange}
 use Rattle.rs_session.proofs.Keeping.{run_lists, run_keeps}
 use Rattle.rs_session.proofs.Replaying.{run_replays, replay_sends}

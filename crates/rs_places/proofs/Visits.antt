@@ -2,7 +2,8 @@
 use Rattle.std.proofs.Common.{◌≡◌, ℕ, Option, Some, None, List, [], ◌∷◌, ◌++◌, map, refl, sym, ap, subst, ◌∙◌, append_assoc}
 use Rattle.std.proofs.lemmas.List.{append-nil, map-append}
 use Rattle.std.specs.Prelude.{Result}
-use Rattle.rs_intake.specs.Lines.{AreOfLine, Closed, IsClosed}
+use Rattle.rs_queue.specs.Changes.{AreOfLine}
+use Rattle.rs_intake.specs.Lines.{Closed, IsClosed}
 use Rattle.rs_message.specs.declared.entry.Entry.{Entry}
 use Rattle.rs_session.specs.Gate.{Sends}
 use Rattle.rs_server.specs.Clock.{TellsInOrder}

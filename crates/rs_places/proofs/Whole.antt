@@ -12,8 +12,8 @@ use Rattle.rs_version.specs.Receipts.{StandsAt}
 use Rattle.rs_version.specs.Writer.{Written, kept_of}
 use Rattle.rs_version.proofs.Origins.{origins_differ}
 use Rattle.rs_intake.specs.Lines.{Closed, Line, new_lines}
-use Rattle.rs_intake.specs.Parts.{IsPart}
-use Rattle.rs_intake.specs.QueueRule.{of_place}
+use Rattle.rs_queue.specs.Parts.{IsPart}
+use Rattle.rs_queue.specs.QueueRule.{of_place}
 use Rattle.rs_intake.specs.Done.{Answer, IsWritten, Told, is_refused, not_refused}
 use Rattle.rs_intake.specs.Settling.{AreOfPlaces, AreTakenInOrder, EachOnce}
 use Rattle.rs_intake.specs.Sweeps.{without_sweeps}

@@ -1,6 +1,7 @@
 -- The connections of a place, one after the other, and the places of a store.
 use Rattle.std.specs.Prelude.{◌≡◌, ℕ, ◌+◌, ◌-◌, ◌^◌, min, List, [], ◌∷◌, map, Some}
-use Rattle.rs_intake.specs.Lines.{AreOfLine, Closed, IsClosed}
+use Rattle.rs_queue.specs.Changes.{AreOfLine}
+use Rattle.rs_intake.specs.Lines.{Closed, IsClosed}
 use Rattle.rs_message.specs.declared.entry.Entry.{Entry}
 use Rattle.rs_session.specs.Points.{Given}
 use Rattle.rs_session.specs.Run.{Exchange}

@@ -7,7 +7,7 @@ use Rattle.rs_packet.specs.declared.reply.Reply.{Reply}
 use Rattle.rs_message.specs.declared.entry.Entry.{Entry}
 use Rattle.rs_message.specs.declared.entry.Operation.{Operation}
 use Rattle.rs_store.specs.History.{IsLegal}
-use Rattle.rs_intake.specs.declared.job.TheConstants.{MAX_CHANGES}
+use Rattle.rs_queue.specs.declared.job.TheConstants.{MAX_CHANGES}
 use Rattle.rs_session.specs.Stored.{AreGrowing, IsStoredIn, IsToldStored, MarkGrows, lists_of, point_after}
 use Rattle.rs_session.specs.Replay.{IsReplaying, IsSentInOrder, Opens}
 use Rattle.rs_session.specs.Gate.{Mark}

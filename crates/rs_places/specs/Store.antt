@@ -8,8 +8,8 @@ use Rattle.rs_store.specs.History.{IsLegal}
 use Rattle.rs_version.specs.Copies.{listed}
 use Rattle.rs_intake.specs.Done.{IsWritten, Told, not_refused}
 use Rattle.rs_intake.specs.Lines.{Closed, Line, new_lines}
-use Rattle.rs_intake.specs.Parts.{IsPart}
-use Rattle.rs_intake.specs.QueueRule.{of_place}
+use Rattle.rs_queue.specs.Parts.{IsPart}
+use Rattle.rs_queue.specs.QueueRule.{of_place}
 use Rattle.rs_intake.specs.Settling.{AreOfPlaces, AreTaken, EachOnce, sent_in_all}
 use Rattle.rs_intake.specs.Sweeps.{without_sweeps}
 use Rattle.rs_session.specs.Gate.{Extends}

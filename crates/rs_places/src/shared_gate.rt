@@ -1,7 +1,8 @@
 //! A gate over a seat and its line.
 
 ghost use Rattle.std.specs.Prelude.{◌≡◌, ◌<◌, ◌≤◌, ◌⊎◌, ◌∷◌, [], List, false, length, Err, OnOk, Some};
-ghost use Rattle.rs_intake.specs.Lines.{AreOfLine, IsClosed, next_serial};
+ghost use Rattle.rs_queue.specs.Changes.{AreOfLine};
+ghost use Rattle.rs_intake.specs.Lines.{IsClosed, next_serial};
 ghost use Rattle.rs_message.specs.declared.entry.Entry.{Entry};
 ghost use Rattle.rs_message.specs.declared.entry.TheConstants.{MAX_PLACES};
 ghost use Rattle.rs_message.specs.declared.fault.SubmitFault.TheVariants.{Strange};
@@ -10,8 +11,9 @@ ghost use Rattle.rs_places.specs.Shared.{HandsOn, IsOtherPending, Knows, handed_
 ghost use Rattle.rs_session.specs.Gate.{Grows, Sends, SendsAtMost, Submits, TakesPending, Uses, entry_by};
 ghost use Rattle.rs_store.specs.History.{IsLegal};
 
-use rs_intake::{Intake, LineEnd, LineName, MAX_CHANGES, SeatLine};
+use rs_intake::{Intake, LineEnd, LineName, SeatLine};
 use rs_message::{Found, Operation, SubmitFault};
+use rs_queue::MAX_CHANGES;
 use rs_session::Gate;
 use rs_topic::TopicFilter;
 use rs_version::{Seat, Told};
@@ -121,7 +123,7 @@ impl<N: LineName, R: Wait + Copy> SharedGate<N, R> {
 }
 
 impl<N: LineName, R: Wait + Copy> Gate for SharedGate<N, R> {
-    ghost use Rattle.rs_intake.specs.declared.job.TheConstants.{MAX_CHANGES};
+    ghost use Rattle.rs_queue.specs.declared.job.TheConstants.{MAX_CHANGES};
     ghost use Rattle.rs_places.specs.Shared.{Knows};
 
     ghost stands = { Knows N.limit };

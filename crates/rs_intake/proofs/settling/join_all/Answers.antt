@@ -1,6 +1,6 @@
 use Rattle.std.proofs.Common.{◌≡◌, ◌<◌, ◌∷◌, ◌++◌, [], List, length, sym, ap, subst, ◌∙◌, append_assoc}
 use Rattle.std.proofs.lemmas.List.{append-nil}
-use Rattle.rs_intake.specs.declared.rule.SentFrom.{SentFrom}
+use Rattle.rs_queue.specs.declared.rule.SentFrom.{SentFrom}
 use Rattle.rs_intake.specs.Lines.{Closed}
 use Rattle.rs_intake.specs.Settling.{Covers}
 use Rattle.rs_intake.proofs.Sums.{covers_more, no_more}

@@ -2,9 +2,9 @@ use Rattle.std.proofs.Common.{rules, IsSome, ◌≡◌, ◌≤◌, ◌^◌, ⊎_
 use Rattle.rs_message.specs.declared.entry.Entry.{Entry}
 use Rattle.rs_store.specs.History.{SerialsRise}
 use Rattle.rs_version.specs.Writer.{kept_of}
-use Rattle.rs_intake.specs.declared.job.Job.{Job}
-use Rattle.rs_intake.specs.declared.job.TheConstants.{MAX_CHANGES}
-use Rattle.rs_intake.specs.QueueRule.{IsPlaced, ends_of, entries_in}
+use Rattle.rs_queue.specs.declared.job.Job.{Job}
+use Rattle.rs_queue.specs.declared.job.TheConstants.{MAX_CHANGES}
+use Rattle.rs_queue.specs.QueueRule.{IsPlaced, ends_of, entries_in}
 use Rattle.rs_intake.specs.declared.cause.Cause.TheVariants.{AllEnded, MostTaken, QueueGone}
 use Rattle.rs_intake.proofs.Done.{IsUnderWay, none_taken, one_more, written_same}
 use Rattle.rs_intake.proofs.Causes.{all_ended, cause_same, placed_first}

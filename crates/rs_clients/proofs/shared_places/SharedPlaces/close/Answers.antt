@@ -1,6 +1,7 @@
 use Rattle.std.proofs.Common.{length, ap, arith}
 use Rattle.std.proofs.lemmas.List.Elements.{All-push}
-use Rattle.rs_intake.specs.Lines.{AreOfLine, Closed, IsClosed}
+use Rattle.rs_queue.specs.Changes.{AreOfLine}
+use Rattle.rs_intake.specs.Lines.{Closed, IsClosed}
 use Rattle.rs_places.proofs.Starting.{length_more}
 use Rattle.rs_clients.proofs.shared_places.SharedPlaces.close.Goals as goal
 

@@ -1,5 +1,6 @@
 use Rattle.std.specs.Prelude.{◌≡◌, ◌+◌, ◌≤◌, All, length, vec_capacity}
-use Rattle.rs_intake.specs.Lines.{AreOfLine, IsClosed}
+use Rattle.rs_queue.specs.Changes.{AreOfLine}
+use Rattle.rs_intake.specs.Lines.{IsClosed}
 use Rattle.rs_clients.proofs.shared_places.SharedPlaces.close.Given as goal
 
 abbrev pub invariant-loop-place : goal.invariant-loop-place

@@ -1,5 +1,5 @@
 use Rattle.std.proofs.Common.{rules}
-use Rattle.rs_intake.proofs.Queues.{line_none}
+use Rattle.rs_queue.proofs.Queues.{line_none}
 use Rattle.rs_intake.proofs.line.LineSender.new.Goals as goal
 
 pub invariant_of-result : goal.invariant_of-result

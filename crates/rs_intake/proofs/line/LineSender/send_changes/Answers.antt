@@ -1,11 +1,10 @@
 use Rattle.std.proofs.Common.{rules, ℕ, ◌∙◌, List, length, sym, ap, subst, length-append, arith}
 use Rattle.crossbeam_channel.specs.Claims.{view as known_by}
 use Rattle.rs_message.specs.declared.entry.Entry.{Entry}
-use Rattle.rs_intake.specs.Changes.{AreOf}
-use Rattle.rs_intake.specs.Lines.{AreOfLine}
-use Rattle.rs_intake.specs.QueueRule.{AreAbove}
-use Rattle.rs_intake.specs.declared.rule.PassView.{PassView}
-use Rattle.rs_intake.proofs.Queues.{line_more}
+use Rattle.rs_queue.specs.Changes.{AreOf, AreOfLine}
+use Rattle.rs_queue.specs.QueueRule.{AreAbove}
+use Rattle.rs_queue.specs.declared.rule.PassView.{PassView}
+use Rattle.rs_queue.proofs.Queues.{line_more}
 use Rattle.rs_intake.proofs.line.LineSender.send_changes.Goals as goal
 
 pub invariant_of-self : goal.invariant_of-self

@@ -1,10 +1,11 @@
 use Rattle.std.proofs.Common.{◌≡◌, ◌++◌, ℕ, List, length, sym, ap, subst, ◌∙◌, arith}
 use Rattle.std.proofs.lemmas.Bool.Decides.{nat_tests}
 use Rattle.rs_message.specs.declared.entry.Entry.{Entry}
-use Rattle.rs_intake.specs.Changes.{AreOf}
-use Rattle.rs_intake.specs.Lines.{IsSeatLine, numbered}
-use Rattle.rs_intake.specs.QueueRule.{AreAbove}
-use Rattle.rs_intake.proofs.Ahead.{each_plain, numbered_of, seat_above, seat_sends}
+use Rattle.rs_queue.specs.Changes.{AreOf, numbered}
+use Rattle.rs_intake.specs.Lines.{IsSeatLine}
+use Rattle.rs_queue.specs.QueueRule.{AreAbove}
+use Rattle.rs_queue.proofs.Numbered.{numbered_of}
+use Rattle.rs_intake.proofs.Ahead.{each_plain, seat_above, seat_sends}
 use Rattle.rs_intake.proofs.Sums.{no_more}
 use Rattle.rs_intake.proofs.line.SeatLine.expect.Goals as goal
 

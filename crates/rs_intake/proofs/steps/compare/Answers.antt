@@ -1,5 +1,0 @@
-use Rattle.rs_intake.proofs.Queues.{learns}
-use Rattle.rs_intake.proofs.steps.compare.Goals as goal
-
-pub learn_as-requires-clause-rule : goal.learn_as-requires-clause-rule
-learn_as-requires-clause-rule c = learns _ _ c.requires.takes

@@ -1,0 +1,4 @@
+pub mod Changes
+pub mod Law
+pub mod Parts
+pub mod QueueRule
