@@ -2,7 +2,8 @@
 
 use crate::script::{Counts, Course, Script};
 use rs_server::Served;
-use rs_test_kit::{Behavior, Call, ServeResult, joined};
+use rs_server_kit::ServeResult;
+use rs_test_kit::{Behavior, Call, joined};
 use std::alloc::{AllocError, Global};
 use std::sync::Arc;
 use std::test::Fail;

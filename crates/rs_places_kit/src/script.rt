@@ -5,7 +5,8 @@ ghost use Rattle.rs_places.specs.Turns.{TakesBack, none_given};
 
 use rs_places::{Connection, Turn};
 use rs_server::{Clock, Counted, Refusals, ServeFault, Served};
-use rs_test_kit::{Behavior, FaultyStream, ServeResult};
+use rs_server_kit::ServeResult;
+use rs_test_kit::{Behavior, FaultyStream};
 use std::alloc::{AllocError, Global};
 use std::collections::VecDeque;
 use std::io;

@@ -14,7 +14,7 @@ use rs_session::{Gate, LocalGate};
 use rs_store::{Catalogue, MapCatalogue, TopicLimit};
 use rs_topic::{TopicFilter, TopicName};
 use rs_tree::TreeCatalogue;
-use rs_version::Blank;
+use rs_version_kit::blank_store;
 use shared::check_shared_gates;
 use std::alloc::Global;
 use std::marker::Brand;
@@ -87,8 +87,7 @@ fn each_gate_answers_what_it_took(rt: HostRuntime) -> Result<(), Fail> {
     assert!(rt; takes_and_answers(alloc, &mut local_gate::<MapCatalogue>(alloc)?, &all));
     assert!(rt; takes_and_answers(alloc, &mut local_gate::<TreeCatalogue>(alloc)?, &all));
     assert!(rt; takes_and_answers(alloc, &mut OwnGate::new(alloc)?, &all));
-    let limit = TopicLimit::new(7).ok_or("the limit")?;
     let places = PlaceCount::new(2).ok_or("two places")?;
-    let blank = Blank::new(alloc, limit, places)?;
+    let blank = blank_store(alloc, 7, places)?;
     check_shared_gates::<Brand, _>(rt, alloc, blank, blank_queue(alloc, places)?, &all)
 }

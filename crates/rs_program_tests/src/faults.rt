@@ -4,12 +4,10 @@
 use crate::answers::local_gate;
 use rs_program::OwnGate;
 use rs_server::{ConnectionId, Counted, Moments, Served, serve};
+use rs_server_kit::{FAULTS, FIRST, Fault, SECOND, ServeResult, first_replies, second_replies};
 use rs_session::Gate;
 use rs_store::MapCatalogue;
-use rs_test_kit::{
-    Behavior, Call, FAULTS, FIRST, Fault, FaultyStream, SECOND, ServeResult, first_replies,
-    second_replies,
-};
+use rs_test_kit::{Behavior, Call, FaultyStream};
 use std::alloc::Global;
 use std::process::Abort;
 use std::sync::Wait;

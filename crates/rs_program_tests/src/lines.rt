@@ -2,7 +2,8 @@
 
 use rs_program::{PipeFault, pipe, serve_bytes};
 use rs_server::Served;
-use rs_test_kit::{REFUSING_GATE, REPLAYED};
+use rs_server_kit::REFUSING_GATE;
+use rs_test_kit::REPLAYED;
 use std::alloc::Global;
 use std::sync::Wait;
 use std::test::Fail;

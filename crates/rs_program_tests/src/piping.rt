@@ -2,7 +2,8 @@
 
 use rs_program::{OwnGate, PipeFault, pipe};
 use rs_server::Served;
-use rs_test_kit::{Behavior, Call, FIRST, FaultyStream};
+use rs_server_kit::FIRST;
+use rs_test_kit::{Behavior, Call, FaultyStream};
 use std::alloc::Global;
 use std::process::Abort;
 use std::sync::Wait;

@@ -3,7 +3,8 @@
 use rs_message::SubmitFault;
 use rs_program::pipe;
 use rs_server::Served;
-use rs_test_kit::{CONNACK, CONNECT, Refusing, joined};
+use rs_server_kit::Refusing;
+use rs_test_kit::{CONNACK, CONNECT, joined};
 use std::alloc::Global;
 use std::process::Abort;
 use std::sync::Wait;

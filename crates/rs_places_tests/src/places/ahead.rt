@@ -2,7 +2,8 @@
 
 use rs_places_kit::{PLAIN, PUBLISHES, Row, as_wanted, ending, plain_row, play};
 use rs_server::{ServeFault, Served};
-use rs_test_kit::{Behavior, CONNACK, Call, SECOND, ServeResult};
+use rs_server_kit::{SECOND, ServeResult};
+use rs_test_kit::{Behavior, CONNACK, Call};
 use std::test::Fail;
 
 /// CONNECT, three retained PUBLISH of QoS 1.

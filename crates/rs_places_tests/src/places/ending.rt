@@ -6,12 +6,13 @@ use rs_intake::{BlankQueue, LineName, Queue, blank_queue};
 use rs_message::PlaceCount;
 use rs_places::{PlaceEnd, Turn, open_gates, run_places};
 use rs_places_kit::{
-    CLOSED, Counts, PUBLISHES, SUBSCRIBES, Script, blank_store, comes, ending, later, plain_row,
-    put_rows, scripts,
+    CLOSED, Counts, PUBLISHES, SUBSCRIBES, Script, comes, ending, later, plain_row, put_rows,
+    scripts,
 };
 use rs_server::Served;
 use rs_test_kit::SUBSCRIBED;
 use rs_version::{Blank, VersionWriter};
+use rs_version_kit::blank_store;
 use std::alloc::Global;
 use std::marker::Brand;
 use std::sync::atomic::Ordering;

@@ -2,9 +2,8 @@
 
 use rs_places_kit::{PLAIN, PUBLISHES, Row, as_wanted, ending, plain_row, play};
 use rs_server::Served;
-use rs_test_kit::{
-    Behavior, CONNACK, FAULTS, FIRST, Fault, SECOND, ServeResult, first_replies, second_replies,
-};
+use rs_server_kit::{FAULTS, FIRST, Fault, SECOND, ServeResult, first_replies, second_replies};
+use rs_test_kit::{Behavior, CONNACK};
 use std::test::Fail;
 
 const CLOSED: ServeResult = Ok(Served::ClientClosed);

@@ -6,7 +6,8 @@
 
 use rs_places_kit::{NONE, PLAIN, PUBLISHES, Row, SUBSCRIBES, as_wanted, ending, plain_row, play};
 use rs_server::Served;
-use rs_test_kit::{CONNACK, CONNECT, REPLAYED, ServeResult};
+use rs_server_kit::ServeResult;
+use rs_test_kit::{CONNACK, CONNECT, REPLAYED};
 use std::alloc::{AllocError, Global};
 use std::test::Fail;
 

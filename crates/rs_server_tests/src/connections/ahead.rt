@@ -3,9 +3,10 @@
 use super::expecting::{Announced, Expecting};
 use rs_message::SubmitFault;
 use rs_server::{Clock, ConnectionId, Counted, Moments, ServeFault, Served, serve};
+use rs_server_kit::{REFUSING_GATE, Refusing};
 use rs_session::{Gate, LocalGate};
 use rs_store::{MapCatalogue, TopicLimit};
-use rs_test_kit::{CONNECT, REFUSING_GATE, Refusing, joined};
+use rs_test_kit::{CONNECT, joined};
 use std::alloc::{AllocError, Global};
 use std::io;
 use std::io::Read;

@@ -1,7 +1,8 @@
 //! Clients that send and take bytes slowly, or fail.
 
 use rs_server::{ConnectionId, Counted, Moments, ServeFault, Served, serve};
-use rs_test_kit::{Behavior, Call, FaultyStream, REFUSING_GATE};
+use rs_server_kit::REFUSING_GATE;
+use rs_test_kit::{Behavior, Call, FaultyStream};
 use std::alloc::{AllocError, Global};
 use std::io;
 use std::io::Write;
