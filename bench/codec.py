@@ -72,7 +72,7 @@ def run(path, task, packet, times):
 def once(times=3):
     """Runs each task a few rounds, and fails if it does not make what is right."""
     for task, what, (packet, decoded, encoded), _ in TASKS:
-        _, total = run(program("rs_trials"), task, packet, times)
+        _, total = run(program("rs_timings"), task, packet, times)
         if total != times * (decoded if task == "decode" else encoded):
             sys.exit(f"bench: {task} {what} made {total}")
 
@@ -96,7 +96,7 @@ def least_micros(paths, task, packet, times, tries=5):
 def is_near(task, what, packet, times, plain):
     """Prints how long the task takes each time; whether that is less than a few times as long as in
     the plain program."""
-    timed = program("rs_trials")
+    timed = program("rs_timings")
     best = least_micros([path for path in (timed, plain) if path], task, packet, times)
     each = f"{task} {what}: {best[timed] / times:.3f} us"
     if plain is None:
