@@ -4,8 +4,8 @@ mod reading;
 mod writing;
 
 use rs_hex::{HexFault, read_hex};
+use rs_test_kit::is_shown;
 use std::alloc::Global;
-use std::test::Fail;
 
 // Lines, and the bytes that they are, if they are hex digits.
 const LINES: &[(&[u8], Option<&[u8]>)] = &[
@@ -38,7 +38,7 @@ fn digits_are_read(rt: HostRuntime) {
 }
 
 #[test]
-fn faults_have_a_text(rt: HostRuntime) -> Result<(), Fail> {
+fn faults_have_a_text(rt: HostRuntime) {
     let rows = [
         (
             HexFault::NotHex,
@@ -50,8 +50,6 @@ fn faults_have_a_text(rt: HostRuntime) -> Result<(), Fail> {
         ),
     ];
     for (fault, text) in rows {
-        let shown = format!(in rt.alloc(); "{fault}")?;
-        assert!(rt; shown.as_str() == text);
+        assert!(rt; is_shown(rt.alloc(), &fault, text));
     }
-    Ok(())
 }

@@ -7,7 +7,7 @@ mod running;
 mod script;
 
 pub use rows::{
-    NONE, PLAIN, PUBLISHES, Row, SMOOTH, SUBSCRIBES, assigned, ending, later, plain_row, put_rows,
+    NONE, PLAIN, PUBLISHES, Row, SMOOTH, SUBSCRIBES, assigned, cut_row, ending, later, plain_row, put_rows,
     scripts,
 };
 pub use running::{Played, as_wanted, outcome, play, run};

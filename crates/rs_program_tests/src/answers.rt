@@ -2,34 +2,19 @@
 
 mod shared;
 
-ghost use Rattle.std.specs.Prelude.{◌≡◌, false, IfSome};
-ghost use Rattle.rs_message.specs.Messages.{is_sweep};
-
-use bytes::Bytes;
 use rs_intake::blank_queue;
-use rs_message::{Found, Message, Operation, PlaceCount};
-use rs_packet::{Properties, Qos};
+use rs_message::{Found, PlaceCount};
+use rs_message_kit::set;
 use rs_program::OwnGate;
 use rs_session::{Gate, LocalGate};
 use rs_store::{Catalogue, MapCatalogue, TopicLimit};
-use rs_topic::{TopicFilter, TopicName};
+use rs_topic::TopicFilter;
 use rs_tree::TreeCatalogue;
 use rs_version_kit::blank_store;
 use shared::check_shared_gates;
 use std::alloc::Global;
 use std::marker::Brand;
 use std::test::Fail;
-
-/// Sets a/b to x.
-fn change(alloc: Global) -> Option<Operation>
-    ensures { IfSome result (λ o. is_sweep o ≡ false) }
-{
-    let topic = TopicName::read(alloc, b"a/b").ok()?;
-    let payload = Bytes::from_static(b"x");
-    let properties = Properties::none();
-    let message = Message::new(payload, Qos::AtMostOnce, 0, None, properties);
-    Some(Operation::Set(Found::new(alloc, topic, message).ok()?))
-}
 
 /// Whether a/b is all that was found, and has x.
 fn is_x(found: &[Found]) -> bool {
@@ -43,7 +28,7 @@ fn is_x(found: &[Found]) -> bool {
 }
 
 fn sets<G: Gate>(alloc: Global, gate: &mut G) -> bool {
-    match change(alloc) {
+    match set(alloc, b"a/b", b"x") {
         Some(change) => gate.submit(change).is_ok(),
         None => false,
     }

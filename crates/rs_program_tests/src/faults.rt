@@ -4,10 +4,12 @@
 use crate::answers::local_gate;
 use rs_program::OwnGate;
 use rs_server::{ConnectionId, Counted, Moments, Served, serve};
-use rs_server_kit::{FAULTS, FIRST, Fault, SECOND, ServeResult, first_replies, second_replies};
+use rs_server_kit::{
+    FAULTS, FIRST, FIRST_REPLIES, Fault, SECOND, ServeResult, first_written, second_replies,
+};
 use rs_session::Gate;
 use rs_store::MapCatalogue;
-use rs_test_kit::{Behavior, Call, FaultyStream};
+use rs_test_kit::{Behavior, CONNACK, Call, FaultyStream, cut_off, is_joined};
 use std::alloc::Global;
 use std::process::Abort;
 use std::sync::Wait;
@@ -26,7 +28,7 @@ fn is_served<H: Wait, G: Gate>(
     gate: G,
     streams: (&'static [u8], Behavior),
     ends: ServeResult,
-    written: &[u8],
+    written: [&[u8]; 2],
 ) -> (bool, G) {
     let (inner, behavior) = streams;
     let mut reader = Counted::new(FaultyStream { inner, behavior });
@@ -40,7 +42,7 @@ fn is_served<H: Wait, G: Gate>(
     let mut clock = Moments::new(0, Vec::new(alloc));
     let (end, gate) = serve(rt, alloc, &mut reader, &mut writer, gate, ID, &mut clock);
     let bytes = writer.into_inner().inner;
-    (end == ends && bytes.as_slice() == written, gate)
+    (end == ends && is_joined(&bytes, &written), gate)
 }
 
 // Whether the two connections go so, if this call of the first one fails.
@@ -51,11 +53,11 @@ fn both_are_served<H: Wait, G: Gate + Drop>(
     fault: &Fault,
     behavior: Behavior,
 ) -> bool {
-    let written = first_replies(fault, behavior.at);
+    let written = cut_off(FIRST_REPLIES, first_written(fault, behavior.at));
     let (first, gate) = is_served(rt, alloc, gate, (FIRST, behavior), fault.ends, written);
     let none = Behavior { at: 0, ..behavior };
     let end = Ok(Served::EndOfInput);
-    let got = second_replies(fault);
+    let got = [CONNACK, second_replies(fault)];
     let (second, _gate) = is_served(rt, alloc, gate, (SECOND, none), end, got);
     first && second
 }

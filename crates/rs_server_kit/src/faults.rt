@@ -8,9 +8,8 @@ use rs_test_kit::{Call, REPLAYED, SUBSCRIBED};
 pub const FIRST: &[u8] =
     b"\x10\x0E\x00\x04MQTT\x05\x02\x00\x3C\x00\x00\x01a\x33\x09\x00\x03a/b\x00\x01\x00x\xE0\x00";
 
-/// CONNACK (15 bytes), PUBACK.
-const FIRST_REPLIES: &[u8] =
-    b"\x20\x0D\x00\x00\x0A\x21\x00\x10\x27\x00\x04\x00\x00\x2A\x00\x40\x02\x00\x01";
+/// What it is answered behind CONNACK (15 bytes): PUBACK (4 bytes).
+pub const FIRST_REPLIES: &[u8] = b"\x40\x02\x00\x01";
 
 /// What the second one sends: CONNECT, SUBSCRIBE.
 pub const SECOND: &[u8] =
@@ -124,17 +123,17 @@ pub const FAULTS: [Fault; 10] = [
     },
 ];
 
-/// What is written to the first connection if the call of this number fails.
-pub fn first_replies(fault: &Fault, at: usize) -> &'static [u8] {
+/// How many bytes of CONNACK and of the replies behind it are written to the first connection if the call of this number fails.
+pub fn first_written(fault: &Fault, at: usize) -> usize {
     let more = if fault.call == Call::Write {
         at.saturating_sub(fault.first)
     } else {
         0
     };
-    &FIRST_REPLIES[..fault.written.saturating_add(more).min(19)]
+    fault.written.saturating_add(more)
 }
 
-/// What is written to the second one.
+/// What is written to the second one behind CONNACK.
 pub fn second_replies(fault: &Fault) -> &'static [u8] {
     if fault.is_kept { REPLAYED } else { SUBSCRIBED }
 }

@@ -5,5 +5,7 @@
 mod faults;
 mod gate;
 
-pub use faults::{FAULTS, FIRST, Fault, SECOND, ServeResult, first_replies, second_replies};
+pub use faults::{
+    FAULTS, FIRST, FIRST_REPLIES, Fault, SECOND, ServeResult, first_written, second_replies,
+};
 pub use gate::{REFUSING_GATE, Refusing};

@@ -1,5 +1,6 @@
 //! Worked examples, and each public call once with ample memory.
 
+use rs_test_kit::is_shown;
 use rs_topic::{
     MAX_LEVELS, MAX_TEXT_SIZE, Text, TopicFault, TopicFilter, TopicName, level_law, match_law,
     order_law, reading_law,
@@ -350,15 +351,11 @@ static SHOWN: [Shown; 9] = [
     },
 ];
 
-fn is_shown(alloc: Global, row: &Shown) -> Result<bool, Fail> {
-    let shown = format!(in alloc; "{}", row.fault)?;
-    Ok(shown.as_str() == row.text && row.fault.code() == row.code)
-}
-
 #[test]
 fn faults_have_codes_and_texts(rt: HostRuntime) -> Result<(), Fail> {
     for row in SHOWN.iter() {
-        assert!(rt; is_shown(rt.alloc(), row)?);
+        assert!(rt; row.fault.code() == row.code);
+        assert!(rt; is_shown(rt.alloc(), &row.fault, row.text));
     }
     Ok(())
 }

@@ -1,38 +1,19 @@
 //! Worked examples: what is given, in which order, and with which identifiers.
 
-use bytes::Bytes;
-use rs_message::{Found, Message};
-use rs_packet::{PacketId, Properties, Qos, RECEIVE_MAXIMUM, SubscriptionId, encode};
+use rs_message::Found;
+use rs_message_kit::found;
+use rs_packet::{PacketId, Qos, RECEIVE_MAXIMUM, SubscriptionId, encode};
 use rs_test_kit::is_shown;
-use rs_topic::TopicName;
 use rs_window::{Ack, Inbound, MAX_QUOTA, MAX_WAITING, Outgoing, Window, WindowFault};
 use std::alloc::Global;
 use std::process::Abort;
 use std::test::Fail;
 
-/// A retained message that was received at 0. Its payload is not empty, and short.
-#[tactic(auto, using(rs_message::proofs::Sizes::small_message))]
-fn found(
-    alloc: Global,
-    topic: &[u8],
-    payload: &'static [u8],
-    qos: Qos,
-    expiry: Option<u32>,
-) -> Option<Found> {
-    if payload.is_empty() || payload.len() > 1000 {
-        return None;
-    }
-    let topic = TopicName::read(alloc, topic).ok()?;
-    let payload = Bytes::from_static(payload);
-    let message = Message::new(payload, qos, 0, expiry, Properties::none());
-    Found::new(alloc, topic, message).ok()
-}
-
 /// `count` messages under one topic, at this QoS.
 fn many(alloc: Global, topic: &[u8], count: u32, qos: Qos) -> Option<Vec<Found>> {
     let mut all = Vec::new(alloc);
     for _ in 0..count {
-        all.push(found(alloc, topic, b"1", qos, None)?).ok()?;
+        all.push(found(alloc, topic, b"1", qos, 0, None)?).ok()?;
     }
     Some(all)
 }
@@ -101,7 +82,7 @@ fn queue_many(
 }
 
 fn queue_one(alloc: Global, window: &mut Window, one: &One) -> Result<Answer, Fail> {
-    let found = found(alloc, one.topic, one.payload, one.qos, one.expiry).ok_or("no memory")?;
+    let found = found(alloc, one.topic, one.payload, one.qos, 0, one.expiry).ok_or("no memory")?;
     let mut all = Vec::new(alloc);
     all.push(found)?;
     let subscription = SubscriptionId::new(one.subscription);

@@ -1,6 +1,7 @@
 //! The codes and texts of faults.
 
 use rs_packet::PacketFault;
+use rs_test_kit::is_shown;
 
 // Each fault, its number, and its text.
 const FAULTS: &[(PacketFault, u8, &str)] = &[
@@ -31,17 +32,10 @@ const FAULTS: &[(PacketFault, u8, &str)] = &[
     ),
 ];
 
-fn is_as_listed(rt: &HostRuntime, listed: &(PacketFault, u8, &str)) -> bool {
-    let fault = listed.0;
-    match format!(in rt.alloc(); "{fault}") {
-        Ok(shown) => shown.as_str() == listed.2 && fault.code() == listed.1,
-        Err(_) => false,
-    }
-}
-
 #[test]
 fn faults_have_codes_and_texts(rt: HostRuntime) {
-    for listed in FAULTS {
-        assert!(rt; is_as_listed(&rt, listed));
+    for (fault, code, text) in FAULTS {
+        assert!(rt; fault.code() == *code);
+        assert!(rt; is_shown(rt.alloc(), fault, text));
     }
 }

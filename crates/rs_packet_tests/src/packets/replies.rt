@@ -1,6 +1,7 @@
 //! Replies that are written, other than a PUBLISH.
 
 use rs_packet::*;
+use rs_test_kit::{joined, limits};
 use rs_topic::Text;
 use std::alloc::{AllocError, Global};
 use std::test::Fail;
@@ -83,27 +84,23 @@ fn is_written(rt: &HostRuntime, plain: Plain, front: &[u8], size: usize) -> bool
     }
 }
 
-// Replies and their bytes.
-const WRITTEN: &[(Plain<'static>, &[u8])] = &[
-    (
-        Plain::Accepted(false, b""),
-        &[
-            0x20, 0x0D, 0, 0, 0x0A, 0x21, 0, 0x10, 0x27, 0, 4, 0, 0, 0x2A, 0,
-        ],
-    ),
+// Replies that accept, and their bytes up to the limits.
+const ACCEPTED: &[(Plain<'static>, &[u8])] = &[
+    (Plain::Accepted(false, b""), &[0x20, 0x0D, 0, 0, 0x0A]),
     (
         Plain::Accepted(false, b"rs1-1"),
         &[
-            0x20, 0x15, 0, 0, 0x12, 0x12, 0, 5, 0x72, 0x73, 0x31, 0x2D, 0x31, 0x21, 0, 0x10, 0x27,
-            0, 4, 0, 0, 0x2A, 0,
+            0x20, 0x15, 0, 0, 0x12, 0x12, 0, 5, 0x72, 0x73, 0x31, 0x2D, 0x31,
         ],
     ),
     (
         Plain::Accepted(true, b""),
-        &[
-            0x20, 0x12, 0, 0, 0x0F, 0x11, 0, 0, 0, 0, 0x21, 0, 0x10, 0x27, 0, 4, 0, 0, 0x2A, 0,
-        ],
+        &[0x20, 0x12, 0, 0, 0x0F, 0x11, 0, 0, 0, 0],
     ),
+];
+
+// Other replies and their bytes.
+const WRITTEN: &[(Plain<'static>, &[u8])] = &[
     (Plain::Refused(0x84), &[0x20, 3, 0, 0x84, 0]),
     (Plain::Acknowledgement(0x40, 9, 0), &[0x40, 2, 0, 9]),
     (
@@ -126,10 +123,15 @@ const WRITTEN: &[(Plain<'static>, &[u8])] = &[
 ];
 
 #[test]
-fn replies_are_encoded(rt: HostRuntime) {
+fn replies_are_encoded(rt: HostRuntime) -> Result<(), Fail> {
+    for (plain, head) in ACCEPTED {
+        let bytes = joined(rt.alloc(), &[*head, limits()])?;
+        assert!(rt; is_written(&rt, *plain, &bytes, bytes.len()));
+    }
     for (plain, bytes) in WRITTEN {
         assert!(rt; is_written(&rt, *plain, bytes, bytes.len()));
     }
+    Ok(())
 }
 
 #[test]

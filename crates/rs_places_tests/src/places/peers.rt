@@ -61,11 +61,11 @@ fn peer(sent: &'static [u8], replies: &'static [u8]) -> Row<'static> {
 /// kept.
 fn rows(alloc: Global) -> Result<Vec<Row<'static>>, AllocError> {
     let mut rows = Vec::new(alloc);
-    rows.push(plain_row(PLAIN, PUBLISHES, CONNACK))?;
+    rows.push(plain_row(PLAIN, PUBLISHES, NONE))?;
     for (sent, replies) in PEERS {
         rows.push(peer(sent, replies))?;
     }
-    rows.push(plain_row(PLAIN, PUBLISHES, CONNACK))?;
+    rows.push(plain_row(PLAIN, PUBLISHES, NONE))?;
     rows.push(plain_row(PLAIN, SUBSCRIBES, REPLAYED))?;
     Ok(rows)
 }

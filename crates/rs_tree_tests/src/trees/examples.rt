@@ -1,12 +1,12 @@
 //! Worked examples over both catalogues, and each public call once with ample memory.
 
-ghost use Rattle.std.specs.Prelude.{◌≡◌, false, IfOk};
+ghost use Rattle.std.specs.Prelude.{◌≡◌, false, IfSome};
 ghost use Rattle.rs_message.specs.Messages.{is_sweep};
 
-use super::{origin, set_at};
 use rs_message::{Entry, Operation, Origin};
+use rs_message_kit::{clear, origin, set_at};
 use rs_store::{CalmCatalogue, Catalogue, MapCatalogue, Refusal, TopicLimit};
-use rs_topic::{TopicFilter, TopicName};
+use rs_topic::TopicFilter;
 use rs_tree::TreeCatalogue;
 use std::alloc::Global;
 use std::process::Abort;
@@ -45,17 +45,14 @@ enum Step {
     Says(Fact),
 }
 
-/// What a Set or a Clear does. An error at a Sweep.
-fn operation_of(alloc: Global, change: Change) -> Result<Operation, Fail>
-    ensures { IfOk result (λ o. is_sweep o ≡ false) }
+/// What a Set or a Clear does. `None` at a Sweep.
+fn operation_of(alloc: Global, change: Change) -> Option<Operation>
+    ensures { IfSome result (λ o. is_sweep o ≡ false) }
 {
     match change {
-        Change::Set(_, topic, received, expiry) => {
-            let topic = TopicName::read(alloc, topic)?;
-            Ok(set_at(alloc, topic, b"x", received, expiry)?)
-        }
-        Change::Clear(_, topic) => Ok(Operation::Clear(TopicName::read(alloc, topic)?)),
-        Change::Sweep(_, _) => Err(Fail::from("a Sweep")),
+        Change::Set(_, topic, received, expiry) => set_at(alloc, topic, b"x", received, expiry),
+        Change::Clear(_, topic) => clear(alloc, topic),
+        Change::Sweep(_, _) => None,
     }
 }
 
@@ -81,7 +78,7 @@ fn add<C: Catalogue>(
     change: Change,
 ) -> Result<Option<Refusal>, Fail> {
     let origin = origin_of(change)?;
-    let operation = operation_of(alloc, change)?;
+    let operation = operation_of(alloc, change).ok_or("no operation")?;
     Ok(refusal(store.add(Entry { origin, operation })))
 }
 
@@ -89,7 +86,7 @@ fn entry_of(alloc: Global, change: Change) -> Result<Entry, Fail> {
     let origin = origin_of(change)?;
     let operation = match change {
         Change::Sweep(_, moment) => Operation::Sweep(moment),
-        other => operation_of(alloc, other)?,
+        other => operation_of(alloc, other).ok_or("no operation")?,
     };
     Ok(Entry { origin, operation })
 }
