@@ -1,4 +1,4 @@
-use Rattle.rs_program_tests.proofs.answers.each_gate_answers_what_it_took.Given as goal
+use Rattle.rs_pipe_tests.proofs.answers.each_gate_answers_what_it_took.Given as goal
 
 -- the store and the queue that were just made
 abbrev pub ghosts-check_shared_gates-N-StoreName : goal.ghosts-check_shared_gates-N-StoreName
