@@ -28,7 +28,7 @@ fn line(alloc: Global, parts: &[&[u8]]) -> Result<String, AllocError> {
         let digits = format!(in alloc; "{byte:02x}")?;
         line.push_str(digits.as_str())?;
     }
-    line.push('\n')?;
+    line.push_str("\n")?;
     Ok(line)
 }
 

@@ -1,6 +1,6 @@
 //! Both catalogues over one list of entries, drawn by a fixed generator.
 
-ghost use Rattle.std.specs.Prelude.{◌≡◌, ◌<◌, false, IfOk, IfSome};
+ghost use Rattle.std.specs.Prelude.{◌≡◌, ◌<◌, false, IfSome};
 ghost use Rattle.rs_message.specs.Messages.{is_sweep};
 
 use super::joined::{
