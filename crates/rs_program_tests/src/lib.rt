@@ -1,5 +1,5 @@
-//! Tests of command lines, and of what ends the program, by the public calls of `rs_program`. They stand in a crate of their own, so that it is
-//! not proved a second time with them.
+//! Tests of command lines, and of what ends the program, by the public calls of `rs_program`. They stand in a crate of their own, so that
+//! it is not proved a second time with them.
 #![tactic(auto)]
 
 #[cfg(test)]

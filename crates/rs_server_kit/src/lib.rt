@@ -1,5 +1,5 @@
-//! What tests of `rs_server` and of the crates above it share: a table of what one failing call comes to, and a gate that refuses all. It is
-//! a crate of its own so that nothing of it is proved twice.
+//! What tests of `rs_server` and of the crates above it share: a table of what one failing call comes to, and a gate that refuses all. It
+//! is a crate of its own so that nothing of it is proved twice.
 #![tactic(auto)]
 
 mod faults;

@@ -69,8 +69,8 @@ const PLAIN: Script<'static> = Script {
     room: 1000,
 };
 
-/// What a connection is answered: its end, the replies in two parts, after which of their bytes they were flushed, and how many reads and writes
-/// failed.
+/// What a connection is answered: its end, the replies in two parts, after which of their bytes they were flushed, and how many reads and
+/// writes failed.
 #[derive(Clone, Copy)]
 struct Outcome<'a> {
     served: Result<Served, ServeFault>,
