@@ -32,7 +32,7 @@ FAILED = re.compile(
 )
 REASON = re.compile(r"// (?:Never|Refused): ")
 # Tests and examples refuse on purpose.
-TRIES = ("_tests", "_kit", "rs_trials", "rs_examples")
+TRIES = ("_tests", "_kit", "rs_refusals", "rs_timings", "rs_examples")
 
 
 def sources():
