@@ -1,7 +1,8 @@
 //! How much each read asks for.
 
 use rs_server::{ConnectionId, Counted, Moments, ServeFault, Served, serve};
-use rs_test_kit::{CONNECT, REFUSING_GATE};
+use rs_server_kit::REFUSING_GATE;
+use rs_test_kit::CONNECT;
 use std::alloc::{AllocError, Global};
 use std::io;
 use std::io::Read;
