@@ -78,9 +78,7 @@ fn work<H: Clock + Wait + Threads + Copy + Send + Sync + 'static, R: Read>(
         ("decode", [rounds]) => codec::decoding(rt, alloc, input, number(rounds)?),
         ("encode", [rounds]) => codec::encoding(rt, alloc, input, number(rounds)?),
         ("keep_versions", [limit]) => versions::keep(rt, alloc, topics(limit)?),
-        ("window", [count, rounds]) => {
-            window::work(alloc, number(count)?, number(rounds)?)
-        }
+        ("window", [count, rounds]) => { window::work(alloc, number(count)?, number(rounds)?) }
         ("versions", [limit, seats, millis]) => {
             versions::puts(rt, alloc, topics(limit)?, number(seats)?, number(millis)?)
         }

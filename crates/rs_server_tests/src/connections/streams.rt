@@ -203,7 +203,10 @@ fn the_longest_identifier_is_assigned(rt: HostRuntime) {
     };
     let wanted = Outcome {
         served: Ok(Served::EndOfInput),
-        output: [b"\x20\x29\x00\x00\x26\x12\x00\x19rs64-18446744073709551615".as_slice(), limits()],
+        output: [
+            b"\x20\x29\x00\x00\x26\x12\x00\x19rs64-18446744073709551615".as_slice(),
+            limits(),
+        ],
         flushed_at: None,
         failures: (0, 0),
     };

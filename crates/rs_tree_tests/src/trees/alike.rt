@@ -3,13 +3,13 @@
 ghost use Rattle.std.specs.Prelude.{◌≡◌, ◌<◌, false, IfSome};
 ghost use Rattle.rs_message.specs.Messages.{is_sweep};
 
+use super::check_as_many;
 use super::joined::{
     check_cleared_chunks, check_deep, check_flat_list, check_lone_messages, check_narrow_chunks,
     check_swept_chunks,
 };
 use super::lengths::check_lengths;
 use super::wide::{check_grown, check_swept_grown};
-use super::check_as_many;
 use rs_message::{Entry, Operation};
 use rs_message_kit::{clear, origin, set_at};
 use rs_store::{CalmCatalogue, Catalogue, MapCatalogue, Refusal, TopicLimit};
