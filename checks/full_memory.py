@@ -39,7 +39,7 @@ def settings():
     lines = (ROOT / "contrib/rstored.service").read_text().splitlines()
     given = [line.removeprefix("Environment=") for line in lines if line.startswith("Environment=")]
     wanted(given, "the service adds nothing to the environment")
-    return dict(word.split("=") for word in given)
+    return dict(word.split("=", 1) for word in given)
 
 
 def payload(number, size):
