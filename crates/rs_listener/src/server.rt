@@ -57,7 +57,7 @@ impl Server {
     ///
     /// [`Address`](ListenFault::Address) if `address` is not an address, is in use, or may not be bound,
     /// [`NoMemory`](ListenFault::NoMemory) if memory is refused.
-    pub fn bind<H: Net<Listener = TcpListener, Stream = TcpStream>>(
+    pub fn bind<H: Net<Listener = TcpListener, Stream = TcpStream> + Threads>(
         rt: &H,
         alloc: Global,
         address: &str,

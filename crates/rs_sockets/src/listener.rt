@@ -12,6 +12,7 @@ use std::net::{Net, SocketAddr, TcpListener, TcpStream};
 use std::os::fd::AsRawFd;
 use std::sync::Arc;
 use std::sync::atomic::{AtomicU64, Ordering};
+use std::thread::Threads;
 use std::time::{Clock, Duration};
 use std::{io, thread};
 
@@ -44,14 +45,14 @@ impl Listener {
     /// # Errors
     ///
     /// If `address` is not an address, is in use, or may not be bound, or if memory is refused.
-    pub fn bind<H: Net<Listener = TcpListener, Stream = TcpStream>>(
+    pub fn bind<H: Net<Listener = TcpListener, Stream = TcpStream> + Threads>(
         rt: &H,
         alloc: Global,
         address: &str,
         connections: u64,
         idle: Option<Duration>,
     ) -> io::Result<Listener> {
-        let lookers = Arc::new(alloc, Lookers::of_processors()).map_err(|_| AllocError)?;
+        let lookers = Arc::new(alloc, Lookers::of_processors(rt)).map_err(|_| AllocError)?;
         let socket = TcpListener::bind(rt, address)?;
         // std asks for 128. If the system refuses more, those stand.
         let _ = listen(socket.as_raw_fd(), BACKLOG);

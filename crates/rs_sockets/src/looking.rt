@@ -4,11 +4,12 @@ ghost use Rattle.std.specs.Prelude.{◌≡◌};
 ghost use Rattle.rs_sockets.specs.Looking.{inner_of};
 
 use crate::patience::{Patience, READ_LOOKS};
-use libc::{_SC_NPROCESSORS_ONLN, sysconf};
 use std::io;
 use std::io::Read;
+use std::num::NonZeroUsize;
 use std::sync::Arc;
 use std::sync::atomic::{AtomicU32, Ordering};
+use std::thread::{Threads, available_parallelism};
 
 /// A stream that tells whether it pays to look at it, and what is seen.
 pub trait Look {
@@ -33,10 +34,11 @@ impl Lookers {
         }
     }
 
-    /// Half as many as there are processors may look. So there is another one for what each waits for: the writer, or a client of the same
-    /// machine. On one processor none looks.
-    pub fn of_processors() -> Lookers {
-        Lookers::new(u32::try_from(sysconf(_SC_NPROCESSORS_ONLN)).unwrap_or(0) / 2)
+    /// Half as many as there are processors that the process may use may look. So there is another one for what each waits for: the writer,
+    /// or a client of the same machine. On one processor, or if it is not known how many there are, none looks.
+    pub fn of_processors<H: Threads>(rt: &H) -> Lookers {
+        let processors = available_parallelism(rt).map_or(0, NonZeroUsize::get);
+        Lookers::new(u32::try_from(processors / 2).unwrap_or(0))
     }
 
     /// Begins to look. False if as many do as may.
