@@ -1,14 +1,11 @@
-"""Times the decoding and encoding of single packets, beside a plain Rust program that does the same
-work with no proof."""
+"""Times the decoding and encoding of single packets."""
 
-import shutil
 import subprocess
 import sys
-import tempfile
 
 from bench.measure import least, with_rounds
 from harness.packets import publish, suback, subscribe
-from harness.program import ROOT, program
+from harness.program import program
 
 TOPIC = b"fleet/000042/state"
 USER = [(b"name-%d" % i, b"a value of the user property %d" % i) for i in range(10)]
@@ -44,26 +41,14 @@ TASKS = (
     ("encode", "a SUBACK of 100 codes", MANY, 1_000_000),
 )
 
-# The ratio that is wanted. Other work on the machine, and the compiler and the allocator that the
-# plain program happens to get, move it by half or more, so that only twice of it is a failure.
-WANTED = 2
+# A payload is cut out of the bytes that came, and not copied: a PUBLISH of 200 kB takes less than
+# so many times as long to be decoded as one of 64 bytes.
 LIMIT = 4
 
 
-def compiled(folder):
-    """The path of the plain program, or None where there is no compiler for it."""
-    compiler = shutil.which("rustc")
-    if compiler is None:
-        return None
-    path = f"{folder}/plain"
-    words = [compiler, "-O", "--edition", "2021", "-o", path, ROOT / "bench" / "plain.rs"]
-    subprocess.run(words, check=True)
-    return path
-
-
-def run(path, task, packet, times):
+def run(task, packet, times):
     """The microseconds of one run, and the sum over what it made."""
-    words = [path, task, str(times)]
+    words = [program("rs_timings"), task, str(times)]
     done = subprocess.run(words, input=packet, stdout=subprocess.PIPE, check=True)
     micros, total = done.stdout.split()
     return int(micros), int(total)
@@ -71,45 +56,34 @@ def run(path, task, packet, times):
 
 def once(times=3):
     """Runs each task a few rounds, and fails if it does not make what is right."""
-    for task, what, (packet, decoded, encoded), _ in TASKS:
-        _, total = run(program("rs_trials"), task, packet, times)
-        if total != times * (decoded if task == "decode" else encoded):
-            sys.exit(f"bench: {task} {what} made {total}")
+    for task, what, sums, _ in TASKS:
+        timed(task, what, sums, times)
 
 
-def least_micros(paths, task, packet, times, tries=5):
-    """The least microseconds that each program took, in turns; all must make the same."""
-    totals = set()
-
-    def in_turn():
-        made = {path: run(path, task, packet, times) for path in paths}
-        totals.update(total for _, total in made.values())
-        return {path: micros for path, (micros, _) in made.items()}
-
-    best = least(tries, in_turn)
-    if len(totals) != 1:
-        sys.exit(f"bench: the programs {task} differently: {sorted(totals)}")
-    return best
+def timed(task, what, sums, times):
+    """The microseconds of one run. Fails if it does not make what is right."""
+    packet, decoded, encoded = sums
+    micros, total = run(task, packet, times)
+    if total != times * (decoded if task == "decode" else encoded):
+        sys.exit(f"bench: {task} {what} made {total}")
+    return micros
 
 
 @with_rounds
-def is_near(task, what, packet, times, plain):
-    """Prints how long the task takes each time; whether that is less than a few times as long as in
-    the plain program."""
-    timed = program("rs_trials")
-    best = least_micros([path for path in (timed, plain) if path], task, packet, times)
-    each = f"{task} {what}: {best[timed] / times:.3f} us"
-    if plain is None:
-        print(f"{each}; no rustc to compare with")
-        return True
-    ratio = best[timed] / best[plain]
-    beside = f"in plain Rust {best[plain] / times:.3f} us; {ratio:.2f} times"
-    print(f"{each}, {beside} ({WANTED} wanted, less than {LIMIT} needed)")
-    return ratio < LIMIT
+def is_cut_out(small, large):
+    """Whether the payload is cut out, by the time that each of the two tasks takes."""
+    return each_micros(*large) < LIMIT * each_micros(*small)
+
+
+def each_micros(task, what, sums, times, tries=5):
+    """Prints how many microseconds the task takes each time, the least of some runs."""
+    each = least(tries, timed, task, what, sums, times) / times
+    print(f"{task} {what}: {each:.3f} us")
+    return each
 
 
 def is_fast():
-    with tempfile.TemporaryDirectory() as folder:
-        plain = compiled(folder)
-        near = [is_near(task, what, sums[0], times, plain) for task, what, sums, times in TASKS]
-        return all(near)
+    small, users, large, *others = TASKS
+    for task in (users, *others):
+        each_micros(*task)
+    return is_cut_out(small, large)

@@ -1,6 +1,6 @@
 """Times the program, a tree of topics and a window on growing inputs, and fails if the time grows
-much faster than the input. Times the codec beside a plain Rust program, too, and puts into a store
-of versions beside seats that read it.
+much faster than the input. Times the codec, too, and puts into a store of versions beside seats
+that read it.
 
 Prints one line a measure. The programs have to be built. With `--once` each is run once, on its
 small input, and nothing is timed: it only has to give what is right.

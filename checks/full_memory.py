@@ -29,8 +29,9 @@ SPACES = {100: 2_000_000, 20_000: 6_000_000, 200_000: 6_000_000}
 REFUSED = 20
 # How many bytes a writer alone has.
 WRITER_SPACE = 64_000_000
-# How many clients are connected and silent, and how many bytes each may take: twice what it takes.
-IDLE, MOST_IDLE = 200, 62_000
+# How many clients are connected and silent, and how many bytes each may take, a quarter more than
+# it takes.
+IDLE, MOST_IDLE = 200, 40_000
 
 
 def settings():
@@ -166,22 +167,27 @@ def a_full_writer_clears():
     def limited():
         resource.setrlimit(resource.RLIMIT_DATA, (WRITER_SPACE, WRITER_SPACE))
 
-    words = [program("rs_trials"), "refuse", "reserve"]
+    words = [program("rs_refusals"), "reserve"]
     options = {"capture_output": True, "text": True, "timeout": PATIENCE}
     run = subprocess.run(words, preexec_fn=limited, **options)
     wanted(run.returncode == 0 and int(run.stdout) > 0, f"{run.stdout!r}, {run.stderr!r} came")
 
 
-def idle_clients_take_little():
-    """Clients that are connected, subscribed and silent."""
-    with Server(places=PLACES, clients=IDLE) as server:
-        before = size_of(server, "VmRSS")
-        clients = [Client(server).connect() for _ in range(IDLE)]
+def size_with_idle(count):
+    """The bytes in memory of a server with so many clients that are connected, subscribed and
+    silent."""
+    with Server(places=PLACES, clients=count) as server:
+        clients = [Client(server).connect() for _ in range(count)]
         for client in clients:
             client.ask(subscribe(topic(0)), SUBACK)
-        each = (size_of(server, "VmRSS") - before) // IDLE
-        print(f"full_memory: {each} bytes for each of {IDLE} idle clients ({MOST_IDLE} at most)")
-        wanted(each <= MOST_IDLE, f"an idle client takes {each} bytes")
+        return size_of(server, "VmRSS")
+
+
+def idle_clients_take_little():
+    """What one more client takes that is connected, subscribed and silent, with its thread."""
+    each = (size_with_idle(2 * IDLE) - size_with_idle(IDLE)) // IDLE
+    print(f"full_memory: {each} bytes for each of {IDLE} idle clients ({MOST_IDLE} at most)")
+    wanted(each <= MOST_IDLE, f"an idle client takes {each} bytes")
 
 
 CHECKS = (

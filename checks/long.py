@@ -23,6 +23,8 @@ from harness.words import NAME, given_words
 
 # How many publications a client sends in one piece.
 PIECE = 1_000
+# One place for one client, and one that two clients share.
+ONE_PLACE = ({"places": 1}, {"places": 1, "clients": 2})
 
 
 def ends(server, connections):
@@ -82,29 +84,31 @@ def many_publications(count):
     """One client sends so many, and then one more, which is kept and read."""
     names = [b"%d" % number for number in range(PIECE)]
     piece = b"".join(packets.publish(name, b"x") for name in names)
-    with Server(places=1, connections=3) as server:
-        with Client(server).connect() as client:
-            for _ in range(count // PIECE):
-                client.send(piece)
-            client.ask(publish(b"last", b"x"), PUBACK)
-            client.ask(subscribe(b"last"), SUBACK + replayed(b"last", b"x"))
-            client.disconnect()
-        serves_one_more(server)
-        ends(server, 3)
+    for clients in ONE_PLACE:
+        with Server(**clients, connections=3) as server:
+            with Client(server).connect() as client:
+                for _ in range(count // PIECE):
+                    client.send(piece)
+                client.ask(publish(b"last", b"x"), PUBACK)
+                client.ask(subscribe(b"last"), SUBACK + replayed(b"last", b"x"))
+                client.disconnect()
+            serves_one_more(server)
+            ends(server, 3)
 
 
 def many_refusals(count):
     """So many publications find no space. Each is told so, and at the end the server knows what
     it took."""
-    with Server(places=1, topics=1, connections=1) as server:
-        with Client(server).connect() as client:
-            client.ask(publish(b"kept", b"x"), PUBACK)
-            for _ in range(count // PIECE):
-                client.ask(PIECE * publish(b"other", b"x"), PIECE * NO_SPACE)
-            client.ask(publish(b"kept", b"y"), PUBACK)
-            client.ask(subscribe(b"#"), SUBACK + replayed(b"kept", b"y"))
-            client.disconnect()
-        ends(server, 1)
+    for clients in ONE_PLACE:
+        with Server(**clients, topics=1, connections=1) as server:
+            with Client(server).connect() as client:
+                client.ask(publish(b"kept", b"x"), PUBACK)
+                for _ in range(count // PIECE):
+                    client.ask(PIECE * publish(b"other", b"x"), PIECE * NO_SPACE)
+                client.ask(publish(b"kept", b"y"), PUBACK)
+                client.ask(subscribe(b"#"), SUBACK + replayed(b"kept", b"y"))
+                client.disconnect()
+            ends(server, 1)
 
 
 def refused_accepts(count, places=8):
@@ -121,7 +125,8 @@ def refused_accepts(count, places=8):
 
 def replaced_levels(rounds, count=50):
     """Topics have long levels, which two topics share, and their first messages are large. Once
-    each is replaced so often, the process keeps the levels and what came last.
+    each is replaced so often, the process keeps the levels and what came last. A filter may be as
+    long.
 
     The large messages come in as many groups, each after the one before it is replaced, so that
     only one group is there at a time."""
@@ -135,6 +140,7 @@ def replaced_levels(rounds, count=50):
                 for payload in (large * b"x", *(b"%d" % turn for turn in range(rounds))):
                     for name in names:
                         client.ask(publish(name, payload), PUBACK)
+                client.ask(subscribe(names[0]), SUBACK + replayed(names[0], payload))
             taken = most_memory(server.run.pid) - started
             # A level is in both topics and once for itself, in two trees. Of a group two messages
             # are there in each place.

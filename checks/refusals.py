@@ -7,26 +7,32 @@ so at any time.
 
 import re
 import sys
+from itertools import takewhile
 from pathlib import Path
 
 from harness.words import given_words
 
 ROOT = Path(__file__).resolve().parent.parent
 # A refusal as a value, and not as the pattern of an arm or a part of a type.
-MADE = re.compile(r"\b(?:(?:AllocError|NoMemory)\b(?=[),;]|$)(?!.*=>)|Err\(Gone\b)")
+MADE = re.compile(
+    r"\b(?:(?:AllocError|NoMemory)\b(?=[),;]|$)(?!.*=>)|Gone(?: \{ |::)|RecvError\b(?=[),;]))"
+)
 # What imports, clauses and types say of it.
 SAID = re.compile(
     r"\s*(?://|use |ghost|ensures|requires|NoMemory\b)|(?!\s*let ).*(?:\) -> |Result<)"
 )
 # On the line itself: a refusal is passed on, under another name or under its own.
-PASSED_ON = re.compile(r"(?:\bErr\(.*|\w*NoMemory\b.*|OutOfMemory\b.*) => |map_err\(\|_\| ")
-# On the lines above: the branch of a call that failed begins, or a refusal is converted.
+PASSED_ON = re.compile(
+    r"(?:\bErr\(.*|\w*NoMemory\b.*|OutOfMemory\b.*|Disconnected) => |map_err\(\|_\| "
+)
+# What opens the block around it: the branch of a call that failed, or a function that converts a
+# refusal.
 FAILED = re.compile(
-    r"\blet Ok\(.*\{$|\bErr\(.*\) => \{$|\.is_err\(\) \{$|OutOfMemory \{$|fn from\("
+    r"\blet Ok\(.*\{$|\bErr\(.*\) => \{$|\.is_err\(\) \{$|OutOfMemory \{$|fn (?:from|of_\w+)\b"
 )
 REASON = re.compile(r"// (?:Never|Refused): ")
 # Tests and examples refuse on purpose.
-TRIES = ("_tests", "_kit", "rs_trials", "rs_examples")
+TRIES = ("_tests", "_kit", "rs_refusals", "rs_timings", "rs_examples")
 
 
 def sources():
@@ -35,14 +41,35 @@ def sources():
             yield from sorted(crate.glob("src/**/*.rt"))
 
 
+def depth(line):
+    return len(line) - len(line.lstrip())
+
+
+def opening(lines, number):
+    """The number of the line that opens the block around this one: a branch, or the head of its
+    function."""
+    inner = depth(lines[number])
+    for at in reversed(range(number)):
+        if lines[at] and depth(lines[at]) < inner and lines[at].strip() != "{":
+            return at
+    return 0
+
+
+def has_reason(lines, number):
+    """Whether comments stand above the line, one of which says why."""
+    above = takewhile(lambda line: line.lstrip().startswith("//"), reversed(lines[:number]))
+    return any(REASON.search(line) for line in above)
+
+
 def unexplained(path):
     """The lines of the file that make a refusal, and not for a reason that can be seen."""
     lines = path.read_text(encoding="utf-8").splitlines()
     for number, line in enumerate(lines):
         if SAID.match(line) or not MADE.search(line) or PASSED_ON.search(line):
             continue
-        above = lines[max(0, number - 2) : number]
-        if not any(FAILED.search(each) or REASON.search(each) for each in above):
+        outer = opening(lines, number)
+        is_said = has_reason(lines, number) or has_reason(lines, outer)
+        if not FAILED.search(lines[outer]) and not is_said:
             yield number + 1
 
 

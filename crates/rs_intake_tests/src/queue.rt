@@ -8,12 +8,12 @@ mod replies;
 mod schedules;
 mod script;
 
-use crate::samples::is_shown;
 use log::{Log, Outcome, Reading, has_totals, is_settled, misses_answers};
 use places::{Setup, Writing, run};
 use rs_intake::SettleFault;
 use rs_message::{Found, MAX_PLACES, Operation};
 use rs_store::MAX_TOPICS;
+use rs_test_kit::is_shown;
 use script::{SETS, Script, largest, last_of_hundred};
 use std::alloc::Global;
 use std::test::Fail;

@@ -4,7 +4,7 @@ use log::Log;
 use rs_listener::{ListenFault, Server, Summary};
 use rs_message::PlaceCount;
 use rs_store::TopicLimit;
-use rs_test_kit::{CONNACK, CONNECT};
+use rs_test_kit::{CONNACK, CONNECT, is_shown};
 use std::alloc::Global;
 use std::io;
 use std::io::{ErrorKind, Read, Write};
@@ -160,7 +160,7 @@ fn a_server_without_an_end_goes_on(rt: HostRuntime) -> Result<(), Fail> {
 }
 
 #[test]
-fn faults_have_a_text(rt: HostRuntime) -> Result<(), Fail> {
+fn faults_have_a_text(rt: HostRuntime) {
     let taken = io::Error::from(ErrorKind::AddrInUse);
     let faults = [
         (
@@ -171,10 +171,8 @@ fn faults_have_a_text(rt: HostRuntime) -> Result<(), Fail> {
         (ListenFault::NoThread, "no thread can be started"),
     ];
     for (fault, text) in faults {
-        let found = format!(in rt.alloc(); "{fault}")?;
-        assert!(rt; found.as_str() == text);
+        assert!(rt; is_shown(rt.alloc(), &fault, text));
     }
-    Ok(())
 }
 
 #[test]

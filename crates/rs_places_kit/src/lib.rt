@@ -7,8 +7,8 @@ mod running;
 mod script;
 
 pub use rows::{
-    NONE, PLAIN, PUBLISHES, Row, SMOOTH, SUBSCRIBES, assigned, ending, later, plain_row, put_rows,
-    scripts,
+    NONE, PLAIN, PUBLISHES, Row, SMOOTH, SUBSCRIBES, assigned, cut_row, ending, later, plain_row,
+    put_rows, scripts,
 };
-pub use running::{Played, as_wanted, blank_store, outcome, play, run};
+pub use running::{Played, as_wanted, outcome, play, run};
 pub use script::{CLOSED, Counts, Course, Input, Output, Script, ScriptClock, comes};

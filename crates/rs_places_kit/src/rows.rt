@@ -2,7 +2,8 @@
 
 use crate::script::{Counts, Course, Script};
 use rs_server::Served;
-use rs_test_kit::{Behavior, Call, ServeResult, joined};
+use rs_server_kit::ServeResult;
+use rs_test_kit::{Behavior, Call, cut_off, joined, limits};
 use std::alloc::{AllocError, Global};
 use std::sync::Arc;
 use std::test::Fail;
@@ -44,12 +45,18 @@ pub const SUBSCRIBES: &[u8] =
 /// A part that has no bytes.
 pub const NONE: &[u8] = b"";
 
-/// A connection in one part.
-pub fn plain_row<'a>(course: Course, sent: &'a [u8], replies: &'a [u8]) -> Row<'a> {
+/// A connection in one part that is accepted, and is sent this behind its CONNACK.
+pub fn plain_row<'a>(course: Course, sent: &'a [u8], behind: &'a [u8]) -> Row<'a> {
+    cut_row(course, sent, behind, usize::MAX)
+}
+
+/// One that is sent only the first bytes of CONNACK and of what would follow it, so many in all.
+pub fn cut_row<'a>(course: Course, sent: &'a [u8], behind: &'a [u8], len: usize) -> Row<'a> {
+    let [accepted, rest] = cut_off(behind, len);
     Row {
         course,
         sent: [sent, NONE, NONE, NONE],
-        replies: [replies, NONE, NONE],
+        replies: [accepted, rest, NONE],
     }
 }
 
@@ -101,6 +108,6 @@ pub fn assigned(alloc: Global, place: u8, number: u64) -> Result<Vec<u8>, AllocE
     let mut output = Vec::new(alloc);
     output.extend_from_slice(&[0x20, 16 + len, 0, 0, 13 + len, 0x12, 0, len])?;
     output.extend_from_slice(name.as_bytes())?;
-    output.extend_from_slice(b"\x21\x00\x10\x27\x00\x04\x00\x00\x2A\x00")?;
+    output.extend_from_slice(limits())?;
     Ok(output)
 }

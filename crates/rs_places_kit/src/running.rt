@@ -1,14 +1,11 @@
 //! A run of a store over connections from memory.
 
-ghost use Rattle.std.specs.Prelude.{◌≡◌, IfOk};
-
 use crate::rows::{Row, put_rows, scripts};
 use crate::script::Counts;
 use rs_intake::blank_queue;
 use rs_message::{MAX_PLACES, PlaceCount};
 use rs_places::{StoreEnd, Turn, run_store};
-use rs_store::TopicLimit;
-use rs_version::Blank;
+use rs_version_kit::blank_store;
 use std::alloc::Global;
 use std::sync::atomic::Ordering;
 use std::sync::{Arc, Wait};
@@ -45,14 +42,6 @@ pub fn outcome<T>(end: &StoreEnd<T>, counts: &Counts) -> Played {
         changes: end.changes,
         version: end.version,
     }
-}
-
-/// An empty store of so many topics and places.
-pub fn blank_store(alloc: Global, topics: u32, places: PlaceCount) -> Result<Blank, Fail>
-    ensures { IfOk result (λ blank. blank.places ≡ places) }
-{
-    let limit = TopicLimit::new(topics).ok_or("a limit")?;
-    Ok(Blank::new(alloc, limit, places)?)
 }
 
 /// Runs a store with a place for each turn.

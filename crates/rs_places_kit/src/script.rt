@@ -5,7 +5,8 @@ ghost use Rattle.rs_places.specs.Turns.{TakesBack, none_given};
 
 use rs_places::{Connection, Turn};
 use rs_server::{Clock, Counted, Refusals, ServeFault, Served};
-use rs_test_kit::{Behavior, FaultyStream, ServeResult};
+use rs_server_kit::ServeResult;
+use rs_test_kit::{Behavior, CONNACK, FaultyStream, is_joined};
 use std::alloc::{AllocError, Global};
 use std::collections::VecDeque;
 use std::io;
@@ -17,9 +18,8 @@ use std::thread::yield_now;
 /// How often a turn looks whether another one came so far.
 const LOOKS: u32 = 10_000_000;
 
-/// CONNACK, and a DISCONNECT that says that the store takes no more changes.
-pub const CLOSED: &[u8] =
-    b"\x20\x0D\x00\x00\x0A\x21\x00\x10\x27\x00\x04\x00\x00\x2A\x00\xE0\x01\x83";
+/// A DISCONNECT that says that the store takes no more changes.
+pub const CLOSED: &[u8] = b"\xE0\x01\x83";
 
 /// How a connection goes.
 #[derive(Clone, Copy)]
@@ -120,7 +120,7 @@ impl Output {
     }
 
     fn is_closed(&self, end: ServeResult) -> bool {
-        end == Ok(Served::ServerClosed(0x83)) && self.stream.inner.as_slice() == CLOSED
+        end == Ok(Served::ServerClosed(0x83)) && is_joined(&self.stream.inner, &[CONNACK, CLOSED])
     }
 }
 

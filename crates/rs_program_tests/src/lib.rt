@@ -1,17 +1,7 @@
-//! Tests of the program by its public calls. They stand in a crate of their own, so that `rs_program` is not proved a second time
-//! with them.
+//! Tests of command lines, and of what ends the program, by the public calls of `rs_program`. They stand in a crate of their own, so that
+//! it is not proved a second time with them.
 #![tactic(auto)]
 
-#[cfg(test)]
-mod answers;
-#[cfg(test)]
-mod faults;
-#[cfg(test)]
-mod lines;
-#[cfg(test)]
-mod piping;
-#[cfg(test)]
-mod refusals;
 #[cfg(test)]
 mod statuses;
 #[cfg(test)]

@@ -1,30 +1,23 @@
 //! Statuses and texts of what ends the program.
 
 use rs_program::{PipeFault, RunFault, WordsFault};
-use std::alloc::{AllocError, Global};
+use rs_test_kit::is_shown;
+use std::alloc::Global;
 use std::test::Fail;
 
-fn ends_with(alloc: Global, fault: &RunFault, status: u8, text: &str) -> Result<bool, AllocError> {
-    let found = format!(in alloc; "{fault}")?;
-    Ok(fault.status() == status && found.as_str() == text)
+fn ends_with(alloc: Global, fault: &RunFault, status: u8, text: &str) -> bool {
+    fault.status() == status && is_shown(alloc, fault, text)
 }
 
 // Whether this is the status and the text of the fault, and of a run that it ends.
-fn pipe_ends_with(
-    alloc: Global,
-    fault: PipeFault,
-    status: u8,
-    text: &str,
-) -> Result<bool, AllocError> {
-    let found = format!(in alloc; "{fault}")?;
-    if fault.status() != status || found.as_str() != text {
-        return Ok(false);
-    }
-    ends_with(alloc, &RunFault::Pipe(fault), status, text)
+fn pipe_ends_with(alloc: Global, fault: PipeFault, status: u8, text: &str) -> bool {
+    fault.status() == status
+        && is_shown(alloc, &fault, text)
+        && ends_with(alloc, &RunFault::Pipe(fault), status, text)
 }
 
 #[test]
-fn faults_have_a_status_and_a_text(rt: HostRuntime) -> Result<(), Fail> {
+fn faults_have_a_status_and_a_text(rt: HostRuntime) {
     let faults = [
         (PipeFault::Read, 1, "read failed"),
         (PipeFault::Write, 1, "write failed"),
@@ -32,50 +25,41 @@ fn faults_have_a_status_and_a_text(rt: HostRuntime) -> Result<(), Fail> {
         (PipeFault::NotHex(7), 2, "line 7 is not hex"),
     ];
     for (fault, status, text) in faults {
-        assert!(rt; pipe_ends_with(rt.alloc(), fault, status, text)?);
+        assert!(rt; pipe_ends_with(rt.alloc(), fault, status, text));
     }
-    Ok(())
 }
 
 #[test]
-fn a_server_ends_with_a_status_and_a_text(rt: HostRuntime) -> Result<(), Fail> {
+fn a_server_ends_with_a_status_and_a_text(rt: HostRuntime) {
     let few = RunFault::FewThreads {
         threads: 3,
         places: 4,
     };
-    assert!(rt; ends_with(rt.alloc(), &few, 1, "3 of 4 places had a thread")?);
+    assert!(rt; ends_with(rt.alloc(), &few, 1, "3 of 4 places had a thread"));
     let few = RunFault::FewClients {
         threads: 3,
         clients: 400,
     };
-    assert!(rt; ends_with(rt.alloc(), &few, 1, "3 of 400 clients had a thread")?);
+    assert!(rt; ends_with(rt.alloc(), &few, 1, "3 of 400 clients had a thread"));
     let text = "not all changes are known to be taken";
-    assert!(rt; ends_with(rt.alloc(), &RunFault::Unsettled, 1, text)?);
-    assert!(rt; ends_with(rt.alloc(), &RunFault::Listen(None), 1, "cannot listen")?);
-    Ok(())
+    assert!(rt; ends_with(rt.alloc(), &RunFault::Unsettled, 1, text));
+    assert!(rt; ends_with(rt.alloc(), &RunFault::Listen(None), 1, "cannot listen"));
 }
 
 // As `pipe_ends_with`.
-fn words_end_with(
-    alloc: Global,
-    fault: WordsFault,
-    status: u8,
-    text: &str,
-) -> Result<bool, AllocError> {
-    let found = format!(in alloc; "{fault}")?;
-    if fault.status() != status || found.as_str() != text {
-        return Ok(false);
-    }
-    ends_with(alloc, &RunFault::Words(fault), status, text)
+fn words_end_with(alloc: Global, fault: WordsFault, status: u8, text: &str) -> bool {
+    fault.status() == status
+        && is_shown(alloc, &fault, text)
+        && ends_with(alloc, &RunFault::Words(fault), status, text)
 }
 
 #[test]
 fn words_have_a_status_and_a_text(rt: HostRuntime) -> Result<(), Fail> {
     let alloc = rt.alloc();
     let help = WordsFault::Help(String::from_str(alloc, "help")?);
-    assert!(rt; words_end_with(alloc, help, 0, "help")?);
+    assert!(rt; words_end_with(alloc, help, 0, "help"));
     let refused = WordsFault::Refused(String::from_str(alloc, "no")?);
-    assert!(rt; words_end_with(alloc, refused, 2, "no")?);
-    assert!(rt; words_end_with(alloc, WordsFault::NoMemory, 1, "out of memory")?);
+    assert!(rt; words_end_with(alloc, refused, 2, "no"));
+    assert!(rt; words_end_with(alloc, WordsFault::NoMemory, 1, "out of memory"));
     Ok(())
 }

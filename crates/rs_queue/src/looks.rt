@@ -1,6 +1,7 @@
 //! How often an end of a channel looks for a message before it sleeps.
 
-use crossbeam_channel::bounded;
+use crossbeam_channel::bounded_with;
+use crossbeam_channel::protocol::Free;
 use std::alloc::{AllocError, Global};
 use std::hint::spin_loop;
 use std::sync::Wait;
@@ -66,9 +67,9 @@ impl Looks {
 ///
 /// [`AllocError`] if memory for the channel is refused.
 pub fn look_in_vain<R: Wait>(rt: &R, alloc: Global) -> Result<(), AllocError> {
-    let (_to, from) = bounded::<(), Global>(alloc, 1)?;
+    let (_to, from, mut pass) = bounded_with::<(), (), Free, Global>(alloc, 1)?;
     for _ in 0..TIMED {
-        drop(from.try_recv(rt));
+        drop(from.try_recv_as::<Free, R>(rt, &mut pass));
         spin_loop();
     }
     Ok(())

@@ -3,7 +3,7 @@
 mod ahead;
 mod counted;
 mod expecting;
-mod handed;
+mod reads;
 mod refusals;
 mod streams;
 

@@ -1,15 +1,11 @@
-//! What several crates of tests share: packets as bytes, streams of which a call fails, a table of what one failing call comes to, a gate
-//! that refuses all, and how a fault is shown. It is a crate of its own so that nothing of it stands, and is proved, twice in them.
+//! What tests of all crates share: packets as bytes, streams of which a call fails, and how a fault is shown. It is a crate of its own so
+//! that nothing of it stands, and is proved, twice in them, and it stands on no other.
 #![tactic(auto)]
 
-mod faults;
-mod gate;
 mod packets;
 mod shown;
 mod streams;
 
-pub use faults::{FAULTS, FIRST, Fault, SECOND, ServeResult, first_replies, second_replies};
-pub use gate::{REFUSING_GATE, Refusing};
-pub use packets::{CONNACK, CONNECT, REPLAYED, SUBSCRIBED, joined};
+pub use packets::{CONNACK, CONNECT, REPLAYED, SUBSCRIBED, cut_off, is_joined, joined, limits};
 pub use shown::is_shown;
 pub use streams::{Behavior, Call, FaultyStream};

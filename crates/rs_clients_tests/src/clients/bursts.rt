@@ -3,7 +3,8 @@
 use super::share;
 use rs_places_kit::{Counts, Course, PLAIN, Played, Script, as_wanted, ending, run};
 use rs_server::{ServeFault, Served};
-use rs_test_kit::{Behavior, CONNACK, CONNECT, Call, ServeResult};
+use rs_server_kit::ServeResult;
+use rs_test_kit::{Behavior, CONNACK, CONNECT, Call};
 use std::alloc::{AllocError, Global};
 use std::sync::{Arc, Wait};
 use std::test::Fail;

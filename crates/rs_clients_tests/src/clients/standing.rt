@@ -8,11 +8,12 @@ use rs_intake::{BlankQueue, Ended, LineName, Queue, blank_queue, run_writer, set
 use rs_message::PlaceCount;
 use rs_places::Turn;
 use rs_places_kit::{
-    Counts, NONE, PLAIN, Played, Row, SUBSCRIBES, Script, as_wanted, blank_store, comes, later,
-    plain_row, put_rows, scripts,
+    Counts, NONE, PLAIN, Played, Row, SUBSCRIBES, Script, as_wanted, comes, later, plain_row,
+    put_rows, scripts,
 };
 use rs_test_kit::{CONNACK, CONNECT, REPLAYED, SUBSCRIBED};
 use rs_version::{Blank, VersionWriter};
+use rs_version_kit::blank_store;
 use std::alloc::Global;
 use std::marker::Brand;
 use std::sync::atomic::Ordering;

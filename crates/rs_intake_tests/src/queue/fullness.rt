@@ -3,10 +3,10 @@
 ghost use Rattle.std.specs.Prelude.{◌≡◌};
 
 use super::script::{Act, operation_of};
-use crate::samples::blank_store;
 use rs_intake::{BlankQueue, Fullness, Intake, LineName, SeatLine, blank_queue, run_writer};
 use rs_message::PlaceCount;
 use rs_version::Blank;
+use rs_version_kit::blank_store;
 use std::alloc::Global;
 use std::marker::Brand;
 use std::sync::Wait;
@@ -76,8 +76,9 @@ fn right_steps_over<
 /// The store is full from a refusal on, until a topic is cleared or a Sweep makes space.
 #[test]
 fn it_is_full_from_a_refusal_until_there_may_be_space(rt: HostRuntime) -> Result<(), Fail> {
-    let blank = blank_store(rt.alloc(), 2, 1)?;
-    let queue = blank_queue(rt.alloc(), PlaceCount::new(1).ok_or("a place")?)?;
+    let one = PlaceCount::new(1).ok_or("a place")?;
+    let blank = blank_store(rt.alloc(), 2, one)?;
+    let queue = blank_queue(rt.alloc(), one)?;
     let right = right_steps_over::<Brand, _>(rt, rt.alloc(), blank, queue);
     assert!(rt; right == Some(STEPS.len()));
     Ok(())

@@ -6,13 +6,13 @@ ghost use Rattle.rs_version.specs.Writer.{kept_of};
 
 use super::log::{Answer, Log, Outcome, Totals};
 use super::script::{Act, Script, operation_of};
-use crate::samples::{blank_store, read_all};
 use rs_intake::{
     BlankQueue, Ended, Intake, LineEnd, LineName, Queue, SeatLine, blank_queue, run_writer,
     run_writer_for, settle,
 };
 use rs_message::{Operation, PlaceCount};
 use rs_version::{Blank, Receipt, Seat, VersionWriter};
+use rs_version_kit::{blank_store, read_all};
 use std::alloc::Global;
 use std::marker::Brand;
 use std::process::Abort;
@@ -368,8 +368,8 @@ pub(crate) fn run<R: Threads + Wait + Clock + Abort + Copy + Send + Sync + 'stat
             ended: AtomicU64::new(0),
         },
     )?;
-    let blank = blank_store(setup.alloc, setup.limit, setup.places)?;
     let places = PlaceCount::new(setup.places).ok_or("no places")?;
+    let blank = blank_store(setup.alloc, setup.limit, places)?;
     let queue = blank_queue(setup.alloc, places)?;
     let outcome = run_named::<Brand, R>(rt, blank, queue, setup, &counts);
     Ok(outcome.ok_or("memory or a thread was refused")?)

@@ -3,10 +3,11 @@
 ghost use Rattle.std.specs.Prelude.{◌≡◌, false, IfSome};
 ghost use Rattle.rs_message.specs.Messages.{is_sweep};
 
-use crate::samples::{blank_store, set};
 use rs_intake::{LineName, WriterReply, read_reply};
-use rs_message::{Entry, Origin};
+use rs_message::{Entry, Origin, PlaceCount};
+use rs_message_kit::set;
 use rs_version::{Blank, PutFault};
+use rs_version_kit::blank_store;
 use std::alloc::Global;
 use std::marker::Brand;
 use std::sync::Wait;
@@ -79,7 +80,7 @@ fn a_fault_is_read_as_what_it_says_of_its_entry(rt: HostRuntime) -> Result<(), F
 /// A receipt for another entry is strange.
 #[test]
 fn a_receipt_for_another_entry_is_strange(rt: HostRuntime) -> Result<(), Fail> {
-    let blank = blank_store(rt.alloc(), 2, 1)?;
+    let blank = blank_store(rt.alloc(), 2, PlaceCount::new(1).ok_or("a place")?)?;
     assert!(rt; code_of_other::<Brand, _>(&rt, rt.alloc(), blank) == Some(43));
     Ok(())
 }

@@ -3,8 +3,8 @@
 ghost use Rattle.std.specs.Prelude.{◌≡◌, false, IfSome};
 ghost use Rattle.rs_message.specs.Messages.{is_sweep};
 
-use crate::samples::{PAYLOAD, clear, set_at};
 use rs_message::{MAX_PLACES, Operation};
+use rs_message_kit::{PAYLOAD, clear, set_at};
 use rs_topic::MAX_TEXT_SIZE;
 use std::alloc::Global;
 

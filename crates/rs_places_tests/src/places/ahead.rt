@@ -1,21 +1,21 @@
 //! Publications that came in one piece: their changes go to the writer together.
 
-use rs_places_kit::{PLAIN, PUBLISHES, Row, as_wanted, ending, plain_row, play};
+use rs_places_kit::{NONE, PLAIN, PUBLISHES, Row, as_wanted, cut_row, ending, plain_row, play};
 use rs_server::{ServeFault, Served};
-use rs_test_kit::{Behavior, CONNACK, Call, SECOND, ServeResult};
+use rs_server_kit::{SECOND, ServeResult};
+use rs_test_kit::{Behavior, Call, SUBSCRIBED};
 use std::test::Fail;
 
 /// CONNECT, three retained PUBLISH of QoS 1.
 const THREE: &[u8] =
     b"\x10\x0E\x00\x04MQTT\x05\x02\x00\x3C\x00\x00\x01a\x33\x09\x00\x03a/b\x00\x01\x00x\x33\x09\x00\x03a/c\x00\x02\x00y\x33\x09\x00\x03a/d\x00\x03\x00z";
 
-/// CONNACK (15 bytes), three PUBACK (4 bytes each).
-const THREE_REPLIES: &[u8] =
-    b"\x20\x0D\x00\x00\x0A\x21\x00\x10\x27\x00\x04\x00\x00\x2A\x00\x40\x02\x00\x01\x40\x02\x00\x02\x40\x02\x00\x03";
+/// What it is answered behind CONNACK (15 bytes): three PUBACK (4 bytes each).
+const THREE_REPLIES: &[u8] = b"\x40\x02\x00\x01\x40\x02\x00\x02\x40\x02\x00\x03";
 
-/// CONNACK, SUBACK (21 bytes), and the three PUBLISH (9 bytes each).
-const READ_REPLIES: &[u8] =
-    b"\x20\x0D\x00\x00\x0A\x21\x00\x10\x27\x00\x04\x00\x00\x2A\x00\x90\x04\x00\x01\x00\x00\x31\x07\x00\x03a/b\x00x\x31\x07\x00\x03a/c\x00y\x31\x07\x00\x03a/d\x00z";
+/// SUBACK, and the three PUBLISH.
+const ALL_REPLAYED: &[u8] =
+    b"\x90\x04\x00\x01\x00\x00\x31\x07\x00\x03a/b\x00x\x31\x07\x00\x03a/c\x00y\x31\x07\x00\x03a/d\x00z";
 
 const INPUT: ServeResult = Ok(Served::EndOfInput);
 
@@ -42,10 +42,10 @@ fn rows(at: usize, ends: ServeResult, written: usize, kept: bool) -> [Row<'stati
         call: Call::Write,
         at,
     };
-    let first = plain_row(course, THREE, &THREE_REPLIES[..written.min(27)]);
-    let got = &READ_REPLIES[..if kept { 48 } else { 21 }];
+    let first = cut_row(course, THREE, THREE_REPLIES, written);
+    let got = if kept { ALL_REPLAYED } else { SUBSCRIBED };
     let second = plain_row(ending(PLAIN, INPUT), SECOND, got);
-    let third = plain_row(PLAIN, PUBLISHES, CONNACK);
+    let third = plain_row(PLAIN, PUBLISHES, NONE);
     [first, second, third]
 }
 

@@ -6,12 +6,13 @@ use rs_intake::{BlankQueue, LineName, Queue, blank_queue};
 use rs_message::PlaceCount;
 use rs_places::{PlaceEnd, Turn, open_gates, run_places};
 use rs_places_kit::{
-    CLOSED, Counts, PUBLISHES, SUBSCRIBES, Script, blank_store, comes, ending, later, plain_row,
-    put_rows, scripts,
+    CLOSED, Counts, PUBLISHES, SUBSCRIBES, Script, comes, ending, later, plain_row, put_rows,
+    scripts,
 };
 use rs_server::Served;
 use rs_test_kit::SUBSCRIBED;
 use rs_version::{Blank, VersionWriter};
+use rs_version_kit::blank_store;
 use std::alloc::Global;
 use std::marker::Brand;
 use std::sync::atomic::Ordering;
@@ -19,9 +20,8 @@ use std::sync::{Arc, Wait};
 use std::test::Fail;
 use std::thread::{Threads, spawn};
 
-/// CONNACK, and a DISCONNECT that says that the change may still be made.
-const UNCERTAIN: &[u8] =
-    b"\x20\x0D\x00\x00\x0A\x21\x00\x10\x27\x00\x04\x00\x00\x2A\x00\xE0\x01\x97";
+/// A DISCONNECT that says that the change may still be made.
+const UNCERTAIN: &[u8] = b"\xE0\x01\x97";
 
 /// How many places publish before the queue ends. One more waits until it has ended.
 const EARLY: u8 = 63;

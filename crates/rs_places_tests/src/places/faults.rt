@@ -1,10 +1,11 @@
 //! One failing read, write or flush, and what the next connections of the place get then.
 
-use rs_places_kit::{PLAIN, PUBLISHES, Row, as_wanted, ending, plain_row, play};
+use rs_places_kit::{NONE, PLAIN, PUBLISHES, Row, as_wanted, cut_row, ending, plain_row, play};
 use rs_server::Served;
-use rs_test_kit::{
-    Behavior, CONNACK, FAULTS, FIRST, Fault, SECOND, ServeResult, first_replies, second_replies,
+use rs_server_kit::{
+    FAULTS, FIRST, FIRST_REPLIES, Fault, SECOND, ServeResult, first_written, second_replies,
 };
+use rs_test_kit::Behavior;
 use std::test::Fail;
 
 const CLOSED: ServeResult = Ok(Served::ClientClosed);
@@ -18,11 +19,11 @@ fn rows(fault: &Fault, at: usize) -> [Row<'static>; 3] {
         call: fault.call,
         at,
     };
-    let first = plain_row(course, FIRST, first_replies(fault, at));
+    let first = cut_row(course, FIRST, FIRST_REPLIES, first_written(fault, at));
     course.behavior.at = 0;
     let reads = ending(course, Ok(Served::EndOfInput));
     let second = plain_row(reads, SECOND, second_replies(fault));
-    let third = plain_row(ending(course, CLOSED), PUBLISHES, CONNACK);
+    let third = plain_row(ending(course, CLOSED), PUBLISHES, NONE);
     [first, second, third]
 }
 

@@ -8,10 +8,11 @@ ghost use Rattle.rs_places_tests.specs.Answered.{AreAnswered};
 use rs_intake::{BlankQueue, blank_queue};
 use rs_message::PlaceCount;
 use rs_places::{Connection, StoreEnd, StoreFault, Turn, run_store};
-use rs_places_kit::{PUBLISHES, SUBSCRIBES, blank_store};
+use rs_places_kit::{NONE, PUBLISHES, SUBSCRIBES};
 use rs_server::{Clock, Counted, Moments, Refusals, ServeFault, Served};
-use rs_test_kit::{CONNACK, CONNECT, REPLAYED, SUBSCRIBED, joined};
+use rs_test_kit::{CONNACK, CONNECT, REPLAYED, SUBSCRIBED, is_joined, joined};
 use rs_version::Blank;
+use rs_version_kit::blank_store;
 use std::alloc::{AllocError, Global};
 use std::collections::VecDeque;
 use std::io::{Read, Write};
@@ -132,17 +133,17 @@ fn place_of(alloc: Global, waiting: Vec<Played>) -> Listed {
     }
 }
 
-/// Whether the client ended each connection, and was written this.
+/// Whether the client ended each connection, and was written this behind its CONNACK.
 fn is_written(turn: &Listed, wanted: &[&[u8]]) -> bool {
     let Some(ended) = &turn.ended else {
         return false;
     };
     let mut at = 0usize;
     for outcome in ended {
-        let Some(output) = wanted.get(at) else {
+        let Some(behind) = wanted.get(at) else {
             return false;
         };
-        if outcome.connection.output.as_slice() != *output || !is_closed(outcome) {
+        if !is_joined(&outcome.connection.output, &[CONNACK, *behind]) || !is_closed(outcome) {
             return false;
         }
         at = at.saturating_add(1);
@@ -185,7 +186,7 @@ fn connections_in_memory_are_answered(rt: HostRuntime) -> Result<(), Fail> {
     assert!(rt; (end.changes, end.version) == (Some(1), 1));
     let turns = end.turns;
     let first = match turns.get(0) {
-        Some(turn) => is_written(turn, &[CONNACK, REPLAYED]),
+        Some(turn) => is_written(turn, &[NONE, REPLAYED]),
         None => false,
     };
     assert!(rt; first);

@@ -6,7 +6,8 @@
 
 use rs_places_kit::{NONE, PLAIN, PUBLISHES, Row, SUBSCRIBES, as_wanted, ending, plain_row, play};
 use rs_server::Served;
-use rs_test_kit::{CONNACK, CONNECT, REPLAYED, ServeResult};
+use rs_server_kit::ServeResult;
+use rs_test_kit::{CONNACK, CONNECT, REPLAYED};
 use std::alloc::{AllocError, Global};
 use std::test::Fail;
 
@@ -60,11 +61,11 @@ fn peer(sent: &'static [u8], replies: &'static [u8]) -> Row<'static> {
 /// kept.
 fn rows(alloc: Global) -> Result<Vec<Row<'static>>, AllocError> {
     let mut rows = Vec::new(alloc);
-    rows.push(plain_row(PLAIN, PUBLISHES, CONNACK))?;
+    rows.push(plain_row(PLAIN, PUBLISHES, NONE))?;
     for (sent, replies) in PEERS {
         rows.push(peer(sent, replies))?;
     }
-    rows.push(plain_row(PLAIN, PUBLISHES, CONNACK))?;
+    rows.push(plain_row(PLAIN, PUBLISHES, NONE))?;
     rows.push(plain_row(PLAIN, SUBSCRIBES, REPLAYED))?;
     Ok(rows)
 }

@@ -1,7 +1,8 @@
 //! Clients that send and take bytes slowly, or fail.
 
 use rs_server::{ConnectionId, Counted, Moments, ServeFault, Served, serve};
-use rs_test_kit::{Behavior, Call, FaultyStream, REFUSING_GATE};
+use rs_server_kit::REFUSING_GATE;
+use rs_test_kit::{Behavior, CONNACK, Call, FaultyStream, cut_off, is_joined, limits};
 use std::alloc::{AllocError, Global};
 use std::io;
 use std::io::Write;
@@ -14,11 +15,8 @@ const INPUT: &[u8] = &[
     0x82, 0x09, 0x00, 0x01, 0x00, 0x00, 0x03, 0x61, 0x2F, 0x23, 0x00, 0xC0, 0x00, 0xE0, 0x00,
 ];
 
-// CONNACK, SUBACK (there was no memory for an answer), PINGRESP.
-const OUTPUT: &[u8] = &[
-    0x20, 0x0D, 0x00, 0x00, 0x0A, 0x21, 0x00, 0x10, 0x27, 0x00, 0x04, 0x00, 0x00, 0x2A, 0x00, 0x90,
-    0x04, 0x00, 0x01, 0x00, 0x97, 0xD0, 0x00,
-];
+// What it is answered behind CONNACK: SUBACK (there was no memory for an answer), PINGRESP.
+const REPLIES: &[u8] = &[0x90, 0x04, 0x00, 0x01, 0x00, 0x97, 0xD0, 0x00];
 
 /// Takes at most `step` bytes a write, is full after some, and notes at which byte it was flushed.
 #[derive(Drop)]
@@ -71,12 +69,12 @@ const PLAIN: Script<'static> = Script {
     room: 1000,
 };
 
-/// What a connection is answered: its end, the replies, after which of their bytes they were flushed, and how many reads and writes
-/// failed.
+/// What a connection is answered: its end, the replies in two parts, after which of their bytes they were flushed, and how many reads and
+/// writes failed.
 #[derive(Clone, Copy)]
 struct Outcome<'a> {
     served: Result<Served, ServeFault>,
-    output: &'a [u8],
+    output: [&'a [u8]; 2],
     flushed_at: Option<&'a [usize]>,
     failures: (u64, u64),
 }
@@ -86,7 +84,7 @@ fn is_written(narrow: &Narrow, wanted: &Outcome) -> bool {
         Some(wanted) => narrow.flushed_at.as_slice() == wanted,
         None => true,
     };
-    is_flushed && narrow.bytes.as_slice() == wanted.output
+    is_flushed && is_joined(&narrow.bytes, &wanted.output)
 }
 
 fn is_served<H: Wait>(rt: &H, alloc: Global, script: &Script, wanted: &Outcome) -> bool {
@@ -125,7 +123,7 @@ fn is_served<H: Wait>(rt: &H, alloc: Global, script: &Script, wanted: &Outcome) 
 fn pieces_of_any_size_are_answered_alike(rt: HostRuntime) {
     let wanted = Outcome {
         served: Ok(Served::ClientClosed),
-        output: OUTPUT,
+        output: [CONNACK, REPLIES],
         flushed_at: Some(&[15, 21, 23]),
         failures: (0, 0),
     };
@@ -148,7 +146,7 @@ fn an_input_that_ends_is_answered_so_far(rt: HostRuntime) {
     for (end, served, len) in ends {
         let wanted = Outcome {
             served: Ok(served),
-            output: &OUTPUT[..len],
+            output: cut_off(REPLIES, len),
             flushed_at: None,
             failures: (0, 0),
         };
@@ -165,7 +163,7 @@ fn a_failed_read_ends_the_connection(rt: HostRuntime) {
     for (fails_at, len) in [(1, 0), (16, 0), (17, 15), (29, 21)] {
         let wanted = Outcome {
             served: Err(ServeFault::Read),
-            output: &OUTPUT[..len],
+            output: cut_off(REPLIES, len),
             flushed_at: None,
             failures: (1, 0),
         };
@@ -179,7 +177,7 @@ fn a_full_writer_ends_the_connection(rt: HostRuntime) {
     for room in [0, 7, 15, 22] {
         let wanted = Outcome {
             served: Err(ServeFault::Write),
-            output: &OUTPUT[..room],
+            output: cut_off(REPLIES, room),
             flushed_at: None,
             failures: (0, 1),
         };
@@ -205,7 +203,10 @@ fn the_longest_identifier_is_assigned(rt: HostRuntime) {
     };
     let wanted = Outcome {
         served: Ok(Served::EndOfInput),
-        output: b"\x20\x29\x00\x00\x26\x12\x00\x19rs64-18446744073709551615\x21\x00\x10\x27\x00\x04\x00\x00\x2A\x00",
+        output: [
+            b"\x20\x29\x00\x00\x26\x12\x00\x19rs64-18446744073709551615".as_slice(),
+            limits(),
+        ],
         flushed_at: None,
         failures: (0, 0),
     };
@@ -227,8 +228,7 @@ fn a_long_reply_is_flushed(rt: HostRuntime) -> Result<(), Fail> {
     let mut input = INPUT[..16].to_vec(rt.alloc())?;
     input.extend_from_slice(b"\xA2\xBB\x17\x00\x01\x00")?;
     put_repeated(&mut input, b"\x00\x01a", 1000)?;
-    let mut output = OUTPUT[..15].to_vec(rt.alloc())?;
-    output.extend_from_slice(b"\xB0\xEB\x07\x00\x01\x00")?;
+    let mut output = Vec::from_slice(rt.alloc(), b"\xB0\xEB\x07\x00\x01\x00")?;
     put_repeated(&mut output, b"\x11", 1000)?;
     let script = Script {
         input: &input,
@@ -239,7 +239,7 @@ fn a_long_reply_is_flushed(rt: HostRuntime) -> Result<(), Fail> {
     };
     let wanted = Outcome {
         served: Ok(Served::EndOfInput),
-        output: &output,
+        output: [CONNACK, &output],
         flushed_at: Some(&[15, 1021]),
         failures: (0, 0),
     };

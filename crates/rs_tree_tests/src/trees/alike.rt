@@ -1,18 +1,19 @@
 //! Both catalogues over one list of entries, drawn by a fixed generator.
 
-ghost use Rattle.std.specs.Prelude.{◌≡◌, ◌<◌, false, IfOk};
+ghost use Rattle.std.specs.Prelude.{◌≡◌, ◌<◌, false, IfSome};
 ghost use Rattle.rs_message.specs.Messages.{is_sweep};
 
+use super::check_as_many;
 use super::joined::{
     check_cleared_chunks, check_deep, check_flat_list, check_lone_messages, check_narrow_chunks,
     check_swept_chunks,
 };
 use super::lengths::check_lengths;
 use super::wide::{check_grown, check_swept_grown};
-use super::{check_as_many, origin, set_at};
 use rs_message::{Entry, Operation};
+use rs_message_kit::{clear, origin, set_at};
 use rs_store::{CalmCatalogue, Catalogue, MapCatalogue, Refusal, TopicLimit};
-use rs_topic::{TopicFilter, TopicName};
+use rs_topic::TopicFilter;
 use rs_tree::TreeCatalogue;
 use std::alloc::{AllocError, Global};
 use std::process::Abort;
@@ -93,19 +94,17 @@ fn filter_of(alloc: Global, draw: &mut Draw) -> Result<Vec<u8>, Fail> {
 pub const LATE: u64 = 6;
 
 /// What an entry does: two Sets of three, with an interval or none.
-pub fn operation_of(alloc: Global, name: &[u8], kind: u64) -> Result<Operation, Fail>
-    ensures { IfOk result (λ o. is_sweep o ≡ false) }
+fn operation_of(alloc: Global, name: &[u8], kind: u64) -> Option<Operation>
+    ensures { IfSome result (λ o. is_sweep o ≡ false) }
 {
-    let topic = TopicName::read(alloc, name)?;
-    let operation = match kind {
-        0 => set_at(alloc, topic, b"x", 100, Some(10)),
-        1 => set_at(alloc, topic, b"y", 100, None),
-        2 => set_at(alloc, topic, b"z", 100, Some(20)),
-        3 => set_at(alloc, topic, b"z", 100, Some(0)),
-        LATE => set_at(alloc, topic, b"l", 200, None),
-        _ => Ok(Operation::Clear(topic)),
-    };
-    Ok(operation?)
+    match kind {
+        0 => set_at(alloc, name, b"x", 100, Some(10)),
+        1 => set_at(alloc, name, b"y", 100, None),
+        2 => set_at(alloc, name, b"z", 100, Some(20)),
+        3 => set_at(alloc, name, b"z", 100, Some(0)),
+        LATE => set_at(alloc, name, b"l", 200, None),
+        _ => clear(alloc, name),
+    }
 }
 
 pub fn put<C: Catalogue>(
@@ -116,7 +115,7 @@ pub fn put<C: Catalogue>(
     kind: u64,
 ) -> Result<Result<(), Refusal>, Fail> {
     let origin = origin(1, serial)?;
-    let operation = operation_of(alloc, name, kind)?;
+    let operation = operation_of(alloc, name, kind).ok_or("no operation")?;
     Ok(store.add(Entry { origin, operation }))
 }
 

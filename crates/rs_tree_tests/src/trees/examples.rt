@@ -1,14 +1,12 @@
 //! Worked examples over both catalogues, and each public call once with ample memory.
 
-ghost use Rattle.std.specs.Prelude.{◌≡◌, false, IfOk};
+ghost use Rattle.std.specs.Prelude.{◌≡◌, false, IfSome};
 ghost use Rattle.rs_message.specs.Messages.{is_sweep};
 
-use super::{origin, set_at};
 use rs_message::{Entry, Operation, Origin};
-use rs_store::{
-    CalmCatalogue, Catalogue, MAX_TOPICS, MapCatalogue, Refusal, TopicLimit, content_law,
-};
-use rs_topic::{TopicFilter, TopicName};
+use rs_message_kit::{clear, origin, set_at};
+use rs_store::{CalmCatalogue, Catalogue, MapCatalogue, Refusal, TopicLimit};
+use rs_topic::TopicFilter;
 use rs_tree::TreeCatalogue;
 use std::alloc::Global;
 use std::process::Abort;
@@ -47,17 +45,14 @@ enum Step {
     Says(Fact),
 }
 
-/// What a Set or a Clear does. An error at a Sweep.
-fn operation_of(alloc: Global, change: Change) -> Result<Operation, Fail>
-    ensures { IfOk result (λ o. is_sweep o ≡ false) }
+/// What a Set or a Clear does. `None` at a Sweep.
+fn operation_of(alloc: Global, change: Change) -> Option<Operation>
+    ensures { IfSome result (λ o. is_sweep o ≡ false) }
 {
     match change {
-        Change::Set(_, topic, received, expiry) => {
-            let topic = TopicName::read(alloc, topic)?;
-            Ok(set_at(alloc, topic, b"x", received, expiry)?)
-        }
-        Change::Clear(_, topic) => Ok(Operation::Clear(TopicName::read(alloc, topic)?)),
-        Change::Sweep(_, _) => Err(Fail::from("a Sweep")),
+        Change::Set(_, topic, received, expiry) => set_at(alloc, topic, b"x", received, expiry),
+        Change::Clear(_, topic) => clear(alloc, topic),
+        Change::Sweep(_, _) => None,
     }
 }
 
@@ -83,7 +78,7 @@ fn add<C: Catalogue>(
     change: Change,
 ) -> Result<Option<Refusal>, Fail> {
     let origin = origin_of(change)?;
-    let operation = operation_of(alloc, change)?;
+    let operation = operation_of(alloc, change).ok_or("no operation")?;
     Ok(refusal(store.add(Entry { origin, operation })))
 }
 
@@ -91,7 +86,7 @@ fn entry_of(alloc: Global, change: Change) -> Result<Entry, Fail> {
     let origin = origin_of(change)?;
     let operation = match change {
         Change::Sweep(_, moment) => Operation::Sweep(moment),
-        other => operation_of(alloc, other)?,
+        other => operation_of(alloc, other).ok_or("no operation")?,
     };
     Ok(Entry { origin, operation })
 }
@@ -242,16 +237,6 @@ fn a_full_store_and_a_stale_serial_refuse(rt: HostRuntime) -> Result<(), Fail> {
     check_stores(&rt, rt.alloc(), 2, [FULL_AND_STALE, &[]], &[])
 }
 
-#[test]
-fn a_limit_is_1_to_65_536(rt: HostRuntime) -> Result<(), Fail> {
-    assert!(rt; TopicLimit::new(0).is_none());
-    assert!(rt; TopicLimit::new(MAX_TOPICS + 1).is_none());
-    assert!(rt; TopicLimit::new(1).ok_or("the least")?.get() == 1);
-    assert!(rt; TopicLimit::new(MAX_TOPICS).ok_or("the greatest")?.get() == 65_536);
-    content_law();
-    Ok(())
-}
-
 /// Topics with empty levels, with a level that is a prefix of another, and with a dollar.
 const SET_BY_LEVELS: &[Step] = &[
     Step::Takes(Change::Set(1, b"a.b", 100, Some(10)), None),
@@ -385,37 +370,4 @@ const FIRST_TO_EXPIRE: &[Step] = &[
 #[test]
 fn the_first_to_expire_is_known(rt: HostRuntime) -> Result<(), Fail> {
     check_catalogues(&rt, rt.alloc(), 10, FIRST_TO_EXPIRE)
-}
-
-/// Each refusal, its number and its text.
-const REFUSALS: &[(Refusal, u8, &str)] = &[
-    (
-        Refusal::Full,
-        20,
-        "the store holds as many topics as it may, or has no number left; clear a topic or raise the limit",
-    ),
-    (
-        Refusal::Stale,
-        21,
-        "the serial is not above the last one of its place; number the entries of a place in rising order",
-    ),
-    (
-        Refusal::NoMemory,
-        22,
-        "memory was refused, and nothing was stored; free memory and try again",
-    ),
-];
-
-fn is_shown(alloc: Global, refusal: Refusal, text: &str) -> Result<bool, Fail> {
-    let shown = format!(in alloc; "{refusal}")?;
-    Ok(shown.as_str() == text)
-}
-
-#[test]
-fn refusals_have_codes_and_texts(rt: HostRuntime) -> Result<(), Fail> {
-    for (refusal, code, text) in REFUSALS {
-        assert!(rt; refusal.code() == *code);
-        assert!(rt; is_shown(rt.alloc(), *refusal, text)?);
-    }
-    Ok(())
 }

@@ -2,12 +2,11 @@
 
 use super::alike::{Draw, check_filter_alike, name_of};
 use super::examples::take;
-use super::{origin, set_at};
 use rs_message::{Entry, Operation, Origin};
+use rs_message_kit::{clear, origin, set_at};
 use rs_store::{Catalogue, MapCatalogue, TopicLimit};
-use rs_topic::TopicName;
 use rs_tree::TreeCatalogue;
-use std::alloc::{AllocError, Global};
+use std::alloc::Global;
 use std::process::Abort;
 use std::test::Fail;
 
@@ -60,19 +59,14 @@ fn check_earliest<C: Catalogue, D: Catalogue>(rt: &impl Abort, first: &C, second
 }
 
 /// A Set of a message that came at a moment, for six kinds of eight, else a Clear.
-fn operation_at(
-    alloc: Global,
-    topic: TopicName,
-    kind: u64,
-    received: u64,
-) -> Result<Operation, AllocError> {
+fn operation_at(alloc: Global, name: &[u8], kind: u64, received: u64) -> Option<Operation> {
     match kind {
-        0 => set_at(alloc, topic, b"x", received, Some(10)),
-        1 => set_at(alloc, topic, b"y", received, Some(25)),
-        2 => set_at(alloc, topic, b"z", received, Some(1)),
-        3 => set_at(alloc, topic, b"0", received, Some(0)),
-        4 | 5 => set_at(alloc, topic, b"n", received, None),
-        _ => Ok(Operation::Clear(topic)),
+        0 => set_at(alloc, name, b"x", received, Some(10)),
+        1 => set_at(alloc, name, b"y", received, Some(25)),
+        2 => set_at(alloc, name, b"z", received, Some(1)),
+        3 => set_at(alloc, name, b"0", received, Some(0)),
+        4 | 5 => set_at(alloc, name, b"n", received, None),
+        _ => clear(alloc, name),
     }
 }
 
@@ -80,9 +74,9 @@ fn operation_at(
 pub fn change_of(alloc: Global, draw: &mut Draw, serial: u64) -> Result<Entry, Fail> {
     let origin = origin(1, serial)?;
     let name = name_of(alloc, draw)?;
-    let topic = TopicName::read(alloc, name.as_slice())?;
     let received = draw.below(40).saturating_add(100);
-    let operation = operation_at(alloc, topic, draw.below(8), received)?;
+    let kind = draw.below(8);
+    let operation = operation_at(alloc, &name, kind, received).ok_or("no operation")?;
     Ok(Entry { origin, operation })
 }
 

@@ -1,0 +1,172 @@
+//! What clients that share a place show after memory was refused to what one of them hands over, or to the writer for it.
+
+ghost use Rattle.std.specs.Prelude.{◌≡◌};
+
+use crate::groups::{
+    Book, Done, Left, Place, Plan, ROUNDS, groups, leave, refused, submit_all, summed,
+};
+use crate::view::View;
+use rs_clients::{ClientGate, SharedPlaces};
+use rs_intake::{BlankQueue, Ended, LineEnd, LineName, blank_queue, run_writer};
+use rs_message::{Operation, PlaceCount, SubmitFault};
+use rs_session::Gate;
+use rs_store::TopicLimit;
+use rs_topic::TopicFilter;
+use rs_trials_kit::Failure;
+use rs_version::Blank;
+use std::alloc::Global;
+use std::marker::Brand;
+use std::mem::swap;
+use std::sync::{Arc, Wait};
+use std::thread::{JoinHandle, Threads, spawn};
+
+/// Two clients of a place. The one that submits next was not the last.
+#[derive(Drop)]
+struct Pair<N: LineName, H: Wait + Copy + Drop> {
+    own: ClientGate<N, H>,
+    other: ClientGate<N, H>,
+    all: TopicFilter,
+}
+
+impl<N: LineName, H: Wait + Copy + Drop> Place for Pair<N, H> {
+    fn expect(&mut self, changes: Vec<Operation>) {
+        swap(&mut self.own, &mut self.other);
+        self.own.expect(changes);
+    }
+
+    fn submit(&mut self, change: Operation) -> Done {
+        match self.own.submit(change) {
+            // Nobody else submits meanwhile, so the entry is the last of the list that was told with it.
+            Ok(()) => Done::Published(self.own.version()),
+            Err(SubmitFault::NoMemory) => Done::Refused,
+            Err(SubmitFault::Open) => Done::Held,
+            Err(_) => Done::Other,
+        }
+    }
+
+    fn look(&mut self) -> Option<View> {
+        let found = self.own.answer(&self.all, 0).ok()?;
+        Some(View {
+            version: self.own.version(),
+            found: found.len() as u64,
+        })
+    }
+}
+
+#[derive(Drop)]
+struct Running<N: LineName, H: Wait + Copy + Drop> {
+    writer: JoinHandle<Ended<N, H>>,
+    places: Arc<SharedPlaces<N>>,
+    pair: Pair<N, H>,
+}
+
+/// Opens the store and the queue, and starts the writer on a thread of its own.
+fn run<H: Wait + Threads + Copy + Send + Sync + 'static, N: LineName + Send + Sync + 'static>(
+    rt: H,
+    alloc: Global,
+    blank: Blank,
+    queue: BlankQueue,
+    all: TopicFilter,
+) -> Result<Running<N, H>, Failure>
+    requires store { (blank.history ≡ N.history) × (blank.limit ≡ N.limit) }
+    requires queue { (queue.name ≡ N.queue) × (queue.places ≡ N.places) }
+{
+    let (writer, seats) = blank.open::<N, H>(rt)?;
+    let (intake, lines, queue) = queue.open::<N>()?;
+    let places = Arc::new(alloc, SharedPlaces::new(&rt, alloc, intake, seats, lines)?)?;
+    let (Some(own), Some(other)) = (
+        ClientGate::new(rt, alloc, Arc::try_clone(&places)?, 0),
+        ClientGate::new(rt, alloc, Arc::try_clone(&places)?, 0),
+    ) else {
+        return Err(Failure::Wrong);
+    };
+    match spawn(&rt, move || run_writer(&rt, queue, writer)) {
+        Ok(writer) => Ok(Running {
+            writer,
+            places,
+            pair: Pair { own, other, all },
+        }),
+        Err(_) => Err(Failure::NoMemory),
+    }
+}
+
+/// Closes the line, once no client has the place any more.
+fn close<N: LineName, H: Wait>(
+    rt: &H,
+    alloc: Global,
+    places: Arc<SharedPlaces<N>>,
+) -> Result<Vec<LineEnd<N>>, Failure> {
+    let Ok(places) = Arc::try_unwrap(places) else {
+        return Err(Failure::Wrong);
+    };
+    let ends = Vec::with_capacity(alloc, places.len())?;
+    Ok(places.close(rt, ends))
+}
+
+/// The clients submit in turn while the writer works on a thread of its own. Then the place is closed, and all is settled.
+fn tried<H: Wait + Threads + Copy + Send + Sync + 'static, N: LineName + Send + Sync + 'static>(
+    rt: H,
+    alloc: Global,
+    blank: Blank,
+    queue: BlankQueue,
+    all: TopicFilter,
+    plan: Plan,
+) -> Result<(Book, Left), Failure>
+    requires store { (blank.history ≡ N.history) × (blank.limit ≡ N.limit) }
+    requires queue { (queue.name ≡ N.queue) × (queue.places ≡ N.places) }
+{
+    // They are made before: between two submits, only what the calls themselves need takes memory.
+    let groups = groups(alloc, plan)?;
+    let Running {
+        writer,
+        places,
+        mut pair,
+    } = run::<H, N>(rt, alloc, blank, queue, all)?;
+    let book = submit_all(&mut pair, groups, plan.ends_at_held);
+    drop(pair);
+    let ends = close(&rt, alloc, places)?;
+    let left = leave(ends, writer.join(&rt));
+    Ok((book?, left))
+}
+
+/// The same in a new store. How often memory was refused, as [`refused`] counts it.
+fn worked<H: Wait + Threads + Copy + Send + Sync + 'static>(
+    rt: H,
+    alloc: Global,
+    plan: Plan,
+) -> Result<[u64; 3], Failure> {
+    let limit = TopicLimit::new(ROUNDS).ok_or(Failure::Wrong)?;
+    let places = PlaceCount::new(1).ok_or(Failure::Wrong)?;
+    let blank = Blank::new(alloc, limit, places)?;
+    let queue = blank_queue(alloc, places)?;
+    let all = TopicFilter::read(alloc, b"#")?;
+    let (book, left) = tried::<H, Brand>(rt, alloc, blank, queue, all, plan)?;
+    refused(book, left)
+}
+
+/// All topics one by one; all of them in bursts of six.
+const PLANS: [Plan; 2] = [
+    Plan {
+        groups: 24,
+        size: 1,
+        ends_at_held: false,
+    },
+    Plan {
+        groups: 4,
+        size: 6,
+        ends_at_held: false,
+    },
+];
+
+/// Two clients of a place submit new topics to a store for each plan. Returns how often memory was refused in all, in the order of
+/// [`refused`].
+pub fn work<H: Wait + Threads + Copy + Send + Sync + 'static>(
+    rt: &H,
+    alloc: Global,
+) -> Result<Vec<u64>, Failure> {
+    let mut all = Vec::with_capacity(alloc, PLANS.len())?;
+    for plan in PLANS {
+        all.push(worked(*rt, alloc, plan)?)?;
+    }
+    summed(alloc, all.as_slice())
+}

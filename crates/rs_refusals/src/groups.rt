@@ -1,0 +1,215 @@
+//! Changes that are submitted in groups at a place, and what the place was told.
+
+ghost use Rattle.std.specs.Prelude.{◌≡◌, All, IfOk, false};
+ghost use Rattle.rs_message.specs.Messages.{is_sweep};
+
+use crate::view::View;
+use rs_intake::{Ended, LineEnd, LineName, settle};
+use rs_message::Operation;
+use rs_trials_kit::{Change, Failure, Naming, check, operation};
+use std::alloc::Global;
+use std::sync::Wait;
+
+/// How many topics are submitted: so many that the catalogues have to grow more than once.
+pub const ROUNDS: u32 = 24;
+
+/// What became of a submit.
+#[derive(Clone, Copy)]
+pub enum Done {
+    /// There is a receipt of this number.
+    Published(u64),
+    /// Memory was refused to the writer, by which the entry is held.
+    Held,
+    /// Memory was refused, and no entry was made.
+    Refused,
+    Other,
+}
+
+/// A place that submits and reads.
+pub trait Place {
+    ghost use Rattle.std.specs.Prelude.{◌≡◌, All, false};
+    ghost use Rattle.rs_message.specs.Messages.{is_sweep};
+
+    /// Says which changes are submitted next.
+    fn expect(&mut self, changes: Vec<Operation>)
+        requires { All (λ o. is_sweep o ≡ false) changes.items };
+
+    /// The seat learns the receipt, if there is one.
+    fn submit(&mut self, change: Operation) -> Done
+        requires { is_sweep change ≡ false };
+
+    fn look(&mut self) -> Option<View>;
+}
+
+/// What a place was told: the number of its last receipt, and whether an entry is held behind it; and how often memory was refused: to a
+/// submit that made no entry, and to one whose entry was held.
+#[derive(Clone, Copy)]
+pub struct Book {
+    kept: u64,
+    is_open: bool,
+    submit: u64,
+    held: u64,
+}
+
+impl Book {
+    /// What was held is published before another entry is.
+    fn publish(&mut self) {
+        self.kept = self.kept.saturating_add(u64::from(self.is_open));
+        self.is_open = false;
+    }
+
+    /// Takes note of a submit. Returns whether that may be: a receipt has the next number, behind that of an entry that is held.
+    fn note(&mut self, done: Done) -> bool {
+        match done {
+            Done::Published(number) => {
+                self.publish();
+                self.kept = self.kept.saturating_add(1);
+                self.kept == number
+            }
+            Done::Held => {
+                self.publish();
+                self.is_open = true;
+                self.held = self.held.saturating_add(1);
+                true
+            }
+            Done::Refused => {
+                self.submit = self.submit.saturating_add(1);
+                true
+            }
+            Done::Other => false,
+        }
+    }
+}
+
+/// The seat reads as many topics as the number of the last receipt says: none twice, and none of a submit that was refused. If
+/// memory is refused, it is asked again.
+fn read<P: Place>(place: &mut P, kept: u64) -> Result<(), Failure> {
+    let view = match place.look() {
+        Some(view) => Some(view),
+        None => place.look(),
+    };
+    match view {
+        Some(view) => check(view.version == kept && view.found == kept),
+        None => Err(Failure::NoMemory),
+    }
+}
+
+/// Sets of new topics, which are announced and then submitted. If they are more than one, they are one job.
+#[derive(Drop)]
+pub struct Group {
+    announced: Vec<Operation>,
+    changes: Vec<Operation>,
+    ghost plain: { All (λ o. is_sweep o ≡ false) announced.items },
+}
+
+/// How many groups are submitted, how many Sets each has, and whether none is behind one with an entry that is held.
+#[derive(Clone, Copy)]
+pub struct Plan {
+    pub groups: u64,
+    pub size: u64,
+    pub ends_at_held: bool,
+}
+
+/// Submits one of them.
+fn submit<P: Place>(place: &mut P, book: &mut Book, change: Operation) -> Result<(), Failure> {
+    if change.is_sweep() {
+        return Err(Failure::Wrong);
+    }
+    let done = place.submit(change);
+    check(book.note(done))
+}
+
+/// Submits all of a group, and then reads.
+fn submit_group<P: Place>(place: &mut P, book: &mut Book, group: Group) -> Result<(), Failure> {
+    let Group { announced, changes } = group;
+    place.expect(announced);
+    for change in changes {
+        submit(place, book, change)?;
+    }
+    read(place, book.kept)
+}
+
+/// Submits the groups.
+pub fn submit_all<P: Place>(
+    place: &mut P,
+    groups: Vec<Group>,
+    ends_at_held: bool,
+) -> Result<Book, Failure> {
+    let mut book = Book {
+        kept: 0,
+        is_open: false,
+        submit: 0,
+        held: 0,
+    };
+    for group in groups {
+        submit_group(place, &mut book, group)?;
+        if ends_at_held && book.is_open {
+            break;
+        }
+    }
+    Ok(book)
+}
+
+/// Sets of so many topics, from this number on.
+fn changes(alloc: Global, first: u64, count: u64) -> Result<Vec<Operation>, Failure>
+    ensures { IfOk result (λ changes. All (λ o. is_sweep o ≡ false) changes.items) }
+{
+    let mut changes = Vec::new(alloc);
+    for number in first..first.saturating_add(count) {
+        changes.push(operation(alloc, Naming::Houses, number, Change::Set(0, None))?)?;
+    }
+    Ok(changes)
+}
+
+pub fn groups(alloc: Global, plan: Plan) -> Result<Vec<Group>, Failure> {
+    let mut groups = Vec::new(alloc);
+    for index in 0..plan.groups {
+        let first = index.saturating_mul(plan.size);
+        let announced = changes(alloc, first, plan.size)?;
+        let changes = changes(alloc, first, plan.size)?;
+        groups.push(Group { announced, changes })?;
+    }
+    Ok(groups)
+}
+
+/// What the writer left: the last version, whether an entry is still held, and whether all that was sent was taken.
+#[derive(Clone, Copy)]
+pub struct Left {
+    version: u64,
+    is_held: bool,
+    is_settled: bool,
+}
+
+/// Settles what was sent with what the writer took.
+pub fn leave<N: LineName, R: Wait + Drop>(ends: Vec<LineEnd<N>>, ended: Ended<N, R>) -> Left {
+    let mut ended = ended;
+    let settled = settle(ends, &mut ended).ok();
+    Left {
+        version: ended.writer.tell().version(),
+        is_held: ended.held.is_some(),
+        is_settled: settled == Some(ended.taken),
+    }
+}
+
+/// How often memory was refused in a run that was told and left this: to a submit that made no entry, to one whose entry was held, and to
+/// the last one, whose entry was held and was published when the writer ended. All that was sent was taken, and nothing twice.
+pub fn refused(book: Book, left: Left) -> Result<[u64; 3], Failure> {
+    // What is still held then was refused twice, and is not published.
+    let is_last = book.is_open && !left.is_held;
+    let kept = book.kept.saturating_add(u64::from(is_last));
+    check(left.is_settled && left.version == kept && (book.is_open || !left.is_held))?;
+    Ok([book.submit, book.held, u64::from(is_last)])
+}
+
+/// The sums of these counts.
+pub fn summed(alloc: Global, all: &[[u64; 3]]) -> Result<Vec<u64>, Failure> {
+    let mut sums = Vec::with_capacity(alloc, 3)?;
+    for at in 0..3 {
+        let mut sum = 0u64;
+        for counts in all {
+            sum = sum.saturating_add(counts[at]);
+        }
+        sums.push(sum)?;
+    }
+    Ok(sums)
+}

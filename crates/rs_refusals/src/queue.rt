@@ -1,0 +1,162 @@
+//! What the queue to the writer of a store shows after memory was refused to `submit`, or to the writer for it.
+
+ghost use Rattle.std.specs.Prelude.{◌≡◌};
+
+use crate::groups::{
+    Book, Done, Left, Place, Plan, ROUNDS, groups, leave, refused, submit_all, summed,
+};
+use crate::view::{View, look};
+use rs_intake::{BlankQueue, Ended, Intake, LineName, SeatLine, blank_queue, run_writer};
+use rs_message::{Operation, PlaceCount, SubmitFault};
+use rs_store::TopicLimit;
+use rs_topic::TopicFilter;
+use rs_trials_kit::Failure;
+use rs_version::{Blank, Seat};
+use std::alloc::Global;
+use std::marker::Brand;
+use std::sync::Wait;
+use std::thread::{JoinHandle, Threads, spawn};
+
+#[derive(Drop)]
+struct Open<N: LineName, H: Wait + Copy + Drop> {
+    rt: H,
+    intake: Intake<N>,
+    line: SeatLine<N>,
+    seat: Seat<N>,
+    all: TopicFilter,
+}
+
+impl<N: LineName, H: Wait + Copy + Drop> Place for Open<N, H> {
+    /// One change is not announced, as `serve` announces none.
+    fn expect(&mut self, changes: Vec<Operation>) {
+        if changes.len() > 1 {
+            self.line.expect(&self.rt, changes);
+        }
+    }
+
+    fn submit(&mut self, change: Operation) -> Done {
+        match self.intake.submit(&self.rt, &mut self.line, change) {
+            Ok(receipt) => {
+                self.seat.learn(receipt.told());
+                Done::Published(receipt.number())
+            }
+            Err(SubmitFault::NoMemory) => Done::Refused,
+            Err(SubmitFault::Open) => Done::Held,
+            Err(_) => Done::Other,
+        }
+    }
+
+    fn look(&mut self) -> Option<View> {
+        look(&mut self.seat, &self.all)
+    }
+}
+
+#[derive(Drop)]
+struct Running<N: LineName, H: Wait + Copy + Drop> {
+    writer: JoinHandle<Ended<N, H>>,
+    place: Open<N, H>,
+}
+
+/// Opens the store and the queue, and starts the writer on a thread of its own.
+fn run<H: Wait + Threads + Copy + Send + Sync + 'static, N: LineName + Send + Sync + 'static>(
+    rt: H,
+    blank: Blank,
+    queue: BlankQueue,
+    all: TopicFilter,
+) -> Result<Running<N, H>, Failure>
+    requires store { (blank.history ≡ N.history) × (blank.limit ≡ N.limit) }
+    requires queue { (queue.name ≡ N.queue) × (queue.places ≡ N.places) }
+{
+    let (writer, mut seats) = blank.open::<N, H>(rt)?;
+    let (intake, mut lines, queue) = queue.open::<N>()?;
+    let (Some(line), Some(seat)) = (lines.pop(), seats.pop()) else {
+        return Err(Failure::Wrong);
+    };
+    match spawn(&rt, move || run_writer(&rt, queue, writer)) {
+        Ok(writer) => Ok(Running {
+            writer,
+            place: Open {
+                rt,
+                intake,
+                line,
+                seat,
+                all,
+            },
+        }),
+        Err(_) => Err(Failure::NoMemory),
+    }
+}
+
+/// Submits topics while the writer works on a thread of its own, ends it, and settles.
+fn tried<H: Wait + Threads + Copy + Send + Sync + 'static, N: LineName + Send + Sync + 'static>(
+    rt: H,
+    alloc: Global,
+    blank: Blank,
+    queue: BlankQueue,
+    all: TopicFilter,
+    plan: Plan,
+) -> Result<(Book, Left), Failure>
+    requires store { (blank.history ≡ N.history) × (blank.limit ≡ N.limit) }
+    requires queue { (queue.name ≡ N.queue) × (queue.places ≡ N.places) }
+{
+    // They are made before: between two submits, only what the calls themselves need takes memory.
+    let groups = groups(alloc, plan)?;
+    let Running { writer, mut place } = run::<H, N>(rt, blank, queue, all)?;
+    let book = submit_all(&mut place, groups, plan.ends_at_held);
+    let Open { line, .. } = place;
+    let ends = vec![in alloc; line.close(&rt)]?;
+    let left = leave(ends, writer.join(&rt));
+    Ok((book?, left))
+}
+
+/// The same in a new store. How often memory was refused, as [`refused`] counts it.
+fn worked<H: Wait + Threads + Copy + Send + Sync + 'static>(
+    rt: H,
+    alloc: Global,
+    plan: Plan,
+) -> Result<[u64; 3], Failure> {
+    let limit = TopicLimit::new(ROUNDS).ok_or(Failure::Wrong)?;
+    let places = PlaceCount::new(1).ok_or(Failure::Wrong)?;
+    let blank = Blank::new(alloc, limit, places)?;
+    let queue = blank_queue(alloc, places)?;
+    let all = TopicFilter::read(alloc, b"#")?;
+    let (book, left) = tried::<H, Brand>(rt, alloc, blank, queue, all, plan)?;
+    refused(book, left)
+}
+
+/// All topics one by one, and none after one whose entry is held; all of them one by one; all of them, three in a job; all in one job, whose
+/// replies are two messages if the writer waited for it.
+const PLANS: [Plan; 4] = [
+    Plan {
+        groups: 24,
+        size: 1,
+        ends_at_held: true,
+    },
+    Plan {
+        groups: 24,
+        size: 1,
+        ends_at_held: false,
+    },
+    Plan {
+        groups: 8,
+        size: 3,
+        ends_at_held: false,
+    },
+    Plan {
+        groups: 1,
+        size: 24,
+        ends_at_held: false,
+    },
+];
+
+/// Submits new topics to a store for each plan. Returns how often memory was refused in all, in the order of [`refused`].
+pub fn work<H: Wait + Threads + Copy + Send + Sync + 'static>(
+    rt: &H,
+    alloc: Global,
+) -> Result<Vec<u64>, Failure> {
+    let mut all = Vec::with_capacity(alloc, PLANS.len())?;
+    for plan in PLANS {
+        all.push(worked(*rt, alloc, plan)?)?;
+    }
+    summed(alloc, all.as_slice())
+}
