@@ -1,11 +1,12 @@
 //! The jobs that lines send to the writer of a store, and the rule of the queue that carries them.
 //!
-//! A [`Job`] has [`Changes`] of one place, or says that its line sends nothing more. [`prepared`] and [`alone`] make changes of operations.
-//! The [`steps`] send a job, take one, and cut and join the passes of the queue, and each keeps [`QueueRule`]. By it, what the writer
-//! takes of a place is always a prefix of what the line sent, and all of it once the place's End was taken ([`line_order_law`]).
+//! A [`Job`] has [`Changes`] of one place, or says that the line of the place sends nothing more. [`prepared`] makes changes of operations,
+//! and [`alone`] of one entry. The functions of [`steps`] send a job and take one, and cut, join and compare what the ends of the queue
+//! know. Each keeps the rule of the queue ([`QueueRule`]): what the writer took of a place is always a prefix of what its line sent, and
+//! all of it once the place's End was taken ([`line_order_law`]).
 //!
-//! [`send`] and [`receive`] do the same on any channel with a rule. A failure is a [`Gone`]. A receive looks for a while before it sleeps
-//! ([`Patience`]), as often as [`Looks`] says.
+//! [`send`] and [`receive`] are those of any channel with a rule. If one fails, the other ends were gone ([`Gone`]). A receive looks for a
+//! while before it sleeps ([`Patience`]), as long as [`Looks`] says.
 //!
 //! Not promised: that a send or a receive returns, since these wait; that memory is there.
 #![tactic(auto)]
