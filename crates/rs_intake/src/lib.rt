@@ -1,4 +1,4 @@
-//! The queue to the writer of the store, and receipts back.
+//! The lines to the writer of a store, its loop, and receipts back.
 //!
 //! Each place has a line ([`SeatLine`]). [`Intake::submit`] sends an operation by the line, under the line's next serial, and
 //! waits for the receipt of just that entry. Changes that are announced to a line ([`SeatLine::expect`]) are sent together, as one job,

@@ -1,8 +1,8 @@
 //! A server of retained messages: many clients by TCP, over one store.
 //!
 //! [`Server::bind`] binds an address and makes an empty store, [`Server::address`] tells the address, and [`Server::run`] serves
-//! clients until so many have connected. Each place has a thread, which serves one client after the other, and the store's writer
-//! has one. A connection may have a limit for how long it is idle, and the log of the handle has a line when each begins and ends, and
+//! clients until so many have connected. Each client that is served at the same time has a thread, which serves one connection after the
+//! other, and the store's writer has one. A connection may have a limit for how long it is idle, and the log of the handle has a line when each begins and ends, and
 //! when the store is full.
 //!
 //! What a place does with a connection is `serve_place` of `rs_places`, and what a client of several does with one is `serve_client` of

@@ -11,7 +11,8 @@ use std::thread::Threads;
 use std::time::{Clock, Duration};
 
 /// Serves clients by TCP until so many have connected, or without an end. The address is printed before the first is accepted. A
-/// connection that is idle for as many seconds as `idle` says, if it is given, ends. With `log`, lines about each connection are written to standard error.
+/// connection that is idle for as many seconds as `idle` says, if it is given, ends. With `log`, lines about each connection are written
+/// to standard error.
 ///
 /// # Errors
 ///

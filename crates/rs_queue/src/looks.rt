@@ -31,7 +31,7 @@ const MOST: u64 = 65_536;
 /// How often each end looks before it sleeps, so that it looks for about the same time on every machine.
 #[derive(Clone, Copy, Debug, PartialEq, Eq)]
 pub struct Looks {
-    /// An end of the writer.
+    /// The writer's end of the queue.
     pub writer: u32,
     /// That of a line.
     pub line: u32,

@@ -27,6 +27,7 @@ fn where_nothing_is_timed_a_look_lasts_as_long_as_where_the_times_were_chosen(
 ) -> Result<(), Fail> {
     assert!(rt; Looks::of_time(CHOSEN) == Looks::untimed());
     assert!(rt; Looks::untimed().line == 1_024);
+    assert!(rt; Looks::untimed().shared < 64);
     Ok(())
 }
 
