@@ -12,7 +12,7 @@ use rs_message::{Operation, PlaceCount, SubmitFault};
 use rs_session::Gate;
 use rs_store::TopicLimit;
 use rs_topic::TopicFilter;
-use rs_trials_kit::Failure;
+use rs_calls_kit::Failure;
 use rs_version::Blank;
 use std::alloc::Global;
 use std::marker::Brand;

@@ -6,7 +6,7 @@ ghost use Rattle.rs_message.specs.Messages.{is_sweep};
 use crate::view::View;
 use rs_intake::{Ended, LineEnd, LineName, settle};
 use rs_message::Operation;
-use rs_trials_kit::{Change, Failure, Naming, check, operation};
+use rs_calls_kit::{Change, Failure, Naming, check, operation};
 use std::alloc::Global;
 use std::sync::Wait;
 

@@ -17,7 +17,7 @@ mod versions;
 mod view;
 mod window;
 
-use rs_trials_kit::Failure;
+use rs_calls_kit::Failure;
 use std::alloc::Global;
 use std::env;
 use std::env::Env;

@@ -10,7 +10,7 @@ use rs_intake::{BlankQueue, Ended, Intake, LineName, SeatLine, blank_queue, run_
 use rs_message::{Operation, PlaceCount, SubmitFault};
 use rs_store::TopicLimit;
 use rs_topic::TopicFilter;
-use rs_trials_kit::Failure;
+use rs_calls_kit::Failure;
 use rs_version::{Blank, Seat};
 use std::alloc::Global;
 use std::marker::Brand;

@@ -7,7 +7,7 @@ use crate::view::{View, look};
 use rs_message::{Entry, Origin, PlaceCount};
 use rs_store::TopicLimit;
 use rs_topic::TopicFilter;
-use rs_trials_kit::{Change, Failure, Naming, check, entry};
+use rs_calls_kit::{Change, Failure, Naming, check, entry};
 use rs_version::{Blank, PutFault, Receipt, Seat, StoreName, VersionWriter};
 use std::alloc::Global;
 use std::marker::Brand;

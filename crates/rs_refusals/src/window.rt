@@ -2,7 +2,7 @@
 
 use rs_packet::Qos;
 use rs_topic::TopicName;
-use rs_trials_kit::{Failure, check, messages};
+use rs_calls_kit::{Failure, check, messages};
 use rs_window::{Window, WindowFault};
 use std::alloc::Global;
 

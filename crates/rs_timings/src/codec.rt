@@ -6,7 +6,7 @@ use rs_packet::{
     Codes, Decoded, MAX_PACKET_SIZE, Message, Packet, Publish, PublishReply, Reply, Retained,
     Subscribe, decode, encode,
 };
-use rs_trials_kit::Failure;
+use rs_calls_kit::Failure;
 use std::alloc::Global;
 use std::io::Read;
 use std::rt::Clock;

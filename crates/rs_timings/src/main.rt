@@ -21,7 +21,7 @@ mod window;
 
 use crate::tree::Task;
 use rs_store::TopicLimit;
-use rs_trials_kit::{Failure, Naming};
+use rs_calls_kit::{Failure, Naming};
 use std::alloc::Global;
 use std::env;
 use std::env::Env;

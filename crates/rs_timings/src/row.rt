@@ -4,7 +4,7 @@ ghost use Rattle.std.specs.Prelude.{◌≡◌, ◌<◌, ◌^◌, false, IfOk};
 ghost use Rattle.rs_message.specs.Messages.{is_sweep};
 
 use rs_message::Entry;
-use rs_trials_kit::{Answer, Change, Failure, Keeper, Naming, check, entry};
+use rs_calls_kit::{Answer, Change, Failure, Keeper, Naming, check, entry};
 use std::alloc::Global;
 use std::rt::Clock;
 use std::time::{Duration, Instant};

@@ -2,7 +2,7 @@
 
 use rs_packet::{PacketId, Qos};
 use rs_topic::TopicName;
-use rs_trials_kit::{Failure, messages};
+use rs_calls_kit::{Failure, messages};
 use rs_window::{Outgoing, Window};
 use std::alloc::Global;
 
