@@ -17,7 +17,7 @@ use std::sync::Wait;
 
 /// How many replies one message has if the writer had to wait for their job: the line reads them while the writer puts the next changes.
 /// No message has fewer, but the last one to a job.
-pub const FEW_REPLIES: usize = 16;
+pub const FEW_REPLIES: usize = 8;
 
 /// The most messages with replies to one job: the capacity of a way back. A line has one job at a time, so the writer waits for no line.
 const MAX_MESSAGES: usize = MAX_CHANGES / FEW_REPLIES;
