@@ -7,6 +7,7 @@ which each takes more than the server keeps free; by the settings of the service
 without them where they are not needed.
 """
 
+import itertools
 import resource
 import subprocess
 from contextlib import contextmanager
@@ -29,6 +30,8 @@ SPACES = {100: 2_000_000, 20_000: 6_000_000, 200_000: 6_000_000}
 REFUSED = 20
 # How many bytes a writer alone has.
 WRITER_SPACE = 64_000_000
+# How many clients may come, of which none was there when memory ran out.
+NEW = 100
 # How many clients are connected and silent, and how many bytes each may take, a quarter more than
 # it takes.
 IDLE, MOST_IDLE = 200, 40_000
@@ -148,6 +151,22 @@ def all_can_be_read():
         can_be_read(size, settings())
 
 
+def new_clients_read_and_clear():
+    """At the limit, clients whose threads have served nobody before read one topic each, and clear
+    topics, as often as they come."""
+    for size in SPACES:
+        with Server(places=PLACES, clients=NEW, topics=65_536, environment=settings()) as server:
+            limit(server, size_of(server, "VmData") + SPACES[size])
+            kept = filled(server, size)
+            for number in itertools.islice(itertools.cycle(kept), 3 * NEW):
+                missed = read_all(server, size, [number])
+                wanted(missed == 0, f"a new client could not read a message of {size} bytes")
+            with Client(server).connect() as client:
+                for number in kept:
+                    client.ask(publish(topic(number), b""), PUBACK)
+                client.disconnect()
+
+
 def new_ones_fit():
     """Once a client has cleared topics, new messages of others fit, if threads share their
     memory."""
@@ -193,6 +212,7 @@ def idle_clients_take_little():
 CHECKS = (
     nothing_is_lost,
     all_can_be_read,
+    new_clients_read_and_clear,
     new_ones_fit,
     a_full_writer_clears,
     idle_clients_take_little,

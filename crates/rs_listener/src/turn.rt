@@ -106,7 +106,11 @@ impl<H: Clock + Log + Copy + Send> Turn for ListenTurn<H> {
     type Time = ConnectionClock<H>;
 
     /// Waits for the next client. None if all were accepted.
+    ///
+    /// Before, it takes some memory and gives it back: what the allocator keeps for a thread is there then, even if no memory is left when
+    /// the thread's first client comes.
     fn next(&mut self) -> Option<Connection<FromClient, ToClient, ConnectionClock<H>>> {
+        drop(Vec::<u8>::with_capacity(self.alloc, 1));
         let Accepted {
             input,
             output,
