@@ -32,6 +32,8 @@ REFUSED = 20
 WRITER_SPACE = 64_000_000
 # How many clients may come, of which none was there when memory ran out.
 NEW = 100
+# How often one comes that is refused.
+AGAIN = 10
 # How many clients are connected and silent, and how many bytes each may take, a quarter more than
 # it takes.
 IDLE, MOST_IDLE = 200, 40_000
@@ -151,16 +153,22 @@ def all_can_be_read():
         can_be_read(size, settings())
 
 
+def is_read(server, size, number):
+    """Whether a new client gets a message. What the clients before it had may still be given back,
+    so one that is refused comes again."""
+    return any(read_all(server, size, [number]) == 0 for _ in range(AGAIN))
+
+
 def new_clients_read_and_clear():
-    """At the limit, clients whose threads have served nobody before read one topic each, and clear
-    topics, as often as they come."""
+    """At the limit, clients whose threads have served nobody before read one topic each, and then
+    one clears all."""
     for size in SPACES:
         with Server(places=PLACES, clients=NEW, topics=65_536, environment=settings()) as server:
             limit(server, size_of(server, "VmData") + SPACES[size])
             kept = filled(server, size)
             for number in itertools.islice(itertools.cycle(kept), 3 * NEW):
-                missed = read_all(server, size, [number])
-                wanted(missed == 0, f"a new client could not read a message of {size} bytes")
+                told = f"new clients could not read a message of {size} bytes"
+                wanted(is_read(server, size, number), told)
             with Client(server).connect() as client:
                 for number in kept:
                     client.ask(publish(topic(number), b""), PUBACK)
