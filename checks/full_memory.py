@@ -8,8 +8,10 @@ without them where they are not needed.
 """
 
 import itertools
+import os
 import resource
 import subprocess
+import time
 from contextlib import contextmanager
 
 from checks.listening_messages import publish, replayed, subscribe, topic, wanted
@@ -153,10 +155,36 @@ def all_can_be_read():
         can_be_read(size, settings())
 
 
+def wait_for_threads(server, count):
+    """Waits until so many threads are there and have taken what they take at first."""
+    end, before = time.monotonic() + PATIENCE, 0
+    while time.monotonic() < end:
+        now = size_of(server, "VmData")
+        if len(os.listdir(f"/proc/{server.run.pid}/task")) == count and now == before:
+            return
+        before = now
+        time.sleep(0.1)
+    wanted(False, f"there are not {count} threads")
+
+
 def is_read(server, size, number):
     """Whether a new client gets a message. What the clients before it had may still be given back,
     so one that is refused comes again."""
     return any(read_all(server, size, [number]) == 0 for _ in range(AGAIN))
+
+
+def clears(server, numbers):
+    """Whether a new client clears these topics. It comes again if it is refused."""
+    for _ in range(AGAIN):
+        try:
+            with Client(server).connect() as client:
+                for number in numbers:
+                    client.ask(publish(topic(number), b""), PUBACK)
+                client.disconnect()
+            return True
+        except (AssertionError, OSError):
+            time.sleep(0.1)
+    return False
 
 
 def new_clients_read_and_clear():
@@ -164,15 +192,14 @@ def new_clients_read_and_clear():
     one clears all."""
     for size in SPACES:
         with Server(places=PLACES, clients=NEW, topics=65_536, environment=settings()) as server:
+            # The first thread and the writer's are there, too.
+            wait_for_threads(server, NEW + 2)
             limit(server, size_of(server, "VmData") + SPACES[size])
             kept = filled(server, size)
             for number in itertools.islice(itertools.cycle(kept), 3 * NEW):
                 told = f"new clients could not read a message of {size} bytes"
                 wanted(is_read(server, size, number), told)
-            with Client(server).connect() as client:
-                for number in kept:
-                    client.ask(publish(topic(number), b""), PUBACK)
-                client.disconnect()
+            wanted(clears(server, kept), f"topics of {size} bytes could not be cleared")
 
 
 def new_ones_fit():
