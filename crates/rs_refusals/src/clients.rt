@@ -6,13 +6,13 @@ use crate::groups::{
     Book, Done, Left, Place, Plan, ROUNDS, groups, leave, refused, submit_all, summed,
 };
 use crate::view::View;
+use rs_calls_kit::Failure;
 use rs_clients::{ClientGate, SharedPlaces};
 use rs_intake::{BlankQueue, Ended, LineEnd, LineName, blank_queue, run_writer};
 use rs_message::{Operation, PlaceCount, SubmitFault};
 use rs_session::Gate;
 use rs_store::TopicLimit;
 use rs_topic::TopicFilter;
-use rs_calls_kit::Failure;
 use rs_version::Blank;
 use std::alloc::Global;
 use std::marker::Brand;

@@ -4,9 +4,9 @@ ghost use Rattle.std.specs.Prelude.{◌≡◌, All, IfOk, false};
 ghost use Rattle.rs_message.specs.Messages.{is_sweep};
 
 use crate::view::View;
+use rs_calls_kit::{Change, Failure, Naming, check, operation};
 use rs_intake::{Ended, LineEnd, LineName, settle};
 use rs_message::Operation;
-use rs_calls_kit::{Change, Failure, Naming, check, operation};
 use std::alloc::Global;
 use std::sync::Wait;
 

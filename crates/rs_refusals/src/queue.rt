@@ -6,11 +6,11 @@ use crate::groups::{
     Book, Done, Left, Place, Plan, ROUNDS, groups, leave, refused, submit_all, summed,
 };
 use crate::view::{View, look};
+use rs_calls_kit::Failure;
 use rs_intake::{BlankQueue, Ended, Intake, LineName, SeatLine, blank_queue, run_writer};
 use rs_message::{Operation, PlaceCount, SubmitFault};
 use rs_store::TopicLimit;
 use rs_topic::TopicFilter;
-use rs_calls_kit::Failure;
 use rs_version::{Blank, Seat};
 use std::alloc::Global;
 use std::marker::Brand;

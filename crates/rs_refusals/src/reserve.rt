@@ -2,9 +2,9 @@
 
 ghost use Rattle.std.specs.Prelude.{◌≡◌};
 
+use rs_calls_kit::{Answer, Change, Failure, Keeper, Naming, check, entry};
 use rs_message::{Entry, PlaceCount};
 use rs_store::TopicLimit;
-use rs_calls_kit::{Answer, Change, Failure, Keeper, Naming, check, entry};
 use rs_version::{Blank, StoreName};
 use std::alloc::Global;
 use std::collections::VecDeque;

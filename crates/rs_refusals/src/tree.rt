@@ -1,10 +1,10 @@
 //! What a tree and its copies show after memory was refused to `add`. To copy a tree takes none.
 
+use rs_calls_kit::{Answer, Change, Failure, HOUSE, Keeper, Naming, check, entry, topic};
 use rs_message::{Entry, Found, Remaining};
 use rs_store::{CalmCatalogue, Catalogue, TopicLimit};
 use rs_topic::{TopicFilter, TopicName};
 use rs_tree::TreeCatalogue;
-use rs_calls_kit::{Answer, Change, Failure, HOUSE, Keeper, Naming, check, entry, topic};
 use std::alloc::Global;
 
 /// How many topics the tree takes: so many that it has to grow more than once.

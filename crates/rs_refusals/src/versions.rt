@@ -4,10 +4,10 @@ ghost use Rattle.std.specs.Prelude.{◌≡◌, ◌<◌, ◌^◌, false, IfOk};
 ghost use Rattle.rs_message.specs.Messages.{is_sweep};
 
 use crate::view::{View, look};
+use rs_calls_kit::{Change, Failure, Naming, check, entry};
 use rs_message::{Entry, Origin, PlaceCount};
 use rs_store::TopicLimit;
 use rs_topic::TopicFilter;
-use rs_calls_kit::{Change, Failure, Naming, check, entry};
 use rs_version::{Blank, PutFault, Receipt, Seat, StoreName, VersionWriter};
 use std::alloc::Global;
 use std::marker::Brand;

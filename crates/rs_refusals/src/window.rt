@@ -1,8 +1,8 @@
 //! What a window gives after memory was refused to `queue`.
 
+use rs_calls_kit::{Failure, check, messages};
 use rs_packet::Qos;
 use rs_topic::TopicName;
-use rs_calls_kit::{Failure, check, messages};
 use rs_window::{Window, WindowFault};
 use std::alloc::Global;
 

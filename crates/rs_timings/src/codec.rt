@@ -2,11 +2,11 @@
 
 use crate::row::nanos;
 use bytes::Bytes;
+use rs_calls_kit::Failure;
 use rs_packet::{
     Codes, Decoded, MAX_PACKET_SIZE, Message, Packet, Publish, PublishReply, Reply, Retained,
     Subscribe, decode, encode,
 };
-use rs_calls_kit::Failure;
 use std::alloc::Global;
 use std::io::Read;
 use std::rt::Clock;

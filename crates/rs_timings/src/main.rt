@@ -20,8 +20,8 @@ mod versions;
 mod window;
 
 use crate::tree::Task;
-use rs_store::TopicLimit;
 use rs_calls_kit::{Failure, Naming};
+use rs_store::TopicLimit;
 use std::alloc::Global;
 use std::env;
 use std::env::Env;

@@ -3,8 +3,8 @@
 ghost use Rattle.std.specs.Prelude.{◌≡◌, ◌<◌, ◌^◌, false, IfOk};
 ghost use Rattle.rs_message.specs.Messages.{is_sweep};
 
-use rs_message::Entry;
 use rs_calls_kit::{Answer, Change, Failure, Keeper, Naming, check, entry};
+use rs_message::Entry;
 use std::alloc::Global;
 use std::rt::Clock;
 use std::time::{Duration, Instant};

@@ -1,10 +1,10 @@
 //! How long the calls of a tree take.
 
 use crate::row::{EARLY, Row, expiring, fill, in_order, nanos, timed};
+use rs_calls_kit::{Answer, Change, Failure, Keeper, Naming, check};
 use rs_store::{CalmCatalogue, Catalogue, TopicLimit};
 use rs_topic::TopicFilter;
 use rs_tree::TreeCatalogue;
-use rs_calls_kit::{Answer, Change, Failure, Keeper, Naming, check};
 use std::alloc::Global;
 use std::rt::Clock;
 use std::time::{Duration, Instant};

@@ -3,10 +3,10 @@
 ghost use Rattle.std.specs.Prelude.{◌≡◌};
 
 use crate::row::{EARLY, Row, expiring, fill, in_order, nanos, timed};
+use rs_calls_kit::{Change, Failure, Keeper, Naming, check};
 use rs_message::{MAX_PLACES, PlaceCount};
 use rs_store::TopicLimit;
 use rs_topic::TopicFilter;
-use rs_calls_kit::{Change, Failure, Keeper, Naming, check};
 use rs_version::{Blank, Seat, StoreName, VersionWriter};
 use std::alloc::Global;
 use std::marker::Brand;

@@ -1,8 +1,8 @@
 //! Rounds of a window: a message is given, acknowledged, and queued again behind the others.
 
+use rs_calls_kit::{Failure, messages};
 use rs_packet::{PacketId, Qos};
 use rs_topic::TopicName;
-use rs_calls_kit::{Failure, messages};
 use rs_window::{Outgoing, Window};
 use std::alloc::Global;
 
