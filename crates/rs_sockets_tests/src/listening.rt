@@ -7,6 +7,7 @@ use std::io::ErrorKind;
 use std::net::{Net, OpenStream, SocketAddr, TcpListener, TcpStream};
 use std::sync::atomic::{AtomicU64, Ordering};
 use std::test::Fail;
+use std::thread::Threads;
 use std::time::{Clock, Duration};
 
 /// Sleeps at once, and notes how long that was to be, in milliseconds.
@@ -41,7 +42,7 @@ fn knock<H: Net<Listener = TcpListener, Stream = TcpStream>>(
 }
 
 /// How long a listener sleeps for so many connections, each of which fails, since none may be idle at all. It gives none.
-fn slept<H: Net<Listener = TcpListener, Stream = TcpStream>>(
+fn slept<H: Net<Listener = TcpListener, Stream = TcpStream> + Threads>(
     rt: &H,
     alloc: Global,
     connections: u64,
