@@ -93,17 +93,19 @@ fn the_changes_of_each_place_are_made_in_order(rt: HostRuntime) -> Result<(), Fa
     Ok(())
 }
 
-/// A retained PUBLISH of a, as large as a packet may be, goes from one place to another.
+/// A retained PUBLISH of a, as large as a packet may be, up to its payload.
+const HEAD: &[u8] = b"\x31\xFC\xFF\x0F\x00\x01a\x00";
+
+/// It goes from one place to another.
 #[test]
 fn the_largest_packet_goes_from_place_to_place(rt: HostRuntime) -> Result<(), Fail> {
     let alloc = rt.alloc();
     let payload = vec![in alloc; b'x'; 262_136]?;
-    let head = b"\x31\xFC\xFF\x0F\x00\x01a\x00".as_slice();
-    let replies = joined(alloc, &[SUBSCRIBED, head])?;
+    let replies = joined(alloc, &[SUBSCRIBED, HEAD])?;
     let rows = [
         Row {
             course: ending(PLAIN, Ok(Served::EndOfInput)),
-            sent: [CONNECT, head, &payload, NONE],
+            sent: [CONNECT, HEAD, &payload, NONE],
             replies: [CONNACK, NONE, NONE],
         },
         Row {
