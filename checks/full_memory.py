@@ -34,8 +34,6 @@ REFUSED = 20
 WRITER_SPACE = 64_000_000
 # How many clients may come, of which none was there when memory ran out.
 NEW = 100
-# How often one comes that is refused.
-AGAIN = 10
 # How many clients are connected and silent, and how many bytes each may take, a quarter more than
 # it takes.
 IDLE, MOST_IDLE = 200, 40_000
@@ -155,27 +153,38 @@ def all_can_be_read():
         can_be_read(size, settings())
 
 
+def comes(is_there):
+    """Whether it is there at last, however slow the machine is."""
+    end = time.monotonic() + PATIENCE
+    while not is_there():
+        if time.monotonic() > end:
+            return False
+        time.sleep(0.1)
+    return True
+
+
 def wait_for_threads(server, count):
     """Waits until so many threads are there and have taken what they take at first."""
-    end, before = time.monotonic() + PATIENCE, 0
-    while time.monotonic() < end:
-        now = size_of(server, "VmData")
-        if len(os.listdir(f"/proc/{server.run.pid}/task")) == count and now == before:
-            return
-        before = now
-        time.sleep(0.1)
-    wanted(False, f"there are not {count} threads")
+    sizes = [0]
+
+    def are_there():
+        sizes.append(size_of(server, "VmData"))
+        tasks = os.listdir(f"/proc/{server.run.pid}/task")
+        return len(tasks) == count and sizes[-1] == sizes[-2]
+
+    wanted(comes(are_there), f"there are not {count} threads")
 
 
 def is_read(server, size, number):
     """Whether a new client gets a message. What the clients before it had may still be given back,
     so one that is refused comes again."""
-    return any(read_all(server, size, [number]) == 0 for _ in range(AGAIN))
+    return comes(lambda: read_all(server, size, [number]) == 0)
 
 
 def clears(server, numbers):
     """Whether a new client clears these topics. It comes again if it is refused."""
-    for _ in range(AGAIN):
+
+    def are_cleared():
         try:
             with Client(server).connect() as client:
                 for number in numbers:
@@ -183,8 +192,9 @@ def clears(server, numbers):
                 client.disconnect()
             return True
         except (AssertionError, OSError):
-            time.sleep(0.1)
-    return False
+            return False
+
+    return comes(are_cleared)
 
 
 def new_clients_read_and_clear():
