@@ -13,7 +13,7 @@ ROOT = Path(__file__).resolve().parent.parent
 # A file in backticks: of the repository, or of a crate, as `rs_store/src/tree.rt`.
 FILE = re.compile(r"`((?:[\w.-]+/)+[\w-]+(?:\.\w+)?)`")
 # A file in backticks of a crate that is named beside it, as `src/tree.rt`.
-CRATE_FILE = re.compile(r"`((?:src|specs|proofs|must-fail)/[\w./-]+)`")
+CRATE_FILE = re.compile(r"`((?:src|specs|proofs|must-fail(?:-outside)?)/[\w./-]+)`")
 CRATE = re.compile(r"`(rs_\w+|rstored)[/`]")
 # A name in backticks, alone or with what it is of, as `Catalogue::apply`.
 NAME = re.compile(r"`([A-Za-z_]\w+(?:::\w+)*)`")
@@ -26,7 +26,7 @@ ELSEWHERE = {
     *("AF_NETLINK", "AF_UNIX", "stunnel4", "UnixListener", "bind", "put_", "A2", "B0", "E0")
 }
 SOURCES = (
-    *(f"crates/*/{folder}/**/*" for folder in ("src", "specs", "proofs", "must-fail", "data")),
+    *(f"crates/*/{folder}/**/*" for folder in ("src", "specs", "proofs", "must-fail*", "data")),
     *("checks/*", "bench/*", "contrib/*", "harness/*", ".ci/*", "crates.txt", "HANDLES"),
 )
 LINK = re.compile(r"\]\(([^)#\s]+)(?:#([^)\s]*))?\)")
