@@ -12,7 +12,7 @@ use Rattle.rs_packet.specs.declared.packet.Qos.{Qos}
 use Rattle.rs_packet.specs.declared.packet.Qos.TheVariants as qos
 use Rattle.rs_window.specs.declared.fault.Ack.{Ack}
 use Rattle.rs_window.specs.declared.fault.WindowFault.{WindowFault}
-use Rattle.rs_window.specs.declared.fault.WindowFault.TheVariants.{TooManyWaiting, NoMemory, WrongKind, TooManyHeld}
+use Rattle.rs_window.specs.declared.fault.WindowFault.TheVariants.{TooManyWaiting, NoMemory, WrongKind, TooManyInUse}
 use Rattle.rs_window.specs.declared.identifiers.Kind.{Kind}
 use Rattle.rs_window.specs.declared.identifiers.Kind.TheVariants.{AtLeastOnce, ExactlyOnce}
 use Rattle.rs_window.specs.declared.waiting.Waiting.{Waiting}
@@ -34,7 +34,7 @@ step_limits old (Queue found granted subscription (Ok done)) new h = (ap (λ (s 
 step_limits old (Queue found granted subscription (Err TooManyWaiting)) new h = (ap (λ (s : State). s.quota) h.1, ap (λ (s : State). s.packet_maximum) h.1)
 step_limits old (Queue found granted subscription (Err NoMemory)) new h = (ap (λ (s : State). s.quota) h.1, ap (λ (s : State). s.packet_maximum) h.1)
 step_limits old (Queue found granted subscription (Err WrongKind)) new h = absurd h
-step_limits old (Queue found granted subscription (Err TooManyHeld)) new h = absurd h
+step_limits old (Queue found granted subscription (Err TooManyInUse)) new h = absurd h
 step_limits old (Next now None) new h = (ap (λ (s : State). s.quota) h.0, ap (λ (s : State). s.packet_maximum) h.0)
 step_limits old (Next now (Some p)) new h = (ap (λ (s : State). s.quota) h.becomes, ap (λ (s : State). s.packet_maximum) h.becomes)
 step_limits old (Acknowledge ack id answer) new h = (ap (λ (s : State). s.quota) h.1, ap (λ (s : State). s.packet_maximum) h.1)
@@ -98,7 +98,7 @@ step_kinds old (Queue found granted subscription (Ok done)) new h id = same_get 
 step_kinds old (Queue found granted subscription (Err TooManyWaiting)) new h id = same_get new old id (ap (λ (s : State). s.kinds) h.1)
 step_kinds old (Queue found granted subscription (Err NoMemory)) new h id = same_get new old id (ap (λ (s : State). s.kinds) h.1)
 step_kinds old (Queue found granted subscription (Err WrongKind)) new h id = absurd h
-step_kinds old (Queue found granted subscription (Err TooManyHeld)) new h id = absurd h
+step_kinds old (Queue found granted subscription (Err TooManyInUse)) new h id = absurd h
 step_kinds old (Next now None) new h id = same_get new old id (ap (λ (s : State). s.kinds) h.0)
 step_kinds old (Next now (Some p)) new h id = ap (λ (s : State). get s.kinds id) h.becomes ∙ get_given old.kinds p.qos p.id id
 step_kinds old (Acknowledge ack other answer) new h id = ap (λ (s : State). get s.kinds id) h.1 ∙ get_acknowledged ack old.kinds other (get old.kinds other) id refl
@@ -138,7 +138,7 @@ step_quota old (Queue found granted subscription (Ok done)) new h q = omega (ari
 step_quota old (Queue found granted subscription (Err TooManyWaiting)) new h q = omega (arith, q, ap (λ (s : State). len s.kinds) h.1)
 step_quota old (Queue found granted subscription (Err NoMemory)) new h q = omega (arith, q, ap (λ (s : State). len s.kinds) h.1)
 step_quota old (Queue found granted subscription (Err WrongKind)) new h q = absurd h
-step_quota old (Queue found granted subscription (Err TooManyHeld)) new h q = absurd h
+step_quota old (Queue found granted subscription (Err TooManyInUse)) new h q = absurd h
 step_quota old (Next now None) new h q = omega (arith, q, ap (λ (s : State). len s.kinds) h.0)
 step_quota old (Next now (Some p)) new h q = omega (arith, len_given old.kinds old.quota p.qos p.id h.numbered q, ap (λ (s : State). len s.kinds) h.becomes)
 step_quota old (Acknowledge ack id answer) new h q = omega (arith, q, len_acknowledged ack old.kinds id (get old.kinds id) refl, ap (λ (s : State). len s.kinds) h.1)
@@ -175,7 +175,7 @@ step_waiting old (Queue found granted subscription (Ok done)) new h = ([], sym (
 step_waiting old (Queue found granted subscription (Err TooManyWaiting)) new h = ([], append-nil old.waiting ∙ sym (ap (λ (s : State). s.waiting) h.1), refl)
 step_waiting old (Queue found granted subscription (Err NoMemory)) new h = ([], append-nil old.waiting ∙ sym (ap (λ (s : State). s.waiting) h.1), refl)
 step_waiting old (Queue found granted subscription (Err WrongKind)) new h = absurd h
-step_waiting old (Queue found granted subscription (Err TooManyHeld)) new h = absurd h
+step_waiting old (Queue found granted subscription (Err TooManyInUse)) new h = absurd h
 step_waiting old (Next now None) new h =
     let (dropped, whole, all) = gone_before old.packet_maximum now old.waiting in
     (dropped, append-nil old.waiting ∙ whole ∙ ap (λ (xs : List Waiting). dropped ++ xs) (sym (ap (λ (s : State). s.waiting) h.0)), all)
@@ -212,7 +212,7 @@ step_few old (Queue found granted subscription (Ok done)) new h f =
 step_few old (Queue found granted subscription (Err TooManyWaiting)) new h f = omega (arith, f, ap (λ (s : State). length s.waiting) h.1)
 step_few old (Queue found granted subscription (Err NoMemory)) new h f = omega (arith, f, ap (λ (s : State). length s.waiting) h.1)
 step_few old (Queue found granted subscription (Err WrongKind)) new h f = absurd h
-step_few old (Queue found granted subscription (Err TooManyHeld)) new h f = absurd h
+step_few old (Queue found granted subscription (Err TooManyInUse)) new h f = absurd h
 step_few old (Next now None) new h f = omega (arith, f, sendable_fewer old.packet_maximum now old.waiting, ap (λ (s : State). length s.waiting) h.0)
 step_few old (Next now (Some p)) new h f = omega (arith, f, sendable_fewer old.packet_maximum now old.waiting, ap (λ (xs : List Waiting). length xs) h.leaves)
 step_few old (Acknowledge ack id answer) new h f = omega (arith, f, ap (λ (s : State). length s.waiting) h.1)

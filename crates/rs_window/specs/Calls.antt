@@ -7,7 +7,7 @@ use Rattle.rs_message.specs.declared.entry.Found.{Found}
 use Rattle.rs_window.specs.declared.fault.Ack.{Ack}
 use Rattle.rs_window.specs.declared.fault.Ack.TheVariants.{Freed, Released, Unknown}
 use Rattle.rs_window.specs.declared.fault.WindowFault.{WindowFault}
-use Rattle.rs_window.specs.declared.fault.WindowFault.TheVariants.{TooManyWaiting, NoMemory, WrongKind, TooManyHeld}
+use Rattle.rs_window.specs.declared.fault.WindowFault.TheVariants.{TooManyWaiting, NoMemory, WrongKind, TooManyInUse}
 use Rattle.rs_window.specs.declared.identifiers.Kind.{Kind}
 use Rattle.rs_window.specs.declared.identifiers.Kind.TheVariants.{AtLeastOnce, ExactlyOnce, Received}
 use Rattle.rs_window.specs.declared.waiting.Waiting.{Waiting}
@@ -75,7 +75,7 @@ IsQueued found granted subscription old (Ok done) new =
 IsQueued found granted subscription old (Err TooManyWaiting) new = (MAX_WAITING < length old.waiting + length found) × (new ≡ old)
 IsQueued found granted subscription old (Err NoMemory) new = (length old.waiting + length found ≤ MAX_WAITING) × (new ≡ old)
 IsQueued found granted subscription old (Err WrongKind) new = ⊥
-IsQueued found granted subscription old (Err TooManyHeld) new = ⊥
+IsQueued found granted subscription old (Err TooManyInUse) new = ⊥
 
 -- 4.9: nothing waits, or the first needs an identifier and the quota is used up
 abbrev pub NeedsQuota : Kinds → ℕ → List Waiting → Type 0

@@ -2,7 +2,7 @@
 //! Version 5.0, sections 4.3, 4.4, 4.6 and 4.9). docs/WINDOW.md has the rules in words.
 //!
 //! [`Window::queue`] appends messages to what waits, [`Window::next`] gives the first that is to be sent at a given time, and the
-//! acknowledgements give identifiers back. [`Inbound`] holds the identifiers of QoS 2 packets that were received.
+//! acknowledgements give identifiers back. [`Inbound`] has those of QoS 2 packets that were received, in use until they are released.
 //!
 //! Contracts promise that each call is one step on what the identifiers wait for and on the list of what waits; a refused call
 //! changes nothing. [`replay_law`] promises of every list of calls that each queued message is given once, in order, or was

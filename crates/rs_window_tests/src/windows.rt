@@ -485,14 +485,14 @@ fn a_queue_without_memory_changes_nothing(rt: HostRuntime) -> Result<(), Fail> {
 }
 
 #[test]
-fn as_many_are_held_as_the_receive_maximum(rt: HostRuntime) -> Result<(), Fail> {
+fn as_many_are_in_use_as_the_receive_maximum(rt: HostRuntime) -> Result<(), Fail> {
     let mut inbound = Inbound::new();
     for number in 0..RECEIVE_MAXIMUM {
         assert!(rt; !inbound.is_full());
         assert!(rt; inbound.begin(id(number + 1)?).is_ok());
     }
     assert!(rt; inbound.is_full());
-    assert!(rt; inbound.begin(id(17)?) == Err(WindowFault::TooManyHeld));
+    assert!(rt; inbound.begin(id(17)?) == Err(WindowFault::TooManyInUse));
     assert!(rt; !inbound.holds(id(17)?));
     assert!(rt; inbound.begin(id(16)?).is_ok());
     assert!(rt; inbound.release(id(3)?));
@@ -520,7 +520,7 @@ const FAULTS: &[(WindowFault, u8, &str)] = &[
         "the packet identifier waits for another acknowledgement; answer QoS 1 by PUBACK, QoS 2 by PUBREC and then PUBCOMP",
     ),
     (
-        WindowFault::TooManyHeld,
+        WindowFault::TooManyInUse,
         53,
         "16 messages of QoS 2 are not yet released; send PUBREL for one of them first",
     ),
