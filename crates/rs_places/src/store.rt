@@ -101,7 +101,7 @@ pub fn run_store<T: Turn + Send + Drop + 'static, H: Threads + Wait + Copy + Sen
 ) -> Result<StoreEnd<T>, StoreFault>
     requires places { queue.places ≡ blank.places }
     requires turns { length turns.items ≡ blank.places }
-    ensures { IfOk result (λ end. IsStoreRun blank.limit blank.places (map T.plan turns.items) (map T.plan end.turns.items) end.version end.changes) }
+    ensures { IfOk result (λ end. IsStoreRun blank.limit blank.places (map T.connections turns.items) (map T.connections end.turns.items) end.version end.changes) }
 {
     run_named::<Brand, T, H>(rt, alloc, blank, queue, turns)
 }
@@ -121,7 +121,7 @@ fn run_named<
     requires queue { (queue.name ≡ N.queue) × (queue.places ≡ N.places) }
     requires places { queue.places ≡ blank.places }
     requires turns { length turns.items ≡ blank.places }
-    ensures { IfOk result (λ end. IsStoreRun blank.limit blank.places (map T.plan turns.items) (map T.plan end.turns.items) end.version end.changes) }
+    ensures { IfOk result (λ end. IsStoreRun blank.limit blank.places (map T.connections turns.items) (map T.connections end.turns.items) end.version end.changes) }
 {
     let (writer, seats) = blank.open::<N, H>(rt)?;
     let (intake, lines, queue) = queue.open::<N>()?;
