@@ -392,7 +392,7 @@ impl<N: LineName> SeatLine<N> {
         }
     }
 
-    /// What the writer answers. `Gone` if it is gone.
+    /// The next reply of the writer. `Gone` if it is gone.
     pub(crate) fn receive<R: Wait>(&mut self, rt: &R) -> Result<WriterReply<N>, Gone>
         ensures same { (self.new.place ≡ self.old.place) × (self.new.serial ≡ self.old.serial) × (self.new.sent ≡ self.old.sent) }
         ensures heard { MatchResult result (λ reply. self.new.heard ≡ self.old.heard ++ reply ∷ []) (λ _. self.new.heard ≡ self.old.heard) }

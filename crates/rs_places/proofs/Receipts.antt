@@ -85,7 +85,7 @@ submits_ok limit operation old new seen list told e number legal at is one prefi
     let Q : Entry → Type 0 = λ d. Contains list d in
     record { handed_over = handed_over limit operation new seen list told e number legal at is one; submitted = record { entry = subst Q is there; serial = above; sent = sent }; used = tt }
 
--- a submit that no reply answered, or that the writer holds, used a serial
+-- a submit to which no reply came, or that the writer holds, used a serial
 pub used_if_unknown : (before after : Line) (e : Entry) (fault : SubmitFault) → IsRefused before after e fault → UsesIfUnknown (mark_of before) (mark_of after) (Err fault)
 used_if_unknown before after e submit_fault.Full refused = tt
 used_if_unknown before after e submit_fault.NoMemory refused = tt
@@ -102,8 +102,8 @@ used_if_unknown before after e submit_fault.Unknown (inr (inr (inl sent))) = let
 used_if_unknown before after e submit_fault.Unknown (inr (inr (inr mistaken))) = let strange = mistaken.4 in absurd (cc (strange))
 
 -- what a refused submit leaves
-pub submits_err : (operation : Operation) (old new : Mark) (answer : Result (Unit {0}) SubmitFault) (fault : SubmitFault) (seen : List Entry) → answer ≡ Err fault → UsesIfUnknown old new (Err fault) → Submits operation old new answer seen seen
-submits_err operation old new answer fault seen is used =
+pub submits_err : (operation : Operation) (old new : Mark) (outcome : Result (Unit {0}) SubmitFault) (fault : SubmitFault) (seen : List Entry) → outcome ≡ Err fault → UsesIfUnknown old new (Err fault) → Submits operation old new outcome seen seen
+submits_err operation old new outcome fault seen is used =
     subst (λ (a : Result (Unit {0}) SubmitFault). Submits operation old new a seen seen) (sym is)
     (record { handed_over = none_handed_over operation new seen seen refl; submitted = tt; used = used })
 
@@ -143,12 +143,12 @@ operations_numbered place serial [] = refl
 operations_numbered place serial (o ∷ os) = ap (λ l. o ∷ l) (operations_numbered place (serial + 1) os)
 
 -- what a submit leaves of what was ahead. It was refused if something else was
-pub takes_pending : (ahead after : List Entry) (operation : Operation) (old new : Mark) (answer : Result (Unit {0}) SubmitFault) → IsAheadAfter ahead operation after
-    → (IsOther ahead operation → (answer ≡ Err Strange) × (new ≡ old)) → TakesPending operation old new answer (operations_of ahead) (operations_of after)
-takes_pending [] after operation old new answer none other = inl (ap operations_of none)
-takes_pending (e ∷ es) after operation old new answer (inl (here, left)) other =
+pub takes_pending : (ahead after : List Entry) (operation : Operation) (old new : Mark) (outcome : Result (Unit {0}) SubmitFault) → IsAheadAfter ahead operation after
+    → (IsOther ahead operation → (outcome ≡ Err Strange) × (new ≡ old)) → TakesPending operation old new outcome (operations_of ahead) (operations_of after)
+takes_pending [] after operation old new outcome none other = inl (ap operations_of none)
+takes_pending (e ∷ es) after operation old new outcome (inl (here, left)) other =
     inr (inl (ap (λ o. o ∷ operations_of es) here ∙ ap (λ l. operation ∷ operations_of l) (sym left)))
-takes_pending (e ∷ es) after operation old new answer (inr (unlike, left)) other =
+takes_pending (e ∷ es) after operation old new outcome (inr (unlike, left)) other =
     let (refused, same) = other unlike in
     inr (inr (ap operations_of left, refused, same))
 

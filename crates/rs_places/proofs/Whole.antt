@@ -14,7 +14,7 @@ use Rattle.rs_version.proofs.Origins.{origins_differ}
 use Rattle.rs_intake.specs.Lines.{Closed, Line, new_lines}
 use Rattle.rs_queue.specs.Parts.{IsPart}
 use Rattle.rs_queue.specs.QueueRule.{of_place}
-use Rattle.rs_intake.specs.Done.{Answer, IsWritten, Told, is_refused, not_refused}
+use Rattle.rs_intake.specs.Done.{IsWritten, Outcome, Told, is_refused, not_refused}
 use Rattle.rs_intake.specs.Settling.{AreOfPlaces, AreTakenInOrder, EachOnce}
 use Rattle.rs_intake.specs.Sweeps.{without_sweeps}
 use Rattle.rs_packet.specs.declared.packet.Publish.{Publish}
@@ -126,17 +126,17 @@ part_filter {A} f (x ∷ xs) (y ∷ ys) p = ⊎_elim
     more true h = part_behind (filter f (x ∷ xs)) (filter f ys) y h
     more false h = h
 
-not_refused_part : (entries : List Entry) (answers : List Answer) → IsPart (not_refused entries answers) entries
-not_refused_part [] answers = tt
+not_refused_part : (entries : List Entry) (outcomes : List Outcome) → IsPart (not_refused entries outcomes) entries
+not_refused_part [] outcomes = tt
 not_refused_part (entry ∷ entries) [] = tt
-not_refused_part (entry ∷ entries) (answer ∷ answers) = go (is_refused answer) (not_refused_part entries answers)
+not_refused_part (entry ∷ entries) (outcome ∷ outcomes) = go (is_refused outcome) (not_refused_part entries outcomes)
   where
-    go : (b : Bool) → IsPart (not_refused entries answers) entries → IsPart (cond b (not_refused entries answers) (entry ∷ not_refused entries answers)) (entry ∷ entries)
-    go true h = part_behind (not_refused entries answers) entries entry h
+    go : (b : Bool) → IsPart (not_refused entries outcomes) entries → IsPart (cond b (not_refused entries outcomes) (entry ∷ not_refused entries outcomes)) (entry ∷ entries)
+    go true h = part_behind (not_refused entries outcomes) entries entry h
     go false h = inl (refl, h)
 
 pub written_part : (limit places : ℕ) (entries kept : List Entry) (ways : List Told) → IsWritten limit places entries kept ways → IsPart (without_sweeps kept) entries
-written_part limit places entries kept ways w = let P : List Entry → Type 0 = λ l. IsPart l entries in subst P (sym w.changes) (not_refused_part entries w.answers)
+written_part limit places entries kept ways w = let P : List Entry → Type 0 = λ l. IsPart l entries in subst P (sym w.changes) (not_refused_part entries w.outcomes)
 
 part_of_front : {A : Type 0} (xs ys zs : List A) → IsPart xs ys → IsPart xs (ys ++ zs)
 part_of_front [] ys zs part = tt

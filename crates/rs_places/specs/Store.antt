@@ -105,7 +105,7 @@ pub record IsWriterRun (limit places version : ℕ) : Type 0 where
   pub held : Option Entry
   pub whole : history ≡ published ++ listed held
   pub entries : version ≡ length published
-  -- The writer took these entries, and answered each. By its answers the history came to be. All of it but the Sweeps are the entries that
+  -- The writer took these entries, and each has an outcome. By these the history came to be. All of it but the Sweeps are the entries that
   -- were not refused. The ways back by which it told them are tied to no line here.
   pub taken : List Entry
   pub ways : List Told
@@ -113,7 +113,7 @@ pub record IsWriterRun (limit places version : ℕ) : Type 0 where
   -- the entries that it took are of these places alone
   pub placed : AreOfPlaces places taken
   -- so of each place it has what was taken of the place less what was refused
-  pub not_refused_of : (place : ℕ) → of_place place (without_sweeps history) ≡ of_place place (not_refused taken written.answers)
+  pub not_refused_of : (place : ℕ) → of_place place (without_sweeps history) ≡ of_place place (not_refused taken written.outcomes)
 
 -- A store of so many new places was run. Each place served its turn, from that before to that after; the writer published so many
 -- entries; and so many changes are settled, or it is known that not all were taken.
