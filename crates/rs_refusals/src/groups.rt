@@ -104,7 +104,7 @@ pub struct Group {
 
 /// How many groups are submitted, how many Sets each has, and whether none is behind one with an entry that is held.
 #[derive(Clone, Copy)]
-pub struct Plan {
+pub struct Grouping {
     pub groups: u64,
     pub size: u64,
     pub ends_at_held: bool,
@@ -161,12 +161,12 @@ fn changes(alloc: Global, first: u64, count: u64) -> Result<Vec<Operation>, Fail
     Ok(changes)
 }
 
-pub fn groups(alloc: Global, plan: Plan) -> Result<Vec<Group>, Failure> {
+pub fn groups(alloc: Global, grouping: Grouping) -> Result<Vec<Group>, Failure> {
     let mut groups = Vec::new(alloc);
-    for index in 0..plan.groups {
-        let first = index.saturating_mul(plan.size);
-        let announced = changes(alloc, first, plan.size)?;
-        let changes = changes(alloc, first, plan.size)?;
+    for index in 0..grouping.groups {
+        let first = index.saturating_mul(grouping.size);
+        let announced = changes(alloc, first, grouping.size)?;
+        let changes = changes(alloc, first, grouping.size)?;
         groups.push(Group { announced, changes })?;
     }
     Ok(groups)
