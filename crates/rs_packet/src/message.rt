@@ -16,8 +16,10 @@ use std::marker::Model;
 pub struct Message {
     payload: Bytes,
     qos: Qos,
+    // An `Option` of the interval takes eight bytes more.
+    expires: bool,
+    interval: u32,
     received: u64,
-    expiry: Option<u32>,
     properties: Properties,
 }
 
@@ -72,8 +74,9 @@ impl Message {
         Message {
             payload,
             qos,
+            expires: expiry.is_some(),
+            interval: expiry.unwrap_or(0),
             received,
-            expiry,
             properties,
         }
     }
@@ -104,7 +107,10 @@ impl Message {
     pub fn expiry(&self) -> Option<u32>
         ensures { result ≡ self.now.expiry }
     {
-        self.expiry
+        if self.expires {
+            return Some(self.interval);
+        }
+        None
     }
 
     /// The properties that it carries (3.3.2.3), without its interval.
@@ -118,7 +124,7 @@ impl Message {
     pub fn remaining(&self, now: u64) -> Remaining
         ensures { result ≡ remaining_of self.now now }
     {
-        match self.expiry {
+        match self.expiry() {
             Some(expiry) => left_of(expiry, now.saturating_sub(self.received)),
             None => Remaining::Forever,
         }
@@ -132,8 +138,9 @@ impl Message {
         Ok(Message {
             payload: self.payload.clone()?,
             qos: self.qos,
+            expires: self.expires,
+            interval: self.interval,
             received: self.received,
-            expiry: self.expiry,
             properties: self.properties.copy()?,
         })
     }
@@ -151,7 +158,7 @@ impl PartialEq for Message {
         self.payload == other.payload
             && self.qos.level() == other.qos.level()
             && self.received == other.received
-            && self.expiry == other.expiry
+            && self.expiry() == other.expiry()
             && self.properties == other.properties
     }
 }
