@@ -10,16 +10,16 @@ use std::sync::Wait;
 
 /// What became of an entry.
 #[derive(Clone, Copy)]
-pub enum Answer {
+pub enum Outcome {
     Kept,
     Full,
     NoMemory,
     Other,
 }
 
-impl Answer {
+impl Outcome {
     /// Whether it is the other one.
-    pub fn is(self, other: Answer) -> bool {
+    pub fn is(self, other: Outcome) -> bool {
         self as u8 == other as u8
     }
 }
@@ -28,7 +28,7 @@ pub trait Keeper {
     ghost use Rattle.std.specs.Prelude.{◌≡◌, false};
     ghost use Rattle.rs_message.specs.Messages.{is_sweep};
 
-    fn add(&mut self, entry: Entry) -> Answer
+    fn add(&mut self, entry: Entry) -> Outcome
         requires { is_sweep entry.operation ≡ false };
 
     /// How many topics a tree holds, and how many entries a writer has published.
@@ -36,12 +36,12 @@ pub trait Keeper {
 }
 
 impl Keeper for CalmCatalogue<TreeCatalogue> {
-    fn add(&mut self, entry: Entry) -> Answer {
+    fn add(&mut self, entry: Entry) -> Outcome {
         match CalmCatalogue::add(self, entry) {
-            Ok(()) => Answer::Kept,
-            Err(Refusal::Full) => Answer::Full,
-            Err(Refusal::NoMemory) => Answer::NoMemory,
-            Err(Refusal::Stale) => Answer::Other,
+            Ok(()) => Outcome::Kept,
+            Err(Refusal::Full) => Outcome::Full,
+            Err(Refusal::NoMemory) => Outcome::NoMemory,
+            Err(Refusal::Stale) => Outcome::Other,
         }
     }
 
@@ -51,12 +51,12 @@ impl Keeper for CalmCatalogue<TreeCatalogue> {
 }
 
 impl<N: StoreName, R: Wait + Drop> Keeper for VersionWriter<N, R> {
-    fn add(&mut self, entry: Entry) -> Answer {
+    fn add(&mut self, entry: Entry) -> Outcome {
         match self.put(entry) {
-            Ok(_) => Answer::Kept,
-            Err(PutFault::Full) => Answer::Full,
-            Err(PutFault::NoMemory) => Answer::NoMemory,
-            Err(_) => Answer::Other,
+            Ok(_) => Outcome::Kept,
+            Err(PutFault::Full) => Outcome::Full,
+            Err(PutFault::NoMemory) => Outcome::NoMemory,
+            Err(_) => Outcome::Other,
         }
     }
 

@@ -7,5 +7,5 @@ mod keeper;
 mod samples;
 
 pub use failure::{Failure, check};
-pub use keeper::{Answer, Keeper};
+pub use keeper::{Keeper, Outcome};
 pub use samples::{Change, HOUSE, Naming, entry, messages, operation, topic};

@@ -1,4 +1,4 @@
--- What a client is answered to changes that were handed over for it at a place that other clients use too.
+-- What a client is told of changes that were handed over for it at a place that other clients use too.
 use Rattle.std.proofs.Common.{◌≡◌, ◌⊎◌, ℕ, ◌<◌, List, [], refl, sym, ap, subst, ◌∙◌, arith}
 use Rattle.std.specs.Prelude.{Contains, Ok}
 use mathlib.Core.List.{IsPrefix}
@@ -12,7 +12,7 @@ use Rattle.rs_session.specs.Gate.{Mark, Submits}
 use Rattle.rs_session.proofs.Submitting.{nothing_sent}
 use Rattle.rs_places.specs.Shared.{HandsOn}
 use Rattle.rs_places.proofs.Receipts.{stands_contained, stands_somewhere, submits_ok}
-use Rattle.rs_clients.specs.Clients.{AnsweredValue, IsTold, client_mark, entry_under}
+use Rattle.rs_clients.specs.Clients.{IsTold, OutcomeValue, client_mark, entry_under}
 
 -- the list of a receipt has its change, under the line's place and its last serial
 pub told_by : (entry : Entry) (number : ℕ) (list told : List Entry) (here last place serial : ℕ) (operation copy : Operation) → entry ≡ entry_at here last operation → StandsAt entry number list
@@ -26,15 +26,15 @@ told_by entry number list told here last place serial operation copy is stands i
     subst Q same there
 
 -- what was told has the change, so the client knows it from then on
-pub accepted : (limit : ℕ) (answered : AnsweredValue) (place serial : ℕ) (seen list told : List Entry) → IsLegal limit told → Contains told (entry_under answered.place answered.serial answered.operation)
-    → (list ≡ seen) ⊎ (list ≡ told) → IsPrefix told list → answered.place ≡ place → serial < answered.serial
-    → Submits answered.operation (client_mark place serial) (client_mark place answered.serial) (Ok tt) seen list
-accepted limit answered place serial seen list told legal there one prefix same above =
-    let e : Entry = entry_under place answered.serial answered.operation in
-    let Q : ℕ → Type 0 = λ p. Contains told (entry_under p answered.serial answered.operation) in
+pub accepted : (limit : ℕ) (outcome : OutcomeValue) (place serial : ℕ) (seen list told : List Entry) → IsLegal limit told → Contains told (entry_under outcome.place outcome.serial outcome.operation)
+    → (list ≡ seen) ⊎ (list ≡ told) → IsPrefix told list → outcome.place ≡ place → serial < outcome.serial
+    → Submits outcome.operation (client_mark place serial) (client_mark place outcome.serial) (Ok tt) seen list
+accepted limit outcome place serial seen list told legal there one prefix same above =
+    let e : Entry = entry_under place outcome.serial outcome.operation in
+    let Q : ℕ → Type 0 = λ p. Contains told (entry_under p outcome.serial outcome.operation) in
     let in_told : Contains told e = subst Q same there in
     let s = stands_somewhere e told (among e told in_told) in
-    submits_ok limit answered.operation (client_mark place serial) (client_mark place answered.serial) seen list told e s.0 legal s.1 refl one prefix above tt
+    submits_ok limit outcome.operation (client_mark place serial) (client_mark place outcome.serial) seen list told e s.0 legal s.1 refl one prefix above tt
 
 -- a gate that sent nothing ahead hands nothing on
 pub hands_nothing_on : (old new : Mark) → new ≡ old → HandsOn old [] new

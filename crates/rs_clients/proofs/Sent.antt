@@ -14,10 +14,10 @@ use Rattle.rs_version.specs.contracts.seat.Seat as Seat
 use Rattle.rs_version.specs.declared.history.StoreName as StoreName
 use Rattle.std.proofs.Crossing.{Arc-send, Deque-send, Vec-send, Vec-sync}
 use Rattle.std.proofs.alloc.Global.TheSendSync as heap
-use Rattle.rs_clients.proofs.answered.Answered.TheSendSync as answered
+use Rattle.rs_clients.proofs.outcome.Outcome.TheSendSync as outcome
 use Rattle.rs_clients.proofs.client_gate.Reached.TheSendSync as reached
 use Rattle.rs_clients.proofs.shared_line.SharedLine.TheSendSync as shared_line
-use Rattle.rs_clients.specs.contracts.answered.Answered as Answered
+use Rattle.rs_clients.specs.contracts.outcome.Outcome as Outcome
 use Rattle.rs_clients.specs.contracts.client_gate.ClientGate as ClientGate
 use Rattle.rs_clients.specs.contracts.client_gate.ClientGate.TheInside as InClientGate
 use Rattle.rs_clients.specs.contracts.shared_line.SharedLine as SharedLine
@@ -71,7 +71,7 @@ module _ (N : RattleType) (g : LineName.Ghosts N.Denot) (h : StoreName.Ghosts N.
                 u64_send,
                 (
                   reached.the_send N g h,
-                  (Vec-send Operation.the_row operation.the_send, (Deque-send (Answered.the_row N g h) (answered.the_send N g h), tt)),
+                  (Vec-send Operation.the_row operation.the_send, (Deque-send (Outcome.the_row N g h) (outcome.the_send N g h), tt)),
                 ),
               ),
             ),

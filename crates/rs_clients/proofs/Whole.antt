@@ -15,7 +15,7 @@ use Rattle.rs_intake.specs.Settling.{AreOfPlaces, AreTakenInOrder, EachOnce}
 use Rattle.rs_session.specs.Gate.{Extends}
 use Rattle.rs_places.specs.Shared.{SharedValue}
 use Rattle.rs_places.specs.Store.{IsSettled, IsUnsettled}
-use Rattle.rs_places.specs.Turns.{Plan}
+use Rattle.rs_places.specs.Turns.{Connections}
 use Rattle.rs_places.proofs.Starting.{each_with}
 use Rattle.rs_places.proofs.Whole.{all_seen, line_of, map_map, new_lines_length, visits_within, writer_run, written_part}
 use Rattle.rs_clients.specs.Clients.{new_client, new_clients}
@@ -46,30 +46,30 @@ all_any [] = tt
 all_any (x ∷ xs) = (tt, all_any xs)
 
 -- a run of a store whose places clients shared
-pub fleet_run : {T E : Type 0} (turns : List T) (ends : List E) (plan : T → Plan) (turn : E → T) (told : E → List Entry) (own limit places : ℕ) (turns_left : List T)
+pub fleet_run : {T E : Type 0} (turns : List T) (ends : List E) (connections : T → Connections) (turn : E → T) (told : E → List Entry) (own limit places : ℕ) (turns_left : List T)
     (seats : List (List Entry)) (lines : List Line) (gates : List SharedValue) (closed : List Closed) (w : Written) (entries : List Entry) (ways : List Told) (version : ℕ) (changes : Option ℕ)
     → own ≡ limit → length seats ≡ places → All (λ seat. seat ≡ []) seats → lines ≡ new_lines places → gates ≡ new_clients seats lines
-    → AllZip (IsTurnServed limit) (clients_of gates 0 (map plan turns)) (map (λ e. client_left (plan (turn e)) (told e)) ends)
+    → AllZip (IsTurnServed limit) (clients_of gates 0 (map connections turns)) (map (λ e. client_left (connections (turn e)) (told e)) ends)
     → length closed ≡ length gates → All (λ line. IsClosed line.place line.ends line.gone × AreOfLine line.place line.sent) closed → IsWritten limit places entries (kept_of w) ways → IsLegal limit (kept_of w) → All (λ e. IsPrefix (told e) (kept_of w)) ends
     → AreTakenInOrder entries closed → MatchOption changes (EachOnce places closed → IsUnsettled entries closed) (IsSettled places entries closed)
     → AreOfPlaces places entries → version ≡ length w.published → turns_left ≡ map turn ends
-    → IsFleetRun own places (map plan turns) (map plan turns_left) version changes
-fleet_run {T} {E} turns ends plan turn told own limit places turns_left seats lines gates closed w entries ways version changes same count none lines_is gates_is served closed_count each_closed written legal known taken settled placed version_is left_is =
+    → IsFleetRun own places (map connections turns) (map connections turns_left) version changes
+fleet_run {T} {E} turns ends connections turn told own limit places turns_left seats lines gates closed w entries ways version changes same count none lines_is gates_is served closed_count each_closed written legal known taken settled placed version_is left_is =
     let history = kept_of w in
     let kept = written_part limit places entries history ways written in
-    let h : E → ClientLeft = λ e. client_left (plan (turn e)) (told e) in
+    let h : E → ClientLeft = λ e. client_left (connections (turn e)) (told e) in
     let left = map h ends in
-    let after : map plan turns_left ≡ map (λ end. end.plan) left =
-    ap (map plan) left_is ∙ (map_map plan turn ends ∙ sym (map_map (λ (end : ClientLeft). end.plan) h ends)) in
+    let after : map connections turns_left ≡ map (λ end. end.connections) left =
+    ap (map connections) left_is ∙ (map_map connections turn ends ∙ sym (map_map (λ (end : ClientLeft). end.connections) h ends)) in
     let K : E → Type 0 = λ e. IsPrefix (told e) history in
     let Told : ClientLeft → Type 0 = λ end. Extends history end.told in
     let all_known : AllByRecursion Told left = all_seen h K Told (λ e k. (k.0, sym k.1)) ends (recursion_from_All K ends known) in
     let new : gates ≡ fleet_gates places =
     gates_is ∙ (ap (λ l. new_clients seats l) lines_is ∙ clients_new seats (new_lines places) (count ∙ sym (new_lines_length places)) (recursion_from_All (λ seat. seat ≡ []) seats none)) in
-    let P : List SharedValue → Type 0 = λ l. AllZip (IsTurnServed limit) (clients_of l 0 (map plan turns)) left in
-    let clients = clients_of (fleet_gates places) 0 (map plan turns) in
+    let P : List SharedValue → Type 0 = λ l. AllZip (IsTurnServed limit) (clients_of l 0 (map connections turns)) left in
+    let clients = clients_of (fleet_gates places) 0 (map connections turns) in
     let Any : Client → Type 0 = λ client. Unit {0} in
-    let R : ℕ → Type 0 = λ l. IsFleetRun l places (map plan turns) (map plan turns_left) version changes in
+    let R : ℕ → Type 0 = λ l. IsFleetRun l places (map connections turns) (map connections turns_left) version changes in
     subst R (sym same) (record {
       writer = writer_run limit places version w entries ways written legal placed version_is;
       left = left;

@@ -33,11 +33,11 @@ new_clients (seat ∷ seats) (line ∷ lines) = new_client seat line.place ∷ n
 
 -- A change that was handed over at a place: the serial that was the place's last one then, and a list that was told with the receipt, or
 -- why there is none.
-pub record AnsweredValue : Type 0 where
+pub record OutcomeValue : Type 0 where
   pub place : ℕ
   pub serial : ℕ
   pub operation : Operation
-  pub answer : Result (List Entry) SubmitFault
+  pub told : Result (List Entry) SubmitFault
 
 -- the entry of a change under a place and a serial
 abbrev pub entry_under : ℕ → ℕ → Operation → Entry
@@ -49,8 +49,8 @@ IsTold place serial operation (Ok told) = Contains told (entry_under place seria
 IsTold place serial operation (Err fault) = Unit {0}
 
 -- the changes that were handed over
-abbrev pub changes_of : List AnsweredValue → List Operation
-changes_of answers = map (λ answered. answered.operation) answers
+abbrev pub changes_of : List OutcomeValue → List Operation
+changes_of outcomes = map (λ outcome. outcome.operation) outcomes
 
 -- of the changes none is left, or this one was the first and the rest is left
 abbrev pub LeavesRest : Operation → List Operation → List Operation → Type 0

@@ -9,16 +9,16 @@ use Rattle.rs_session.specs.Gate.{Extends}
 use Rattle.rs_places.specs.Places.{AreConnectionsServed, Place, Visit, place_at}
 use Rattle.rs_places.specs.Shared.{SharedValue}
 use Rattle.rs_places.specs.Store.{AreWithin, IsLineOf, IsSettled, IsUnsettled, IsWriterRun}
-use Rattle.rs_places.specs.Turns.{AreAll, Plan, TookBack}
+use Rattle.rs_places.specs.Turns.{AreAll, Connections, TookBack}
 use Rattle.rs_clients.specs.Clients.{new_client}
 
 -- what is left of one of several clients of a place: what contracts see of its turn, and the list that its gate knew last
 pub record ClientLeft : Type 0 where
-  pub plan : Plan
+  pub connections : Connections
   pub told : List Entry
 
-abbrev pub client_left : Plan → List Entry → ClientLeft
-client_left plan told = record { plan = plan; told = told }
+abbrev pub client_left : Connections → List Entry → ClientLeft
+client_left connections told = record { connections = connections; told = told }
 
 -- The connections of one of several clients of a place were served, from this number on.
 pub record IsClientServed (limit first : ℕ) (client : Place) (left : ClientLeft) : Type 0 where
@@ -26,8 +26,8 @@ pub record IsClientServed (limit first : ℕ) (client : Place) (left : ClientLef
   pub last : SharedValue
   pub connections : AreConnectionsServed limit first client.gate visits last
   -- they are all that waited, in their order, and each was taken back as it ended
-  pub all : AreAll client.plan.waiting (map (λ visit. visit.given) visits)
-  pub ended : TookBack client.plan.ended (map (λ visit. visit.ending) visits) left.plan.ended
+  pub all : AreAll client.connections.waiting (map (λ visit. visit.given) visits)
+  pub ended : TookBack client.connections.ended (map (λ visit. visit.ending) visits) left.connections.ended
   -- what is left is what the gate had then, at the place that it had first
   pub told : left.told ≡ last.known
   pub place : last.mark.place ≡ client.gate.mark.place
@@ -41,18 +41,18 @@ pub record Client : Type 0 where
   pub place : Place
   pub first : ℕ
 
-abbrev pub client_with : Plan → SharedValue → ℕ → Client
-client_with plan gate first = record { place = place_at plan gate; first = first }
+abbrev pub client_with : Connections → SharedValue → ℕ → Client
+client_with connections gate first = record { place = place_at connections gate; first = first }
 
 -- The client of this number, from 0 on, over one of these gates: the first goes with the first gate, and so on, and after the last gate
 -- comes the first again.
-abbrev pub client_at : List SharedValue → ℕ → Plan → Client
-client_at gates client plan = client_with plan (slice_index_or gates (client % length gates) (new_client [] 0)) (first_number client)
+abbrev pub client_at : List SharedValue → ℕ → Connections → Client
+client_at gates client connections = client_with connections (slice_index_or gates (client % length gates) (new_client [] 0)) (first_number client)
 
 -- a client for each turn, from this number on
-abbrev pub clients_of : List SharedValue → ℕ → List Plan → List Client
+abbrev pub clients_of : List SharedValue → ℕ → List Connections → List Client
 clients_of gates client [] = []
-clients_of gates client (plan ∷ plans) = client_at gates client plan ∷ clients_of gates (client + 1) plans
+clients_of gates client (connections ∷ turns) = client_at gates client connections ∷ clients_of gates (client + 1) turns
 
 -- the gates of new clients at so many new places, one at each. They know nothing
 abbrev pub fleet_gates : ℕ → List SharedValue
@@ -74,14 +74,14 @@ pub record IsClientOf (limit : ℕ) (history : List Entry) (client : Client) (le
 
 -- A store of so many new places was run, which clients shared. Each client was served its turn, from that before to that after; the
 -- writer published so many entries; and so many changes are settled, or it is known that not all were taken.
-pub record IsFleetRun (limit places : ℕ) (before after : List Plan) (version : ℕ) (changes : Option ℕ) : Type 0 where
+pub record IsFleetRun (limit places : ℕ) (before after : List Connections) (version : ℕ) (changes : Option ℕ) : Type 0 where
   -- the history, and what the writer took and published
   pub writer : IsWriterRun limit places version
   pub open writer use *
   -- of each client, at its place: its connections, and what they saw
   pub left : List ClientLeft
   pub each : AllZip (IsClientOf limit history) (clients_of (fleet_gates places) 0 before) left
-  pub turns : after ≡ map (λ end. end.plan) left
+  pub turns : after ≡ map (λ end. end.connections) left
   -- of each place's line: what became of what it sent. The serials of that strictly rise
   pub lines : List Closed
   pub count : length lines ≡ places

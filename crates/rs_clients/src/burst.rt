@@ -3,10 +3,10 @@
 ghost use Rattle.std.specs.Prelude.{◌≡◌, ◌≢◌, ◌⊎◌, ◌++◌, [], false, IfErr, IfOk};
 ghost use Rattle.std.specs.List.{AllByRecursion};
 ghost use Rattle.rs_message.specs.Messages.{is_sweep};
-ghost use Rattle.rs_message.specs.declared.fault.SubmitFault.TheVariants.{Open};
+ghost use Rattle.rs_message.specs.declared.fault.SubmitFault.TheVariants.{Unknown};
 ghost use Rattle.rs_clients.specs.Clients.{LeavesRest, changes_of};
 
-use crate::answered::{Answered, matched};
+use crate::outcome::{Outcome, matched};
 use crate::shared_line::SharedLine;
 use rs_intake::LineName;
 use rs_message::{Operation, SubmitFault};
@@ -25,23 +25,23 @@ fn copies(alloc: Global, operations: &Vec<Operation>) -> Result<Vec<Operation>, 
     Ok(copies)
 }
 
-/// Hands the changes over in one job, once no other client uses the line, and waits for all answers. All memory is taken before that, so
+/// Hands the changes over in one job, once no other client uses the line, and waits for all replies. All memory is taken before that, so
 /// if it is refused, nothing was sent.
 fn hand_all<N: LineName, R: Wait>(
     rt: &R,
     alloc: Global,
     line: &Mutex<SharedLine<N>>,
     operations: Vec<Operation>,
-) -> Result<VecDeque<Answered<N>>, AllocError>
+) -> Result<VecDeque<Outcome<N>>, AllocError>
     requires { AllByRecursion (λ o. is_sweep o ≡ false) operations.items }
-    ensures { IfOk result (λ answers. changes_of answers.items ≡ operations.items) }
+    ensures { IfOk result (λ outcomes. changes_of outcomes.items ≡ operations.items) }
 {
     let announced = copies(alloc, &operations)?;
     let submitted = VecDeque::from_vec(copies(alloc, &operations)?);
-    let answers = Vec::with_capacity(alloc, operations.len())?;
+    let outcomes = Vec::with_capacity(alloc, operations.len())?;
     let mut guard = line.lock(rt);
-    let answers = guard.submit_all(rt, announced, submitted, operations, answers);
-    Ok(VecDeque::from_vec(answers))
+    let outcomes = guard.submit_all(rt, announced, submitted, operations, outcomes);
+    Ok(VecDeque::from_vec(outcomes))
 }
 
 /// Hands one change over, once no other client uses the line.
@@ -49,9 +49,9 @@ fn hand_one<N: LineName, R: Wait>(
     rt: &R,
     line: &Mutex<SharedLine<N>>,
     operation: Operation,
-) -> Result<Answered<N>, AllocError>
+) -> Result<Outcome<N>, AllocError>
     requires { is_sweep operation ≡ false }
-    ensures { IfOk result (λ answered. answered.operation ≡ operation) }
+    ensures { IfOk result (λ outcome. outcome.operation ≡ operation) }
 {
     let kept = operation.copy()?;
     let mut guard = line.lock(rt);
@@ -73,15 +73,15 @@ fn handed<N: LineName, R: Wait>(
     alloc: Global,
     line: &Mutex<SharedLine<N>>,
     expected: Vec<Operation>,
-    answers: VecDeque<Answered<N>>,
+    outcomes: VecDeque<Outcome<N>>,
     operation: &Operation,
-) -> VecDeque<Answered<N>>
+) -> VecDeque<Outcome<N>>
     requires plain { AllByRecursion (λ o. is_sweep o ≡ false) expected.items }
-    requires one { (expected.items ≡ []) ⊎ (answers.items ≡ []) }
-    ensures { (result.items ≡ []) ⊎ (changes_of result.items ≡ changes_of answers.items ++ expected.items) }
+    requires one { (expected.items ≡ []) ⊎ (outcomes.items ≡ []) }
+    ensures { (result.items ≡ []) ⊎ (changes_of result.items ≡ changes_of outcomes.items ++ expected.items) }
 {
-    if !answers.is_empty() {
-        return answers;
+    if !outcomes.is_empty() {
+        return outcomes;
     }
     if !leads(&expected, operation) {
         return VecDeque::new(alloc);
@@ -94,31 +94,31 @@ fn handed<N: LineName, R: Wait>(
 
 /// What became of this change, and of those behind it that were announced: it is handed over, with all that is expected if it is the
 /// first of that; or it was handed over before. If memory is refused for the others, it is handed over by itself. If another one was
-/// handed over, none of those is left, and the answer is `Strange`.
+/// handed over, none of those is left, and the fault is `Strange`.
 pub(crate) fn hand_over<N: LineName, R: Wait>(
     rt: &R,
     alloc: Global,
     line: &Mutex<SharedLine<N>>,
     expected: Vec<Operation>,
-    answers: VecDeque<Answered<N>>,
+    outcomes: VecDeque<Outcome<N>>,
     operation: Operation,
-) -> (Result<Answered<N>, SubmitFault>, VecDeque<Answered<N>>)
+) -> (Result<Outcome<N>, SubmitFault>, VecDeque<Outcome<N>>)
     requires plain { is_sweep operation ≡ false }
     requires expected { AllByRecursion (λ o. is_sweep o ≡ false) expected.items }
-    requires one { (expected.items ≡ []) ⊎ (answers.items ≡ []) }
-    ensures answered { IfOk result.0 (λ a. a.operation ≡ operation) }
-    ensures fault { IfErr result.0 (λ f. f ≢ Open) }
-    ensures left { LeavesRest operation (changes_of answers.items ++ expected.items) (changes_of result.1.items) }
+    requires one { (expected.items ≡ []) ⊎ (outcomes.items ≡ []) }
+    ensures outcome { IfOk result.0 (λ a. a.operation ≡ operation) }
+    ensures fault { IfErr result.0 (λ f. f ≢ Unknown) }
+    ensures left { LeavesRest operation (changes_of outcomes.items ++ expected.items) (changes_of result.1.items) }
 {
-    let mut all = handed(rt, alloc, line, expected, answers, &operation);
+    let mut all = handed(rt, alloc, line, expected, outcomes, &operation);
     let Some(first) = all.pop_front() else {
         return match hand_one(rt, line, operation) {
-            Ok(answered) => (Ok(answered), VecDeque::new(alloc)),
+            Ok(outcome) => (Ok(outcome), VecDeque::new(alloc)),
             Err(_) => (Err(SubmitFault::NoMemory), VecDeque::new(alloc)),
         };
     };
     match matched(first, operation) {
-        Some(answered) => (Ok(answered), all),
+        Some(outcome) => (Ok(outcome), all),
         None => (Err(SubmitFault::Strange), VecDeque::new(alloc)),
     }
 }

@@ -3,13 +3,13 @@
 ghost use Rattle.std.specs.Arc.{arc_value};
 ghost use Rattle.std.specs.Prelude.{◌≡◌, ◌≢◌, ◌<◌, ◌⊎◌, [], ⊤, length, slice_get, IfOk, MatchBool};
 ghost use mathlib.Core.List.{IsPrefix};
-ghost use Rattle.rs_message.specs.declared.fault.SubmitFault.TheVariants.{Open};
+ghost use Rattle.rs_message.specs.declared.fault.SubmitFault.TheVariants.{Unknown};
 ghost use Rattle.rs_clients.specs.Clients.{client_mark};
 ghost use Rattle.rs_session.specs.Gate.{Extends, Submits, Uses};
 ghost use Rattle.rs_store.specs.History.{IsLegal};
 
-use crate::answered::Answered;
 use crate::burst::hand_over;
+use crate::outcome::Outcome;
 use crate::shared_places::SharedPlaces;
 use rs_intake::LineName;
 use rs_message::{Found, Operation, SubmitFault};
@@ -46,15 +46,15 @@ fn is_next(own_place: u8, own_serial: u64, place: u8, serial: u64) -> bool
     place == own_place && own_serial < serial
 }
 
-/// The fault of a change that counts for nothing. It is not `Open`, which says that a serial was used.
-fn refusal<N: LineName>(answer: Result<Told<N>, SubmitFault>) -> SubmitFault
-    ensures { result ≢ Open }
+/// The fault of a change that counts for nothing. It is not `Unknown`, which says that a serial was used.
+fn refusal<N: LineName>(told: Result<Told<N>, SubmitFault>) -> SubmitFault
+    ensures { result ≢ Unknown }
 {
-    match answer {
+    match told {
         Err(SubmitFault::Full) => SubmitFault::Full,
         Err(SubmitFault::NoMemory) => SubmitFault::NoMemory,
         Err(SubmitFault::Closed) => SubmitFault::Closed,
-        Err(SubmitFault::Open) => SubmitFault::Strange,
+        Err(SubmitFault::Unknown) => SubmitFault::Strange,
         Err(SubmitFault::Strange) => SubmitFault::Strange,
         Ok(_) => SubmitFault::Strange,
     }
@@ -108,30 +108,30 @@ impl<N: LineName> Reached<N> {
         }
     }
 
-    /// What a client is answered to a change of its own that was handed over. Its serial is the client's last one from then on. With a
+    /// Takes the outcome of a change of the client that was handed over. Its serial is the client's last one from then on. With a
     /// receipt the client knows the list that was told, if that is the longer one.
-    fn accept(&mut self, answered: Answered<N>) -> Result<(), SubmitFault>
+    fn accept(&mut self, outcome: Outcome<N>) -> Result<(), SubmitFault>
         ensures longer { Extends self.new.known self.old.known }
         ensures legal { IsLegal N.limit self.new.known }
-        ensures submits { Submits answered.operation self.old.mark self.new.mark result self.old.known self.new.known }
+        ensures submits { Submits outcome.operation self.old.mark self.new.mark result self.old.known self.new.known }
         ensures mark { Uses self.old.mark self.new.mark }
         ensures sent { self.new.mark.sent ≡ self.old.mark.sent }
     {
-        let Answered {
+        let Outcome {
             place,
             serial,
             operation: _operation,
-            answer,
-        } = answered;
+            told,
+        } = outcome;
         // For the proof: this call says that the known list is legal.
         let _version = self.version();
         // A change that was refused may have used no serial. With a receipt never: the place is that of the line, and each receipt there
         // has a serial above those before. A lock cannot express that.
         if !is_next(self.place, self.serial, place, serial) {
-            return Err(refusal(answer));
+            return Err(refusal(told));
         }
         self.serial = serial;
-        match answer {
+        match told {
             Ok(told) => {
                 self.learn(told);
                 Ok(())
@@ -141,7 +141,7 @@ impl<N: LineName> Reached<N> {
     }
 }
 
-/// A gate of one of several clients of a place. It has the place's line from when it hands changes over until the writer has answered all
+/// A gate of one of several clients of a place. It has the place's line from when it hands changes over until the writer has replied to all
 /// of them, and a seat only for as long as it takes the published version out of it. So a client that waits for the writer holds up
 /// no answer, and one that is slow to read holds up nobody.
 ///
@@ -156,7 +156,7 @@ pub struct ClientGate<N: LineName, R: Wait + Copy> {
     reached: Reached<N>,
     expected: Vec<Operation>,
     // What became of changes that were handed over and are not submitted yet.
-    answers: VecDeque<Answered<N>>,
+    outcomes: VecDeque<Outcome<N>>,
 }
 
 impl<N: LineName, R: Wait + Copy> Model for ClientGate<N, R> {
@@ -169,9 +169,9 @@ impl<N: LineName, R: Wait + Copy> Model for ClientGate<N, R> {
 
     ghost Value = { SharedValue };
 
-    ghost view = { λ g. client_of g.reached (changes_of g.answers.items ++ g.expected.items) };
+    ghost view = { λ g. client_of g.reached (changes_of g.outcomes.items ++ g.expected.items) };
 
-    ghost invariant = { λ g. AllByRecursion (λ o. is_sweep o ≡ false) g.expected.items × ((g.expected.items ≡ []) ⊎ (g.answers.items ≡ [])) × (g.index < length (arc_value g.places)) };
+    ghost invariant = { λ g. AllByRecursion (λ o. is_sweep o ≡ false) g.expected.items × ((g.expected.items ≡ []) ⊎ (g.outcomes.items ≡ [])) × (g.index < length (arc_value g.places)) };
 }
 
 impl<N: LineName, R: Wait + Copy> ClientGate<N, R> {
@@ -193,7 +193,7 @@ impl<N: LineName, R: Wait + Copy> ClientGate<N, R> {
             index,
             reached: Reached::new(place, told),
             expected: Vec::new(alloc),
-            answers: VecDeque::new(alloc),
+            outcomes: VecDeque::new(alloc),
         })
     }
 
@@ -233,14 +233,14 @@ impl<N: LineName, R: Wait + Copy> ClientGate<N, R> {
         Ok(version)
     }
 
-    /// Nothing is expected any more. The answers to what was handed over and not submitted are dropped. It waits for nobody.
+    /// Nothing is expected any more. The outcomes of what was handed over and not submitted are dropped. It waits for nobody.
     pub fn hand_on(&mut self)
         ensures known { self.new.known ≡ self.old.known }
         ensures mark { self.new.mark ≡ self.old.mark }
         ensures pending { self.new.pending ≡ [] }
     {
         self.expected = Vec::new(self.alloc);
-        self.answers = VecDeque::new(self.alloc);
+        self.outcomes = VecDeque::new(self.alloc);
     }
 }
 
@@ -263,26 +263,26 @@ impl<N: LineName, R: Wait + Copy> Gate for ClientGate<N, R> {
 
     /// Nothing is handed over before the first of the changes is submitted. Then all are.
     fn expect(&mut self, changes: Vec<Operation>) {
-        if self.answers.is_empty() {
+        if self.outcomes.is_empty() {
             self.expected = changes;
         }
     }
 
     /// Whether any change is expected, or was handed over and not submitted yet.
     fn has_pending(&self) -> bool {
-        !self.answers.is_empty() || !self.expected.is_empty()
+        !self.outcomes.is_empty() || !self.expected.is_empty()
     }
 
-    /// Hands the change over at the place, with all that is expected if it is the first of that, and waits until all are answered; or
-    /// takes the answer, if it was handed over before. Of another change than the next one nothing is done, and the answer is `Strange`.
+    /// Hands the change over at the place, with all that is expected if it is the first of that, and waits for the replies to all; or
+    /// takes the outcome, if it was handed over before. Of another change than the next one nothing is done, and the fault is `Strange`.
     fn submit(&mut self, operation: Operation) -> Result<(), SubmitFault> {
         let expected = mem::replace(&mut self.expected, Vec::new(self.alloc));
-        let answers = mem::replace(&mut self.answers, VecDeque::new(self.alloc));
+        let outcomes = mem::replace(&mut self.outcomes, VecDeque::new(self.alloc));
         let line = self.places.line(self.index);
-        let (answered, left) = hand_over(&self.rt, self.alloc, line, expected, answers, operation);
-        self.answers = left;
-        match answered {
-            Ok(answered) => self.reached.accept(answered),
+        let (outcome, left) = hand_over(&self.rt, self.alloc, line, expected, outcomes, operation);
+        self.outcomes = left;
+        match outcome {
+            Ok(outcome) => self.reached.accept(outcome),
             Err(fault) => Err(fault),
         }
     }

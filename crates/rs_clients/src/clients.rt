@@ -65,9 +65,9 @@ fn serve_one<T: Turn + Drop, N: LineName, H: Wait + Copy>(
     gate: ClientGate<N, H>,
     number: u64,
 ) -> ClientGate<N, H>
-    ensures { ServesOne N.limit number (place_at (T.plan turn.old) gate)
+    ensures { ServesOne N.limit number (place_at (T.connections turn.old) gate)
         (record { unread = T.In.remaining connection.input; written = T.Out.contents connection.output; moments = T.Time.moments connection.clock })
-        (place_at (T.plan turn.new) result) }
+        (place_at (T.connections turn.new) result) }
 {
     let Connection {
         input,
@@ -105,7 +105,7 @@ pub fn serve_client_turns<T: Turn + Drop, N: LineName, H: Wait + Copy>(
     gate: ClientGate<N, H>,
     first: u64,
 ) -> TurnEnd<N, T>
-    ensures { IsClientServed N.limit first (place_at (T.plan turn) gate) (client_left (T.plan result.turn) result.told) }
+    ensures { IsClientServed N.limit first (place_at (T.connections turn) gate) (client_left (T.connections result.turn) result.told) }
 {
     let mut turn = turn;
     let mut gate = gate;

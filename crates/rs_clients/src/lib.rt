@@ -5,11 +5,11 @@
 //! those of `rs_places` say, but for which client of a place sent what.
 #![tactic(auto)]
 
-mod answered;
 mod burst;
 mod client_gate;
 mod clients;
 mod fleet;
+mod outcome;
 mod shared_line;
 mod shared_places;
 mod store;

@@ -7,7 +7,7 @@ ghost use Rattle.rs_intake.specs.Lines.{IsAheadAfter, IsClosed};
 ghost use Rattle.rs_message.specs.Messages.{is_sweep};
 ghost use Rattle.rs_clients.specs.Clients.{changes_of};
 
-use crate::answered::Answered;
+use crate::outcome::Outcome;
 use rs_intake::{Intake, LineEnd, LineName, SeatLine};
 use rs_message::Operation;
 use std::collections::VecDeque;
@@ -28,15 +28,15 @@ fn submit_one<N: LineName, R: Wait>(
     line: &mut SeatLine<N>,
     operation: Operation,
     kept: Operation,
-) -> Answered<N>
+) -> Outcome<N>
     requires plain { is_sweep operation ≡ false }
     requires kept { kept ≡ operation }
     ensures operation { result.operation ≡ operation }
     ensures ahead { IsAheadAfter line.old.ahead operation line.new.ahead }
 {
     match intake.submit(rt, line, operation) {
-        Ok(receipt) => Answered::new(line.place(), line.serial(), kept, Ok(receipt.told())),
-        Err(fault) => Answered::new(line.place(), line.serial(), kept, Err(fault)),
+        Ok(receipt) => Outcome::new(line.place(), line.serial(), kept, Ok(receipt.told())),
+        Err(fault) => Outcome::new(line.place(), line.serial(), kept, Err(fault)),
     }
 }
 
@@ -47,23 +47,23 @@ fn submit_each<N: LineName, R: Wait>(
     line: &mut SeatLine<N>,
     operations: VecDeque<Operation>,
     kept: Vec<Operation>,
-    answers: Vec<Answered<N>>,
-) -> Vec<Answered<N>>
+    outcomes: Vec<Outcome<N>>,
+) -> Vec<Outcome<N>>
     requires operations { operations.items ≡ kept.items }
     requires plain { AllByRecursion (λ o. is_sweep o ≡ false) kept.items }
-    requires empty { answers.items ≡ [] }
-    requires capacity { length kept.items ≤ vec_capacity answers }
+    requires empty { outcomes.items ≡ [] }
+    requires capacity { length kept.items ≤ vec_capacity outcomes }
     ensures { changes_of result.items ≡ kept.items }
 {
     let mut operations = operations;
-    let mut answers = answers;
+    let mut outcomes = outcomes;
     for copy in kept {
         let Some(operation) = operations.pop_front() else {
             unreachable!()
         };
-        answers.push_reserved(submit_one(rt, intake, line, operation, copy));
+        outcomes.push_reserved(submit_one(rt, intake, line, operation, copy));
     }
-    answers
+    outcomes
 }
 
 impl<N: LineName> SharedLine<N> {
@@ -71,13 +71,13 @@ impl<N: LineName> SharedLine<N> {
     pub fn new<R: Wait>(rt: &R, intake: Arc<Intake<N>>, line: SeatLine<N>) -> SharedLine<N> {
         let mut line = line;
         line.share();
-        // If the writer is gone, no answer is left for a later submit.
+        // If the writer is gone, no reply is left for a later submit.
         drop(line.hand_on(rt));
         SharedLine { intake, line }
     }
 
-    /// Hands the change, of which `kept` is a copy, to the writer, and waits for the answer.
-    pub fn submit<R: Wait>(&mut self, rt: &R, operation: Operation, kept: Operation) -> Answered<N>
+    /// Hands the change, of which `kept` is a copy, to the writer, and waits for the reply.
+    pub fn submit<R: Wait>(&mut self, rt: &R, operation: Operation, kept: Operation) -> Outcome<N>
         requires plain { is_sweep operation ≡ false }
         requires kept { kept ≡ operation }
         ensures { result.operation ≡ operation }
@@ -85,7 +85,7 @@ impl<N: LineName> SharedLine<N> {
         submit_one(rt, &self.intake, &mut self.line, operation, kept)
     }
 
-    /// Hands the changes to the writer in one job, and waits for all answers. `announced` and `operations` are copies of them. The
+    /// Hands the changes to the writer in one job, and waits for all replies. `announced` and `operations` are copies of them. The
     /// caller has reserved the capacity for what becomes of them.
     pub fn submit_all<R: Wait>(
         &mut self,
@@ -93,20 +93,20 @@ impl<N: LineName> SharedLine<N> {
         announced: Vec<Operation>,
         operations: VecDeque<Operation>,
         kept: Vec<Operation>,
-        answers: Vec<Answered<N>>,
-    ) -> Vec<Answered<N>>
+        outcomes: Vec<Outcome<N>>,
+    ) -> Vec<Outcome<N>>
         requires announced { announced.items ≡ kept.items }
         requires operations { operations.items ≡ kept.items }
         requires plain { AllByRecursion (λ o. is_sweep o ≡ false) kept.items }
-        requires empty { answers.items ≡ [] }
-        requires capacity { length kept.items ≤ vec_capacity answers }
+        requires empty { outcomes.items ≡ [] }
+        requires capacity { length kept.items ≤ vec_capacity outcomes }
         ensures { changes_of result.items ≡ kept.items }
     {
         self.line.expect(rt, announced);
-        let answers = submit_each(rt, &self.intake, &mut self.line, operations, kept, answers);
-        // Nothing is left. If the writer is gone, no answer is left for a later submit.
+        let outcomes = submit_each(rt, &self.intake, &mut self.line, operations, kept, outcomes);
+        // Nothing is left. If the writer is gone, no reply is left for a later submit.
         drop(self.line.hand_on(rt));
-        answers
+        outcomes
     }
 
     /// Gives the line up.

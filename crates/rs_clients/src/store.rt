@@ -33,7 +33,7 @@ pub fn run_fleet<T: Turn + Send + Drop + 'static, H: Threads + Wait + Copy + Sen
     turns: Vec<T>,
 ) -> Result<StoreEnd<T>, StoreFault>
     requires { queue.places ≡ blank.places }
-    ensures { IfOk result (λ end. IsFleetRun blank.limit blank.places (map T.plan turns.items) (map T.plan end.turns.items) end.version end.changes) }
+    ensures { IfOk result (λ end. IsFleetRun blank.limit blank.places (map T.connections turns.items) (map T.connections end.turns.items) end.version end.changes) }
 {
     run_fleet_named::<Brand, T, H>(rt, alloc, blank, queue, turns)
 }
@@ -52,7 +52,7 @@ fn run_fleet_named<
     requires store { (blank.history ≡ N.history) × (blank.limit ≡ N.limit) }
     requires queue { (queue.name ≡ N.queue) × (queue.places ≡ N.places) }
     requires places { queue.places ≡ blank.places }
-    ensures { IfOk result (λ end. IsFleetRun blank.limit blank.places (map T.plan turns.items) (map T.plan end.turns.items) end.version end.changes) }
+    ensures { IfOk result (λ end. IsFleetRun blank.limit blank.places (map T.connections turns.items) (map T.connections end.turns.items) end.version end.changes) }
 {
     let (writer, seats) = blank.open::<N, H>(rt)?;
     let (intake, lines, queue) = queue.open::<N>()?;

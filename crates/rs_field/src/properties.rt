@@ -8,6 +8,8 @@ ghost use Rattle.rs_field.specs.Carried.{carried, replayed, optional, user_prope
 ghost use Rattle.rs_field.specs.Values.{no_properties};
 ghost use Rattle.rs_field.specs.Bounds.{AreInRange, SectionFits};
 ghost use Rattle.rs_field.specs.Reading.{Gives, judged, value_at, property_at, properties_in, collect_on, values_at};
+ghost use Rattle.rs_field.specs.declared.property.Identifier.TheVariants as identifier;
+ghost use Rattle.rs_field.specs.declared.property.Property.TheVariants as property;
 
 use crate::binary::{put_binary, put_string, read_binary, read_part, read_string};
 use crate::carried::{Properties, PropertyFields};
@@ -51,52 +53,69 @@ fn judge(
     }
 }
 
+/// The value of a property that says no or yes, 0 or 1. Malformed if there is none, and Protocol if it is another.
+#[tactic(auto, unfolding(crate::specs::Reading::value_at))]
+fn read_flag(rest: &mut Bytes) -> Result<u8, PacketFault>
+    ensures format { Gives (λ n. (property.PayloadFormatIndicator n, rest.new)) result (value_at identifier.PayloadFormatIndicator rest.old) }
+    ensures problem { Gives (λ n. (property.RequestProblemInformation n, rest.new)) result (value_at identifier.RequestProblemInformation rest.old) }
+    ensures response { Gives (λ n. (property.RequestResponseInformation n, rest.new)) result (value_at identifier.RequestResponseInformation rest.old) }
+    ensures shorter { length rest.new ≤ length rest.old }
+{
+    let n = read_u8(rest)?;
+    if n > 1 {
+        return Err(PacketFault::Protocol);
+    }
+    Ok(n)
+}
+
+/// A Response Topic (3.3.2.3.5). Malformed if there is no text, and Protocol if it has a `+` or a `#`.
+#[tactic(auto, unfolding(crate::specs::Reading::value_at))]
+fn read_response_topic(rest: &mut Bytes) -> Result<Text, PacketFault>
+    ensures read { Gives (λ t. (property.ResponseTopic t, rest.new)) result (value_at identifier.ResponseTopic rest.old) }
+    ensures shorter { length rest.new ≤ length rest.old }
+{
+    let text = read_string(rest)?;
+    if !text.is_plain() {
+        return Err(PacketFault::Protocol);
+    }
+    Ok(text)
+}
+
+/// A Subscription Identifier (3.8.2.1.2). Malformed if there is no number, and Protocol if it is 0.
+#[tactic(auto, unfolding(crate::specs::Reading::value_at))]
+fn read_subscription(rest: &mut Bytes) -> Result<SubscriptionId, PacketFault>
+    ensures read { Gives (λ n. (property.SubscriptionIdentifier n, rest.new)) result (value_at identifier.SubscriptionIdentifier rest.old) }
+    ensures shorter { length rest.new ≤ length rest.old }
+{
+    let number = read_varint(rest)?;
+    match SubscriptionId::new(number) {
+        Some(id) => Ok(id),
+        None => Err(PacketFault::Protocol),
+    }
+}
+
 #[tactic(auto, unfolding(crate::specs::Reading::value_at))]
 fn read_value(rest: &mut Bytes, id: Identifier) -> Result<Property, PacketFault>
     ensures read { Gives (λ p. (p, rest.new)) result (value_at id rest.old) }
     ensures shorter { length rest.new ≤ length rest.old }
 {
     let property = match id {
-        Identifier::PayloadFormatIndicator => {
-            let n = read_u8(rest)?;
-            if n > 1 {
-                return Err(PacketFault::Protocol);
-            }
-            Property::PayloadFormatIndicator(n)
-        }
+        Identifier::PayloadFormatIndicator => Property::PayloadFormatIndicator(read_flag(rest)?),
         Identifier::MessageExpiryInterval => Property::MessageExpiryInterval(read_u32(rest)?),
         Identifier::ContentType => Property::ContentType(read_string(rest)?),
-        Identifier::ResponseTopic => {
-            let t = read_string(rest)?;
-            if !t.is_plain() {
-                return Err(PacketFault::Protocol);
-            }
-            Property::ResponseTopic(t)
-        }
+        Identifier::ResponseTopic => Property::ResponseTopic(read_response_topic(rest)?),
         Identifier::CorrelationData => Property::CorrelationData(read_binary(rest)?),
         Identifier::SubscriptionIdentifier => {
-            let n = read_varint(rest)?;
-            match SubscriptionId::new(n) {
-                Some(id) => Property::SubscriptionIdentifier(id),
-                None => return Err(PacketFault::Protocol),
-            }
+            Property::SubscriptionIdentifier(read_subscription(rest)?)
         }
         Identifier::SessionExpiryInterval => Property::SessionExpiryInterval(read_u32(rest)?),
         Identifier::AuthenticationMethod => Property::AuthenticationMethod(read_string(rest)?),
         Identifier::AuthenticationData => Property::AuthenticationData(read_binary(rest)?),
         Identifier::RequestProblemInformation => {
-            let n = read_u8(rest)?;
-            if n > 1 {
-                return Err(PacketFault::Protocol);
-            }
-            Property::RequestProblemInformation(n)
+            Property::RequestProblemInformation(read_flag(rest)?)
         }
         Identifier::RequestResponseInformation => {
-            let n = read_u8(rest)?;
-            if n > 1 {
-                return Err(PacketFault::Protocol);
-            }
-            Property::RequestResponseInformation(n)
+            Property::RequestResponseInformation(read_flag(rest)?)
         }
         Identifier::ServerReference => return Err(PacketFault::Malformed),
         Identifier::ReasonString => Property::ReasonString(read_string(rest)?),

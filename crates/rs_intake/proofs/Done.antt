@@ -10,7 +10,7 @@ use Rattle.rs_store.specs.History.{SerialsRise, cleaned, extended}
 use Rattle.rs_version.specs.Writer.{Refuses, Written, kept_of, shows}
 use Rattle.rs_version.specs.declared.fault.PutFault.TheVariants.{Full, Held, NoMemory, Stale}
 use Rattle.rs_queue.specs.Changes.{AreOf, AreOfOneJob, ArePlain, place_of_all}
-use Rattle.rs_intake.specs.Done.{Answer, AreAnswered, AreDone, AreRefusedBehind, AreReplied, IsAnswered, IsDone, IsPut, AreTold, IsWritten, ReplyValue, Told, has_held, is_held, is_refused, not_refused, refused_reply, refused_in, replies_to, untold}
+use Rattle.rs_intake.specs.Done.{Outcome, AreOutcomes, AreDone, AreRefusedBehind, AreReplied, IsOutcome, IsDone, IsPut, AreTold, IsWritten, ReplyValue, Told, has_held, is_held, is_refused, not_refused, refused_reply, refused_in, replies_to, untold}
 use Rattle.rs_queue.specs.Parts.{IsPart}
 use Rattle.rs_intake.specs.Sending.{AreSentTo, AreToPut, ArePut}
 use Rattle.rs_intake.specs.Sweeps.{AreForEntries, IsKeptFrom, IsSweptAtMost, without_sweeps}
@@ -27,10 +27,10 @@ added_kept : (limit : ℕ) (history : List Entry) (e : Entry) (w : Written) → 
 added_kept limit history e w (inl a) = shown_kept _ w a.1
 added_kept limit history e w (inr a) = shown_kept _ w a.1
 
--- the answer of a put says what was done
-pub put_done : (limit : ℕ) (w w' : Written) (e : Entry) (answer : Answer) → SerialsRise (extended (kept_of w) e)
-    → OnOk answer (Adds limit (kept_of w) e (λ list. w' ≡ shows list)) → IfOk answer (λ r. r.entry ≡ e) → IfOk answer (λ r. r.number ≡ length w'.published) → IfOk answer (λ r. r.told ≡ w'.published)
-    → IfErr answer (λ f. Refuses limit w e f w') → IsDone limit (kept_of w) e answer (kept_of w')
+-- the outcome of a put says what was done
+pub put_done : (limit : ℕ) (w w' : Written) (e : Entry) (outcome : Outcome) → SerialsRise (extended (kept_of w) e)
+    → OnOk outcome (Adds limit (kept_of w) e (λ list. w' ≡ shows list)) → IfOk outcome (λ r. r.entry ≡ e) → IfOk outcome (λ r. r.number ≡ length w'.published) → IfOk outcome (λ r. r.told ≡ w'.published)
+    → IfErr outcome (λ f. Refuses limit w e f w') → IsDone limit (kept_of w) e outcome (kept_of w')
 put_done limit w w' e (Ok r) rises adds entry number told refuses =
     let same = added_kept limit (kept_of w) e w' adds in
     (adds_kept limit (kept_of w) e w' adds, (entry, number ∙ ap length same, told ∙ same))
@@ -39,21 +39,21 @@ put_done limit w w' e (Err Stale) rises adds entry number told refuses = refuses
 put_done limit w w' e (Err NoMemory) rises adds entry number told refuses = no_memory_kept limit w e w' refuses
 put_done limit w w' e (Err Held) rises adds entry number told refuses = held_kept limit w e w' refuses
 
-pub put_is : (limit : ℕ) (w w' : Written) (e : Entry) (answer : Answer) → OnOk answer (Adds limit (kept_of w) e (λ list. w' ≡ shows list)) → IfOk answer (λ r. r.entry ≡ e)
-    → IfOk answer (λ r. r.number ≡ length w'.published) → IfOk answer (λ r. r.told ≡ w'.published) → IfErr answer (λ f. Refuses limit w e f w') → IsPut limit w e answer w'
+pub put_is : (limit : ℕ) (w w' : Written) (e : Entry) (outcome : Outcome) → OnOk outcome (Adds limit (kept_of w) e (λ list. w' ≡ shows list)) → IfOk outcome (λ r. r.entry ≡ e)
+    → IfOk outcome (λ r. r.number ≡ length w'.published) → IfOk outcome (λ r. r.told ≡ w'.published) → IfErr outcome (λ f. Refuses limit w e f w') → IsPut limit w e outcome w'
 put_is limit w w' e (Ok r) adds entry number told refuses = (adds, (entry, number, told))
 put_is limit w w' e (Err f) adds entry number told refuses = refuses
 
--- ---- what the answer says
+-- ---- what the outcome says
 
-pub adds_if_done : (limit : ℕ) (kept : List Entry) (entry : Entry) (answer : Answer) (kept' : List Entry) → IsDone limit kept entry answer kept' → is_refused answer ≡ false → Adds limit kept entry (λ list. kept' ≡ list)
+pub adds_if_done : (limit : ℕ) (kept : List Entry) (entry : Entry) (outcome : Outcome) (kept' : List Entry) → IsDone limit kept entry outcome kept' → is_refused outcome ≡ false → Adds limit kept entry (λ list. kept' ≡ list)
 adds_if_done limit kept entry (Ok r) kept' is stays = is.0
 adds_if_done limit kept entry (Err Full) kept' is stays = absurd (cc (stays))
 adds_if_done limit kept entry (Err Stale) kept' is stays = absurd is
 adds_if_done limit kept entry (Err NoMemory) kept' is stays = absurd (cc (stays))
 adds_if_done limit kept entry (Err Held) kept' is stays = is
 
-pub swept_if_done : (limit : ℕ) (kept : List Entry) (entry : Entry) (answer : Answer) (kept' : List Entry) → IsDone limit kept entry answer kept' → is_refused answer ≡ true → IsSweptAtMost limit kept entry kept'
+pub swept_if_done : (limit : ℕ) (kept : List Entry) (entry : Entry) (outcome : Outcome) (kept' : List Entry) → IsDone limit kept entry outcome kept' → is_refused outcome ≡ true → IsSweptAtMost limit kept entry kept'
 swept_if_done limit kept entry (Ok r) kept' is goes = absurd (cc (goes))
 swept_if_done limit kept entry (Err Full) kept' is goes = inl is.1
 swept_if_done limit kept entry (Err Stale) kept' is goes = absurd is
@@ -72,46 +72,46 @@ without_swept : (limit : ℕ) (kept : List Entry) (entry : Entry) (kept' : List 
 without_swept limit kept entry kept' (inl same) = ap without_sweeps same
 without_swept limit kept entry kept' (inr s) = ap without_sweeps s.1 ∙ without_cleaned s.0.message.received kept
 
-without_done : (limit : ℕ) (kept : List Entry) (entry : Entry) (answer : Answer) (kept' : List Entry) → is_sweep entry.operation ≡ false → IsDone limit kept entry answer kept'
-    → without_sweeps kept' ≡ without_sweeps kept ++ not_refused (entry ∷ []) (answer ∷ [])
-without_done limit kept entry answer kept' plain is = go (is_refused answer) refl
+without_done : (limit : ℕ) (kept : List Entry) (entry : Entry) (outcome : Outcome) (kept' : List Entry) → is_sweep entry.operation ≡ false → IsDone limit kept entry outcome kept'
+    → without_sweeps kept' ≡ without_sweeps kept ++ not_refused (entry ∷ []) (outcome ∷ [])
+without_done limit kept entry outcome kept' plain is = go (is_refused outcome) refl
   where
-    go : (b : Bool) → is_refused answer ≡ b → without_sweeps kept' ≡ without_sweeps kept ++ cond b [] (entry ∷ [])
-    go false stays = without_added limit kept entry kept' plain (adds_if_done limit kept entry answer kept' is stays)
-    go true goes = without_swept limit kept entry kept' (swept_if_done limit kept entry answer kept' is goes) ∙ sym (append-nil (without_sweeps kept))
+    go : (b : Bool) → is_refused outcome ≡ b → without_sweeps kept' ≡ without_sweeps kept ++ cond b [] (entry ∷ [])
+    go false stays = without_added limit kept entry kept' plain (adds_if_done limit kept entry outcome kept' is stays)
+    go true goes = without_swept limit kept entry kept' (swept_if_done limit kept entry outcome kept' is goes) ∙ sym (append-nil (without_sweeps kept))
 
 -- more entries
-done_append : (limit : ℕ) (first entries : List Entry) (answers : List Answer) (kept more : List Entry) (behind : List Answer) (kept' : List Entry)
-    → AreDone limit first entries answers kept → AreDone limit kept more behind kept' → AreDone limit first (entries ++ more) (answers ++ behind) kept'
+done_append : (limit : ℕ) (first entries : List Entry) (outcomes : List Outcome) (kept more : List Entry) (behind : List Outcome) (kept' : List Entry)
+    → AreDone limit first entries outcomes kept → AreDone limit kept more behind kept' → AreDone limit first (entries ++ more) (outcomes ++ behind) kept'
 done_append limit first [] [] kept more behind kept' are rest = let P : List Entry → Type 0 = λ l. AreDone limit l more behind kept' in subst P are rest
-done_append limit first [] (a ∷ answers) kept more behind kept' are rest = absurd are
+done_append limit first [] (a ∷ outcomes) kept more behind kept' are rest = absurd are
 done_append limit first (e ∷ entries) [] kept more behind kept' are rest = absurd are
-done_append limit first (e ∷ entries) (a ∷ answers) kept more behind kept' are rest = (are.0, are.1, done_append limit are.0 entries answers kept more behind kept' are.2 rest)
+done_append limit first (e ∷ entries) (a ∷ outcomes) kept more behind kept' are rest = (are.0, are.1, done_append limit are.0 entries outcomes kept more behind kept' are.2 rest)
 
-not_refused_append : (limit : ℕ) (first entries : List Entry) (answers : List Answer) (kept more : List Entry) (behind : List Answer) → AreDone limit first entries answers kept
-    → not_refused (entries ++ more) (answers ++ behind) ≡ not_refused entries answers ++ not_refused more behind
+not_refused_append : (limit : ℕ) (first entries : List Entry) (outcomes : List Outcome) (kept more : List Entry) (behind : List Outcome) → AreDone limit first entries outcomes kept
+    → not_refused (entries ++ more) (outcomes ++ behind) ≡ not_refused entries outcomes ++ not_refused more behind
 not_refused_append limit first [] [] kept more behind are = refl
-not_refused_append limit first [] (a ∷ answers) kept more behind are = absurd are
+not_refused_append limit first [] (a ∷ outcomes) kept more behind are = absurd are
 not_refused_append limit first (e ∷ entries) [] kept more behind are = absurd are
-not_refused_append limit first (e ∷ entries) (a ∷ answers) kept more behind are = go (is_refused a) (not_refused_append limit are.0 entries answers kept more behind are.2)
+not_refused_append limit first (e ∷ entries) (a ∷ outcomes) kept more behind are = go (is_refused a) (not_refused_append limit are.0 entries outcomes kept more behind are.2)
   where
-    go : (b : Bool) → not_refused (entries ++ more) (answers ++ behind) ≡ not_refused entries answers ++ not_refused more behind
-        → cond b (not_refused (entries ++ more) (answers ++ behind)) (e ∷ not_refused (entries ++ more) (answers ++ behind))
-        ≡ cond b (not_refused entries answers) (e ∷ not_refused entries answers) ++ not_refused more behind
+    go : (b : Bool) → not_refused (entries ++ more) (outcomes ++ behind) ≡ not_refused entries outcomes ++ not_refused more behind
+        → cond b (not_refused (entries ++ more) (outcomes ++ behind)) (e ∷ not_refused (entries ++ more) (outcomes ++ behind))
+        ≡ cond b (not_refused entries outcomes) (e ∷ not_refused entries outcomes) ++ not_refused more behind
     go true same = same
     go false same = ap (λ l. e ∷ l) same
 
-without_all : (limit : ℕ) (kept entries : List Entry) (answers : List Answer) (kept' : List Entry) → ArePlain entries → AreDone limit kept entries answers kept'
-    → without_sweeps kept' ≡ without_sweeps kept ++ not_refused entries answers
+without_all : (limit : ℕ) (kept entries : List Entry) (outcomes : List Outcome) (kept' : List Entry) → ArePlain entries → AreDone limit kept entries outcomes kept'
+    → without_sweeps kept' ≡ without_sweeps kept ++ not_refused entries outcomes
 without_all limit kept [] [] kept' plain are = ap without_sweeps are ∙ sym (append-nil (without_sweeps kept))
-without_all limit kept [] (a ∷ answers) kept' plain are = absurd are
+without_all limit kept [] (a ∷ outcomes) kept' plain are = absurd are
 without_all limit kept (e ∷ entries) [] kept' plain are = absurd are
-without_all limit kept (e ∷ entries) (a ∷ answers) kept' plain are =
+without_all limit kept (e ∷ entries) (a ∷ outcomes) kept' plain are =
     let one = without_done limit kept e a are.0 plain.0 are.1 in
-    let rest = without_all limit are.0 entries answers kept' plain.1 are.2 in
-    rest ∙ (ap (λ l. l ++ not_refused entries answers) one ∙ (append_assoc (without_sweeps kept) (not_refused (e ∷ []) (a ∷ [])) (not_refused entries answers) ∙ ap (λ l. without_sweeps kept ++ l) (go (is_refused a))))
+    let rest = without_all limit are.0 entries outcomes kept' plain.1 are.2 in
+    rest ∙ (ap (λ l. l ++ not_refused entries outcomes) one ∙ (append_assoc (without_sweeps kept) (not_refused (e ∷ []) (a ∷ [])) (not_refused entries outcomes) ∙ ap (λ l. without_sweeps kept ++ l) (go (is_refused a))))
   where
-    go : (b : Bool) → cond b [] (e ∷ []) ++ not_refused entries answers ≡ cond b (not_refused entries answers) (e ∷ not_refused entries answers)
+    go : (b : Bool) → cond b [] (e ∷ []) ++ not_refused entries outcomes ≡ cond b (not_refused entries outcomes) (e ∷ not_refused entries outcomes)
     go true = refl
     go false = refl
 
@@ -121,18 +121,18 @@ without_all limit kept (e ∷ entries) (a ∷ answers) kept' plain are =
 abbrev pub AreKeptFrom : ℕ → List Entry → ℕ → List Entry → ℕ → Type 0
 AreKeptFrom limit entries refused kept all = IsKeptFrom limit entries kept × (length (without_sweeps kept) + refused ≡ all)
 
-one_kept_from : (limit : ℕ) (entries kept : List Entry) (entry : Entry) (answer : Answer) (kept' : List Entry) → IsKeptFrom limit entries kept → is_sweep entry.operation ≡ false → IsDone limit kept entry answer kept'
-    → AreKeptFrom limit (entries ++ entry ∷ []) (refused_in (answer ∷ [])) kept' (length (without_sweeps kept) + 1)
-one_kept_from limit entries kept entry answer kept' s plain is = go (is_refused answer) refl
+one_kept_from : (limit : ℕ) (entries kept : List Entry) (entry : Entry) (outcome : Outcome) (kept' : List Entry) → IsKeptFrom limit entries kept → is_sweep entry.operation ≡ false → IsDone limit kept entry outcome kept'
+    → AreKeptFrom limit (entries ++ entry ∷ []) (refused_in (outcome ∷ [])) kept' (length (without_sweeps kept) + 1)
+one_kept_from limit entries kept entry outcome kept' s plain is = go (is_refused outcome) refl
   where
-    go : (b : Bool) → is_refused answer ≡ b → AreKeptFrom limit (entries ++ entry ∷ []) (length (cond b (answer ∷ []) [])) kept' (length (without_sweeps kept) + 1)
-    go false stays = let o = kept_from_entry limit entries kept kept' entry s plain (adds_if_done limit kept entry answer kept' is stays) in (o.0, (let n = o.1 in omega (arith, n)))
-    go true goes = let o = kept_from_refused limit entries kept kept' entry s (swept_if_done limit kept entry answer kept' is goes) in (o.0, (let n = o.1 in omega (arith, n)))
+    go : (b : Bool) → is_refused outcome ≡ b → AreKeptFrom limit (entries ++ entry ∷ []) (length (cond b (outcome ∷ []) [])) kept' (length (without_sweeps kept) + 1)
+    go false stays = let o = kept_from_entry limit entries kept kept' entry s plain (adds_if_done limit kept entry outcome kept' is stays) in (o.0, (let n = o.1 in omega (arith, n)))
+    go true goes = let o = kept_from_refused limit entries kept kept' entry s (swept_if_done limit kept entry outcome kept' is goes) in (o.0, (let n = o.1 in omega (arith, n)))
 
-refused_more : (answer : Answer) (answers : List Answer) → refused_in (answer ∷ answers) ≡ refused_in (answer ∷ []) + refused_in answers
-refused_more answer answers = go (is_refused answer)
+refused_more : (outcome : Outcome) (outcomes : List Outcome) → refused_in (outcome ∷ outcomes) ≡ refused_in (outcome ∷ []) + refused_in outcomes
+refused_more outcome outcomes = go (is_refused outcome)
   where
-    go : (b : Bool) → length (cond b (answer ∷ filter is_refused answers) (filter is_refused answers)) ≡ length (cond b (answer ∷ []) []) + refused_in answers
+    go : (b : Bool) → length (cond b (outcome ∷ filter is_refused outcomes) (filter is_refused outcomes)) ≡ length (cond b (outcome ∷ []) []) + refused_in outcomes
     go true = omega arith
     go false = omega arith
 
@@ -141,44 +141,44 @@ all_plain [] plain k d lt = absurd (omega (arith, lt))
 all_plain (entry ∷ entries) plain zero d lt = plain.0
 all_plain (entry ∷ entries) plain (suc k) d lt = all_plain entries plain.1 k d (omega (arith, lt))
 
-pub all_kept_from : (limit : ℕ) (before entries : List Entry) (answers : List Answer) (kept kept' : List Entry) → IsKeptFrom limit before kept → All (λ e. is_sweep e.operation ≡ false) entries → AreDone limit kept entries answers kept'
-    → AreKeptFrom limit (before ++ entries) (refused_in answers) kept' (length (without_sweeps kept) + length entries)
+pub all_kept_from : (limit : ℕ) (before entries : List Entry) (outcomes : List Outcome) (kept kept' : List Entry) → IsKeptFrom limit before kept → All (λ e. is_sweep e.operation ≡ false) entries → AreDone limit kept entries outcomes kept'
+    → AreKeptFrom limit (before ++ entries) (refused_in outcomes) kept' (length (without_sweeps kept) + length entries)
 all_kept_from limit before [] [] kept kept' s plain are =
     let P : List Entry → Type 0 = λ l. AreKeptFrom limit l 0 kept' (length (without_sweeps kept) + 0) in
     let Q : List Entry → Type 0 = λ l. AreKeptFrom limit before 0 l (length (without_sweeps kept) + 0) in
     subst P (sym (append-nil before)) (subst Q (sym are) (s, refl))
-all_kept_from limit before [] (answer ∷ answers) kept kept' s plain are = absurd are
+all_kept_from limit before [] (outcome ∷ outcomes) kept kept' s plain are = absurd are
 all_kept_from limit before (entry ∷ entries) [] kept kept' s plain are = absurd are
-all_kept_from limit before (entry ∷ entries) (answer ∷ answers) kept kept' s plain are =
+all_kept_from limit before (entry ∷ entries) (outcome ∷ outcomes) kept kept' s plain are =
     let next = are.0 in
-    let one = one_kept_from limit before kept entry answer next s (plain 0 entry (omega arith)) are.1 in
-    let rest = all_kept_from limit (before ++ entry ∷ []) entries answers next kept' one.0 (λ k d lt. plain (suc k) d (omega (arith, lt))) are.2 in
+    let one = one_kept_from limit before kept entry outcome next s (plain 0 entry (omega arith)) are.1 in
+    let rest = all_kept_from limit (before ++ entry ∷ []) entries outcomes next kept' one.0 (λ k d lt. plain (suc k) d (omega (arith, lt))) are.2 in
     let P : List Entry → Type 0 = λ l. IsKeptFrom limit l kept' in (
       subst P (append_assoc before (entry ∷ []) entries) rest.0,
-      (let n = one.1 in let m = rest.1 in let r = refused_more answer answers in omega (arith, n, m, r)),
+      (let n = one.1 in let m = rest.1 in let r = refused_more outcome outcomes in omega (arith, n, m, r)),
     )
 
-pub kept_as_answered : (limit : ℕ) (entries kept : List Entry) (answers : List Answer) → All (λ e. is_sweep e.operation ≡ false) entries → AreDone limit [] entries answers kept
-    → IsPart (without_sweeps kept) entries × (length (without_sweeps kept) + refused_in answers ≡ length entries) × AreForEntries limit entries kept
-kept_as_answered limit entries kept answers plain are =
-    let all = all_kept_from limit [] entries answers [] kept (kept_from_start limit [] [] refl refl) plain are in
+pub kept_by_outcomes : (limit : ℕ) (entries kept : List Entry) (outcomes : List Outcome) → All (λ e. is_sweep e.operation ≡ false) entries → AreDone limit [] entries outcomes kept
+    → IsPart (without_sweeps kept) entries × (length (without_sweeps kept) + refused_in outcomes ≡ length entries) × AreForEntries limit entries kept
+kept_by_outcomes limit entries kept outcomes plain are =
+    let all = all_kept_from limit [] entries outcomes [] kept (kept_from_start limit [] [] refl refl) plain are in
     (all.0.part, all.1 ∙ zero-add (length entries), all.0.sweeps)
 
 -- ---- the changes of one job
 
-answered_append : (limit : ℕ) (first : Written) (entries : List Entry) (answers : List Answer) (w : Written) (more : List Entry) (behind : List Answer) (w' : Written)
-    → AreAnswered limit first entries answers w → AreAnswered limit w more behind w' → AreAnswered limit first (entries ++ more) (answers ++ behind) w'
-answered_append limit first [] [] w more behind w' are rest = let P : Written → Type 0 = λ v. AreAnswered limit v more behind w' in subst P are rest
-answered_append limit first [] (a ∷ answers) w more behind w' are rest = absurd are
-answered_append limit first (e ∷ entries) [] w more behind w' are rest = absurd are
-answered_append limit first (e ∷ entries) (a ∷ answers) w more behind w' are rest = (are.0, are.1, answered_append limit are.0 entries answers w more behind w' are.2 rest)
+outcomes_append : (limit : ℕ) (first : Written) (entries : List Entry) (outcomes : List Outcome) (w : Written) (more : List Entry) (behind : List Outcome) (w' : Written)
+    → AreOutcomes limit first entries outcomes w → AreOutcomes limit w more behind w' → AreOutcomes limit first (entries ++ more) (outcomes ++ behind) w'
+outcomes_append limit first [] [] w more behind w' are rest = let P : Written → Type 0 = λ v. AreOutcomes limit v more behind w' in subst P are rest
+outcomes_append limit first [] (a ∷ outcomes) w more behind w' are rest = absurd are
+outcomes_append limit first (e ∷ entries) [] w more behind w' are rest = absurd are
+outcomes_append limit first (e ∷ entries) (a ∷ outcomes) w more behind w' are rest = (are.0, are.1, outcomes_append limit are.0 entries outcomes w more behind w' are.2 rest)
 
-replies_append : (limit : ℕ) (first entries : List Entry) (answers : List Answer) (kept more : List Entry) (behind : List Answer) → AreDone limit first entries answers kept
-    → replies_to (entries ++ more) (answers ++ behind) ≡ replies_to entries answers ++ replies_to more behind
+replies_append : (limit : ℕ) (first entries : List Entry) (outcomes : List Outcome) (kept more : List Entry) (behind : List Outcome) → AreDone limit first entries outcomes kept
+    → replies_to (entries ++ more) (outcomes ++ behind) ≡ replies_to entries outcomes ++ replies_to more behind
 replies_append limit first [] [] kept more behind are = refl
-replies_append limit first [] (a ∷ answers) kept more behind are = absurd are
+replies_append limit first [] (a ∷ outcomes) kept more behind are = absurd are
 replies_append limit first (e ∷ entries) [] kept more behind are = absurd are
-replies_append limit first (e ∷ entries) (a ∷ answers) kept more behind are = ap (λ l. record { origin = e.origin; answer = a } ∷ l) (replies_append limit are.0 entries answers kept more behind are.2)
+replies_append limit first (e ∷ entries) (a ∷ outcomes) kept more behind are = ap (λ l. record { origin = e.origin; outcome = a } ∷ l) (replies_append limit are.0 entries outcomes kept more behind are.2)
 
 or_left : (a b : Bool) → a ≡ true → (a || b) ≡ true
 or_left true b is = refl
@@ -196,28 +196,28 @@ or_false : (a : Bool) → (a || false) ≡ a
 or_false true = refl
 or_false false = refl
 
-has_held_append : (answers behind : List Answer) → has_held (answers ++ behind) ≡ (has_held answers || has_held behind)
+has_held_append : (outcomes behind : List Outcome) → has_held (outcomes ++ behind) ≡ (has_held outcomes || has_held behind)
 has_held_append [] behind = refl
-has_held_append (a ∷ answers) behind = ap (λ b. is_held a || b) (has_held_append answers behind) ∙ or_assoc (is_held a) (has_held answers) (has_held behind)
+has_held_append (a ∷ outcomes) behind = ap (λ b. is_held a || b) (has_held_append outcomes behind) ∙ or_assoc (is_held a) (has_held outcomes) (has_held behind)
 
--- the answer is that memory was refused
-abbrev IsNoMemory : Answer → Type 0
-IsNoMemory answer = answer ≡ Err NoMemory
+-- the outcome is that memory was refused
+abbrev IsNoMemory : Outcome → Type 0
+IsNoMemory outcome = outcome ≡ Err NoMemory
 
-behind_append : (answers behind : List Answer) → AreRefusedBehind answers → AreRefusedBehind behind → (has_held answers ≡ true → AllByRecursion IsNoMemory behind) → AreRefusedBehind (answers ++ behind)
+behind_append : (outcomes behind : List Outcome) → AreRefusedBehind outcomes → AreRefusedBehind behind → (has_held outcomes ≡ true → AllByRecursion IsNoMemory behind) → AreRefusedBehind (outcomes ++ behind)
 behind_append [] behind are more here = more
-behind_append (a ∷ answers) behind are more here = (
-  (λ is. all_append IsNoMemory answers behind (are.0 is) (here (or_left (is_held a) (has_held answers) is))),
-  behind_append answers behind are.1 more (λ is. here (or_right (is_held a) (has_held answers) is)),
+behind_append (a ∷ outcomes) behind are more here = (
+  (λ is. all_append IsNoMemory outcomes behind (are.0 is) (here (or_left (is_held a) (has_held outcomes) is))),
+  behind_append outcomes behind are.1 more (λ is. here (or_right (is_held a) (has_held outcomes) is)),
 )
 
-refused_append : (answers behind : List Answer) → refused_in (answers ++ behind) ≡ refused_in answers + refused_in behind
-refused_append answers behind = ap length (filter-append is_refused answers behind) ∙ length-append (filter is_refused answers) (filter is_refused behind)
+refused_append : (outcomes behind : List Outcome) → refused_in (outcomes ++ behind) ≡ refused_in outcomes + refused_in behind
+refused_append outcomes behind = ap length (filter-append is_refused outcomes behind) ∙ length-append (filter is_refused outcomes) (filter is_refused behind)
 
-pub refused_one : (answer : Answer) → refused_in (answer ∷ []) ≤ 1
-refused_one answer = go (is_refused answer)
+pub refused_one : (outcome : Outcome) → refused_in (outcome ∷ []) ≤ 1
+refused_one outcome = go (is_refused outcome)
   where
-    go : (b : Bool) → length (cond b (answer ∷ []) []) ≤ 1
+    go : (b : Bool) → length (cond b (outcome ∷ []) []) ≤ 1
     go true = omega arith
     go false = omega arith
 
@@ -226,44 +226,44 @@ pub put_none : (limit : ℕ) (w : Written) (held : Bool) (rest : List Entry) (re
 put_none limit w held rest replies none = record {
   first = [];
   are = refl;
-  replied = record { answers = []; done = refl; answered = refl; behind = tt; replies_are = none; refused_are = refl };
+  replied = record { outcomes = []; done = refl; outcomes_are = refl; behind = tt; replies_are = none; refused_are = refl };
   behind = (λ is. tt);
   held_is = sym (or_false held);
 }
 
 pub put_one : (limit : ℕ) (w : Written) (held : Bool) (rest rest' : List Entry) (entry : Entry) (reply : ReplyValue) (count : ℕ) (held' : Bool) (w' : Written)
-    → rest ≡ entry ∷ rest' → IsDone limit (kept_of w) entry reply.answer (kept_of w') → reply.origin ≡ entry.origin → IsAnswered limit w entry reply.answer w'
-    → (held ≡ true → reply.answer ≡ Err NoMemory) → held' ≡ (held || is_held reply.answer) → count ≡ refused_in (reply.answer ∷ []) → ArePut limit w held rest (reply ∷ []) count held' rest' w'
-put_one limit w held rest rest' entry reply count held' w' first done origin answered behind holds number =
-    let answer = reply.answer in
+    → rest ≡ entry ∷ rest' → IsDone limit (kept_of w) entry reply.outcome (kept_of w') → reply.origin ≡ entry.origin → IsOutcome limit w entry reply.outcome w'
+    → (held ≡ true → reply.outcome ≡ Err NoMemory) → held' ≡ (held || is_held reply.outcome) → count ≡ refused_in (reply.outcome ∷ []) → ArePut limit w held rest (reply ∷ []) count held' rest' w'
+put_one limit w held rest rest' entry reply count held' w' first done origin outcome_is behind holds number =
+    let outcome = reply.outcome in
     record {
       first = entry ∷ [];
       are = first;
       replied = record {
-        answers = answer ∷ [];
+        outcomes = outcome ∷ [];
         done = (kept_of w', done, refl);
-        answered = (w', answered, refl);
+        outcomes_are = (w', outcome_is, refl);
         behind = ((λ is. tt), tt);
-        replies_are = ap (λ o. record { origin = o; answer = answer } ∷ []) origin;
+        replies_are = ap (λ o. record { origin = o; outcome = outcome } ∷ []) origin;
         refused_are = number;
       };
       behind = (λ is. (behind is, tt));
-      held_is = holds ∙ ap (λ h. held || h) (sym (or_false (is_held answer)));
+      held_is = holds ∙ ap (λ h. held || h) (sym (or_false (is_held outcome)));
     }
 
 -- more of the job is put
 pub put_more : (limit : ℕ) (w : Written) (held : Bool) (all : List Entry) (replies : List ReplyValue) (refused : ℕ) (held1 : Bool) (rest1 : List Entry) (w1 : Written) (more : List ReplyValue) (count : ℕ) (held2 : Bool) (rest2 : List Entry) (w2 : Written) (replies' : List ReplyValue)
     → ArePut limit w held all replies refused held1 rest1 w1 → ArePut limit w1 held1 rest1 more count held2 rest2 w2 → replies' ≡ replies ++ more → ArePut limit w held all replies' (refused + count) held2 rest2 w2
 put_more limit w held all replies refused held1 rest1 w1 more count held2 rest2 w2 replies' a b joined =
-    let xs = a.replied.answers in
-    let ys = b.replied.answers in
+    let xs = a.replied.outcomes in
+    let ys = b.replied.outcomes in
     record {
       first = a.first ++ b.first;
       are = a.are ∙ (ap (λ l. a.first ++ l) b.are ∙ sym (append_assoc a.first b.first rest2));
       replied = record {
-        answers = xs ++ ys;
+        outcomes = xs ++ ys;
         done = done_append limit (kept_of w) a.first xs (kept_of w1) b.first ys (kept_of w2) a.replied.done b.replied.done;
-        answered = answered_append limit w a.first xs w1 b.first ys w2 a.replied.answered b.replied.answered;
+        outcomes_are = outcomes_append limit w a.first xs w1 b.first ys w2 a.replied.outcomes_are b.replied.outcomes_are;
         behind = behind_append xs ys a.replied.behind b.replied.behind (λ is. b.behind (a.held_is ∙ or_right held (has_held xs) is));
         replies_are = joined ∙ (ap (λ l. l ++ more) a.replied.replies_are ∙ (ap (λ l. replies_to a.first xs ++ l) b.replied.replies_are ∙ sym (replies_append limit (kept_of w) a.first xs (kept_of w1) b.first ys a.replied.done)));
         refused_are = ap (λ n. n + count) a.replied.refused_are ∙ (ap (λ n. refused_in xs + n) b.replied.refused_are ∙ sym (refused_append xs ys));
@@ -310,20 +310,20 @@ left_rises limit kept rest left entry first serial l =
     let all : SerialsRise ((f.entries ++ entry ∷ []) ++ left) = subst P (sym (append_assoc f.entries (entry ∷ []) left)) f.rise in
     entry_rises limit f.entries kept entry f.kept_from f.above.0 serial (part_rises (f.entries ++ entry ∷ []) ((f.entries ++ entry ∷ []) ++ left) (part_front (f.entries ++ entry ∷ []) left) all)
 
-pub left_less : (limit : ℕ) (kept rest left : List Entry) (entry : Entry) (answer : Answer) (kept' : List Entry) → rest ≡ entry ∷ left → IsDone limit kept entry answer kept' → AreToPut limit kept rest → AreToPut limit kept' left
-left_less limit kept rest left entry answer kept' first is l =
+pub left_less : (limit : ℕ) (kept rest left : List Entry) (entry : Entry) (outcome : Outcome) (kept' : List Entry) → rest ≡ entry ∷ left → IsDone limit kept entry outcome kept' → AreToPut limit kept rest → AreToPut limit kept' left
+left_less limit kept rest left entry outcome kept' first is l =
     let f = left_first limit kept rest left entry first l in
     let P : List Entry → Type 0 = λ r. SerialsRise r in
     record {
       entries = f.entries ++ entry ∷ [];
-      kept_from = (one_kept_from limit f.entries kept entry answer kept' f.kept_from f.plain.0 is).0;
+      kept_from = (one_kept_from limit f.entries kept entry outcome kept' f.kept_from f.plain.0 is).0;
       rise = subst P (sym (append_assoc f.entries (entry ∷ []) left)) f.rise;
       plain = f.plain.1;
       above = f.above.1;
     }
 
--- the answers where nothing is put
-abbrev all_refused : List Entry → List Answer
+-- the outcomes where nothing is put
+abbrev all_refused : List Entry → List Outcome
 all_refused [] = []
 all_refused (entry ∷ entries) = Err NoMemory ∷ all_refused entries
 
@@ -331,9 +331,9 @@ refused_done : (limit : ℕ) (kept entries : List Entry) → AreDone limit kept 
 refused_done limit kept [] = refl
 refused_done limit kept (entry ∷ entries) = (kept, inl refl, refused_done limit kept entries)
 
-refused_answered : (limit : ℕ) (w : Written) (entries : List Entry) → AreAnswered limit w entries (all_refused entries) w
-refused_answered limit w [] = refl
-refused_answered limit w (entry ∷ entries) = (w, inr (refl, refl), refused_answered limit w entries)
+refused_outcomes : (limit : ℕ) (w : Written) (entries : List Entry) → AreOutcomes limit w entries (all_refused entries) w
+refused_outcomes limit w [] = refl
+refused_outcomes limit w (entry ∷ entries) = (w, inr (refl, refl), refused_outcomes limit w entries)
 
 refused_behind : (entries : List Entry) → AreRefusedBehind (all_refused entries)
 refused_behind [] = tt
@@ -360,9 +360,9 @@ put_refusing limit w held rest replies refused left are number none = record {
   first = rest;
   are = sym (ap (λ l. rest ++ l) none ∙ append-nil rest);
   replied = record {
-    answers = all_refused rest;
+    outcomes = all_refused rest;
     done = refused_done limit (kept_of w) rest;
-    answered = refused_answered limit w rest;
+    outcomes_are = refused_outcomes limit w rest;
     behind = refused_behind rest;
     replies_are = are ∙ refused_replies rest;
     refused_are = number ∙ refused_count rest;
@@ -397,7 +397,7 @@ none_taken limit places entries kept ways none empty new =
       kept_from = kept_from_start limit [] [] refl refl;
       number = refl;
       sum = refl;
-      written = record { answers = []; done = refl; changes = refl; told = told_none places ways new };
+      written = record { outcomes = []; done = refl; changes = refl; told = told_none places ways new };
     }
     ))
 
@@ -407,9 +407,9 @@ pub one_more : (limit places : ℕ) (entries entries' changes : List Entry) (rep
     → AreSentTo (place_of_all changes) ways replies ways' → IsUnderWay limit places entries' (kept_of w') ways' (taken + length changes) (refused + count)
 one_more limit places entries entries' changes replies w w' ways ways' taken refused count more are few u r to =
     let written = u.written in
-    let all = all_kept_from limit entries changes r.answers (kept_of w) (kept_of w') u.kept_from (all_plain changes are.plain) r.done in
+    let all = all_kept_from limit entries changes r.outcomes (kept_of w) (kept_of w') u.kept_from (all_plain changes are.plain) r.done in
     let S : List ReplyValue → Type 0 = λ l. AreSentTo (place_of_all changes) ways l ways' in
-    let told = told_more places (place_of_all changes) (replies_to entries written.answers) changes r.answers ways ways' are.above few are.place written.told (subst S r.replies_are to) in
+    let told = told_more places (place_of_all changes) (replies_to entries written.outcomes) changes r.outcomes ways ways' are.above few are.place written.told (subst S r.replies_are to) in
     let T : List ReplyValue → Type 0 = λ l. AreTold places l ways' in
     let P : List Entry → Type 0 = λ l. IsUnderWay limit places l (kept_of w') ways' (taken + length changes) (refused + count) in
     let n = length-append entries changes in
@@ -423,11 +423,11 @@ one_more limit places entries entries' changes replies w w' ways ways' taken ref
       number = omega (arith, n, number);
       sum = omega (arith, sum, rest, refusals);
       written = record {
-        answers = written.answers ++ r.answers;
-        done = done_append limit [] entries written.answers (kept_of w) changes r.answers (kept_of w') written.done r.done;
-        changes = without_all limit (kept_of w) changes r.answers (kept_of w') are.plain r.done
-            ∙ (ap (λ l. l ++ not_refused changes r.answers) written.changes ∙ sym (not_refused_append limit [] entries written.answers (kept_of w) changes r.answers written.done));
-        told = subst T (sym (replies_append limit [] entries written.answers (kept_of w) changes r.answers written.done)) told;
+        outcomes = written.outcomes ++ r.outcomes;
+        done = done_append limit [] entries written.outcomes (kept_of w) changes r.outcomes (kept_of w') written.done r.done;
+        changes = without_all limit (kept_of w) changes r.outcomes (kept_of w') are.plain r.done
+            ∙ (ap (λ l. l ++ not_refused changes r.outcomes) written.changes ∙ sym (not_refused_append limit [] entries written.outcomes (kept_of w) changes r.outcomes written.done));
+        told = subst T (sym (replies_append limit [] entries written.outcomes (kept_of w) changes r.outcomes written.done)) told;
       };
     }
     )

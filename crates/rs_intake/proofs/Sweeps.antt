@@ -161,7 +161,7 @@ kept_from_start limit entries kept no_jobs none =
 pub released_kept : (w w' : Written) → w' ≡ released w → kept_of w' ≡ kept_of w
 released_kept w w' is = ap kept_of is ∙ append-nil (kept_of w)
 
-pub retried_kept : {A E : Type 0} (answer : Result A E) (w w' : Written) → OnOk answer (w' ≡ released w) → OnErr answer ((w.held ≢ None) × (w' ≡ w)) → kept_of w' ≡ kept_of w
+pub retried_kept : {A E : Type 0} (outcome : Result A E) (w w' : Written) → OnOk outcome (w' ≡ released w) → OnErr outcome ((w.held ≢ None) × (w' ≡ w)) → kept_of w' ≡ kept_of w
 retried_kept (Ok a) w w' done refused = released_kept w w' done
 retried_kept (Err e) w w' done refused = ap kept_of refused.1
 

@@ -5,7 +5,7 @@ use Rattle.std.proofs.lemmas.List.{append-nil, get_or-replicate, get_or-set_othe
 use Rattle.std.proofs.lemmas.List.Elements.{filter-append}
 use Rattle.rs_message.specs.declared.entry.Entry.{Entry}
 use Rattle.rs_queue.specs.Changes.{AreOf}
-use Rattle.rs_intake.specs.Done.{Answer, AreSent, AreTold, ReplyValue, Told, replies_for, replies_to, untold, way_to}
+use Rattle.rs_intake.specs.Done.{AreSent, AreTold, Outcome, ReplyValue, Told, replies_for, replies_to, untold, way_to}
 use Rattle.rs_intake.specs.Sending.{AreSentBehind, AreSentNext, AreSentTo}
 use Rattle.rs_queue.specs.declared.waiting.Gone.{Gone}
 use Rattle.rs_queue.proofs.Queues.{else_is, then_is}
@@ -56,26 +56,26 @@ sent_behind due more before after are next =
 
 -- ---- all ways back
 
-replies_for_all : (place : ℕ) (es : List Entry) (answers : List Answer) → AreOf place es → replies_for place (replies_to es answers) ≡ replies_to es answers
-replies_for_all place [] answers of = refl
+replies_for_all : (place : ℕ) (es : List Entry) (outcomes : List Outcome) → AreOf place es → replies_for place (replies_to es outcomes) ≡ replies_to es outcomes
+replies_for_all place [] outcomes of = refl
 replies_for_all place (e ∷ es) [] of = refl
-replies_for_all place (e ∷ es) (a ∷ answers) of =
+replies_for_all place (e ∷ es) (a ∷ outcomes) of =
     let same = of.0 in
     let is : (e.origin.place == place) ≡ true = grind (arith, nat_tests) in
-    let reply : ReplyValue = record { origin = e.origin; answer = a } in
-    let rest = replies_for place (replies_to es answers) in
-    then_is (e.origin.place == place) (reply ∷ rest) rest is ∙ ap (λ l. reply ∷ l) (replies_for_all place es answers of.1)
+    let reply : ReplyValue = record { origin = e.origin; outcome = a } in
+    let rest = replies_for place (replies_to es outcomes) in
+    then_is (e.origin.place == place) (reply ∷ rest) rest is ∙ ap (λ l. reply ∷ l) (replies_for_all place es outcomes of.1)
 
-replies_for_none : (place from : ℕ) (es : List Entry) (answers : List Answer) → place ≢ from → AreOf from es → replies_for place (replies_to es answers) ≡ []
-replies_for_none place from [] answers other of = refl
+replies_for_none : (place from : ℕ) (es : List Entry) (outcomes : List Outcome) → place ≢ from → AreOf from es → replies_for place (replies_to es outcomes) ≡ []
+replies_for_none place from [] outcomes other of = refl
 replies_for_none place from (e ∷ es) [] other of = refl
-replies_for_none place from (e ∷ es) (a ∷ answers) other of =
+replies_for_none place from (e ∷ es) (a ∷ outcomes) other of =
     let same = of.0 in
     let apart : e.origin.place ≢ place = λ is. other (sym is ∙ same) in
     let is : (e.origin.place == place) ≡ false = grind (arith, nat_tests) in
-    let reply : ReplyValue = record { origin = e.origin; answer = a } in
-    let rest = replies_for place (replies_to es answers) in
-    else_is (e.origin.place == place) (reply ∷ rest) rest is ∙ replies_for_none place from es answers other of.1
+    let reply : ReplyValue = record { origin = e.origin; outcome = a } in
+    let rest = replies_for place (replies_to es outcomes) in
+    else_is (e.origin.place == place) (reply ∷ rest) rest is ∙ replies_for_none place from es outcomes other of.1
 
 replies_for-append : (place : ℕ) (xs ys : List ReplyValue) → replies_for place (xs ++ ys) ≡ replies_for place xs ++ replies_for place ys
 replies_for-append place xs ys = filter-append (λ (r : ReplyValue). r.origin.place == place) xs ys
@@ -91,23 +91,23 @@ told_none places ways new = record {
 }
 
 -- the replies to a job of this place are due as well
-pub told_more : (places place : ℕ) (replies : List ReplyValue) (entries : List Entry) (answers : List Answer) (ways ways' : List Told) → 0 < place → place ≤ places → AreOf place entries
-    → AreTold places replies ways → AreSentTo place ways (replies_to entries answers) ways' → AreTold places (replies ++ replies_to entries answers) ways'
-told_more places place replies entries answers ways ways' low high of t to = record {
+pub told_more : (places place : ℕ) (replies : List ReplyValue) (entries : List Entry) (outcomes : List Outcome) (ways ways' : List Told) → 0 < place → place ≤ places → AreOf place entries
+    → AreTold places replies ways → AreSentTo place ways (replies_to entries outcomes) ways' → AreTold places (replies ++ replies_to entries outcomes) ways'
+told_more places place replies entries outcomes ways ways' low high of t to = record {
   count = ap length to.2 ∙ (length-set ways (place - 1) to.0 ∙ t.count);
   each = λ q some few. go q some few (q == place) refl;
 }
   where
     go : (q : ℕ) → 0 < q → q ≤ places → (b : Bool) → (q == place) ≡ b
-        → AreSent (replies_for q (replies ++ replies_to entries answers)) (way_to q ways').sent (way_to q ways').gone
+        → AreSent (replies_for q (replies ++ replies_to entries outcomes)) (way_to q ways').sent (way_to q ways').gone
     go q some few true is =
         let same : q ≡ place = grind (arith, nat_tests, is) in
-        let more = replies_to entries answers in
+        let more = replies_to entries outcomes in
         let due = replies_for place replies in
         let told = to.0 in
         let count = t.count in
         let here : AreSent (due ++ more) told.sent told.gone = sent_behind due more (way_to place ways) told (t.each place low high) to.1 in
-        let all : replies_for place (replies ++ more) ≡ due ++ more = replies_for-append place replies more ∙ ap (λ l. due ++ l) (replies_for_all place entries answers of) in
+        let all : replies_for place (replies ++ more) ≡ due ++ more = replies_for-append place replies more ∙ ap (λ l. due ++ l) (replies_for_all place entries outcomes of) in
         let way : way_to place ways' ≡ told = ap (way_to place) to.2 ∙ get_or-set_same ways (place - 1) told untold (omega (arith, count, low, high)) in
         let P : List ReplyValue → Type 0 = λ l. AreSent l told.sent told.gone in
         let Q : Told → Type 0 = λ w. AreSent (replies_for place (replies ++ more)) w.sent w.gone in
@@ -115,9 +115,9 @@ told_more places place replies entries answers ways ways' low high of t to = rec
         subst R (sym same) (subst Q (sym way) (subst P (sym all) here))
     go q some few false is =
         let other : q ≢ place = λ e. grind (arith, nat_tests, is, e) in
-        let more = replies_to entries answers in
+        let more = replies_to entries outcomes in
         let due = replies_for q replies in
-        let all : replies_for q (replies ++ more) ≡ due = replies_for-append q replies more ∙ (ap (λ l. due ++ l) (replies_for_none q place entries answers other of) ∙ append-nil due) in
+        let all : replies_for q (replies ++ more) ≡ due = replies_for-append q replies more ∙ (ap (λ l. due ++ l) (replies_for_none q place entries outcomes other of) ∙ append-nil due) in
         let way : way_to q ways' ≡ way_to q ways = ap (way_to q) to.2 ∙ get_or-set_other ways (place - 1) (q - 1) to.0 untold (λ e. other (omega (arith, e, some, low))) in
         let P : List ReplyValue → Type 0 = λ l. AreSent l (way_to q ways).sent (way_to q ways).gone in
         let Q : Told → Type 0 = λ w. AreSent (replies_for q (replies ++ more)) w.sent w.gone in

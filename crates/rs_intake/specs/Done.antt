@@ -1,4 +1,4 @@
--- What was done with the entries that the writer took, and what was answered to their lines: what is sent by their ways back.
+-- What was done with the entries that the writer took, and what their lines were told: what is sent by their ways back.
 use Rattle.std.specs.Prelude.{ℕ, ◌≡◌, ◌==◌, ◌<◌, ◌≤◌, ◌-◌, ◌⊎◌, ◌||◌, Bool, true, false, cond, List, [], ◌∷◌, ◌++◌, length, slice_index_or, Option, Some, None, Result, Ok, Err}
 use Rattle.std.specs.List.{AllByRecursion, filter}
 use Rattle.rs_message.specs.declared.entry.Entry.{Entry}
@@ -13,95 +13,95 @@ use Rattle.rs_version.specs.declared.fault.PutFault.TheVariants.{Full, Held, NoM
 use Rattle.rs_intake.specs.Sweeps.{IsSweptAtMost, without_sweeps}
 use Rattle.rs_queue.specs.declared.waiting.Gone.{Gone}
 
--- the answer to an entry: a receipt, or why there is none
-abbrev pub Answer : Type 0
-Answer = Result ReceiptValue PutFault
+-- what became of an entry: a receipt, or why there is none
+abbrev pub Outcome : Type 0
+Outcome = Result ReceiptValue PutFault
 
 -- what contracts see of a reply
 pub record ReplyValue : Type 0 where
   pub origin : Origin
-  pub answer : Answer
+  pub outcome : Outcome
 
 -- the receipt is for this entry, as the last of this list, and its token is of the list
 abbrev pub IsReceiptFor : Entry → ReceiptValue → List Entry → Type 0
 IsReceiptFor entry r kept = (r.entry ≡ entry) × (r.number ≡ length kept) × (r.told ≡ kept)
 
--- What a put of the entry leaves, by its answer. A receipt: the entry is published, behind the Sweep that it needs, and nothing is held.
+-- What a put of the entry leaves, by its outcome. A receipt: the entry is published, behind the Sweep that it needs, and nothing is held.
 -- A refusal: what it says of the published list and of the held entry
-abbrev pub IsPut : ℕ → Written → Entry → Answer → Written → Type 0
+abbrev pub IsPut : ℕ → Written → Entry → Outcome → Written → Type 0
 IsPut limit w entry (Ok r) w' = Adds limit (kept_of w) entry (λ list. w' ≡ shows list) × IsReceiptFor entry r w'.published
 IsPut limit w entry (Err f) w' = Refuses limit w entry f w'
 
--- What the answer to an entry says of the kept list before the entry and after it. A receipt, 33: the entry follows, behind the Sweep that
+-- What the outcome of an entry says of the kept list before the entry and after it. A receipt, 33: the entry follows, behind the Sweep that
 -- it needs, if it needs one. 30: the entry may not come, and the list is the same. 32: the list is the same, or has the Sweep that the
 -- entry needs. 31 never comes
-abbrev pub IsDone : ℕ → List Entry → Entry → Answer → List Entry → Type 0
+abbrev pub IsDone : ℕ → List Entry → Entry → Outcome → List Entry → Type 0
 IsDone limit kept entry (Ok r) kept' = Adds limit kept entry (λ list. kept' ≡ list) × IsReceiptFor entry r kept'
 IsDone limit kept entry (Err Held) kept' = Adds limit kept entry (λ list. kept' ≡ list)
 IsDone limit kept entry (Err Full) kept' = MayNotCome limit kept entry refusal.Full × (kept' ≡ kept)
 IsDone limit kept entry (Err NoMemory) kept' = IsSweptAtMost limit kept entry kept'
 IsDone limit kept entry (Err Stale) kept' = ⊥
 
--- one answer for each entry, in their order: from the first list on, each answer says what the entry made of the kept list, and the last
+-- one outcome for each entry, in their order: from the first list on, each says what the entry made of the kept list, and the last
 -- list comes of it
-abbrev pub AreDone : ℕ → List Entry → List Entry → List Answer → List Entry → Type 0
+abbrev pub AreDone : ℕ → List Entry → List Entry → List Outcome → List Entry → Type 0
 AreDone limit kept [] [] kept' = kept' ≡ kept
-AreDone limit kept (entry ∷ entries) (answer ∷ answers) kept' = (next : List Entry) × IsDone limit kept entry answer next × AreDone limit next entries answers kept'
-AreDone limit kept [] (answer ∷ answers) kept' = ⊥
+AreDone limit kept (entry ∷ entries) (outcome ∷ outcomes) kept' = (next : List Entry) × IsDone limit kept entry outcome next × AreDone limit next entries outcomes kept'
+AreDone limit kept [] (outcome ∷ outcomes) kept' = ⊥
 AreDone limit kept (entry ∷ entries) [] kept' = ⊥
 
--- What was done with an entry, and what is published and held then: it was put; or it was not, and the answer is that memory was refused
-abbrev pub IsAnswered : ℕ → Written → Entry → Answer → Written → Type 0
-IsAnswered limit w entry answer w' = IsPut limit w entry answer w' ⊎ ((answer ≡ Err NoMemory) × (w' ≡ w))
+-- What was done with an entry, and what is published and held then: it was put; or it was not, and the outcome is that memory was refused
+abbrev pub IsOutcome : ℕ → Written → Entry → Outcome → Written → Type 0
+IsOutcome limit w entry outcome w' = IsPut limit w entry outcome w' ⊎ ((outcome ≡ Err NoMemory) × (w' ≡ w))
 
 -- the same for these entries, one after the other
-abbrev pub AreAnswered : ℕ → Written → List Entry → List Answer → Written → Type 0
-AreAnswered limit w [] [] w' = w' ≡ w
-AreAnswered limit w (entry ∷ entries) (answer ∷ answers) w' = (next : Written) × IsAnswered limit w entry answer next × AreAnswered limit next entries answers w'
-AreAnswered limit w [] (answer ∷ answers) w' = ⊥
-AreAnswered limit w (entry ∷ entries) [] w' = ⊥
+abbrev pub AreOutcomes : ℕ → Written → List Entry → List Outcome → Written → Type 0
+AreOutcomes limit w [] [] w' = w' ≡ w
+AreOutcomes limit w (entry ∷ entries) (outcome ∷ outcomes) w' = (next : Written) × IsOutcome limit w entry outcome next × AreOutcomes limit next entries outcomes w'
+AreOutcomes limit w [] (outcome ∷ outcomes) w' = ⊥
+AreOutcomes limit w (entry ∷ entries) [] w' = ⊥
 
--- whether the answer says that the entry is not kept
-abbrev pub is_refused : Answer → Bool
+-- whether the outcome says that the entry is not kept
+abbrev pub is_refused : Outcome → Bool
 is_refused (Ok r) = false
 is_refused (Err Held) = false
 is_refused (Err Full) = true
 is_refused (Err NoMemory) = true
 is_refused (Err Stale) = true
 
--- how many of the answers say so
-abbrev pub refused_in : List Answer → ℕ
-refused_in answers = length (filter is_refused answers)
+-- how many of the outcomes say so
+abbrev pub refused_in : List Outcome → ℕ
+refused_in outcomes = length (filter is_refused outcomes)
 
 -- the entries that were not refused, in their order
-abbrev pub not_refused : List Entry → List Answer → List Entry
-not_refused [] answers = []
+abbrev pub not_refused : List Entry → List Outcome → List Entry
+not_refused [] outcomes = []
 not_refused (entry ∷ entries) [] = []
-not_refused (entry ∷ entries) (answer ∷ answers) = cond (is_refused answer) (not_refused entries answers) (entry ∷ not_refused entries answers)
+not_refused (entry ∷ entries) (outcome ∷ outcomes) = cond (is_refused outcome) (not_refused entries outcomes) (entry ∷ not_refused entries outcomes)
 
--- whether the answer says that the entry is held
-abbrev pub is_held : Answer → Bool
+-- whether the outcome says that the entry is held
+abbrev pub is_held : Outcome → Bool
 is_held (Ok r) = false
 is_held (Err Held) = true
 is_held (Err Full) = false
 is_held (Err NoMemory) = false
 is_held (Err Stale) = false
 
--- whether one of the answers says so
-abbrev pub has_held : List Answer → Bool
+-- whether one of the outcomes says so
+abbrev pub has_held : List Outcome → Bool
 has_held [] = false
-has_held (answer ∷ answers) = is_held answer || has_held answers
+has_held (outcome ∷ outcomes) = is_held outcome || has_held outcomes
 
--- each answer behind one that says so is that memory was refused
-abbrev pub AreRefusedBehind : List Answer → Type 0
+-- each outcome behind one that says so is that memory was refused
+abbrev pub AreRefusedBehind : List Outcome → Type 0
 AreRefusedBehind [] = Unit {0}
-AreRefusedBehind (answer ∷ answers) = (is_held answer ≡ true → AllByRecursion (λ a. a ≡ Err NoMemory) answers) × AreRefusedBehind answers
+AreRefusedBehind (outcome ∷ outcomes) = (is_held outcome ≡ true → AllByRecursion (λ a. a ≡ Err NoMemory) outcomes) × AreRefusedBehind outcomes
 
--- the replies that have these answers, one to each entry
-abbrev pub replies_to : List Entry → List Answer → List ReplyValue
-replies_to [] answers = []
+-- the replies that have these outcomes, one to each entry
+abbrev pub replies_to : List Entry → List Outcome → List ReplyValue
+replies_to [] outcomes = []
 replies_to (entry ∷ entries) [] = []
-replies_to (entry ∷ entries) (answer ∷ answers) = record { origin = entry.origin; answer = answer } ∷ replies_to entries answers
+replies_to (entry ∷ entries) (outcome ∷ outcomes) = record { origin = entry.origin; outcome = outcome } ∷ replies_to entries outcomes
 
 -- what the writer's end of a way back knows: the replies that it sent, and the send that failed, behind which it sends none
 pub record Told : Type 0 where
@@ -131,24 +131,24 @@ pub record AreTold (places : ℕ) (replies : List ReplyValue) (ways : List Told)
   pub count : length ways ≡ places
   pub each : (place : ℕ) → 0 < place → place ≤ places → AreSent (replies_for place replies) (way_to place ways).sent (way_to place ways).gone
 
--- There are answers, one to each entry, in their order, by which this list came to be, and by these ways back each place was told those to
+-- There are outcomes, one for each entry, in their order, by which this list came to be, and by these ways back each place was told those of
 -- its own entries. Without its Sweeps the list is the entries that were not refused
 pub record IsWritten (limit places : ℕ) (entries kept : List Entry) (ways : List Told) : Type 0 where
-  pub answers : List Answer
-  pub done : AreDone limit [] entries answers kept
-  pub changes : without_sweeps kept ≡ not_refused entries answers
-  pub told : AreTold places (replies_to entries answers) ways
+  pub outcomes : List Outcome
+  pub done : AreDone limit [] entries outcomes kept
+  pub changes : without_sweeps kept ≡ not_refused entries outcomes
+  pub told : AreTold places (replies_to entries outcomes) ways
 
--- There are answers to these entries, one to each, in their order, which say what was done with them, one after the other; these are the
+-- There are outcomes of these entries, one for each, in their order, which say what was done with them, one after the other; these are the
 -- replies that have them, and so many of the entries are not kept. Behind an entry that is held the others of these are refused
 pub record AreReplied (limit : ℕ) (w : Written) (entries : List Entry) (replies : List ReplyValue) (refused : ℕ) (w' : Written) : Type 0 where
-  pub answers : List Answer
-  pub done : AreDone limit (kept_of w) entries answers (kept_of w')
-  pub answered : AreAnswered limit w entries answers w'
-  pub behind : AreRefusedBehind answers
-  pub replies_are : replies ≡ replies_to entries answers
-  pub refused_are : refused ≡ refused_in answers
+  pub outcomes : List Outcome
+  pub done : AreDone limit (kept_of w) entries outcomes (kept_of w')
+  pub outcomes_are : AreOutcomes limit w entries outcomes w'
+  pub behind : AreRefusedBehind outcomes
+  pub replies_are : replies ≡ replies_to entries outcomes
+  pub refused_are : refused ≡ refused_in outcomes
 
 -- the reply that memory was refused
 abbrev pub refused_reply : Entry → ReplyValue
-refused_reply entry = record { origin = entry.origin; answer = Err NoMemory }
+refused_reply entry = record { origin = entry.origin; outcome = Err NoMemory }

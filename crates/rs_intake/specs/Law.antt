@@ -1,11 +1,11 @@
--- What follows from the rule of a way back, and from the answers to entries.
+-- What follows from the rule of a way back, and from the outcomes of entries.
 use Rattle.std.specs.Prelude.{ℕ, ◌≡◌, ◌+◌, true, false, All, List, [], length}
 use mathlib.Core.Option.{some}
 use mathlib.Core.List.{IsPrefix}
 use lib.ListN.{get_elem?}
 use Rattle.rs_message.specs.Messages.{is_sweep}
 use Rattle.rs_message.specs.declared.entry.Entry.{Entry}
-use Rattle.rs_intake.specs.Done.{Answer, AreDone, ReplyValue, refused_in}
+use Rattle.rs_intake.specs.Done.{AreDone, Outcome, ReplyValue, refused_in}
 use Rattle.rs_queue.specs.Parts.{IsPart}
 use Rattle.rs_intake.specs.Sweeps.{AreForEntries, without_sweeps}
 use Rattle.rs_intake.specs.ReplyRule.{Replies, WayView}
@@ -17,8 +17,8 @@ HeardInOrder = (items : List (List ReplyValue)) (views : List WayView) (i j : �
     → get_elem? views j ≡ some line → line.receives ≡ true
     → IsPrefix line.replies writer.replies
 
--- whatever the answers to entries that are no Sweeps: what is kept then, without its Sweeps, is a part of the entries, which lacks as
+-- whatever the outcomes of entries that are no Sweeps: what is kept then, without its Sweeps, is a part of the entries, which lacks as
 -- many of them as were refused; and each Sweep is the one that an entry needed there
-abbrev pub KeptAsAnswered : Type 0
-KeptAsAnswered = (limit : ℕ) (entries kept : List Entry) (answers : List Answer) → All (λ e. is_sweep e.operation ≡ false) entries → AreDone limit [] entries answers kept
-    → IsPart (without_sweeps kept) entries × (length (without_sweeps kept) + refused_in answers ≡ length entries) × AreForEntries limit entries kept
+abbrev pub KeptByOutcomes : Type 0
+KeptByOutcomes = (limit : ℕ) (entries kept : List Entry) (outcomes : List Outcome) → All (λ e. is_sweep e.operation ≡ false) entries → AreDone limit [] entries outcomes kept
+    → IsPart (without_sweeps kept) entries × (length (without_sweeps kept) + refused_in outcomes ≡ length entries) × AreForEntries limit entries kept

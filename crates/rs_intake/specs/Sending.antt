@@ -19,14 +19,14 @@ pub record AreToPut (limit : ℕ) (kept rest : List Entry) : Type 0 where
   pub plain : ArePlain rest
   pub above : AllByRecursion (λ (e : Entry). 0 < e.origin.place) rest
 
--- The first of the changes that are left of a job were answered, and the others are left then. These are the replies, and so many of the
+-- The first of the changes that are left of a job have an outcome, and the others are left then. These are the replies, and so many of the
 -- changes are not kept: none is, if one of the same job before them is held. Whether one is held afterwards
 pub record ArePut (limit : ℕ) (w : Written) (held : Bool) (rest : List Entry) (replies : List ReplyValue) (refused : ℕ) (held' : Bool) (rest' : List Entry) (w' : Written) : Type 0 where
   pub first : List Entry
   pub are : rest ≡ first ++ rest'
   pub replied : AreReplied limit w first replies refused w'
-  pub behind : held ≡ true → AllByRecursion (λ a. a ≡ Err NoMemory) replied.answers
-  pub held_is : held' ≡ (held || has_held replied.answers)
+  pub behind : held ≡ true → AllByRecursion (λ a. a ≡ Err NoMemory) replied.outcomes
+  pub held_is : held' ≡ (held || has_held replied.outcomes)
 
 -- These replies were sent behind those before: all of them, unless a send failed, and then not all. If a send before them failed, none
 -- was, and nothing changed

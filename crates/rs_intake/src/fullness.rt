@@ -45,7 +45,7 @@ fn is_clear(operation: &Operation) -> bool
     }
 }
 
-/// What the writer's answers say of it. Contracts see what they say, and not what is shown.
+/// What the outcomes of changes say of it. Contracts see what they say, and not what is shown.
 #[derive(Drop)]
 pub struct FullnessWriter {
     shown: Arc<Fullness>,
@@ -66,19 +66,19 @@ impl FullnessWriter {
         }
     }
 
-    /// After this answer.
-    pub(crate) fn note<N: StoreName>(&mut self, answer: &Result<Receipt<N>, PutFault>)
-        ensures full { self.new.is_full ≡ is_full_after self.old.is_full self.old.last answer.now }
-        ensures last { self.new.last ≡ last_after self.old.last answer.now }
+    /// After this outcome.
+    pub(crate) fn note<N: StoreName>(&mut self, outcome: &Result<Receipt<N>, PutFault>)
+        ensures full { self.new.is_full ≡ is_full_after self.old.is_full self.old.last outcome.now }
+        ensures last { self.new.last ≡ last_after self.old.last outcome.now }
     {
-        let is_full = match answer {
+        let is_full = match outcome {
             Ok(receipt) => self.is_full && !makes_room(self.last, receipt),
             Err(PutFault::Full) => true,
             // It may clear a topic.
             Err(PutFault::Held) => false,
             Err(PutFault::NoMemory | PutFault::Stale) => self.is_full,
         };
-        if let Ok(receipt) = answer {
+        if let Ok(receipt) = outcome {
             self.last = receipt.number();
         }
         if is_full != self.is_full {

@@ -31,7 +31,7 @@ fn fault_of(fault: PutFault) -> SubmitFault
     match fault {
         PutFault::Full => SubmitFault::Full,
         PutFault::NoMemory => SubmitFault::NoMemory,
-        PutFault::Held => SubmitFault::Open,
+        PutFault::Held => SubmitFault::Unknown,
         PutFault::Stale => SubmitFault::Strange,
     }
 }
@@ -45,14 +45,14 @@ pub fn read_reply<N: LineName>(
     ensures stands { IfOk result (λ r. StandsAt r.entry r.number r.told) }
     ensures legal { IfOk result (λ r. IsLegal N.limit r.told) }
     ensures open { IfErr result (λ f. f ≢ Closed) }
-    ensures came { IfOk result (λ r. reply ≡ record { origin = entry.now.origin; answer = Ok r }) }
+    ensures came { IfOk result (λ r. reply ≡ record { origin = entry.now.origin; outcome = Ok r }) }
     ensures refused { IfErr result (λ f. IsFaultOfReply entry.now reply f) }
 {
-    let WriterReply { origin, answer } = reply;
+    let WriterReply { origin, outcome } = reply;
     if origin != entry.origin {
         return Err(SubmitFault::Strange);
     }
-    let receipt = match answer {
+    let receipt = match outcome {
         Ok(receipt) => receipt,
         Err(fault) => return Err(fault_of(fault)),
     };
@@ -75,13 +75,13 @@ impl<N: LineName> Intake<N> {
     /// used whatever is answered, unless there is no further one. The writer may make a Sweep first, so that there is space. The
     /// contract also says which reply came (`heard`), if one came.
     ///
-    /// If the operation is the first that was sent ahead ([`expect`](SeatLine::expect)), nothing is sent, and the answer is the one to its
+    /// If the operation is the first that was sent ahead ([`expect`](SeatLine::expect)), nothing is sent, and the reply is the one to its
     /// entry. If something else is, nothing is done, and no serial is used.
     ///
     /// # Errors
     ///
     /// - [`Full`](SubmitFault::Full), [`NoMemory`](SubmitFault::NoMemory): no entry of the operation was made. A Sweep may have been.
-    /// - [`Open`](SubmitFault::Open): no receipt came. The operation may become an entry, at most once.
+    /// - [`Unknown`](SubmitFault::Unknown): no receipt came. The operation may become an entry, at most once.
     /// - [`Strange`](SubmitFault::Strange): what came back is not for this operation, or says that its serial is stale; or something else
     ///   was sent ahead.
     /// - [`Closed`](SubmitFault::Closed): the writer takes no more; the queue did not take the operation. No entry of it was made.
@@ -101,7 +101,7 @@ impl<N: LineName> Intake<N> {
         ensures entry { IfOk result (λ r. r.entry ≡ entry_at line.old.place line.new.serial operation) }
         ensures above { IfOk result (λ r. line.new.serial ≡ line.old.serial + 1) }
         ensures last { IfOk result (λ r. line.new.sent ≡ line.old.sent ++ r.entry ∷ []) }
-        ensures heard { IfOk result (λ r. line.new.heard ≡ line.old.heard ++ record { origin = r.entry.origin; answer = Ok r } ∷ []) }
+        ensures heard { IfOk result (λ r. line.new.heard ≡ line.old.heard ++ record { origin = r.entry.origin; outcome = Ok r } ∷ []) }
         ensures stands { IfOk result (λ r. StandsAt r.entry r.number r.told) }
         ensures legal { IfOk result (λ r. IsLegal N.limit r.told) }
         ensures ahead { IsAheadAfter line.old.ahead operation line.new.ahead }
@@ -109,7 +109,7 @@ impl<N: LineName> Intake<N> {
         let entry = line.send(rt, operation)?;
         match line.receive(rt) {
             Ok(reply) => read_reply(reply, &entry),
-            Err(_) => Err(SubmitFault::Open),
+            Err(_) => Err(SubmitFault::Unknown),
         }
     }
 }

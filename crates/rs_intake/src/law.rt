@@ -1,6 +1,6 @@
-//! First in, first out of a way back, as a law over its rule; and what the answers say of the kept list.
+//! First in, first out of a way back, as a law over its rule; and what the outcomes of entries say of the kept list.
 
-ghost use Rattle.rs_intake.specs.Law.{HeardInOrder, KeptAsAnswered};
+ghost use Rattle.rs_intake.specs.Law.{HeardInOrder, KeptByOutcomes};
 
 /// Does nothing. Its contract says what the rule of a way back always gives: what the line received is a prefix of what the
 /// writer's end sent.
@@ -8,7 +8,7 @@ pub fn reply_order_law()
     ensures { HeardInOrder }
 {}
 
-/// Does nothing. Its contract says what follows for the kept list from the answers to the entries.
-pub fn answered_law()
-    ensures { KeptAsAnswered }
+/// Does nothing. Its contract says what follows for the kept list from the outcomes of the entries.
+pub fn outcomes_law()
+    ensures { KeptByOutcomes }
 {}

@@ -2,7 +2,7 @@
 //!
 //! Each place has a line ([`SeatLine`]). [`Intake::submit`] sends an operation by the line, under the line's next serial, and
 //! waits for the receipt of just that entry. Changes that are announced to a line ([`SeatLine::expect`]) are sent together, as one job,
-//! and submitted one by one. [`run_writer`] takes jobs from the [`Queue`], puts each of their changes into the store, and answers
+//! and submitted one by one. [`run_writer`] takes jobs from the [`Queue`], puts each of their changes into the store, and replies to
 //! their line. What it takes of a place is always a prefix of what the line sent ([`line_order_law`](rs_queue::line_order_law)), and
 //! what a line has received of the replies is a prefix of those that were sent to it ([`reply_order_law`]).
 //!
@@ -32,7 +32,7 @@ pub use cause::Cause;
 pub use fault::SettleFault;
 pub use fullness::Fullness;
 pub use intake::{Intake, read_reply};
-pub use law::{answered_law, reply_order_law};
+pub use law::{outcomes_law, reply_order_law};
 pub use line::{LineEnd, SeatLine};
 pub use name::LineName;
 pub use reply::{WayEnd, WriterReplies, WriterReply};

@@ -22,7 +22,7 @@ use crate::reply::{ReplyReceiver, WriterReply};
 use crossbeam_channel::Pass;
 use rs_message::{Entry, Operation, Origin, SubmitFault, is_same};
 use rs_queue::steps::send;
-use rs_queue::{Changes, Gone, Job, JobSender, MAX_CHANGES, PassView, alone, prepared};
+use rs_queue::{Changes, Gone, Job, JobSender, MAX_CHANGES, PassView, Room, alone, prepared};
 use std::alloc::Global;
 use std::collections::VecDeque;
 use std::marker::{Model, PhantomData};
@@ -192,6 +192,7 @@ pub struct SeatLine<N: LineName> {
     serial: u64,
     replies: ReplyReceiver<N>,
     ahead: VecDeque<Entry>,
+    room: Room,
     alloc: Global,
 }
 
@@ -218,6 +219,7 @@ impl<N: LineName> SeatLine<N> {
             serial: 0,
             replies,
             ahead: VecDeque::new(alloc),
+            room: Room::new(),
             alloc,
         }
     }
@@ -260,7 +262,8 @@ impl<N: LineName> SeatLine<N> {
             return;
         }
         let place = self.line.place();
-        let Some((job, ahead)) = prepared(self.alloc, place, self.serial, changes) else {
+        let Some((job, ahead)) = prepared(self.alloc, &mut self.room, place, self.serial, changes)
+        else {
             return;
         };
         if self.line.send_changes(rt, job) {
@@ -346,7 +349,7 @@ impl<N: LineName> SeatLine<N> {
         let Ok(copy) = entry.copy() else {
             return Err(SubmitFault::NoMemory);
         };
-        let Some(changes) = alone(self.alloc, copy) else {
+        let Some(changes) = alone(self.alloc, &mut self.room, copy) else {
             // Refused: the memory for a list of one, or what has to be left.
             return Err(SubmitFault::NoMemory);
         };
@@ -392,7 +395,7 @@ impl<N: LineName> SeatLine<N> {
         }
     }
 
-    /// What the writer answers. `Gone` if it is gone.
+    /// The next reply of the writer. `Gone` if it is gone.
     pub(crate) fn receive<R: Wait>(&mut self, rt: &R) -> Result<WriterReply<N>, Gone>
         ensures same { (self.new.place ≡ self.old.place) × (self.new.serial ≡ self.old.serial) × (self.new.sent ≡ self.old.sent) }
         ensures heard { MatchResult result (λ reply. self.new.heard ≡ self.old.heard ++ reply ∷ []) (λ _. self.new.heard ≡ self.old.heard) }
@@ -414,6 +417,7 @@ impl<N: LineName> SeatLine<N> {
             serial: _,
             replies: _replies,
             ahead: _ahead,
+            room: _room,
             alloc: _,
         } = self;
         line.finish(rt)

@@ -24,13 +24,13 @@ const MAX_MESSAGES: usize = MAX_CHANGES / FEW_REPLIES;
 
 const _: () = prove!(MAX_MESSAGES * FEW_REPLIES == MAX_CHANGES);
 
-/// What the writer answers to a change.
+/// The reply of the writer to a change.
 #[derive(Drop)]
 pub struct WriterReply<N: StoreName> {
     /// The origin of the change.
     pub origin: Origin,
-    /// The receipt, or why there is none.
-    pub answer: Result<Receipt<N>, PutFault>,
+    /// What became of the change: the receipt, or why there is none.
+    pub outcome: Result<Receipt<N>, PutFault>,
 }
 
 impl<N: StoreName> Model for WriterReply<N> {
@@ -38,15 +38,15 @@ impl<N: StoreName> Model for WriterReply<N> {
 
     ghost Value = { ReplyValue };
 
-    ghost view = { λ r. record { origin = r.origin; answer = r.answer } };
+    ghost view = { λ r. record { origin = r.origin; outcome = r.outcome } };
 }
 
 impl<N: StoreName> WriterReply<N> {
     /// Whether the change is not kept. One that is held is kept.
     pub fn is_refused(&self) -> bool
-        ensures { result ≡ is_refused self.now.answer }
+        ensures { result ≡ is_refused self.now.outcome }
     {
-        match &self.answer {
+        match &self.outcome {
             Ok(_) | Err(PutFault::Held) => false,
             Err(PutFault::Full | PutFault::NoMemory | PutFault::Stale) => true,
         }
@@ -54,23 +54,23 @@ impl<N: StoreName> WriterReply<N> {
 
     /// 1 if the change is not kept, else 0.
     pub(crate) fn refused(&self) -> u64
-        ensures { result ≡ refused_in (self.now.answer ∷ []) }
+        ensures { result ≡ refused_in (self.now.outcome ∷ []) }
     {
         if self.is_refused() { 1 } else { 0 }
     }
 
     /// Whether the change is held: it is kept, and not published yet.
     pub(crate) fn is_held(&self) -> bool
-        ensures { result ≡ is_held self.now.answer }
+        ensures { result ≡ is_held self.now.outcome }
     {
-        match &self.answer {
+        match &self.outcome {
             Err(PutFault::Held) => true,
             Ok(_) | Err(PutFault::Full | PutFault::NoMemory | PutFault::Stale) => false,
         }
     }
 }
 
-/// What the writer answers to changes of one job that are next to each other, in their order. Contracts see a list of replies.
+/// The replies of the writer to changes of one job that are next to each other, in their order. Contracts see a list of replies.
 #[derive(Drop)]
 pub struct WriterReplies<N: StoreName> {
     made: VecDeque<WriterReply<N>>,
@@ -108,10 +108,10 @@ impl<N: StoreName> WriterReplies<N> {
         }
     }
 
-    /// Tells what the answers say of whether the store is full.
+    /// Tells what the outcomes say of whether the store is full.
     pub(crate) fn show(&self, fullness: &mut FullnessWriter) {
         for reply in self.made.iter() {
-            fullness.note(&reply.answer);
+            fullness.note(&reply.outcome);
         }
     }
 
@@ -136,7 +136,7 @@ impl<N: StoreName> WriterReplies<N> {
             Some(change) => Some(WriterReply {
                 origin: change.origin,
                 // Refused: the memory for these replies.
-                answer: Err(PutFault::NoMemory),
+                outcome: Err(PutFault::NoMemory),
             }),
             None => None,
         }

@@ -7,7 +7,7 @@ ghost use Rattle.rs_store.specs.History.{SerialsRise, extended};
 ghost use Rattle.rs_version.specs.Writer.{kept_of};
 ghost use Rattle.rs_version.specs.declared.fault.PutFault.TheVariants.{NoMemory};
 ghost use Rattle.rs_queue.specs.Changes.{place_of_all};
-ghost use Rattle.rs_intake.specs.Done.{AreReplied, IsAnswered, IsDone, IsPut, ReplyValue, is_held};
+ghost use Rattle.rs_intake.specs.Done.{AreReplied, IsDone, IsOutcome, IsPut, ReplyValue, is_held};
 ghost use Rattle.rs_intake.specs.Sending.{AreSentNext, AreSentTo, AreToPut, ArePut};
 ghost use Rattle.rs_intake.specs.Sweeps.{IsKeptFrom};
 ghost use Rattle.rs_queue.specs.declared.job.TheConstants.{MAX_CHANGES};
@@ -31,13 +31,13 @@ fn reply_to<N: LineName, R: Wait + Drop>(
 ) -> WriterReply<N>
     requires no_sweep { is_sweep entry.operation ≡ false }
     requires rises { SerialsRise (extended (kept_of writer.old) entry) }
-    ensures done { IsDone N.limit (kept_of writer.old) entry result.answer (kept_of writer.new) }
+    ensures done { IsDone N.limit (kept_of writer.old) entry result.outcome (kept_of writer.new) }
     ensures origin { result.origin ≡ entry.origin }
-    ensures put { IsPut N.limit writer.old entry result.answer writer.new }
+    ensures put { IsPut N.limit writer.old entry result.outcome writer.new }
 {
     let origin = entry.origin;
-    let answer = writer.put(entry);
-    WriterReply { origin, answer }
+    let outcome = writer.put(entry);
+    WriterReply { origin, outcome }
 }
 
 /// Puts the next change of a job, unless one before it is held: then nothing is done, and the reply is that memory was refused. `has_held`
@@ -49,17 +49,17 @@ fn reply_to_next<N: LineName, R: Wait + Drop>(
 ) -> WriterReply<N>
     requires no_sweep { is_sweep entry.operation ≡ false }
     requires rises { SerialsRise (extended (kept_of writer.old) entry) }
-    ensures done { IsDone N.limit (kept_of writer.old) entry result.answer (kept_of writer.new) }
+    ensures done { IsDone N.limit (kept_of writer.old) entry result.outcome (kept_of writer.new) }
     ensures origin { result.origin ≡ entry.origin }
-    ensures answered { IsAnswered N.limit writer.old entry result.answer writer.new }
-    ensures behind { has_held.old ≡ true → result.answer ≡ Err NoMemory }
-    ensures held { has_held.new ≡ (has_held.old || is_held result.answer) }
+    ensures outcome { IsOutcome N.limit writer.old entry result.outcome writer.new }
+    ensures behind { has_held.old ≡ true → result.outcome ≡ Err NoMemory }
+    ensures held { has_held.new ≡ (has_held.old || is_held result.outcome) }
 {
     if *has_held {
         return WriterReply {
             origin: entry.origin,
             // Refused: the memory for the change that is held before this one.
-            answer: Err(PutFault::NoMemory),
+            outcome: Err(PutFault::NoMemory),
         };
     }
     let reply = reply_to(writer, entry);

@@ -121,7 +121,7 @@ fn replies_at_once(patience: &Patience) -> usize
     }
 }
 
-/// Puts the changes of each job that it takes, one after the other, and sends the job's line what the writer answers. Behind a change
+/// Puts the changes of each job that it takes, one after the other, and sends the job's line a reply to each. Behind a change
 /// that is held the others of its job are refused. It ends when ([`Cause`])
 ///
 /// - each place has ended,
@@ -131,11 +131,11 @@ fn replies_at_once(patience: &Patience) -> usize
 /// Then it tries once more to publish a held entry.
 ///
 /// The contract says what became of each entry that was asked for (`done`). It makes no difference which of them came in one job. There
-/// is one answer for each entry that was taken, in their order. After a receipt, or an answer that the entry is held, the kept list is
+/// is one outcome for each entry that was taken, in their order. After a receipt, or if the entry is held, the kept list is
 /// the one before, then the Sweep that the entry needs, if it needs one, then the entry. After a full store the list is the same, and the
 /// entry may not come. If memory was refused, the list is the same, or has the Sweep that the entry needs. So what the writer keeps,
 /// without its Sweeps, is the entries that were not refused, in their order (`IsWritten`), and each Sweep is the one that one of these
-/// entries needed there (`sweeps`). By the way back to each place, the answers to its entries were sent, in their order: all of them,
+/// entries needed there (`sweeps`). By the way back to each place, the replies to its entries were sent, in their order: all of them,
 /// unless a send failed, and then a prefix. No entry is of a place beyond 1 to the number of places (`placed`).
 pub fn run_writer<N: LineName, R: Wait + Drop, W: Wait>(
     rt: &W,

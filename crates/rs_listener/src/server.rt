@@ -3,7 +3,7 @@
 ghost use Rattle.std.specs.Prelude.{◌≡◌, ◌<◌, ◌≤◌, ◌⊎◌, ℕ, List, IfOk};
 ghost use Rattle.rs_clients.specs.Fleet.{IsFleetRun};
 ghost use Rattle.rs_places.specs.Store.{IsStoreRun};
-ghost use Rattle.rs_places.specs.Turns.{Plan};
+ghost use Rattle.rs_places.specs.Turns.{Connections};
 
 use crate::fault::ListenFault;
 use crate::full_log::FullLog;
@@ -115,7 +115,7 @@ impl Server {
         self,
         rt: H,
     ) -> Result<Summary, ListenFault>
-        ensures { IfOk result (λ summary. (before : List Plan) × (after : List Plan) × (version : ℕ)
+        ensures { IfOk result (λ summary. (before : List Connections) × (after : List Connections) × (version : ℕ)
             × (IsStoreRun self.blank.limit self.blank.places before after version summary.changes
             ⊎ ((self.places < self.clients) × IsFleetRun self.blank.limit self.blank.places before after version summary.changes))) }
     {

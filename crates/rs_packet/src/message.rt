@@ -7,7 +7,7 @@ ghost use Rattle.rs_packet.specs.Messages.{left_of, remaining_of, IsMessage};
 
 use crate::packet::Qos;
 use bytes::Bytes;
-use rs_field::Properties;
+use rs_field::{Properties, properties_len, varint_len};
 use std::alloc::AllocError;
 use std::marker::Model;
 
@@ -16,8 +16,10 @@ use std::marker::Model;
 pub struct Message {
     payload: Bytes,
     qos: Qos,
+    // An `Option` of the interval takes eight bytes more.
+    expires: bool,
+    interval: u32,
     received: u64,
-    expiry: Option<u32>,
     properties: Properties,
 }
 
@@ -72,8 +74,9 @@ impl Message {
         Message {
             payload,
             qos,
+            expires: expiry.is_some(),
+            interval: expiry.unwrap_or(0),
             received,
-            expiry,
             properties,
         }
     }
@@ -104,7 +107,10 @@ impl Message {
     pub fn expiry(&self) -> Option<u32>
         ensures { result ≡ self.now.expiry }
     {
-        self.expiry
+        if self.expires {
+            return Some(self.interval);
+        }
+        None
     }
 
     /// The properties that it carries (3.3.2.3), without its interval.
@@ -118,10 +124,22 @@ impl Message {
     pub fn remaining(&self, now: u64) -> Remaining
         ensures { result ≡ remaining_of self.now now }
     {
-        match self.expiry {
+        match self.expiry() {
             Some(expiry) => left_of(expiry, now.saturating_sub(self.received)),
             None => Remaining::Forever,
         }
+    }
+
+    /// How many bytes its payload and its properties, with its interval, take in a packet: at most [`MAX_PACKET_SIZE`].
+    ///
+    /// [`MAX_PACKET_SIZE`]: crate::MAX_PACKET_SIZE
+    #[tactic(auto, using(crate::proofs::Lengths::message_section))]
+    pub fn size(&self) -> usize
+        ensures value { result ≡ message_size self.now.expiry self.now.properties self.now.payload }
+        ensures fits { result ≤ MAX_PACKET_SIZE }
+    {
+        let section = properties_len(self.expiry(), None, &self.properties);
+        varint_len(section) + section + self.payload.len()
     }
 
     /// An equal message, which shares the payload and the properties: none of their bytes is copied, and it takes no memory. The
@@ -132,8 +150,9 @@ impl Message {
         Ok(Message {
             payload: self.payload.clone()?,
             qos: self.qos,
+            expires: self.expires,
+            interval: self.interval,
             received: self.received,
-            expiry: self.expiry,
             properties: self.properties.copy()?,
         })
     }
@@ -151,7 +170,7 @@ impl PartialEq for Message {
         self.payload == other.payload
             && self.qos.level() == other.qos.level()
             && self.received == other.received
-            && self.expiry == other.expiry
+            && self.expiry() == other.expiry()
             && self.properties == other.properties
     }
 }

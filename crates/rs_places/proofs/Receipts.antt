@@ -13,7 +13,7 @@ use Rattle.rs_store.specs.History.{IsLegal}
 use Rattle.rs_store.proofs.Entries.{Among, among, contains}
 use Rattle.rs_version.specs.Receipts.{StandsAt}
 use Rattle.rs_version.proofs.Origins.{origins_differ}
-use Rattle.rs_session.specs.Gate.{Mark, IsHandedOver, Sends, SendsAtMost, Submits, TakesPending, Uses, UsesIfOpen, entry_by, last_origin}
+use Rattle.rs_session.specs.Gate.{Mark, IsHandedOver, Sends, SendsAtMost, Submits, TakesPending, Uses, UsesIfUnknown, entry_by, last_origin}
 use Rattle.rs_queue.specs.Changes.{entry_at, numbered}
 use Rattle.rs_intake.specs.Lines.{AddsAtMost, IsAheadAfter, IsOther, Line, next_serial}
 use Rattle.rs_intake.specs.Refusals.{IsRefused, IsUnsent}
@@ -85,25 +85,25 @@ submits_ok limit operation old new seen list told e number legal at is one prefi
     let Q : Entry → Type 0 = λ d. Contains list d in
     record { handed_over = handed_over limit operation new seen list told e number legal at is one; submitted = record { entry = subst Q is there; serial = above; sent = sent }; used = tt }
 
--- a submit that no reply answered, or that the writer holds, used a serial
-pub used_if_open : (before after : Line) (e : Entry) (fault : SubmitFault) → IsRefused before after e fault → UsesIfOpen (mark_of before) (mark_of after) (Err fault)
-used_if_open before after e submit_fault.Full refused = tt
-used_if_open before after e submit_fault.NoMemory refused = tt
-used_if_open before after e submit_fault.Strange refused = tt
-used_if_open before after e submit_fault.Closed refused = tt
-used_if_open before after e submit_fault.Open (inl unsent) = absurd (not_unsent before.serial unsent.2)
+-- a submit to which no reply came, or that the writer holds, used a serial
+pub used_if_unknown : (before after : Line) (e : Entry) (fault : SubmitFault) → IsRefused before after e fault → UsesIfUnknown (mark_of before) (mark_of after) (Err fault)
+used_if_unknown before after e submit_fault.Full refused = tt
+used_if_unknown before after e submit_fault.NoMemory refused = tt
+used_if_unknown before after e submit_fault.Strange refused = tt
+used_if_unknown before after e submit_fault.Closed refused = tt
+used_if_unknown before after e submit_fault.Unknown (inl unsent) = absurd (not_unsent before.serial unsent.2)
   where
-    not_unsent : (serial : ℕ) → IsUnsent serial submit_fault.Open → ⊥
+    not_unsent : (serial : ℕ) → IsUnsent serial submit_fault.Unknown → ⊥
     not_unsent serial (inl (full, last)) = absurd (cc (full))
     not_unsent serial (inr (inl none)) = absurd (cc (none))
     not_unsent serial (inr (inr closed)) = absurd (cc (closed))
-used_if_open before after e submit_fault.Open (inr (inl sent)) = let next = sent.0.0 in omega (arith, next)
-used_if_open before after e submit_fault.Open (inr (inr (inl sent))) = let next = sent.0.0 in omega (arith, next)
-used_if_open before after e submit_fault.Open (inr (inr (inr mistaken))) = let strange = mistaken.4 in absurd (cc (strange))
+used_if_unknown before after e submit_fault.Unknown (inr (inl sent)) = let next = sent.0.0 in omega (arith, next)
+used_if_unknown before after e submit_fault.Unknown (inr (inr (inl sent))) = let next = sent.0.0 in omega (arith, next)
+used_if_unknown before after e submit_fault.Unknown (inr (inr (inr mistaken))) = let strange = mistaken.4 in absurd (cc (strange))
 
 -- what a refused submit leaves
-pub submits_err : (operation : Operation) (old new : Mark) (answer : Result (Unit {0}) SubmitFault) (fault : SubmitFault) (seen : List Entry) → answer ≡ Err fault → UsesIfOpen old new (Err fault) → Submits operation old new answer seen seen
-submits_err operation old new answer fault seen is used =
+pub submits_err : (operation : Operation) (old new : Mark) (outcome : Result (Unit {0}) SubmitFault) (fault : SubmitFault) (seen : List Entry) → outcome ≡ Err fault → UsesIfUnknown old new (Err fault) → Submits operation old new outcome seen seen
+submits_err operation old new outcome fault seen is used =
     subst (λ (a : Result (Unit {0}) SubmitFault). Submits operation old new a seen seen) (sym is)
     (record { handed_over = none_handed_over operation new seen seen refl; submitted = tt; used = used })
 
@@ -143,12 +143,12 @@ operations_numbered place serial [] = refl
 operations_numbered place serial (o ∷ os) = ap (λ l. o ∷ l) (operations_numbered place (serial + 1) os)
 
 -- what a submit leaves of what was ahead. It was refused if something else was
-pub takes_pending : (ahead after : List Entry) (operation : Operation) (old new : Mark) (answer : Result (Unit {0}) SubmitFault) → IsAheadAfter ahead operation after
-    → (IsOther ahead operation → (answer ≡ Err Strange) × (new ≡ old)) → TakesPending operation old new answer (operations_of ahead) (operations_of after)
-takes_pending [] after operation old new answer none other = inl (ap operations_of none)
-takes_pending (e ∷ es) after operation old new answer (inl (here, left)) other =
+pub takes_pending : (ahead after : List Entry) (operation : Operation) (old new : Mark) (outcome : Result (Unit {0}) SubmitFault) → IsAheadAfter ahead operation after
+    → (IsOther ahead operation → (outcome ≡ Err Strange) × (new ≡ old)) → TakesPending operation old new outcome (operations_of ahead) (operations_of after)
+takes_pending [] after operation old new outcome none other = inl (ap operations_of none)
+takes_pending (e ∷ es) after operation old new outcome (inl (here, left)) other =
     inr (inl (ap (λ o. o ∷ operations_of es) here ∙ ap (λ l. operation ∷ operations_of l) (sym left)))
-takes_pending (e ∷ es) after operation old new answer (inr (unlike, left)) other =
+takes_pending (e ∷ es) after operation old new outcome (inr (unlike, left)) other =
     let (refused, same) = other unlike in
     inr (inr (ap operations_of left, refused, same))
 

@@ -4,7 +4,7 @@ use Rattle.std.proofs.lemmas.List.{append-nil, length-map, map-append}
 use Rattle.std.specs.List.{AllByRecursion, AllZip}
 use Rattle.rs_places.specs.Places.{Place, places_of}
 use Rattle.rs_places.specs.Shared.{SharedValue}
-use Rattle.rs_places.specs.Turns.{Plan}
+use Rattle.rs_places.specs.Turns.{Connections}
 
 pub length_more : {A : Type 0} (xs more : List A) (x : A) → more ≡ xs ++ x ∷ [] → length more ≡ length xs + 1
 length_more xs more x is = ap length is ∙ length-append xs (x ∷ [])
@@ -13,14 +13,14 @@ pub first_of_all : {A : Type 0} (ys : List A) (y : A) (rest left whole : List A)
 first_of_all ys y rest left whole is first = append_assoc ys (y ∷ []) left ∙ (ap (λ l. ys ++ l) (sym first) ∙ is)
 
 -- the first turn that is left goes with the first gate that is left
-pub next_place : {T : Type 0} (plan : T → Plan) (turns turns_left : List T) (gates gates_left : List SharedValue) (turn : T) (gate : SharedValue)
-    → turns ≡ turn ∷ turns_left → gates ≡ gate ∷ gates_left → places_of (map plan turns) gates ≡ record { plan = plan turn; gate = gate } ∷ places_of (map plan turns_left) gates_left
-next_place {T} plan turns turns_left gates gates_left turn gate t g =
-    ap (λ (l : List T). places_of (map plan l) gates) t ∙ ap (λ l. places_of (plan turn ∷ map plan turns_left) l) g
+pub next_place : {T : Type 0} (connections : T → Connections) (turns turns_left : List T) (gates gates_left : List SharedValue) (turn : T) (gate : SharedValue)
+    → turns ≡ turn ∷ turns_left → gates ≡ gate ∷ gates_left → places_of (map connections turns) gates ≡ record { connections = connections turn; gate = gate } ∷ places_of (map connections turns_left) gates_left
+next_place {T} connections turns turns_left gates gates_left turn gate t g =
+    ap (λ (l : List T). places_of (map connections l) gates) t ∙ ap (λ l. places_of (connections turn ∷ map connections turns_left) l) g
 
-pub same_place : {T : Type 0} (plan : T → Plan) (t u : T) (g h : SharedValue) → t ≡ u → g ≡ h → (let p : Place = record { plan = plan t; gate = g } in p) ≡ record { plan = plan u; gate = h }
-same_place {T} plan t u g h e f =
-    let P : T → SharedValue → Place = λ t g. record { plan = plan t; gate = g } in
+pub same_place : {T : Type 0} (connections : T → Connections) (t u : T) (g h : SharedValue) → t ≡ u → g ≡ h → (let p : Place = record { connections = connections t; gate = g } in p) ≡ record { connections = connections u; gate = h }
+same_place {T} connections t u g h e f =
+    let P : T → SharedValue → Place = λ t g. record { connections = connections t; gate = g } in
     ap (λ (t : T). P t g) e ∙ ap (P u) f
 
 each_more : {X Y : Type 0} (R : X → Y → Type 0) (xs : List X) (ys : List Y) (x : X) (y : Y) → AllZip R xs ys → R x y → AllZip R (xs ++ x ∷ []) (ys ++ y ∷ [])
@@ -139,10 +139,10 @@ served_here {B} {X} {Y} R threads h served more end rest left whole one pushed h
     }
 
 -- there is no turn or no gate for another place
-pub no_places : {T : Type 0} (plan : T → Plan) (turns : List T) (gates : List SharedValue) → (length turns ≡ 0) ⊎ (length gates ≡ 0) → places_of (map plan turns) gates ≡ []
-no_places plan [] gates none = refl
-no_places plan (turn ∷ turns) [] none = refl
-no_places plan (turn ∷ turns) (gate ∷ gates) none = ⊎_elim (λ t. absurd (omega (arith, t))) (λ t. absurd (omega (arith, t))) none
+pub no_places : {T : Type 0} (connections : T → Connections) (turns : List T) (gates : List SharedValue) → (length turns ≡ 0) ⊎ (length gates ≡ 0) → places_of (map connections turns) gates ≡ []
+no_places connections [] gates none = refl
+no_places connections (turn ∷ turns) [] none = refl
+no_places connections (turn ∷ turns) (gate ∷ gates) none = ⊎_elim (λ t. absurd (omega (arith, t))) (λ t. absurd (omega (arith, t))) none
 
 pub all_started : {X Y : Type 0} (R : X → Y → Type 0) (threads : List X) (left : List Y) (rest whole : List X) → rest ≡ [] → StartedSoFar R threads left rest whole
     → (here : List X) × (threads ++ here ≡ whole) × AllZip R here left
@@ -159,22 +159,22 @@ all_joined {B} {X} {Y} R threads here whole h joined served ends all is first se
 
 -- ---- how many they are
 
-pub places_length : (plans : List Plan) (gates : List SharedValue) → length plans ≡ length gates → length (places_of plans gates) ≡ length gates
+pub places_length : (turns : List Connections) (gates : List SharedValue) → length turns ≡ length gates → length (places_of turns gates) ≡ length gates
 places_length [] [] same = refl
 places_length [] (gate ∷ gates) same = same
-places_length (plan ∷ plans) [] same = refl
-places_length (plan ∷ plans) (gate ∷ gates) same = let h = places_length plans gates (omega (arith, same)) in omega (arith, h)
+places_length (connections ∷ turns) [] same = refl
+places_length (connections ∷ turns) (gate ∷ gates) same = let h = places_length turns gates (omega (arith, same)) in omega (arith, h)
 
-pub places_few : (plans : List Plan) (gates : List SharedValue) → length (places_of plans gates) ≤ length gates
+pub places_few : (turns : List Connections) (gates : List SharedValue) → length (places_of turns gates) ≤ length gates
 places_few [] gates = omega (arith)
-places_few (plan ∷ plans) [] = omega (arith)
-places_few (plan ∷ plans) (gate ∷ gates) = let h = places_few plans gates in omega (arith, h)
+places_few (connections ∷ turns) [] = omega (arith)
+places_few (connections ∷ turns) (gate ∷ gates) = let h = places_few turns gates in omega (arith, h)
 
 -- there are no more ends than gates
-pub few_ends : {E Y : Type 0} (R : Place → Y → Type 0) (plans : List Plan) (gates : List SharedValue) (h : E → Y) (ends : List E) → AllZip R (places_of plans gates) (map h ends) → length ends ≤ length gates
-few_ends R plans gates h ends served =
-    let each = each_length R (places_of plans gates) (map h ends) served in
-    let few = places_few plans gates in
+pub few_ends : {E Y : Type 0} (R : Place → Y → Type 0) (turns : List Connections) (gates : List SharedValue) (h : E → Y) (ends : List E) → AllZip R (places_of turns gates) (map h ends) → length ends ≤ length gates
+few_ends R turns gates h ends served =
+    let each = each_length R (places_of turns gates) (map h ends) served in
+    let few = places_few turns gates in
     omega (arith, each, few, length-map ends h)
 
 -- as many ends as threads

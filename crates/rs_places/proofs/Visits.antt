@@ -15,7 +15,7 @@ use Rattle.rs_server.specs.declared.writing.ServeFault.{ServeFault}
 use Rattle.rs_places.specs.Places.{AreConnectionsServed, IsPlaceServed, Place, ServesOne, Visit, next_number, place_at}
 use Rattle.rs_places.specs.Serving.{IsServedAt}
 use Rattle.rs_places.specs.Shared.{SharedValue, operations_of}
-use Rattle.rs_places.specs.Turns.{AreAll, Ending, Gave, GivesNext, Plan, Streams, TakesBack, TookBack}
+use Rattle.rs_places.specs.Turns.{AreAll, Connections, Ending, Gave, GivesNext, Streams, TakesBack, TookBack}
 use Rattle.rs_places.proofs.Marks.{marks_through}
 use Rattle.rs_places.proofs.Tails.{no_tail}
 
@@ -48,8 +48,8 @@ took_more (Some ws) (Some vs) (Some us) xs ys p q = q ∙ (ap (λ l. l ++ ys) p 
 pub record ServedSoFar (limit begin : ℕ) (first : Place) (number : ℕ) (now : Place) : Type 0 where
   pub visits : List Visit
   pub extends : (more : List Visit) (last : SharedValue) → AreConnectionsServed limit number now.gate more last → AreConnectionsServed limit begin first.gate (visits ++ more) last
-  pub given : Gave first.plan.waiting (map (λ visit. visit.given) visits) now.plan.waiting
-  pub ended : TookBack first.plan.ended (map (λ visit. visit.ending) visits) now.plan.ended
+  pub given : Gave first.connections.waiting (map (λ visit. visit.given) visits) now.connections.waiting
+  pub ended : TookBack first.connections.ended (map (λ visit. visit.ending) visits) now.connections.ended
   pub place : now.gate.mark.place ≡ first.gate.mark.place
   pub pending : first.gate.pending ≡ [] → now.gate.pending ≡ []
 
@@ -57,23 +57,23 @@ pub served_none : (limit begin : ℕ) (place : Place) → ServedSoFar limit begi
 served_none limit begin place = record {
   visits = [];
   extends = λ more last h. h;
-  given = gave_none place.plan.waiting;
-  ended = took_none place.plan.ended;
+  given = gave_none place.connections.waiting;
+  ended = took_none place.connections.ended;
   place = refl;
   pending = λ none. none;
 }
 
-pub served_more : (limit begin number : ℕ) (first now after : Place) (plan : Plan) (given : Streams) → ServedSoFar limit begin first number now → GivesNext now.plan (Some given) plan
-    → ServesOne limit number (record { plan = plan; gate = now.gate }) given after → ServedSoFar limit begin first (next_number number) after
-served_more limit begin number first now after plan given so_far next one =
+pub served_more : (limit begin number : ℕ) (first now after : Place) (connections : Connections) (given : Streams) → ServedSoFar limit begin first number now → GivesNext now.connections (Some given) connections
+    → ServesOne limit number (record { connections = connections; gate = now.gate }) given after → ServedSoFar limit begin first (next_number number) after
+served_more limit begin number first now after connections given so_far next one =
     let visit = one.visit in
-    let G : Streams → Type 0 = λ s. Gave now.plan.waiting (s ∷ []) plan.waiting in
-    let gave : Gave now.plan.waiting (visit.given ∷ []) after.plan.waiting =
-    gave_more now.plan.waiting plan.waiting after.plan.waiting (visit.given ∷ []) [] (subst G (sym one.over) next.waiting) one.taken_back.waiting in
-    let took : TookBack now.plan.ended (visit.ending ∷ []) after.plan.ended =
-    took_more now.plan.ended plan.ended after.plan.ended [] (visit.ending ∷ []) next.ended one.taken_back.ended in
-    let P : List Streams → Type 0 = λ l. Gave first.plan.waiting l after.plan.waiting in
-    let Q : List Ending → Type 0 = λ l. TookBack first.plan.ended l after.plan.ended in
+    let G : Streams → Type 0 = λ s. Gave now.connections.waiting (s ∷ []) connections.waiting in
+    let gave : Gave now.connections.waiting (visit.given ∷ []) after.connections.waiting =
+    gave_more now.connections.waiting connections.waiting after.connections.waiting (visit.given ∷ []) [] (subst G (sym one.over) next.waiting) one.taken_back.waiting in
+    let took : TookBack now.connections.ended (visit.ending ∷ []) after.connections.ended =
+    took_more now.connections.ended connections.ended after.connections.ended [] (visit.ending ∷ []) next.ended one.taken_back.ended in
+    let P : List Streams → Type 0 = λ l. Gave first.connections.waiting l after.connections.waiting in
+    let Q : List Ending → Type 0 = λ l. TookBack first.connections.ended l after.connections.ended in
     record {
       visits = so_far.visits ++ visit ∷ [];
       extends = λ more last h.
@@ -81,9 +81,9 @@ served_more limit begin number first now after plan given so_far next one =
           let S : List Visit → Type 0 = λ l. AreConnectionsServed limit begin first.gate l last in
           subst S (sym (append_assoc so_far.visits (visit ∷ []) more)) (so_far.extends (visit ∷ more) last (one.served, subst R (sym one.leaves) h));
       given = subst P (sym (map-append (λ (v : Visit). v.given) so_far.visits (visit ∷ [])))
-          (gave_more first.plan.waiting now.plan.waiting after.plan.waiting (map (λ (v : Visit). v.given) so_far.visits) (visit.given ∷ []) so_far.given gave);
+          (gave_more first.connections.waiting now.connections.waiting after.connections.waiting (map (λ (v : Visit). v.given) so_far.visits) (visit.given ∷ []) so_far.given gave);
       ended = subst Q (sym (map-append (λ (v : Visit). v.ending) so_far.visits (visit ∷ [])))
-          (took_more first.plan.ended now.plan.ended after.plan.ended (map (λ (v : Visit). v.ending) so_far.visits) (visit.ending ∷ []) so_far.ended took);
+          (took_more first.connections.ended now.connections.ended after.connections.ended (map (λ (v : Visit). v.ending) so_far.visits) (visit.ending ∷ []) so_far.ended took);
       place =
           let moved = (marks_through _ _ _ one.served.connection.marks one.served.connection.run).place in
           ap (λ (g : SharedValue). g.mark.place) (sym one.leaves) ∙ (one.served.connection.handed_on.place ∙ (moved ∙ so_far.place));
@@ -91,18 +91,18 @@ served_more limit begin number first now after plan given so_far next one =
     }
 
 -- the place, once its turn has no more connections and its line is closed
-pub place_served : (limit number : ℕ) (first now : Place) (plan : Plan) (told : List Entry) (line : Closed) → ServedSoFar limit 1 first number now → GivesNext now.plan None plan
-    → told ≡ now.gate.known → line.place ≡ now.gate.mark.place → ((tail : List Entry) × Sends now.gate.mark.sent tail (Some line.sent) × (operations_of tail ≡ now.gate.pending)) → IsClosed line.place line.ends line.gone → AreOfLine line.place line.sent → IsPlaceServed limit first (record { plan = plan; told = told; line = line })
-place_served limit number first now plan told line so_far next told_is place sent closed of_line =
+pub place_served : (limit number : ℕ) (first now : Place) (connections : Connections) (told : List Entry) (line : Closed) → ServedSoFar limit 1 first number now → GivesNext now.connections None connections
+    → told ≡ now.gate.known → line.place ≡ now.gate.mark.place → ((tail : List Entry) × Sends now.gate.mark.sent tail (Some line.sent) × (operations_of tail ≡ now.gate.pending)) → IsClosed line.place line.ends line.gone → AreOfLine line.place line.sent → IsPlaceServed limit first (record { connections = connections; told = told; line = line })
+place_served limit number first now connections told line so_far next told_is place sent closed of_line =
     let P : List Visit → Type 0 = λ l. AreConnectionsServed limit 1 first.gate l now.gate in
-    let Q : List Ending → Type 0 = λ l. TookBack first.plan.ended l plan.ended in
+    let Q : List Ending → Type 0 = λ l. TookBack first.connections.ended l connections.ended in
     record {
       visits = so_far.visits;
       last = now.gate;
       connections = subst P (append-nil so_far.visits) (so_far.extends [] now.gate refl);
-      all = all_given first.plan.waiting now.plan.waiting (map (λ (v : Visit). v.given) so_far.visits) so_far.given next.waiting;
+      all = all_given first.connections.waiting now.connections.waiting (map (λ (v : Visit). v.given) so_far.visits) so_far.given next.waiting;
       ended = subst Q (append-nil (map (λ (v : Visit). v.ending) so_far.visits))
-          (took_more first.plan.ended now.plan.ended plan.ended (map (λ (v : Visit). v.ending) so_far.visits) [] so_far.ended next.ended);
+          (took_more first.connections.ended now.connections.ended connections.ended (map (λ (v : Visit). v.ending) so_far.visits) [] so_far.ended next.ended);
       told = told_is;
       number = place ∙ so_far.place;
       sent = λ none. no_tail now.gate.mark.sent line.sent sent.0 now.gate.pending sent.1 sent.2 (so_far.pending none);
@@ -111,7 +111,7 @@ place_served limit number first now plan told line so_far next told_is place sen
     }
 
 -- one connection, once it was given back
-pub one_served : {R W C : Type 0} (remaining : R → Option (List ℕ)) (contents : W → Option (List ℕ)) (moments : C → Option (ℕ → ℕ)) (limit number : ℕ) (old new : Plan) (gate after : SharedValue)
+pub one_served : {R W C : Type 0} (remaining : R → Option (List ℕ)) (contents : W → Option (List ℕ)) (moments : C → Option (ℕ → ℕ)) (limit number : ℕ) (old new : Connections) (gate after : SharedValue)
     (input : R) (output : W) (reader read : Counted R) (writer written : Counted W) (clock clock_back : C) (result : Result Served ServeFault)
     → inner_of reader ≡ input → inner_of writer ≡ output → failures_of reader ≡ 0 → failures_of writer ≡ 0
     → IsServedAt limit (start (assigned_of gate.mark.place number) gate.known gate.mark) gate.pending

@@ -14,7 +14,7 @@ use Rattle.rs_version.proofs.Origins.{origins_differ}
 use Rattle.rs_intake.specs.Lines.{Closed, Line, new_lines}
 use Rattle.rs_queue.specs.Parts.{IsPart}
 use Rattle.rs_queue.specs.QueueRule.{of_place}
-use Rattle.rs_intake.specs.Done.{Answer, IsWritten, Told, is_refused, not_refused}
+use Rattle.rs_intake.specs.Done.{IsWritten, Outcome, Told, is_refused, not_refused}
 use Rattle.rs_intake.specs.Settling.{AreOfPlaces, AreTakenInOrder, EachOnce}
 use Rattle.rs_intake.specs.Sweeps.{without_sweeps}
 use Rattle.rs_packet.specs.declared.packet.Publish.{Publish}
@@ -28,7 +28,7 @@ use Rattle.rs_server.specs.Conversation.{AreLeft, assigned_of, start}
 use Rattle.rs_places.specs.Places.{AreConnectionsServed, IsConnectionServed, IsPlaceServed, Left, Place, Visit, left_at, next_number, places_of}
 use Rattle.rs_places.specs.Shared.{SharedValue, handed_on, operations_of}
 use Rattle.rs_places.specs.Store.{ArePublications, AreWithin, IsLineOf, IsPlaceOf, IsSettled, IsStoreRun, IsUnsettled, IsWithin, IsWriterRun, gates_of, new_gates}
-use Rattle.rs_places.specs.Turns.{Plan}
+use Rattle.rs_places.specs.Turns.{Connections}
 use Rattle.rs_places.proofs.EachOnce.{each_once}
 use Rattle.rs_places.proofs.Starting.{each_length, each_with, places_length}
 
@@ -126,17 +126,17 @@ part_filter {A} f (x ∷ xs) (y ∷ ys) p = ⊎_elim
     more true h = part_behind (filter f (x ∷ xs)) (filter f ys) y h
     more false h = h
 
-not_refused_part : (entries : List Entry) (answers : List Answer) → IsPart (not_refused entries answers) entries
-not_refused_part [] answers = tt
+not_refused_part : (entries : List Entry) (outcomes : List Outcome) → IsPart (not_refused entries outcomes) entries
+not_refused_part [] outcomes = tt
 not_refused_part (entry ∷ entries) [] = tt
-not_refused_part (entry ∷ entries) (answer ∷ answers) = go (is_refused answer) (not_refused_part entries answers)
+not_refused_part (entry ∷ entries) (outcome ∷ outcomes) = go (is_refused outcome) (not_refused_part entries outcomes)
   where
-    go : (b : Bool) → IsPart (not_refused entries answers) entries → IsPart (cond b (not_refused entries answers) (entry ∷ not_refused entries answers)) (entry ∷ entries)
-    go true h = part_behind (not_refused entries answers) entries entry h
+    go : (b : Bool) → IsPart (not_refused entries outcomes) entries → IsPart (cond b (not_refused entries outcomes) (entry ∷ not_refused entries outcomes)) (entry ∷ entries)
+    go true h = part_behind (not_refused entries outcomes) entries entry h
     go false h = inl (refl, h)
 
 pub written_part : (limit places : ℕ) (entries kept : List Entry) (ways : List Told) → IsWritten limit places entries kept ways → IsPart (without_sweeps kept) entries
-written_part limit places entries kept ways w = let P : List Entry → Type 0 = λ l. IsPart l entries in subst P (sym w.changes) (not_refused_part entries w.answers)
+written_part limit places entries kept ways w = let P : List Entry → Type 0 = λ l. IsPart l entries in subst P (sym w.changes) (not_refused_part entries w.outcomes)
 
 part_of_front : {A : Type 0} (xs ys zs : List A) → IsPart xs ys → IsPart xs (ys ++ zs)
 part_of_front [] ys zs part = tt
@@ -262,10 +262,10 @@ lines_fresh : (places : ℕ) → AllByRecursion (λ line. line.sent ++ line.ahea
 lines_fresh zero = tt
 lines_fresh (suc n) = all_behind (λ (line : Line). line.sent ++ line.ahead ≡ []) (new_lines n) (record { place = suc n; serial = 0; sent = []; heard = []; came = []; ahead = [] }) (lines_fresh n) refl
 
-places_fresh : (plans : List Plan) (lines : List Line) → AllByRecursion (λ line. line.sent ++ line.ahead ≡ []) lines → AllByRecursion IsFresh (places_of plans (map new_gate lines))
+places_fresh : (turns : List Connections) (lines : List Line) → AllByRecursion (λ line. line.sent ++ line.ahead ≡ []) lines → AllByRecursion IsFresh (places_of turns (map new_gate lines))
 places_fresh [] lines fresh = tt
-places_fresh (plan ∷ plans) [] fresh = tt
-places_fresh (plan ∷ plans) (line ∷ lines) fresh = ((ap (λ (l : List Entry). Some l) fresh.0, refl), places_fresh plans lines fresh.1)
+places_fresh (connections ∷ turns) [] fresh = tt
+places_fresh (connections ∷ turns) (line ∷ lines) fresh = ((ap (λ (l : List Entry). Some l) fresh.0, refl), places_fresh turns lines fresh.1)
 
 -- ---- maps
 
@@ -327,37 +327,37 @@ none_more (Some x) N M P to h = h
 -- ---- the run
 
 -- a run of a store with a turn for each place
-pub store_run : {T E : Type 0} (turns : List T) (ends : List E) (plan : T → Plan) (turn : E → T) (told : E → List Entry) (line : E → Closed) (own limit places : ℕ) (turns_left : List T)
+pub store_run : {T E : Type 0} (turns : List T) (ends : List E) (connections : T → Connections) (turn : E → T) (told : E → List Entry) (line : E → Closed) (own limit places : ℕ) (turns_left : List T)
     (seats : List (List Entry)) (lines : List Line) (gates : List SharedValue) (closed : List Closed) (w : Written) (entries : List Entry) (ways : List Told) (version : ℕ) (changes : Option ℕ)
     → own ≡ limit → length seats ≡ places → All (λ seat. seat ≡ []) seats → lines ≡ new_lines places → gates ≡ gates_of seats lines → length turns ≡ places
-    → AllZip (IsPlaceServed limit) (places_of (map plan turns) gates) (map (λ e. left_at (plan (turn e)) (told e) (line e)) ends)
+    → AllZip (IsPlaceServed limit) (places_of (map connections turns) gates) (map (λ e. left_at (connections (turn e)) (told e) (line e)) ends)
     → IsWritten limit places entries (kept_of w) ways → IsLegal limit (kept_of w) → AllByRecursion (λ e. IsPrefix (told e) (kept_of w)) ends
     → closed ≡ map line ends → AreTakenInOrder entries closed → MatchOption changes (EachOnce places closed → IsUnsettled entries closed) (IsSettled places entries closed)
     → AreOfPlaces places entries → version ≡ length w.published → turns_left ≡ map turn ends
-    → IsStoreRun own places (map plan turns) (map plan turns_left) version changes
-store_run {T} {E} turns ends plan turn told line own limit places turns_left seats lines gates closed w entries ways version changes same count none lines_is gates_is turns_count served written legal known closed_is taken settled placed version_is left_is =
+    → IsStoreRun own places (map connections turns) (map connections turns_left) version changes
+store_run {T} {E} turns ends connections turn told line own limit places turns_left seats lines gates closed w entries ways version changes same count none lines_is gates_is turns_count served written legal known closed_is taken settled placed version_is left_is =
     let history = kept_of w in
     let kept = written_part limit places entries history ways written in
-    let h : E → Left = λ e. left_at (plan (turn e)) (told e) (line e) in
+    let h : E → Left = λ e. left_at (connections (turn e)) (told e) (line e) in
     let left = map h ends in
     let new : gates ≡ new_gates places =
     gates_is ∙ (ap (λ l. gates_of seats l) lines_is ∙ gates_of_new seats places count (recursion_from_All (λ seat. seat ≡ []) seats none)) in
-    let after : map plan turns_left ≡ map (λ end. end.plan) left =
-    ap (map plan) left_is ∙ (map_map plan turn ends ∙ sym (map_map (λ (end : Left). end.plan) h ends)) in
+    let after : map connections turns_left ≡ map (λ end. end.connections) left =
+    ap (map connections) left_is ∙ (map_map connections turn ends ∙ sym (map_map (λ (end : Left). end.connections) h ends)) in
     let lines_left : closed ≡ map (λ end. end.line) left = closed_is ∙ sym (map_map (λ (end : Left). end.line) h ends) in
     let K : E → Type 0 = λ e. IsPrefix (told e) history in
     let C : Closed → Type 0 = λ e. IsPrefix (of_place e.place entries) e.sent in
     let D : List Closed → Type 0 = λ l. All C l in
     let both : AllByRecursion (IsKnown history entries) left =
     all_both line K C h (IsKnown history entries) (λ e k c. ((k.0, sym k.1), (c.0, sym c.1))) ends known (recursion_from_All C (map line ends) (subst D closed_is taken)) in
-    let before = map plan turns in
+    let before = map connections turns in
     let P : List SharedValue → Type 0 = λ l. AllZip (IsPlaceServed limit) (places_of before l) left in
     let gates_count : length gates ≡ places = ap length new ∙ new_gates_length places in
-    let all = places_length before gates (length-map turns plan ∙ (turns_count ∙ sym gates_count)) in
+    let all = places_length before gates (length-map turns connections ∙ (turns_count ∙ sym gates_count)) in
     let each = each_length (IsPlaceServed limit) (places_of before gates) left served in
-    let once = each_once limit places before left (length-map turns plan ∙ (turns_count ∙ sym (new_lines_length places))) (subst P new served) in
+    let once = each_once limit places before left (length-map turns connections ∙ (turns_count ∙ sym (new_lines_length places))) (subst P new served) in
     let S : List Closed → Type 0 = λ l. MatchOption changes (EachOnce places l → IsUnsettled entries l) (IsSettled places entries l) in
-    let R : ℕ → Type 0 = λ l. IsStoreRun l places before (map plan turns_left) version changes in
+    let R : ℕ → Type 0 = λ l. IsStoreRun l places before (map connections turns_left) version changes in
     subst R (sym same) (record {
       writer = writer_run limit places version w entries ways written legal placed version_is;
       left = left;

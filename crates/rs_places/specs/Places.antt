@@ -9,7 +9,7 @@ use Rattle.rs_server.specs.Clock.{TellsInOrder}
 use Rattle.rs_server.specs.Conversation.{Causes, Transfer, assigned_of, start}
 use Rattle.rs_places.specs.Serving.{IsServedAt}
 use Rattle.rs_places.specs.Shared.{SharedValue}
-use Rattle.rs_places.specs.Turns.{AreAll, Ending, Plan, Streams, TakesBack, TookBack}
+use Rattle.rs_places.specs.Turns.{AreAll, Connections, Ending, Streams, TakesBack, TookBack}
 
 -- the number of the connection after the one of this number. The greatest u64 is repeated
 abbrev pub next_number : ℕ → ℕ
@@ -51,20 +51,20 @@ AreConnectionsServed limit number first (visit ∷ visits) last =
 
 -- a place: what contracts see of its turn and of its gate
 pub record Place : Type 0 where
-  pub plan : Plan
+  pub connections : Connections
   pub gate : SharedValue
 
-abbrev pub place_at : Plan → SharedValue → Place
-place_at plan gate = record { plan = plan; gate = gate }
+abbrev pub place_at : Connections → SharedValue → Place
+place_at connections gate = record { connections = connections; gate = gate }
 
 -- what is left of a place: what contracts see of its turn, the list that its gate knew last, and its line
 pub record Left : Type 0 where
-  pub plan : Plan
+  pub connections : Connections
   pub told : List Entry
   pub line : Closed
 
-abbrev pub left_at : Plan → List Entry → Closed → Left
-left_at plan told line = record { plan = plan; told = told; line = line }
+abbrev pub left_at : Connections → List Entry → Closed → Left
+left_at connections told line = record { connections = connections; told = told; line = line }
 
 -- one connection was served over these streams and given back, from the place before to the one after
 pub record ServesOne (limit number : ℕ) (before : Place) (given : Streams) (after : Place) : Type 0 where
@@ -72,7 +72,7 @@ pub record ServesOne (limit number : ℕ) (before : Place) (given : Streams) (af
   pub served : IsConnectionServed limit number before.gate visit
   pub over : visit.given ≡ given
   pub leaves : visit.gate ≡ after.gate
-  pub taken_back : TakesBack before.plan visit.ending after.plan
+  pub taken_back : TakesBack before.connections visit.ending after.connections
 
 -- The connections of a place were served, from number 1 on. Then its line was closed.
 pub record IsPlaceServed (limit : ℕ) (place : Place) (left : Left) : Type 0 where
@@ -80,8 +80,8 @@ pub record IsPlaceServed (limit : ℕ) (place : Place) (left : Left) : Type 0 wh
   pub last : SharedValue
   pub connections : AreConnectionsServed limit 1 place.gate visits last
   -- they are all that waited, in their order, and each was taken back as it ended
-  pub all : AreAll place.plan.waiting (map (λ visit. visit.given) visits)
-  pub ended : TookBack place.plan.ended (map (λ visit. visit.ending) visits) left.plan.ended
+  pub all : AreAll place.connections.waiting (map (λ visit. visit.given) visits)
+  pub ended : TookBack place.connections.ended (map (λ visit. visit.ending) visits) left.connections.ended
   -- what is left is what the gate had then
   pub told : left.told ≡ last.known
   pub number : left.line.place ≡ place.gate.mark.place
@@ -91,7 +91,7 @@ pub record IsPlaceServed (limit : ℕ) (place : Place) (left : Left) : Type 0 wh
   pub line : AreOfLine left.line.place left.line.sent
 
 -- the first turn with the first gate, and so on. What is left of the longer list is left out
-abbrev pub places_of : List Plan → List SharedValue → List Place
+abbrev pub places_of : List Connections → List SharedValue → List Place
 places_of [] gates = []
-places_of (plan ∷ plans) [] = []
-places_of (plan ∷ plans) (gate ∷ gates) = place_at plan gate ∷ places_of plans gates
+places_of (connections ∷ turns) [] = []
+places_of (connections ∷ turns) (gate ∷ gates) = place_at connections gate ∷ places_of turns gates

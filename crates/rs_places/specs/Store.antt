@@ -23,7 +23,7 @@ use Rattle.rs_session.specs.declared.phase.Phase.TheVariants as phase
 use Rattle.rs_server.specs.Conversation.{AreLeft, assigned_of, start}
 use Rattle.rs_places.specs.Places.{IsPlaceServed, Left, Place, Visit, next_number, places_of}
 use Rattle.rs_places.specs.Shared.{SharedValue, handed_on, operations_of}
-use Rattle.rs_places.specs.Turns.{Plan}
+use Rattle.rs_places.specs.Turns.{Connections}
 
 -- the gates of these seats and lines, which are handed on. What is left of the longer list is left out
 abbrev pub gates_of : List (List Entry) → List Line → List SharedValue
@@ -105,7 +105,7 @@ pub record IsWriterRun (limit places version : ℕ) : Type 0 where
   pub held : Option Entry
   pub whole : history ≡ published ++ listed held
   pub entries : version ≡ length published
-  -- The writer took these entries, and answered each. By its answers the history came to be. All of it but the Sweeps are the entries that
+  -- The writer took these entries, and each has an outcome. By these the history came to be. All of it but the Sweeps are the entries that
   -- were not refused. The ways back by which it told them are tied to no line here.
   pub taken : List Entry
   pub ways : List Told
@@ -113,11 +113,11 @@ pub record IsWriterRun (limit places version : ℕ) : Type 0 where
   -- the entries that it took are of these places alone
   pub placed : AreOfPlaces places taken
   -- so of each place it has what was taken of the place less what was refused
-  pub not_refused_of : (place : ℕ) → of_place place (without_sweeps history) ≡ of_place place (not_refused taken written.answers)
+  pub not_refused_of : (place : ℕ) → of_place place (without_sweeps history) ≡ of_place place (not_refused taken written.outcomes)
 
 -- A store of so many new places was run. Each place served its turn, from that before to that after; the writer published so many
 -- entries; and so many changes are settled, or it is known that not all were taken.
-pub record IsStoreRun (limit places : ℕ) (before after : List Plan) (version : ℕ) (changes : Option ℕ) : Type 0 where
+pub record IsStoreRun (limit places : ℕ) (before after : List Connections) (version : ℕ) (changes : Option ℕ) : Type 0 where
   -- the history, and what the writer took and published
   pub writer : IsWriterRun limit places version
   pub open writer use *
@@ -125,6 +125,6 @@ pub record IsStoreRun (limit places : ℕ) (before after : List Plan) (version :
   pub left : List Left
   pub each : AllZip (IsPlaceOf limit history taken) (places_of before (new_gates places)) left
   pub count : length left ≡ places
-  pub turns : after ≡ map (λ end. end.plan) left
+  pub turns : after ≡ map (λ end. end.connections) left
   -- all that the places sent was taken, once; no number is given only if another number was sent than taken
   pub settled : MatchOption changes (IsUnsettled taken (map (λ end. end.line) left)) (IsSettled places taken (map (λ end. end.line) left))

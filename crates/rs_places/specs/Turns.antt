@@ -18,12 +18,12 @@ pub record Ending : Type 0 where
   pub result : Result Served ServeFault
 
 -- the connections that a turn will still give, and those that it took back, each in their order, if they are given
-pub record Plan : Type 0 where
+pub record Connections : Type 0 where
   pub waiting : Option (List Streams)
   pub ended : Option (List Ending)
 
 -- nothing is given
-abbrev pub none_given : Plan
+abbrev pub none_given : Connections
 none_given = record { waiting = None; ended = None }
 
 -- these are the first of those that waited, and the others still wait, if they are given
@@ -49,11 +49,11 @@ GivesFirst old (Some given) new = Gave old (given ∷ []) new
 GivesFirst old None new = AreAll old []
 
 -- the next connection is given, and none is taken back
-pub record GivesNext (old : Plan) (given : Option Streams) (new : Plan) : Type 0 where
+pub record GivesNext (old : Connections) (given : Option Streams) (new : Connections) : Type 0 where
   pub waiting : GivesFirst old.waiting given new.waiting
   pub ended : TookBack old.ended [] new.ended
 
 -- a connection is taken back, and none is given
-pub record TakesBack (old : Plan) (ending : Ending) (new : Plan) : Type 0 where
+pub record TakesBack (old : Connections) (ending : Ending) (new : Connections) : Type 0 where
   pub waiting : Gave old.waiting [] new.waiting
   pub ended : TookBack old.ended (ending ∷ []) new.ended

@@ -17,5 +17,5 @@ pub use running::{PlaceEnd, PlacesEnd, TurnEnd, run_places, serve_turns};
 pub use serving::serve_place;
 pub use settling::{all_covered, settled};
 pub use shared_gate::SharedGate;
-pub use store::{AnswersJobs, StoreEnd, WriterThread, open_gates, run_store, start_writer};
+pub use store::{PutsJobs, StoreEnd, WriterThread, open_gates, run_store, start_writer};
 pub use turn::{Connection, Turn};

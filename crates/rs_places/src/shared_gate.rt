@@ -23,10 +23,10 @@ use std::sync::{Arc, Wait};
 
 /// A place's gate to a store that other places use too. It stands for the seat's known list, which is legal, and for no other.
 ///
-/// The changes that it is told to expect go to the writer at once, in one job, if memory allows, and each is answered when its own submit
+/// The changes that it is told to expect go to the writer at once, in one job, if memory allows, and the outcome of each is told when its own submit
 /// comes.
 ///
-/// It keeps the handle `rt`, by which changes wait for space in the queue, a submit for its receipt, and `hand_on` for the answers to what
+/// It keeps the handle `rt`, by which changes wait for space in the queue, a submit for its receipt, and `hand_on` for the replies to what
 /// was sent ahead. An answer to a filter waits for nobody.
 #[derive(Drop)]
 pub struct SharedGate<N: LineName, R: Wait + Copy> {
@@ -58,7 +58,7 @@ impl<N: LineName, R: Wait + Copy> SharedGate<N, R> {
         // For the proof: this call says that the seat's list is legal.
         let _version = seat.version();
         let mut line = line;
-        // If the writer is gone, no answer is left for a later submit.
+        // If the writer is gone, no reply is left for a later submit.
         drop(line.hand_on(&rt));
         SharedGate {
             rt,
@@ -94,14 +94,14 @@ impl<N: LineName, R: Wait + Copy> SharedGate<N, R> {
         self.seat.told()
     }
 
-    /// What was sent ahead counts as submitted, as if the gate had done so and dropped the answers, for which it waits. Whoever serves the
+    /// What was sent ahead counts as submitted, as if the gate had done so and dropped the replies, for which it waits. Whoever serves the
     /// next connection with the gate calls it first.
     pub fn hand_on(&mut self)
         ensures known { self.new.known ≡ self.old.known }
         ensures mark { (tail : List Entry) × HandsOn self.old.mark tail self.new.mark × (operations_of tail ≡ self.old.pending) }
         ensures pending { self.new.pending ≡ [] }
     {
-        // If the writer is gone, no answer is left for a later submit.
+        // If the writer is gone, no reply is left for a later submit.
         drop(self.line.hand_on(&self.rt));
     }
 

@@ -54,12 +54,12 @@ pub fn open_gates<N: LineName, H: Wait + Copy>(
     Ok(gates)
 }
 
-/// What the writer's thread promises: the list that it keeps came to be by its answers to the entries that it took, each place was told
-/// the answers to its own entries, and these are of its places alone.
+/// What the writer's thread promises: the list that it keeps came to be by the outcomes of the entries that it took, each place was told
+/// those of its own entries, and these are of its places alone.
 #[derive(Drop)]
-pub struct AnswersJobs;
+pub struct PutsJobs;
 
-impl<N: LineName, R: Wait + Drop> Promise<Ended<N, R>> for AnswersJobs {
+impl<N: LineName, R: Wait + Drop> Promise<Ended<N, R>> for PutsJobs {
     ghost use Rattle.rs_intake.specs.Done.{IsWritten};
     ghost use Rattle.rs_intake.specs.Settling.{AreOfPlaces};
     ghost use Rattle.rs_version.specs.Writer.{kept_of};
@@ -68,7 +68,7 @@ impl<N: LineName, R: Wait + Drop> Promise<Ended<N, R>> for AnswersJobs {
 }
 
 /// The writer's thread.
-pub type WriterThread<N, H> = PromisedHandle<Ended<N, H>, AnswersJobs>;
+pub type WriterThread<N, H> = PromisedHandle<Ended<N, H>, PutsJobs>;
 
 /// Starts the writer's thread, which runs [`run_writer`]. None if it cannot be started: the writer and the queue are dropped then.
 pub fn start_writer<
@@ -77,14 +77,14 @@ pub fn start_writer<
 >(rt: H, queue: Queue<N>, writer: VersionWriter<N, H>) -> Option<WriterThread<N, H>>
     requires { kept_of writer ≡ [] }
 {
-    spawn_with(&rt, AnswersJobs, move || run_writer(&rt, queue, writer)).ok()
+    spawn_with(&rt, PutsJobs, move || run_writer(&rt, queue, writer)).ok()
 }
 
 /// Runs a store that is empty at first: serves a turn at each of its places, each place on a thread of its own, as
 /// [`run_places`] does, with the writer on one more, and settles. The first turn goes with place 1, and so on.
 ///
-/// The contract is one statement about the run, `IsStoreRun`: there is one legal history, which the writer made by its answers to the
-/// entries that it took, all from these places, and published, but for its last entry, if that is held; all lists that any connection
+/// The contract is one statement about the run, `IsStoreRun`: there is one legal history, which came to be by the outcomes of the
+/// entries that the writer took, all from these places, and published, but for its last entry, if that is held; all lists that any connection
 /// of any place was answered from are prefixes of it; each retained publication that any client was told is stored stands in it once;
 /// each place served all connections of its turn, over their own bytes and at their own times; what a place sent are their retained
 /// publications, in order; and if the changes are given, all of it was taken, once.
@@ -101,7 +101,7 @@ pub fn run_store<T: Turn + Send + Drop + 'static, H: Threads + Wait + Copy + Sen
 ) -> Result<StoreEnd<T>, StoreFault>
     requires places { queue.places ≡ blank.places }
     requires turns { length turns.items ≡ blank.places }
-    ensures { IfOk result (λ end. IsStoreRun blank.limit blank.places (map T.plan turns.items) (map T.plan end.turns.items) end.version end.changes) }
+    ensures { IfOk result (λ end. IsStoreRun blank.limit blank.places (map T.connections turns.items) (map T.connections end.turns.items) end.version end.changes) }
 {
     run_named::<Brand, T, H>(rt, alloc, blank, queue, turns)
 }
@@ -121,7 +121,7 @@ fn run_named<
     requires queue { (queue.name ≡ N.queue) × (queue.places ≡ N.places) }
     requires places { queue.places ≡ blank.places }
     requires turns { length turns.items ≡ blank.places }
-    ensures { IfOk result (λ end. IsStoreRun blank.limit blank.places (map T.plan turns.items) (map T.plan end.turns.items) end.version end.changes) }
+    ensures { IfOk result (λ end. IsStoreRun blank.limit blank.places (map T.connections turns.items) (map T.connections end.turns.items) end.version end.changes) }
 {
     let (writer, seats) = blank.open::<N, H>(rt)?;
     let (intake, lines, queue) = queue.open::<N>()?;

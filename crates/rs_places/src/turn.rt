@@ -21,9 +21,9 @@ pub struct Connection<R, W, C> {
 /// Gives a place its connections, one after the other, and takes them back once they have ended.
 ///
 /// The parts of a connection own what they need, since the place's thread takes them. A turn over given connections, as those of a
-/// test are, says so by its `plan`; one over sockets says nothing, and promises nothing.
+/// test are, says which by its `connections`; one over sockets says nothing, and promises nothing.
 pub trait Turn {
-    ghost use Rattle.rs_places.specs.Turns.{Plan, none_given};
+    ghost use Rattle.rs_places.specs.Turns.{Connections, none_given};
 
     /// Reads what the client sends.
     type In: Read + Drop + Send;
@@ -35,11 +35,11 @@ pub trait Turn {
     type Time: Clock + Drop + Send;
 
     /// What contracts see of its connections. Nothing, if the type does not say.
-    ghost plan: { Self → Plan } = { λ _. none_given };
+    ghost connections: { Self → Connections } = { λ _. none_given };
 
     /// The next connection of the place. `None` if there are no more; then it is not asked again.
     fn next(&mut self) -> Option<Connection<Self::In, Self::Out, Self::Time>>
-        ensures { GivesNext (plan self.old) (option_map (λ c. record { unread = Self.In.remaining c.input; written = Self.Out.contents c.output; moments = Self.Time.moments c.clock }) result) (plan self.new) };
+        ensures { GivesNext (connections self.old) (option_map (λ c. record { unread = Self.In.remaining c.input; written = Self.Out.contents c.output; moments = Self.Time.moments c.clock }) result) (connections self.new) };
 
     /// Takes back a connection that was served, how it ended, and what it was refused. Its reader and its writer have counted how often
     /// they failed.
@@ -49,5 +49,5 @@ pub trait Turn {
         served: Result<Served, ServeFault>,
         refusals: Refusals,
     )
-        ensures { TakesBack (plan self.old) (record { streams = record { unread = Self.In.remaining (inner_of connection.input); written = Self.Out.contents (inner_of connection.output); moments = Self.Time.moments connection.clock }; read_failures = failures_of connection.input; write_failures = failures_of connection.output; result = served }) (plan self.new) };
+        ensures { TakesBack (connections self.old) (record { streams = record { unread = Self.In.remaining (inner_of connection.input); written = Self.Out.contents (inner_of connection.output); moments = Self.Time.moments connection.clock }; read_failures = failures_of connection.input; write_failures = failures_of connection.output; result = served }) (connections self.new) };
 }

@@ -11,7 +11,7 @@ use Rattle.rs_version.specs.Copies.{listed}
 use Rattle.rs_places.specs.Places.{AreConnectionsServed, Left, Place, Visit, next_number, places_of}
 use Rattle.rs_places.specs.Shared.{SharedValue}
 use Rattle.rs_places.specs.Store.{AreWithin, IsPlaceOf, IsStoreRun, new_gates}
-use Rattle.rs_places.specs.Turns.{AreAll, Ending, Plan, Streams, TookBack}
+use Rattle.rs_places.specs.Turns.{AreAll, Connections, Ending, Streams, TookBack}
 use Rattle.rs_places_tests.specs.Answered.{AreAnswered, ArePlacesAnswered, EachAnswered, IsPlaceAnswered}
 
 abbrev AllOf : List Entry → List Exchange → Type 0
@@ -54,25 +54,25 @@ answered_by history (Some waiting) (Some before) (Some ended) given endings some
     let E : List Streams → Type 0 = λ l. EachAnswered history l endings in
     (endings, took, subst E (sym all) each)
 
-place_answered : (limit : ℕ) (history entries : List Entry) (place : Place) (left : Left) → is_some place.plan.waiting ≡ true → IsPlaceOf limit history entries place left
-    → IsPlaceAnswered history place.plan.waiting place.plan.ended left.plan.ended
+place_answered : (limit : ℕ) (history entries : List Entry) (place : Place) (left : Left) → is_some place.connections.waiting ≡ true → IsPlaceOf limit history entries place left
+    → IsPlaceAnswered history place.connections.waiting place.connections.ended left.connections.ended
 place_answered limit history entries place left some p =
     let visits = p.served.visits in
-    answered_by history place.plan.waiting place.plan.ended left.plan.ended _ _ some p.served.all p.served.ended
+    answered_by history place.connections.waiting place.connections.ended left.connections.ended _ _ some p.served.all p.served.ended
     (visits_answered limit 1 history place.gate visits p.served.last p.served.connections p.within)
 
-places_answered : (limit : ℕ) (history entries : List Entry) (before : List Plan) (gates : List SharedValue) (left : List Left) → length before ≡ length gates
-    → AllByRecursion (λ plan. is_some plan.waiting ≡ true) before → AllZip (IsPlaceOf limit history entries) (places_of before gates) left → ArePlacesAnswered history before (map (λ end. end.plan) left)
+places_answered : (limit : ℕ) (history entries : List Entry) (before : List Connections) (gates : List SharedValue) (left : List Left) → length before ≡ length gates
+    → AllByRecursion (λ connections. is_some connections.waiting ≡ true) before → AllZip (IsPlaceOf limit history entries) (places_of before gates) left → ArePlacesAnswered history before (map (λ end. end.connections) left)
 places_answered limit history entries [] gates [] same known each = tt
 places_answered limit history entries [] gates (end ∷ left) same known each = absurd each
-places_answered limit history entries (plan ∷ plans) [] left same known each = absurd (omega (arith, same))
-places_answered limit history entries (plan ∷ plans) (gate ∷ gates) [] same known each = absurd each
-places_answered limit history entries (plan ∷ plans) (gate ∷ gates) (end ∷ left) same known each =
-    (place_answered limit history entries (record { plan = plan; gate = gate }) end known.0 each.0, places_answered limit history entries plans gates left (omega (arith, same)) known.1 each.1)
+places_answered limit history entries (connections ∷ turns) [] left same known each = absurd (omega (arith, same))
+places_answered limit history entries (connections ∷ turns) (gate ∷ gates) [] same known each = absurd each
+places_answered limit history entries (connections ∷ turns) (gate ∷ gates) (end ∷ left) same known each =
+    (place_answered limit history entries (record { connections = connections; gate = gate }) end known.0 each.0, places_answered limit history entries turns gates left (omega (arith, same)) known.1 each.1)
 
-pub run_answered : (limit places : ℕ) (before after : List Plan) (version : ℕ) (changes : Option ℕ) → length before ≡ places → AllByRecursion (λ plan. is_some plan.waiting ≡ true) before → IsStoreRun limit places before after version changes → AreAnswered limit before after version
+pub run_answered : (limit places : ℕ) (before after : List Connections) (version : ℕ) (changes : Option ℕ) → length before ≡ places → AllByRecursion (λ connections. is_some connections.waiting ≡ true) before → IsStoreRun limit places before after version changes → AreAnswered limit before after version
 run_answered limit places before after version changes count known run =
-    let P : List Plan → Type 0 = λ l. ArePlacesAnswered run.history before l in
+    let P : List Connections → Type 0 = λ l. ArePlacesAnswered run.history before l in
     record {
       history = run.history;
       legal = run.legal;
@@ -86,7 +86,7 @@ pub if_ok_more : {A E : Type 0} (r : Result A E) (P Q : A → Type 0) → ((x : 
 if_ok_more (Ok x) P Q to h = to x h
 if_ok_more (Err e) P Q to h = tt
 
--- what is given of each turn is given of its plan
-pub plans_known : {T : Type 0} (plan : T → Plan) (turns : List T) → All (λ turn. is_some (plan turn).waiting ≡ true) turns → AllByRecursion (λ p. is_some p.waiting ≡ true) (map plan turns)
-plans_known plan [] known = tt
-plans_known plan (turn ∷ turns) known = (known 0 turn (omega arith), plans_known plan turns (λ k d lt. known (suc k) d (omega (arith, lt))))
+-- what is given of each turn is given of its connections
+pub connections_known : {T : Type 0} (connections : T → Connections) (turns : List T) → All (λ turn. is_some (connections turn).waiting ≡ true) turns → AllByRecursion (λ p. is_some p.waiting ≡ true) (map connections turns)
+connections_known connections [] known = tt
+connections_known connections (turn ∷ turns) known = (known 0 turn (omega arith), connections_known connections turns (λ k d lt. known (suc k) d (omega (arith, lt))))

@@ -11,7 +11,7 @@ use Rattle.rs_session.specs.Run.{Run, Exchange}
 use Rattle.rs_session.specs.State.{State}
 use Rattle.rs_server.specs.Clock.{TellsInOrder}
 use Rattle.rs_server.specs.Conversation.{Causes, InputsOf, WritesReplies, inputs_of, moments_of, planned_inputs, planned_moments, start}
-use Rattle.rs_places.specs.Turns.{Ending, Plan, Streams}
+use Rattle.rs_places.specs.Turns.{Connections, Ending, Streams}
 
 -- The connection was answered by a session: what its client was written are the session's replies to the bytes that it sent. The list
 -- that it began with, and each that a filter was answered from, is a prefix of this one. A fault that the turn was told was met.
@@ -52,14 +52,14 @@ IsPlaceAnswered history (Some waiting) None (Some all) = ⊥
 IsPlaceAnswered history (Some waiting) (Some ended) (Some all) = (endings : List Ending) × (all ≡ ended ++ endings) × EachAnswered history waiting endings
 
 -- the same of all places
-abbrev pub ArePlacesAnswered : List Entry → List Plan → List Plan → Type 0
+abbrev pub ArePlacesAnswered : List Entry → List Connections → List Connections → Type 0
 ArePlacesAnswered history [] [] = Unit {0}
 ArePlacesAnswered history [] (after ∷ more) = ⊥
 ArePlacesAnswered history (before ∷ rest) [] = ⊥
 ArePlacesAnswered history (before ∷ rest) (after ∷ more) = IsPlaceAnswered history before.waiting before.ended after.ended × ArePlacesAnswered history rest more
 
 -- of one legal history, of which so many entries were published
-pub record AreAnswered (limit : ℕ) (before after : List Plan) (version : ℕ) : Type 0 where
+pub record AreAnswered (limit : ℕ) (before after : List Connections) (version : ℕ) : Type 0 where
   pub history : List Entry
   pub legal : IsLegal limit history
   pub published : List Entry

@@ -3,7 +3,7 @@
 ghost use Rattle.std.specs.Prelude.{◌≡◌};
 
 use crate::groups::{
-    Book, Done, Left, Place, Plan, ROUNDS, groups, leave, refused, submit_all, summed,
+    Book, Done, Grouping, Left, Place, ROUNDS, groups, leave, refused, submit_all, summed,
 };
 use crate::view::View;
 use rs_calls_kit::Failure;
@@ -39,7 +39,7 @@ impl<N: LineName, H: Wait + Copy + Drop> Place for Pair<N, H> {
             // Nobody else submits meanwhile, so the entry is the last of the list that was told with it.
             Ok(()) => Done::Published(self.own.version()),
             Err(SubmitFault::NoMemory) => Done::Refused,
-            Err(SubmitFault::Open) => Done::Held,
+            Err(SubmitFault::Unknown) => Done::Held,
             Err(_) => Done::Other,
         }
     }
@@ -110,19 +110,19 @@ fn tried<H: Wait + Threads + Copy + Send + Sync + 'static, N: LineName + Send + 
     blank: Blank,
     queue: BlankQueue,
     all: TopicFilter,
-    plan: Plan,
+    grouping: Grouping,
 ) -> Result<(Book, Left), Failure>
     requires store { (blank.history ≡ N.history) × (blank.limit ≡ N.limit) }
     requires queue { (queue.name ≡ N.queue) × (queue.places ≡ N.places) }
 {
     // They are made before: between two submits, only what the calls themselves need takes memory.
-    let groups = groups(alloc, plan)?;
+    let groups = groups(alloc, grouping)?;
     let Running {
         writer,
         places,
         mut pair,
     } = run::<H, N>(rt, alloc, blank, queue, all)?;
-    let book = submit_all(&mut pair, groups, plan.ends_at_held);
+    let book = submit_all(&mut pair, groups, grouping.ends_at_held);
     drop(pair);
     let ends = close(&rt, alloc, places)?;
     let left = leave(ends, writer.join(&rt));
@@ -133,40 +133,40 @@ fn tried<H: Wait + Threads + Copy + Send + Sync + 'static, N: LineName + Send + 
 fn worked<H: Wait + Threads + Copy + Send + Sync + 'static>(
     rt: H,
     alloc: Global,
-    plan: Plan,
+    grouping: Grouping,
 ) -> Result<[u64; 3], Failure> {
     let limit = TopicLimit::new(ROUNDS).ok_or(Failure::Wrong)?;
     let places = PlaceCount::new(1).ok_or(Failure::Wrong)?;
     let blank = Blank::new(alloc, limit, places)?;
     let queue = blank_queue(alloc, places)?;
     let all = TopicFilter::read(alloc, b"#")?;
-    let (book, left) = tried::<H, Brand>(rt, alloc, blank, queue, all, plan)?;
+    let (book, left) = tried::<H, Brand>(rt, alloc, blank, queue, all, grouping)?;
     refused(book, left)
 }
 
 /// All topics one by one; all of them in bursts of six.
-const PLANS: [Plan; 2] = [
-    Plan {
+const GROUPINGS: [Grouping; 2] = [
+    Grouping {
         groups: 24,
         size: 1,
         ends_at_held: false,
     },
-    Plan {
+    Grouping {
         groups: 4,
         size: 6,
         ends_at_held: false,
     },
 ];
 
-/// Two clients of a place submit new topics to a store for each plan. Returns how often memory was refused in all, in the order of
+/// Two clients of a place submit new topics to a store for each grouping. Returns how often memory was refused in all, in the order of
 /// [`refused`].
 pub fn work<H: Wait + Threads + Copy + Send + Sync + 'static>(
     rt: &H,
     alloc: Global,
 ) -> Result<Vec<u64>, Failure> {
-    let mut all = Vec::with_capacity(alloc, PLANS.len())?;
-    for plan in PLANS {
-        all.push(worked(*rt, alloc, plan)?)?;
+    let mut all = Vec::with_capacity(alloc, GROUPINGS.len())?;
+    for grouping in GROUPINGS {
+        all.push(worked(*rt, alloc, grouping)?)?;
     }
     summed(alloc, all.as_slice())
 }

@@ -46,7 +46,7 @@ pub trait Place {
 #[derive(Clone, Copy)]
 pub struct Book {
     kept: u64,
-    is_open: bool,
+    has_held: bool,
     submit: u64,
     held: u64,
 }
@@ -54,8 +54,8 @@ pub struct Book {
 impl Book {
     /// What was held is published before another entry is.
     fn publish(&mut self) {
-        self.kept = self.kept.saturating_add(u64::from(self.is_open));
-        self.is_open = false;
+        self.kept = self.kept.saturating_add(u64::from(self.has_held));
+        self.has_held = false;
     }
 
     /// Takes note of a submit. Returns whether that may be: a receipt has the next number, behind that of an entry that is held.
@@ -68,7 +68,7 @@ impl Book {
             }
             Done::Held => {
                 self.publish();
-                self.is_open = true;
+                self.has_held = true;
                 self.held = self.held.saturating_add(1);
                 true
             }
@@ -104,7 +104,7 @@ pub struct Group {
 
 /// How many groups are submitted, how many Sets each has, and whether none is behind one with an entry that is held.
 #[derive(Clone, Copy)]
-pub struct Plan {
+pub struct Grouping {
     pub groups: u64,
     pub size: u64,
     pub ends_at_held: bool,
@@ -137,13 +137,13 @@ pub fn submit_all<P: Place>(
 ) -> Result<Book, Failure> {
     let mut book = Book {
         kept: 0,
-        is_open: false,
+        has_held: false,
         submit: 0,
         held: 0,
     };
     for group in groups {
         submit_group(place, &mut book, group)?;
-        if ends_at_held && book.is_open {
+        if ends_at_held && book.has_held {
             break;
         }
     }
@@ -161,12 +161,12 @@ fn changes(alloc: Global, first: u64, count: u64) -> Result<Vec<Operation>, Fail
     Ok(changes)
 }
 
-pub fn groups(alloc: Global, plan: Plan) -> Result<Vec<Group>, Failure> {
+pub fn groups(alloc: Global, grouping: Grouping) -> Result<Vec<Group>, Failure> {
     let mut groups = Vec::new(alloc);
-    for index in 0..plan.groups {
-        let first = index.saturating_mul(plan.size);
-        let announced = changes(alloc, first, plan.size)?;
-        let changes = changes(alloc, first, plan.size)?;
+    for index in 0..grouping.groups {
+        let first = index.saturating_mul(grouping.size);
+        let announced = changes(alloc, first, grouping.size)?;
+        let changes = changes(alloc, first, grouping.size)?;
         groups.push(Group { announced, changes })?;
     }
     Ok(groups)
@@ -195,9 +195,9 @@ pub fn leave<N: LineName, R: Wait + Drop>(ends: Vec<LineEnd<N>>, ended: Ended<N,
 /// the last one, whose entry was held and was published when the writer ended. All that was sent was taken, and nothing twice.
 pub fn refused(book: Book, left: Left) -> Result<[u64; 3], Failure> {
     // What is still held then was refused twice, and is not published.
-    let is_last = book.is_open && !left.is_held;
+    let is_last = book.has_held && !left.is_held;
     let kept = book.kept.saturating_add(u64::from(is_last));
-    check(left.is_settled && left.version == kept && (book.is_open || !left.is_held))?;
+    check(left.is_settled && left.version == kept && (book.has_held || !left.is_held))?;
     Ok([book.submit, book.held, u64::from(is_last)])
 }
 

@@ -3,7 +3,7 @@
 ghost use Rattle.std.specs.Prelude.{◌≡◌};
 
 use crate::groups::{
-    Book, Done, Left, Place, Plan, ROUNDS, groups, leave, refused, submit_all, summed,
+    Book, Done, Grouping, Left, Place, ROUNDS, groups, leave, refused, submit_all, summed,
 };
 use crate::view::{View, look};
 use rs_calls_kit::Failure;
@@ -41,7 +41,7 @@ impl<N: LineName, H: Wait + Copy + Drop> Place for Open<N, H> {
                 Done::Published(receipt.number())
             }
             Err(SubmitFault::NoMemory) => Done::Refused,
-            Err(SubmitFault::Open) => Done::Held,
+            Err(SubmitFault::Unknown) => Done::Held,
             Err(_) => Done::Other,
         }
     }
@@ -94,15 +94,15 @@ fn tried<H: Wait + Threads + Copy + Send + Sync + 'static, N: LineName + Send + 
     blank: Blank,
     queue: BlankQueue,
     all: TopicFilter,
-    plan: Plan,
+    grouping: Grouping,
 ) -> Result<(Book, Left), Failure>
     requires store { (blank.history ≡ N.history) × (blank.limit ≡ N.limit) }
     requires queue { (queue.name ≡ N.queue) × (queue.places ≡ N.places) }
 {
     // They are made before: between two submits, only what the calls themselves need takes memory.
-    let groups = groups(alloc, plan)?;
+    let groups = groups(alloc, grouping)?;
     let Running { writer, mut place } = run::<H, N>(rt, blank, queue, all)?;
-    let book = submit_all(&mut place, groups, plan.ends_at_held);
+    let book = submit_all(&mut place, groups, grouping.ends_at_held);
     let Open { line, .. } = place;
     let ends = vec![in alloc; line.close(&rt)]?;
     let left = leave(ends, writer.join(&rt));
@@ -113,50 +113,50 @@ fn tried<H: Wait + Threads + Copy + Send + Sync + 'static, N: LineName + Send + 
 fn worked<H: Wait + Threads + Copy + Send + Sync + 'static>(
     rt: H,
     alloc: Global,
-    plan: Plan,
+    grouping: Grouping,
 ) -> Result<[u64; 3], Failure> {
     let limit = TopicLimit::new(ROUNDS).ok_or(Failure::Wrong)?;
     let places = PlaceCount::new(1).ok_or(Failure::Wrong)?;
     let blank = Blank::new(alloc, limit, places)?;
     let queue = blank_queue(alloc, places)?;
     let all = TopicFilter::read(alloc, b"#")?;
-    let (book, left) = tried::<H, Brand>(rt, alloc, blank, queue, all, plan)?;
+    let (book, left) = tried::<H, Brand>(rt, alloc, blank, queue, all, grouping)?;
     refused(book, left)
 }
 
 /// All topics one by one, and none after one whose entry is held; all of them one by one; all of them, three in a job; all in one job, whose
 /// replies are two messages if the writer waited for it.
-const PLANS: [Plan; 4] = [
-    Plan {
+const GROUPINGS: [Grouping; 4] = [
+    Grouping {
         groups: 24,
         size: 1,
         ends_at_held: true,
     },
-    Plan {
+    Grouping {
         groups: 24,
         size: 1,
         ends_at_held: false,
     },
-    Plan {
+    Grouping {
         groups: 8,
         size: 3,
         ends_at_held: false,
     },
-    Plan {
+    Grouping {
         groups: 1,
         size: 24,
         ends_at_held: false,
     },
 ];
 
-/// Submits new topics to a store for each plan. Returns how often memory was refused in all, in the order of [`refused`].
+/// Submits new topics to a store for each grouping. Returns how often memory was refused in all, in the order of [`refused`].
 pub fn work<H: Wait + Threads + Copy + Send + Sync + 'static>(
     rt: &H,
     alloc: Global,
 ) -> Result<Vec<u64>, Failure> {
-    let mut all = Vec::with_capacity(alloc, PLANS.len())?;
-    for plan in PLANS {
-        all.push(worked(*rt, alloc, plan)?)?;
+    let mut all = Vec::with_capacity(alloc, GROUPINGS.len())?;
+    for grouping in GROUPINGS {
+        all.push(worked(*rt, alloc, grouping)?)?;
     }
     summed(alloc, all.as_slice())
 }

@@ -2,7 +2,7 @@
 
 ghost use Rattle.std.specs.Prelude.{◌≡◌};
 
-use rs_calls_kit::{Answer, Change, Failure, Keeper, Naming, check, entry};
+use rs_calls_kit::{Change, Failure, Keeper, Naming, Outcome, check, entry};
 use rs_message::{Entry, PlaceCount};
 use rs_store::TopicLimit;
 use rs_version::{Blank, StoreName};
@@ -63,9 +63,9 @@ fn put<K: Keeper>(
             return Err(Failure::Wrong);
         }
         match keeper.add(entry) {
-            Answer::Kept => {}
-            Answer::NoMemory => return Ok(kept),
-            Answer::Full | Answer::Other => return Err(Failure::Wrong),
+            Outcome::Kept => {}
+            Outcome::NoMemory => return Ok(kept),
+            Outcome::Full | Outcome::Other => return Err(Failure::Wrong),
         }
     }
     Ok(most)

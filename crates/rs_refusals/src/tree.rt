@@ -1,6 +1,6 @@
 //! What a tree and its copies show after memory was refused to `add`. To copy a tree takes none.
 
-use rs_calls_kit::{Answer, Change, Failure, HOUSE, Keeper, Naming, check, entry, topic};
+use rs_calls_kit::{Change, Failure, HOUSE, Keeper, Naming, Outcome, check, entry, topic};
 use rs_message::{Entry, Found, Remaining};
 use rs_store::{CalmCatalogue, Catalogue, TopicLimit};
 use rs_topic::{TopicFilter, TopicName};
@@ -161,8 +161,8 @@ impl Run {
             return Err(Failure::Wrong);
         }
         match Keeper::add(&mut self.store, entry) {
-            Answer::Kept => Ok(true),
-            Answer::NoMemory => Ok(false),
+            Outcome::Kept => Ok(true),
+            Outcome::NoMemory => Ok(false),
             _ => Err(Failure::Wrong),
         }
     }

@@ -3,7 +3,7 @@
 ghost use Rattle.std.specs.Prelude.{◌≡◌, ◌<◌, ◌^◌, false, IfOk};
 ghost use Rattle.rs_message.specs.Messages.{is_sweep};
 
-use rs_calls_kit::{Answer, Change, Failure, Keeper, Naming, check, entry};
+use rs_calls_kit::{Change, Failure, Keeper, Naming, Outcome, check, entry};
 use rs_message::Entry;
 use std::alloc::Global;
 use std::rt::Clock;
@@ -37,7 +37,7 @@ pub struct Row {
     /// What each does whose index is even, and what each other one.
     pub changes: (Change, Change),
     /// How each must be answered.
-    pub wanted: Answer,
+    pub wanted: Outcome,
 }
 
 /// Sets of so many topics in their order, whose messages are never expired.
@@ -50,7 +50,7 @@ pub fn in_order(naming: Naming, topics: u32) -> Row {
         to: topics,
         among: 0,
         changes: (set, set),
-        wanted: Answer::Kept,
+        wanted: Outcome::Kept,
     }
 }
 
@@ -89,8 +89,8 @@ pub fn nanos(took: Duration) -> u64 {
         .saturating_add(u64::from(took.subsec_nanos()))
 }
 
-/// Whether the entry, which is no Sweep, is answered so.
-fn is_answered<K: Keeper>(keeper: &mut K, entry: Entry, wanted: Answer) -> bool {
+/// Whether this becomes of the entry, which is no Sweep.
+fn has_outcome<K: Keeper>(keeper: &mut K, entry: Entry, wanted: Outcome) -> bool {
     !entry.operation.is_sweep() && keeper.add(entry).is(wanted)
 }
 
@@ -114,7 +114,7 @@ pub fn timed<K: Keeper, C: Clock>(
     let mut is_right = true;
     let start = Instant::now(clock)?;
     for entry in entries {
-        is_right &= is_answered(keeper, entry, row.wanted);
+        is_right &= has_outcome(keeper, entry, row.wanted);
     }
     let took = start.elapsed(clock)?;
     check(is_right)?;

@@ -1,7 +1,7 @@
 //! How long the calls of a tree take.
 
 use crate::row::{EARLY, Row, expiring, fill, in_order, nanos, timed};
-use rs_calls_kit::{Answer, Change, Failure, Keeper, Naming, check};
+use rs_calls_kit::{Change, Failure, Keeper, Naming, Outcome, check};
 use rs_store::{CalmCatalogue, Catalogue, TopicLimit};
 use rs_topic::TopicFilter;
 use rs_tree::TreeCatalogue;
@@ -75,7 +75,7 @@ fn full(topics: u32) -> [Step; 4] {
         from: topics,
         to: all,
         changes: expiring(EARLY - 1),
-        wanted: Answer::Full,
+        wanted: Outcome::Full,
         ..first
     };
     let swept = Row {

@@ -7,5 +7,5 @@ pub mod State
 pub mod Fields
 pub mod Calls
 pub mod Replay
-pub mod Held
+pub mod InUse
 pub mod Views

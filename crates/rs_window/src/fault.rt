@@ -30,9 +30,9 @@ pub enum WindowFault {
     /// 52: the identifier waits for another acknowledgement (4.3.2, 4.3.3).
     #[error("the packet identifier waits for another acknowledgement; answer QoS 1 by PUBACK, QoS 2 by PUBREC and then PUBCOMP")]
     WrongKind = 52,
-    /// 53: [`RECEIVE_MAXIMUM`](rs_packet::RECEIVE_MAXIMUM) other identifiers are held (3.3.4).
+    /// 53: [`RECEIVE_MAXIMUM`](rs_packet::RECEIVE_MAXIMUM) other identifiers are in use (3.3.4).
     #[error("{} messages of QoS 2 are not yet released; send PUBREL for one of them first", RECEIVE_MAXIMUM)]
-    TooManyHeld = 53,
+    TooManyInUse = 53,
 }
 
 impl WindowFault {

@@ -3,7 +3,7 @@
 ghost use Rattle.std.specs.Prelude.{◌≡◌, ◌≢◌, ℕ, ◌<◌, ◌≤◌, ◌==◌, ◌↔◌, length, slice_index, IfSome, IfNone, IsErr, OnOk, OnErr, IfErr, false};
 ghost use Rattle.std.specs.FinSet as set;
 ghost use Rattle.arrayvec.specs.ArrayVec.{array_vec_len};
-ghost use Rattle.rs_window.specs.Held.{held_of, IsDistinct};
+ghost use Rattle.rs_window.specs.InUse.{in_use, IsDistinct};
 
 use crate::fault::WindowFault;
 use arrayvec::ArrayVec;
@@ -11,7 +11,7 @@ use rs_packet::{PacketId, RECEIVE_MAXIMUM};
 use std::marker::Model;
 
 /// The size of the table: as many as the server's Receive Maximum.
-const MAX_HELD: usize = RECEIVE_MAXIMUM as usize;
+const MAX_IN_USE: usize = RECEIVE_MAXIMUM as usize;
 
 /// The index of an identifier in a list.
 fn position_of(ids: &[u16], id: u16) -> Option<usize>
@@ -27,9 +27,9 @@ fn position_of(ids: &[u16], id: u16) -> Option<usize>
 }
 
 /// Whether an identifier is in a list.
-#[tactic(auto, using(crate::proofs::HeldLemmas::standing, crate::proofs::HeldLemmas::not_standing))]
+#[tactic(auto, using(crate::proofs::InUseLemmas::standing, crate::proofs::InUseLemmas::not_standing))]
 fn is_in(ids: &[u16], id: u16) -> bool
-    ensures { result ≡ set.contains (held_of ids.now) id }
+    ensures { result ≡ set.contains (in_use ids.now) id }
 {
     match position_of(ids, id) {
         Some(_) => true,
@@ -38,10 +38,10 @@ fn is_in(ids: &[u16], id: u16) -> bool
 }
 
 /// Removes an identifier from the table, and returns whether it was there.
-fn take_out(ids: &mut ArrayVec<u16, MAX_HELD>, id: u16) -> bool
+fn take_out(ids: &mut ArrayVec<u16, MAX_IN_USE>, id: u16) -> bool
     requires { IsDistinct ids.old.items }
-    ensures there { result ≡ set.contains (held_of ids.old.items) id }
-    ensures removed { held_of ids.new.items ≡ set.remove (held_of ids.old.items) id }
+    ensures there { result ≡ set.contains (in_use ids.old.items) id }
+    ensures removed { in_use ids.new.items ≡ set.remove (in_use ids.old.items) id }
     ensures distinct { IsDistinct ids.new.items }
 {
     match position_of(ids.as_slice(), id) {
@@ -54,23 +54,23 @@ fn take_out(ids: &mut ArrayVec<u16, MAX_HELD>, id: u16) -> bool
 }
 
 /// Appends an identifier to the table.
-fn put_in(ids: &mut ArrayVec<u16, MAX_HELD>, id: u16)
-    requires fits { array_vec_len ids.old < MAX_HELD }
+fn put_in(ids: &mut ArrayVec<u16, MAX_IN_USE>, id: u16)
+    requires fits { array_vec_len ids.old < MAX_IN_USE }
     requires distinct { IsDistinct ids.old.items }
-    requires new { set.contains (held_of ids.old.items) id ≡ false }
-    ensures inserted { held_of ids.new.items ≡ set.insert (held_of ids.old.items) id }
+    requires new { set.contains (in_use ids.old.items) id ≡ false }
+    ensures inserted { in_use ids.new.items ≡ set.insert (in_use ids.old.items) id }
     ensures distinct { IsDistinct ids.new.items }
-    ensures fits { array_vec_len ids.new ≤ MAX_HELD }
+    ensures fits { array_vec_len ids.new ≤ MAX_IN_USE }
 {
     ids.push(id);
 }
 
 /// The identifiers of PUBLISH packets of QoS 2 that a client sent and has not yet released by a PUBREL (4.3.3), seen as a
-/// set. At most [`RECEIVE_MAXIMUM`] are held, the Receive Maximum that the server announces (3.2.2.3.3). The table has a
+/// set. At most [`RECEIVE_MAXIMUM`] are in use, the Receive Maximum that the server announces (3.2.2.3.3). The table has a
 /// fixed size: no call takes memory.
 #[derive(Drop)]
 pub struct Inbound {
-    ids: ArrayVec<u16, MAX_HELD>,
+    ids: ArrayVec<u16, MAX_IN_USE>,
 }
 
 impl Model for Inbound {
@@ -82,18 +82,18 @@ impl Model for Inbound {
 
     ghost coded = { set.code coded_ℕ };
 
-    ghost use Rattle.rs_window.specs.Held.{held_of, IsDistinct};
+    ghost use Rattle.rs_window.specs.InUse.{in_use, IsDistinct};
 
-    ghost view = { λ a. held_of a.ids.items };
+    ghost view = { λ a. in_use a.ids.items };
 
     ghost invariant = { λ a. IsDistinct a.ids.items };
 }
 
 impl Inbound {
-    ghost use Rattle.rs_window.specs.declared.fault.WindowFault.TheVariants.{TooManyHeld};
+    ghost use Rattle.rs_window.specs.declared.fault.WindowFault.TheVariants.{TooManyInUse};
 
-    /// A table that holds no identifier.
-    #[tactic(auto, using(crate::proofs::HeldLemmas::none_held))]
+    /// A table in which no identifier is in use.
+    #[tactic(auto, using(crate::proofs::InUseLemmas::none_in_use))]
     pub fn new() -> Inbound
         ensures { result ≡ set.empty }
     {
@@ -102,7 +102,7 @@ impl Inbound {
         }
     }
 
-    /// Whether [`RECEIVE_MAXIMUM`] identifiers are held.
+    /// Whether [`RECEIVE_MAXIMUM`] identifiers are in use.
     pub fn is_full(&self) -> bool
         ensures full { result ≡ set.len self.now == RECEIVE_MAXIMUM }
         ensures most { set.len self.now ≤ RECEIVE_MAXIMUM }
@@ -110,19 +110,19 @@ impl Inbound {
         self.ids.is_full()
     }
 
-    /// Whether the identifier is held: a PUBLISH with it is the same one again (4.3.3).
+    /// Whether the identifier is in use: a PUBLISH with it is the same one again (4.3.3).
     pub fn holds(&self, id: PacketId) -> bool
         ensures { result ≡ set.contains self.now id }
     {
         is_in(self.ids.as_slice(), id.get())
     }
 
-    /// Holds the identifier from now on. `TooManyHeld` if [`RECEIVE_MAXIMUM`] others are held; nothing changes then.
-    #[tactic(auto, using(crate::proofs::HeldLemmas::inserted_again))]
+    /// The identifier is in use from now on. `TooManyInUse` if [`RECEIVE_MAXIMUM`] others are; nothing changes then.
+    #[tactic(auto, using(crate::proofs::InUseLemmas::inserted_again))]
     pub fn begin(&mut self, id: PacketId) -> Result<(), WindowFault>
         ensures ok { OnOk result (self.new ≡ set.insert self.old id) }
         ensures refused { OnErr result (self.new ≡ self.old) }
-        ensures fault { IfErr result (λ e. e ≡ TooManyHeld) }
+        ensures fault { IfErr result (λ e. e ≡ TooManyInUse) }
         ensures full { IsErr result ↔ ((set.len self.old ≡ RECEIVE_MAXIMUM) × (set.contains self.old id ≡ false)) }
         ensures most { set.len self.new ≤ RECEIVE_MAXIMUM }
     {
@@ -130,13 +130,13 @@ impl Inbound {
             return Ok(());
         }
         if self.ids.is_full() {
-            return Err(WindowFault::TooManyHeld);
+            return Err(WindowFault::TooManyInUse);
         }
         put_in(&mut self.ids, id.get());
         Ok(())
     }
 
-    /// Holds the identifier no longer, and returns whether it was held.
+    /// The identifier is no longer in use. Returns whether it was.
     pub fn release(&mut self, id: PacketId) -> bool
         ensures there { result ≡ set.contains self.old id }
         ensures removed { self.new ≡ set.remove self.old id }

@@ -1,12 +1,12 @@
-//! What the places of a run were answered, in plain values.
+//! What became of the changes of the places of a run, in plain values.
 
 use rs_message::{Entry, Found};
 use rs_version::Snapshot;
 use std::alloc::Global;
 
-/// What a submit was answered.
+/// The outcome of a submit.
 #[derive(Drop)]
-pub(crate) struct Answer {
+pub(crate) struct Outcome {
     /// Of the receipt, or 0.
     pub(crate) number: u64,
     /// Of the fault, or 0.
@@ -24,18 +24,18 @@ pub(crate) struct Reading {
     pub(crate) found: Vec<Found>,
 }
 
-/// What a place did and was answered.
+/// What a place did, and the outcomes.
 #[derive(Drop)]
 pub(crate) struct Log {
     pub(crate) place: u8,
-    pub(crate) answers: Vec<Answer>,
+    pub(crate) outcomes: Vec<Outcome>,
     pub(crate) readings: Vec<Reading>,
     /// The longest version that the place knows.
     pub(crate) known: u64,
     /// Whether each step was made.
     pub(crate) is_whole: bool,
-    /// Whether the line was handed on, and fewer answers came than were ahead.
-    pub(crate) misses_answers: bool,
+    /// Whether the line was handed on, and fewer replies came than were ahead.
+    pub(crate) misses_replies: bool,
     /// Of the line, once it is closed: its last serial, and how many jobs the queue took.
     pub(crate) serial: u64,
     pub(crate) sent: u64,
@@ -45,20 +45,20 @@ impl Log {
     pub(crate) fn new(alloc: Global, place: u8) -> Log {
         Log {
             place,
-            answers: Vec::new(alloc),
+            outcomes: Vec::new(alloc),
             readings: Vec::new(alloc),
             known: 0,
             is_whole: false,
-            misses_answers: false,
+            misses_replies: false,
             serial: 0,
             sent: 0,
         }
     }
 
     /// `None` if memory is refused.
-    pub(crate) fn add_answer(&mut self, answer: Answer) -> Option<()> {
-        self.known = self.known.max(answer.number);
-        self.answers.push(answer).ok()
+    pub(crate) fn add_outcome(&mut self, outcome: Outcome) -> Option<()> {
+        self.known = self.known.max(outcome.number);
+        self.outcomes.push(outcome).ok()
     }
 
     /// `None` if memory is refused.
@@ -89,17 +89,17 @@ pub(crate) struct Totals {
 
 /// What a run came to.
 #[derive(Drop)]
-pub(crate) struct Outcome {
+pub(crate) struct Ran {
     /// From the last place to the first.
     pub(crate) logs: Vec<Log>,
     /// `None` if the writer took no job.
     pub(crate) totals: Option<Totals>,
 }
 
-/// Whether the line of a place was handed on, and fewer answers came than were ahead.
-pub(crate) fn misses_answers(outcome: &Outcome) -> bool {
-    for log in &outcome.logs {
-        if log.misses_answers {
+/// Whether the line of a place was handed on, and fewer replies came than were ahead.
+pub(crate) fn misses_replies(ran: &Ran) -> bool {
+    for log in &ran.logs {
+        if log.misses_replies {
             return true;
         }
     }
@@ -107,13 +107,13 @@ pub(crate) fn misses_answers(outcome: &Outcome) -> bool {
 }
 
 /// What the writer did, if each place took all its steps, no entry is held, and nothing is settled without the lines.
-pub(crate) fn totals_of(outcome: &Outcome) -> Option<Totals> {
-    for log in &outcome.logs {
+pub(crate) fn totals_of(ran: &Ran) -> Option<Totals> {
+    for log in &ran.logs {
         if !log.is_whole {
             return None;
         }
     }
-    let totals = outcome.totals?;
+    let totals = ran.totals?;
     if !totals.holds_none || totals.without_lines {
         return None;
     }
@@ -121,8 +121,8 @@ pub(crate) fn totals_of(outcome: &Outcome) -> Option<Totals> {
 }
 
 /// Whether the writer took so many jobs, refused so many of them, and published this version.
-pub(crate) fn has_totals(outcome: &Outcome, taken: u64, refused: u64, version: u64) -> bool {
-    match totals_of(outcome) {
+pub(crate) fn has_totals(ran: &Ran, taken: u64, refused: u64, version: u64) -> bool {
+    match totals_of(ran) {
         Some(totals) => {
             totals.taken == taken && totals.refused == refused && totals.version == version
         }
@@ -131,12 +131,12 @@ pub(crate) fn has_totals(outcome: &Outcome, taken: u64, refused: u64, version: u
 }
 
 /// Whether so many jobs are settled, and the queue took them from the lines.
-pub(crate) fn is_settled(outcome: &Outcome, jobs: u64) -> bool {
+pub(crate) fn is_settled(ran: &Ran, jobs: u64) -> bool {
     let mut sent = 0u64;
-    for log in &outcome.logs {
+    for log in &ran.logs {
         sent = sent.saturating_add(log.sent);
     }
-    match outcome.totals {
+    match ran.totals {
         Some(totals) => totals.settled == Some(jobs) && sent == jobs,
         None => false,
     }

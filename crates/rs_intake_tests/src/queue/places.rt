@@ -4,7 +4,7 @@ ghost use Rattle.std.specs.Prelude.{◌≡◌, ◌<◌, ◌≤◌, [], false, Al
 ghost use Rattle.rs_message.specs.Messages.{is_sweep};
 ghost use Rattle.rs_version.specs.Writer.{kept_of};
 
-use super::log::{Answer, Log, Outcome, Totals};
+use super::log::{Log, Outcome, Ran, Totals};
 use super::script::{Act, Script, operation_of};
 use rs_intake::{
     BlankQueue, Ended, Intake, LineEnd, LineName, Queue, SeatLine, blank_queue, run_writer,
@@ -94,9 +94,9 @@ fn first_random(script: Script, place: u8) -> u64 {
 }
 
 /// What a receipt says. `None` if memory is refused.
-fn answer_of<N: LineName>(receipt: &Receipt<N>) -> Option<Answer> {
+fn outcome_of<N: LineName>(receipt: &Receipt<N>) -> Option<Outcome> {
     let entry = receipt.entry().copy().ok()?;
-    Some(Answer {
+    Some(Outcome {
         number: receipt.number(),
         code: 0,
         entry: Some(entry),
@@ -109,15 +109,15 @@ fn submit<N: LineName, R: Wait>(
     line: &mut SeatLine<N>,
     seat: &mut Seat<N>,
     operation: Operation,
-) -> Option<Answer>
+) -> Option<Outcome>
     requires { is_sweep operation ≡ false }
 {
     match Intake::new().submit(rt, line, operation) {
         Ok(receipt) => {
             seat.learn(receipt.told());
-            answer_of(&receipt)
+            outcome_of(&receipt)
         }
-        Err(fault) => Some(Answer {
+        Err(fault) => Some(Outcome {
             number: 0,
             code: fault.code(),
             entry: None,
@@ -154,7 +154,7 @@ fn take_step<N: LineName, R: Wait + Clock + Abort>(
         }
         Act::HandOn => {
             if line.hand_on(rt).is_err() {
-                log.misses_answers = true;
+                log.misses_replies = true;
             }
             Some(())
         }
@@ -170,8 +170,8 @@ fn take_step<N: LineName, R: Wait + Clock + Abort>(
         }
         change => {
             let operation = operation_of(task.alloc, change)?;
-            let answer = submit(rt, line, seat, operation)?;
-            log.add_answer(answer)
+            let outcome = submit(rt, line, seat, operation)?;
+            log.add_outcome(outcome)
         }
     }
 }
@@ -330,20 +330,20 @@ fn finish<N: LineName, R: Threads + Wait + Copy>(
     alloc: Global,
     writer: JoinHandle<Option<Ended<N, R>>>,
     handles: Vec<JoinHandle<(Log, LineEnd<N>)>>,
-) -> Outcome {
+) -> Ran {
     let (mut logs, mut ends) = (Vec::new(alloc), Vec::new(alloc));
     let joined = join_all(rt, handles, &mut logs, &mut ends);
     let totals = match (joined, writer.join(rt)) {
         (Some(()), Some(ended)) => Some(totals_of(alloc, ended, ends)),
         _ => None,
     };
-    Outcome { logs, totals }
+    Ran { logs, totals }
 }
 
 fn run_named<
     N: LineName + Send + Sync + 'static,
     R: Threads + Wait + Clock + Abort + Copy + Send + Sync + 'static,
->(rt: R, blank: Blank, queue: BlankQueue, setup: Setup, counts: &Arc<Counts>) -> Option<Outcome>
+>(rt: R, blank: Blank, queue: BlankQueue, setup: Setup, counts: &Arc<Counts>) -> Option<Ran>
     requires store { (blank.history ≡ N.history) × (blank.limit ≡ N.limit) }
     requires queue { (queue.name ≡ N.queue) × (queue.places ≡ N.places) }
 {
@@ -360,7 +360,7 @@ fn run_named<
 pub(crate) fn run<R: Threads + Wait + Clock + Abort + Copy + Send + Sync + 'static>(
     rt: R,
     setup: Setup,
-) -> Result<Outcome, Fail> {
+) -> Result<Ran, Fail> {
     let counts = Arc::new(
         setup.alloc,
         Counts {
@@ -371,6 +371,6 @@ pub(crate) fn run<R: Threads + Wait + Clock + Abort + Copy + Send + Sync + 'stat
     let places = PlaceCount::new(setup.places).ok_or("no places")?;
     let blank = blank_store(setup.alloc, setup.limit, places)?;
     let queue = blank_queue(setup.alloc, places)?;
-    let outcome = run_named::<Brand, R>(rt, blank, queue, setup, &counts);
-    Ok(outcome.ok_or("memory or a thread was refused")?)
+    let ran = run_named::<Brand, R>(rt, blank, queue, setup, &counts);
+    Ok(ran.ok_or("memory or a thread was refused")?)
 }

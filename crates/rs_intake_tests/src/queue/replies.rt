@@ -30,7 +30,7 @@ fn code_of<N: LineName>(reply: WriterReply<N>, entry: &Entry) -> Option<u8> {
     }
 }
 
-/// Whether a line of this entry answers each fault as it has to, and the answer of another entry.
+/// Whether a line of this entry answers each fault as it has to, and the reply to another entry.
 fn answers_each_fault<N: LineName>(entry: &Entry) -> Option<bool> {
     let origin = entry.origin;
     let elsewhere = Origin::new(1, 2)?;
@@ -42,8 +42,8 @@ fn answers_each_fault<N: LineName>(entry: &Entry) -> Option<bool> {
         (origin, PutFault::Held, 42),
     ];
     for (origin, fault, code) in rows {
-        let answer = Err(fault);
-        if code_of::<N>(WriterReply { origin, answer }, entry)? != code {
+        let outcome = Err(fault);
+        if code_of::<N>(WriterReply { origin, outcome }, entry)? != code {
             return Some(false);
         }
     }
@@ -57,8 +57,8 @@ fn reply_to<N: LineName, R: Wait>(rt: &R, blank: Blank, entry: Entry) -> Option<
 {
     let (mut writer, _seats) = blank.open::<N, &R>(rt).ok()?;
     let origin = entry.origin;
-    let answer = writer.put(entry);
-    Some(WriterReply { origin, answer })
+    let outcome = writer.put(entry);
+    Some(WriterReply { origin, outcome })
 }
 
 /// What a line answers to the receipt for another entry of its origin.

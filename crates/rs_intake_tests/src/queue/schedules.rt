@@ -1,6 +1,6 @@
 //! Random schedules of eight places, compared with a store of one thread by the numbers of the receipts.
 
-use super::log::{Log, Outcome, Reading, totals_of};
+use super::log::{Log, Ran, Reading, totals_of};
 use super::places::{Setup, Writing, run};
 use super::script::Script;
 use rs_message::{Entry, Found};
@@ -31,12 +31,12 @@ fn text_of(alloc: Global, found: &Vec<Found>) -> Option<Vec<u8>> {
 fn entry_at(logs: &Vec<Log>, number: u64) -> Option<&Entry> {
     let mut found = None;
     for log in logs {
-        for answer in &log.answers {
-            if answer.number == number {
+        for outcome in &log.outcomes {
+            if outcome.number == number {
                 if found.is_some() {
                     return None;
                 }
-                found = answer.entry.as_ref();
+                found = outcome.entry.as_ref();
             }
         }
     }
@@ -88,8 +88,8 @@ fn is_read(alloc: Global, reading: &Reading, texts: &Vec<Vec<u8>>) -> bool {
 /// place read is as it has to be.
 fn entries_of(alloc: Global, log: &Log, texts: &Vec<Vec<u8>>) -> Option<u64> {
     let mut entries = 0u64;
-    for answer in &log.answers {
-        match answer.code {
+    for outcome in &log.outcomes {
+        match outcome.code {
             0 => entries = entries.saturating_add(1),
             40 => {}
             _ => return None,
@@ -104,11 +104,11 @@ fn entries_of(alloc: Global, log: &Log, texts: &Vec<Vec<u8>>) -> Option<u64> {
 }
 
 /// Whether the run has one history, which all places read. A refused change makes no entry.
-fn has_one_history(alloc: Global, outcome: &Outcome) -> Option<bool> {
-    let version = totals_of(outcome)?.version;
-    let texts = texts(alloc, &outcome.logs, version)?;
+fn has_one_history(alloc: Global, ran: &Ran) -> Option<bool> {
+    let version = totals_of(ran)?.version;
+    let texts = texts(alloc, &ran.logs, version)?;
     let mut entries = 0u64;
-    for log in &outcome.logs {
+    for log in &ran.logs {
         entries = entries.saturating_add(entries_of(alloc, log, &texts)?);
     }
     Some(entries == version)
@@ -124,9 +124,9 @@ fn random_schedules_have_one_history(rt: HostRuntime) -> Result<(), Fail> {
             script: Script::Random(seed),
             writing: Writing::All,
         };
-        let outcome = run(rt, setup)?;
+        let ran = run(rt, setup)?;
         assert!(rt;
-            has_one_history(rt.alloc(), &outcome) == Some(true),
+            has_one_history(rt.alloc(), &ran) == Some(true),
             "seed {seed}"
         );
     }

@@ -52,7 +52,7 @@ impl Turn for Listed {
 
     type Time = Moments;
 
-    ghost plan = { λ turn. record {
+    ghost connections = { λ turn. record {
       waiting = Some (map (λ c. record { unread = Some c.input.items; written = Some c.output.items; moments = Some (told_by c.clock) }) turn.waiting.items);
       ended = option_map (λ all. map (λ o. record { streams = record { unread = Some o.connection.input.items; written = Some o.connection.output.items; moments = Some (told_by o.connection.clock) }; read_failures = o.read_failures; write_failures = o.write_failures; result = o.served }) all.items) turn.ended;
     } };
@@ -67,7 +67,7 @@ impl Turn for Listed {
         served: Result<Served, ServeFault>,
         refusals: Refusals,
     )
-        ensures { TakesBack (⟦<Listed as Turn>⟧.plan self.old) (record { streams = record { unread = ⟦<VecDeque<u8> as Read>⟧.remaining (inner_of connection.input); written = ⟦<Vec<u8> as Write>⟧.contents (inner_of connection.output); moments = ⟦<Moments as Clock>⟧.moments connection.clock }; read_failures = failures_of connection.input; write_failures = failures_of connection.output; result = served }) (⟦<Listed as Turn>⟧.plan self.new) }
+        ensures { TakesBack (⟦<Listed as Turn>⟧.connections self.old) (record { streams = record { unread = ⟦<VecDeque<u8> as Read>⟧.remaining (inner_of connection.input); written = ⟦<Vec<u8> as Write>⟧.contents (inner_of connection.output); moments = ⟦<Moments as Clock>⟧.moments connection.clock }; read_failures = failures_of connection.input; write_failures = failures_of connection.output; result = served }) (⟦<Listed as Turn>⟧.connections self.new) }
     {
         let Connection {
             input,
@@ -108,8 +108,8 @@ fn answered<T: Turn + Send + Drop + 'static, H: Threads + Wait + Copy + Send + S
 ) -> Result<StoreEnd<T>, StoreFault>
     requires places { queue.places ≡ blank.places }
     requires turns { length turns.items ≡ blank.places }
-    requires known { All (λ turn. is_some (T.plan turn).waiting ≡ true) turns.items }
-    ensures { IfOk result (λ end. AreAnswered blank.limit (map T.plan turns.items) (map T.plan end.turns.items) end.version) }
+    requires known { All (λ turn. is_some (T.connections turn).waiting ≡ true) turns.items }
+    ensures { IfOk result (λ end. AreAnswered blank.limit (map T.connections turns.items) (map T.connections end.turns.items) end.version) }
 {
     run_store(rt, alloc, blank, queue, turns)
 }

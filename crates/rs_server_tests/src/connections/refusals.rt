@@ -122,7 +122,7 @@ const COUNTED: &[(&[Result<(), SubmitFault>], &[FilterAnswer], Refusals)] = &[
     ),
     // These faults end the session.
     (
-        &[Err(SubmitFault::Full), Err(SubmitFault::Open)],
+        &[Err(SubmitFault::Full), Err(SubmitFault::Unknown)],
         &[],
         Refusals {
             full: 1,

@@ -14,7 +14,7 @@ use std::sync::Wait;
 use std::test::Fail;
 
 /// The number of a receipt, or the code of a fault. The other is 0.
-type Answer = (u64, u8);
+type Outcome = (u64, u8);
 
 /// What is put: the place, the serial and the topic.
 #[derive(Clone, Copy)]
@@ -41,7 +41,7 @@ pub(crate) enum Look {
 #[derive(Clone, Copy)]
 pub(crate) enum Step {
     /// The token of its receipt is kept.
-    Put(Change, Answer),
+    Put(Change, Outcome),
     /// The writer's token is of this version. It is kept, too.
     Tells(u64),
     /// No entry is held, and a retry publishes none.
@@ -77,12 +77,12 @@ fn is_for<N: StoreName>(receipt: &Receipt<N>, origin: Origin) -> bool {
     receipt.entry().origin == origin && receipt.told().version() == receipt.number()
 }
 
-/// What a put answers.
+/// The outcome of a put.
 fn put<N: StoreName, R: Wait + Drop>(
     writer: &mut VersionWriter<N, R>,
     tokens: &mut Vec<Told<N>>,
     entry: Entry,
-) -> Option<Answer>
+) -> Option<Outcome>
     requires { is_sweep entry.operation ≡ false }
 {
     let origin = entry.origin;
@@ -156,8 +156,8 @@ fn is_answered<N: StoreName, R: Wait + Drop>(
 ) -> Option<bool> {
     match step {
         Step::Put(change, wanted) => {
-            let answer = put(writer, tokens, entry_of(alloc, change)?)?;
-            Some(answer.0 == wanted.0 && answer.1 == wanted.1)
+            let outcome = put(writer, tokens, entry_of(alloc, change)?)?;
+            Some(outcome.0 == wanted.0 && outcome.1 == wanted.1)
         }
         Step::Tells(version) => {
             tokens.push(writer.tell()).ok()?;

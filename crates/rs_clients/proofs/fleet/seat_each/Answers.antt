@@ -10,7 +10,7 @@ loop-turn-preserved g c =
     let first = c.in-Some.ensures.steps.0 in
     let next : c.saturating_add-client.result ≡ c.loop-turn.client + 1 = omega (arith, i.count, c.saturating_add-client.ensures, ap length first, c.len.ensures, c.len.type_inv) in
     record {
-      seated = next_client _ g.T.Turn.plan _ _ _ _ _ _ _ _ _ _ c.push_reserved.ensures.items c.in-Some-seat.ensures first next i.seated;
+      seated = next_client _ g.T.Turn.connections _ _ _ _ _ _ _ _ _ _ c.push_reserved.ensures.items c.in-Some-seat.ensures first next i.seated;
       count = omega (arith, i.count, next, ap length first);
       fits = omega (arith, i.fits, length_more _ _ _ c.push_reserved.ensures.items, c.push_reserved.ensures.capacity, ap length first);
     }
@@ -18,4 +18,4 @@ loop-turn-preserved g c =
 pub returns : goal.returns
 returns g c =
     let none : c.loop-turn.turn-iterator.rest.items ≡ [] = no_more _ (sym c.loop-turn.turn-iterator.rest.ok.0 ∙ c.in-None.ensures.steps.0) in
-    no_client _ g.T.Turn.plan _ _ _ _ _ c.loop-turn.invariant.seated none
+    no_client _ g.T.Turn.connections _ _ _ _ _ c.loop-turn.invariant.seated none

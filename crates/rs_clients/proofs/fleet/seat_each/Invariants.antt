@@ -5,8 +5,8 @@ use Rattle.rs_clients.proofs.fleet.seat_each.Given as goal
 
 abbrev pub invariant-loop-turn : goal.invariant-loop-turn
 invariant-loop-turn g l = record {
-  seated : map (λ s. client_with (g.T.Turn.plan s.turn) s.gate s.first) l.all.items ++ clients_of (arc_value l.places) l.client (map g.T.Turn.plan l.turn-iterator.rest.items)
-      ≡ clients_of (arc_value l.places) 0 (map g.T.Turn.plan l.fn.turns.items);
+  seated : map (λ s. client_with (g.T.Turn.connections s.turn) s.gate s.first) l.all.items ++ clients_of (arc_value l.places) l.client (map g.T.Turn.connections l.turn-iterator.rest.items)
+      ≡ clients_of (arc_value l.places) 0 (map g.T.Turn.connections l.fn.turns.items);
   count : l.client + length l.turn-iterator.rest.items ≡ length l.fn.turns.items;
   fits : length l.all.items + length l.turn-iterator.rest.items ≤ vec_capacity l.all;
 }

@@ -31,7 +31,7 @@ loop-client-preserved-in-Ok g c =
     let first = c.in-Some.ensures.steps.0 in
     let none : length c.loop-client.served.items ≡ 0 = sym c.loop-client.served.ok.0 ∙ is_zero _ _ c.is_empty.ensures c.if-not-is_empty.false in
     record {
-      started = thread_more _ _ _ _ _ _ _ _ _ _ _ c.push_reserved-in-Ok.ensures.items none (same_client g.T.Turn.plan _ _ _ _ _ _ c.in-Ok.ensures.0 c.in-Ok.ensures.1 c.in-Ok.ensures.2) (next_of _ _ _ _ first) i.started;
+      started = thread_more _ _ _ _ _ _ _ _ _ _ _ c.push_reserved-in-Ok.ensures.items none (same_client g.T.Turn.connections _ _ _ _ _ _ c.in-Ok.ensures.0 c.in-Ok.ensures.1 c.in-Ok.ensures.2) (next_of _ _ _ _ first) i.started;
       few = few_threads _ _ _ _ _ _ i.few (length_more _ _ _ c.push_reserved-in-Ok.ensures.items) (ap length first);
       threads_capacity = still_fits _ _ _ i.threads_capacity c.push_reserved-in-Ok.ensures.capacity;
       served_capacity = i.served_capacity;

@@ -7,8 +7,8 @@ use Rattle.rs_clients.proofs.shared_line.submit_each.Given as goal
 
 abbrev pub invariant-loop-copy : goal.invariant-loop-copy
 invariant-loop-copy g l = record {
-  handed : changes_of l.answers.items ++ l.copy-iterator.rest.items ≡ l.fn.kept.items;
+  handed : changes_of l.outcomes.items ++ l.copy-iterator.rest.items ≡ l.fn.kept.items;
   as_many : l.operations.items ≡ l.copy-iterator.rest.items;
   plain : AllByRecursion (λ (o : Operation). is_sweep o ≡ false) l.copy-iterator.rest.items;
-  fits : length l.answers.items + length l.copy-iterator.rest.items ≤ vec_capacity l.answers;
+  fits : length l.outcomes.items + length l.copy-iterator.rest.items ≤ vec_capacity l.outcomes;
 }

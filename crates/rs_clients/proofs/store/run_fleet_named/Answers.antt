@@ -11,7 +11,7 @@ use Rattle.rs_clients.proofs.store.run_fleet_named.Goals as goal
 
 pub settled-requires-clause-capacity : goal.settled-requires-clause-capacity
 settled-requires-clause-capacity g c κs within =
-    let all : length c.args.turns.items ≡ length c.in_ok-served.served.clients.items = as_many_clients _ _ g.T.Turn.plan c.args.turns.items _ c.in_ok-served.served.clients.items c.in_ok-served.ensures.clients in
+    let all : length c.args.turns.items ≡ length c.in_ok-served.served.clients.items = as_many_clients _ _ g.T.Turn.connections c.args.turns.items _ c.in_ok-served.served.clients.items c.in_ok-served.ensures.clients in
     omega (arith, all, c.len.ensures, c.in_ok-left.ensures.capacity)
 
 pub returns : goal.returns
@@ -22,7 +22,7 @@ returns g c =
     let written = subst (λ (n : ℕ). IsWritten g.N.StoreName.limit n entries (kept_of ended.writer) ended.ways.items) same c.join-ended.ensures.0 in
     let placed = subst (λ (n : ℕ). AreOfPlaces n entries) same c.join-ended.ensures.1 in
     let so = subst (λ (n : ℕ). MatchOption c.settled.result.changes (EachOnce n c.in_ok-served.served.lines.items → IsUnsettled entries c.in_ok-served.served.lines.items) (IsSettled n entries c.in_ok-served.served.lines.items)) same c.settled.ensures.settled in
-    fleet_run c.args.turns.items c.in_ok-served.served.clients.items g.T.Turn.plan (λ end. end.turn) (λ end. end.told) c.args.blank.limit g.N.StoreName.limit c.args.blank.places
+    fleet_run c.args.turns.items c.in_ok-served.served.clients.items g.T.Turn.connections (λ end. end.turn) (λ end. end.told) c.args.blank.limit g.N.StoreName.limit c.args.blank.places
     c.settled.result.turns.items c.in_ok-writer.seats.items c.in_ok-intake.lines.items c.in_ok-shared.shared c.in_ok-served.served.lines.items ended.writer entries ended.ways.items c.settled.result.version c.settled.result.changes
     c.requires.store.1 (sym c.in_ok-writer.seats.ok.0 ∙ c.in_ok-writer.ensures.seats.0) c.in_ok-writer.ensures.seats.1 (c.in_ok-intake.ensures ∙ ap new_lines c.requires.places) c.in_ok-shared.ensures
     c.in_ok-served.ensures.clients c.in_ok-served.ensures.lines c.in_ok-served.ensures.closed written c.settled.ensures.legal c.settled.ensures.known c.settled.ensures.order so placed c.settled.ensures.version c.settled.ensures.turns

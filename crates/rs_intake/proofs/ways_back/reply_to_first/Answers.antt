@@ -29,9 +29,9 @@ loop-rest-preserved g c =
     let test = c.loop-rest-test.true in
     let capacity = c.in-Ok.ensures.capacity in
     let count = c.refused-refused.ensures in
-    let one = refused_one reply.answer in (
+    let one = refused_one reply.outcome in (
       left_less _ _ _ _ _ _ _ first e.done i.0,
-      put_more _ _ _ _ _ _ _ _ _ _ _ _ _ _ _ i.1 (put_one _ _ _ _ _ _ reply _ _ _ first e.done e.origin e.answered e.behind e.held count) items,
+      put_more _ _ _ _ _ _ _ _ _ _ _ _ _ _ _ i.1 (put_one _ _ _ _ _ _ reply _ _ _ first e.done e.origin e.outcome e.behind e.held count) items,
       omega (arith, n, m, sum, all),
       omega (arith, m, sum, few, count, one),
       omega (arith, m, sum, reserved, capacity),

@@ -5,7 +5,7 @@ use Rattle.rs_places.proofs.running.join_places.Given as goal
 
 abbrev pub invariant-loop-thread : goal.invariant-loop-thread
 invariant-loop-thread g l =
-    AllZip (IsPlaceServed g.N.StoreName.limit) (map (λ thread. place_at (g.T.Turn.plan thread.promise.turn.value) thread.promise.gate.value) l.yielded) (map (λ end. left_at (g.T.Turn.plan end.turn) end.told end.line) l.ends.items)
+    AllZip (IsPlaceServed g.N.StoreName.limit) (map (λ thread. place_at (g.T.Turn.connections thread.promise.turn.value) thread.promise.gate.value) l.yielded) (map (λ end. left_at (g.T.Turn.connections end.turn) end.told end.line) l.ends.items)
     × (l.yielded ++ l.thread-iterator.rest.items ≡ l.fn.threads.items)
     × (length l.ends.items + length l.thread-iterator.rest.items ≤ vec_capacity l.ends)
     × (vec_capacity l.fn.ends ≤ vec_capacity l.ends)

@@ -8,7 +8,7 @@ loop-init g c = served_none _ _ _
 
 pub loop-preserved : goal.loop-preserved
 loop-preserved g c =
-    let P : ℕ → Type 0 = λ n. ServedSoFar g.N.StoreName.limit 1 (place_at (g.T.Turn.plan c.args.turn) c.args.gate) n (place_at (g.T.Turn.plan c.serve_connection-gate.new.turn) c.serve_connection-gate.result) in
+    let P : ℕ → Type 0 = λ n. ServedSoFar g.N.StoreName.limit 1 (place_at (g.T.Turn.connections c.args.turn) c.args.gate) n (place_at (g.T.Turn.connections c.serve_connection-gate.new.turn) c.serve_connection-gate.result) in
     subst P (sym c.saturating_add-number.ensures) (served_more _ _ _ _ _ _ _ _ c.loop.invariant c.in-Some-next.ensures c.serve_connection-gate.ensures)
 
 pub returns-in_default : goal.returns-in_default

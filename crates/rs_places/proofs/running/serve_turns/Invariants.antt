@@ -3,4 +3,4 @@ use Rattle.rs_places.proofs.running.serve_turns.Given as goal
 
 abbrev pub invariant-loop : goal.invariant-loop
 invariant-loop g l =
-    ServedSoFar g.N.StoreName.limit 1 (record { plan = g.T.Turn.plan l.fn.turn; gate = l.fn.gate }) l.number (record { plan = g.T.Turn.plan l.turn; gate = l.gate })
+    ServedSoFar g.N.StoreName.limit 1 (record { connections = g.T.Turn.connections l.fn.turn; gate = l.fn.gate }) l.number (record { connections = g.T.Turn.connections l.turn; gate = l.gate })

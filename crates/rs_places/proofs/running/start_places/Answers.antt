@@ -7,7 +7,7 @@ use Rattle.rs_places.proofs.running.start_places.Goals as goal
 pub loop-turn-init : goal.loop-turn-init
 loop-turn-init g c =
     let iterator = c.into_iter-turn-iterator.result in
-    let same : places_of (map g.T.Turn.plan iterator.a.rest.items) iterator.b.rest.items ≡ places_of (map g.T.Turn.plan c.args.turns.items) c.args.gates.items = search rules in
+    let same : places_of (map g.T.Turn.connections iterator.a.rest.items) iterator.b.rest.items ≡ places_of (map g.T.Turn.connections c.args.turns.items) c.args.gates.items = search rules in
     let gates : iterator.b.rest.items ≡ c.args.gates.items = search rules in
     record {
       started = started_none _ _ _ _ _ _ _ c.in_ok-threads.ensures.items c.in_ok-served.ensures.items same;
@@ -20,7 +20,7 @@ pub loop-turn-preserved-then-not-is_empty : goal.loop-turn-preserved-then-not-is
 loop-turn-preserved-then-not-is_empty g c =
     let i = c.loop-turn.invariant in
     let steps = c.in-Some.ensures.steps in
-    let first = next_place g.T.Turn.plan _ _ _ _ _ _ steps.0.0 steps.1.0 in
+    let first = next_place g.T.Turn.connections _ _ _ _ _ _ steps.0.0 steps.1.0 in
     record {
       started = served_here _ _ _ _ _ _ _ _ _ _ c.push_reserved.ensures.items c.serve_turns.ensures first i.started;
       few = few_served _ _ _ _ _ _ i.few (length_more _ _ _ c.push_reserved.ensures.items) (ap length steps.1.0);
@@ -32,11 +32,11 @@ pub loop-turn-preserved-in-Ok : goal.loop-turn-preserved-in-Ok
 loop-turn-preserved-in-Ok g c =
     let i = c.loop-turn.invariant in
     let steps = c.in-Some.ensures.steps in
-    let first = next_place g.T.Turn.plan _ _ _ _ _ _ steps.0.0 steps.1.0 in
+    let first = next_place g.T.Turn.connections _ _ _ _ _ _ steps.0.0 steps.1.0 in
     let promised = c.in-Ok.ensures in
     let none : length c.loop-turn.served.items ≡ 0 = grind (arith, nat_tests, c.is_empty.ensures, c.if-not-is_empty.false) in
     record {
-      started = thread_more _ _ _ _ _ _ _ _ _ _ _ c.push_reserved-in-Ok.ensures.items none (same_place g.T.Turn.plan _ _ _ _ promised.0 promised.1) first i.started;
+      started = thread_more _ _ _ _ _ _ _ _ _ _ _ c.push_reserved-in-Ok.ensures.items none (same_place g.T.Turn.connections _ _ _ _ promised.0 promised.1) first i.started;
       few = few_threads _ _ _ _ _ _ i.few (length_more _ _ _ c.push_reserved-in-Ok.ensures.items) (ap length steps.1.0);
       threads_capacity = still_fits _ _ _ i.threads_capacity c.push_reserved-in-Ok.ensures.capacity;
       served_capacity = i.served_capacity;
@@ -46,7 +46,7 @@ pub loop-turn-preserved : goal.loop-turn-preserved
 loop-turn-preserved g c =
     let i = c.loop-turn.invariant in
     let steps = c.in-Some.ensures.steps in
-    let first = next_place g.T.Turn.plan _ _ _ _ _ _ steps.0.0 steps.1.0 in
+    let first = next_place g.T.Turn.connections _ _ _ _ _ _ steps.0.0 steps.1.0 in
     let one = rw c.in-Err-Some.field-0-is at c.in-Err-Some.ensures in
     record {
       started = served_here _ _ _ _ _ _ _ _ _ _ c.push_reserved-in-Err-Some.ensures.items one first i.started;
@@ -72,4 +72,4 @@ returns-clause-served g c =
     let iterator = c.loop-turn.turn-iterator in
     let none : (length iterator.a.rest.items ≡ 0) ⊎ (length iterator.b.rest.items ≡ 0) =
     ⊎_elim (λ t. inl (sym iterator.a.rest.ok.0 ∙ t.1.0)) (λ t. inr (sym iterator.b.rest.ok.0 ∙ t.1.0)) c.in-None.ensures.steps in
-    all_started _ _ _ _ _ (no_places g.T.Turn.plan _ _ none) c.loop-turn.invariant.started
+    all_started _ _ _ _ _ (no_places g.T.Turn.connections _ _ none) c.loop-turn.invariant.started

@@ -5,9 +5,9 @@ use Rattle.rs_places.proofs.running.start_places.Given as goal
 
 abbrev pub invariant-loop-turn : goal.invariant-loop-turn
 invariant-loop-turn g l = record {
-  started : StartedSoFar (IsPlaceServed g.N.StoreName.limit) (map (λ thread. place_at (g.T.Turn.plan thread.promise.turn.value) thread.promise.gate.value) l.threads.items)
-      (map (λ end. left_at (g.T.Turn.plan end.turn) end.told end.line) l.served.items)
-      (places_of (map g.T.Turn.plan l.turn-iterator.a.rest.items) l.turn-iterator.b.rest.items) (places_of (map g.T.Turn.plan l.fn.turns.items) l.fn.gates.items);
+  started : StartedSoFar (IsPlaceServed g.N.StoreName.limit) (map (λ thread. place_at (g.T.Turn.connections thread.promise.turn.value) thread.promise.gate.value) l.threads.items)
+      (map (λ end. left_at (g.T.Turn.connections end.turn) end.told end.line) l.served.items)
+      (places_of (map g.T.Turn.connections l.turn-iterator.a.rest.items) l.turn-iterator.b.rest.items) (places_of (map g.T.Turn.connections l.fn.turns.items) l.fn.gates.items);
   few : length l.threads.items + length l.served.items + length l.turn-iterator.b.rest.items ≤ length l.fn.gates.items;
   threads_capacity : length l.fn.gates.items ≤ vec_capacity l.threads;
   served_capacity : length l.fn.gates.items ≤ vec_capacity l.served;

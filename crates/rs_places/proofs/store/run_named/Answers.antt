@@ -36,7 +36,7 @@ returns g c =
     let placed = subst (λ (n : ℕ). AreOfPlaces n entries) same c.join-ended.ensures.1 in
     let so = subst (λ (n : ℕ). MatchOption c.settled.result.changes (EachOnce n lines.items → IsUnsettled entries lines.items) (IsSettled n entries lines.items)) same c.settled.ensures.settled in
     let known = all_as_seen (λ other. other.told) (λ end. end.told) (λ told. IsPrefix told (kept_of writer)) others.items ends c.parted-lines.ensures.told c.settled.ensures.known in
-    store_run c.args.turns.items ends g.T.Turn.plan (λ end. end.turn) (λ end. end.told) (λ end. end.line) c.args.blank.limit g.N.StoreName.limit c.args.blank.places
+    store_run c.args.turns.items ends g.T.Turn.connections (λ end. end.turn) (λ end. end.told) (λ end. end.line) c.args.blank.limit g.N.StoreName.limit c.args.blank.places
     c.settled.result.turns.items c.in_ok-writer.seats.items c.in_ok-intake.lines.items c.in_ok-gates.gates.items lines.items writer entries ended.ways.items
     c.settled.result.version c.settled.result.changes c.requires.store.1 (sym c.in_ok-writer.seats.ok.0 ∙ c.in_ok-writer.ensures.seats.0) c.in_ok-writer.ensures.seats.1
     (c.in_ok-intake.ensures ∙ ap new_lines c.requires.places) c.in_ok-gates.ensures c.requires.turns c.in_ok-served.ensures written

@@ -1,7 +1,7 @@
 use Rattle.std.proofs.Common.{subst, sym}
 use Rattle.std.specs.Ordering.{nat_cmp}
 use Rattle.std.specs.FinSet.{len-empty}
-use Rattle.rs_window.specs.Held.{IsDistinct}
+use Rattle.rs_window.specs.InUse.{IsDistinct}
 use Rattle.rs_window.proofs.inbound.Inbound.new.Goals as goal
 
 pub invariant_of-result : goal.invariant_of-result

@@ -14,6 +14,9 @@ struct Block {
     message: Message,
 }
 
+// With its count of owners it takes at most 120 bytes, which is what glibc allocates and frees fastest.
+const _: () = prove!(size_of::<Block>() <= 112);
+
 /// A topic and its retained message (3.3.1.3), in one block of memory that all copies share.
 #[derive(Debug, Drop)]
 pub struct Retained {

@@ -10,56 +10,53 @@ use std::marker::Model;
 
 /// A change that was handed over at a place, and what became of it. If it is an entry of a list that was told, contracts know it.
 #[derive(Drop)]
-pub struct Answered<N: LineName> {
+pub struct Outcome<N: LineName> {
     pub(crate) place: u8,
     pub(crate) serial: u64,
     pub(crate) operation: Operation,
-    pub(crate) answer: Result<Told<N>, SubmitFault>,
+    pub(crate) told: Result<Told<N>, SubmitFault>,
 }
 
-impl<N: LineName> Model for Answered<N> {
-    ghost use Rattle.rs_clients.specs.Clients.{AnsweredValue, IsTold};
+impl<N: LineName> Model for Outcome<N> {
+    ghost use Rattle.rs_clients.specs.Clients.{OutcomeValue, IsTold};
 
-    ghost Value = { AnsweredValue };
+    ghost Value = { OutcomeValue };
 
-    ghost view = { λ a. record { place = a.place; serial = a.serial; operation = a.operation; answer = a.answer } };
+    ghost view = { λ a. record { place = a.place; serial = a.serial; operation = a.operation; told = a.told } };
 
-    ghost invariant = { λ a. IsTold a.place a.serial a.operation a.answer };
+    ghost invariant = { λ a. IsTold a.place a.serial a.operation a.told };
 }
 
-impl<N: LineName> Answered<N> {
+impl<N: LineName> Outcome<N> {
     /// What became of a change that was handed over under this place and serial.
     pub(crate) fn new(
         place: u8,
         serial: u64,
         operation: Operation,
-        answer: Result<Told<N>, SubmitFault>,
-    ) -> Answered<N>
-        requires { IsTold place serial operation answer }
-        ensures { result ≡ record { place = place; serial = serial; operation = operation; answer = answer } }
+        told: Result<Told<N>, SubmitFault>,
+    ) -> Outcome<N>
+        requires { IsTold place serial operation told }
+        ensures { result ≡ record { place = place; serial = serial; operation = operation; told = told } }
     {
-        Answered {
+        Outcome {
             place,
             serial,
             operation,
-            answer,
+            told,
         }
     }
 }
 
 /// What became of the change, if it is this one.
-pub(crate) fn matched<N: LineName>(
-    answered: Answered<N>,
-    operation: Operation,
-) -> Option<Answered<N>>
-    ensures { IfSome result (λ a. (a.operation ≡ operation) × (answered.operation ≡ operation)) }
+pub(crate) fn matched<N: LineName>(outcome: Outcome<N>, operation: Operation) -> Option<Outcome<N>>
+    ensures { IfSome result (λ a. (a.operation ≡ operation) × (outcome.operation ≡ operation)) }
 {
-    let Answered {
+    let Outcome {
         place,
         serial,
         operation: first,
-        answer,
-    } = answered;
+        told,
+    } = outcome;
     // Any origin will do: it is the changes that are compared.
     let origin = Origin::new(1, 1)?;
     let first = Entry {
@@ -72,11 +69,11 @@ pub(crate) fn matched<N: LineName>(
             origin: _,
             operation,
         } = first;
-        Some(Answered {
+        Some(Outcome {
             place,
             serial,
             operation,
-            answer,
+            told,
         })
     } else {
         None
