@@ -15,12 +15,12 @@ ghost use Rattle.rs_store.specs.declared.limit.TheConstants.{MAX_TOPICS};
 ghost use Rattle.rs_bucket.specs.Clearing.{Clears};
 ghost use Rattle.rs_bucket.specs.Rests.{IsSomeRest};
 ghost use Rattle.rs_store.specs.Room.{IsStop};
-ghost use Rattle.rs_message.specs.declared.entry.Found.{Found};
+ghost use Rattle.rs_packet.specs.declared.found.Found.{Found};
 
 use crate::cleared::Cleared;
 use crate::leaf::{Leaf, answer_one};
 use crate::leaves::Leaves;
-use crate::spot_message::SpotMessage;
+use rs_message::Found;
 use rs_store::{Answer, Stop, is_expired, lowered};
 use rs_topic::compare_rests;
 use std::alloc::{AllocError, Global};
@@ -32,7 +32,7 @@ use std::sync::Arc;
 #[derive(Drop)]
 enum Messages {
     /// One message, which needs no block of its own, and the byte at which the rest of its topic begins.
-    One(u32, SpotMessage),
+    One(u32, Found),
     /// More of them, which are changed in place while the bucket is their only owner, and copied otherwise.
     More(Arc<Leaves>),
 }
@@ -45,7 +45,7 @@ pub struct Bucket {
 
 impl Model for Bucket {
     ghost use Rattle.std.specs.Prelude.{List, ℕ};
-    ghost use Rattle.rs_message.specs.declared.entry.Found.{Found};
+    ghost use Rattle.rs_packet.specs.declared.found.Found.{Found};
     ghost use Rattle.rs_bucket.specs.Messages.{spots_retained};
 
     ghost Value = { List (List (List ℕ) × Found) };
@@ -54,10 +54,10 @@ impl Model for Bucket {
 }
 
 /// The rest of a topic is that of a message.
-fn is_same(topic: &[u8], at: usize, found: &SpotMessage, from: u32) -> bool
+fn is_same(topic: &[u8], at: usize, found: &Found, from: u32) -> bool
     ensures { result ≡ is_there (levels_from at topic.now) (spot_of from found.now ∷ []) }
 {
-    match compare_rests(topic, at, found.topic(), from as usize) {
+    match compare_rests(topic, at, found.topic().as_bytes(), from as usize) {
         Ordering::Equal => true,
         _ => false,
     }
@@ -83,7 +83,7 @@ fn clear_in(
 
 impl Bucket {
     /// The bucket of one message.
-    pub fn new(alloc: Global, found: SpotMessage, at: usize) -> Result<Bucket, AllocError>
+    pub fn new(alloc: Global, found: Found, at: usize) -> Result<Bucket, AllocError>
         ensures { IfOk result (λ b. b ≡ spot_of at found ∷ []) }
     {
         match u32::try_from(at) {
@@ -114,7 +114,7 @@ impl Bucket {
         let Some(leaf) = leaves.lone() else {
             return;
         };
-        let Ok(found) = leaf.found.again() else {
+        let Ok(found) = leaf.found.copy() else {
             return;
         };
         if let Ok(bucket) = Bucket::new(alloc, found, leaf.at) {
@@ -123,12 +123,12 @@ impl Bucket {
     }
 
     /// One more owner of the same messages. The error says that the count of owners is full.
-    pub fn again(&self) -> Result<Bucket, AllocError>
+    pub fn copy(&self) -> Result<Bucket, AllocError>
         ensures { IfOk result (λ b. b ≡ self.now) }
     {
         match &self.messages {
             Messages::One(at, found) => Ok(Bucket {
-                messages: Messages::One(*at, found.again()?),
+                messages: Messages::One(*at, found.copy()?),
             }),
             Messages::More(leaves) => Ok(Bucket {
                 messages: Messages::More(Arc::try_clone(leaves)?),
@@ -137,11 +137,11 @@ impl Bucket {
     }
 
     /// The messages, to be changed.
-    fn copy(&self, alloc: Global) -> Result<Leaves, AllocError>
+    fn own_leaves(&self, alloc: Global) -> Result<Leaves, AllocError>
         ensures { IfOk result (λ leaves. leaves ≡ self.now) }
     {
         match &self.messages {
-            Messages::One(at, found) => Leaves::one(alloc, found.again()?, *at as usize),
+            Messages::One(at, found) => Leaves::one(alloc, found.copy()?, *at as usize),
             Messages::More(leaves) => leaves.copy(alloc),
         }
     }
@@ -173,12 +173,12 @@ impl Bucket {
     }
 
     /// Sets the message at the rest of its topic, and returns whether there was one. If memory is refused, nothing changes.
-    pub fn set(&mut self, alloc: Global, found: SpotMessage, at: usize) -> Result<bool, AllocError>
+    pub fn set(&mut self, alloc: Global, found: Found, at: usize) -> Result<bool, AllocError>
         ensures done { OnOk result (self.new ≡ insert_entry path_cmp self.old (levels_from at found.topic) found) }
         ensures existed { IfOk result (λ was. was ≡ is_there (levels_from at found.topic) self.old) }
         ensures refused { OnErr result (self.new ≡ self.old) }
     {
-        if self.is_one_at(found.topic(), at) {
+        if self.is_one_at(found.topic().as_bytes(), at) {
             *self = Bucket::new(alloc, found, at)?;
             return Ok(true);
         }
@@ -187,7 +187,7 @@ impl Bucket {
                 return leaves.set(found, at);
             }
         }
-        let mut copy = self.copy(alloc)?;
+        let mut copy = self.own_leaves(alloc)?;
         let was = copy.set(found, at)?;
         *self = Bucket::more(alloc, copy)?;
         Ok(was)
@@ -226,7 +226,7 @@ impl Bucket {
                 if is_expired(found.message(), moment) {
                     return Ok(None);
                 }
-                let same = self.again()?;
+                let same = self.copy()?;
                 Ok(Some(same))
             }
             Messages::More(leaves) => {
@@ -254,7 +254,7 @@ impl Bucket {
         match &self.messages {
             Messages::One(at, found) => {
                 let mut leaf = Leaf {
-                    found: found.again()?,
+                    found: found.copy()?,
                     at: *at as usize,
                 };
                 if !leaf.rise(chain, level) {

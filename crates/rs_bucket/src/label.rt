@@ -4,7 +4,7 @@ ghost use Rattle.std.specs.Prelude.{◌≡◌, [], IfOk, IfSome};
 ghost use Rattle.rs_bucket.specs.Labels.{IsKeyIfAny};
 
 use crate::key::{Key, SHORT, padded};
-use crate::spot_message::SpotMessage;
+use rs_message::Found;
 use std::alloc::{AllocError, Global};
 use std::marker::Model;
 use std::sync::Arc;
@@ -14,7 +14,7 @@ enum LabelText {
     /// So many of these bytes. Behind them are zeros.
     Short([u8; SHORT], u8),
     /// So many bytes of a message's topic, from this one on.
-    Part(u16, u32, SpotMessage),
+    Part(u16, u32, Found),
     /// More bytes, which are shared.
     Long(Arc<Vec<u8>>),
 }
@@ -38,10 +38,10 @@ impl Model for Label {
 }
 
 /// A level of more bytes as a part of a topic, if it stands there at this byte.
-fn part(level: &[u8], found: &SpotMessage, at: usize) -> Result<Option<Label>, AllocError>
+fn part(level: &[u8], found: &Found, at: usize) -> Result<Option<Label>, AllocError>
     ensures { IfOk result (λ o. IfSome o (λ l. l ≡ level.now)) }
 {
-    let topic = found.topic();
+    let topic = found.topic().as_bytes();
     let (Ok(length), Ok(from)) = (u16::try_from(level.len()), u32::try_from(at)) else {
         return Ok(None);
     };
@@ -57,7 +57,7 @@ fn part(level: &[u8], found: &SpotMessage, at: usize) -> Result<Option<Label>, A
         return Ok(None);
     }
     Ok(Some(Label {
-        text: LabelText::Part(length, from, found.again()?),
+        text: LabelText::Part(length, from, found.copy()?),
     }))
 }
 
@@ -67,7 +67,7 @@ impl Label {
     pub fn from_topic(
         alloc: Global,
         level: &[u8],
-        found: &SpotMessage,
+        found: &Found,
         at: usize,
     ) -> Result<Label, AllocError>
         ensures { IfOk result (λ l. l ≡ level.now) }
@@ -114,7 +114,7 @@ impl Label {
                 level
             }
             LabelText::Part(length, from, found) => {
-                let (_, rest) = found.topic().split_at(*from as usize);
+                let (_, rest) = found.topic().as_bytes().split_at(*from as usize);
                 let (level, _) = rest.split_at(*length as usize);
                 level
             }
@@ -141,7 +141,7 @@ impl Label {
     }
 
     /// The same level. The error says that the count of owners is full.
-    pub fn again(&self) -> Result<Label, AllocError>
+    pub fn copy(&self) -> Result<Label, AllocError>
         ensures { IfOk result (λ l. l ≡ self.now) }
     {
         match &self.text {
@@ -149,7 +149,7 @@ impl Label {
                 text: LabelText::Short(*bytes, *length),
             }),
             LabelText::Part(length, from, found) => Ok(Label {
-                text: LabelText::Part(*length, *from, found.again()?),
+                text: LabelText::Part(*length, *from, found.copy()?),
             }),
             LabelText::Long(bytes) => Ok(Label {
                 text: LabelText::Long(Arc::try_clone(bytes)?),
@@ -163,7 +163,7 @@ impl Label {
     {
         match &self.text {
             LabelText::Part(_, _, _) => Label::new(alloc, self.as_slice()),
-            _ => self.again(),
+            _ => self.copy(),
         }
     }
 }

@@ -8,7 +8,7 @@ ghost use Rattle.rs_topic.specs.Rests.{levels_from};
 ghost use Rattle.rs_bucket.specs.Spots.{spot_of};
 
 use crate::chain::behind;
-use crate::spot_message::SpotMessage;
+use rs_message::Found;
 use rs_store::{Answer, Stop, is_expired};
 use rs_topic::{compare_rests, level_at, levels_fit};
 use std::alloc::AllocError;
@@ -17,14 +17,14 @@ use std::cmp::Ordering;
 /// A message below a spot, however many levels are left of its topic.
 #[derive(Drop)]
 pub struct Leaf {
-    pub found: SpotMessage,
+    pub found: Found,
     /// The byte at which the rest of the topic begins.
     pub at: usize,
 }
 
 /// Appends a copy of a message if the filter fits the rest of its topic and it is not expired.
 pub(crate) fn answer_one(
-    found: &SpotMessage,
+    found: &Found,
     from: usize,
     filter: &[u8],
     at: usize,
@@ -35,10 +35,10 @@ pub(crate) fn answer_one(
     ensures stop { IfErr result (λ stop. IsStop stop answer.old.room (answer.old.found.items ++ chosen (levels_from at filter.now) now (spot_of from found.now ∷ []))) }
     ensures room { answer.new.room ≡ answer.old.room }
 {
-    if !levels_fit(filter, at, found.topic(), from) || is_expired(found.message(), now) {
+    if !levels_fit(filter, at, found.topic().as_bytes(), from) || is_expired(found.message(), now) {
         return Ok(());
     }
-    answer.push(found.get())
+    answer.push(found)
 }
 
 impl Leaf {
@@ -48,7 +48,7 @@ impl Leaf {
         ensures done { IsTrue result → levels_from self.new.at self.old.found.topic ≡ levels_from 1 chain.now ++ level.now ∷ levels_from self.old.at self.old.found.topic }
         ensures unchanged { result ≡ false → self.new.at ≡ self.old.at }
     {
-        let topic = self.found.topic();
+        let topic = self.found.topic().as_bytes();
         // A chain has a slash before each level, and a slash stands between the level and the rest.
         let above = self.at.saturating_sub(level.len()).saturating_sub(1);
         let at = above.saturating_sub(chain.len());
@@ -69,7 +69,7 @@ impl Leaf {
     pub(crate) fn compared(&self, topic: &[u8], at: usize) -> Ordering
         ensures { result ≡ path_cmp (levels_from at topic.now) (levels_from self.now.at self.now.found.topic) }
     {
-        compare_rests(topic, at, self.found.topic(), self.at)
+        compare_rests(topic, at, self.found.topic().as_bytes(), self.at)
     }
 
     /// An equal leaf, which shares the bytes.
@@ -77,7 +77,7 @@ impl Leaf {
         ensures { IfOk result (λ l. l ≡ self.now) }
     {
         Ok(Leaf {
-            found: self.found.again()?,
+            found: self.found.copy()?,
             at: self.at,
         })
     }

@@ -20,7 +20,7 @@ ghost use Rattle.rs_store.specs.declared.limit.TheConstants.{MAX_TOPICS};
 use crate::chain::shared_levels;
 use crate::cleared::Cleared;
 use crate::leaf::Leaf;
-use crate::spot_message::SpotMessage;
+use rs_message::Found;
 use rs_store::{Answer, Stop, is_expired, lowered};
 use std::alloc::{AllocError, Global};
 use std::cmp::Ordering;
@@ -41,7 +41,7 @@ impl Model for Leaves {
     ghost use Rattle.std.specs.Prelude.{List, ℕ};
     ghost use Rattle.std.specs.List.Sorted.{IsStrictlySortedBy};
     ghost use Rattle.std.specs.Map.{keys_of};
-    ghost use Rattle.rs_message.specs.declared.entry.Found.{Found};
+    ghost use Rattle.rs_packet.specs.declared.found.Found.{Found};
     ghost use Rattle.rs_topic.specs.Order.{path_cmp};
     ghost use Rattle.rs_bucket.specs.Buckets.{spots_in};
 
@@ -156,7 +156,7 @@ impl Leaves {
     }
 
     /// One message.
-    pub(crate) fn one(alloc: Global, found: SpotMessage, at: usize) -> Result<Leaves, AllocError>
+    pub(crate) fn one(alloc: Global, found: Found, at: usize) -> Result<Leaves, AllocError>
         ensures { IfOk result (λ b. b ≡ spot_of at found ∷ []) }
     {
         let mut leaves = Leaves::new(alloc);
@@ -194,12 +194,12 @@ impl Leaves {
     }
 
     /// Sets the message at the rest of its topic, and returns whether there was one. If memory is refused, nothing changes.
-    pub(crate) fn set(&mut self, found: SpotMessage, at: usize) -> Result<bool, AllocError>
+    pub(crate) fn set(&mut self, found: Found, at: usize) -> Result<bool, AllocError>
         ensures done { OnOk result (self.new ≡ insert_entry path_cmp self.old (levels_from at found.topic) found) }
         ensures existed { IfOk result (λ was. was ≡ is_there (levels_from at found.topic) self.old) }
         ensures refused { OnErr result (self.new ≡ self.old) }
     {
-        match index_of(self.leaves.as_slice(), found.topic(), at) {
+        match index_of(self.leaves.as_slice(), found.topic().as_bytes(), at) {
             Ok(i) => {
                 self.leaves[i] = Leaf { found, at };
                 Ok(true)
@@ -310,9 +310,9 @@ impl Leaves {
             (Some(first), Some(last)) => {
                 let shared = shared_levels(
                     alloc,
-                    first.found.topic(),
+                    first.found.topic().as_bytes(),
                     first.at,
-                    last.found.topic(),
+                    last.found.topic().as_bytes(),
                     last.at,
                 )?;
                 Ok(shared.chain)

@@ -7,7 +7,7 @@
 //!
 //! Here is also what a tree above buckets has of the same messages: the levels above them, as a [`Label`] of one level, which a
 //! [`Sought`] level is compared with, or as a chain of levels in one text ([`behind`], [`past`], [`joined`], [`shared_levels`]); the
-//! message of one spot alone ([`SpotMessage`], [`answer_retained`], [`retained_again`]); the messages of a bucket that has too many
+//! message of one spot alone ([`answer_retained`], [`retained_copy`]); the messages of a bucket that has too many
 //! ([`Leaves`], [`Leaf`]); and what a Clear found ([`Cleared`]).
 #![tactic(auto)]
 
@@ -20,7 +20,6 @@ mod leaf;
 mod leaves;
 mod retained;
 mod sought;
-mod spot_message;
 
 pub use bucket::Bucket;
 pub use chain::{SharedLevels, behind, joined, past, shared_levels};
@@ -28,6 +27,5 @@ pub use cleared::Cleared;
 pub use label::Label;
 pub use leaf::Leaf;
 pub use leaves::Leaves;
-pub use retained::{answer_retained, retained_again};
+pub use retained::{answer_retained, retained_copy};
 pub use sought::Sought;
-pub use spot_message::SpotMessage;

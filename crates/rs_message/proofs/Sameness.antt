@@ -8,8 +8,8 @@ use Rattle.rs_packet.specs.Grammar.{level}
 use Rattle.rs_packet.specs.declared.packet.Qos.{Qos}
 use Rattle.rs_packet.specs.declared.packet.Qos.TheVariants.{AtMostOnce, AtLeastOnce, ExactlyOnce}
 use Rattle.rs_packet.specs.Fields.{properties_eq}
-use Rattle.rs_message.specs.Equality.{message_eq, message_eq_equiv}
-use Rattle.rs_message.specs.Values.{MessageValue, RetainedValue}
+use Rattle.rs_packet.specs.Equality.{message_eq, message_eq_equiv}
+use Rattle.rs_message.specs.Values.{MessageValue, FoundValue}
 use Rattle.rs_message.specs.declared.entry.Entry.{Entry}
 
 -- the test passes only for a value and itself
@@ -96,7 +96,7 @@ messages_decide m n b is =
     ((λ h. messages m n (sym is ∙ h)), (λ same. is ∙ subst P same (message_eq_equiv.refl m)))
 
 -- two of one topic and one message
-pub founds : (f g : RetainedValue) → f.topic ≡ g.topic → f.message ≡ g.message → f ≡ g
+pub founds : (f g : FoundValue) → f.topic ≡ g.topic → f.message ≡ g.message → f ≡ g
 founds f g topic message =
     let same : record { topic = f.topic; message = f.message } ≡ record { topic = g.topic; message = g.message } = cc (topic, message) in
     same

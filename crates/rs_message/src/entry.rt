@@ -6,7 +6,7 @@ ghost use Rattle.rs_packet.specs.Replies.{message_size};
 ghost use Rattle.rs_message.specs.Messages.{is_sweep, operation_of};
 
 use bytes::Bytes;
-use rs_packet::{Message, Properties, Qos, Retained};
+use rs_packet::{Found, Message, Properties, Qos};
 use rs_topic::TopicName;
 use std::alloc::{AllocError, Global};
 use std::marker::Model;
@@ -74,82 +74,6 @@ impl Origin {
     {
         self.serial
     }
-}
-
-/// A topic and its retained message. They lie in one block of memory, which all copies share, and a reply too that is made of one.
-/// Contracts see the topic and the message.
-#[derive(Debug, Drop)]
-pub struct Found {
-    retained: Retained,
-}
-
-impl Model for Found {
-    ghost use Rattle.rs_message.specs.Values.{RetainedValue};
-
-    ghost Value = { RetainedValue };
-
-    ghost view = { λ f. f.retained };
-}
-
-impl Found {
-    /// The topic and the message in a block of their own; none of their bytes is copied. The error says that memory for the block
-    /// was refused.
-    pub fn new(alloc: Global, topic: TopicName, message: Message) -> Result<Found, AllocError>
-        ensures { IfOk result (λ f. f ≡ record { topic = topic; message = message }) }
-    {
-        Ok(Found {
-            retained: Retained::new(alloc, topic, message)?,
-        })
-    }
-
-    /// The topic.
-    pub fn topic(&self) -> &TopicName
-        ensures { result.now ≡ self.now.topic }
-    {
-        self.retained.topic()
-    }
-
-    /// Its retained message.
-    pub fn message(&self) -> &Message
-        ensures { result.now ≡ self.now.message }
-    {
-        self.retained.message()
-    }
-
-    /// One more owner of the same topic and message. It takes no memory. The error says that the count of owners is full.
-    pub fn copy(&self) -> Result<Found, AllocError>
-        ensures { IfOk result (λ f. f ≡ self.now) }
-    {
-        Ok(Found {
-            retained: self.retained.copy()?,
-        })
-    }
-
-    /// The same topic and message, as a reply carries them. It takes no memory.
-    pub fn into_retained(self) -> Retained
-        ensures { result ≡ self }
-    {
-        self.retained
-    }
-}
-
-impl PartialEq for Found {
-    ghost use Rattle.std.specs.Cmp.{partial_equiv_from_equiv};
-    ghost use Rattle.rs_message.specs.Equality.{found_eq, found_eq_equiv};
-
-    ghost eq = { found_eq };
-
-    ghost laws = { partial_equiv_from_equiv found_eq_equiv };
-
-    fn eq(&self, other: &Found) -> bool {
-        self.topic().as_bytes() == other.topic().as_bytes() && *self.message() == *other.message()
-    }
-}
-
-impl Eq for Found {
-    ghost use Rattle.rs_message.specs.Equality.{found_eq_equiv};
-
-    ghost laws = { found_eq_equiv };
 }
 
 /// An operation on a topic's retained message (3.3.1.3), or on all that are expired.

@@ -14,8 +14,8 @@ mod fault;
 mod places;
 mod same;
 
-pub use entry::{Entry, Found, MAX_PLACES, Operation, Origin};
+pub use entry::{Entry, MAX_PLACES, Operation, Origin};
 pub use fault::SubmitFault;
 pub use places::PlaceCount;
-pub use rs_packet::{Message, Remaining};
+pub use rs_packet::{Found, Message, Remaining};
 pub use same::is_same;

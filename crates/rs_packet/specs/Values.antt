@@ -35,7 +35,7 @@ pub record MessageValue : Type 0 where
   pub properties : PropertiesValue
 
 -- 3.3.1.3: a topic and its retained message
-pub record RetainedValue : Type 0 where
+pub record FoundValue : Type 0 where
   pub topic : List ℕ
   pub message : MessageValue
 

@@ -113,7 +113,7 @@ pub fn encode_parts(alloc: Global, reply: &Reply) -> Result<(Bytes, &[u8]), Allo
     ensures { IfOk result (λ parts. parts.0 ++ parts.1.now ≡ reply_bytes reply.now) }
 {
     if let Reply::Publish(p) = reply {
-        let payload = p.retained.message().payload().as_slice();
+        let payload = p.found.message().payload().as_slice();
         if payload.len() > MAX_COPIED {
             return Ok((encode_head(alloc, p)?, payload));
         }

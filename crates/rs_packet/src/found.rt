@@ -19,25 +19,25 @@ const _: () = prove!(size_of::<Block>() <= 112);
 
 /// A topic and its retained message (3.3.1.3), in one block of memory that all copies share.
 #[derive(Debug, Drop)]
-pub struct Retained {
+pub struct Found {
     block: Arc<Block>,
 }
 
-impl Model for Retained {
-    ghost use Rattle.rs_packet.specs.Values.{RetainedValue};
+impl Model for Found {
+    ghost use Rattle.rs_packet.specs.Values.{FoundValue};
 
-    ghost Value = { RetainedValue };
+    ghost Value = { FoundValue };
 
-    ghost view = { λ r. record { topic = r.block.value.topic; message = r.block.value.message } };
+    ghost view = { λ f. record { topic = f.block.value.topic; message = f.block.value.message } };
 }
 
-impl Retained {
+impl Found {
     /// The topic and the message in a block of their own; none of their bytes is copied. The error says that memory for the block
     /// was refused.
-    pub fn new(alloc: Global, topic: TopicName, message: Message) -> Result<Retained, AllocError>
-        ensures { IfOk result (λ r. r ≡ record { topic = topic; message = message }) }
+    pub fn new(alloc: Global, topic: TopicName, message: Message) -> Result<Found, AllocError>
+        ensures { IfOk result (λ f. f ≡ record { topic = topic; message = message }) }
     {
-        Ok(Retained {
+        Ok(Found {
             block: Arc::new(alloc, Block { topic, message })?,
         })
     }
@@ -57,11 +57,30 @@ impl Retained {
     }
 
     /// One more owner of the same block. It takes no memory. The error says that the count of owners is full.
-    pub fn copy(&self) -> Result<Retained, AllocError>
-        ensures { IfOk result (λ r. r ≡ self.now) }
+    pub fn copy(&self) -> Result<Found, AllocError>
+        ensures { IfOk result (λ f. f ≡ self.now) }
     {
-        Ok(Retained {
+        Ok(Found {
             block: Arc::try_clone(&self.block)?,
         })
     }
+}
+
+impl PartialEq for Found {
+    ghost use Rattle.std.specs.Cmp.{partial_equiv_from_equiv};
+    ghost use Rattle.rs_packet.specs.Equality.{found_eq, found_eq_equiv};
+
+    ghost eq = { found_eq };
+
+    ghost laws = { partial_equiv_from_equiv found_eq_equiv };
+
+    fn eq(&self, other: &Found) -> bool {
+        self.topic().as_bytes() == other.topic().as_bytes() && *self.message() == *other.message()
+    }
+}
+
+impl Eq for Found {
+    ghost use Rattle.rs_packet.specs.Equality.{found_eq_equiv};
+
+    ghost laws = { found_eq_equiv };
 }

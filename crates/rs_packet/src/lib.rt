@@ -10,23 +10,24 @@
 //! the encodings are prefix-free, and none is of two replies (`wire_law`). `publish_len` says how long a PUBLISH is before it is
 //! made. docs/WIRE.md has the rules in words.
 //!
-//! A [`Message`] is what is retained of a PUBLISH, and a [`Retained`] is a topic with its message in one shared block, which a reply
+//! A [`Message`] is what is retained of a PUBLISH, and a [`Found`] is a topic with its message in one shared block, which a reply
 //! carries.
 #![tactic(auto)]
 
 mod decoding;
 mod encoding;
 mod filters;
+mod found;
 mod header;
 mod limits;
 mod masks;
 mod message;
 mod packet;
 mod reply;
-mod retained;
 
 pub use decoding::{decode, one_reading, wire_law};
 pub use encoding::{encode, encode_parts, encoded_len, publish_len};
+pub use found::Found;
 pub use header::needed_len;
 pub use limits::{MAX_PACKET_SIZE, RECEIVE_MAXIMUM};
 pub use message::{Message, Remaining};
@@ -35,5 +36,4 @@ pub use packet::{
     Subscribe, Unsubscribe,
 };
 pub use reply::{Codes, ConnackAccepted, PublishReply, Reply};
-pub use retained::Retained;
 pub use rs_field::{MAX_REMAINING_LENGTH, PacketFault, Properties, PropertyFields, SubscriptionId};

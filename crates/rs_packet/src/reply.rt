@@ -3,9 +3,9 @@
 ghost use Rattle.std.specs.Prelude.{◌≡◌, IfSome};
 ghost use Rattle.rs_field.specs.Forms.{IsSubscriptionId};
 
+use crate::found::Found;
 use crate::limits::MAX_PACKET_SIZE;
 use crate::packet::{PacketId, Qos};
-use crate::retained::Retained;
 use rs_field::SubscriptionId;
 use rs_topic::Text;
 use std::marker::Model;
@@ -25,7 +25,7 @@ pub struct ConnackAccepted {
 pub struct PublishReply {
     /// The topic (3.3.2.1) and its message: its payload (3.3.3), of any bytes, and the properties that it carries (3.3.2.3), sent in
     /// rising order of identifier.
-    pub retained: Retained,
+    pub found: Found,
     /// The QoS with which it is sent (3.3.1.2).
     pub qos: Qos,
     /// The packet identifier, if QoS is 1 or 2 (3.3.2.2).
@@ -44,23 +44,23 @@ impl Model for PublishReply {
     ghost use Rattle.rs_packet.specs.Bounds.{IsPublishReply};
 
     ghost view = { λ p. record {
-      topic = p.retained.topic;
+      topic = p.found.topic;
       qos = p.qos;
       id = p.id;
       subscription = p.subscription;
       expiry = p.expiry;
-      properties = p.retained.message.properties;
-      payload = p.retained.message.payload;
+      properties = p.found.message.properties;
+      payload = p.found.message.payload;
     } };
 
     ghost invariant = { λ p. IsPublishReply (record {
-      topic = p.retained.topic;
+      topic = p.found.topic;
       qos = p.qos;
       id = p.id;
       subscription = p.subscription;
       expiry = p.expiry;
-      properties = p.retained.message.properties;
-      payload = p.retained.message.payload;
+      properties = p.found.message.properties;
+      payload = p.found.message.payload;
     }) };
 }
 
@@ -73,21 +73,21 @@ impl PublishReply {
     /// A PUBLISH (3.3) with an identifier if QoS is 1 or 2. Payload and properties, without the Subscription
     /// Identifier, take at most `MAX_PACKET_SIZE` bytes.
     pub fn new(
-        retained: Retained,
+        found: Found,
         qos: Qos,
         id: Option<PacketId>,
         expiry: Option<u32>,
         subscription: Option<SubscriptionId>,
     ) -> PublishReply
         requires id_fits { IdFits qos id }
-        requires message_fits { message_size expiry retained.message.properties retained.message.payload ≤ MAX_PACKET_SIZE }
-        ensures { result ≡ record { topic = retained.topic; qos = qos; id = id; subscription = subscription; expiry = expiry; properties = retained.message.properties; payload = retained.message.payload } }
+        requires message_fits { message_size expiry found.message.properties found.message.payload ≤ MAX_PACKET_SIZE }
+        ensures { result ≡ record { topic = found.topic; qos = qos; id = id; subscription = subscription; expiry = expiry; properties = found.message.properties; payload = found.message.payload } }
     {
         let subscription = in_range(subscription);
         // For the proof: this call says that the topic is short.
-        let _topic = retained.topic().as_bytes();
+        let _topic = found.topic().as_bytes();
         PublishReply {
-            retained,
+            found,
             qos,
             id,
             subscription,

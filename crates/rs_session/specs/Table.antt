@@ -25,7 +25,7 @@ use Rattle.rs_packet.specs.Grammar.{level}
 use Rattle.rs_packet.specs.Replies.{reply_bytes}
 use Rattle.rs_message.specs.Messages.{operation_of}
 use Rattle.rs_message.specs.declared.entry.Entry.{Entry}
-use Rattle.rs_message.specs.declared.entry.Found.{Found}
+use Rattle.rs_packet.specs.declared.found.Found.{Found}
 use Rattle.rs_message.specs.declared.entry.Operation.{Operation}
 use Rattle.rs_store.specs.History.{IsAnswer}
 use Rattle.rs_window.specs.Calls as window

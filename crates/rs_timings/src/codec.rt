@@ -4,7 +4,7 @@ use crate::row::nanos;
 use bytes::Bytes;
 use rs_calls_kit::Failure;
 use rs_packet::{
-    Codes, Decoded, MAX_PACKET_SIZE, Message, Packet, Publish, PublishReply, Reply, Retained,
+    Codes, Decoded, Found, MAX_PACKET_SIZE, Message, Packet, Publish, PublishReply, Reply,
     Subscribe, decode, encode,
 };
 use std::alloc::Global;
@@ -62,10 +62,10 @@ fn publication(alloc: Global, publish: Publish) -> Result<Reply, Failure> {
         return Err(Failure::Input);
     }
     let message = Message::new(payload, qos, 0, expiry, properties);
-    let Ok(retained) = Retained::new(alloc, topic, message) else {
+    let Ok(found) = Found::new(alloc, topic, message) else {
         return Err(Failure::NoMemory);
     };
-    let sent = PublishReply::new(retained, qos, id, expiry, None);
+    let sent = PublishReply::new(found, qos, id, expiry, None);
     Ok(Reply::Publish(sent))
 }
 

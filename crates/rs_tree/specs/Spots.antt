@@ -2,7 +2,7 @@
 use Rattle.std.specs.Prelude.{◌≡◌, ℕ, List, [], ◌∷◌, Option, Some, None, map}
 use Rattle.rs_topic.specs.Topics.{levels}
 use Rattle.rs_message.specs.Values.{MessageValue}
-use Rattle.rs_message.specs.declared.entry.Found.{Found}
+use Rattle.rs_packet.specs.declared.found.Found.{Found}
 use Rattle.rs_bucket.specs.Spots.{Spot}
 
 -- the message of a node itself, with its path there

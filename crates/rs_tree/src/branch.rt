@@ -23,7 +23,8 @@ mod set;
 mod sweep;
 
 pub use remains::Remains;
-use rs_bucket::{Bucket, Label, Sought, SpotMessage, retained_again};
+use rs_bucket::{Bucket, Label, Sought, retained_copy};
+use rs_message::Found;
 use std::alloc::{AllocError, Global};
 use std::marker::Model;
 use std::sync::Arc;
@@ -32,7 +33,7 @@ use std::sync::Arc;
 #[cycle(tree)]
 #[derive(Drop)]
 pub struct Branch {
-    retained: Option<SpotMessage>,
+    retained: Option<Found>,
     children: Vec<Child>,
 }
 
@@ -116,13 +117,13 @@ impl Branch {
 
 impl Below {
     /// One more owner of the same messages.
-    fn again(&self) -> Result<Below, AllocError>
+    fn copy(&self) -> Result<Below, AllocError>
         ensures chunk { IfOk result (λ b. is_chunk b ≡ is_chunk self.now) }
         ensures depth { IfOk result (λ b. depth_of b ≡ depth_of self.now) }
         ensures spots { (level : List ℕ) → IfOk result (λ b. spots_of level b ≡ spots_of level self.now) }
     {
         match self {
-            Below::Few(bucket) => Ok(Below::Few(bucket.again()?)),
+            Below::Few(bucket) => Ok(Below::Few(bucket.copy()?)),
             Below::Inner(stem) => Ok(Below::Inner(Arc::try_clone(stem)?)),
             Below::Chunk(chunk) => Ok(Below::Chunk(Arc::try_clone(chunk)?)),
         }
@@ -158,12 +159,12 @@ impl Child {
     }
 
     /// One more owner of the same messages.
-    fn again(&self) -> Result<Child, AllocError>
+    fn copy(&self) -> Result<Child, AllocError>
         ensures { IfOk result (λ c. c ≡ self.now) }
     {
         Ok(Child {
-            level: self.level.again()?,
-            below: self.below.again()?,
+            level: self.level.copy()?,
+            below: self.below.copy()?,
         })
     }
 }
@@ -174,18 +175,18 @@ fn copies(alloc: Global, children: &[Child]) -> Result<Vec<Child>, AllocError>
 {
     let mut copies = Vec::with_capacity(alloc, children.len())?;
     for child in children {
-        copies.push(child.again()?)?;
+        copies.push(child.copy()?)?;
     }
     Ok(copies)
 }
 
 impl Branch {
     /// An equal branch, which shares what is below its children.
-    pub fn again(&self, alloc: Global) -> Result<Branch, AllocError>
+    pub fn copy(&self, alloc: Global) -> Result<Branch, AllocError>
         ensures { IfOk result (λ b. b ≡ self.now) }
     {
         Ok(Branch {
-            retained: retained_again(&self.retained)?,
+            retained: retained_copy(&self.retained)?,
             children: copies(alloc, self.children.as_slice())?,
         })
     }

@@ -14,7 +14,7 @@ ghost use Rattle.rs_store.specs.declared.limit.TheConstants.{MAX_TOPICS};
 ghost use Rattle.rs_store.specs.Room.{IsStop};
 
 use crate::branch::{Branch, Remains};
-use rs_bucket::{Cleared, SpotMessage};
+use rs_bucket::Cleared;
 use rs_message::Found;
 use rs_store::{Answer, Stop};
 use std::alloc::{AllocError, Global};
@@ -30,7 +30,7 @@ pub struct Root {
 
 impl Model for Root {
     ghost use Rattle.std.specs.Prelude.{List, ℕ};
-    ghost use Rattle.rs_message.specs.declared.entry.Found.{Found};
+    ghost use Rattle.rs_packet.specs.declared.found.Found.{Found};
 
     ghost Value = { List (List (List ℕ) × Found) };
 
@@ -48,7 +48,7 @@ impl Root {
     }
 
     /// One more owner of the same tree. The error says that the count of owners is full.
-    pub fn again(&self) -> Result<Root, AllocError>
+    pub fn copy(&self) -> Result<Root, AllocError>
         ensures { IfOk result (λ r. r ≡ self.now) }
     {
         Ok(Root {
@@ -71,8 +71,7 @@ impl Root {
         ensures existed { IfOk result (λ was. was ≡ is_there (levels_from 0 found.topic) self.old) }
         ensures refused { OnErr result (self.new ≡ self.old) }
     {
-        let message = SpotMessage::new(found);
-        let was = Branch::set_in(&mut self.branch, alloc, message, 0)?;
+        let was = Branch::set_in(&mut self.branch, alloc, found, 0)?;
         // A message that takes another one's place adds no child.
         if was {
             return Ok(true);

@@ -288,7 +288,7 @@ impl Catalogue for TreeCatalogue {
     fn copy(&self) -> Result<TreeCatalogue, AllocError> {
         Ok(TreeCatalogue {
             alloc: self.alloc,
-            root: self.root.again()?,
+            root: self.root.copy()?,
             remains: Remains::none(self.alloc),
             count: self.count,
             ledger: self.ledger.copy(),

@@ -3,7 +3,7 @@ use Rattle.std.specs.Prelude.{◌≡◌, ◌≢◌, ℕ, ◌+◌, ◌<◌, ◌�
 use Rattle.std.specs.FinMap as finite
 use Rattle.rs_packet.specs.declared.packet.Qos.{Qos}
 use Rattle.rs_packet.specs.declared.packet.Qos.TheVariants.{AtMostOnce}
-use Rattle.rs_message.specs.declared.entry.Found.{Found}
+use Rattle.rs_packet.specs.declared.found.Found.{Found}
 use Rattle.rs_window.specs.declared.fault.Ack.{Ack}
 use Rattle.rs_window.specs.declared.fault.Ack.TheVariants.{Freed, Released, Unknown}
 use Rattle.rs_window.specs.declared.fault.WindowFault.{WindowFault}

@@ -4,7 +4,7 @@ use Rattle.rs_packet.specs.declared.packet.Qos.{Qos}
 use Rattle.rs_packet.specs.declared.packet.Qos.TheVariants as qos
 use Rattle.rs_packet.specs.Grammar.{level}
 use Rattle.rs_packet.specs.Replies.{reply_bytes}
-use Rattle.rs_message.specs.declared.entry.Found.{Found}
+use Rattle.rs_packet.specs.declared.found.Found.{Found}
 use Rattle.rs_packet.specs.declared.message.Remaining.{Remaining}
 use Rattle.rs_packet.specs.declared.message.Remaining.TheVariants.{Forever, Left, Expired}
 use Rattle.rs_message.specs.Messages.{remaining_of, is_expired}

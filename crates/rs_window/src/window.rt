@@ -67,7 +67,7 @@ impl Outgoing {
         } = self;
         // For the proof: this call says that the message fits a packet.
         let _payload = found.message().payload();
-        Reply::Publish(PublishReply::new(found.into_retained(), qos, id, expiry, subscription))
+        Reply::Publish(PublishReply::new(found, qos, id, expiry, subscription))
     }
 }
 

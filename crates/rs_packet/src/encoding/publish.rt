@@ -37,12 +37,12 @@ pub(crate) fn body_len(p: &PublishReply) -> (usize, usize)
     ensures section_small { result.1 < varint_end }
     ensures fits { PublishFits p.now }
 {
-    let section = properties_len(p.expiry, p.subscription, p.retained.message().properties());
+    let section = properties_len(p.expiry, p.subscription, p.found.message().properties());
     let len = around_len(
-        p.retained.topic(),
+        p.found.topic(),
         p.id.is_some(),
         section,
-        p.retained.message().payload().len(),
+        p.found.message().payload().len(),
     );
     (len, section)
 }
@@ -64,14 +64,14 @@ pub(crate) fn put_publish_head(out: &mut Vec<u8>, p: &PublishReply) -> Result<()
     let (len, section) = body_len(p);
     out.push(0x31 + 2 * p.qos.level())?;
     put_varint(out, len)?;
-    put_binary(out, p.retained.topic().as_bytes())?;
+    put_binary(out, p.found.topic().as_bytes())?;
     put_id(out, p.id)?;
     put_varint(out, section)?;
     put_properties(
         out,
         p.expiry,
         p.subscription,
-        p.retained.message().properties(),
+        p.found.message().properties(),
     )?;
     Ok(())
 }
@@ -81,7 +81,7 @@ pub(crate) fn put_publish_reply(out: &mut Vec<u8>, p: &PublishReply) -> Result<(
     ensures { OnOk result (out.new.items ≡ out.old.items ++ frame (0x31 + 2 * level p.now.qos) (publish_reply_body p.now)) }
 {
     put_publish_head(out, p)?;
-    out.extend_from_slice(p.retained.message().payload().as_slice())?;
+    out.extend_from_slice(p.found.message().payload().as_slice())?;
     Ok(())
 }
 

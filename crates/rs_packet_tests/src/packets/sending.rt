@@ -89,10 +89,10 @@ fn reply_of(
         return None;
     }
     let message = Message::new(payload, qos, 0, expiry, properties);
-    let Ok(retained) = Retained::new(alloc, topic, message) else {
+    let Ok(found) = Found::new(alloc, topic, message) else {
         return None;
     };
-    let sent = PublishReply::new(retained, qos, id_at(qos), expiry, subscription);
+    let sent = PublishReply::new(found, qos, id_at(qos), expiry, subscription);
     Some(Reply::Publish(sent))
 }
 

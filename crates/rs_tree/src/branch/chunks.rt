@@ -7,7 +7,8 @@ ghost use Rattle.rs_tree.specs.Nodes.{stem_spots};
 ghost use Rattle.rs_tree.specs.Chunks.{AreHalves, IsChunk, IsFrom, parts};
 
 use super::{Below, Branch, Child, Stem, copies, insert_at};
-use rs_bucket::{Bucket, Label, SpotMessage};
+use rs_bucket::{Bucket, Label};
+use rs_message::Found;
 use std::alloc::{AllocError, Global};
 use std::sync::Arc;
 
@@ -49,12 +50,7 @@ fn halves(alloc: Global, level: Label, children: &[Child]) -> Result<(Child, Chi
 
 impl Child {
     /// One message below a level.
-    pub fn new(
-        alloc: Global,
-        level: Label,
-        found: SpotMessage,
-        at: usize,
-    ) -> Result<Child, AllocError>
+    pub fn new(alloc: Global, level: Label, found: Found, at: usize) -> Result<Child, AllocError>
         ensures level { IfOk result (λ c. c.level ≡ level) }
         ensures spots { IfOk result (λ c. c.spots ≡ under level (spot_of at found ∷ [])) }
     {
@@ -124,7 +120,7 @@ impl Branch {
         if self.retained.is_some() || self.children.len() <= MOST {
             return Ok(None);
         }
-        let pair = halves(alloc, level.again()?, self.children.as_slice())?;
+        let pair = halves(alloc, level.copy()?, self.children.as_slice())?;
         Ok(Some(pair))
     }
 

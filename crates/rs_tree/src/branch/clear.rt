@@ -9,7 +9,8 @@ ghost use Rattle.rs_tree.specs.Nodes.{stem_spots};
 ghost use Rattle.rs_tree.specs.Chunks.{Leads};
 
 use super::{Below, Branch, Child, Stem, index_of};
-use rs_bucket::{Cleared, SpotMessage, behind};
+use rs_bucket::{Cleared, behind};
+use rs_message::Found;
 use rs_topic::level_at;
 use std::alloc::{AllocError, Global};
 use std::sync::Arc;
@@ -68,7 +69,7 @@ impl Stem {
         if let Some(stem) = Arc::get_mut(this) {
             return stem.clear_here(alloc, topic, at);
         }
-        let mut copy = this.again(alloc)?;
+        let mut copy = this.copy(alloc)?;
         let cleared = copy.clear_here(alloc, topic, at)?;
         *this = Arc::new(alloc, copy)?;
         Ok(cleared)
@@ -76,7 +77,7 @@ impl Stem {
 }
 
 /// There is one child, and no message beside it.
-fn is_lone(retained: &Option<SpotMessage>, children: &[Child]) -> bool
+fn is_lone(retained: &Option<Found>, children: &[Child]) -> bool
     ensures lone { IsTrue result → (is_some retained.now ≡ false) × (length children.now ≡ 1) }
     ensures more { result ≡ false → is_some retained.now ≡ false → length children.now ≡ 1 → ⊥ }
 {
@@ -149,7 +150,7 @@ impl Branch {
         if let Some(branch) = Arc::get_mut(this) {
             return branch.clear(alloc, topic, at);
         }
-        let mut copy = this.again(alloc)?;
+        let mut copy = this.copy(alloc)?;
         let cleared = copy.clear(alloc, topic, at)?;
         *this = Arc::new(alloc, copy)?;
         Ok(cleared)

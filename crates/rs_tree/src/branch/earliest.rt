@@ -6,11 +6,11 @@ ghost use Rattle.rs_tree.specs.Spots.{own};
 ghost use Rattle.rs_tree.specs.Chunks.{parts};
 
 use super::{Below, Branch, Child};
-use rs_bucket::SpotMessage;
+use rs_message::Found;
 use rs_store::lowered;
 
 /// A bound, or the first moment at which the message of one spot is expired if that is earlier.
-fn lowered_by_retained(retained: &Option<SpotMessage>, bound: u64) -> u64
+fn lowered_by_retained(retained: &Option<Found>, bound: u64) -> u64
     ensures { result ≡ earliest bound (own retained.now) }
 {
     match retained {

@@ -8,11 +8,11 @@ ghost use Rattle.rs_store.specs.declared.limit.TheConstants.{MAX_TOPICS};
 ghost use Rattle.rs_tree.specs.Chunks.{parts};
 
 use super::{Below, Branch, Child};
-use rs_bucket::SpotMessage;
+use rs_message::Found;
 use rs_store::is_expired;
 
 /// Counts the message of one spot, if it is expired.
-fn count_retained(retained: &Option<SpotMessage>, now: u64, count: &mut u32)
+fn count_retained(retained: &Option<Found>, now: u64, count: &mut u32)
     ensures { count.old + length (own retained.now) ≤ MAX_TOPICS → count.new ≡ count.old + length (filter (is_expired_spot now) (own retained.now)) }
 {
     if let Some(found) = retained {

@@ -70,7 +70,7 @@ impl Child {
         if let Below::Chunk(chunk) = &self.below {
             return chunk.flat(self.level(), flat);
         }
-        flat.push(self.again()?)?;
+        flat.push(self.copy()?)?;
         Ok(())
     }
 }

@@ -11,7 +11,8 @@ ghost use Rattle.rs_tree.specs.Nodes.{stem_spots};
 ghost use Rattle.rs_tree.specs.Chunks.{IsChunk, parts};
 
 use super::{Below, Branch, Child, Stem, copies};
-use rs_bucket::{Label, SpotMessage, behind, joined};
+use rs_bucket::{Label, behind, joined};
+use rs_message::Found;
 use rs_topic::{is_level, level_at};
 use std::alloc::{AllocError, Global};
 use std::sync::Arc;
@@ -21,12 +22,12 @@ fn lone(
     alloc: Global,
     level: &Label,
     chain: &[u8],
-    found: &SpotMessage,
+    found: &Found,
 ) -> Result<Option<Child>, AllocError>
     ensures level { IfOk result (λ o. IfSome o (λ c. c.level ≡ level.now)) }
     ensures spots { IfOk result (λ o. IfSome o (λ c. c.spots ≡ under level.now (under_all (levels_from 1 chain.now) (([], found.now) ∷ [])))) }
 {
-    let topic = found.topic();
+    let topic = found.topic().as_bytes();
     // A chain has a slash before each level.
     let at = topic.len().saturating_add(1).saturating_sub(chain.len());
     let Some(next) = behind(chain, topic, at) else {
@@ -35,7 +36,7 @@ fn lone(
     let None = level_at(topic, next) else {
         return Ok(None);
     };
-    let child = Child::new(alloc, level.again()?, found.again()?, at)?;
+    let child = Child::new(alloc, level.copy()?, found.copy()?, at)?;
     Ok(Some(child))
 }
 
@@ -47,7 +48,7 @@ impl Stem {
     {
         Ok(Stem {
             chain: joined(alloc, chain, level, self.chain.as_slice())?,
-            branch: self.branch.again(alloc)?,
+            branch: self.branch.copy(alloc)?,
         })
     }
 
@@ -96,7 +97,7 @@ impl Child {
             }
             Below::Chunk(_) => return Ok(None),
         };
-        let level = level.again()?;
+        let level = level.copy()?;
         Ok(Some(Child { level, below }))
     }
 

@@ -6,10 +6,10 @@ ghost use Rattle.rs_store.specs.declared.limit.TheConstants.{MAX_TOPICS};
 ghost use Rattle.rs_tree.specs.Chunks.{parts};
 
 use super::{Below, Branch, Child};
-use rs_bucket::SpotMessage;
+use rs_message::Found;
 
 /// The number of messages of one spot.
-fn retained_len(retained: &Option<SpotMessage>) -> usize
+fn retained_len(retained: &Option<Found>) -> usize
     ensures { result ≡ length (own retained.now) }
 {
     match retained {

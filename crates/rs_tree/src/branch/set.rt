@@ -11,7 +11,8 @@ ghost use Rattle.rs_tree.specs.Chunks.{Leads};
 
 use super::chunks::single;
 use super::{Below, Branch, Child, Stem, index_of, insert_at};
-use rs_bucket::{Bucket, Label, Leaves, SpotMessage, behind, shared_levels};
+use rs_bucket::{Bucket, Label, Leaves, behind, shared_levels};
+use rs_message::Found;
 use rs_topic::level_at;
 use std::alloc::{AllocError, Global};
 use std::sync::Arc;
@@ -25,10 +26,10 @@ fn stem_of(alloc: Global, bucket: &Leaves) -> Result<Stem, AllocError>
     let leaves = bucket.as_slice();
     for leaf in leaves {
         // Never: the messages are in order, so all share what the first and the last share.
-        let Some(next) = behind(chain.as_slice(), leaf.found.topic(), leaf.at) else {
+        let Some(next) = behind(chain.as_slice(), leaf.found.topic().as_bytes(), leaf.at) else {
             return Err(AllocError);
         };
-        branch.hold(alloc, leaf.found.again()?, next)?;
+        branch.hold(alloc, leaf.found.copy()?, next)?;
     }
     Ok(Stem { chain, branch })
 }
@@ -39,16 +40,16 @@ fn renewed(
     alloc: Global,
     level: &Label,
     bucket: &Bucket,
-    found: &SpotMessage,
+    found: &Found,
     at: usize,
     next: usize,
 ) -> Result<Label, AllocError>
     ensures { IfOk result (λ l. l ≡ level.now) }
 {
     if level.is_short() {
-        return level.again();
+        return level.copy();
     }
-    if bucket.is_one_at(found.topic(), next) {
+    if bucket.is_one_at(found.topic().as_bytes(), next) {
         return Label::from_topic(alloc, level.as_slice(), found, at);
     }
     level.own(alloc)
@@ -59,7 +60,7 @@ impl Child {
     fn hold(
         &mut self,
         alloc: Global,
-        found: SpotMessage,
+        found: Found,
         at: usize,
         next: usize,
     ) -> Result<bool, AllocError>
@@ -105,7 +106,7 @@ impl Child {
     fn set(
         &mut self,
         alloc: Global,
-        found: SpotMessage,
+        found: Found,
         at: usize,
         next: usize,
     ) -> Result<bool, AllocError>
@@ -130,13 +131,13 @@ impl Child {
 
 impl Stem {
     /// An equal stem, which shares what is below its children.
-    pub fn again(&self, alloc: Global) -> Result<Stem, AllocError>
+    pub fn copy(&self, alloc: Global) -> Result<Stem, AllocError>
         ensures chain { IfOk result (λ s. s.chain.items ≡ self.now.chain.items) }
         ensures branch { IfOk result (λ s. s.branch ≡ self.now.branch) }
     {
         Ok(Stem {
             chain: Vec::from_slice(alloc, self.chain.as_slice())?,
-            branch: self.branch.again(alloc)?,
+            branch: self.branch.copy(alloc)?,
         })
     }
 
@@ -156,7 +157,7 @@ impl Stem {
         let (_, rest) = self.chain.as_slice().split_at(next - 1);
         let lower = Stem {
             chain: Vec::from_slice(alloc, rest)?,
-            branch: self.branch.again(alloc)?,
+            branch: self.branch.copy(alloc)?,
         };
         self.branch = single(alloc, label, lower)?;
         self.chain = upper;
@@ -164,31 +165,32 @@ impl Stem {
     }
 
     /// Sets a message whose topic leaves the chain. If memory is refused, nothing changes.
-    fn set_beside(
-        &mut self,
-        alloc: Global,
-        found: SpotMessage,
-        at: usize,
-    ) -> Result<bool, AllocError>
+    fn set_beside(&mut self, alloc: Global, found: Found, at: usize) -> Result<bool, AllocError>
         requires { IsFull self.old.branch.spots }
         ensures done { OnOk result (stem_spots self.new ≡ insert_entry path_cmp (stem_spots self.old) (levels_from at found.topic) found) }
         ensures existed { IfOk result (λ was. was ≡ is_there (levels_from at found.topic) (stem_spots self.old)) }
         ensures refused { OnErr result (stem_spots self.new ≡ stem_spots self.old) }
     {
-        let shared = shared_levels(alloc, self.chain.as_slice(), 1, found.topic(), at)?;
+        let shared = shared_levels(
+            alloc,
+            self.chain.as_slice(),
+            1,
+            found.topic().as_bytes(),
+            at,
+        )?;
         self.cut(alloc, shared.chain, shared.at)?;
         self.branch.hold(alloc, found, shared.from)
     }
 
     /// Sets the message at the rest of its topic, and returns whether there was one. If memory is refused, nothing changes.
     #[cycle(set)]
-    fn set_here(&mut self, alloc: Global, found: SpotMessage, at: usize) -> Result<bool, AllocError>
+    fn set_here(&mut self, alloc: Global, found: Found, at: usize) -> Result<bool, AllocError>
         requires { IsFull self.old.branch.spots }
         ensures done { OnOk result (stem_spots self.new ≡ insert_entry path_cmp (stem_spots self.old) (levels_from at found.topic) found) }
         ensures existed { IfOk result (λ was. was ≡ is_there (levels_from at found.topic) (stem_spots self.old)) }
         ensures refused { OnErr result (stem_spots self.new ≡ stem_spots self.old) }
     {
-        let Some(next) = behind(self.chain.as_slice(), found.topic(), at) else {
+        let Some(next) = behind(self.chain.as_slice(), found.topic().as_bytes(), at) else {
             return self.set_beside(alloc, found, at);
         };
         let done = self.branch.set(alloc, found, next);
@@ -198,12 +200,7 @@ impl Stem {
 
     /// The same in place if the stem has one owner, and else in a copy.
     #[cycle(set)]
-    fn set(
-        this: &mut Arc<Stem>,
-        alloc: Global,
-        found: SpotMessage,
-        at: usize,
-    ) -> Result<bool, AllocError>
+    fn set(this: &mut Arc<Stem>, alloc: Global, found: Found, at: usize) -> Result<bool, AllocError>
         requires { IsFull (arc_value this.old).branch.spots }
         ensures done { OnOk result (stem_spots (arc_value this.new) ≡ insert_entry path_cmp (stem_spots (arc_value this.old)) (levels_from at found.topic) found) }
         ensures existed { IfOk result (λ was. was ≡ is_there (levels_from at found.topic) (stem_spots (arc_value this.old))) }
@@ -212,7 +209,7 @@ impl Stem {
         if let Some(stem) = Arc::get_mut(this) {
             return stem.set_here(alloc, found, at);
         }
-        let mut copy = this.again(alloc)?;
+        let mut copy = this.copy(alloc)?;
         let was = copy.set_here(alloc, found, at)?;
         *this = Arc::new(alloc, copy)?;
         Ok(was)
@@ -222,12 +219,12 @@ impl Stem {
 impl Branch {
     /// Sets a message in a branch whose children are buckets, and returns whether there was one. If memory is refused, nothing
     /// changes.
-    fn hold(&mut self, alloc: Global, found: SpotMessage, at: usize) -> Result<bool, AllocError>
+    fn hold(&mut self, alloc: Global, found: Found, at: usize) -> Result<bool, AllocError>
         ensures done { OnOk result (self.new.spots ≡ insert_entry path_cmp self.old.spots (levels_from at found.topic) found) }
         ensures existed { IfOk result (λ was. was ≡ is_there (levels_from at found.topic) self.old.spots) }
         ensures refused { OnErr result (self.new.spots ≡ self.old.spots) }
     {
-        let Some((level, next)) = level_at(found.topic(), at) else {
+        let Some((level, next)) = level_at(found.topic().as_bytes(), at) else {
             let was = self.retained.is_some();
             self.retained = Some(found);
             return Ok(was);
@@ -245,12 +242,12 @@ impl Branch {
 
     /// Sets the message at the rest of its topic, and returns whether there was one. If memory is refused, nothing changes.
     #[cycle(set)]
-    pub fn set(&mut self, alloc: Global, found: SpotMessage, at: usize) -> Result<bool, AllocError>
+    pub fn set(&mut self, alloc: Global, found: Found, at: usize) -> Result<bool, AllocError>
         ensures done { OnOk result (self.new.spots ≡ insert_entry path_cmp self.old.spots (levels_from at found.topic) found) }
         ensures existed { IfOk result (λ was. was ≡ is_there (levels_from at found.topic) self.old.spots) }
         ensures refused { OnErr result (self.new.spots ≡ self.old.spots) }
     {
-        let Some((level, next)) = level_at(found.topic(), at) else {
+        let Some((level, next)) = level_at(found.topic().as_bytes(), at) else {
             let was = self.retained.is_some();
             self.retained = Some(found);
             return Ok(was);
@@ -275,7 +272,7 @@ impl Branch {
     pub fn set_in(
         this: &mut Arc<Branch>,
         alloc: Global,
-        found: SpotMessage,
+        found: Found,
         at: usize,
     ) -> Result<bool, AllocError>
         ensures done { OnOk result ((arc_value this.new).spots ≡ insert_entry path_cmp (arc_value this.old).spots (levels_from at found.topic) found) }
@@ -285,7 +282,7 @@ impl Branch {
         if let Some(branch) = Arc::get_mut(this) {
             return branch.set(alloc, found, at);
         }
-        let mut copy = this.again(alloc)?;
+        let mut copy = this.copy(alloc)?;
         let was = copy.set(alloc, found, at)?;
         *this = Arc::new(alloc, copy)?;
         Ok(was)

@@ -9,7 +9,7 @@ ghost use Rattle.rs_tree.specs.Rests.{IsBranchRest, IsRest, IsRestOf};
 ghost use Rattle.rs_tree.specs.Chunks.{IsChunk, Notes};
 
 use super::{Below, Branch, Child, Stem, copies};
-use rs_bucket::SpotMessage;
+use rs_message::Found;
 use rs_store::is_expired;
 use std::alloc::{AllocError, Global};
 use std::sync::Arc;
@@ -26,10 +26,10 @@ enum Rest {
 
 /// The message of one spot, unless it is expired, and notes if it goes.
 fn retained_swept(
-    retained: &Option<SpotMessage>,
+    retained: &Option<Found>,
     moment: u64,
     goes: &mut bool,
-) -> Result<Option<SpotMessage>, AllocError>
+) -> Result<Option<Found>, AllocError>
     ensures left { IfOk result (λ h. own h ≡ filter (spot_stays moment) (own retained.now)) }
     ensures noted { OnOk result (Notes moment (own retained.now) goes.old goes.new) }
 {
@@ -40,7 +40,7 @@ fn retained_swept(
         *goes = true;
         return Ok(None);
     }
-    Ok(Some(found.again()?))
+    Ok(Some(found.copy()?))
 }
 
 /// Begins what is left of some children with the first of them, unless it is begun.
@@ -86,7 +86,7 @@ fn one_swept(
             if !*goes {
                 return Ok(());
             }
-            left.push(child.again()?)?;
+            left.push(child.copy()?)?;
             Ok(())
         }
         Rest::Less(less) => {
@@ -133,7 +133,7 @@ impl Child {
                 let Some(left) = bucket.swept(alloc, moment)? else {
                     return Ok(Rest::Nothing);
                 };
-                let level = self.level.again()?;
+                let level = self.level.copy()?;
                 Ok(Rest::Less(Child {
                     level,
                     below: Below::Few(left),
@@ -147,7 +147,7 @@ impl Child {
                     return Ok(Rest::Nothing);
                 }
                 let chain = Vec::from_slice(alloc, stem.chain.as_slice())?;
-                let level = self.level.again()?;
+                let level = self.level.copy()?;
                 let left = Arc::new(alloc, Stem { chain, branch })?;
                 let mut child = Child {
                     level,
@@ -163,7 +163,7 @@ impl Child {
                 if branch.is_empty() {
                     return Ok(Rest::Nothing);
                 }
-                let level = self.level.again()?;
+                let level = self.level.copy()?;
                 let left = Arc::new(alloc, branch)?;
                 Ok(Rest::Less(Child {
                     level,

@@ -48,8 +48,8 @@ Branch::flat-flat_each-requires t c =
 pub Child::flat-returns-clause-chunk : goal.Child::flat-returns-clause-chunk
 Child::flat-returns-clause-chunk t c =
     let P : List ChildValue → Type 0 = λ l. IsChunk l in
-    subst P (sym (c.in_ok-push.ensures.items ∙ ap (λ (x : ChildValue). c.args.flat.now.items ++ x ∷ []) c.in_ok-again.ensures)) (chunk_push c.args.flat.now.items c.args.self.now c.requires.chunk c.requires.before c.requires.full c.requires.from)
+    subst P (sym (c.in_ok-push.ensures.items ∙ ap (λ (x : ChildValue). c.args.flat.now.items ++ x ∷ []) c.in_ok-copy.ensures)) (chunk_push c.args.flat.now.items c.args.self.now c.requires.chunk c.requires.before c.requires.full c.requires.from)
 
 pub Child::flat-returns-clause-same : goal.Child::flat-returns-clause-same
 Child::flat-returns-clause-same t c =
-    ap parts (c.in_ok-push.ensures.items ∙ ap (λ (x : ChildValue). c.args.flat.now.items ++ x ∷ []) c.in_ok-again.ensures) ∙ parts_push c.args.flat.now.items c.args.self.now
+    ap parts (c.in_ok-push.ensures.items ∙ ap (λ (x : ChildValue). c.args.flat.now.items ++ x ∷ []) c.in_ok-copy.ensures) ∙ parts_push c.args.flat.now.items c.args.self.now

@@ -15,18 +15,18 @@ use Rattle.rs_tree.proofs.branch.+set.Goals as goal
 
 pub Branch::set-returns-in_default-clause-done : goal.Branch::set-returns-in_default-clause-done
 Branch::set-returns-in_default-clause-done t c =
-    let e : levels_from c.args.at c.args.found.topic ≡ [] = rw c.topic.ensures at c.in_default.ensures.ended in
+    let e : levels_from c.args.at c.args.found.topic ≡ [] = rw (c.as_bytes.ensures.bytes, c.topic.ensures) at c.in_default.ensures.ended in
     rw (e, ← c.self.view_is) (own_first c.self.inside.retained c.args.found c.self.inside.children.items c.self.invariant)
 
 pub Branch::set-returns-in_default-clause-existed : goal.Branch::set-returns-in_default-clause-existed
 Branch::set-returns-in_default-clause-existed t c =
-    let e : levels_from c.args.at c.args.found.topic ≡ [] = rw c.topic.ensures at c.in_default.ensures.ended in
+    let e : levels_from c.args.at c.args.found.topic ≡ [] = rw (c.as_bytes.ensures.bytes, c.topic.ensures) at c.in_default.ensures.ended in
     rw (e, ← c.self.view_is) (c.is_some-was.ensures ∙ sym (there_own c.self.inside.retained c.self.inside.children.items c.self.invariant))
 
 pub Branch::set-set-done-requires : goal.Branch::set-set-done-requires
 Branch::set-set-done-requires t c =
     let es = c.self.inside.children.items in
-    let e : levels_from c.args.at c.args.found.topic ≡ c.in-Some.level.now ∷ levels_from c.in-Some.next c.args.found.topic = rw c.topic.ensures at c.in-Some.ensures.more in
+    let e : levels_from c.args.at c.args.found.topic ≡ c.in-Some.level.now ∷ levels_from c.in-Some.next c.args.found.topic = rw (c.as_bytes.ensures.bytes, c.topic.ensures) at c.in-Some.ensures.more in
     let here : IsIn c.in-Some.level.now es c.in-Ok.i = rw c.as_slice.ensures.value at c.in-Ok.ensures.found in
     let small : c.in-Ok.i < length es = rw c.as_slice.ensures.value at c.in-Ok.ensures.within in
     let deep : c.index_mut.result.now.depth + 1 ≤ depth es = deep_child es c.in-Ok.i c.index_mut.result.now small c.index_mut.ensures.value in
@@ -41,7 +41,7 @@ Branch::set-set-done-requires t c =
 pub Branch::set-invariant_of-self-in-Ok : goal.Branch::set-invariant_of-self-in-Ok
 Branch::set-invariant_of-self-in-Ok t c =
     let es = c.self.inside.children.items in
-    let e : levels_from c.args.at c.args.found.topic ≡ c.in-Some.level.now ∷ levels_from c.in-Some.next c.args.found.topic = rw c.topic.ensures at c.in-Some.ensures.more in
+    let e : levels_from c.args.at c.args.found.topic ≡ c.in-Some.level.now ∷ levels_from c.in-Some.next c.args.found.topic = rw (c.as_bytes.ensures.bytes, c.topic.ensures) at c.in-Some.ensures.more in
     let here : IsIn c.in-Some.level.now es c.in-Ok.i = rw c.as_slice.ensures.value at c.in-Ok.ensures.found in
     let small : c.in-Ok.i < length es = rw c.as_slice.ensures.value at c.in-Ok.ensures.within in
     chunk_put c.self.inside.retained es c.self.invariant c.in-Some.level.now (levels_from c.in-Some.next c.args.found.topic) c.args.found c.in-Ok.i c.set-done.result c.index_mut.result.now c.set-done.new.self small here c.index_mut.ensures.value c.set-done.ensures.level
@@ -58,7 +58,7 @@ Branch::set-invariant_of-self-in-Err t c =
 pub Branch::set-returns-in-Ok-clause-done : goal.Branch::set-returns-in-Ok-clause-done
 Branch::set-returns-in-Ok-clause-done t c =
     let es = c.self.inside.children.items in
-    let e : levels_from c.args.at c.args.found.topic ≡ c.in-Some.level.now ∷ levels_from c.in-Some.next c.args.found.topic = rw c.topic.ensures at c.in-Some.ensures.more in
+    let e : levels_from c.args.at c.args.found.topic ≡ c.in-Some.level.now ∷ levels_from c.in-Some.next c.args.found.topic = rw (c.as_bytes.ensures.bytes, c.topic.ensures) at c.in-Some.ensures.more in
     let here : IsIn c.in-Some.level.now es c.in-Ok.i = rw c.as_slice.ensures.value at c.in-Ok.ensures.found in
     let small : c.in-Ok.i < length es = rw c.as_slice.ensures.value at c.in-Ok.ensures.within in
     rw (e, ← c.self.view_is) (on_ok_weaker c.set-done.result (λ h. c.divide.ensures ∙ grown_in c.self.inside.retained es c.self.invariant c.in-Some.level.now (levels_from c.in-Some.next c.args.found.topic) c.args.found c.in-Ok.i c.index_mut.result.now c.set-done.new.self small here c.index_mut.ensures.value h)
@@ -67,7 +67,7 @@ Branch::set-returns-in-Ok-clause-done t c =
 pub Branch::set-returns-in-Ok-clause-existed : goal.Branch::set-returns-in-Ok-clause-existed
 Branch::set-returns-in-Ok-clause-existed t c =
     let es = c.self.inside.children.items in
-    let e : levels_from c.args.at c.args.found.topic ≡ c.in-Some.level.now ∷ levels_from c.in-Some.next c.args.found.topic = rw c.topic.ensures at c.in-Some.ensures.more in
+    let e : levels_from c.args.at c.args.found.topic ≡ c.in-Some.level.now ∷ levels_from c.in-Some.next c.args.found.topic = rw (c.as_bytes.ensures.bytes, c.topic.ensures) at c.in-Some.ensures.more in
     let here : IsIn c.in-Some.level.now es c.in-Ok.i = rw c.as_slice.ensures.value at c.in-Ok.ensures.found in
     let small : c.in-Ok.i < length es = rw c.as_slice.ensures.value at c.in-Ok.ensures.within in
     rw (e, ← c.self.view_is) (was_by c.set-done.result _ _ (rw e at c.set-done.ensures.existed) (there_child c.self.inside.retained es c.self.invariant c.in-Some.level.now (levels_from c.in-Some.next c.args.found.topic) c.in-Ok.i c.index_mut.result.now small here c.index_mut.ensures.value))
@@ -81,7 +81,7 @@ Branch::set-returns-in-Ok-clause-refused t c =
 pub Branch::set-returns-in_ok-insert_at-in-Err-clause-done : goal.Branch::set-returns-in_ok-insert_at-in-Err-clause-done
 Branch::set-returns-in_ok-insert_at-in-Err-clause-done t c =
     let es = c.self.inside.children.items in
-    let e : levels_from c.args.at c.args.found.topic ≡ c.in-Some.level.now ∷ levels_from c.in-Some.next c.args.found.topic = rw c.topic.ensures at c.in-Some.ensures.more in
+    let e : levels_from c.args.at c.args.found.topic ≡ c.in-Some.level.now ∷ levels_from c.in-Some.next c.args.found.topic = rw (c.as_bytes.ensures.bytes, c.topic.ensures) at c.in-Some.ensures.more in
     let here : IsGap c.in-Some.level.now es c.in-Err.i = rw c.as_slice.ensures.value at c.in-Err.ensures.found in
     let small : c.in-Err.i ≤ length es = rw c.as_slice.ensures.value at c.in-Err.ensures.up_to in
     let spots : c.in_ok-child-in-Err.child.spots ≡ (c.in-Some.level.now ∷ levels_from c.in-Some.next c.args.found.topic, c.args.found) ∷ [] = c.in_ok-child-in-Err.ensures.spots ∙ ap (λ (k : List _). under k (spot_of c.in-Some.next c.args.found ∷ [])) c.in_ok-label-in-Err.ensures in
@@ -90,7 +90,7 @@ Branch::set-returns-in_ok-insert_at-in-Err-clause-done t c =
 pub Branch::set-returns-in_ok-insert_at-in-Err-clause-existed : goal.Branch::set-returns-in_ok-insert_at-in-Err-clause-existed
 Branch::set-returns-in_ok-insert_at-in-Err-clause-existed t c =
     let es = c.self.inside.children.items in
-    let e : levels_from c.args.at c.args.found.topic ≡ c.in-Some.level.now ∷ levels_from c.in-Some.next c.args.found.topic = rw c.topic.ensures at c.in-Some.ensures.more in
+    let e : levels_from c.args.at c.args.found.topic ≡ c.in-Some.level.now ∷ levels_from c.in-Some.next c.args.found.topic = rw (c.as_bytes.ensures.bytes, c.topic.ensures) at c.in-Some.ensures.more in
     let here : IsGap c.in-Some.level.now es c.in-Err.i = rw c.as_slice.ensures.value at c.in-Err.ensures.found in
     rw (e, ← c.self.view_is) (sym (there_gap c.self.inside.retained es c.self.invariant c.in-Some.level.now (levels_from c.in-Some.next c.args.found.topic) c.in-Err.i here))
 
@@ -130,7 +130,7 @@ Stem::set_here-returns-clause-done t c =
     let ks = levels_from 1 stem.chain.items in
     let path = levels_from c.args.at c.args.found.topic in
     let rest = levels_from c.in-Some.next c.args.found.topic in
-    let there : Some rest ≡ behind ks path = rw (c.as_slice.ensures.value, c.topic.ensures) at c.in-Some.ensures.value in
+    let there : Some rest ≡ behind ks path = rw (c.as_slice.ensures.value, c.as_bytes.ensures.bytes, c.topic.ensures) at c.in-Some.ensures.value in
     on_ok_weaker c.set-done.result (λ h. ap (under_all ks) c.fold.ensures ∙ set_whole ks path rest c.args.found stem.branch.spots c.set-done.new.self.spots (stem_spots stem) refl (behind_is ks path rest (sym there)) h) c.set-done.ensures.done
 
 pub Stem::set_here-returns-clause-existed : goal.Stem::set_here-returns-clause-existed
@@ -139,5 +139,5 @@ Stem::set_here-returns-clause-existed t c =
     let ks = levels_from 1 stem.chain.items in
     let path = levels_from c.args.at c.args.found.topic in
     let rest = levels_from c.in-Some.next c.args.found.topic in
-    let there : Some rest ≡ behind ks path = rw (c.as_slice.ensures.value, c.topic.ensures) at c.in-Some.ensures.value in
+    let there : Some rest ≡ behind ks path = rw (c.as_slice.ensures.value, c.as_bytes.ensures.bytes, c.topic.ensures) at c.in-Some.ensures.value in
     was_by c.set-done.result _ _ c.set-done.ensures.existed (was_whole ks path rest stem.branch.spots (stem_spots stem) refl (behind_is ks path rest (sym there)))

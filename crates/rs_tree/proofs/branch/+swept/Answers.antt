@@ -88,7 +88,7 @@ sweep::one_swept-returns-then-not-goes-clause-left t c =
 
 pub sweep::one_swept-returns-in_ok-push-in-All-clause-left : goal.sweep::one_swept-returns-in_ok-push-in-All-clause-left
 sweep::one_swept-returns-in_ok-push-in-All-clause-left t c =
-    rest_again c.args.moment c.args.children.now c.args.i c.index-children-i.result c.requires.within c.index-children-i.is c.requires.chunk c.args.goes.now c.args.left.now.items c.push.new.self.items c.in_ok-again-in-All.field-0 c.if-not-goes.false c.requires.before c.in_ok-push-in-All.ensures.items c.in_ok-again-in-All.ensures (rw c.in-All.is at c.in_ok-swept.ensures)
+    rest_again c.args.moment c.args.children.now c.args.i c.index-children-i.result c.requires.within c.index-children-i.is c.requires.chunk c.args.goes.now c.args.left.now.items c.push.new.self.items c.in_ok-copy-in-All.field-0 c.if-not-goes.false c.requires.before c.in_ok-push-in-All.ensures.items c.in_ok-copy-in-All.ensures (rw c.in-All.is at c.in_ok-swept.ensures)
     (full_at c.args.children.now c.args.i c.index-children-i.result c.requires.within c.index-children-i.is c.requires.chunk)
 
 pub sweep::one_swept-returns-in_ok-push-in-Less-clause-left : goal.sweep::one_swept-returns-in_ok-push-in-Less-clause-left

@@ -1,5 +1,5 @@
 use Rattle.std.proofs.Common.{◌≡◌, ℕ, List, [], ◌∷◌, ◌++◌, sym, ◌∙◌}
-use Rattle.rs_message.specs.declared.entry.Found.{Found}
+use Rattle.rs_packet.specs.declared.found.Found.{Found}
 use Rattle.rs_bucket.specs.Chains.{under_all}
 use Rattle.rs_topic.specs.Rests.{levels_from}
 use Rattle.rs_bucket.specs.Spots.{spot_of, under}
@@ -14,5 +14,5 @@ risen_one ks k at higher f g h new same found path is =
 
 pub returns-in_ok-higher-in-One : goal.returns-in_ok-higher-in-One
 returns-in_ok-higher-in-One c =
-    rw (← c.self.view_is, c.in-One.is) (risen_one (levels_from 1 c.args.chain.now) c.args.level.now c.in-One.at c.rise.new.self.at c.in-One.found c.in_ok-again-in-One.field-0 c.rise.new.self.found c.in_ok-higher-in-One.higher
-    c.in_ok-again-in-One.ensures c.rise.ensures.same (c.rise.ensures.done c.if-not-rise.false) c.in_ok-higher-in-One.ensures)
+    rw (← c.self.view_is, c.in-One.is) (risen_one (levels_from 1 c.args.chain.now) c.args.level.now c.in-One.at c.rise.new.self.at c.in-One.found c.in_ok-copy-in-One.field-0 c.rise.new.self.found c.in_ok-higher-in-One.higher
+    c.in_ok-copy-in-One.ensures c.rise.ensures.same (c.rise.ensures.done c.if-not-rise.false) c.in_ok-higher-in-One.ensures)

@@ -10,25 +10,25 @@ use Rattle.rs_tree.proofs.branch.Branch.hold.Goals as goal
 
 pub returns-in_default-clause-done : goal.returns-in_default-clause-done
 returns-in_default-clause-done c =
-    let e : levels_from c.args.at c.args.found.topic ≡ [] = rw c.topic.ensures at c.in_default.ensures.ended in
+    let e : levels_from c.args.at c.args.found.topic ≡ [] = rw (c.as_bytes.ensures.bytes, c.topic.ensures) at c.in_default.ensures.ended in
     rw (e, ← c.self.view_is) (own_first c.self.inside.retained c.args.found c.self.inside.children.items c.self.invariant)
 
 pub returns-in_default-clause-existed : goal.returns-in_default-clause-existed
 returns-in_default-clause-existed c =
-    let e : levels_from c.args.at c.args.found.topic ≡ [] = rw c.topic.ensures at c.in_default.ensures.ended in
+    let e : levels_from c.args.at c.args.found.topic ≡ [] = rw (c.as_bytes.ensures.bytes, c.topic.ensures) at c.in_default.ensures.ended in
     rw (e, ← c.self.view_is) (c.is_some-was.ensures ∙ sym (there_own c.self.inside.retained c.self.inside.children.items c.self.invariant))
 
 pub hold-requires : goal.hold-requires
 hold-requires c =
     let es = c.self.inside.children.items in
-    let e : levels_from c.args.at c.args.found.topic ≡ c.in-Some.level.now ∷ levels_from c.in-Some.next c.args.found.topic = rw c.topic.ensures at c.in-Some.ensures.more in
+    let e : levels_from c.args.at c.args.found.topic ≡ c.in-Some.level.now ∷ levels_from c.in-Some.next c.args.found.topic = rw (c.as_bytes.ensures.bytes, c.topic.ensures) at c.in-Some.ensures.more in
     let here : IsIn c.in-Some.level.now es c.in-Ok.i = rw c.as_slice.ensures.value at c.in-Ok.ensures.found in
     rw e (leads_child c.self.inside.retained es c.self.invariant c.in-Some.level.now (levels_from c.in-Some.next c.args.found.topic) c.in-Ok.i c.index_mut.result.now here c.index_mut.ensures.value)
 
 pub invariant_of-self-in-Ok : goal.invariant_of-self-in-Ok
 invariant_of-self-in-Ok c =
     let es = c.self.inside.children.items in
-    let e : levels_from c.args.at c.args.found.topic ≡ c.in-Some.level.now ∷ levels_from c.in-Some.next c.args.found.topic = rw c.topic.ensures at c.in-Some.ensures.more in
+    let e : levels_from c.args.at c.args.found.topic ≡ c.in-Some.level.now ∷ levels_from c.in-Some.next c.args.found.topic = rw (c.as_bytes.ensures.bytes, c.topic.ensures) at c.in-Some.ensures.more in
     let here : IsIn c.in-Some.level.now es c.in-Ok.i = rw c.as_slice.ensures.value at c.in-Ok.ensures.found in
     let small : c.in-Ok.i < length es = rw c.as_slice.ensures.value at c.in-Ok.ensures.within in
     chunk_put c.self.inside.retained es c.self.invariant c.in-Some.level.now (levels_from c.in-Some.next c.args.found.topic) c.args.found c.in-Ok.i c.hold.result c.index_mut.result.now c.hold.new.self small here c.index_mut.ensures.value c.hold.ensures.level
@@ -45,7 +45,7 @@ invariant_of-self-in-Err c =
 pub returns-in-Ok-clause-done : goal.returns-in-Ok-clause-done
 returns-in-Ok-clause-done c =
     let es = c.self.inside.children.items in
-    let e : levels_from c.args.at c.args.found.topic ≡ c.in-Some.level.now ∷ levels_from c.in-Some.next c.args.found.topic = rw c.topic.ensures at c.in-Some.ensures.more in
+    let e : levels_from c.args.at c.args.found.topic ≡ c.in-Some.level.now ∷ levels_from c.in-Some.next c.args.found.topic = rw (c.as_bytes.ensures.bytes, c.topic.ensures) at c.in-Some.ensures.more in
     let here : IsIn c.in-Some.level.now es c.in-Ok.i = rw c.as_slice.ensures.value at c.in-Ok.ensures.found in
     let small : c.in-Ok.i < length es = rw c.as_slice.ensures.value at c.in-Ok.ensures.within in
     rw (e, ← c.self.view_is) (on_ok_weaker c.hold.result (grown_in c.self.inside.retained es c.self.invariant c.in-Some.level.now (levels_from c.in-Some.next c.args.found.topic) c.args.found c.in-Ok.i c.index_mut.result.now c.hold.new.self small here c.index_mut.ensures.value)
@@ -54,7 +54,7 @@ returns-in-Ok-clause-done c =
 pub returns-in-Ok-clause-existed : goal.returns-in-Ok-clause-existed
 returns-in-Ok-clause-existed c =
     let es = c.self.inside.children.items in
-    let e : levels_from c.args.at c.args.found.topic ≡ c.in-Some.level.now ∷ levels_from c.in-Some.next c.args.found.topic = rw c.topic.ensures at c.in-Some.ensures.more in
+    let e : levels_from c.args.at c.args.found.topic ≡ c.in-Some.level.now ∷ levels_from c.in-Some.next c.args.found.topic = rw (c.as_bytes.ensures.bytes, c.topic.ensures) at c.in-Some.ensures.more in
     let here : IsIn c.in-Some.level.now es c.in-Ok.i = rw c.as_slice.ensures.value at c.in-Ok.ensures.found in
     let small : c.in-Ok.i < length es = rw c.as_slice.ensures.value at c.in-Ok.ensures.within in
     rw (e, ← c.self.view_is) (was_by c.hold.result _ _ (rw e at c.hold.ensures.existed) (there_child c.self.inside.retained es c.self.invariant c.in-Some.level.now (levels_from c.in-Some.next c.args.found.topic) c.in-Ok.i c.index_mut.result.now small here c.index_mut.ensures.value))
@@ -68,7 +68,7 @@ returns-in-Ok-clause-refused c =
 pub returns-in_ok-insert_at-in-Err-clause-done : goal.returns-in_ok-insert_at-in-Err-clause-done
 returns-in_ok-insert_at-in-Err-clause-done c =
     let es = c.self.inside.children.items in
-    let e : levels_from c.args.at c.args.found.topic ≡ c.in-Some.level.now ∷ levels_from c.in-Some.next c.args.found.topic = rw c.topic.ensures at c.in-Some.ensures.more in
+    let e : levels_from c.args.at c.args.found.topic ≡ c.in-Some.level.now ∷ levels_from c.in-Some.next c.args.found.topic = rw (c.as_bytes.ensures.bytes, c.topic.ensures) at c.in-Some.ensures.more in
     let here : IsGap c.in-Some.level.now es c.in-Err.i = rw c.as_slice.ensures.value at c.in-Err.ensures.found in
     let small : c.in-Err.i ≤ length es = rw c.as_slice.ensures.value at c.in-Err.ensures.up_to in
     let spots : c.in_ok-child-in-Err.child.spots ≡ (c.in-Some.level.now ∷ levels_from c.in-Some.next c.args.found.topic, c.args.found) ∷ [] = c.in_ok-child-in-Err.ensures.spots ∙ ap (λ (k : List _). under k (spot_of c.in-Some.next c.args.found ∷ [])) c.in_ok-label-in-Err.ensures in
@@ -77,6 +77,6 @@ returns-in_ok-insert_at-in-Err-clause-done c =
 pub returns-in_ok-insert_at-in-Err-clause-existed : goal.returns-in_ok-insert_at-in-Err-clause-existed
 returns-in_ok-insert_at-in-Err-clause-existed c =
     let es = c.self.inside.children.items in
-    let e : levels_from c.args.at c.args.found.topic ≡ c.in-Some.level.now ∷ levels_from c.in-Some.next c.args.found.topic = rw c.topic.ensures at c.in-Some.ensures.more in
+    let e : levels_from c.args.at c.args.found.topic ≡ c.in-Some.level.now ∷ levels_from c.in-Some.next c.args.found.topic = rw (c.as_bytes.ensures.bytes, c.topic.ensures) at c.in-Some.ensures.more in
     let here : IsGap c.in-Some.level.now es c.in-Err.i = rw c.as_slice.ensures.value at c.in-Err.ensures.found in
     rw (e, ← c.self.view_is) (sym (there_gap c.self.inside.retained es c.self.invariant c.in-Some.level.now (levels_from c.in-Some.next c.args.found.topic) c.in-Err.i here))

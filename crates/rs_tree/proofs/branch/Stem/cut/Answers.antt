@@ -7,7 +7,7 @@ use Rattle.rs_tree.proofs.Stems.{full_below, joined}
 use Rattle.rs_tree.proofs.branch.Stem.cut.Goals as goal
 
 pub single-requires : goal.single-requires
-single-requires c = rw c.in_ok-again.ensures (full_below (levels_from 1 c.in_ok-from_slice.field-0.items) c.args.self.now.branch.spots c.requires.full)
+single-requires c = rw c.in_ok-copy.ensures (full_below (levels_from 1 c.in_ok-from_slice.field-0.items) c.args.self.now.branch.spots c.requires.full)
 
 pub returns-clause-same : goal.returns-clause-same
 returns-clause-same c =
@@ -17,5 +17,5 @@ returns-clause-same c =
     let more : levels_from c.args.at chain ≡ c.in-Some.level.now ∷ levels_from c.in-Some.next chain = rw c.as_slice.ensures.value at c.in-Some.ensures.more in
     let rest : c.in_ok-from_slice.field-0.items ≡ drop (c.in-Some.next - 1) chain = c.in_ok-from_slice.ensures.items ∙ (c.split_at.ensures.back ∙ ap (drop (c.in-Some.next - 1)) c.as_slice-2.ensures.value) in
     let whole : levels_from 1 chain ≡ upper ++ c.in-Some.level.now ∷ lower = cut_levels chain c.args.upper.items c.in_ok-from_slice.field-0.items c.in-Some.level.now c.args.at c.in-Some.next c.requires.upper more rest c.in-Some.ensures.further.0 in
-    let spots : c.in_ok-self.field-0.spots ≡ under c.in-Some.level.now (under_all lower c.args.self.now.branch.spots) = rw (c.in_ok-label.ensures, c.in_ok-again.ensures) at c.in_ok-self.ensures in
+    let spots : c.in_ok-self.field-0.spots ≡ under c.in-Some.level.now (under_all lower c.args.self.now.branch.spots) = rw (c.in_ok-label.ensures, c.in_ok-copy.ensures) at c.in_ok-self.ensures in
     rw (spots, whole) (sym (joined upper (c.in-Some.level.now ∷ lower) c.args.self.now.branch.spots))

@@ -10,5 +10,5 @@ returns c =
     let stem = c.args.self.now in
     let new = c.in_ok-joined.field-0.items in
     let chain : levels_from 1 new ≡ levels_from 1 c.args.chain.now ++ c.args.level.now ∷ levels_from 1 stem.chain.items = rw c.as_slice.ensures.value at c.in_ok-joined.ensures in
-    ap (λ (b : BranchValue). under_all (levels_from 1 new) b.spots) c.in_ok-again.ensures
+    ap (λ (b : BranchValue). under_all (levels_from 1 new) b.spots) c.in_ok-copy.ensures
     ∙ rw chain (joined (levels_from 1 c.args.chain.now) (c.args.level.now ∷ levels_from 1 stem.chain.items) stem.branch.spots)

@@ -14,14 +14,14 @@ pub returns-clause-done : goal.returns-clause-done
 returns-clause-done c =
     let ks = levels_from 1 c.cut.new.self.chain.items in
     let q = levels_from c.in_ok-shared.shared.from c.args.found.topic in
-    let path : levels_from c.args.at c.args.found.topic ≡ ks ++ q = rw (c.topic.ensures, ← c.in_ok-cut.ensures.done) at c.in_ok-shared.ensures.other in
+    let path : levels_from c.args.at c.args.found.topic ≡ ks ++ q = rw (c.as_bytes.ensures.bytes, c.topic.ensures, ← c.in_ok-cut.ensures.done) at c.in_ok-shared.ensures.other in
     on_ok_weaker c.hold.result (set_whole ks (levels_from c.args.at c.args.found.topic) q c.args.found c.cut.new.self.branch.spots c.hold.new.self.spots (stem_spots c.args.self.now) c.in_ok-cut.ensures.same path) c.hold.ensures.done
 
 pub returns-clause-existed : goal.returns-clause-existed
 returns-clause-existed c =
     let ks = levels_from 1 c.cut.new.self.chain.items in
     let q = levels_from c.in_ok-shared.shared.from c.args.found.topic in
-    let path : levels_from c.args.at c.args.found.topic ≡ ks ++ q = rw (c.topic.ensures, ← c.in_ok-cut.ensures.done) at c.in_ok-shared.ensures.other in
+    let path : levels_from c.args.at c.args.found.topic ≡ ks ++ q = rw (c.as_bytes.ensures.bytes, c.topic.ensures, ← c.in_ok-cut.ensures.done) at c.in_ok-shared.ensures.other in
     was_by c.hold.result _ _ c.hold.ensures.existed (was_whole ks (levels_from c.args.at c.args.found.topic) q c.cut.new.self.branch.spots (stem_spots c.args.self.now) c.in_ok-cut.ensures.same path)
 
 pub returns-clause-refused : goal.returns-clause-refused

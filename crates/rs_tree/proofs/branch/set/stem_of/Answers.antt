@@ -9,7 +9,7 @@ loop-leaf-init c =
 
 pub loop-leaf-preserved : goal.loop-leaf-preserved
 loop-leaf-preserved c = (
-  stem_step c.as_slice-leaves.result.now c.loop-leaf.leaf-index c.leaf-item.result (omega arith) c.leaf-item.is c.in_ok-chain.chain.items c.as_slice.result.now c.topic.result.now c.in-Some.next c.in_ok-again.field-0 c.loop-leaf.branch.spots c.hold.new.self.spots
-      c.as_slice.ensures.value c.topic.ensures c.in-Some.ensures.value c.in_ok-again.ensures c.in_ok-hold.ensures.done c.loop-leaf.invariant.1 c.loop-leaf.invariant.0,
+  stem_step c.as_slice-leaves.result.now c.loop-leaf.leaf-index c.leaf-item.result (omega arith) c.leaf-item.is c.in_ok-chain.chain.items c.as_slice.result.now c.as_bytes.result.now c.in-Some.next c.in_ok-copy.field-0 c.loop-leaf.branch.spots c.hold.new.self.spots
+      c.as_slice.ensures.value (c.as_bytes.ensures.bytes ∙ c.topic.ensures) c.in-Some.ensures.value c.in_ok-copy.ensures c.in_ok-hold.ensures.done c.loop-leaf.invariant.1 c.loop-leaf.invariant.0,
   c.loop-leaf.invariant.1,
 )
