@@ -3,7 +3,7 @@
 ghost use Rattle.std.specs.Prelude.{◌≡◌, ◌≢◌, ◌⊎◌, ◌++◌, [], false, IfErr, IfOk};
 ghost use Rattle.std.specs.List.{AllByRecursion};
 ghost use Rattle.rs_message.specs.Messages.{is_sweep};
-ghost use Rattle.rs_message.specs.declared.fault.SubmitFault.TheVariants.{Unknown};
+ghost use Rattle.rs_message.specs.declared.fault.SubmitFault.TheVariants.{Open};
 ghost use Rattle.rs_clients.specs.Clients.{LeavesRest, changes_of};
 
 use crate::outcome::{Outcome, matched};
@@ -107,7 +107,7 @@ pub(crate) fn hand_over<N: LineName, R: Wait>(
     requires expected { AllByRecursion (λ o. is_sweep o ≡ false) expected.items }
     requires one { (expected.items ≡ []) ⊎ (outcomes.items ≡ []) }
     ensures outcome { IfOk result.0 (λ a. a.operation ≡ operation) }
-    ensures fault { IfErr result.0 (λ f. f ≢ Unknown) }
+    ensures fault { IfErr result.0 (λ f. f ≢ Open) }
     ensures left { LeavesRest operation (changes_of outcomes.items ++ expected.items) (changes_of result.1.items) }
 {
     let mut all = handed(rt, alloc, line, expected, outcomes, &operation);

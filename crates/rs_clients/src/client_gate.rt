@@ -3,7 +3,7 @@
 ghost use Rattle.std.specs.Arc.{arc_value};
 ghost use Rattle.std.specs.Prelude.{◌≡◌, ◌≢◌, ◌<◌, ◌⊎◌, [], ⊤, length, slice_get, IfOk, MatchBool};
 ghost use mathlib.Core.List.{IsPrefix};
-ghost use Rattle.rs_message.specs.declared.fault.SubmitFault.TheVariants.{Unknown};
+ghost use Rattle.rs_message.specs.declared.fault.SubmitFault.TheVariants.{Open};
 ghost use Rattle.rs_clients.specs.Clients.{client_mark};
 ghost use Rattle.rs_session.specs.Gate.{Extends, Submits, Uses};
 ghost use Rattle.rs_store.specs.History.{IsLegal};
@@ -46,15 +46,15 @@ fn is_next(own_place: u8, own_serial: u64, place: u8, serial: u64) -> bool
     place == own_place && own_serial < serial
 }
 
-/// The fault of a change that counts for nothing. It is not `Unknown`, which says that a serial was used.
+/// The fault of a change that counts for nothing. It is not `Open`, which says that a serial was used.
 fn refusal<N: LineName>(told: Result<Told<N>, SubmitFault>) -> SubmitFault
-    ensures { result ≢ Unknown }
+    ensures { result ≢ Open }
 {
     match told {
         Err(SubmitFault::Full) => SubmitFault::Full,
         Err(SubmitFault::NoMemory) => SubmitFault::NoMemory,
         Err(SubmitFault::Closed) => SubmitFault::Closed,
-        Err(SubmitFault::Unknown) => SubmitFault::Strange,
+        Err(SubmitFault::Open) => SubmitFault::Strange,
         Err(SubmitFault::Strange) => SubmitFault::Strange,
         Ok(_) => SubmitFault::Strange,
     }

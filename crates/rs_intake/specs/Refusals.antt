@@ -12,7 +12,7 @@ use Rattle.rs_intake.specs.Lines.{IsOther, Line}
 abbrev pub fault_for : PutFault → SubmitFault
 fault_for put.Full = submit.Full
 fault_for put.NoMemory = submit.NoMemory
-fault_for put.Held = submit.Unknown
+fault_for put.Held = submit.Open
 fault_for put.Stale = submit.Strange
 
 -- the fault of the outcome of this entry: that of a refusal, or strange if it is a receipt for another entry
@@ -42,6 +42,6 @@ IsMistaken before after e fault = IsOther before.ahead e.operation × (after.ser
 abbrev pub IsRefused : Line → Line → Entry → SubmitFault → Type 0
 IsRefused before after e fault =
     ((after.sent ≡ before.sent) × (after.heard ≡ before.heard) × IsUnsent before.serial fault)
-    ⊎ (IsSent before after e × (after.heard ≡ before.heard) × (fault ≡ submit.Unknown))
+    ⊎ (IsSent before after e × (after.heard ≡ before.heard) × (fault ≡ submit.Open))
     ⊎ (IsSent before after e × (reply : ReplyValue) × (after.heard ≡ before.heard ++ reply ∷ []) × IsFaultOfReply e reply fault)
     ⊎ IsMistaken before after e fault

@@ -31,7 +31,7 @@ fn fault_of(fault: PutFault) -> SubmitFault
     match fault {
         PutFault::Full => SubmitFault::Full,
         PutFault::NoMemory => SubmitFault::NoMemory,
-        PutFault::Held => SubmitFault::Unknown,
+        PutFault::Held => SubmitFault::Open,
         PutFault::Stale => SubmitFault::Strange,
     }
 }
@@ -81,7 +81,7 @@ impl<N: LineName> Intake<N> {
     /// # Errors
     ///
     /// - [`Full`](SubmitFault::Full), [`NoMemory`](SubmitFault::NoMemory): no entry of the operation was made. A Sweep may have been.
-    /// - [`Unknown`](SubmitFault::Unknown): no receipt came. The operation may become an entry, at most once.
+    /// - [`Open`](SubmitFault::Open): no receipt came. The operation may become an entry, at most once.
     /// - [`Strange`](SubmitFault::Strange): what came back is not for this operation, or says that its serial is stale; or something else
     ///   was sent ahead.
     /// - [`Closed`](SubmitFault::Closed): the writer takes no more; the queue did not take the operation. No entry of it was made.
@@ -109,7 +109,7 @@ impl<N: LineName> Intake<N> {
         let entry = line.send(rt, operation)?;
         match line.receive(rt) {
             Ok(reply) => read_reply(reply, &entry),
-            Err(_) => Err(SubmitFault::Unknown),
+            Err(_) => Err(SubmitFault::Open),
         }
     }
 }

@@ -18,7 +18,7 @@ pub enum SubmitFault {
     NoMemory = 41,
     /// 42: no receipt came; the change may still become an entry, at most once.
     #[error("the store gave no receipt; the change may still be made, once")]
-    Unknown = 42,
+    Open = 42,
     /// 43: the receipt was for another change, and whether this one is an entry is not known; or another change was announced to come
     /// first, and nothing was done.
     #[error("the store answered for another change, or another was to come first; whether this one was made is not known")]

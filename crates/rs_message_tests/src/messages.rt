@@ -310,7 +310,7 @@ const FAULTS: &[(SubmitFault, u8, &str)] = &[
         "memory was refused, and nothing was stored; free memory and try again",
     ),
     (
-        SubmitFault::Unknown,
+        SubmitFault::Open,
         42,
         "the store gave no receipt; the change may still be made, once",
     ),

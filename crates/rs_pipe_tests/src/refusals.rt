@@ -27,7 +27,7 @@ const GOING_ON: [(&[u8], &[u8]); 3] = [
 
 // The code of the DISCONNECT, in which each of these ends the session.
 const ENDING: [(SubmitFault, u8); 3] = [
-    (SubmitFault::Unknown, 0x97),
+    (SubmitFault::Open, 0x97),
     (SubmitFault::Strange, 0x83),
     (SubmitFault::Closed, 0x83),
 ];

@@ -13,7 +13,7 @@ use Rattle.rs_store.specs.History.{IsLegal}
 use Rattle.rs_store.proofs.Entries.{Among, among, contains}
 use Rattle.rs_version.specs.Receipts.{StandsAt}
 use Rattle.rs_version.proofs.Origins.{origins_differ}
-use Rattle.rs_session.specs.Gate.{Mark, IsHandedOver, Sends, SendsAtMost, Submits, TakesPending, Uses, UsesIfUnknown, entry_by, last_origin}
+use Rattle.rs_session.specs.Gate.{Mark, IsHandedOver, Sends, SendsAtMost, Submits, TakesPending, Uses, UsesIfOpen, entry_by, last_origin}
 use Rattle.rs_queue.specs.Changes.{entry_at, numbered}
 use Rattle.rs_intake.specs.Lines.{AddsAtMost, IsAheadAfter, IsOther, Line, next_serial}
 use Rattle.rs_intake.specs.Refusals.{IsRefused, IsUnsent}
@@ -86,23 +86,23 @@ submits_ok limit operation old new seen list told e number legal at is one prefi
     record { handed_over = handed_over limit operation new seen list told e number legal at is one; submitted = record { entry = subst Q is there; serial = above; sent = sent }; used = tt }
 
 -- a submit to which no reply came, or that the writer holds, used a serial
-pub used_if_unknown : (before after : Line) (e : Entry) (fault : SubmitFault) → IsRefused before after e fault → UsesIfUnknown (mark_of before) (mark_of after) (Err fault)
-used_if_unknown before after e submit_fault.Full refused = tt
-used_if_unknown before after e submit_fault.NoMemory refused = tt
-used_if_unknown before after e submit_fault.Strange refused = tt
-used_if_unknown before after e submit_fault.Closed refused = tt
-used_if_unknown before after e submit_fault.Unknown (inl unsent) = absurd (not_unsent before.serial unsent.2)
+pub used_if_open : (before after : Line) (e : Entry) (fault : SubmitFault) → IsRefused before after e fault → UsesIfOpen (mark_of before) (mark_of after) (Err fault)
+used_if_open before after e submit_fault.Full refused = tt
+used_if_open before after e submit_fault.NoMemory refused = tt
+used_if_open before after e submit_fault.Strange refused = tt
+used_if_open before after e submit_fault.Closed refused = tt
+used_if_open before after e submit_fault.Open (inl unsent) = absurd (not_unsent before.serial unsent.2)
   where
-    not_unsent : (serial : ℕ) → IsUnsent serial submit_fault.Unknown → ⊥
+    not_unsent : (serial : ℕ) → IsUnsent serial submit_fault.Open → ⊥
     not_unsent serial (inl (full, last)) = absurd (cc (full))
     not_unsent serial (inr (inl none)) = absurd (cc (none))
     not_unsent serial (inr (inr closed)) = absurd (cc (closed))
-used_if_unknown before after e submit_fault.Unknown (inr (inl sent)) = let next = sent.0.0 in omega (arith, next)
-used_if_unknown before after e submit_fault.Unknown (inr (inr (inl sent))) = let next = sent.0.0 in omega (arith, next)
-used_if_unknown before after e submit_fault.Unknown (inr (inr (inr mistaken))) = let strange = mistaken.4 in absurd (cc (strange))
+used_if_open before after e submit_fault.Open (inr (inl sent)) = let next = sent.0.0 in omega (arith, next)
+used_if_open before after e submit_fault.Open (inr (inr (inl sent))) = let next = sent.0.0 in omega (arith, next)
+used_if_open before after e submit_fault.Open (inr (inr (inr mistaken))) = let strange = mistaken.4 in absurd (cc (strange))
 
 -- what a refused submit leaves
-pub submits_err : (operation : Operation) (old new : Mark) (outcome : Result (Unit {0}) SubmitFault) (fault : SubmitFault) (seen : List Entry) → outcome ≡ Err fault → UsesIfUnknown old new (Err fault) → Submits operation old new outcome seen seen
+pub submits_err : (operation : Operation) (old new : Mark) (outcome : Result (Unit {0}) SubmitFault) (fault : SubmitFault) (seen : List Entry) → outcome ≡ Err fault → UsesIfOpen old new (Err fault) → Submits operation old new outcome seen seen
 submits_err operation old new outcome fault seen is used =
     subst (λ (a : Result (Unit {0}) SubmitFault). Submits operation old new a seen seen) (sym is)
     (record { handed_over = none_handed_over operation new seen seen refl; submitted = tt; used = used })

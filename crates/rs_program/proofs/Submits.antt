@@ -73,6 +73,6 @@ own_left old new operation submit.NoMemory seen limit (inr w) o =
     let P : ℕ → Type 0 = λ n. NotAdds n seen e refusal.NoMemory (Stands new) in
     not_added (IsOwn new) MAX_OWN_TOPICS old new operation seen
     (own_not_adds old new seen e (ap (λ (c : Content). c.limit) w.1 ∙ limit) o refl (subst P limit (not_adds old seen e refusal.NoMemory new o.stands (omega arith) (omega arith) (inr (w.0, inr w.1)))))
-own_left old new operation submit.Unknown seen limit none o = absurd none
+own_left old new operation submit.Open seen limit none o = absurd none
 own_left old new operation submit.Strange seen limit none o = absurd none
 own_left old new operation submit.Closed seen limit none o = absurd none

@@ -39,7 +39,7 @@ impl<N: LineName, H: Wait + Copy + Drop> Place for Pair<N, H> {
             // Nobody else submits meanwhile, so the entry is the last of the list that was told with it.
             Ok(()) => Done::Published(self.own.version()),
             Err(SubmitFault::NoMemory) => Done::Refused,
-            Err(SubmitFault::Unknown) => Done::Held,
+            Err(SubmitFault::Open) => Done::Held,
             Err(_) => Done::Other,
         }
     }

@@ -46,7 +46,7 @@ pub trait Place {
 #[derive(Clone, Copy)]
 pub struct Book {
     kept: u64,
-    has_held: bool,
+    is_open: bool,
     submit: u64,
     held: u64,
 }
@@ -54,8 +54,8 @@ pub struct Book {
 impl Book {
     /// What was held is published before another entry is.
     fn publish(&mut self) {
-        self.kept = self.kept.saturating_add(u64::from(self.has_held));
-        self.has_held = false;
+        self.kept = self.kept.saturating_add(u64::from(self.is_open));
+        self.is_open = false;
     }
 
     /// Takes note of a submit. Returns whether that may be: a receipt has the next number, behind that of an entry that is held.
@@ -68,7 +68,7 @@ impl Book {
             }
             Done::Held => {
                 self.publish();
-                self.has_held = true;
+                self.is_open = true;
                 self.held = self.held.saturating_add(1);
                 true
             }
@@ -137,13 +137,13 @@ pub fn submit_all<P: Place>(
 ) -> Result<Book, Failure> {
     let mut book = Book {
         kept: 0,
-        has_held: false,
+        is_open: false,
         submit: 0,
         held: 0,
     };
     for group in groups {
         submit_group(place, &mut book, group)?;
-        if ends_at_held && book.has_held {
+        if ends_at_held && book.is_open {
             break;
         }
     }
@@ -195,9 +195,9 @@ pub fn leave<N: LineName, R: Wait + Drop>(ends: Vec<LineEnd<N>>, ended: Ended<N,
 /// the last one, whose entry was held and was published when the writer ended. All that was sent was taken, and nothing twice.
 pub fn refused(book: Book, left: Left) -> Result<[u64; 3], Failure> {
     // What is still held then was refused twice, and is not published.
-    let is_last = book.has_held && !left.is_held;
+    let is_last = book.is_open && !left.is_held;
     let kept = book.kept.saturating_add(u64::from(is_last));
-    check(left.is_settled && left.version == kept && (book.has_held || !left.is_held))?;
+    check(left.is_settled && left.version == kept && (book.is_open || !left.is_held))?;
     Ok([book.submit, book.held, u64::from(is_last)])
 }
 

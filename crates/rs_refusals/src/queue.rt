@@ -41,7 +41,7 @@ impl<N: LineName, H: Wait + Copy + Drop> Place for Open<N, H> {
                 Done::Published(receipt.number())
             }
             Err(SubmitFault::NoMemory) => Done::Refused,
-            Err(SubmitFault::Unknown) => Done::Held,
+            Err(SubmitFault::Open) => Done::Held,
             Err(_) => Done::Other,
         }
     }

@@ -1,4 +1,4 @@
-//! What a window gives after memory was refused to `append`.
+//! What a window gives after memory was refused to `queue`.
 
 use rs_calls_kit::{Failure, check, messages};
 use rs_packet::Qos;
@@ -6,7 +6,7 @@ use rs_topic::TopicName;
 use rs_window::{Window, WindowFault};
 use std::alloc::Global;
 
-/// How many messages are appended behind one that waits, each time: so many that the list has to grow.
+/// How many messages are queued behind one that waits, each time: so many that the queue has to grow.
 const LENGTHS: [u32; 3] = [9, 40, 200];
 
 /// The next message that the window gives is of this topic, or there is none.
@@ -18,7 +18,7 @@ fn gives(window: &mut Window, topic: Option<&TopicName>) -> bool {
     }
 }
 
-/// Appends so many messages of this topic, and returns whether memory was refused for them.
+/// Queues so many messages of this topic, and returns whether memory was refused for them.
 fn is_refused(
     alloc: Global,
     window: &mut Window,
@@ -26,16 +26,16 @@ fn is_refused(
     count: u32,
 ) -> Result<bool, Failure> {
     let messages = messages(alloc, topic, count, [Qos::AtMostOnce; 2])?;
-    match window.append(messages, Qos::AtMostOnce, None) {
+    match window.queue(messages, Qos::AtMostOnce, None) {
         Ok(()) => Ok(false),
         Err(WindowFault::NoMemory) => Ok(true),
         Err(_) => Err(Failure::Wrong),
     }
 }
 
-/// In a window in which nothing waits, appends so many messages behind one, and returns whether memory was refused for them. Then the
+/// In a window in which nothing waits, queues so many messages behind one, and returns whether memory was refused for them. Then the
 /// one is given and nothing else, and the same messages must be taken.
-fn append_later(
+fn queue_later(
     alloc: Global,
     window: &mut Window,
     waiting: &TopicName,
@@ -58,14 +58,14 @@ fn append_later(
     Ok(refused)
 }
 
-/// Appends messages behind one that waits, more each time. Returns how often memory was refused for them.
+/// Queues messages behind one that waits, more each time. Returns how often memory was refused for them.
 pub fn work(alloc: Global) -> Result<Vec<u64>, Failure> {
     let mut refused = vec![in alloc; 0u64]?;
     let waiting = TopicName::read(alloc, b"a")?;
     let later = TopicName::read(alloc, b"b")?;
     let mut window = Window::new(alloc, 1, u32::MAX)?;
     for count in LENGTHS {
-        if append_later(alloc, &mut window, &waiting, &later, count)? {
+        if queue_later(alloc, &mut window, &waiting, &later, count)? {
             refused[0] = refused[0].saturating_add(1);
         }
     }

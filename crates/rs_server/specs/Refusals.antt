@@ -1,7 +1,7 @@
 -- What a gate refused, by cause.
 use Rattle.std.specs.Prelude.{Option, None, Some, Result, Ok, Err}
 use Rattle.rs_message.specs.declared.fault.SubmitFault.{SubmitFault}
-use Rattle.rs_message.specs.declared.fault.SubmitFault.TheVariants.{Full, NoMemory, Unknown, Strange, Closed}
+use Rattle.rs_message.specs.declared.fault.SubmitFault.TheVariants.{Full, NoMemory, Open, Strange, Closed}
 use Rattle.rs_server.specs.Counts.{next_count}
 use Rattle.rs_server.specs.declared.counted_gate.CountedGate.{CountedGate}
 use Rattle.rs_server.specs.declared.counted_gate.Refusals.{Refusals}
@@ -21,7 +21,7 @@ abbrev pub with_change : {A : Type 0} → Result A SubmitFault → Refusals → 
 with_change (Ok _) r = r
 with_change (Err Full) r = record r { full = next_count r.full }
 with_change (Err NoMemory) r = record r { no_memory = next_count r.no_memory }
-with_change (Err Unknown) r = record r { unknown = next_count r.unknown }
+with_change (Err Open) r = record r { unknown = next_count r.unknown }
 with_change (Err Strange) r = record r { unknown = next_count r.unknown }
 with_change (Err Closed) r = record r { unknown = next_count r.unknown }
 

@@ -29,7 +29,7 @@ pub struct Refusals {
     pub full: u64,
     /// Changes for which memory was refused ([`SubmitFault::NoMemory`]).
     pub no_memory: u64,
-    /// Changes of which it is not known whether they were made ([`SubmitFault::Unknown`], [`SubmitFault::Strange`]), and those that came
+    /// Changes of which it is not known whether they were made ([`SubmitFault::Open`], [`SubmitFault::Strange`]), and those that came
     /// when the store took no more ([`SubmitFault::Closed`]).
     pub unknown: u64,
     /// Filters for whose answer memory was refused.
@@ -60,7 +60,7 @@ impl Refusals {
             Ok(()) => {}
             Err(SubmitFault::Full) => self.full = self.full.saturating_add(1),
             Err(SubmitFault::NoMemory) => self.no_memory = self.no_memory.saturating_add(1),
-            Err(SubmitFault::Unknown | SubmitFault::Strange | SubmitFault::Closed) => {
+            Err(SubmitFault::Open | SubmitFault::Strange | SubmitFault::Closed) => {
                 self.unknown = self.unknown.saturating_add(1);
             }
         }

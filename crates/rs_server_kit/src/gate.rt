@@ -12,7 +12,7 @@ use std::alloc::AllocError;
 pub struct Refusing {
     /// What each change is answered.
     pub fault: SubmitFault,
-    /// The last serial that it used. Only a change that is answered `Unknown` uses one. If none is left, the answer is `Full`.
+    /// The last serial that it used. Only a change that is answered `Open` uses one. If none is left, the answer is `Full`.
     pub serial: u64,
 }
 
@@ -32,7 +32,7 @@ impl Gate for Refusing {
     }
 
     fn submit(&mut self, _operation: Operation) -> Result<(), SubmitFault> {
-        if self.fault == SubmitFault::Unknown {
+        if self.fault == SubmitFault::Open {
             let Some(serial) = self.serial.checked_add(1) else {
                 return Err(SubmitFault::Full);
             };

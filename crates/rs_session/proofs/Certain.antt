@@ -22,7 +22,7 @@ use Rattle.rs_session.specs.declared.phase.Phase.TheVariants as phase
 use Rattle.rs_session.specs.declared.reason.ReasonCode.{ReasonCode}
 use Rattle.rs_session.specs.declared.reason.ReasonCode.TheVariants.{Success, NoSubscriptionExisted, MalformedPacket, ProtocolError, ImplementationSpecificError, UnsupportedProtocolVersion, BadAuthenticationMethod, TopicFilterInvalid, TopicNameInvalid, PacketIdentifierNotFound, ReceiveMaximumExceeded, TopicAliasInvalid, PacketTooLarge, QuotaExceeded, SharedSubscriptionsNotSupported}
 use Rattle.rs_session.specs.declared.session.Session.{Session}
-use Rattle.rs_session.specs.Gate.{Mark, UsesIfUnknown}
+use Rattle.rs_session.specs.Gate.{Mark, UsesIfOpen}
 use Rattle.rs_session.specs.Reasons.{reason_value}
 use Rattle.rs_session.specs.State.{State, gate_of, state_of}
 use Rattle.rs_session.specs.Steps.{NoSerialUsed, outcome_before, outcome_of_alias, outcome_of_id, outcome_of_submit, outcome_of_topic, outcome_unmade, topic_refusal}
@@ -64,15 +64,15 @@ before_use_certain p o outcome before e =
 
 -- ---- a submit
 
-by_answer_certain : (answer : Result (Unit {0}) SubmitFault) (qos : Qos) (id : Option ℕ) (old new : Mark) → UsesIfUnknown old new answer → new.serial ≡ old.serial → outcome_of_submit answer qos id ≢ Closes QuotaExceeded
+by_answer_certain : (answer : Result (Unit {0}) SubmitFault) (qos : Qos) (id : Option ℕ) (old new : Mark) → UsesIfOpen old new answer → new.serial ≡ old.serial → outcome_of_submit answer qos id ≢ Closes QuotaExceeded
 by_answer_certain (Ok done) qos id old new used same e = replies _ e
 by_answer_certain (Err submit_fault.Full) qos id old new used same e = replies _ e
 by_answer_certain (Err submit_fault.NoMemory) qos id old new used same e = replies _ e
-by_answer_certain (Err submit_fault.Unknown) qos id old new used same e = absurd (omega (arith, used, same))
+by_answer_certain (Err submit_fault.Open) qos id old new used same e = absurd (omega (arith, used, same))
 by_answer_certain (Err submit_fault.Strange) qos id old new used same e = absurd (cc (e))
 by_answer_certain (Err submit_fault.Closed) qos id old new used same e = absurd (cc (e))
 
-pub by_submit_certain : (answer : Result (Unit {0}) SubmitFault) (qos : Qos) (id : Option ℕ) (old new : Mark) (outcome : Outcome) → outcome ≡ outcome_of_submit answer qos id → UsesIfUnknown old new answer → new.serial ≡ old.serial
+pub by_submit_certain : (answer : Result (Unit {0}) SubmitFault) (qos : Qos) (id : Option ℕ) (old new : Mark) (outcome : Outcome) → outcome ≡ outcome_of_submit answer qos id → UsesIfOpen old new answer → new.serial ≡ old.serial
     → outcome ≢ Closes QuotaExceeded
 by_submit_certain answer qos id old new outcome is used same e = by_answer_certain answer qos id old new used same (sym is ∙ e)
 

@@ -26,7 +26,7 @@ use Rattle.rs_session.specs.declared.subscriptions.Subscription.{Subscription}
 use Rattle.rs_session.specs.Subscriptions.{Subscriptions, is_subscribed, replays}
 use Rattle.rs_session.specs.declared.subscriptions.TheConstants.{MAX_SUBSCRIPTIONS}
 use Rattle.rs_session.specs.State.{State, fresh, IsGiven, IsReplayed}
-use Rattle.rs_session.specs.Table.{subscription_for, unreleased_id, unreleased_with, is_one_too_many, awaiting_release, open_for, IsTaken, IsSubscribed, IsAppended, IsGrantedTo, Grants, without, without_all, OpenCase, OpenRow, Case, SessionRow, state_after, With_method, With_will, Connect_refused, Accepted, Connack_too_long, Other_version, Unexpected, In_session, Over, Faulty, With_alias, Bad_topic, Sent_again, Too_many_unreleased, Not_retained, Stored, Topic_unread, Not_stored, Uncertain, Gate_closed, Released, Wrong_acknowledgement, Acknowledged, Shared_no_local, Not_subscribed, Subscribed, Not_unsubscribed, Unsubscribed, Connected_twice, Pinged, Disconnected}
+use Rattle.rs_session.specs.Table.{subscription_for, unreleased_id, unreleased_with, is_one_too_many, awaiting_release, open_for, IsTaken, IsSubscribed, IsQueued, IsGrantedTo, Grants, without, without_all, OpenCase, OpenRow, Case, SessionRow, state_after, With_method, With_will, Connect_refused, Accepted, Connack_too_long, Other_version, Unexpected, In_session, Over, Faulty, With_alias, Bad_topic, Sent_again, Too_many_unreleased, Not_retained, Stored, Topic_unread, Not_stored, Uncertain, Gate_closed, Released, Wrong_acknowledgement, Acknowledged, Shared_no_local, Not_subscribed, Subscribed, Not_unsubscribed, Unsubscribed, Connected_twice, Pinged, Disconnected}
 use Rattle.rs_session.specs.Points.{Given, Point, with_state}
 use Rattle.rs_session.specs.Run.{Exchange, Gives, IsExchange, Run, IsWithinLimits}
 use Rattle.rs_session.proofs.SubscriptionLemmas.{len_inserted, len_removed}
@@ -73,14 +73,14 @@ subscriptions_within : (o : Open) (left : Subscriptions) → finite.len left ≤
 subscriptions_within o left few h = record { subscriptions = few; unreleased = h.unreleased; waiting = h.waiting; unacknowledged = h.unacknowledged; quota = h.quota }
 
 -- what waits is as before, or more waits
-appended_within : (replayed : Bool) (now : ℕ) (filter : List ℕ) (subscription : Subscription) (list : List Entry) (old new : Open)
-    → MatchBool replayed (IsAppended now filter subscription list old new) (new.window ≡ old.window) → IsWithinLimits old → IsWithinLimits (record old { window = new.window })
-appended_within true now filter subscription list old new (found, answer, appended) h = called_within old (window.Append found subscription.options.qos subscription.identifier (Ok tt)) new.window appended h
-appended_within false now filter subscription list old new same h = subst (λ (w : window_state.State). IsWithinLimits (record old { window = w })) (sym same) h
+queued_within : (replayed : Bool) (now : ℕ) (filter : List ℕ) (subscription : Subscription) (list : List Entry) (old new : Open)
+    → MatchBool replayed (IsQueued now filter subscription list old new) (new.window ≡ old.window) → IsWithinLimits old → IsWithinLimits (record old { window = new.window })
+queued_within true now filter subscription list old new (found, answer, queued) h = called_within old (window.Queue found subscription.options.qos subscription.identifier (Ok tt)) new.window queued h
+queued_within false now filter subscription list old new same h = subst (λ (w : window_state.State). IsWithinLimits (record old { window = w })) (sym same) h
 
 subscribed_within : (now : ℕ) (filter : List ℕ) (subscription : Subscription) (list : List Entry) (old new : Open) → IsSubscribed now filter subscription list old new → IsWithinLimits old → IsWithinLimits new
 subscribed_within now filter subscription list old new s h =
-    let w = appended_within (replays subscription.options.retain_handling (is_subscribed filter old.subscriptions)) now filter subscription list old new s.replay h in
+    let w = queued_within (replays subscription.options.retain_handling (is_subscribed filter old.subscriptions)) now filter subscription list old new s.replay h in
     let few = len_inserted old.subscriptions filter subscription s.fits h.subscriptions in
     record {
       subscriptions = subst (λ (m : Subscriptions). finite.len m ≤ MAX_SUBSCRIPTIONS) (sym s.kept) few;

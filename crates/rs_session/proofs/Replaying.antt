@@ -17,7 +17,7 @@ use Rattle.rs_packet.specs.Grammar.{level}
 use Rattle.rs_packet.specs.Replies.{reply_bytes}
 use Rattle.rs_message.specs.declared.entry.Entry.{Entry}
 use Rattle.rs_window.specs.Calls as window
-use Rattle.rs_window.specs.Calls.{Call, Append, Next, Acknowledge}
+use Rattle.rs_window.specs.Calls.{Call, Queue, Next, Acknowledge}
 use Rattle.rs_window.specs.Packets.{reply_of, publish_reply_of}
 use Rattle.rs_window.specs.Replay as calls
 use Rattle.rs_window.specs.State as window_state
@@ -53,7 +53,7 @@ use Rattle.rs_session.specs.Table.{subscription_for, acknowledged_by, acknowledg
 use Rattle.rs_session.specs.Table as table
 use Rattle.rs_session.specs.Points.{Given, Point, with_state}
 use Rattle.rs_session.specs.Run.{Exchange, Gives, GivesAll, IsExchange, Run}
-use Rattle.rs_session.specs.Replay.{is_granted, subscribed_by, IsAppendedAt, IsAppendedFor, AreAppended, IsAcknowledged, AreCalledBy, acknowledgement_in, IsRefused, giving, listed, publish_replies, IsNoPublish, IsServed, IsLast, AreMade, subscriptions_of, AreCalls, window_of, window_after, window_for, IsOpen, Opens, IsReplaying, AreSentOrDropped, AreSent, IsWithinQuota, IsSentInOrder}
+use Rattle.rs_session.specs.Replay.{is_granted, subscribed_by, IsQueuedAt, IsQueuedFor, AreQueued, IsAcknowledged, AreCalledBy, acknowledgement_in, IsRefused, giving, listed, publish_replies, IsNoPublish, IsServed, IsLast, AreMade, subscriptions_of, AreCalls, window_of, window_after, window_for, IsOpen, Opens, IsReplaying, AreSentOrDropped, AreSent, IsWithinQuota, IsSentInOrder}
 
 -- ---- a SUBSCRIBE
 
@@ -67,24 +67,24 @@ run_append from mid [] after to e h = subst (λ (s : window_state.State). calls.
 run_append from mid (call ∷ before) after to (next, step, rest) h = (next, step, run_append next mid before after to rest h)
 
 -- what waits is as before, or all that is found waits behind it
-appended_calls : (replayed : Bool) (filter : List ℕ) (subscription : Subscription) (now : ℕ) (list : List Entry) (code : ℕ) (old new : Open) → code ≡ level subscription.options.qos
-    → MatchBool replayed (table.IsAppended now filter subscription list old new) (new.window ≡ old.window)
-    → (own : List Call) × calls.Run old.window own new.window × MatchBool replayed (IsAppendedAt filter subscription now list code own) (own ≡ [])
-appended_calls true filter subscription now list code old new c (found, answer, appended) =
-    (Append found subscription.options.qos subscription.identifier (Ok tt) ∷ [], (new.window, appended, refl), (found, answer, c, refl))
-appended_calls false filter subscription now list code old new c same = ([], same, refl)
+queued_calls : (replayed : Bool) (filter : List ℕ) (subscription : Subscription) (now : ℕ) (list : List Entry) (code : ℕ) (old new : Open) → code ≡ level subscription.options.qos
+    → MatchBool replayed (table.IsQueued now filter subscription list old new) (new.window ≡ old.window)
+    → (own : List Call) × calls.Run old.window own new.window × MatchBool replayed (IsQueuedAt filter subscription now list code own) (own ≡ [])
+queued_calls true filter subscription now list code old new c (found, answer, queued) =
+    (Queue found subscription.options.qos subscription.identifier (Ok tt) ∷ [], (new.window, queued, refl), (found, answer, c, refl))
+queued_calls false filter subscription now list code old new c same = ([], same, refl)
 
 granted_calls : (asked : Filter) (subscription : Subscription) (now : ℕ) (list : List Entry) (old : Open) (code : ℕ) (new : Open) → IsGrantedTo asked subscription now list old code new
-    → (own : List Call) × calls.Run old.window own new.window × IsAppendedFor asked subscription now list code old.subscriptions own
+    → (own : List Call) × calls.Run old.window own new.window × IsQueuedFor asked subscription now list code old.subscriptions own
     × (new.subscriptions ≡ subscribed_by asked subscription code old.subscriptions)
 granted_calls (Err fault) subscription now list old code new (c, same) = ([], ap (λ (o : Open). o.window) same, refl, ap (λ (o : Open). o.subscriptions) same)
 granted_calls (Ok filter) subscription now list old code new (inl (c, s)) =
     let r : Bool = replays subscription.options.retain_handling (is_subscribed filter old.subscriptions) in
     let e : is_granted code ≡ true = ap is_granted c ∙ level_granted subscription.options.qos in
-    let (own, run, appended) = appended_calls r filter subscription now list code old new c s.replay in (
+    let (own, run, queued) = queued_calls r filter subscription now list code old new c s.replay in (
       own,
       run,
-      subst (λ (b : Bool). MatchBool (b && r) (IsAppendedAt filter subscription now list code own) (own ≡ [])) (sym e) appended,
+      subst (λ (b : Bool). MatchBool (b && r) (IsQueuedAt filter subscription now list code own) (own ≡ [])) (sym e) queued,
       s.kept ∙ sym (ap (λ (b : Bool). cond b (finite.insert old.subscriptions filter subscription) old.subscriptions) e),
     )
 granted_calls (Ok filter) subscription now list old code new (inr (c, same)) =
@@ -93,20 +93,20 @@ granted_calls (Ok filter) subscription now list old code new (inr (c, same)) =
     let nothing : List Call = [] in (
       [],
       ap (λ (o : Open). o.window) same,
-      subst (λ (b : Bool). MatchBool (b && r) (IsAppendedAt filter subscription now list code []) (nothing ≡ [])) (sym e) refl,
+      subst (λ (b : Bool). MatchBool (b && r) (IsQueuedAt filter subscription now list code []) (nothing ≡ [])) (sym e) refl,
       ap (λ (o : Open). o.subscriptions) same
           ∙ sym (ap (λ (b : Bool). cond b (finite.insert old.subscriptions filter subscription) old.subscriptions) e),
     )
 
 grants_calls : (now : ℕ) (filters : List Asked) (identifier : Option ℕ) (from : Point Open) (codes : List ℕ) (answered : List (List Entry)) (to : Point Open)
-    → Grants now filters identifier from codes answered to → (own : List Call) × calls.Run from.state.window own to.state.window × AreAppended now filters identifier codes answered from.state.subscriptions own
+    → Grants now filters identifier from codes answered to → (own : List Call) × calls.Run from.state.window own to.state.window × AreQueued now filters identifier codes answered from.state.subscriptions own
 grants_calls now [] identifier from codes answered to (c, a, seen, same) = ([], ap (λ (o : Open). o.window) same, (c, a, refl))
 grants_calls now (asked ∷ more) identifier from codes answered to (code, rest, later, between, c, a, begins, granted, grants) =
-    let (own, run, appended, kept) = granted_calls asked.0 (subscription_for asked identifier) now between.seen from.state code between.state granted in
+    let (own, run, queued, kept) = granted_calls asked.0 (subscription_for asked identifier) now between.seen from.state code between.state granted in
     let (others, runs, are) = grants_calls now more identifier between rest later to grants in (
       own ++ others,
       run_append from.state.window between.state.window own others to.state.window run runs,
-      (code, rest, between.seen, later, own, others, c, a, refl, appended, subst (λ (there : Subscriptions). AreAppended now more identifier rest later there others) kept are),
+      (code, rest, between.seen, later, own, others, c, a, refl, queued, subst (λ (there : Subscriptions). AreQueued now more identifier rest later there others) kept are),
     )
 
 -- ---- the rows of an open session
@@ -231,8 +231,8 @@ row_calls Acknowledged given from answered outcome to (p, ack, id, answer, i, is
 row_calls Shared_no_local given from answered outcome to (s, i, n, out, unchanged) = closes given.input _ given.now answered from.state outcome _ to.state i out refl
 row_calls Not_subscribed given from answered outcome to (s, i, n, out, unchanged) = closes given.input _ given.now answered from.state outcome _ to.state i out refl
 row_calls Subscribed given from answered outcome to (s, codes, i, n, grants, out, u) =
-    let (own, run, appended) = grants_calls given.now s.filters s.subscription from codes answered to grants in
-    let led : IsLed (Whole (packet.Subscribe s)) given.now answered from.state (Replies (Some (reply.Suback (record { id = s.id; codes = codes })))) to.state = (own, run, (codes, refl, appended), tt) in
+    let (own, run, queued) = grants_calls given.now s.filters s.subscription from codes answered to grants in
+    let led : IsLed (Whole (packet.Subscribe s)) given.now answered from.state (Replies (Some (reply.Suback (record { id = s.id; codes = codes })))) to.state = (own, run, (codes, refl, queued), tt) in
     subst (λ (read : Input). IsLed read given.now answered from.state outcome to.state) (sym i) (subst (λ (o : Outcome). IsLed (Whole (packet.Subscribe s)) given.now answered from.state o to.state) (sym out) led)
 row_calls Not_unsubscribed given from answered outcome to (u, i, out, unchanged) = closes given.input _ given.now answered from.state outcome _ to.state i out refl
 row_calls Unsubscribed given from answered outcome to (u, i, out, m, same) =
@@ -444,35 +444,35 @@ run_replays assigned from to (exchange ∷ exchanges) c begun (t, rest) (is, h) 
 -- none of them is a `next`
 abbrev GivesNone : List Call → Type 0
 GivesNone [] = Unit {0}
-GivesNone (Append found granted subscription answer ∷ made) = GivesNone made
+GivesNone (Queue found granted subscription answer ∷ made) = GivesNone made
 GivesNone (Next now given ∷ made) = ⊥
 GivesNone (Acknowledge ack id answer ∷ made) = GivesNone made
 
 gives_none_append : (before after : List Call) → GivesNone before → GivesNone after → GivesNone (before ++ after)
 gives_none_append [] after h g = g
-gives_none_append (Append found granted subscription answer ∷ before) after h g = gives_none_append before after h g
+gives_none_append (Queue found granted subscription answer ∷ before) after h g = gives_none_append before after h g
 gives_none_append (Next now given ∷ before) after h g = absurd h
 gives_none_append (Acknowledge ack id answer ∷ before) after h g = gives_none_append before after h g
 
 same_gives_none : (a b : List Call) → a ≡ b → GivesNone b → GivesNone a
 same_gives_none a b e h = subst GivesNone (sym e) h
 
-appended_gives_none : (replayed : Bool) (filter : List ℕ) (subscription : Subscription) (now : ℕ) (list : List Entry) (code : ℕ) (own : List Call)
-    → MatchBool replayed (IsAppendedAt filter subscription now list code own) (own ≡ []) → GivesNone own
-appended_gives_none true filter subscription now list code own (found, answer, c, e) = same_gives_none own (Append found subscription.options.qos subscription.identifier (Ok tt) ∷ []) e tt
-appended_gives_none false filter subscription now list code own e = same_gives_none own [] e tt
+queued_gives_none : (replayed : Bool) (filter : List ℕ) (subscription : Subscription) (now : ℕ) (list : List Entry) (code : ℕ) (own : List Call)
+    → MatchBool replayed (IsQueuedAt filter subscription now list code own) (own ≡ []) → GivesNone own
+queued_gives_none true filter subscription now list code own (found, answer, c, e) = same_gives_none own (Queue found subscription.options.qos subscription.identifier (Ok tt) ∷ []) e tt
+queued_gives_none false filter subscription now list code own e = same_gives_none own [] e tt
 
 filter_gives_none : (asked : Filter) (subscription : Subscription) (now : ℕ) (list : List Entry) (code : ℕ) (there : Subscriptions) (own : List Call)
-    → IsAppendedFor asked subscription now list code there own → GivesNone own
+    → IsQueuedFor asked subscription now list code there own → GivesNone own
 filter_gives_none (Err fault) subscription now list code there own e = same_gives_none own [] e tt
 filter_gives_none (Ok filter) subscription now list code there own h =
-    appended_gives_none (is_granted code && replays subscription.options.retain_handling (is_subscribed filter there)) filter subscription now list code own h
+    queued_gives_none (is_granted code && replays subscription.options.retain_handling (is_subscribed filter there)) filter subscription now list code own h
 
-filters_give_none : (now : ℕ) (filters : List Asked) (identifier : Option ℕ) (codes : List ℕ) (answered : List (List Entry)) (there : Subscriptions) (own : List Call) → AreAppended now filters identifier codes answered there own
+filters_give_none : (now : ℕ) (filters : List Asked) (identifier : Option ℕ) (codes : List ℕ) (answered : List (List Entry)) (there : Subscriptions) (own : List Call) → AreQueued now filters identifier codes answered there own
     → GivesNone own
 filters_give_none now [] identifier codes answered there own (c, a, e) = same_gives_none own [] e tt
-filters_give_none now (asked ∷ more) identifier codes answered there own (code, rest, list, later, first, others, c, a, e, appended, are) =
-    same_gives_none own (first ++ others) e (gives_none_append first others (filter_gives_none asked.0 (subscription_for asked identifier) now list code there first appended)
+filters_give_none now (asked ∷ more) identifier codes answered there own (code, rest, list, later, first, others, c, a, e, queued, are) =
+    same_gives_none own (first ++ others) e (gives_none_append first others (filter_gives_none asked.0 (subscription_for asked identifier) now list code there first queued)
     (filters_give_none now more identifier rest later (subscribed_by asked.0 (subscription_for asked identifier) code there) others are))
 
 acknowledged_gives_none : (a : Option (window.Acknowledgement × ℕ)) (own : List Call) → IsAcknowledged a own → GivesNone own
@@ -484,14 +484,14 @@ refused_gives_none None own e = same_gives_none own [] e tt
 refused_gives_none (Some (ack, id)) own e = same_gives_none own (Acknowledge ack id (Err WrongKind) ∷ []) e tt
 
 called_gives_none : (input : Input) (now : ℕ) (answered : List (List Entry)) (there : Subscriptions) (answer : Option Reply) (own : List Call) → AreCalledBy input now answered there answer own → GivesNone own
-called_gives_none (Whole (packet.Subscribe s)) now answered there answer own (codes, e, appended) = filters_give_none now s.filters s.subscription codes answered there own appended
+called_gives_none (Whole (packet.Subscribe s)) now answered there answer own (codes, e, queued) = filters_give_none now s.filters s.subscription codes answered there own queued
 called_gives_none (Whole p) now answered there answer own h = acknowledged_gives_none (acknowledgement_of p) own h
 called_gives_none (Broken fault) now answered there answer own e = same_gives_none own [] e tt
 
--- what leaves in calls that give nothing and others, leaves in the others
+-- what leaves the queue in calls that give nothing and others, leaves it in the others
 front_after : (packet_maximum : ℕ) (own rest : List Call) (front : List Waiting) → GivesNone own → calls.HasLeft packet_maximum (own ++ rest) front → calls.HasLeft packet_maximum rest front
 front_after packet_maximum [] rest front h is = is
-front_after packet_maximum (Append found granted subscription answer ∷ own) rest front h (gone, more, e, none_gone, is) =
+front_after packet_maximum (Queue found granted subscription answer ∷ own) rest front h (gone, more, e, none_gone, is) =
     front_after packet_maximum own rest front h (subst (λ (ws : List Waiting). calls.HasLeft packet_maximum (own ++ rest) ws) (sym (e ∙ ap (λ (ws : List Waiting). ws ++ more) none_gone)) is)
 front_after packet_maximum (Next now given ∷ own) rest front h is = absurd h
 front_after packet_maximum (Acknowledge ack id answer ∷ own) rest front h (gone, more, e, none_gone, is) =
@@ -502,7 +502,7 @@ dropped_first : (packet_maximum now : ℕ) (dropped ws : List Waiting) (sent : L
 dropped_first packet_maximum now [] ws sent all h = h
 dropped_first packet_maximum now (w ∷ dropped) ws sent (first, all) h = inl (first, dropped_first packet_maximum now dropped ws sent all h)
 
--- what leaves while the window gives these
+-- what leaves the queue while the window gives these
 front_given : (packet_maximum now : ℕ) (given : List OutgoingValue) (rest : List Call) (front : List Waiting) → calls.HasLeft packet_maximum (giving now given ++ rest) front
     → (gone : List Waiting) × (more : List Waiting) × (front ≡ gone ++ more) × AreSentOrDropped packet_maximum now gone (map publish_reply_of given) × calls.HasLeft packet_maximum rest more
 front_given packet_maximum now [] rest front (gone, more, e, all, is) =

@@ -5,7 +5,7 @@ use Rattle.rs_message.specs.Values.{OriginValue}
 use Rattle.rs_message.specs.declared.entry.Entry.{Entry}
 use Rattle.rs_message.specs.declared.entry.Operation.{Operation}
 use Rattle.rs_message.specs.declared.fault.SubmitFault.{SubmitFault}
-use Rattle.rs_message.specs.declared.fault.SubmitFault.TheVariants.{Strange, Unknown}
+use Rattle.rs_message.specs.declared.fault.SubmitFault.TheVariants.{Open, Strange}
 
 -- a place, the last serial that it used, whether no other gate uses serials of the place, and the entries that it sent to the store, in
 -- their order, if they are given
@@ -64,17 +64,17 @@ pub record IsSubmitted (operation : Operation) (old new : Mark) (list : List Ent
 abbrev pub IsHandedOver : Operation → Mark → List Entry → List Entry → Type 0
 IsHandedOver operation new seen list = (more : List Entry) → list ≡ seen ++ more → All (λ e. e.origin ≡ last_origin new → e.operation ≡ operation) more
 
--- if it is not known what became of the change, a serial was used
-abbrev pub UsesIfUnknown : Mark → Mark → Result (Unit {0}) SubmitFault → Type 0
-UsesIfUnknown old new (Err Unknown) = old.serial < new.serial
-UsesIfUnknown old new answer = Unit {0}
+-- if it is open what became of the change, a serial was used
+abbrev pub UsesIfOpen : Mark → Mark → Result (Unit {0}) SubmitFault → Type 0
+UsesIfOpen old new (Err Open) = old.serial < new.serial
+UsesIfOpen old new answer = Unit {0}
 
 -- what a submit leaves, from a list before to one after: whatever it answers, no other operation is handed over; at `Ok` this one
--- is an entry; and at `Unknown` a serial was used
+-- is an entry; and at `Open` a serial was used
 pub record Submits (operation : Operation) (old new : Mark) (answer : Result (Unit {0}) SubmitFault) (seen list : List Entry) : Type 0 where
   pub handed_over : IsHandedOver operation new seen list
   pub submitted : OnOk answer (IsSubmitted operation old new list)
-  pub used : UsesIfUnknown old new answer
+  pub used : UsesIfOpen old new answer
 
 -- Of the changes that were expected, a submit leaves none; or it submits the first, and the rest is left; or it is refused as
 -- another than the first, and all are left and no serial is used.

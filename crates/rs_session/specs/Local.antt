@@ -5,7 +5,7 @@ use Rattle.rs_message.specs.declared.entry.Operation.{Operation}
 use Rattle.rs_store.specs.declared.content.Content.{Content}
 use Rattle.rs_store.specs.Contents.{HasSpace, NeedsSweep, swept}
 use Rattle.rs_message.specs.declared.fault.SubmitFault.{SubmitFault}
-use Rattle.rs_message.specs.declared.fault.SubmitFault.TheVariants.{Full, NoMemory, Unknown, Strange, Closed}
+use Rattle.rs_message.specs.declared.fault.SubmitFault.TheVariants.{Full, NoMemory, Open, Strange, Closed}
 use Rattle.rs_session.specs.declared.local.LocalGate.{LocalGate}
 use Rattle.rs_session.specs.Gate.{Mark}
 
@@ -28,6 +28,6 @@ IsFull c operation = (slice_index c.serials 1 ≡ 2 ^ 64 - 1) ⊎ ((HasSpace c (
 abbrev pub IsLeft : Content → Operation → SubmitFault → Content → Type 0
 IsLeft c operation Full new = new ≡ c
 IsLeft c operation NoMemory new = (new ≡ c) ⊎ ((s : NeedsSweep c (next_entry c operation)) × (new ≡ swept s.message.received c))
-IsLeft c operation Unknown new = ⊥
+IsLeft c operation Open new = ⊥
 IsLeft c operation Strange new = ⊥
 IsLeft c operation Closed new = ⊥

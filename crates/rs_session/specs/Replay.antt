@@ -13,7 +13,7 @@ use Rattle.rs_message.specs.declared.entry.Entry.{Entry}
 use Rattle.rs_packet.specs.declared.found.Found.{Found}
 use Rattle.rs_store.specs.History.{IsAnswer}
 use Rattle.rs_window.specs.Calls as window
-use Rattle.rs_window.specs.Calls.{Call, Append, Next, Acknowledge}
+use Rattle.rs_window.specs.Calls.{Call, Queue, Next, Acknowledge}
 use Rattle.rs_window.specs.Identifiers.{Kinds}
 use Rattle.rs_window.specs.Packets.{reply_of, publish_reply_of}
 use Rattle.rs_window.specs.Replay as calls
@@ -45,24 +45,24 @@ abbrev pub subscribed_by : Filter → Subscription → ℕ → Subscriptions →
 subscribed_by (Err fault) subscription code there = there
 subscribed_by (Ok filter) subscription code there = if is_granted code then finite.insert there filter subscription else there
 
--- all that the list answers is appended, at the granted QoS and with the Subscription Identifier
-abbrev pub IsAppendedAt : List ℕ → Subscription → ℕ → List Entry → ℕ → List Call → Type 0
-IsAppendedAt filter subscription now list code own =
-    (found : List Found) × IsAnswer list filter now found × (code ≡ level subscription.options.qos) × (own ≡ Append found subscription.options.qos subscription.identifier (Ok tt) ∷ [])
+-- all that the list answers is queued, at the granted QoS and with the Subscription Identifier
+abbrev pub IsQueuedAt : List ℕ → Subscription → ℕ → List Entry → ℕ → List Call → Type 0
+IsQueuedAt filter subscription now list code own =
+    (found : List Found) × IsAnswer list filter now found × (code ≡ level subscription.options.qos) × (own ≡ Queue found subscription.options.qos subscription.identifier (Ok tt) ∷ [])
 
--- a filter that is granted and that its Retain Handling lets replay; another appends nothing
-abbrev pub IsAppendedFor : Filter → Subscription → ℕ → List Entry → ℕ → Subscriptions → List Call → Type 0
-IsAppendedFor (Err fault) subscription now list code there own = own ≡ []
-IsAppendedFor (Ok filter) subscription now list code there own =
-    MatchBool (is_granted code && replays subscription.options.retain_handling (is_subscribed filter there)) (IsAppendedAt filter subscription now list code own) (own ≡ [])
+-- a filter that is granted and that its Retain Handling lets replay; another queues nothing
+abbrev pub IsQueuedFor : Filter → Subscription → ℕ → List Entry → ℕ → Subscriptions → List Call → Type 0
+IsQueuedFor (Err fault) subscription now list code there own = own ≡ []
+IsQueuedFor (Ok filter) subscription now list code there own =
+    MatchBool (is_granted code && replays subscription.options.retain_handling (is_subscribed filter there)) (IsQueuedAt filter subscription now list code own) (own ≡ [])
 
 -- one filter after the other, each with the next code, by the next list
-abbrev pub AreAppended : ℕ → List Asked → Option ℕ → List ℕ → List (List Entry) → Subscriptions → List Call → Type 0
-AreAppended now [] identifier codes answered there made = (codes ≡ []) × (answered ≡ []) × (made ≡ [])
-AreAppended now (asked ∷ more) identifier codes answered there made =
+abbrev pub AreQueued : ℕ → List Asked → Option ℕ → List ℕ → List (List Entry) → Subscriptions → List Call → Type 0
+AreQueued now [] identifier codes answered there made = (codes ≡ []) × (answered ≡ []) × (made ≡ [])
+AreQueued now (asked ∷ more) identifier codes answered there made =
     (code : ℕ) × (rest : List ℕ) × (list : List Entry) × (later : List (List Entry)) × (own : List Call) × (others : List Call) × (codes ≡ code ∷ rest) × (answered ≡ list ∷ later)
-    × (made ≡ own ++ others) × IsAppendedFor asked.0 (subscription_for asked identifier) now list code there own
-    × AreAppended now more identifier rest later (subscribed_by asked.0 (subscription_for asked identifier) code there) others
+    × (made ≡ own ++ others) × IsQueuedFor asked.0 (subscription_for asked identifier) now list code there own
+    × AreQueued now more identifier rest later (subscribed_by asked.0 (subscription_for asked identifier) code there) others
 
 -- ---- the calls of an exchange
 
@@ -70,11 +70,11 @@ abbrev pub IsAcknowledged : Option (window.Acknowledgement × ℕ) → List Call
 IsAcknowledged None own = own ≡ []
 IsAcknowledged (Some (ack, id)) own = (answer : Ack) × (own ≡ Acknowledge ack id (Ok answer) ∷ [])
 
--- The calls of an input after which the session goes on, and the answer to it: a SUBSCRIBE appends for its filters, by the
+-- The calls of an input after which the session goes on, and the answer to it: a SUBSCRIBE queues for its filters, by the
 -- codes of its SUBACK, an acknowledgement is one call, and no other input calls anything.
 abbrev pub AreCalledBy : Input → ℕ → List (List Entry) → Subscriptions → Option Reply → List Call → Type 0
 AreCalledBy (Whole (packet.Subscribe s)) now answered there answer own =
-    (codes : List ℕ) × (answer ≡ Some (reply.Suback (record { id = s.id; codes = codes }))) × AreAppended now s.filters s.subscription codes answered there own
+    (codes : List ℕ) × (answer ≡ Some (reply.Suback (record { id = s.id; codes = codes }))) × AreQueued now s.filters s.subscription codes answered there own
 AreCalledBy (Whole p) now answered there answer own = IsAcknowledged (acknowledgement_of p) own
 AreCalledBy (Broken fault) now answered there answer own = own ≡ []
 
@@ -169,9 +169,9 @@ pub record IsReplaying (c : Connect) (exchanges : List Exchange) : Type 0 where
   pub run : calls.Run (window_for c) made (window_after (window_for c) exchanges)
   pub by_exchanges : AreCalls phase.Before exchanges made
 
--- ---- what was appended, and what became of it
+-- ---- what was queued, and what became of it
 
--- These messages leave what waits at a given time, in order. Each is sent as its packet, or it is dropped, since it has expired or
+-- These messages leave the queue at a given time, in order. Each is sent as its packet, or it is dropped, since it has expired or
 -- its packet is longer than the client takes.
 abbrev pub AreSentOrDropped : ℕ → ℕ → List Waiting → List PublishReply → Type 0
 AreSentOrDropped packet_maximum now [] sent = sent ≡ []
@@ -179,7 +179,7 @@ AreSentOrDropped packet_maximum now (w ∷ ws) sent =
     (IsDropped packet_maximum now w × AreSentOrDropped packet_maximum now ws sent)
     ⊎ ((p : OutgoingValue) × (more : List PublishReply) × (sent ≡ publish_reply_of p ∷ more) × Carries packet_maximum now w p × AreSentOrDropped packet_maximum now ws more)
 
--- exchange by exchange, these leave what waits, and the PUBLISH packets among the replies are what is sent of them
+-- exchange by exchange, these leave the queue, and the PUBLISH packets among the replies are what is sent of them
 abbrev pub AreSent : ℕ → List Exchange → List Waiting → Type 0
 AreSent packet_maximum [] front = front ≡ []
 AreSent packet_maximum (exchange ∷ exchanges) front =
@@ -191,12 +191,12 @@ pub record IsWithinQuota (c : Connect) (before : List Call) : Type 0 where
   pub unacknowledged : calls.AreUnacknowledged before kinds
   pub few : finite.len kinds ≤ min (receive_maximum c.receive_maximum) MAX_QUOTA
 
--- A prefix of what these calls appended has left, and the rest waits. The PUBLISH replies of the run are this prefix, in
+-- A prefix of what these calls queued has left the queue, and the rest waits. The PUBLISH replies of the run are this prefix, in
 -- order, each message once, less what was dropped. The quota is the lesser of the client's Receive Maximum and `MAX_QUOTA`:
 -- after each of the calls no more identifiers wait for an acknowledgement, and at the end just those of the window do.
 pub record IsSentInOrder (c : Connect) (exchanges : List Exchange) (made : List Call) : Type 0 where
   pub front : List Waiting
-  pub whole : calls.appended made ≡ front ++ (window_after (window_for c) exchanges).waiting
+  pub whole : calls.queued made ≡ front ++ (window_after (window_for c) exchanges).waiting
   pub sent : AreSent (packet_maximum c.packet_maximum) exchanges front
   pub quota : (window_after (window_for c) exchanges).quota ≡ min (receive_maximum c.receive_maximum) MAX_QUOTA
   pub within : (before after : List Call) → made ≡ before ++ after → IsWithinQuota c before

@@ -72,7 +72,7 @@ abbrev pub outcome_of_submit : Result (Unit {0}) SubmitFault → Qos → Option 
 outcome_of_submit (Ok done) qos id = Replies (acknowledged_by qos id Success)
 outcome_of_submit (Err Full) qos id = Replies (acknowledged_by qos id QuotaExceeded)
 outcome_of_submit (Err NoMemory) qos id = Replies (acknowledged_by qos id QuotaExceeded)
-outcome_of_submit (Err submit_fault.Unknown) qos id = Closes QuotaExceeded
+outcome_of_submit (Err submit_fault.Open) qos id = Closes QuotaExceeded
 outcome_of_submit (Err Strange) qos id = Closes ImplementationSpecificError
 outcome_of_submit (Err Closed) qos id = Closes ImplementationSpecificError
 

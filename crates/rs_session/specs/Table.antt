@@ -165,16 +165,16 @@ filter_reason topic_fault.NoMemory = QuotaExceeded
 filter_reason _ = TopicFilterInvalid
 
 -- what waits after a replay: after the rest, all that the list answers
-abbrev pub IsAppended : ℕ → List ℕ → Subscription → List Entry → Open → Open → Type 0
-IsAppended now filter subscription list old new =
-    (found : List Found) × IsAnswer list filter now found × window.IsAppended found subscription.options.qos subscription.identifier old.window (Ok tt) new.window
+abbrev pub IsQueued : ℕ → List ℕ → Subscription → List Entry → Open → Open → Type 0
+IsQueued now filter subscription list old new =
+    (found : List Found) × IsAnswer list filter now found × window.IsQueued found subscription.options.qos subscription.identifier old.window (Ok tt) new.window
 
 -- The session can subscribe to the filter, and its subscription is new or replaces the one before. If Retain Handling says so,
 -- the retained messages wait after the rest.
 pub record IsSubscribed (now : ℕ) (filter : List ℕ) (subscription : Subscription) (list : List Entry) (old new : Open) : Type 0 where
   pub fits : can_subscribe filter old.subscriptions ≡ true
   pub kept : new.subscriptions ≡ finite.insert old.subscriptions filter subscription
-  pub replay : MatchBool (replays subscription.options.retain_handling (is_subscribed filter old.subscriptions)) (IsAppended now filter subscription list old new) (new.window ≡ old.window)
+  pub replay : MatchBool (replays subscription.options.retain_handling (is_subscribed filter old.subscriptions)) (IsQueued now filter subscription list old new) (new.window ≡ old.window)
   pub inbound : new.inbound ≡ old.inbound
 
 -- One filter: its fault, its subscription, or a refusal, after which all is as before. A refusal comes if

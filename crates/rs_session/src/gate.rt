@@ -54,7 +54,7 @@ pub trait Gate {
 
     /// Hands a Set or a Clear to the store. At `Ok` the list has it as an entry of its own. The faults say what stands
     /// otherwise; the list may have grown by entries of others. Whatever is answered, no other change than this one
-    /// becomes an entry under the serial that the gate used last, and nothing but this change is sent, at most once. `Unknown` is
+    /// becomes an entry under the serial that the gate used last, and nothing but this change is sent, at most once. `Open` is
     /// answered only if a serial was used. If changes were expected, this was the first of them, or nothing is expected any more,
     /// or it is refused and nothing was used.
     fn submit(&mut self, operation: Operation) -> Result<(), SubmitFault>

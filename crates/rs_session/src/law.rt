@@ -38,7 +38,7 @@ pub fn replay_of_run()
     // The calls that the exchanges make are a run of the window, so `replay_law` holds of them.
     ensures calls { (assigned : List ℕ) (from to : Point State) (exchanges : List Exchange) (c : Connect) → from.state ≡ fresh assigned → Run from exchanges to
         → Opens c exchanges → IsReplaying c exchanges }
-    // A prefix of what they appended has left, and the rest waits. The PUBLISH replies are this prefix, in order, each
+    // A prefix of what they queued left the queue, and the rest waits. The PUBLISH replies are this prefix, in order, each
     // message once, less what was dropped. Never more is unacknowledged than the quota, the lesser of the client's Receive
     // Maximum and `MAX_QUOTA`.
     ensures sent { (c : Connect) (exchanges : List Exchange) (r : IsReplaying c exchanges) → IsSentInOrder c exchanges r.made }

@@ -8,7 +8,7 @@
 //! change than that of its PUBLISH is handed to the gate; what waits is sent as the window gives it (`next_reply`). Along a
 //! run of inputs the list of the gate only grows, so what was acknowledged stays (`lists_grow`, `stored_of_run`), the gate
 //! sends to the store just the session's retained publications, in order (`sent_of_run`), what the session keeps is within
-//! its limits (`limits_kept`), and its PUBLISH replies are the messages that its SUBSCRIBEs appended, in order, each once or
+//! its limits (`limits_kept`), and its PUBLISH replies are the messages that its SUBSCRIBEs queued, in order, each once or
 //! dropped (`replay_of_run`).
 #![tactic(auto)]
 

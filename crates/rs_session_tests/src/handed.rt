@@ -83,7 +83,7 @@ const LEAVING_OPEN: [SubmitFault; 2] = [SubmitFault::Full, SubmitFault::NoMemory
 
 /// The faults that end it, and the DISCONNECT then.
 const ENDING: [(SubmitFault, &[u8]); 3] = [
-    (SubmitFault::Unknown, b"\xE0\x01\x97"),
+    (SubmitFault::Open, b"\xE0\x01\x97"),
     (SubmitFault::Strange, b"\xE0\x01\x83"),
     (SubmitFault::Closed, b"\xE0\x01\x83"),
 ];

@@ -1,4 +1,4 @@
-//! Rounds of a window: a message is given, acknowledged, and appended again behind the others.
+//! Rounds of a window: a message is given, acknowledged, and queued again behind the others.
 
 use rs_calls_kit::{Failure, messages};
 use rs_packet::{PacketId, Qos};
@@ -21,7 +21,7 @@ fn acknowledge(window: &mut Window, qos: Qos, id: PacketId) -> Result<(), Failur
     Ok(())
 }
 
-/// Gives one message, acknowledges it and appends it again.
+/// Gives one message, acknowledges it and queues it again.
 fn round(alloc: Global, window: &mut Window) -> Result<(), Failure> {
     let publish = window.next(0).ok_or(Failure::Wrong)?;
     let id = publish.id.ok_or(Failure::Wrong)?;
@@ -29,7 +29,7 @@ fn round(alloc: Global, window: &mut Window) -> Result<(), Failure> {
     let Outgoing { found, .. } = publish;
     let mut again = Vec::with_capacity(alloc, 1)?;
     again.push(found)?;
-    window.append(again, Qos::ExactlyOnce, None)?;
+    window.queue(again, Qos::ExactlyOnce, None)?;
     Ok(())
 }
 
@@ -42,7 +42,7 @@ pub fn work(alloc: Global, count: u32, rounds: u32) -> Result<Vec<u64>, Failure>
     let qualities = [Qos::AtLeastOnce, Qos::ExactlyOnce];
     let messages = messages(alloc, &topic, count, qualities)?;
     let mut window = Window::new(alloc, 65535, u32::MAX)?;
-    window.append(messages, Qos::ExactlyOnce, None)?;
+    window.queue(messages, Qos::ExactlyOnce, None)?;
     for _ in 0..rounds {
         round(alloc, &mut window)?;
     }

@@ -12,7 +12,7 @@ use Rattle.rs_packet.specs.declared.packet.Qos.{Qos}
 use Rattle.rs_packet.specs.declared.packet.Qos.TheVariants as qos
 use Rattle.rs_window.specs.declared.fault.Ack.{Ack}
 use Rattle.rs_window.specs.declared.fault.WindowFault.{WindowFault}
-use Rattle.rs_window.specs.declared.fault.WindowFault.TheVariants.{TooManyWaiting, NoMemory, WrongKind, TooManyInUse}
+use Rattle.rs_window.specs.declared.fault.WindowFault.TheVariants.{TooManyWaiting, NoMemory, WrongKind, TooManyHeld}
 use Rattle.rs_window.specs.declared.identifiers.Kind.{Kind}
 use Rattle.rs_window.specs.declared.identifiers.Kind.TheVariants.{AtLeastOnce, ExactlyOnce}
 use Rattle.rs_window.specs.declared.waiting.Waiting.{Waiting}
@@ -20,21 +20,21 @@ use Rattle.rs_window.specs.Values.{OutgoingValue}
 use Rattle.rs_window.specs.Identifiers.{Kinds, kind_sent, kinds_put, kinds_given, IsNumbered}
 use Rattle.rs_window.specs.State.{State}
 use Rattle.rs_window.specs.Waiting.{granted_at, is_dropped, sendable, AllDropped}
-use Rattle.rs_window.specs.Calls.{Acknowledgement, Call, Append, Next, Acknowledge, kind_acknowledged, kinds_acknowledged, answer_to, fresh, Step, NeedsQuota}
+use Rattle.rs_window.specs.Calls.{Acknowledgement, Call, Queue, Next, Acknowledge, kind_acknowledged, kinds_acknowledged, answer_to, fresh, Step, NeedsQuota}
 use Rattle.rs_window.specs.declared.waiting.TheConstants.{MAX_WAITING}
 use Rattle.rs_window.specs.declared.window.TheConstants.{MAX_QUOTA}
-use Rattle.rs_window.specs.Replay.{Run, kind_given, Concerns, NoneConcerns, kind_by, kind_from, kind_after, AreUnacknowledged, brought, appended, Leaves, HasLeft, IsReplayed, IsFreeFor, MayGiveNothing}
+use Rattle.rs_window.specs.Replay.{Run, kind_given, Concerns, NoneConcerns, kind_by, kind_from, kind_after, AreUnacknowledged, brought, queued, Leaves, HasLeft, IsReplayed, IsFreeFor, MayGiveNothing}
 use Rattle.rs_window.proofs.IdentifierLemmas.{other_number}
 use Rattle.rs_window.proofs.WaitingLemmas.{drops, keeps, first_is_sent, sendable_fewer}
 
 -- ---- limits
 
 pub step_limits : (old : State) (call : Call) (new : State) → Step old call new → (new.quota ≡ old.quota) × (new.packet_maximum ≡ old.packet_maximum)
-step_limits old (Append found granted subscription (Ok done)) new h = (ap (λ (s : State). s.quota) h.1, ap (λ (s : State). s.packet_maximum) h.1)
-step_limits old (Append found granted subscription (Err TooManyWaiting)) new h = (ap (λ (s : State). s.quota) h.1, ap (λ (s : State). s.packet_maximum) h.1)
-step_limits old (Append found granted subscription (Err NoMemory)) new h = (ap (λ (s : State). s.quota) h.1, ap (λ (s : State). s.packet_maximum) h.1)
-step_limits old (Append found granted subscription (Err WrongKind)) new h = absurd h
-step_limits old (Append found granted subscription (Err TooManyInUse)) new h = absurd h
+step_limits old (Queue found granted subscription (Ok done)) new h = (ap (λ (s : State). s.quota) h.1, ap (λ (s : State). s.packet_maximum) h.1)
+step_limits old (Queue found granted subscription (Err TooManyWaiting)) new h = (ap (λ (s : State). s.quota) h.1, ap (λ (s : State). s.packet_maximum) h.1)
+step_limits old (Queue found granted subscription (Err NoMemory)) new h = (ap (λ (s : State). s.quota) h.1, ap (λ (s : State). s.packet_maximum) h.1)
+step_limits old (Queue found granted subscription (Err WrongKind)) new h = absurd h
+step_limits old (Queue found granted subscription (Err TooManyHeld)) new h = absurd h
 step_limits old (Next now None) new h = (ap (λ (s : State). s.quota) h.0, ap (λ (s : State). s.packet_maximum) h.0)
 step_limits old (Next now (Some p)) new h = (ap (λ (s : State). s.quota) h.becomes, ap (λ (s : State). s.packet_maximum) h.becomes)
 step_limits old (Acknowledge ack id answer) new h = (ap (λ (s : State). s.quota) h.1, ap (λ (s : State). s.packet_maximum) h.1)
@@ -94,11 +94,11 @@ same_get : (a b : State) (id : ℕ) → a.kinds ≡ b.kinds → get a.kinds id �
 same_get a b id e = ap (λ (m : Kinds). get m id) e
 
 step_kinds : (old : State) (call : Call) (new : State) → Step old call new → (id : ℕ) → get new.kinds id ≡ kind_by id call (get old.kinds id)
-step_kinds old (Append found granted subscription (Ok done)) new h id = same_get new old id (ap (λ (s : State). s.kinds) h.1)
-step_kinds old (Append found granted subscription (Err TooManyWaiting)) new h id = same_get new old id (ap (λ (s : State). s.kinds) h.1)
-step_kinds old (Append found granted subscription (Err NoMemory)) new h id = same_get new old id (ap (λ (s : State). s.kinds) h.1)
-step_kinds old (Append found granted subscription (Err WrongKind)) new h id = absurd h
-step_kinds old (Append found granted subscription (Err TooManyInUse)) new h id = absurd h
+step_kinds old (Queue found granted subscription (Ok done)) new h id = same_get new old id (ap (λ (s : State). s.kinds) h.1)
+step_kinds old (Queue found granted subscription (Err TooManyWaiting)) new h id = same_get new old id (ap (λ (s : State). s.kinds) h.1)
+step_kinds old (Queue found granted subscription (Err NoMemory)) new h id = same_get new old id (ap (λ (s : State). s.kinds) h.1)
+step_kinds old (Queue found granted subscription (Err WrongKind)) new h id = absurd h
+step_kinds old (Queue found granted subscription (Err TooManyHeld)) new h id = absurd h
 step_kinds old (Next now None) new h id = same_get new old id (ap (λ (s : State). s.kinds) h.0)
 step_kinds old (Next now (Some p)) new h id = ap (λ (s : State). get s.kinds id) h.becomes ∙ get_given old.kinds p.qos p.id id
 step_kinds old (Acknowledge ack other answer) new h id = ap (λ (s : State). get s.kinds id) h.1 ∙ get_acknowledged ack old.kinds other (get old.kinds other) id refl
@@ -134,11 +134,11 @@ len_acknowledged ack m id None e = omega arith
 len_acknowledged ack m id (Some kind) e = len_put m id kind (kind_acknowledged ack kind) e
 
 pub step_quota : (old : State) (call : Call) (new : State) → Step old call new → len old.kinds ≤ old.quota → len new.kinds ≤ old.quota
-step_quota old (Append found granted subscription (Ok done)) new h q = omega (arith, q, ap (λ (s : State). len s.kinds) h.1)
-step_quota old (Append found granted subscription (Err TooManyWaiting)) new h q = omega (arith, q, ap (λ (s : State). len s.kinds) h.1)
-step_quota old (Append found granted subscription (Err NoMemory)) new h q = omega (arith, q, ap (λ (s : State). len s.kinds) h.1)
-step_quota old (Append found granted subscription (Err WrongKind)) new h q = absurd h
-step_quota old (Append found granted subscription (Err TooManyInUse)) new h q = absurd h
+step_quota old (Queue found granted subscription (Ok done)) new h q = omega (arith, q, ap (λ (s : State). len s.kinds) h.1)
+step_quota old (Queue found granted subscription (Err TooManyWaiting)) new h q = omega (arith, q, ap (λ (s : State). len s.kinds) h.1)
+step_quota old (Queue found granted subscription (Err NoMemory)) new h q = omega (arith, q, ap (λ (s : State). len s.kinds) h.1)
+step_quota old (Queue found granted subscription (Err WrongKind)) new h q = absurd h
+step_quota old (Queue found granted subscription (Err TooManyHeld)) new h q = absurd h
 step_quota old (Next now None) new h q = omega (arith, q, ap (λ (s : State). len s.kinds) h.0)
 step_quota old (Next now (Some p)) new h q = omega (arith, len_given old.kinds old.quota p.qos p.id h.numbered q, ap (λ (s : State). len s.kinds) h.becomes)
 step_quota old (Acknowledge ack id answer) new h q = omega (arith, q, len_acknowledged ack old.kinds id (get old.kinds id) refl, ap (λ (s : State). len s.kinds) h.1)
@@ -168,14 +168,14 @@ gone_before packet_maximum now (w ∷ ws) = by_case (is_dropped packet_maximum n
     by_case true e (dropped, whole, all) = (w ∷ dropped, ap (λ (xs : List Waiting). w ∷ xs) whole, (drops packet_maximum now w e, all))
     by_case false e later = ([], refl, tt)
 
--- what was appended and what is brought is what leaves and what waits then
+-- what was queued and what is brought is what leaves and what waits then
 step_waiting : (old : State) (call : Call) (new : State) → Step old call new
     → (gone : List Waiting) × (old.waiting ++ brought call ≡ gone ++ new.waiting) × Leaves old.packet_maximum call gone
-step_waiting old (Append found granted subscription (Ok done)) new h = ([], sym (ap (λ (s : State). s.waiting) h.1), refl)
-step_waiting old (Append found granted subscription (Err TooManyWaiting)) new h = ([], append-nil old.waiting ∙ sym (ap (λ (s : State). s.waiting) h.1), refl)
-step_waiting old (Append found granted subscription (Err NoMemory)) new h = ([], append-nil old.waiting ∙ sym (ap (λ (s : State). s.waiting) h.1), refl)
-step_waiting old (Append found granted subscription (Err WrongKind)) new h = absurd h
-step_waiting old (Append found granted subscription (Err TooManyInUse)) new h = absurd h
+step_waiting old (Queue found granted subscription (Ok done)) new h = ([], sym (ap (λ (s : State). s.waiting) h.1), refl)
+step_waiting old (Queue found granted subscription (Err TooManyWaiting)) new h = ([], append-nil old.waiting ∙ sym (ap (λ (s : State). s.waiting) h.1), refl)
+step_waiting old (Queue found granted subscription (Err NoMemory)) new h = ([], append-nil old.waiting ∙ sym (ap (λ (s : State). s.waiting) h.1), refl)
+step_waiting old (Queue found granted subscription (Err WrongKind)) new h = absurd h
+step_waiting old (Queue found granted subscription (Err TooManyHeld)) new h = absurd h
 step_waiting old (Next now None) new h =
     let (dropped, whole, all) = gone_before old.packet_maximum now old.waiting in
     (dropped, append-nil old.waiting ∙ whole ∙ ap (λ (xs : List Waiting). dropped ++ xs) (sym (ap (λ (s : State). s.waiting) h.0)), all)
@@ -188,13 +188,13 @@ step_waiting old (Next now (Some p)) new h =
 step_waiting old (Acknowledge ack id answer) new h = ([], append-nil old.waiting ∙ sym (ap (λ (s : State). s.waiting) h.1), refl)
 
 run_waiting : (packet_maximum : ℕ) (from : State) (calls : List Call) (to : State) → packet_maximum ≡ from.packet_maximum → Run from calls to
-    → (prefix : List Waiting) × (from.waiting ++ appended calls ≡ prefix ++ to.waiting) × HasLeft packet_maximum calls prefix
+    → (prefix : List Waiting) × (from.waiting ++ queued calls ≡ prefix ++ to.waiting) × HasLeft packet_maximum calls prefix
 run_waiting packet_maximum from [] to m e = ([], append-nil from.waiting ∙ sym (ap (λ (s : State). s.waiting) e), refl)
 run_waiting packet_maximum from (call ∷ calls) to m (mid, step, rest) =
     let (gone, here, leaves) = step_waiting from call mid step in
     let (prefix, later, left) = run_waiting packet_maximum mid calls to (m ∙ sym (step_limits from call mid step).1) rest in (
       gone ++ prefix,
-      sym (append_assoc from.waiting (brought call) (appended calls)) ∙ ap (λ (xs : List Waiting). xs ++ appended calls) here ∙ append_assoc gone mid.waiting (appended calls)
+      sym (append_assoc from.waiting (brought call) (queued calls)) ∙ ap (λ (xs : List Waiting). xs ++ queued calls) here ∙ append_assoc gone mid.waiting (queued calls)
           ∙ ap (λ (xs : List Waiting). gone ++ xs) later ∙ sym (append_assoc gone prefix to.waiting),
       (gone, prefix, refl, subst (λ (n : ℕ). Leaves n call gone) (sym m) leaves, left),
     )
@@ -205,14 +205,14 @@ replayed receive_maximum packet_maximum calls end h =
     record { prefix = prefix; whole = whole; leaves = left }
 
 pub step_few : (old : State) (call : Call) (new : State) → Step old call new → length old.waiting ≤ MAX_WAITING → length new.waiting ≤ MAX_WAITING
-step_few old (Append found granted subscription (Ok done)) new h f =
+step_few old (Queue found granted subscription (Ok done)) new h f =
     let whole : length new.waiting ≡ length old.waiting + length found =
     ap (λ (s : State). length s.waiting) h.1 ∙ length-append old.waiting (map (granted_at granted subscription) found) ∙ ap (λ n. length old.waiting + n) (length-map found (granted_at granted subscription)) in
     omega (arith, whole, h.0)
-step_few old (Append found granted subscription (Err TooManyWaiting)) new h f = omega (arith, f, ap (λ (s : State). length s.waiting) h.1)
-step_few old (Append found granted subscription (Err NoMemory)) new h f = omega (arith, f, ap (λ (s : State). length s.waiting) h.1)
-step_few old (Append found granted subscription (Err WrongKind)) new h f = absurd h
-step_few old (Append found granted subscription (Err TooManyInUse)) new h f = absurd h
+step_few old (Queue found granted subscription (Err TooManyWaiting)) new h f = omega (arith, f, ap (λ (s : State). length s.waiting) h.1)
+step_few old (Queue found granted subscription (Err NoMemory)) new h f = omega (arith, f, ap (λ (s : State). length s.waiting) h.1)
+step_few old (Queue found granted subscription (Err WrongKind)) new h f = absurd h
+step_few old (Queue found granted subscription (Err TooManyHeld)) new h f = absurd h
 step_few old (Next now None) new h f = omega (arith, f, sendable_fewer old.packet_maximum now old.waiting, ap (λ (s : State). length s.waiting) h.0)
 step_few old (Next now (Some p)) new h f = omega (arith, f, sendable_fewer old.packet_maximum now old.waiting, ap (λ (xs : List Waiting). length xs) h.leaves)
 step_few old (Acknowledge ack id answer) new h f = omega (arith, f, ap (λ (s : State). length s.waiting) h.1)
@@ -260,7 +260,7 @@ given_elsewhere id quality None kind h = refl
 given_elsewhere id quality (Some other) kind h = ap (λ b. cond b (kind_sent quality) kind) (other_test id other (λ e. h (ap Some (sym e))))
 
 unconcerned : (id : ℕ) (call : Call) (kind : Option Kind) → (Concerns id call → ⊥) → kind_by id call kind ≡ kind
-unconcerned id (Append found granted subscription answer) kind h = refl
+unconcerned id (Queue found granted subscription answer) kind h = refl
 unconcerned id (Next now None) kind h = refl
 unconcerned id (Next now (Some p)) kind h = given_elsewhere id p.qos p.id kind h
 unconcerned id (Acknowledge ack other answer) kind h = ap (λ b. cond b (option_and_then (kind_acknowledged ack) kind) kind) (other_test id other (λ e. h (sym e)))

@@ -7,7 +7,7 @@ use Rattle.rs_packet.specs.declared.found.Found.{Found}
 use Rattle.rs_window.specs.declared.fault.Ack.{Ack}
 use Rattle.rs_window.specs.declared.fault.Ack.TheVariants.{Freed, Released, Unknown}
 use Rattle.rs_window.specs.declared.fault.WindowFault.{WindowFault}
-use Rattle.rs_window.specs.declared.fault.WindowFault.TheVariants.{TooManyWaiting, NoMemory, WrongKind, TooManyInUse}
+use Rattle.rs_window.specs.declared.fault.WindowFault.TheVariants.{TooManyWaiting, NoMemory, WrongKind, TooManyHeld}
 use Rattle.rs_window.specs.declared.identifiers.Kind.{Kind}
 use Rattle.rs_window.specs.declared.identifiers.Kind.TheVariants.{AtLeastOnce, ExactlyOnce, Received}
 use Rattle.rs_window.specs.declared.waiting.Waiting.{Waiting}
@@ -30,7 +30,7 @@ pub data Acknowledgement : Type 0 where
 
 -- a call, and what was answered
 pub data Call : Type 0 where
-  Append : (found : List Found) (granted : Qos) (subscription : Option ℕ) (answer : Result (Unit {0}) WindowFault) → Call
+  Queue : (found : List Found) (granted : Qos) (subscription : Option ℕ) (answer : Result (Unit {0}) WindowFault) → Call
   Next : (now : ℕ) (given : Option OutgoingValue) → Call
   Acknowledge : (ack : Acknowledgement) (id : ℕ) (answer : Result Ack WindowFault) → Call
 
@@ -69,13 +69,13 @@ kinds_acknowledged ack id (Some kind) kinds = kinds_put kinds id (kind_acknowled
 -- ---- what each call does
 
 -- all of them are appended in order, or none of them
-abbrev pub IsAppended : List Found → Qos → Option ℕ → State → Result (Unit {0}) WindowFault → State → Type 0
-IsAppended found granted subscription old (Ok done) new =
+abbrev pub IsQueued : List Found → Qos → Option ℕ → State → Result (Unit {0}) WindowFault → State → Type 0
+IsQueued found granted subscription old (Ok done) new =
     (length old.waiting + length found ≤ MAX_WAITING) × (new ≡ record old { waiting = old.waiting ++ map (granted_at granted subscription) found })
-IsAppended found granted subscription old (Err TooManyWaiting) new = (MAX_WAITING < length old.waiting + length found) × (new ≡ old)
-IsAppended found granted subscription old (Err NoMemory) new = (length old.waiting + length found ≤ MAX_WAITING) × (new ≡ old)
-IsAppended found granted subscription old (Err WrongKind) new = ⊥
-IsAppended found granted subscription old (Err TooManyInUse) new = ⊥
+IsQueued found granted subscription old (Err TooManyWaiting) new = (MAX_WAITING < length old.waiting + length found) × (new ≡ old)
+IsQueued found granted subscription old (Err NoMemory) new = (length old.waiting + length found ≤ MAX_WAITING) × (new ≡ old)
+IsQueued found granted subscription old (Err WrongKind) new = ⊥
+IsQueued found granted subscription old (Err TooManyHeld) new = ⊥
 
 -- 4.9: nothing waits, or the first needs an identifier and the quota is used up
 abbrev pub NeedsQuota : Kinds → ℕ → List Waiting → Type 0
@@ -101,6 +101,6 @@ IsAcknowledged ack id old answer new =
 
 -- one call
 abbrev pub Step : State → Call → State → Type 0
-Step old (Append found granted subscription answer) new = IsAppended found granted subscription old answer new
+Step old (Queue found granted subscription answer) new = IsQueued found granted subscription old answer new
 Step old (Next now given) new = IsNext now old given new
 Step old (Acknowledge ack id answer) new = IsAcknowledged ack id old answer new

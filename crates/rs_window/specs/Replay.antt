@@ -9,7 +9,7 @@ use Rattle.rs_window.specs.declared.waiting.Waiting.{Waiting}
 use Rattle.rs_window.specs.Identifiers.{Kinds, kind_sent}
 use Rattle.rs_window.specs.State.{State}
 use Rattle.rs_window.specs.Waiting.{lesser_qos, granted_at, Carries, IsDropped, AllDropped}
-use Rattle.rs_window.specs.Calls.{Call, Append, Next, Acknowledge, kind_acknowledged, Step}
+use Rattle.rs_window.specs.Calls.{Call, Queue, Next, Acknowledge, kind_acknowledged, Step}
 
 -- one call after the other
 abbrev pub Run : State → List Call → State → Type 0
@@ -27,7 +27,7 @@ kind_given id quality (Some given) kind = if id == given then kind_sent quality 
 -- its QoS decides what the identifier waits for; after an acknowledgement, what it waited for before. No
 -- other call changes it.
 abbrev pub kind_by : ℕ → Call → Option Kind → Option Kind
-kind_by id (Append found granted subscription answer) kind = kind
+kind_by id (Queue found granted subscription answer) kind = kind
 kind_by id (Next now None) kind = kind
 kind_by id (Next now (Some p)) kind = kind_given id p.qos p.id kind
 kind_by id (Acknowledge ack other answer) kind = if id == other then option_and_then (kind_acknowledged ack) kind else kind
@@ -43,7 +43,7 @@ kind_after id calls = kind_from id None calls
 
 -- a call gave a PUBLISH with this identifier, or is an acknowledgement of it
 abbrev pub Concerns : ℕ → Call → Type 0
-Concerns id (Append found granted subscription answer) = ⊥
+Concerns id (Queue found granted subscription answer) = ⊥
 Concerns id (Next now None) = ⊥
 Concerns id (Next now (Some p)) = p.id ≡ Some id
 Concerns id (Acknowledge ack other answer) = other ≡ id
@@ -56,23 +56,23 @@ NoneConcerns id (call ∷ calls) = ¬ (Concerns id call) × NoneConcerns id call
 abbrev pub AreUnacknowledged : List Call → Kinds → Type 0
 AreUnacknowledged calls kinds = (id : ℕ) → finite.get kinds id ≡ kind_after id calls
 
--- ---- what was appended, and what became of it
+-- ---- what was queued, and what became of it
 
 -- what a call brought to what waits
 abbrev pub brought : Call → List Waiting
-brought (Append found granted subscription (Ok done)) = map (granted_at granted subscription) found
-brought (Append found granted subscription (Err fault)) = []
+brought (Queue found granted subscription (Ok done)) = map (granted_at granted subscription) found
+brought (Queue found granted subscription (Err fault)) = []
 brought (Next now given) = []
 brought (Acknowledge ack id answer) = []
 
-abbrev pub appended : List Call → List Waiting
-appended [] = []
-appended (call ∷ calls) = brought call ++ appended calls
+abbrev pub queued : List Call → List Waiting
+queued [] = []
+queued (call ∷ calls) = brought call ++ queued calls
 
 -- what waits no more after a call: in a `next`, some that may be dropped at its time, and then
 -- the one that its PUBLISH carries
 abbrev pub Leaves : ℕ → Call → List Waiting → Type 0
-Leaves packet_maximum (Append found granted subscription answer) gone = gone ≡ []
+Leaves packet_maximum (Queue found granted subscription answer) gone = gone ≡ []
 Leaves packet_maximum (Next now None) gone = AllDropped packet_maximum now gone
 Leaves packet_maximum (Next now (Some p)) gone = (dropped : List Waiting) × (w : Waiting) × (gone ≡ dropped ++ w ∷ []) × AllDropped packet_maximum now dropped × Carries packet_maximum now w p
 Leaves packet_maximum (Acknowledge ack id answer) gone = gone ≡ []
@@ -82,10 +82,10 @@ abbrev pub HasLeft : ℕ → List Call → List Waiting → Type 0
 HasLeft packet_maximum [] prefix = prefix ≡ []
 HasLeft packet_maximum (call ∷ calls) prefix = (gone : List Waiting) × (rest : List Waiting) × (prefix ≡ gone ++ rest) × Leaves packet_maximum call gone × HasLeft packet_maximum calls rest
 
--- 4.6: what was appended is a prefix, each of it given once or dropped, and then what waits
+-- 4.6: what was queued is a prefix, each of it given once or dropped, and then what waits
 pub record IsReplayed (packet_maximum : ℕ) (calls : List Call) (waiting : List Waiting) : Type 0 where
   pub prefix : List Waiting
-  pub whole : appended calls ≡ prefix ++ waiting
+  pub whole : queued calls ≡ prefix ++ waiting
   pub leaves : HasLeft packet_maximum calls prefix
 
 -- ---- single calls of a run, after the calls before

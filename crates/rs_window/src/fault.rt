@@ -32,7 +32,7 @@ pub enum WindowFault {
     WrongKind = 52,
     /// 53: [`RECEIVE_MAXIMUM`](rs_packet::RECEIVE_MAXIMUM) other identifiers are in use (3.3.4).
     #[error("{} messages of QoS 2 are not yet released; send PUBREL for one of them first", RECEIVE_MAXIMUM)]
-    TooManyInUse = 53,
+    TooManyHeld = 53,
 }
 
 impl WindowFault {

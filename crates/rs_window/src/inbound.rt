@@ -90,7 +90,7 @@ impl Model for Inbound {
 }
 
 impl Inbound {
-    ghost use Rattle.rs_window.specs.declared.fault.WindowFault.TheVariants.{TooManyInUse};
+    ghost use Rattle.rs_window.specs.declared.fault.WindowFault.TheVariants.{TooManyHeld};
 
     /// A table in which no identifier is in use.
     #[tactic(auto, using(crate::proofs::InUseLemmas::none_in_use))]
@@ -117,12 +117,12 @@ impl Inbound {
         is_in(self.ids.as_slice(), id.get())
     }
 
-    /// The identifier is in use from now on. `TooManyInUse` if [`RECEIVE_MAXIMUM`] others are; nothing changes then.
+    /// The identifier is in use from now on. `TooManyHeld` if [`RECEIVE_MAXIMUM`] others are; nothing changes then.
     #[tactic(auto, using(crate::proofs::InUseLemmas::inserted_again))]
     pub fn begin(&mut self, id: PacketId) -> Result<(), WindowFault>
         ensures ok { OnOk result (self.new ≡ set.insert self.old id) }
         ensures refused { OnErr result (self.new ≡ self.old) }
-        ensures fault { IfErr result (λ e. e ≡ TooManyInUse) }
+        ensures fault { IfErr result (λ e. e ≡ TooManyHeld) }
         ensures full { IsErr result ↔ ((set.len self.old ≡ RECEIVE_MAXIMUM) × (set.contains self.old id ≡ false)) }
         ensures most { set.len self.new ≤ RECEIVE_MAXIMUM }
     {
@@ -130,7 +130,7 @@ impl Inbound {
             return Ok(());
         }
         if self.ids.is_full() {
-            return Err(WindowFault::TooManyInUse);
+            return Err(WindowFault::TooManyHeld);
         }
         put_in(&mut self.ids, id.get());
         Ok(())

@@ -22,7 +22,7 @@ pub fn replay_law()
     // no more are unacknowledged than the initial quota
     ensures quota { (receive_maximum packet_maximum : ℕ) (calls : List Call) (end : State) → Run (fresh receive_maximum packet_maximum) calls end
         → finite.len end.kinds ≤ min receive_maximum MAX_QUOTA }
-    // each message that was appended was given once, in order, or dropped, or it waits
+    // each message that was queued was given once, in order, or dropped, or it waits
     ensures replay { (receive_maximum packet_maximum : ℕ) (calls : List Call) (end : State) → Run (fresh receive_maximum packet_maximum) calls end
         → IsReplayed packet_maximum calls end.waiting }
     ensures few { (receive_maximum packet_maximum : ℕ) (calls : List Call) (end : State) → Run (fresh receive_maximum packet_maximum) calls end

@@ -4,7 +4,7 @@ ghost use Rattle.std.specs.Prelude.{◌≡◌, ◌≢◌, ◌+◌, ◌<◌, ◌�
 ghost use Rattle.rs_packet.specs.Grammar.{IdFits};
 ghost use Rattle.rs_message.specs.Messages.{remaining_of};
 ghost use Rattle.rs_window.specs.Waiting.{lesser_qos, interval_sent, packet_at};
-ghost use Rattle.rs_window.specs.Calls.{fresh, IsAppended, IsNext, IsAcknowledged, Puback, Pubrec, Pubcomp};
+ghost use Rattle.rs_window.specs.Calls.{fresh, IsQueued, IsNext, IsAcknowledged, Puback, Pubrec, Pubcomp};
 
 use crate::fault::{Ack, WindowFault};
 use crate::identifiers::{Kind, change_kind, free_identifier, kind_at};
@@ -178,13 +178,13 @@ impl Window {
 
     /// Appends all messages to what waits, in order, or none. `granted` is the QoS that the subscription was granted
     /// (3.8.4). `TooManyWaiting` if more than [`MAX_WAITING`] would wait, `NoMemory` if memory is refused.
-    pub fn append(
+    pub fn queue(
         &mut self,
         found: Vec<Found>,
         granted: Qos,
         subscription: Option<SubscriptionId>,
     ) -> Result<(), WindowFault>
-        ensures { IsAppended found.items granted subscription self.old result self.new }
+        ensures { IsQueued found.items granted subscription self.old result self.new }
     {
         if found.len() > self.room() {
             return Err(WindowFault::TooManyWaiting);

@@ -22,7 +22,7 @@ fn id(number: u16) -> Result<PacketId, Fail> {
     Ok(PacketId::new(number).ok_or("0 is no identifier")?)
 }
 
-/// A message that is appended, at the granted QoS and with a Subscription Identifier, 0 for none.
+/// A message that is queued, at the granted QoS and with a Subscription Identifier, 0 for none.
 #[derive(Clone, Copy)]
 struct One {
     topic: &'static [u8],
@@ -36,9 +36,9 @@ struct One {
 /// A call of a window.
 #[derive(Clone, Copy)]
 enum Call {
-    /// So many messages of a topic with the payload `1` are appended, published and granted at this QoS.
-    Append(&'static [u8], u32, Qos),
-    AppendOne(One),
+    /// So many messages of a topic with the payload `1` are queued, published and granted at this QoS.
+    Queue(&'static [u8], u32, Qos),
+    QueueOne(One),
     /// The next PUBLISH at a given time.
     Next(u64),
     /// So many messages of `a` are given, with the identifiers from 1.
@@ -58,19 +58,19 @@ enum Answer {
     Nothing,
     Does(Ack),
     Refuses(WindowFault),
-    /// The messages are appended, or what is given is what the call says.
+    /// The messages are queued, or what is given is what the call says.
     Done,
     Differs,
 }
 
-fn appended(answer: Result<(), WindowFault>) -> Answer {
+fn queued(answer: Result<(), WindowFault>) -> Answer {
     match answer {
         Ok(()) => Answer::Done,
         Err(fault) => Answer::Refuses(fault),
     }
 }
 
-fn append_many(
+fn queue_many(
     alloc: Global,
     window: &mut Window,
     topic: &[u8],
@@ -78,15 +78,15 @@ fn append_many(
     qos: Qos,
 ) -> Result<Answer, Fail> {
     let found = many(alloc, topic, count, qos).ok_or("no memory for the messages")?;
-    Ok(appended(window.append(found, qos, None)))
+    Ok(queued(window.queue(found, qos, None)))
 }
 
-fn append_one(alloc: Global, window: &mut Window, one: &One) -> Result<Answer, Fail> {
+fn queue_one(alloc: Global, window: &mut Window, one: &One) -> Result<Answer, Fail> {
     let found = found(alloc, one.topic, one.payload, one.qos, 0, one.expiry).ok_or("no memory")?;
     let mut all = Vec::new(alloc);
     all.push(found)?;
     let subscription = SubscriptionId::new(one.subscription);
-    Ok(appended(window.append(all, one.granted, subscription)))
+    Ok(queued(window.queue(all, one.granted, subscription)))
 }
 
 fn given(publish: Option<Outgoing>) -> Answer {
@@ -132,8 +132,8 @@ fn done(answer: Result<Ack, WindowFault>) -> Answer {
 
 fn answer_of(alloc: Global, window: &mut Window, call: Call) -> Result<Answer, Fail> {
     match call {
-        Call::Append(topic, count, qos) => append_many(alloc, window, topic, count, qos),
-        Call::AppendOne(one) => append_one(alloc, window, &one),
+        Call::Queue(topic, count, qos) => queue_many(alloc, window, topic, count, qos),
+        Call::QueueOne(one) => queue_one(alloc, window, &one),
         Call::Next(now) => Ok(given(window.next(now))),
         Call::InOrder(count) => Ok(given_in_order(window, count)),
         Call::Packet(sent) => given_as(alloc, window.next(9), sent),
@@ -174,9 +174,9 @@ fn check_window(
 }
 
 const QUOTA_1_AT_QOS_2: &[Row] = &[
-    (Call::Append(b"a", 1, Qos::ExactlyOnce), Answer::Done),
-    (Call::Append(b"b", 1, Qos::ExactlyOnce), Answer::Done),
-    (Call::Append(b"c", 1, Qos::ExactlyOnce), Answer::Done),
+    (Call::Queue(b"a", 1, Qos::ExactlyOnce), Answer::Done),
+    (Call::Queue(b"b", 1, Qos::ExactlyOnce), Answer::Done),
+    (Call::Queue(b"c", 1, Qos::ExactlyOnce), Answer::Done),
     (Call::Next(0), Answer::Gives(b'a', 1)),
     (Call::Next(0), Answer::Nothing),
     (Call::Pubrec(1, 0x00), Answer::Does(Ack::Released)),
@@ -203,9 +203,9 @@ fn one_by_one_at_qos_2(rt: HostRuntime) -> Result<(), Fail> {
 }
 
 const EXPIRED: &[Row] = &[
-    (Call::Append(b"a", 1, Qos::AtLeastOnce), Answer::Done),
+    (Call::Queue(b"a", 1, Qos::AtLeastOnce), Answer::Done),
     (
-        Call::AppendOne(One {
+        Call::QueueOne(One {
             topic: b"b",
             payload: b"2",
             qos: Qos::AtLeastOnce,
@@ -216,7 +216,7 @@ const EXPIRED: &[Row] = &[
         Answer::Done,
     ),
     (
-        Call::AppendOne(One {
+        Call::QueueOne(One {
             topic: b"c",
             payload: b"3",
             qos: Qos::AtMostOnce,
@@ -241,7 +241,7 @@ fn what_expires_behind_the_quota_is_dropped(rt: HostRuntime) -> Result<(), Fail>
 
 const TOO_LONG: &[Row] = &[
     (
-        Call::AppendOne(One {
+        Call::QueueOne(One {
             topic: b"a",
             payload: b"12345678901234567890",
             qos: Qos::AtLeastOnce,
@@ -251,7 +251,7 @@ const TOO_LONG: &[Row] = &[
         }),
         Answer::Done,
     ),
-    (Call::Append(b"b", 1, Qos::AtLeastOnce), Answer::Done),
+    (Call::Queue(b"b", 1, Qos::AtLeastOnce), Answer::Done),
     (Call::Next(0), Answer::Gives(b'b', 1)),
 ];
 
@@ -269,7 +269,7 @@ fn check_sent_as(
 ) -> Result<(), Fail> {
     let size = sent.len().min(1000) as u32;
     let given = [
-        (Call::AppendOne(one), Answer::Done),
+        (Call::QueueOne(one), Answer::Done),
         (Call::Packet(sent), Answer::Done),
         (Call::Next(9), Answer::Nothing),
     ];
@@ -363,7 +363,7 @@ fn messages_are_sent_at_the_lesser_qos_if_they_fit(rt: HostRuntime) -> Result<()
 }
 
 const MOST_IDENTIFIERS: &[Row] = &[
-    (Call::Append(b"a", 1025, Qos::AtLeastOnce), Answer::Done),
+    (Call::Queue(b"a", 1025, Qos::AtLeastOnce), Answer::Done),
     (Call::InOrder(1024), Answer::Done),
     (Call::Next(0), Answer::Nothing),
     (Call::Puback(2, 0x00), Answer::Does(Ack::Freed)),
@@ -376,28 +376,28 @@ fn identifiers_are_given_in_order(rt: HostRuntime) -> Result<(), Fail> {
     check_window(&rt, rt.alloc(), 65535, u32::MAX, MOST_IDENTIFIERS)
 }
 
-const FULL_WINDOW: &[Row] = &[
+const FULL_QUEUE: &[Row] = &[
     (
-        Call::Append(b"a", MAX_WAITING as u32, Qos::AtLeastOnce),
+        Call::Queue(b"a", MAX_WAITING as u32, Qos::AtLeastOnce),
         Answer::Done,
     ),
-    (Call::Append(b"b", 0, Qos::AtMostOnce), Answer::Done),
+    (Call::Queue(b"b", 0, Qos::AtMostOnce), Answer::Done),
     (
-        Call::Append(b"b", 1, Qos::AtLeastOnce),
+        Call::Queue(b"b", 1, Qos::AtLeastOnce),
         Answer::Refuses(WindowFault::TooManyWaiting),
     ),
     (Call::Next(0), Answer::Gives(b'a', 1)),
-    (Call::Append(b"b", 1, Qos::AtMostOnce), Answer::Done),
+    (Call::Queue(b"b", 1, Qos::AtMostOnce), Answer::Done),
 ];
 
 #[test]
 fn no_more_than_the_limit_wait(rt: HostRuntime) -> Result<(), Fail> {
-    check_window(&rt, rt.alloc(), 1, u32::MAX, FULL_WINDOW)
+    check_window(&rt, rt.alloc(), 1, u32::MAX, FULL_QUEUE)
 }
 
 const TOO_MANY: &[Row] = &[
     (
-        Call::Append(b"a", MAX_WAITING as u32 + 1, Qos::AtMostOnce),
+        Call::Queue(b"a", MAX_WAITING as u32 + 1, Qos::AtMostOnce),
         Answer::Refuses(WindowFault::TooManyWaiting),
     ),
     (Call::Next(0), Answer::Nothing),
@@ -424,7 +424,7 @@ fn every_receive_maximum_is_accepted(rt: HostRuntime) -> Result<(), Fail> {
     for (receive_maximum, quota) in QUOTAS {
         let rows = [
             (
-                Call::Append(b"a", u32::from(*quota) + 1, Qos::ExactlyOnce),
+                Call::Queue(b"a", u32::from(*quota) + 1, Qos::ExactlyOnce),
                 Answer::Done,
             ),
             (Call::InOrder(*quota), Answer::Done),
@@ -437,7 +437,7 @@ fn every_receive_maximum_is_accepted(rt: HostRuntime) -> Result<(), Fail> {
 
 /// Identifiers freed out of order: the last one freed is given first, and then the one freed before it.
 const FREED: &[Row] = &[
-    (Call::Append(b"a", 7, Qos::AtLeastOnce), Answer::Done),
+    (Call::Queue(b"a", 7, Qos::AtLeastOnce), Answer::Done),
     (Call::InOrder(3), Answer::Done),
     (Call::Puback(1, 0x00), Answer::Does(Ack::Freed)),
     (Call::Puback(3, 0x80), Answer::Does(Ack::Freed)),
@@ -451,25 +451,25 @@ fn the_last_freed_identifier_comes_first(rt: HostRuntime) -> Result<(), Fail> {
     check_window(&rt, rt.alloc(), 3, u32::MAX, FREED)
 }
 
-/// A window with two messages `a` that wait, and nine more to be appended, for which the list has to grow.
+/// A window with two messages `a` that wait, and nine more to be queued, for which its queue has to grow.
 fn before_a_refusal(alloc: Global) -> Option<(Window, Vec<Found>)> {
     let mut window = Window::new(alloc, 9, u32::MAX).ok()?;
     let first = many(alloc, b"a", 2, Qos::AtMostOnce)?;
-    window.append(first, Qos::AtMostOnce, None).ok()?;
+    window.queue(first, Qos::AtMostOnce, None).ok()?;
     Some((window, many(alloc, b"b", 9, Qos::AtMostOnce)?))
 }
 
-/// It passes with ample memory, and also if any one allocation is refused: a refused `append` answers `NoMemory`, and then
+/// It passes with ample memory, and also if any one allocation is refused: a refused `queue` answers `NoMemory`, and then
 /// what waited before is given, and nothing of the refused list.
 #[test]
-fn an_append_without_memory_changes_nothing(rt: HostRuntime) -> Result<(), Fail> {
+fn a_queue_without_memory_changes_nothing(rt: HostRuntime) -> Result<(), Fail> {
     let Some((mut window, later)) = before_a_refusal(rt.alloc()) else {
         return Ok(());
     };
     let first = (Call::Next(0), Answer::Gives(b'a', 0));
     let second = (Call::Next(0), Answer::Gives(b'b', 0));
     let last = (Call::Next(0), Answer::Nothing);
-    match window.append(later, Qos::AtMostOnce, None) {
+    match window.queue(later, Qos::AtMostOnce, None) {
         Ok(()) => {
             let rows = [
                 first, first, second, second, second, second, second, second, second, second,
@@ -492,7 +492,7 @@ fn as_many_are_in_use_as_the_receive_maximum(rt: HostRuntime) -> Result<(), Fail
         assert!(rt; inbound.begin(id(number + 1)?).is_ok());
     }
     assert!(rt; inbound.is_full());
-    assert!(rt; inbound.begin(id(17)?) == Err(WindowFault::TooManyInUse));
+    assert!(rt; inbound.begin(id(17)?) == Err(WindowFault::TooManyHeld));
     assert!(rt; !inbound.holds(id(17)?));
     assert!(rt; inbound.begin(id(16)?).is_ok());
     assert!(rt; inbound.release(id(3)?));
@@ -520,7 +520,7 @@ const FAULTS: &[(WindowFault, u8, &str)] = &[
         "the packet identifier waits for another acknowledgement; answer QoS 1 by PUBACK, QoS 2 by PUBREC and then PUBCOMP",
     ),
     (
-        WindowFault::TooManyInUse,
+        WindowFault::TooManyHeld,
         53,
         "16 messages of QoS 2 are not yet released; send PUBREL for one of them first",
     ),

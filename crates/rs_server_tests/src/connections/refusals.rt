@@ -122,7 +122,7 @@ const COUNTED: &[(&[Result<(), SubmitFault>], &[FilterAnswer], Refusals)] = &[
     ),
     // These faults end the session.
     (
-        &[Err(SubmitFault::Full), Err(SubmitFault::Unknown)],
+        &[Err(SubmitFault::Full), Err(SubmitFault::Open)],
         &[],
         Refusals {
             full: 1,

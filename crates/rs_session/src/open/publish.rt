@@ -171,7 +171,7 @@ fn outcome_of_submit(submitted: Result<(), SubmitFault>, qos: Qos, id: Option<Pa
         Err(SubmitFault::Full | SubmitFault::NoMemory) => {
             Outcome::Replies(acknowledged_by(qos, id, ReasonCode::QuotaExceeded))
         }
-        Err(SubmitFault::Unknown) => Outcome::Closes(ReasonCode::QuotaExceeded),
+        Err(SubmitFault::Open) => Outcome::Closes(ReasonCode::QuotaExceeded),
         Err(SubmitFault::Strange | SubmitFault::Closed) => {
             Outcome::Closes(ReasonCode::ImplementationSpecificError)
         }

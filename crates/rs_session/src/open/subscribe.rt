@@ -5,7 +5,7 @@ ghost use Rattle.std.specs.List.{list_any};
 ghost use Rattle.rs_session.specs.Gate.{Grows, GrowsAnswering};
 ghost use Rattle.rs_session.specs.Points.{given_at, point_at};
 ghost use Rattle.rs_session.specs.Subscriptions.{is_subscribed, replays};
-ghost use Rattle.rs_session.specs.Table.{LeadsTo, IsGranted, IsAppended, IsSubscribed, filter_reason, is_shared, is_shared_local};
+ghost use Rattle.rs_session.specs.Table.{LeadsTo, IsGranted, IsQueued, IsSubscribed, filter_reason, is_shared, is_shared_local};
 
 use super::{Open, Outcome};
 use crate::gate::Gate;
@@ -148,7 +148,7 @@ impl Open {
     ) -> bool
         ensures list { Grows (G.stands gate.old) (G.stands gate.new) (λ seen list.
             MatchBool result
-            (MatchBool (replays subscription.options.retain_handling is_there) (IsAppended now filter.now subscription list self.old self.new) (self.new.window ≡ self.old.window))
+            (MatchBool (replays subscription.options.retain_handling is_there) (IsQueued now filter.now subscription list self.old self.new) (self.new.window ≡ self.old.window))
             (self.new ≡ self.old)) }
         ensures mark { G.mark gate.new ≡ G.mark gate.old }
         ensures pending { G.pending gate.new ≡ G.pending gate.old }
@@ -161,7 +161,7 @@ impl Open {
             return false;
         };
         self.window
-            .append(found, subscription.options.qos, subscription.identifier)
+            .queue(found, subscription.options.qos, subscription.identifier)
             .is_ok()
     }
 }

@@ -9,7 +9,7 @@ use Rattle.rs_queue.specs.Changes.{entry_at}
 use Rattle.rs_intake.specs.Lines.{next_serial}
 use Rattle.rs_intake.proofs.Faults.{ok_not_err, refused_as}
 use Rattle.rs_places.specs.Shared.{IsOtherPending, SharedValue, mark_of, operations_of}
-use Rattle.rs_places.proofs.Receipts.{other_pending, same_mark, sends_it, submits_err, submits_ok, takes_pending, used_if_unknown}
+use Rattle.rs_places.proofs.Receipts.{other_pending, same_mark, sends_it, submits_err, submits_ok, takes_pending, used_if_open}
 use Rattle.rs_places.proofs.shared_gate.SharedGateGate.submit.Goals as goal
 
 pub returns-clause-list : goal.returns-clause-list
@@ -43,7 +43,7 @@ returns-in_err-receipt-clause-list g c = λ seen knows.
     let new = c.submit.new.line in
     let plain : mark_of old ≡ c.args.self.now.mark = ap (λ (v : SharedValue). v.mark) c.self.view_is in
     let known : c.self.inside.seat ≡ seen = ap (λ (v : SharedValue). v.known) c.self.view_is ∙ knows.known in
-    let used = used_if_unknown old new _ _ c.in_err-receipt.ensures.refused in
+    let used = used_if_open old new _ _ c.in_err-receipt.ensures.refused in
     let is : c.from_residual.result ≡ Err _ = p.1 ∙ ap (λ (f : SubmitFault). Err f) p.2 in (
       seen,
       record { known = known; legal = knows.legal },
