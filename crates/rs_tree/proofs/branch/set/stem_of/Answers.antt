@@ -1,4 +1,4 @@
-use Rattle.std.proofs.Common.{arith}
+use Rattle.std.proofs.Common.{arith, ◌∙◌}
 use Rattle.rs_topic.specs.Rests.{levels_from}
 use Rattle.rs_tree.proofs.Parting.{stem_none, stem_step, sorted_at}
 use Rattle.rs_tree.proofs.branch.set.stem_of.Goals as goal
