@@ -1,10 +1,16 @@
 -- What a tree of topics keeps.
-use Rattle.std.specs.Prelude.{◌≡◌, ℕ, ◌≤◌, List, length}
+use Rattle.std.specs.Prelude.{◌≡◌, ℕ, ◌≤◌, List, [], ◌∷◌, length}
 use Rattle.std.specs.List.Sorted.{IsStrictlySortedBy}
 use Rattle.std.specs.Map.{keys_of}
 use Rattle.rs_topic.specs.Order.{topic_cmp}
+use Rattle.rs_topic.specs.Topics.{levels}
 use Rattle.rs_bucket.specs.Spots.{Spot}
-use Rattle.rs_tree.specs.Spots.{ArePlaced, pairs}
+use Rattle.rs_branch.specs.Spots.{pairs}
+
+-- each path is the levels of its topic
+abbrev pub ArePlaced : List Spot → Type 0
+ArePlaced [] = Unit {0}
+ArePlaced (s ∷ ss) = (levels s.1.topic ≡ s.0) × ArePlaced ss
 
 -- each path is the levels of its topic, the messages are in the order of replay, and there are so many
 pub record IsTree (root : List Spot) (count limit : ℕ) : Type 0 where

@@ -5,7 +5,7 @@ ghost use Rattle.std.specs.BTreeMap.{insert_entry, is_at};
 ghost use Rattle.std.specs.List.{filter};
 ghost use Rattle.std.specs.Map.{remove_entry};
 ghost use Rattle.rs_topic.specs.Order.{path_cmp};
-ghost use Rattle.rs_tree.specs.Chosen.{chosen_at_root};
+ghost use Rattle.rs_branch.specs.Chosen.{chosen_at_root};
 ghost use Rattle.rs_bucket.specs.Expiring.{earliest};
 ghost use Rattle.rs_topic.specs.Rests.{levels_from};
 ghost use Rattle.rs_bucket.specs.Spots.{is_there};
@@ -13,7 +13,7 @@ ghost use Rattle.rs_bucket.specs.Sweeping.{is_expired_spot, spot_stays};
 ghost use Rattle.rs_store.specs.declared.limit.TheConstants.{MAX_TOPICS};
 ghost use Rattle.rs_store.specs.Room.{IsStop};
 
-use crate::branch::{Branch, Remains};
+use rs_branch::{Branch, Remains};
 use rs_bucket::Cleared;
 use rs_message::Found;
 use rs_store::{Answer, Stop};

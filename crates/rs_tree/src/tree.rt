@@ -9,12 +9,12 @@ ghost use Rattle.std.specs.Map.{keys_of, remove_entry};
 ghost use Rattle.rs_topic.specs.Order.{topic_cmp};
 ghost use Rattle.rs_store.specs.Contents.{after, found_of, if_fits, is_answered, is_gone, stays};
 ghost use Rattle.rs_store.specs.Expiring.{first_end};
-ghost use Rattle.rs_tree.specs.Spots.{ArePlaced, pairs};
+ghost use Rattle.rs_branch.specs.Spots.{pairs};
 ghost use Rattle.rs_store.specs.declared.limit.TheConstants.{MAX_TOPICS};
-ghost use Rattle.rs_tree.specs.Trees.{IsTree};
+ghost use Rattle.rs_tree.specs.Trees.{ArePlaced, IsTree};
 
-use crate::branch::Remains;
 use crate::root::Root;
+use rs_branch::Remains;
 use rs_message::{Entry, Found, Operation};
 use rs_store::{Answer, Catalogue, Ledger, Refusal, Stop, TopicLimit};
 use rs_topic::{TopicFilter, TopicName};
@@ -49,7 +49,7 @@ impl Model for TreeCatalogue {
     ghost use Rattle.rs_store.specs.declared.content.Content.{Content};
     ghost use Rattle.rs_store.specs.Ledgers.{content_of};
     ghost use Rattle.rs_tree.specs.Trees.{IsTree};
-    ghost use Rattle.rs_tree.specs.Spots.{pairs};
+    ghost use Rattle.rs_branch.specs.Spots.{pairs};
 
     ghost Value = { Content };
 

@@ -1,4 +1,4 @@
-use Rattle.rs_tree.specs.Spots.{pairs}
+use Rattle.rs_branch.specs.Spots.{pairs}
 use Rattle.rs_store.proofs.Expiring.{calm_until, some_gone}
 use Rattle.rs_tree.proofs.tree.TreeCatalogueCatalogue.earliest.Goals as goal
 

@@ -1,0 +1,16 @@
+pub mod Choosing
+pub mod Chosen
+pub mod Chunks
+pub mod Clearing
+pub mod Cutting
+pub mod Dividing
+pub mod Ends
+pub mod Expiring
+pub mod Flattening
+pub mod Growing
+pub mod Joining
+pub mod Leaving
+pub mod Parting
+pub mod Sent
+pub mod Stems
+pub mod Under

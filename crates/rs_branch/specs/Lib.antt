@@ -1,0 +1,9 @@
+pub mod Answers
+pub mod Chosen
+pub mod Chunks
+pub mod Depths
+pub mod Heights
+pub mod Nodes
+pub mod Rests
+pub mod Spots
+pub mod Values
