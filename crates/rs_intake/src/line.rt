@@ -22,7 +22,7 @@ use crate::reply::{ReplyReceiver, WriterReply};
 use crossbeam_channel::Pass;
 use rs_message::{Entry, Operation, Origin, SubmitFault, is_same};
 use rs_queue::steps::send;
-use rs_queue::{Changes, Gone, Job, JobSender, MAX_CHANGES, PassView, Room, alone, prepared};
+use rs_queue::{Changes, Gone, Job, JobSender, MAX_CHANGES, PassView, alone, prepared};
 use std::alloc::Global;
 use std::collections::VecDeque;
 use std::marker::{Model, PhantomData};
@@ -192,7 +192,6 @@ pub struct SeatLine<N: LineName> {
     serial: u64,
     replies: ReplyReceiver<N>,
     ahead: VecDeque<Entry>,
-    room: Room,
     alloc: Global,
 }
 
@@ -219,7 +218,6 @@ impl<N: LineName> SeatLine<N> {
             serial: 0,
             replies,
             ahead: VecDeque::new(alloc),
-            room: Room::new(),
             alloc,
         }
     }
@@ -262,8 +260,7 @@ impl<N: LineName> SeatLine<N> {
             return;
         }
         let place = self.line.place();
-        let Some((job, ahead)) = prepared(self.alloc, &mut self.room, place, self.serial, changes)
-        else {
+        let Some((job, ahead)) = prepared(self.alloc, place, self.serial, changes) else {
             return;
         };
         if self.line.send_changes(rt, job) {
@@ -349,7 +346,7 @@ impl<N: LineName> SeatLine<N> {
         let Ok(copy) = entry.copy() else {
             return Err(SubmitFault::NoMemory);
         };
-        let Some(changes) = alone(self.alloc, &mut self.room, copy) else {
+        let Some(changes) = alone(self.alloc, copy) else {
             // Refused: the memory for a list of one, or what has to be left.
             return Err(SubmitFault::NoMemory);
         };
@@ -417,7 +414,6 @@ impl<N: LineName> SeatLine<N> {
             serial: _,
             replies: _replies,
             ahead: _ahead,
-            room: _room,
             alloc: _,
         } = self;
         line.finish(rt)

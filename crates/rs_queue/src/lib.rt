@@ -24,6 +24,5 @@ pub use job::{Changes, Job, MAX_CHANGES};
 pub use law::line_order_law;
 pub use looks::{Looks, look_in_vain};
 pub use preparing::{alone, prepared};
-pub use room::Room;
 pub use rule::{JobReceiver, JobSender, PassView, QueueRule, SentFrom};
 pub use waiting::{Gone, Patience, receive, send};

@@ -8,7 +8,7 @@ ghost use Rattle.rs_queue.specs.Changes.{numbered};
 ghost use Rattle.rs_queue.specs.declared.job.TheConstants.{MAX_CHANGES};
 
 use crate::job::Changes;
-use crate::room::{Room, size, size_of_all};
+use crate::room::has_room;
 use rs_message::{Entry, Operation, Origin};
 use std::alloc::Global;
 use std::collections::VecDeque;
@@ -45,7 +45,6 @@ fn copies(alloc: Global, entries: &Vec<Entry>) -> Option<Vec<Entry>>
 /// for all, or memory is refused or short.
 pub fn prepared(
     alloc: Global,
-    room: &mut Room,
     place: u8,
     serial: u64,
     operations: Vec<Operation>,
@@ -58,7 +57,7 @@ pub fn prepared(
     ensures ahead { IfSome result (λ r. r.1.items ≡ numbered place serial operations.items) }
     ensures small { IfSome result (λ r. serial + length r.1.items < 2 ^ 64) }
 {
-    if !room.is_left(alloc, size_of_all(&operations)) {
+    if !has_room(alloc) {
         return None;
     }
     let entries = numbered(alloc, place, serial, operations)?;
@@ -66,14 +65,21 @@ pub fn prepared(
     Some((Changes::new(job), VecDeque::from_vec(entries)))
 }
 
+/// Whether the entry stores a message.
+fn is_set(entry: &Entry) -> bool {
+    match &entry.operation {
+        Operation::Set(_) => true,
+        Operation::Clear(_) | Operation::Sweep(_) => false,
+    }
+}
+
 /// This entry alone, as a job. `None` if memory is refused, or is short and the entry takes more of it.
-pub fn alone(alloc: Global, room: &mut Room, entry: Entry) -> Option<Changes>
+pub fn alone(alloc: Global, entry: Entry) -> Option<Changes>
     requires plain { is_sweep entry.operation ≡ false }
     requires place { 0 < entry.origin.place }
     ensures { IfSome result (λ changes. changes ≡ entry ∷ []) }
 {
-    let size = size(&entry.operation);
-    if size > 0 && !room.is_left(alloc, size) {
+    if is_set(&entry) && !has_room(alloc) {
         return None;
     }
     let mut entries = Vec::with_capacity(alloc, 1).ok()?;
