@@ -20,4 +20,5 @@ behind (k ∷ ks) (level ∷ path) = if bytes_eq k level then behind ks path els
 abbrev pub past : List (List ℕ) → List (List ℕ) → Option (List (List ℕ))
 past [] pattern = Some pattern
 past (k ∷ ks) [] = None
-past (k ∷ ks) (level ∷ pattern) = if fits (level ∷ pattern) [] then Some (level ∷ pattern) else if bytes_eq level (plus ∷ []) || bytes_eq level k then past ks pattern else None
+past (k ∷ ks) (level ∷ pattern) = if fits (level ∷ pattern) [] then Some (level ∷ pattern)
+    else if bytes_eq level (plus ∷ []) || bytes_eq level k then past ks pattern else None

@@ -163,7 +163,8 @@ impl Bucket {
 
     /// It has one message, which is at this rest of a topic.
     pub fn is_one_at(&self, topic: &[u8], at: usize) -> bool
-        ensures alone { IsTrue result → (found : Found) → insert_entry path_cmp self.now (levels_from at topic.now) found ≡ (levels_from at topic.now, found) ∷ [] }
+        ensures alone { IsTrue result → (found : Found)
+            → insert_entry path_cmp self.now (levels_from at topic.now) found ≡ (levels_from at topic.now, found) ∷ [] }
         ensures there { IsTrue result → is_there (levels_from at topic.now) self.now ≡ true }
     {
         match &self.messages {
@@ -326,7 +327,8 @@ impl Bucket {
         answer: &mut Answer,
     ) -> Result<(), Stop>
         ensures done { OnOk result (answer.new.found.items ≡ answer.old.found.items ++ chosen (levels_from at filter.now) now self.now) }
-        ensures stop { IfErr result (λ stop. IsStop stop answer.old.room (answer.old.found.items ++ chosen (levels_from at filter.now) now self.now)) }
+        ensures stop { IfErr result (λ stop.
+            IsStop stop answer.old.room (answer.old.found.items ++ chosen (levels_from at filter.now) now self.now)) }
         ensures room { answer.new.room ≡ answer.old.room }
     {
         match &self.messages {

@@ -31,8 +31,10 @@ pub(crate) fn answer_one(
     now: u64,
     answer: &mut Answer,
 ) -> Result<(), Stop>
-    ensures done { OnOk result (answer.new.found.items ≡ answer.old.found.items ++ chosen (levels_from at filter.now) now (spot_of from found.now ∷ [])) }
-    ensures stop { IfErr result (λ stop. IsStop stop answer.old.room (answer.old.found.items ++ chosen (levels_from at filter.now) now (spot_of from found.now ∷ []))) }
+    ensures done { OnOk result (answer.new.found.items
+        ≡ answer.old.found.items ++ chosen (levels_from at filter.now) now (spot_of from found.now ∷ [])) }
+    ensures stop { IfErr result (λ stop.
+        IsStop stop answer.old.room (answer.old.found.items ++ chosen (levels_from at filter.now) now (spot_of from found.now ∷ []))) }
     ensures room { answer.new.room ≡ answer.old.room }
 {
     if !levels_fit(filter, at, found.topic().as_bytes(), from) || is_expired(found.message(), now) {
@@ -45,7 +47,8 @@ impl Leaf {
     /// Begins the rest of the topic before a chain and a level, if these stand there, and says whether they do.
     pub(crate) fn rise(&mut self, chain: &[u8], level: &[u8]) -> bool
         ensures same { self.new.found ≡ self.old.found }
-        ensures done { IsTrue result → levels_from self.new.at self.old.found.topic ≡ levels_from 1 chain.now ++ level.now ∷ levels_from self.old.at self.old.found.topic }
+        ensures done { IsTrue result → levels_from self.new.at self.old.found.topic
+            ≡ levels_from 1 chain.now ++ level.now ∷ levels_from self.old.at self.old.found.topic }
         ensures unchanged { result ≡ false → self.new.at ≡ self.old.at }
     {
         let topic = self.found.topic().as_bytes();
@@ -90,8 +93,11 @@ impl Leaf {
         now: u64,
         answer: &mut Answer,
     ) -> Result<(), Stop>
-        ensures done { OnOk result (answer.new.found.items ≡ answer.old.found.items ++ chosen (levels_from at filter.now) now (spot_of self.now.at self.now.found ∷ [])) }
-        ensures stop { IfErr result (λ stop. IsStop stop answer.old.room (answer.old.found.items ++ chosen (levels_from at filter.now) now (spot_of self.now.at self.now.found ∷ []))) }
+        ensures done { OnOk result (answer.new.found.items
+            ≡ answer.old.found.items ++ chosen (levels_from at filter.now) now (spot_of self.now.at self.now.found ∷ [])) }
+        ensures stop { IfErr result (λ stop.
+            IsStop stop answer.old.room (answer.old.found.items ++ chosen (levels_from at filter.now) now
+            (spot_of self.now.at self.now.found ∷ []))) }
         ensures room { answer.new.room ≡ answer.old.room }
     {
         answer_one(&self.found, self.at, filter, at, now, answer)

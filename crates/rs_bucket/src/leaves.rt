@@ -54,7 +54,8 @@ impl Model for Leaves {
 
 /// Where the rest of a topic is, or else where it belongs.
 fn index_of(leaves: &[Leaf], topic: &[u8], at: usize) -> Result<usize, usize>
-    ensures found { MatchResult result (λ i. IsHere (levels_from at topic.now) leaves.now i) (λ i. IsGap (levels_from at topic.now) leaves.now i) }
+    ensures found { MatchResult result (λ i. IsHere (levels_from at topic.now) leaves.now i)
+        (λ i. IsGap (levels_from at topic.now) leaves.now i) }
     ensures within { IfOk result (λ i. i < length leaves.now) }
     ensures up_to { IfErr result (λ i. i ≤ length leaves.now) }
 {
@@ -76,8 +77,10 @@ fn answer_each(
     now: u64,
     answer: &mut Answer,
 ) -> Result<(), Stop>
-    ensures done { OnOk result (answer.new.found.items ≡ answer.old.found.items ++ chosen (levels_from at filter.now) now (spots_in leaves.now)) }
-    ensures stop { IfErr result (λ stop. IsStop stop answer.old.room (answer.old.found.items ++ chosen (levels_from at filter.now) now (spots_in leaves.now))) }
+    ensures done { OnOk result (answer.new.found.items
+        ≡ answer.old.found.items ++ chosen (levels_from at filter.now) now (spots_in leaves.now)) }
+    ensures stop { IfErr result (λ stop.
+        IsStop stop answer.old.room (answer.old.found.items ++ chosen (levels_from at filter.now) now (spots_in leaves.now))) }
     ensures room { answer.new.room ≡ answer.old.room }
 {
     for leaf in leaves {
@@ -104,7 +107,8 @@ fn risen(
     chain: &[u8],
     level: &[u8],
 ) -> Result<Option<Vec<Leaf>>, AllocError>
-    ensures { IfOk result (λ r. IfSome r (λ higher. spots_in higher.items ≡ under_all (levels_from 1 chain.now) (under level.now (spots_in leaves.now)))) }
+    ensures { IfOk result (λ r. IfSome r (λ higher.
+        spots_in higher.items ≡ under_all (levels_from 1 chain.now) (under level.now (spots_in leaves.now)))) }
 {
     let mut higher = Vec::with_capacity(alloc, leaves.len())?;
     for leaf in leaves {
@@ -119,7 +123,8 @@ fn risen(
 
 /// Counts the messages that are expired.
 fn count_each(leaves: &[Leaf], now: u64, count: &mut u32)
-    ensures { count.old + length (spots_in leaves.now) ≤ MAX_TOPICS → count.new ≡ count.old + length (filter (is_expired_spot now) (spots_in leaves.now)) }
+    ensures { count.old + length (spots_in leaves.now) ≤ MAX_TOPICS
+        → count.new ≡ count.old + length (filter (is_expired_spot now) (spots_in leaves.now)) }
 {
     for leaf in leaves {
         if is_expired(leaf.found.message(), now) {
@@ -289,7 +294,8 @@ impl Leaves {
         answer: &mut Answer,
     ) -> Result<(), Stop>
         ensures done { OnOk result (answer.new.found.items ≡ answer.old.found.items ++ chosen (levels_from at filter.now) now self.now) }
-        ensures stop { IfErr result (λ stop. IsStop stop answer.old.room (answer.old.found.items ++ chosen (levels_from at filter.now) now self.now)) }
+        ensures stop { IfErr result (λ stop.
+            IsStop stop answer.old.room (answer.old.found.items ++ chosen (levels_from at filter.now) now self.now)) }
         ensures room { answer.new.room ≡ answer.old.room }
     {
         answer_each(self.leaves.as_slice(), filter, at, now, answer)

@@ -47,7 +47,8 @@ client_with connections gate first = record { place = place_at connections gate;
 -- The client of this number, from 0 on, over one of these gates: the first goes with the first gate, and so on, and after the last gate
 -- comes the first again.
 abbrev pub client_at : List SharedValue → ℕ → Connections → Client
-client_at gates client connections = client_with connections (slice_index_or gates (client % length gates) (new_client [] 0)) (first_number client)
+client_at gates client connections = client_with connections (slice_index_or gates (client % length gates) (new_client [] 0))
+    (first_number client)
 
 -- a client for each turn, from this number on
 abbrev pub clients_of : List SharedValue → ℕ → List Connections → List Client

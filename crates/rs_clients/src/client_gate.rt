@@ -171,7 +171,8 @@ impl<N: LineName, R: Wait + Copy> Model for ClientGate<N, R> {
 
     ghost view = { λ g. client_of g.reached (changes_of g.outcomes.items ++ g.expected.items) };
 
-    ghost invariant = { λ g. AllByRecursion (λ o. is_sweep o ≡ false) g.expected.items × ((g.expected.items ≡ []) ⊎ (g.outcomes.items ≡ [])) × (g.index < length (arc_value g.places)) };
+    ghost invariant = { λ g. AllByRecursion (λ o. is_sweep o ≡ false) g.expected.items × ((g.expected.items ≡ []) ⊎ (g.outcomes.items ≡ []))
+        × (g.index < length (arc_value g.places)) };
 }
 
 impl<N: LineName, R: Wait + Copy> ClientGate<N, R> {

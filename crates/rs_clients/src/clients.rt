@@ -66,7 +66,11 @@ fn serve_one<T: Turn + Drop, N: LineName, H: Wait + Copy>(
     number: u64,
 ) -> ClientGate<N, H>
     ensures { ServesOne N.limit number (place_at (T.connections turn.old) gate)
-        (record { unread = T.In.remaining connection.input; written = T.Out.contents connection.output; moments = T.Time.moments connection.clock })
+        (record {
+          unread = T.In.remaining connection.input;
+          written = T.Out.contents connection.output;
+          moments = T.Time.moments connection.clock;
+        })
         (place_at (T.connections turn.new) result) }
 {
     let Connection {

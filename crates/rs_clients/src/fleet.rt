@@ -60,7 +60,8 @@ fn seat<T: Turn + Drop, N: LineName, H: Wait + Copy>(
     places: &Arc<SharedPlaces<N>>,
     client: usize,
 ) -> Option<Seated<T, N, H>>
-    ensures { IfSome result (λ s. client_with (T.connections s.turn) s.gate s.first ≡ client_at (arc_value places.now) client (T.connections turn)) }
+    ensures { IfSome result (λ s. client_with (T.connections s.turn) s.gate s.first
+        ≡ client_at (arc_value places.now) client (T.connections turn)) }
 {
     let index = client.checked_rem(places.len())?;
     let gate = ClientGate::new(rt, alloc, Arc::try_clone(places).ok()?, index)?;
@@ -75,7 +76,8 @@ fn seat_each<T: Turn + Drop, N: LineName, H: Wait + Copy>(
     turns: Vec<T>,
     places: &Arc<SharedPlaces<N>>,
 ) -> Result<Vec<Seated<T, N, H>>, AllocError>
-    ensures { IfOk result (λ all. map (λ s. client_with (T.connections s.turn) s.gate s.first) all.items ≡ clients_of (arc_value places.now) 0 (map T.connections turns.items)) }
+    ensures { IfOk result (λ all. map (λ s. client_with (T.connections s.turn) s.gate s.first) all.items
+        ≡ clients_of (arc_value places.now) 0 (map T.connections turns.items)) }
 {
     let mut all = Vec::with_capacity(alloc, turns.len())?;
     let mut client = 0usize;
@@ -101,7 +103,9 @@ struct ServesTurn<T, N: LineName, H: Wait + Copy> {
 impl<T: Turn + Drop, N: LineName, H: Wait + Copy> Promise<TurnEnd<N, T>> for ServesTurn<T, N, H> {
     ghost use Rattle.rs_clients.specs.Fleet.{IsTurnServed, client_left, client_with};
 
-    ghost kept_by = { λ promise end. IsTurnServed N.limit (client_with (T.connections promise.turn.value) promise.gate.value promise.first) (client_left (T.connections end.turn) end.told) };
+    ghost kept_by = { λ promise end.
+        IsTurnServed N.limit (client_with (T.connections promise.turn.value) promise.gate.value promise.first)
+        (client_left (T.connections end.turn) end.told) };
 }
 
 /// A client's thread, which gives what is left of the client.
@@ -119,8 +123,10 @@ fn start_client<
     client: Seated<T, N, H>,
     here: bool,
 ) -> Result<ClientThread<T, N, H>, Option<TurnEnd<N, T>>>
-    ensures { MatchResult result (λ thread. (thread.promise.turn.value ≡ client.turn) × (thread.promise.gate.value ≡ client.gate) × (thread.promise.first ≡ client.first))
-        (λ left. IfSome left (λ end. IsTurnServed N.limit (client_with (T.connections client.turn) client.gate client.first) (client_left (T.connections end.turn) end.told))) }
+    ensures { MatchResult result (λ thread. (thread.promise.turn.value ≡ client.turn) × (thread.promise.gate.value ≡ client.gate)
+        × (thread.promise.first ≡ client.first))
+        (λ left. IfSome left (λ end. IsTurnServed N.limit (client_with (T.connections client.turn) client.gate client.first)
+        (client_left (T.connections end.turn) end.told))) }
 {
     let Seated { turn, gate, first } = client;
     let promise = ServesTurn {
@@ -153,7 +159,8 @@ fn start_clients<
     H: Threads + Wait + Copy + Send + Sync + 'static,
 >(rt: H, alloc: Global, all: Vec<Seated<T, N, H>>) -> Result<StartedClients<T, N, H>, StoreFault>
     ensures served { IfOk result (λ started. (here : List Client)
-        × (map (λ thread. client_with (T.connections thread.promise.turn.value) thread.promise.gate.value thread.promise.first) started.0.items ++ here ≡ map (λ s. client_with (T.connections s.turn) s.gate s.first) all.items)
+        × (map (λ thread. client_with (T.connections thread.promise.turn.value) thread.promise.gate.value thread.promise.first)
+        started.0.items ++ here ≡ map (λ s. client_with (T.connections s.turn) s.gate s.first) all.items)
         × AllZip (IsTurnServed N.limit) here (map (λ end. client_left (T.connections end.turn) end.told) started.1.items)) }
     ensures few { IfOk result (λ started. length started.0.items + length started.1.items ≤ length all.items) }
 {
@@ -182,7 +189,9 @@ fn join_clients<T: Turn + Drop, N: LineName, H: Threads + Wait + Copy>(
 ) -> Vec<TurnEnd<N, T>>
     requires empty { ends.items ≡ [] }
     requires capacity { length threads.items ≤ vec_capacity ends }
-    ensures served { AllZip (IsTurnServed N.limit) (map (λ thread. client_with (T.connections thread.promise.turn.value) thread.promise.gate.value thread.promise.first) threads.items) (map (λ end. client_left (T.connections end.turn) end.told) result.items) }
+    ensures served { AllZip (IsTurnServed N.limit)
+        (map (λ thread. client_with (T.connections thread.promise.turn.value) thread.promise.gate.value thread.promise.first) threads.items)
+        (map (λ end. client_left (T.connections end.turn) end.told) result.items) }
     ensures capacity { vec_capacity ends ≤ vec_capacity result }
 {
     let mut ends = ends;
@@ -236,9 +245,12 @@ pub fn run_clients<
     turns: Vec<T>,
     places: SharedPlaces<N>,
 ) -> Result<FleetEnd<N, T>, StoreFault>
-    ensures clients { IfOk result (λ end. AllZip (IsTurnServed N.limit) (clients_of places 0 (map T.connections turns.items)) (map (λ client. client_left (T.connections client.turn) client.told) end.clients.items)) }
+    ensures clients { IfOk result (λ end.
+        AllZip (IsTurnServed N.limit) (clients_of places 0 (map T.connections turns.items))
+        (map (λ client. client_left (T.connections client.turn) client.told) end.clients.items)) }
     ensures lines { IfOk result (λ end. length end.lines.items ≡ length places) }
-    ensures closed { IfOk result (λ end. All (λ line. IsClosed line.place line.ends line.gone × AreOfLine line.place line.sent) end.lines.items) }
+    ensures closed { IfOk result (λ end.
+        All (λ line. IsClosed line.place line.ends line.gone × AreOfLine line.place line.sent) end.lines.items) }
 {
     // Before any thread starts, so that no end is lost.
     let ends = Vec::with_capacity(alloc, turns.len())?;

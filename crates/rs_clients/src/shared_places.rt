@@ -99,8 +99,8 @@ impl<N: LineName> SharedPlace<N> {
 }
 
 impl<N: LineName> SharedPlaces<N> {
-    /// A place for each line and a seat. Any seats of the store will do: a seat has no place. What is left of the longer list is dropped. It
-    /// waits for the writer only if something is ahead of a line.
+    /// A place for each line and a seat. Any seats of the store will do: a seat has no place. What is left of the longer list is dropped.
+    /// It waits for the writer only if something is ahead of a line.
     ///
     /// # Errors
     ///

@@ -18,9 +18,9 @@ use std::thread::Threads;
 /// [`run_clients`] does, with the writer on one more, and settles. The first turn goes with place 1, and so on, and after the last place
 /// comes place 1 again.
 ///
-/// The contract is one statement about the run, `IsFleetRun`: what that of [`run_store`](rs_places::run_store) says of the history, the writer and the changes;
-/// of each client, what that says of the connections of a place; and of each place, what the writer took of what it sent, and what the
-/// history has of that. It does not say which of the clients of a place sent what.
+/// The contract is one statement about the run, `IsFleetRun`: what that of [`run_store`](rs_places::run_store) says of the history, the
+/// writer and the changes; of each client, what that says of the connections of a place; and of each place, what the writer took of what it
+/// sent, and what the history has of that. It does not say which of the clients of a place sent what.
 ///
 /// # Errors
 ///
@@ -33,7 +33,8 @@ pub fn run_fleet<T: Turn + Send + Drop + 'static, H: Threads + Wait + Copy + Sen
     turns: Vec<T>,
 ) -> Result<StoreEnd<T>, StoreFault>
     requires { queue.places ≡ blank.places }
-    ensures { IfOk result (λ end. IsFleetRun blank.limit blank.places (map T.connections turns.items) (map T.connections end.turns.items) end.version end.changes) }
+    ensures { IfOk result (λ end. IsFleetRun blank.limit blank.places (map T.connections turns.items)
+        (map T.connections end.turns.items) end.version end.changes) }
 {
     run_fleet_named::<Brand, T, H>(rt, alloc, blank, queue, turns)
 }
@@ -52,7 +53,8 @@ fn run_fleet_named<
     requires store { (blank.history ≡ N.history) × (blank.limit ≡ N.limit) }
     requires queue { (queue.name ≡ N.queue) × (queue.places ≡ N.places) }
     requires places { queue.places ≡ blank.places }
-    ensures { IfOk result (λ end. IsFleetRun blank.limit blank.places (map T.connections turns.items) (map T.connections end.turns.items) end.version end.changes) }
+    ensures { IfOk result (λ end. IsFleetRun blank.limit blank.places (map T.connections turns.items)
+        (map T.connections end.turns.items) end.version end.changes) }
 {
     let (writer, seats) = blank.open::<N, H>(rt)?;
     let (intake, lines, queue) = queue.open::<N>()?;

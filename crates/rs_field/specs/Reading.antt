@@ -65,7 +65,8 @@ byte_at [] = Err Malformed
 byte_at (b ∷ bytes) = Ok (b, bytes)
 
 abbrev pub number_at : Width → List ℕ → Result (ℕ × List ℕ) PacketFault
-number_at w bytes = if nat_lt (length bytes) (byte_len w) then Err Malformed else Ok (from_be_bytes w (take (byte_len w) bytes), drop (byte_len w) bytes)
+number_at w bytes = if nat_lt (length bytes) (byte_len w) then Err Malformed
+    else Ok (from_be_bytes w (take (byte_len w) bytes), drop (byte_len w) bytes)
 
 -- a part of this length
 abbrev pub part_at : ℕ → List ℕ → Result (List ℕ × List ℕ) PacketFault
@@ -90,8 +91,10 @@ wanting false x = Err Protocol
 
 abbrev pub identifiers : List Identifier
 identifiers =
-    id.PayloadFormatIndicator ∷ id.MessageExpiryInterval ∷ id.ContentType ∷ id.ResponseTopic ∷ id.CorrelationData ∷ id.SubscriptionIdentifier
-    ∷ id.SessionExpiryInterval ∷ id.AuthenticationMethod ∷ id.AuthenticationData ∷ id.RequestProblemInformation ∷ id.RequestResponseInformation
+    id.PayloadFormatIndicator ∷ id.MessageExpiryInterval ∷ id.ContentType ∷ id.ResponseTopic ∷ id.CorrelationData
+    ∷ id.SubscriptionIdentifier
+    ∷ id.SessionExpiryInterval ∷ id.AuthenticationMethod ∷ id.AuthenticationData ∷ id.RequestProblemInformation
+    ∷ id.RequestResponseInformation
     ∷ id.ServerReference ∷ id.ReasonString ∷ id.ReceiveMaximum ∷ id.TopicAliasMaximum ∷ id.TopicAlias ∷ id.UserProperty
     ∷ id.MaximumPacketSize ∷ []
 

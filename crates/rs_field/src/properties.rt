@@ -56,9 +56,12 @@ fn judge(
 /// The value of a property that says no or yes, 0 or 1. Malformed if there is none, and Protocol if it is another.
 #[tactic(auto, unfolding(crate::specs::Reading::value_at))]
 fn read_flag(rest: &mut Bytes) -> Result<u8, PacketFault>
-    ensures format { Gives (λ n. (property.PayloadFormatIndicator n, rest.new)) result (value_at identifier.PayloadFormatIndicator rest.old) }
-    ensures problem { Gives (λ n. (property.RequestProblemInformation n, rest.new)) result (value_at identifier.RequestProblemInformation rest.old) }
-    ensures response { Gives (λ n. (property.RequestResponseInformation n, rest.new)) result (value_at identifier.RequestResponseInformation rest.old) }
+    ensures format { Gives (λ n. (property.PayloadFormatIndicator n, rest.new)) result
+        (value_at identifier.PayloadFormatIndicator rest.old) }
+    ensures problem { Gives (λ n. (property.RequestProblemInformation n, rest.new)) result
+        (value_at identifier.RequestProblemInformation rest.old) }
+    ensures response { Gives (λ n. (property.RequestResponseInformation n, rest.new)) result
+        (value_at identifier.RequestResponseInformation rest.old) }
     ensures shorter { length rest.new ≤ length rest.old }
 {
     let n = read_u8(rest)?;
@@ -288,7 +291,8 @@ fn put_subscription(
     out: &mut Vec<u8>,
     subscription: Option<SubscriptionId>,
 ) -> Result<(), AllocError>
-    ensures { OnOk result (out.new.items ≡ out.old.items ++ flat_map property_bytes (optional Property.SubscriptionIdentifier subscription)) }
+    ensures { OnOk result (out.new.items
+        ≡ out.old.items ++ flat_map property_bytes (optional Property.SubscriptionIdentifier subscription)) }
 {
     if let Some(id) = subscription {
         out.push(SUBSCRIPTION_IDENTIFIER)?;

@@ -46,7 +46,8 @@ IsDone limit kept entry (Err Stale) kept' = ⊥
 -- list comes of it
 abbrev pub AreDone : ℕ → List Entry → List Entry → List Outcome → List Entry → Type 0
 AreDone limit kept [] [] kept' = kept' ≡ kept
-AreDone limit kept (entry ∷ entries) (outcome ∷ outcomes) kept' = (next : List Entry) × IsDone limit kept entry outcome next × AreDone limit next entries outcomes kept'
+AreDone limit kept (entry ∷ entries) (outcome ∷ outcomes) kept' = (next : List Entry) × IsDone limit kept entry outcome next
+    × AreDone limit next entries outcomes kept'
 AreDone limit kept [] (outcome ∷ outcomes) kept' = ⊥
 AreDone limit kept (entry ∷ entries) [] kept' = ⊥
 
@@ -57,7 +58,8 @@ IsOutcome limit w entry outcome w' = IsPut limit w entry outcome w' ⊎ ((outcom
 -- the same for these entries, one after the other
 abbrev pub AreOutcomes : ℕ → Written → List Entry → List Outcome → Written → Type 0
 AreOutcomes limit w [] [] w' = w' ≡ w
-AreOutcomes limit w (entry ∷ entries) (outcome ∷ outcomes) w' = (next : Written) × IsOutcome limit w entry outcome next × AreOutcomes limit next entries outcomes w'
+AreOutcomes limit w (entry ∷ entries) (outcome ∷ outcomes) w' = (next : Written) × IsOutcome limit w entry outcome next
+    × AreOutcomes limit next entries outcomes w'
 AreOutcomes limit w [] (outcome ∷ outcomes) w' = ⊥
 AreOutcomes limit w (entry ∷ entries) [] w' = ⊥
 
@@ -77,7 +79,8 @@ refused_in outcomes = length (filter is_refused outcomes)
 abbrev pub not_refused : List Entry → List Outcome → List Entry
 not_refused [] outcomes = []
 not_refused (entry ∷ entries) [] = []
-not_refused (entry ∷ entries) (outcome ∷ outcomes) = cond (is_refused outcome) (not_refused entries outcomes) (entry ∷ not_refused entries outcomes)
+not_refused (entry ∷ entries) (outcome ∷ outcomes) = cond (is_refused outcome) (not_refused entries outcomes)
+    (entry ∷ not_refused entries outcomes)
 
 -- whether the outcome says that the entry is held
 abbrev pub is_held : Outcome → Bool
@@ -95,7 +98,8 @@ has_held (outcome ∷ outcomes) = is_held outcome || has_held outcomes
 -- each outcome behind one that says so is that memory was refused
 abbrev pub AreRefusedBehind : List Outcome → Type 0
 AreRefusedBehind [] = Unit {0}
-AreRefusedBehind (outcome ∷ outcomes) = (is_held outcome ≡ true → AllByRecursion (λ a. a ≡ Err NoMemory) outcomes) × AreRefusedBehind outcomes
+AreRefusedBehind (outcome ∷ outcomes) = (is_held outcome ≡ true → AllByRecursion (λ a. a ≡ Err NoMemory) outcomes)
+    × AreRefusedBehind outcomes
 
 -- the replies that have these outcomes, one to each entry
 abbrev pub replies_to : List Entry → List Outcome → List ReplyValue
@@ -129,10 +133,11 @@ way_to place ways = slice_index_or ways (place - 1) untold
 -- order: all of them, unless a send failed, and then a prefix of them
 pub record AreTold (places : ℕ) (replies : List ReplyValue) (ways : List Told) : Type 0 where
   pub count : length ways ≡ places
-  pub each : (place : ℕ) → 0 < place → place ≤ places → AreSent (replies_for place replies) (way_to place ways).sent (way_to place ways).gone
+  pub each : (place : ℕ) → 0 < place → place ≤ places
+      → AreSent (replies_for place replies) (way_to place ways).sent (way_to place ways).gone
 
--- There are outcomes, one for each entry, in their order, by which this list came to be, and by these ways back each place was told those of
--- its own entries. Without its Sweeps the list is the entries that were not refused
+-- There are outcomes, one for each entry, in their order, by which this list came to be, and by these ways back each place was told those
+-- of its own entries. Without its Sweeps the list is the entries that were not refused
 pub record IsWritten (limit places : ℕ) (entries kept : List Entry) (ways : List Told) : Type 0 where
   pub outcomes : List Outcome
   pub done : AreDone limit [] entries outcomes kept
@@ -141,7 +146,8 @@ pub record IsWritten (limit places : ℕ) (entries kept : List Entry) (ways : Li
 
 -- There are outcomes of these entries, one for each, in their order, which say what was done with them, one after the other; these are the
 -- replies that have them, and so many of the entries are not kept. Behind an entry that is held the others of these are refused
-pub record AreReplied (limit : ℕ) (w : Written) (entries : List Entry) (replies : List ReplyValue) (refused : ℕ) (w' : Written) : Type 0 where
+pub record AreReplied (limit : ℕ) (w : Written) (entries : List Entry) (replies : List ReplyValue) (refused : ℕ)
+    (w' : Written) : Type 0 where
   pub outcomes : List Outcome
   pub done : AreDone limit (kept_of w) entries outcomes (kept_of w')
   pub outcomes_are : AreOutcomes limit w entries outcomes w'

@@ -20,5 +20,7 @@ HeardInOrder = (items : List (List ReplyValue)) (views : List WayView) (i j : �
 -- whatever the outcomes of entries that are no Sweeps: what is kept then, without its Sweeps, is a part of the entries, which lacks as
 -- many of them as were refused; and each Sweep is the one that an entry needed there
 abbrev pub KeptByOutcomes : Type 0
-KeptByOutcomes = (limit : ℕ) (entries kept : List Entry) (outcomes : List Outcome) → All (λ e. is_sweep e.operation ≡ false) entries → AreDone limit [] entries outcomes kept
-    → IsPart (without_sweeps kept) entries × (length (without_sweeps kept) + refused_in outcomes ≡ length entries) × AreForEntries limit entries kept
+KeptByOutcomes = (limit : ℕ) (entries kept : List Entry) (outcomes : List Outcome) → All (λ e. is_sweep e.operation ≡ false) entries
+    → AreDone limit [] entries outcomes kept
+    → IsPart (without_sweeps kept) entries × (length (without_sweeps kept) + refused_in outcomes ≡ length entries)
+    × AreForEntries limit entries kept

@@ -73,7 +73,8 @@ IsClosed place ends None = ends ≡ place ∷ []
 IsClosed place ends (Some gone) = ends ≡ []
 
 -- the pass is that of a line of this queue
-pub record IsLine {Q M L A : Type 0} (name : QueueName) (places : ℕ) (c : Rows (Badge (Key Job)) (Doing Job PassView) Q M (Key Job) L A) (pass : Pass Job PassView) (place sent : ℕ) : Type 0 where
+pub record IsLine {Q M L A : Type 0} (name : QueueName) (places : ℕ) (c : Rows (Badge (Key Job)) (Doing Job PassView) Q M (Key Job) L A)
+    (pass : Pass Job PassView) (place sent : ℕ) : Type 0 where
   pub queue : IsQueue name c
   pub is_of_queue : IsIn name pass
   pub sends : (view pass).sends ≡ true

@@ -23,7 +23,8 @@ IsFaultOfOutcome e (Err f) fault = fault ≡ fault_for f
 -- the fault of the reply, for the line that sent this entry: that of its outcome, or strange if it is a reply to another entry. A reply
 -- with a receipt for the entry has none
 abbrev pub IsFaultOfReply : Entry → ReplyValue → SubmitFault → Type 0
-IsFaultOfReply e reply fault = ((reply.origin ≢ e.origin) × (fault ≡ submit.Strange)) ⊎ ((reply.origin ≡ e.origin) × IsFaultOfOutcome e reply.outcome fault)
+IsFaultOfReply e reply fault = ((reply.origin ≢ e.origin) × (fault ≡ submit.Strange))
+    ⊎ ((reply.origin ≡ e.origin) × IsFaultOfOutcome e reply.outcome fault)
 
 -- nothing was sent: the line has no serial left, there is no memory, or the queue is gone
 abbrev pub IsUnsent : ℕ → SubmitFault → Type 0
@@ -35,7 +36,8 @@ IsSent before after e = (after.serial ≡ before.serial + 1) × (after.sent ≡ 
 
 -- another change than this one was sent ahead, so nothing was done, and no serial was used
 abbrev pub IsMistaken : Line → Line → Entry → SubmitFault → Type 0
-IsMistaken before after e fault = IsOther before.ahead e.operation × (after.serial ≡ before.serial) × (after.sent ≡ before.sent) × (after.heard ≡ before.heard) × (fault ≡ submit.Strange)
+IsMistaken before after e fault = IsOther before.ahead e.operation × (after.serial ≡ before.serial) × (after.sent ≡ before.sent)
+    × (after.heard ≡ before.heard) × (fault ≡ submit.Strange)
 
 -- Why there is no receipt: nothing was sent; or the entry was sent, and no reply came; or one came that is no receipt for it; or another
 -- change than this one was sent ahead

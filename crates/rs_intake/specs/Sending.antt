@@ -21,7 +21,8 @@ pub record AreToPut (limit : ℕ) (kept rest : List Entry) : Type 0 where
 
 -- The first of the changes that are left of a job have an outcome, and the others are left then. These are the replies, and so many of the
 -- changes are not kept: none is, if one of the same job before them is held. Whether one is held afterwards
-pub record ArePut (limit : ℕ) (w : Written) (held : Bool) (rest : List Entry) (replies : List ReplyValue) (refused : ℕ) (held' : Bool) (rest' : List Entry) (w' : Written) : Type 0 where
+pub record ArePut (limit : ℕ) (w : Written) (held : Bool) (rest : List Entry) (replies : List ReplyValue) (refused : ℕ) (held' : Bool)
+    (rest' : List Entry) (w' : Written) : Type 0 where
   pub first : List Entry
   pub are : rest ≡ first ++ rest'
   pub replied : AreReplied limit w first replies refused w'
@@ -40,4 +41,5 @@ AreSentNext before replies after = AreSentBehind before.gone before.sent replies
 
 -- these replies were sent next by the way back to this place, and nothing by any other
 abbrev pub AreSentTo : ℕ → List Told → List ReplyValue → List Told → Type 0
-AreSentTo place ways replies ways' = (told : Told) × AreSentNext (way_to place ways) replies told × (ways' ≡ slice_set ways (place - 1) told)
+AreSentTo place ways replies ways' = (told : Told) × AreSentNext (way_to place ways) replies told
+    × (ways' ≡ slice_set ways (place - 1) told)

@@ -17,7 +17,8 @@ pub record AreForEntries (limit : ℕ) (entries list : List Entry) : Type 0 wher
 
 -- the list is the history, or has the Sweep that comes before the entry behind it
 abbrev pub IsSweptAtMost : ℕ → List Entry → Entry → List Entry → Type 0
-IsSweptAtMost limit history e list = (list ≡ history) ⊎ ((s : NeedsSweepAfter limit history e) × (list ≡ cleaned s.message.received history))
+IsSweptAtMost limit history e list = (list ≡ history)
+    ⊎ ((s : NeedsSweepAfter limit history e) × (list ≡ cleaned s.message.received history))
 
 -- the list is kept from these entries: without its Sweeps it is a part of them, each of its Sweeps is for one of them, and serials rise
 pub record IsKeptFrom (limit : ℕ) (entries kept : List Entry) : Type 0 where

@@ -47,7 +47,8 @@ impl Model for BlankQueue {
 
     ghost view = { λ b. record { name = name_of (sends_on b.sender); places = b.places } };
 
-    ghost invariant = { λ b. IsSeatAt (sends_on b.sender) b.pass × (receives_on b.receiver ≡ sends_on b.sender) × (known_by b.pass ≡ taker) };
+    ghost invariant = { λ b. IsSeatAt (sends_on b.sender) b.pass × (receives_on b.receiver ≡ sends_on b.sender)
+        × (known_by b.pass ≡ taker) };
 }
 
 /// A queue for so many places, which holds as many jobs.
@@ -83,12 +84,15 @@ fn line<N: LineName>(
     looks: Looks,
 ) -> Result<(SeatLine<N>, ReplySender<N>), AllocError>
     requires queue { IsQueue N.queue (sends_on sender.now) × IsIn N.queue pass.old }
-    requires pass { ((known_by pass.old).takes ≡ true) × ((known_by pass.old).sends ≡ false) × ((known_by pass.old).known ≡ []) × ((known_by pass.old).made + 1 ≡ place) }
+    requires pass { ((known_by pass.old).takes ≡ true) × ((known_by pass.old).sends ≡ false) × ((known_by pass.old).known ≡ [])
+        × ((known_by pass.old).made + 1 ≡ place) }
     requires place { (place ≤ N.places) × (N.places ≤ MAX_PLACES) }
     ensures line { IfOk result (λ r. r.0 ≡ record { place = place; serial = 0; sent = []; heard = []; came = []; ahead = [] }) }
     ensures told { IfOk result (λ r. r.1 ≡ untold) }
     ensures queue { IfOk result (λ _. IsIn N.queue pass.new) }
-    ensures pass { IfOk result (λ _. ((known_by pass.new).takes ≡ true) × ((known_by pass.new).sends ≡ false) × ((known_by pass.new).known ≡ []) × ((known_by pass.new).entries ≡ (known_by pass.old).entries) × ((known_by pass.new).ends ≡ (known_by pass.old).ends) × ((known_by pass.new).made ≡ place)) }
+    ensures pass { IfOk result (λ _. ((known_by pass.new).takes ≡ true) × ((known_by pass.new).sends ≡ false)
+        × ((known_by pass.new).known ≡ []) × ((known_by pass.new).entries ≡ (known_by pass.old).entries)
+        × ((known_by pass.new).ends ≡ (known_by pass.old).ends) × ((known_by pass.new).made ≡ place)) }
 {
     let (to, from) = way_back(alloc, looks)?;
     let own = sender.try_clone()?;

@@ -29,7 +29,8 @@ impl Fullness {
     }
 }
 
-/// Whether the entry of the receipt cleared a topic, or came behind a Sweep or an entry that was held. `last` is the number of the entry before.
+/// Whether the entry of the receipt cleared a topic, or came behind a Sweep or an entry that was held. `last` is the number of the entry
+/// before.
 fn makes_room<N: StoreName>(last: u64, receipt: &Receipt<N>) -> bool
     ensures { result ≡ makes_room last receipt.now }
 {

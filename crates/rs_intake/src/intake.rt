@@ -94,7 +94,8 @@ impl<N: LineName> Intake<N> {
         requires { is_sweep operation ≡ false }
         ensures place { line.new.place ≡ line.old.place }
         ensures serial { (line.new.serial ≡ next_serial line.old.serial) ⊎ IsOther line.old.ahead operation }
-        ensures other { IsOther line.old.ahead operation → (result ≡ Err Strange) × (line.new.serial ≡ line.old.serial) × (line.new.sent ≡ line.old.sent) }
+        ensures other { IsOther line.old.ahead operation → (result ≡ Err Strange) × (line.new.serial ≡ line.old.serial)
+            × (line.new.sent ≡ line.old.sent) }
         ensures sent { AddsAtMost line.old.sent (entry_at line.old.place line.new.serial operation) line.new.sent }
         ensures refused { IfErr result (λ f. IsRefused line.old line.new (entry_at line.old.place line.new.serial operation) f) }
         ensures closed { IfErr result (λ f. f ≡ Closed → line.new.sent ≡ line.old.sent) }

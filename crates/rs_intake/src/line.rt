@@ -49,7 +49,8 @@ impl<N: LineName> Model for LineSender<N> {
 
     ghost view = { λ l. record { place = l.place; sent = (known_by l.pass).entries } };
 
-    ghost invariant = { λ l. IsLine N.queue N.places (sends_on l.sender) l.pass l.place l.sent × ((known_by l.pass).ends ≡ []) × AreOfLine l.place (known_by l.pass).entries };
+    ghost invariant = { λ l. IsLine N.queue N.places (sends_on l.sender) l.pass l.place l.sent × ((known_by l.pass).ends ≡ [])
+        × AreOfLine l.place (known_by l.pass).entries };
 }
 
 impl<N: LineName> LineSender<N> {
@@ -64,7 +65,8 @@ impl<N: LineName> LineSender<N> {
 
     pub(crate) fn new(place: u8, sender: JobSender, pass: Pass<Job, PassView>) -> LineSender<N>
         requires queue { IsQueue N.queue (sends_on sender) × IsIn N.queue pass }
-        requires new { ((known_by pass).sends ≡ true) × ((known_by pass).takes ≡ false) × ((known_by pass).from ≡ place) × ((known_by pass).entries ≡ []) × ((known_by pass).ends ≡ []) }
+        requires new { ((known_by pass).sends ≡ true) × ((known_by pass).takes ≡ false) × ((known_by pass).from ≡ place)
+            × ((known_by pass).entries ≡ []) × ((known_by pass).ends ≡ []) }
         requires place { (0 < place) × (place ≤ N.places) × (N.places ≤ MAX_PLACES) }
         ensures { (result.place ≡ place) × (result.sent ≡ []) }
     {
@@ -144,7 +146,8 @@ impl<N: LineName> Model for LineEnd<N> {
 
     ghost view = { λ l. record { place = l.place; sent = (known_by l.pass).entries; ends = (known_by l.pass).ends; gone = l.gone } };
 
-    ghost invariant = { λ l. IsLine N.queue N.places (sends_on l.sender) l.pass l.place l.sent × IsClosed l.place (known_by l.pass).ends l.gone × AreOfLine l.place (known_by l.pass).entries };
+    ghost invariant = { λ l. IsLine N.queue N.places (sends_on l.sender) l.pass l.place l.sent
+        × IsClosed l.place (known_by l.pass).ends l.gone × AreOfLine l.place (known_by l.pass).entries };
 }
 
 impl<N: LineName> LineEnd<N> {
@@ -168,7 +171,8 @@ impl<N: LineName> LineEnd<N> {
 
     pub(crate) fn into_parts(self) -> (JobSender, Pass<Job, PassView>)
         ensures queue { IsQueue N.queue (sends_on result.0) × IsIn N.queue result.1 }
-        ensures sent { ((known_by result.1).sends ≡ true) × ((known_by result.1).from ≡ self.place) × ((known_by result.1).entries ≡ self.sent) }
+        ensures sent { ((known_by result.1).sends ≡ true) × ((known_by result.1).from ≡ self.place)
+            × ((known_by result.1).entries ≡ self.sent) }
     {
         let LineEnd {
             place: _,
@@ -201,7 +205,14 @@ impl<N: LineName> Model for SeatLine<N> {
 
     ghost Value = { Line };
 
-    ghost view = { λ l. record { place = l.line.place; serial = l.serial; sent = before l.line.sent l.ahead.items; heard = l.replies.heard; came = l.replies.came; ahead = l.ahead.items } };
+    ghost view = { λ l. record {
+      place = l.line.place;
+      serial = l.serial;
+      sent = before l.line.sent l.ahead.items;
+      heard = l.replies.heard;
+      came = l.replies.came;
+      ahead = l.ahead.items;
+    } };
 
     ghost invariant = { λ l. IsSeatLine l.line.place l.serial l.line.sent l.ahead.items };
 }
@@ -311,7 +322,8 @@ impl<N: LineName> SeatLine<N> {
     /// Whether the first of what is ahead is this entry. `None` if nothing is ahead.
     fn is_first_ahead(&self, entry: &Entry) -> Option<bool>
         ensures { MatchOption result (self.now.ahead ≡ [])
-            (λ is. (first : Entry) × (rest : List Entry) × (self.now.ahead ≡ first ∷ rest) × (first.origin ≡ record { place = self.now.place; serial = self.now.serial + 1 }) × Decides is (first ≡ entry.now)) }
+            (λ is. (first : Entry) × (rest : List Entry) × (self.now.ahead ≡ first ∷ rest)
+            × (first.origin ≡ record { place = self.now.place; serial = self.now.serial + 1 }) × Decides is (first ≡ entry.now)) }
     {
         let first = self.ahead.front()?;
         Some(is_same(first, entry))
@@ -368,11 +380,14 @@ impl<N: LineName> SeatLine<N> {
         requires { is_sweep operation ≡ false }
         ensures place { self.new.place ≡ self.old.place }
         ensures serial { (self.new.serial ≡ next_serial self.old.serial) ⊎ IsOther self.old.ahead operation }
-        ensures other { IsOther self.old.ahead operation → (result ≡ Err Strange) × (self.new.serial ≡ self.old.serial) × (self.new.sent ≡ self.old.sent) }
-        ensures entry { IfOk result (λ e. (e ≡ entry_at self.old.place self.new.serial operation) × (self.new.serial ≡ self.old.serial + 1)) }
+        ensures other { IsOther self.old.ahead operation → (result ≡ Err Strange) × (self.new.serial ≡ self.old.serial)
+            × (self.new.sent ≡ self.old.sent) }
+        ensures entry { IfOk result (λ e. (e ≡ entry_at self.old.place self.new.serial operation)
+            × (self.new.serial ≡ self.old.serial + 1)) }
         ensures sent { MatchResult result (λ e. self.new.sent ≡ self.old.sent ++ e ∷ []) (λ _. self.new.sent ≡ self.old.sent) }
         ensures heard { self.new.heard ≡ self.old.heard }
-        ensures unsent { IfErr result (λ f. IsUnsent self.old.serial f ⊎ ((f ≡ Strange) × (self.new.serial ≡ self.old.serial) × IsOther self.old.ahead operation)) }
+        ensures unsent { IfErr result (λ f. IsUnsent self.old.serial f
+            ⊎ ((f ≡ Strange) × (self.new.serial ≡ self.old.serial) × IsOther self.old.ahead operation)) }
         ensures ahead { IsAheadAfter self.old.ahead operation self.new.ahead }
     {
         let Some(serial) = self.serial.checked_add(1) else {

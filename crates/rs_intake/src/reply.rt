@@ -256,7 +256,8 @@ impl<N: StoreName> Model for ReplyReceiver<N> {
 
     ghost view = { λ r. record { heard = before (known_by r.pass).replies r.came; came = r.came } };
 
-    ghost invariant = { λ r. IsSeatAt (receives_on r.from) r.pass × ((known_by r.pass).receives ≡ true) × ((known_by r.pass).sends ≡ false) × ((known_by r.pass).replies ≡ before (known_by r.pass).replies r.came ++ r.came) };
+    ghost invariant = { λ r. IsSeatAt (receives_on r.from) r.pass × ((known_by r.pass).receives ≡ true) × ((known_by r.pass).sends ≡ false)
+        × ((known_by r.pass).replies ≡ before (known_by r.pass).replies r.came ++ r.came) };
 }
 
 /// The two ends of the way back to one line, by which nothing was sent. Its capacity is that of the replies to one job.
@@ -329,7 +330,8 @@ impl<N: StoreName> ReplyReceiver<N> {
 
     /// Takes the next reply that came.
     fn take(&mut self) -> Option<WriterReply<N>>
-        ensures { MatchOption result ((self.old.came ≡ []) × (self.new.came ≡ []) × (self.new.heard ≡ self.old.heard)) (λ reply. (self.new.heard ≡ self.old.heard ++ reply ∷ []) × (self.old.came ≡ reply ∷ self.new.came)) }
+        ensures { MatchOption result ((self.old.came ≡ []) × (self.new.came ≡ []) × (self.new.heard ≡ self.old.heard))
+            (λ reply. (self.new.heard ≡ self.old.heard ++ reply ∷ []) × (self.old.came ≡ reply ∷ self.new.came)) }
     {
         self.came.next()
     }
@@ -360,7 +362,8 @@ impl<N: StoreName> ReplyReceiver<N> {
     ///
     /// [`Gone`] if the writer is, and no reply is left.
     pub fn wait<R: Wait>(&mut self, rt: &R) -> Result<WriterReply<N>, Gone>
-        ensures heard { MatchResult result (λ reply. self.new.heard ≡ self.old.heard ++ reply ∷ []) (λ _. (self.old.came ≡ []) × (self.new.heard ≡ self.old.heard)) }
+        ensures heard { MatchResult result (λ reply. self.new.heard ≡ self.old.heard ++ reply ∷ [])
+            (λ _. (self.old.came ≡ []) × (self.new.heard ≡ self.old.heard)) }
         ensures came { (more : List ReplyValue) × (self.new.heard ++ self.new.came ≡ self.old.heard ++ self.old.came ++ more) }
         ensures none { IfErr result (λ _. self.new.came ≡ []) }
     {

@@ -85,7 +85,9 @@ pub fn settle<N: LineName, R: Wait + Drop>(
     ensures settled { IfOk result (λ _. AreTaken ended.old.received.entries ends.items) }
     ensures order { AreTakenInOrder ended.old.received.entries ends.items }
     ensures unsettled { IfErr result (λ _. ¬ (EachOnce N.places ends.items × (sent_in_all ends.items ≡ ended.old.taken))) }
-    ensures same { (ended.new.writer ≡ ended.old.writer) × (ended.new.taken ≡ ended.old.taken) × (ended.new.refused ≡ ended.old.refused) × (ended.new.held ≡ ended.old.held) × (ended.new.cause ≡ ended.old.cause) × (ended.new.ways ≡ ended.old.ways) × (ended.new.received.entries ≡ ended.old.received.entries) × (ended.new.received.ends ≡ ended.old.received.ends) }
+    ensures same { (ended.new.writer ≡ ended.old.writer) × (ended.new.taken ≡ ended.old.taken) × (ended.new.refused ≡ ended.old.refused)
+        × (ended.new.held ≡ ended.old.held) × (ended.new.cause ≡ ended.old.cause) × (ended.new.ways ≡ ended.old.ways)
+        × (ended.new.received.entries ≡ ended.old.received.entries) × (ended.new.received.ends ≡ ended.old.received.ends) }
 {
     let all = all_sent(&ends, ended.received.places(), ended.taken);
     join_all(&mut ended.received, ends);

@@ -40,7 +40,8 @@ impl<N: LineName> Model for Taken<N> {
 impl<N: LineName> Taken<N> {
     pub(crate) fn new(places: u8, pass: Pass<Job, PassView>) -> Taken<N>
         requires { IsTaker N.queue N.places pass × (places ≡ N.places) }
-        ensures { (result.entries ≡ (known_by pass).entries) × (result.ends ≡ (known_by pass).ends) × (result.whole ≡ (known_by pass).known) }
+        ensures { (result.entries ≡ (known_by pass).entries) × (result.ends ≡ (known_by pass).ends)
+            × (result.whole ≡ (known_by pass).known) }
     {
         Taken {
             places,
@@ -63,7 +64,8 @@ impl<N: LineName> Taken<N> {
         patience: &mut Patience,
     ) -> Result<Job, Gone>
         requires { IsQueue N.queue (receives_on from.now) }
-        ensures taken { MatchResult result (λ job. (self.new.entries ≡ self.old.entries ++ entries_in job) × SerialsRise self.new.entries) (λ _. self.new ≡ self.old) }
+        ensures taken { MatchResult result (λ job. (self.new.entries ≡ self.old.entries ++ entries_in job) × SerialsRise self.new.entries)
+            (λ _. self.new ≡ self.old) }
         ensures ended { IfOk result (λ job. (self.new.ends ≡ self.old.ends ++ ends_of (job ∷ [])) × AreEnds N.places self.new.ends) }
         ensures placed { IfOk result (λ job. IsPlaced N.places job) }
     {
@@ -74,7 +76,8 @@ impl<N: LineName> Taken<N> {
     pub(crate) fn join(&mut self, by: &JobSender, line: Pass<Job, PassView>)
         requires queue { IsQueue N.queue (sends_on by.now) × IsIn N.queue line }
         requires line { (known_by line).sends ≡ true }
-        ensures { (self.new.entries ≡ self.old.entries) × (self.new.ends ≡ self.old.ends) × (self.new.whole ≡ record { place = (known_by line).from; entries = (known_by line).entries } ∷ self.old.whole) }
+        ensures { (self.new.entries ≡ self.old.entries) × (self.new.ends ≡ self.old.ends)
+            × (self.new.whole ≡ record { place = (known_by line).from; entries = (known_by line).entries } ∷ self.old.whole) }
     {
         join(by, &mut self.pass, line);
     }

@@ -143,7 +143,8 @@ fn put_and_send<N: LineName, R: Wait + Drop, W: Wait>(
     requires many { FEW_REPLIES ≤ at_once }
     requires few { length changes.items ≤ MAX_CHANGES }
     requires left { AreToPut N.limit (kept_of writer.old) changes.items }
-    ensures { (replies : List ReplyValue) × AreReplied N.limit writer.old changes.items replies result writer.new × AreSentNext to.old replies to.new }
+    ensures { (replies : List ReplyValue) × AreReplied N.limit writer.old changes.items replies result writer.new
+        × AreSentNext to.old replies to.new }
 {
     let mut rest = changes;
     let mut has_held = false;

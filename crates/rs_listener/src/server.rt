@@ -49,9 +49,9 @@ pub struct Summary {
 
 impl Server {
     /// Binds an address: a host's name, an IPv4 or an IPv6 address, and a port, as `localhost:1883` or `[::1]:1883`. Port 0 takes one
-    /// that is free. It will accept `connections` connections, none if that is 0, and serve `clients` clients at the same time, but at least
-    /// as many as there are `places`, which they share. Their store is empty, and holds messages of at most `limit` topics. If `idle` is
-    /// given, a connection ends if no byte came for so long, or if no byte of what waits for its client was taken for so long.
+    /// that is free. It will accept `connections` connections, none if that is 0, and serve `clients` clients at the same time, but at
+    /// least as many as there are `places`, which they share. Their store is empty, and holds messages of at most `limit` topics. If `idle`
+    /// is given, a connection ends if no byte came for so long, or if no byte of what waits for its client was taken for so long.
     ///
     /// # Errors
     ///
@@ -103,8 +103,8 @@ impl Server {
     /// thread serves this client and those behind it, one after the other. A fault of a connection ends that connection alone. The log of
     /// `rt` has a line when each begins, and one that says how it ended and what it was refused, one when the store is full, one when it
     /// may take new topics again, and before them all a warning if the process may have fewer descriptors than its clients need. The number
-    /// of changes is that of a run of the store, as [`run_store`] says it, or [`run_fleet`], if there are more clients than places. The clause
-    /// is weak: any number meets it, since it says nothing of the clients.
+    /// of changes is that of a run of the store, as [`run_store`] says it, or [`run_fleet`], if there are more clients than places. The
+    /// clause is weak: any number meets it, since it says nothing of the clients.
     ///
     /// # Errors
     ///

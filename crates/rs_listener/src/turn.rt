@@ -145,7 +145,17 @@ impl<H: Clock + Log + Copy + Send> Turn for ListenTurn<H> {
         served: Result<Served, ServeFault>,
         refusals: Refusals,
     )
-        ensures { TakesBack none_given (record { streams = record { unread = ⟦<FromClient as Read>⟧.remaining (inner_of connection.input); written = ⟦<ToClient as Write>⟧.contents (inner_of connection.output); moments = ⟦<ConnectionClock<H> as rs_server::Clock>⟧.moments connection.clock }; read_failures = failures_of connection.input; write_failures = failures_of connection.output; result = served }) none_given }
+        ensures { TakesBack none_given
+            (record {
+              streams = record {
+                unread = ⟦<FromClient as Read>⟧.remaining (inner_of connection.input);
+                written = ⟦<ToClient as Write>⟧.contents (inner_of connection.output);
+                moments = ⟦<ConnectionClock<H> as rs_server::Clock>⟧.moments connection.clock;
+              };
+              read_failures = failures_of connection.input;
+              write_failures = failures_of connection.output;
+              result = served;
+            }) none_given }
     {
         let Connection {
             input,

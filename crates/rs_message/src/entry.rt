@@ -41,7 +41,8 @@ impl Model for Origin {
 impl Origin {
     /// None if the place is not 1 to [`MAX_PLACES`], or the serial is 0.
     pub fn new(place: u8, serial: u64) -> Option<Origin>
-        ensures { result ≡ (if nat_lt 0 place && nat_le place MAX_PLACES && nat_lt 0 serial then Some (record { place = place; serial = serial }) else None) }
+        ensures { result ≡ (if nat_lt 0 place && nat_le place MAX_PLACES && nat_lt 0 serial
+            then Some (record { place = place; serial = serial }) else None) }
     {
         if 0 < place && place <= MAX_PLACES && 0 < serial {
             return Some(Origin { place, serial });
@@ -124,7 +125,14 @@ impl Operation {
         properties: Properties,
     ) -> Result<Option<Operation>, AllocError>
         requires { message_size expiry properties payload ≤ MAX_PACKET_SIZE }
-        ensures ok { IfOk result (λ o. o ≡ operation_of retain topic (record { payload = payload; qos = qos; received = received; expiry = expiry; properties = properties })) }
+        ensures ok { IfOk result (λ o.
+            o ≡ operation_of retain topic (record {
+              payload = payload;
+              qos = qos;
+              received = received;
+              expiry = expiry;
+              properties = properties;
+            })) }
         ensures err { IfErr result (λ _. (retain ≡ true) × (payload ≢ [])) }
     {
         if !retain {

@@ -121,7 +121,8 @@ handling Never = 2
 
 -- 3.8.3.1
 abbrev pub options_byte : Options → ℕ
-options_byte options = level options.qos + 4 * bit options.no_local + 8 * bit options.retain_as_published + 16 * handling options.retain_handling
+options_byte options = level options.qos + 4 * bit options.no_local + 8 * bit options.retain_as_published + 16 * handling
+    options.retain_handling
 
 -- 3.8.3, 3.10.3: each filter is a UTF-8 encoded string
 abbrev pub AreTexts : List (List ℕ) → Type 0
@@ -167,7 +168,8 @@ protocol = 0 ∷ 4 ∷ 77 ∷ 81 ∷ 84 ∷ 84 ∷ 5 ∷ []
 
 -- 3.1.2.3
 abbrev pub flags_byte : ConnectFlags → ℕ
-flags_byte flags = 128 * bit flags.user_name + 64 * bit flags.password + 32 * bit flags.will_retain + 8 * level flags.will_qos + 4 * bit flags.will + 2 * bit flags.clean_start
+flags_byte flags = 128 * bit flags.user_name + 64 * bit flags.password + 32 * bit flags.will_retain + 8 * level flags.will_qos + 4 * bit
+    flags.will + 2 * bit flags.clean_start
 
 -- 3.1.2.6, 3.1.2.7: without a will its flags are 0
 abbrev pub FlagsFit : ConnectFlags → Type 0
@@ -181,7 +183,8 @@ pub data EncodesIf (P : List ℕ → Type 0) : Bool → List ℕ → Type 0 wher
 -- 3.1.3: the client identifier, the user name and the password. If there is a will, nothing of it is read
 pub data EncodesPayload : ConnectFlags → List ℕ → Option (List ℕ) → Type 0 where
   with_will : {f : ConnectFlags} {payload : List ℕ} → f.will ≡ true → EncodesPayload f payload None
-  with_client : {f : ConnectFlags} {client name password : List ℕ} → f.will ≡ false → IsText client → EncodesIf IsText f.user_name name → EncodesIf IsShort f.password password
+  with_client : {f : ConnectFlags} {client name password : List ℕ} → f.will ≡ false → IsText client → EncodesIf IsText f.user_name name
+      → EncodesIf IsShort f.password password
       → EncodesPayload f (counted client ++ (name ++ password)) (Some client)
 
 -- 3.1.2.11.10: authentication data need a method
@@ -214,16 +217,19 @@ pub record EncodesConnect (body : List ℕ) (connect : Connect) : Type 0 where
 pub data EncodesBody : PacketKind → List ℕ → Packet → Type 0 where
   connect : {body : List ℕ} {c : Connect} → EncodesConnect body c → EncodesBody kind.Connect body (packet.Connect c)
   -- 3.3.1.1: a packet of QoS 0 is not a duplicate
-  publish : {duplicate retain : Bool} {qos : Qos} {body : List ℕ} {p : Publish} → (qos ≡ AtMostOnce → duplicate ≡ false) → EncodesPublish duplicate qos retain body p
+  publish : {duplicate retain : Bool} {qos : Qos} {body : List ℕ} {p : Publish} → (qos ≡ AtMostOnce → duplicate ≡ false)
+      → EncodesPublish duplicate qos retain body p
       → EncodesBody (kind.Publish duplicate qos retain) body (packet.Publish p)
   puback : {body : List ℕ} {a : Acknowledgement} → EncodesAcknowledgement body a → EncodesBody kind.Puback body (packet.Puback a)
   pubrec : {body : List ℕ} {a : Acknowledgement} → EncodesAcknowledgement body a → EncodesBody kind.Pubrec body (packet.Pubrec a)
   pubrel : {body : List ℕ} {a : Acknowledgement} → EncodesAcknowledgement body a → EncodesBody kind.Pubrel body (packet.Pubrel a)
   pubcomp : {body : List ℕ} {a : Acknowledgement} → EncodesAcknowledgement body a → EncodesBody kind.Pubcomp body (packet.Pubcomp a)
   subscribe : {body : List ℕ} {s : SubscribeValue} → EncodesSubscribe body s → EncodesBody kind.Subscribe body (packet.Subscribe s)
-  unsubscribe : {body : List ℕ} {u : UnsubscribeValue} → EncodesUnsubscribe body u → EncodesBody kind.Unsubscribe body (packet.Unsubscribe u)
+  unsubscribe : {body : List ℕ} {u : UnsubscribeValue} → EncodesUnsubscribe body u
+      → EncodesBody kind.Unsubscribe body (packet.Unsubscribe u)
   pingreq : EncodesBody kind.Pingreq [] packet.Pingreq
-  disconnect : {body : List ℕ} {code : ℕ} → EncodesCode owner.Disconnect body code → EncodesBody kind.Disconnect body (packet.Disconnect code)
+  disconnect : {body : List ℕ} {code : ℕ} → EncodesCode owner.Disconnect body code
+      → EncodesBody kind.Disconnect body (packet.Disconnect code)
 
 pub record Encodes (bytes : List ℕ) (p : Packet) : Type 0 where
   pub first : PacketKind

@@ -101,7 +101,12 @@ options_of b =
     if not (nat_lt b 64) then Err Malformed
     else (if b % 4 == 3 then Err Protocol
     else (if b / 16 == 3 then Err Protocol
-    else Ok (record { qos = qos_of (b % 4); no_local = b / 4 % 2 == 1; retain_as_published = b / 8 % 2 == 1; retain_handling = handling_of (b / 16) })))
+    else Ok (record {
+      qos = qos_of (b % 4);
+      no_local = b / 4 % 2 == 1;
+      retain_as_published = b / 8 % 2 == 1;
+      retain_handling = handling_of (b / 16);
+    })))
 
 unfoldable pub asked_at : List ℕ → Result (Asked × List ℕ) PacketFault
 asked_at bytes = do
@@ -171,7 +176,8 @@ past_binary true bytes = binary_at bytes >>= λ t. Ok t.1
 unfoldable pub client_at : ConnectFlags → List ℕ → Result (Option (List ℕ)) PacketFault
 client_at f bytes =
     if f.will then Ok None
-    else (text_at bytes >>= λ client. past_text f.user_name client.1 >>= λ name. past_binary f.password name >>= λ rest. ended (Some client.0) rest)
+    else (text_at bytes >>= λ client. past_text f.user_name client.1 >>= λ name. past_binary f.password name >>= λ rest.
+    ended (Some client.0) rest)
 
 -- nothing after another name or another version is read
 unfoldable pub version_at : List ℕ → Result (List ℕ) PacketFault
@@ -237,7 +243,8 @@ header_at (first ∷ bytes) = do
 
 -- the packet with this header, or More if the bytes end before it does
 abbrev pub packet_in : List ℕ → Header → Result Decoded PacketFault
-packet_in bytes h = if nat_lt (length bytes) h.size then Ok More else (packet_at h.kind (slice_range bytes h.start h.size) >>= λ p. Ok (Whole p h.size))
+packet_in bytes h = if nat_lt (length bytes) h.size then Ok More
+    else (packet_at h.kind (slice_range bytes h.start h.size) >>= λ p. Ok (Whole p h.size))
 
 abbrev pub sized : PacketKind → List ℕ → Result (ℕ × List ℕ) VarintFault → Result Decoded PacketFault
 sized k bytes (Err Short) = Ok More

@@ -60,7 +60,8 @@ first_byte reply.Pingresp = 0xD0
 first_byte (reply.Disconnect code) = 0xE0
 
 abbrev pub publish_reply_body : PublishReply → List ℕ
-publish_reply_body published = counted published.topic ++ (id_bytes published.id ++ (properties (replayed published.expiry published.subscription published.properties) ++ published.payload))
+publish_reply_body published = counted published.topic
+    ++ (id_bytes published.id ++ (properties (replayed published.expiry published.subscription published.properties) ++ published.payload))
 
 -- 2.1.4: the Remaining Length of a PUBLISH whose payload has this length; there is an identifier if QoS is 1 or 2 (3.3.2.2)
 unfoldable pub publish_remaining : List ℕ → Qos → Option ℕ → Option ℕ → PropertiesValue → ℕ → ℕ

@@ -4,4 +4,11 @@ use Rattle.rs_packet.specs.Values.{MessageValue}
 use Rattle.rs_packet.specs.declared.message.Message.TheInside.{Inside}
 
 abbrev pub message_view : Inside → MessageValue
-message_view m = record { payload = m.payload; qos = m.qos; received = m.received; expiry = if m.expires then Some m.interval else None; properties = m.properties }
+message_view m = record {
+  payload = m.payload;
+  qos = m.qos;
+  received = m.received;
+  expiry = if m.expires then Some m.interval
+      else None;
+  properties = m.properties;
+}

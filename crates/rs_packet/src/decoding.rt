@@ -369,7 +369,8 @@ pub fn decode(alloc: Global, bytes: &Bytes) -> Result<Decoded, PacketFault>
     // What is decoded is a prefix of the bytes.
     ensures found { IfOk result (λ d. HasPrefix bytes.now d) }
     // A packet that is a prefix is decoded, unless memory runs out.
-    ensures only { (p : Packet) (n : ℕ) → n ≤ length bytes.now → Encodes (take n bytes.now) p → Gives (λ d. d) result (Ok (Decoded.Whole p n)) }
+    ensures only { (p : Packet) (n : ℕ) → n ≤ length bytes.now → Encodes (take n bytes.now) p
+        → Gives (λ d. d) result (Ok (Decoded.Whole p n)) }
     // Which fault it is, and when more is wanted.
     ensures exact { Gives (λ d. d) result (answer bytes.now) }
 {

@@ -60,7 +60,8 @@ pub fn needed_len(bytes: &[u8]) -> usize
     ensures waits { IsMore bytes.now → length bytes.now < result }
     ensures whole { (p : Packet) (n : ℕ) → answer bytes.now ≡ Ok (Decoded.Whole p n) → result ≡ n }
     // Five bytes have the whole length in them, and so say the size of any packet that begins with them.
-    ensures sized { (more : List ℕ) (p : Packet) (n : ℕ) → 5 ≤ length bytes.now → answer (bytes.now ++ more) ≡ Ok (Decoded.Whole p n) → result ≡ n }
+    ensures sized { (more : List ℕ) (p : Packet) (n : ℕ) → 5 ≤ length bytes.now → answer (bytes.now ++ more) ≡ Ok (Decoded.Whole p n)
+        → result ≡ n }
 {
     match parse_header(bytes) {
         Ok(Some(header)) => header.size,

@@ -1,8 +1,9 @@
 //! The packets of MQTT 5.0 (OASIS, sections 2 and 3): those that a client sends, read, and the replies of the server, written.
 //!
 //! `decode` gives the packet that some bytes begin with, and `needed_len` says how many bytes to collect before `decode` is called
-//! again. `encode` writes a `Reply`, `encode_parts` does not copy a long payload, and `encoded_len` says how long it gets. Nothing is kept from one call to the next, no packet
-//! of more than `MAX_PACKET_SIZE` bytes is read, and texts and payloads that were read share the bytes that they were read from.
+//! again. `encode` writes a `Reply`, `encode_parts` does not copy a long payload, and `encoded_len` says how long it gets. Nothing is kept
+//! from one call to the next, no packet of more than `MAX_PACKET_SIZE` bytes is read, and texts and payloads that were read share the bytes
+//! that they were read from.
 //!
 //! Promised by contracts: `decode` answers a packet exactly if a prefix of the bytes encodes one by the grammar of the standard, and
 //! the first fault from left to right if there is one; only out of memory may come instead of these answers. A fault stays, whatever

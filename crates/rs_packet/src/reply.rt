@@ -81,7 +81,15 @@ impl PublishReply {
     ) -> PublishReply
         requires id_fits { IdFits qos id }
         requires message_fits { message_size expiry found.message.properties found.message.payload ≤ MAX_PACKET_SIZE }
-        ensures { result ≡ record { topic = found.topic; qos = qos; id = id; subscription = subscription; expiry = expiry; properties = found.message.properties; payload = found.message.payload } }
+        ensures { result ≡ record {
+          topic = found.topic;
+          qos = qos;
+          id = id;
+          subscription = subscription;
+          expiry = expiry;
+          properties = found.message.properties;
+          payload = found.message.payload;
+        } }
     {
         let subscription = in_range(subscription);
         // For the proof: this call says that the topic is short.

@@ -23,7 +23,8 @@ use Rattle.rs_server.specs.declared.writing.ServeFault.{ServeFault}
 use Rattle.rs_places.specs.Shared.{HandsOn, SharedValue, operations_of}
 
 -- From this point, with these changes expected first, a session was run over the bytes that were read, up to what the gate knows then.
-pub record IsServedAt (limit : ℕ) (from : Point State) (expected : List Operation) (transfer : Transfer) (result : Result Served ServeFault) (gate : SharedValue) : Type 0 where
+pub record IsServedAt (limit : ℕ) (from : Point State) (expected : List Operation) (transfer : Transfer) (result : Result Served ServeFault)
+    (gate : SharedValue) : Type 0 where
   pub exchanges : List Exchange
   pub state : State
   pub mark : Mark
@@ -49,12 +50,14 @@ pub record IsServedAt (limit : ℕ) (from : Point State) (expected : List Operat
   -- of each of these lists every one before it is a prefix, from what was known first to what is known last
   pub lists : AreGrowing (from.seen ∷ (lists_of exchanges ++ gate.known ∷ []))
   -- a retained publication that the client was told is stored stands once in every later list
-  pub stored : (before : List Exchange) (exchange : Exchange) (after : List Exchange) (o : Open) (p : Publish) (answer : Reply) → exchanges ≡ before ++ exchange ∷ after
+  pub stored : (before : List Exchange) (exchange : Exchange) (after : List Exchange) (o : Open) (p : Publish) (answer : Reply)
+      → exchanges ≡ before ++ exchange ∷ after
       → (point_after from before).state.phase ≡ phase.Open o → IsToldStored o exchange p answer
       → IsStoredIn (point_after from before).mark exchange p (exchange.to.seen ∷ (lists_of after ++ gate.known ∷ []))
   -- Between any two points of the run the place stays, and the serial does not fall. A publication that was told stored used a new
   -- one, so two of them are two entries.
-  pub marks : (before between after : List Exchange) → exchanges ≡ before ++ (between ++ after) → MarkGrows (point_after from before).mark (point_after from (before ++ between)).mark
+  pub marks : (before between after : List Exchange) → exchanges ≡ before ++ (between ++ after)
+      → MarkGrows (point_after from before).mark (point_after from (before ++ between)).mark
   -- what the exchanges sent are the client's retained publications, in their order, each at most once, and each that the client was told
   -- is stored
   pub publications : SendsPublications from exchanges (point_at state gate.known mark)

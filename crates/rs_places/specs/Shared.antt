@@ -26,7 +26,11 @@ gate_of known line = record { known = known; mark = mark_of line; pending = oper
 
 -- a gate with this list and this line, which is handed on: what was ahead of the line counts as submitted
 abbrev pub handed_on : List Entry → Line → SharedValue
-handed_on known line = record { known = known; mark = record { place = line.place; serial = line.serial + length line.ahead; alone = true; sent = Some (line.sent ++ line.ahead) }; pending = [] }
+handed_on known line = record {
+  known = known;
+  mark = record { place = line.place; serial = line.serial + length line.ahead; alone = true; sent = Some (line.sent ++ line.ahead) };
+  pending = [];
+}
 
 -- the list is the one that the gate knows, and it is legal
 pub record Knows (limit : ℕ) (gate : SharedValue) (list : List Entry) : Type 0 where

@@ -40,7 +40,8 @@ new_gates places = map (λ line. handed_on [] line) (new_lines places)
 pub record IsWithin (list : List Entry) (from : Point State) (visit : Visit) : Type 0 where
   pub first : Extends list from.seen
   pub lists : AllByRecursion (λ seen. Extends list seen) (lists_of visit.exchanges)
-  pub stored : (before : List Exchange) (exchange : Exchange) (after : List Exchange) (o : Open) (p : Publish) (answer : Reply) → visit.exchanges ≡ before ++ exchange ∷ after
+  pub stored : (before : List Exchange) (exchange : Exchange) (after : List Exchange) (o : Open) (p : Publish) (answer : Reply)
+      → visit.exchanges ≡ before ++ exchange ∷ after
       → (point_after from before).state.phase ≡ phase.Open o → IsToldStored o exchange p answer
       → IsStoredIn (point_after from before).mark exchange p (list ∷ [])
 
@@ -48,7 +49,8 @@ pub record IsWithin (list : List Entry) (from : Point State) (visit : Visit) : T
 abbrev pub AreWithin : List Entry → ℕ → SharedValue → List Visit → Type 0
 AreWithin list number first [] = Unit {0}
 AreWithin list number first (visit ∷ visits) =
-    IsWithin list (start (assigned_of first.mark.place number) first.known first.mark) visit × AreWithin list (next_number number) visit.gate visits
+    IsWithin list (start (assigned_of first.mark.place number) first.known first.mark) visit
+    × AreWithin list (next_number number) visit.gate visits
 
 -- What these connections send, one after the other: what their exchanges send, and behind that of each connection a tail. It is of
 -- changes of publications that the connection's bytes hold behind the last packet that was handled, or of that one too, if it sent

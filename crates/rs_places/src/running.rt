@@ -55,7 +55,11 @@ fn serve_connection<T: Turn + Drop, N: LineName, H: Wait + Copy>(
     number: u64,
 ) -> SharedGate<N, H>
     ensures { ServesOne N.limit number (place_at (T.connections turn.old) gate)
-        (record { unread = T.In.remaining connection.input; written = T.Out.contents connection.output; moments = T.Time.moments connection.clock })
+        (record {
+          unread = T.In.remaining connection.input;
+          written = T.Out.contents connection.output;
+          moments = T.Time.moments connection.clock;
+        })
         (place_at (T.connections turn.new) result) }
 {
     let Connection {
@@ -122,7 +126,9 @@ struct ServesOver<T, N: LineName, H: Wait + Copy> {
 impl<T: Turn + Drop, N: LineName, H: Wait + Copy> Promise<PlaceEnd<N, T>> for ServesOver<T, N, H> {
     ghost use Rattle.rs_places.specs.Places.{IsPlaceServed, left_at, place_at};
 
-    ghost kept_by = { λ promise end. IsPlaceServed N.limit (place_at (T.connections promise.turn.value) promise.gate.value) (left_at (T.connections end.turn) end.told end.line) };
+    ghost kept_by = { λ promise end.
+        IsPlaceServed N.limit (place_at (T.connections promise.turn.value) promise.gate.value)
+        (left_at (T.connections end.turn) end.told end.line) };
 }
 
 /// A place's thread, which gives what is left of the place.
@@ -142,7 +148,8 @@ fn start_place<
     here: bool,
 ) -> Result<PlaceThread<T, N, H>, Option<PlaceEnd<N, T>>>
     ensures { MatchResult result (λ thread. (thread.promise.turn.value ≡ turn) × (thread.promise.gate.value ≡ gate))
-        (λ left. IfSome left (λ end. IsPlaceServed N.limit (place_at (T.connections turn) gate) (left_at (T.connections end.turn) end.told end.line))) }
+        (λ left. IfSome left (λ end. IsPlaceServed N.limit (place_at (T.connections turn) gate)
+        (left_at (T.connections end.turn) end.told end.line))) }
 {
     let promise = ServesOver {
         turn: Snapshot::of(&turn),
@@ -175,7 +182,8 @@ fn start_places<
     gates: Vec<SharedGate<N, H>>,
 ) -> Result<StartedPlaces<T, N, H>, StoreFault>
     ensures served { IfOk result (λ started. (places : List Place)
-        × (map (λ thread. place_at (T.connections thread.promise.turn.value) thread.promise.gate.value) started.0.items ++ places ≡ places_of (map T.connections turns.items) gates.items)
+        × (map (λ thread. place_at (T.connections thread.promise.turn.value) thread.promise.gate.value) started.0.items ++ places
+        ≡ places_of (map T.connections turns.items) gates.items)
         × AllZip (IsPlaceServed N.limit) places (map (λ end. left_at (T.connections end.turn) end.told end.line) started.1.items)) }
     ensures few { IfOk result (λ started. length started.0.items + length started.1.items ≤ length gates.items) }
 {
@@ -203,7 +211,9 @@ fn join_places<T: Turn + Drop, N: LineName, H: Threads + Wait + Copy>(
 ) -> Vec<PlaceEnd<N, T>>
     requires empty { ends.items ≡ [] }
     requires capacity { length threads.items ≤ vec_capacity ends }
-    ensures served { AllZip (IsPlaceServed N.limit) (map (λ thread. place_at (T.connections thread.promise.turn.value) thread.promise.gate.value) threads.items) (map (λ end. left_at (T.connections end.turn) end.told end.line) result.items) }
+    ensures served { AllZip (IsPlaceServed N.limit)
+        (map (λ thread. place_at (T.connections thread.promise.turn.value) thread.promise.gate.value) threads.items)
+        (map (λ end. left_at (T.connections end.turn) end.told end.line) result.items) }
     ensures capacity { vec_capacity ends ≤ vec_capacity result }
 {
     let mut ends = ends;
@@ -232,7 +242,8 @@ pub fn run_places<
     turns: Vec<T>,
     gates: Vec<SharedGate<N, H>>,
 ) -> Result<PlacesEnd<N, T>, StoreFault>
-    ensures { IfOk result (λ end. AllZip (IsPlaceServed N.limit) (places_of (map T.connections turns.items) gates.items) (map (λ end. left_at (T.connections end.turn) end.told end.line) end.ends.items)) }
+    ensures { IfOk result (λ end. AllZip (IsPlaceServed N.limit) (places_of (map T.connections turns.items) gates.items)
+        (map (λ end. left_at (T.connections end.turn) end.told end.line) end.ends.items)) }
 {
     // Before any thread starts, so that no end is lost.
     let ends = Vec::with_capacity(alloc, gates.len())?;

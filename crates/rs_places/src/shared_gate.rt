@@ -23,8 +23,8 @@ use std::sync::{Arc, Wait};
 
 /// A place's gate to a store that other places use too. It stands for the seat's known list, which is legal, and for no other.
 ///
-/// The changes that it is told to expect go to the writer at once, in one job, if memory allows, and the outcome of each is told when its own submit
-/// comes.
+/// The changes that it is told to expect go to the writer at once, in one job, if memory allows, and the outcome of each is told when its
+/// own submit comes.
 ///
 /// It keeps the handle `rt`, by which changes wait for space in the queue, a submit for its receipt, and `hand_on` for the replies to what
 /// was sent ahead. An answer to a filter waits for nobody.
@@ -158,7 +158,8 @@ impl<N: LineName, R: Wait + Copy> Gate for SharedGate<N, R> {
         requires { is_sweep operation ≡ false }
         ensures list { Grows (Knows N.limit self.old) (Knows N.limit self.new) (Submits operation self.old.mark self.new.mark result) }
         ensures mark { Uses self.old.mark self.new.mark }
-        ensures serial { (self.new.mark.serial ≡ next_serial self.old.mark.serial) ⊎ ((result ≡ Err Strange) × (self.new.mark ≡ self.old.mark) × IsOtherPending self.old.pending operation) }
+        ensures serial { (self.new.mark.serial ≡ next_serial self.old.mark.serial)
+            ⊎ ((result ≡ Err Strange) × (self.new.mark ≡ self.old.mark) × IsOtherPending self.old.pending operation) }
         ensures sent { SendsAtMost self.old.mark.sent (entry_by operation self.new.mark) self.new.mark.sent }
         ensures last { OnOk result (Sends self.old.mark.sent (entry_by operation self.new.mark ∷ []) self.new.mark.sent) }
         ensures pending { TakesPending operation self.old.mark self.new.mark result self.old.pending self.new.pending }

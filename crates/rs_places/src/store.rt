@@ -64,7 +64,8 @@ impl<N: LineName, R: Wait + Drop> Promise<Ended<N, R>> for PutsJobs {
     ghost use Rattle.rs_intake.specs.Settling.{AreOfPlaces};
     ghost use Rattle.rs_version.specs.Writer.{kept_of};
 
-    ghost kept_by = { λ promise ended. IsWritten N.limit N.places ended.received.entries (kept_of ended.writer) ended.ways.items × AreOfPlaces N.places ended.received.entries };
+    ghost kept_by = { λ promise ended. IsWritten N.limit N.places ended.received.entries (kept_of ended.writer) ended.ways.items
+        × AreOfPlaces N.places ended.received.entries };
 }
 
 /// The writer's thread.
@@ -84,9 +85,9 @@ pub fn start_writer<
 /// [`run_places`] does, with the writer on one more, and settles. The first turn goes with place 1, and so on.
 ///
 /// The contract is one statement about the run, `IsStoreRun`: there is one legal history, which came to be by the outcomes of the
-/// entries that the writer took, all from these places, and published, but for its last entry, if that is held; all lists that any connection
-/// of any place was answered from are prefixes of it; each retained publication that any client was told is stored stands in it once;
-/// each place served all connections of its turn, over their own bytes and at their own times; what a place sent are their retained
+/// entries that the writer took, all from these places, and published, but for its last entry, if that is held; all lists that any
+/// connection of any place was answered from are prefixes of it; each retained publication that any client was told is stored stands in it
+/// once; each place served all connections of its turn, over their own bytes and at their own times; what a place sent are their retained
 /// publications, in order; and if the changes are given, all of it was taken, once.
 ///
 /// # Errors
@@ -101,7 +102,8 @@ pub fn run_store<T: Turn + Send + Drop + 'static, H: Threads + Wait + Copy + Sen
 ) -> Result<StoreEnd<T>, StoreFault>
     requires places { queue.places ≡ blank.places }
     requires turns { length turns.items ≡ blank.places }
-    ensures { IfOk result (λ end. IsStoreRun blank.limit blank.places (map T.connections turns.items) (map T.connections end.turns.items) end.version end.changes) }
+    ensures { IfOk result (λ end. IsStoreRun blank.limit blank.places (map T.connections turns.items)
+        (map T.connections end.turns.items) end.version end.changes) }
 {
     run_named::<Brand, T, H>(rt, alloc, blank, queue, turns)
 }
@@ -121,7 +123,8 @@ fn run_named<
     requires queue { (queue.name ≡ N.queue) × (queue.places ≡ N.places) }
     requires places { queue.places ≡ blank.places }
     requires turns { length turns.items ≡ blank.places }
-    ensures { IfOk result (λ end. IsStoreRun blank.limit blank.places (map T.connections turns.items) (map T.connections end.turns.items) end.version end.changes) }
+    ensures { IfOk result (λ end. IsStoreRun blank.limit blank.places (map T.connections turns.items)
+        (map T.connections end.turns.items) end.version end.changes) }
 {
     let (writer, seats) = blank.open::<N, H>(rt)?;
     let (intake, lines, queue) = queue.open::<N>()?;

@@ -39,7 +39,12 @@ pub trait Turn {
 
     /// The next connection of the place. `None` if there are no more; then it is not asked again.
     fn next(&mut self) -> Option<Connection<Self::In, Self::Out, Self::Time>>
-        ensures { GivesNext (connections self.old) (option_map (λ c. record { unread = Self.In.remaining c.input; written = Self.Out.contents c.output; moments = Self.Time.moments c.clock }) result) (connections self.new) };
+        ensures { GivesNext (connections self.old)
+            (option_map (λ c. record {
+              unread = Self.In.remaining c.input;
+              written = Self.Out.contents c.output;
+              moments = Self.Time.moments c.clock;
+            }) result) (connections self.new) };
 
     /// Takes back a connection that was served, how it ended, and what it was refused. Its reader and its writer have counted how often
     /// they failed.
@@ -49,5 +54,16 @@ pub trait Turn {
         served: Result<Served, ServeFault>,
         refusals: Refusals,
     )
-        ensures { TakesBack (connections self.old) (record { streams = record { unread = Self.In.remaining (inner_of connection.input); written = Self.Out.contents (inner_of connection.output); moments = Self.Time.moments connection.clock }; read_failures = failures_of connection.input; write_failures = failures_of connection.output; result = served }) (connections self.new) };
+        ensures { TakesBack (connections self.old)
+            (record {
+              streams = record {
+                unread = Self.In.remaining (inner_of connection.input);
+                written = Self.Out.contents (inner_of connection.output);
+                moments = Self.Time.moments connection.clock;
+              };
+              read_failures = failures_of connection.input;
+              write_failures = failures_of connection.output;
+              result = served;
+            })
+            (connections self.new) };
 }

@@ -239,7 +239,17 @@ impl Turn for Script {
         served: Result<Served, ServeFault>,
         _refusals: Refusals,
     )
-        ensures { TakesBack none_given (record { streams = record { unread = ⟦<Input as Read>⟧.remaining (inner_of connection.input); written = ⟦<Output as Write>⟧.contents (inner_of connection.output); moments = ⟦<ScriptClock as Clock>⟧.moments connection.clock }; read_failures = failures_of connection.input; write_failures = failures_of connection.output; result = served }) none_given }
+        ensures { TakesBack none_given
+            (record {
+              streams = record {
+                unread = ⟦<Input as Read>⟧.remaining (inner_of connection.input);
+                written = ⟦<Output as Write>⟧.contents (inner_of connection.output);
+                moments = ⟦<ScriptClock as Clock>⟧.moments connection.clock;
+              };
+              read_failures = failures_of connection.input;
+              write_failures = failures_of connection.output;
+              result = served;
+            }) none_given }
     {
         let output = connection.output.into_inner();
         if output.is_right(served) && !connection.clock.is_alone {

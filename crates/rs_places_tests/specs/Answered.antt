@@ -49,14 +49,16 @@ abbrev pub IsPlaceAnswered : List Entry → Option (List Streams) → Option (Li
 IsPlaceAnswered history None before after = ⊥
 IsPlaceAnswered history (Some waiting) before None = Unit {0}
 IsPlaceAnswered history (Some waiting) None (Some all) = ⊥
-IsPlaceAnswered history (Some waiting) (Some ended) (Some all) = (endings : List Ending) × (all ≡ ended ++ endings) × EachAnswered history waiting endings
+IsPlaceAnswered history (Some waiting) (Some ended) (Some all) = (endings : List Ending) × (all ≡ ended ++ endings)
+    × EachAnswered history waiting endings
 
 -- the same of all places
 abbrev pub ArePlacesAnswered : List Entry → List Connections → List Connections → Type 0
 ArePlacesAnswered history [] [] = Unit {0}
 ArePlacesAnswered history [] (after ∷ more) = ⊥
 ArePlacesAnswered history (before ∷ rest) [] = ⊥
-ArePlacesAnswered history (before ∷ rest) (after ∷ more) = IsPlaceAnswered history before.waiting before.ended after.ended × ArePlacesAnswered history rest more
+ArePlacesAnswered history (before ∷ rest) (after ∷ more) = IsPlaceAnswered history before.waiting before.ended after.ended
+    × ArePlacesAnswered history rest more
 
 -- of one legal history, of which so many entries were published
 pub record AreAnswered (limit : ℕ) (before after : List Connections) (version : ℕ) : Type 0 where

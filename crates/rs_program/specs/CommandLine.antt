@@ -60,11 +60,17 @@ abbrev pub pipe_words : App
 pipe_words = with_rule (with_rule (new_app (codes "pipe")) hex_option) at_option
 
 abbrev pub listen_words : App
-listen_words = with_rule (with_rule (with_rule (with_rule (with_rule (with_rule (with_rule (with_rule (new_app (codes "listen")) address_option) places_option) clients_option) topics_option) connections_option) endless_option) idle_option) log_option
+listen_words = with_rule (with_rule (with_rule (with_rule (with_rule (with_rule (with_rule (with_rule (new_app (codes "listen"))
+    address_option) places_option) clients_option) topics_option) connections_option) endless_option) idle_option) log_option
 
 -- the words after the program's name: one of its commands, with its options
 abbrev pub rstored_words : App
-rstored_words = with_subcommand (with_subcommand (on_top (λ s. record s { has_version = true; no_binary_name = true; subcommand_required = true; disable_help_subcommand = true }) (new_app (codes "rstored"))) pipe_words.top) listen_words.top
+rstored_words = with_subcommand
+    (with_subcommand
+    (on_top (λ s. record s { has_version = true; no_binary_name = true; subcommand_required = true; disable_help_subcommand = true })
+    (new_app (codes "rstored")))
+    pipe_words.top)
+    listen_words.top
 
 -- The option's value is this number, in decimal, before which a plus may stand. It is in these bounds.
 pub record IsNumberOf (rows : List Row) (option : Text) (least most number : ℕ) : Type 0 where
@@ -88,24 +94,29 @@ pub record IsFlagOf (rows : List Row) (option : Text) (flag : Bool) : Type 0 whe
 
 -- There are as many clients as `--clients` says, or if it was not given as there are places.
 abbrev pub AreClientsOf : List Row → ℕ → ℕ → Type 0
-AreClientsOf rows places clients = (given : Option ℕ) × IsNumberGiven rows (codes "clients") 1 MAX_CLIENTS given × (clients ≡ unwrap_or given places)
+AreClientsOf rows places clients = (given : Option ℕ) × IsNumberGiven rows (codes "clients") 1 MAX_CLIENTS given
+    × (clients ≡ unwrap_or given places)
 
 -- The program ends after this many connections, if `--connections` alone was given, or never, if `--endless` alone was.
 abbrev pub IsEndOf : List Row → Option ℕ → Type 0
-IsEndOf rows connections = IsNumberGiven rows (codes "connections") 1 MAX_CONNECTIONS connections × IsFlagOf rows (codes "endless") (not (is_some connections))
+IsEndOf rows connections = IsNumberGiven rows (codes "connections") 1 MAX_CONNECTIONS connections
+    × IsFlagOf rows (codes "endless") (not (is_some connections))
 
 -- what the values of a command's options ask for
 abbrev pub IsRunOf : Text → List Row → Run → Type 0
 IsRunOf name rows (Pipe hex at) = (name ≡ codes "pipe") × IsNumberOf rows (codes "at") 0 (2 ^ 64 - 1) at × IsFlagOf rows (codes "hex") hex
-IsRunOf name rows (Listen address places clients topics connections idle log) = (name ≡ codes "listen") × (first_of (codes "address") rows ≡ Some (string_bytes address))
-    × IsNumberOf rows (codes "places") 1 MAX_PLACES places × AreClientsOf rows places clients × IsNumberOf rows (codes "topics") 1 MAX_TOPICS topics
+IsRunOf name rows (Listen address places clients topics connections idle log) = (name ≡ codes "listen")
+    × (first_of (codes "address") rows ≡ Some (string_bytes address))
+    × IsNumberOf rows (codes "places") 1 MAX_PLACES places × AreClientsOf rows places clients
+    × IsNumberOf rows (codes "topics") 1 MAX_TOPICS topics
     × IsEndOf rows connections
     × IsNumberGiven rows (codes "idle") 1 MAX_IDLE idle × IsFlagOf rows (codes "log") log
 
 -- each number is in its range
 abbrev pub IsInRange : Run → Type 0
 IsInRange (Pipe hex at) = at ≤ 2 ^ 64 - 1
-IsInRange (Listen address places clients topics connections idle log) = (1 ≤ places) × (places ≤ MAX_PLACES) × (places ≤ clients) × (clients ≤ MAX_CLIENTS) × (1 ≤ topics) × (topics ≤ MAX_TOPICS)
+IsInRange (Listen address places clients topics connections idle log) = (1 ≤ places) × (places ≤ MAX_PLACES) × (places ≤ clients)
+    × (clients ≤ MAX_CLIENTS) × (1 ≤ topics) × (topics ≤ MAX_TOPICS)
     × IfSome connections (λ count. (1 ≤ count) × (count ≤ MAX_CONNECTIONS)) × IfSome idle (λ seconds. (1 ≤ seconds) × (seconds ≤ MAX_IDLE))
 
 -- the words name a command, and its options ask for this

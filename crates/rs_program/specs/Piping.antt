@@ -42,13 +42,20 @@ piped (Ok served) line = Ok served
 piped (Err fault) line = Err (pipe_fault fault line)
 
 -- There was a connection over what the input and the output stand for. Its outcome was answered so.
-pub record IsPiped (hex : Bool) (from : Point State) (first : List Operation) (most : ℕ) (gate : GateView) (transfer : Transfer) (answered : Result Served PipeFault) : Type 0 where
+pub record IsPiped (hex : Bool) (from : Point State) (first : List Operation) (most : ℕ) (gate : GateView) (transfer : Transfer)
+    (answered : Result Served PipeFault) : Type 0 where
   pub outcome : Result Served ServeFault
   pub left : Option (List ℕ)
   pub output : Option (List ℕ)
   pub line : Option ℕ
   pub connection : IsConnection from first most gate
-      (record { unread = input_bytes hex transfer.unread; rest = left; written = output_bytes hex transfer.written; more = output; told = transfer.told }) outcome
+      (record {
+        unread = input_bytes hex transfer.unread;
+        rest = left;
+        written = output_bytes hex transfer.written;
+        more = output;
+        told = transfer.told;
+      }) outcome
   pub left_is : IsLeft hex transfer.rest left
   pub output_is : IsOutput hex transfer.more output
   pub answer : answered ≡ piped outcome (if_hex hex line)

@@ -103,7 +103,8 @@ fn pipe_bytes<H: Wait, R: Read + Drop, W: Write + Drop, G: Gate>(
     at: u64,
 ) -> Piped<R, W, G>
     ensures { (seen : List Entry) → G.stands gate seen
-        → IsPiped false (start (assigned_of 1 1) seen (G.mark gate)) (G.pending gate) G.most (gate_view G.stands G.mark G.pending result.gate)
+        → IsPiped false (start (assigned_of 1 1) seen (G.mark gate)) (G.pending gate) G.most
+        (gate_view G.stands G.mark G.pending result.gate)
         (record {
           unread = R.remaining input;
           rest = R.remaining result.input;
@@ -133,7 +134,8 @@ fn pipe_lines<H: Wait, R: Read + Drop, W: Write + Drop, G: Gate>(
     at: u64,
 ) -> Piped<R, W, G>
     ensures { (seen : List Entry) → G.stands gate seen
-        → IsPiped true (start (assigned_of 1 1) seen (G.mark gate)) (G.pending gate) G.most (gate_view G.stands G.mark G.pending result.gate)
+        → IsPiped true (start (assigned_of 1 1) seen (G.mark gate)) (G.pending gate) G.most
+        (gate_view G.stands G.mark G.pending result.gate)
         (record {
           unread = R.remaining input;
           rest = R.remaining result.input;

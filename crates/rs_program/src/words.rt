@@ -91,7 +91,8 @@ pub fn read_words(alloc: Global, words: &[String]) -> Result<Run, WordsFault>
 
 fn run_of(alloc: Global, matches: &ArgMatches<'_>) -> Result<Run, WordsFault>
     requires { has_subcommand matches.now ≡ true }
-    ensures run { IfOk result (λ run. (name : Text) × (rows : List Row) × (subcommand_rows_of matches.now ≡ Some (name, rows)) × IsRunOf name rows run) }
+    ensures run { IfOk result (λ run. (name : Text) × (rows : List Row) × (subcommand_rows_of matches.now ≡ Some (name, rows))
+        × IsRunOf name rows run) }
     ensures range { IfOk result IsInRange }
 {
     let Some((name, found)) = matches.subcommand() else {

@@ -58,7 +58,15 @@ taker = record { from = 0; sends = false; takes = true; made = 0; entries = []; 
 
 -- the pass with one more job
 abbrev pub job_more : PassView → Job → PassView
-job_more v job = record { from = v.from; sends = v.sends; takes = v.takes; made = v.made; entries = v.entries ++ entries_in job; ends = v.ends ++ ends_of (job ∷ []); known = v.known }
+job_more v job = record {
+  from = v.from;
+  sends = v.sends;
+  takes = v.takes;
+  made = v.made;
+  entries = v.entries ++ entries_in job;
+  ends = v.ends ++ ends_of (job ∷ []);
+  known = v.known;
+}
 
 abbrev pub Sends : PassView → Job → PassView → Type 0
 Sends v job w = w ≡ job_more v job
@@ -123,7 +131,8 @@ abbrev pub Closes : List Job → List PassView → Type 0
 Closes items views =
     (ended : List ℕ)
     × ((place : ℕ) → length (at_place place (ended ++ ends_of items)) ≤ 1)
-    × ((pass : ℕ) (v : PassView) → get_elem? views pass ≡ some v → ClosesLine (ended ++ ends_of items) v × ClosesTaker ended (ended ++ ends_of items) v)
+    × ((pass : ℕ) (v : PassView) → get_elem? views pass ≡ some v → ClosesLine (ended ++ ends_of items) v
+    × ClosesTaker ended (ended ++ ends_of items) v)
     × AreLast items
     × ((place : ℕ) → (at_place place ended ≡ []) ⊎ (of_place place (entries_of items) ≡ []))
 
@@ -133,14 +142,30 @@ Keeps items views = Delivers items views × Closes items views
 
 -- the writer's pass with a line more, and that line's
 abbrev pub one_line_more : PassView → PassView
-one_line_more v = record { from = v.from; sends = v.sends; takes = v.takes; made = v.made + 1; entries = v.entries; ends = v.ends; known = v.known }
+one_line_more v = record {
+  from = v.from;
+  sends = v.sends;
+  takes = v.takes;
+  made = v.made + 1;
+  entries = v.entries;
+  ends = v.ends;
+  known = v.known;
+}
 
 abbrev pub new_line : PassView → PassView
 new_line v = record { from = v.made + 1; sends = true; takes = false; made = 0; entries = []; ends = []; known = [] }
 
 -- the writer's pass once it has taken in a line's, and what is left of that one
 abbrev pub one_line_less : PassView → PassView → PassView
-one_line_less v w = record { from = v.from; sends = v.sends; takes = v.takes; made = v.made; entries = v.entries; ends = v.ends; known = record { place = w.from; entries = w.entries } ∷ v.known }
+one_line_less v w = record {
+  from = v.from;
+  sends = v.sends;
+  takes = v.takes;
+  made = v.made;
+  entries = v.entries;
+  ends = v.ends;
+  known = record { place = w.from; entries = w.entries } ∷ v.known;
+}
 
 abbrev pub spent : PassView
 spent = record { from = 0; sends = false; takes = false; made = 0; entries = []; ends = []; known = [] }

@@ -92,7 +92,8 @@ pub fn send<T: Drop, V, P: Protocol<T, V>, M: Outcome<T, V> + Lesson<T, V>, R: W
     message: T,
 ) -> Result<(), Gone>
     requires channel { IsSeatAt (sends_on to.now) pass.old }
-    requires rule { Pushes P.holds (ruled_capacity (sends_on to.now)) pass.old.id (view pass.old) message (M.then (view pass.old) message) × Learns P.holds pass.old.id (view pass.old) (M.fact (view pass.old)) }
+    requires rule { Pushes P.holds (ruled_capacity (sends_on to.now)) pass.old.id (view pass.old) message (M.then (view pass.old) message)
+        × Learns P.holds pass.old.id (view pass.old) (M.fact (view pass.old)) }
     ensures channel { IsSeatAt (sends_on to.now) pass.new × (pass.new.id ≡ pass.old.id) }
     ensures rule { MatchResult result (λ _. M.then (view pass.old) message (view pass.new)) (λ _. view pass.new ≡ view pass.old) }
 {
@@ -111,9 +112,11 @@ pub fn receive<T: Drop, V, P: Protocol<T, V>, M: Outcome<T, V> + Lesson<T, V>, R
     patience: &mut Patience,
 ) -> Result<T, Gone>
     requires channel { IsSeatAt (receives_on from.now) pass.old }
-    requires rule { Pops P.holds pass.old.id (view pass.old) (M.then (view pass.old)) × Learns P.holds pass.old.id (view pass.old) (M.fact (view pass.old)) }
+    requires rule { Pops P.holds pass.old.id (view pass.old) (M.then (view pass.old))
+        × Learns P.holds pass.old.id (view pass.old) (M.fact (view pass.old)) }
     ensures channel { IsSeatAt (receives_on from.now) pass.new × (pass.new.id ≡ pass.old.id) }
-    ensures rule { MatchResult result (λ x. M.then (view pass.old) x (view pass.new)) (λ _. (view pass.new ≡ view pass.old) × Held 0 (M.fact (view pass.old))) }
+    ensures rule { MatchResult result (λ x. M.then (view pass.old) x (view pass.new))
+        (λ _. (view pass.new ≡ view pass.old) × Held 0 (M.fact (view pass.old))) }
 {
     for look in 0..patience.looks() {
         match from.try_recv_as::<M, R>(rt, pass) {

@@ -124,8 +124,8 @@ fn worked<H: Wait + Threads + Copy + Send + Sync + 'static>(
     refused(book, left)
 }
 
-/// All topics one by one, and none after one whose entry is held; all of them one by one; all of them, three in a job; all in one job, whose
-/// replies are two messages if the writer waited for it.
+/// All topics one by one, and none after one whose entry is held; all of them one by one; all of them, three in a job; all in one job,
+/// whose replies are two messages if the writer waited for it.
 const GROUPINGS: [Grouping; 4] = [
     Grouping {
         groups: 24,

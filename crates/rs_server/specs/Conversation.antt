@@ -31,7 +31,8 @@ use Rattle.rs_server.specs.Writing.{all_reply_bytes}
 -- These bytes are the inputs, one after the other, and then what is buffered. A fault takes no byte.
 abbrev pub InputsOf : List Input → List ℕ → List ℕ → Type 0
 InputsOf [] bytes buffered = bytes ≡ buffered
-InputsOf (Whole packet ∷ inputs) bytes buffered = (text : List ℕ) × (rest : List ℕ) × (bytes ≡ text ++ rest) × Encodes text packet × InputsOf inputs rest buffered
+InputsOf (Whole packet ∷ inputs) bytes buffered = (text : List ℕ) × (rest : List ℕ) × (bytes ≡ text ++ rest) × Encodes text packet
+    × InputsOf inputs rest buffered
 InputsOf (Broken fault ∷ inputs) bytes buffered = IsFaulty bytes fault × InputsOf inputs bytes buffered
 
 -- The inputs are the same as far as both go, up to the first fault. Out of memory may stand in the
@@ -62,12 +63,14 @@ planned_moments planned = map (λ given. given.now) planned
 abbrev pub PlansNext : List Given → List Given → List ℕ → List ℕ → Option (ℕ → ℕ) → Option (ℕ → ℕ) → Type 0
 PlansNext planned new_planned buffered new_buffered told new_told =
     ((new_planned ≡ planned) × (new_buffered ≡ buffered) × (new_told ≡ told))
-    ⊎ ((given : Given) × (new_planned ≡ planned ++ given ∷ []) × TakesInput buffered (Some given.input) new_buffered × TellsInOrder told new_told (given.now ∷ []))
+    ⊎ ((given : Given) × (new_planned ≡ planned ++ given ∷ []) × TakesInput buffered (Some given.input) new_buffered
+    × TellsInOrder told new_told (given.now ∷ []))
 
 -- what is planned grew by the next inputs of what was buffered, at the times that were told
 abbrev pub Plans : List Given → List Given → List ℕ → List ℕ → Option (ℕ → ℕ) → Option (ℕ → ℕ) → Type 0
 Plans planned new_planned buffered new_buffered told new_told =
-    (more : List Given) × (new_planned ≡ planned ++ more) × InputsOf (planned_inputs more) buffered new_buffered × TellsInOrder told new_told (planned_moments more)
+    (more : List Given) × (new_planned ≡ planned ++ more) × InputsOf (planned_inputs more) buffered new_buffered
+    × TellsInOrder told new_told (planned_moments more)
 
 -- its change may be announced
 abbrev pub HasChange : Given → Type 0
@@ -121,7 +124,12 @@ pub record GateView : Type 1 where
   pub pending : List Operation
 
 abbrev pub gate_view : {G : Type 0} → (G → List Entry → Type 0) → (G → Mark) → (G → List Operation) → G → GateView
-gate_view stands mark pending gate = record { stands_at = StandsAt stands mark; stands = stands gate; mark = mark gate; pending = pending gate }
+gate_view stands mark pending gate = record {
+  stands_at = StandsAt stands mark;
+  stands = stands gate;
+  mark = mark gate;
+  pending = pending gate;
+}
 
 -- what holds of the bytes that were consumed, of the times that were told, and of the exchanges whose replies were written
 pub record Traffic : Type 1 where
@@ -159,9 +167,11 @@ AreLeft from exchanges planned changes = AreChanges planned changes ⊎ IsUnsent
 
 -- Such a conversation, and what was decoded and not handled: it follows the last input that was handled, and then come the bytes
 -- that are left. Its times were told after those of the exchanges. If the gate expected nothing first, it expects only changes of these.
-pub record Talks (from : Point State) (first : List Operation) (gate : GateView) (state : State) (traffic : Traffic) (planned : List Given) (left : List ℕ) : Type 0 where
+pub record Talks (from : Point State) (first : List Operation) (gate : GateView) (state : State) (traffic : Traffic) (planned : List Given)
+    (left : List ℕ) : Type 0 where
   pub buffered : List ℕ
-  pub conversation : Conversation from gate state (record traffic { told = λ moments. traffic.told (moments ++ planned_moments planned) }) buffered
+  pub conversation : Conversation from gate state
+      (record traffic { told = λ moments. traffic.told (moments ++ planned_moments planned) }) buffered
   pub whole : InputsOf (planned_inputs planned) buffered left
   pub expected : first ≡ [] → AreLeft from conversation.exchanges planned gate.pending
 
@@ -216,7 +226,11 @@ pub record Transfer : Type 1 where
 
 -- the bytes were read, the times were told, and all replies were written, or the last exchange's only in part
 abbrev pub traffic_of : Transfer → Result Served ServeFault → Traffic
-traffic_of transfer result = record { consumed = Consumes transfer.unread transfer.rest; told = transfer.told; written = WritesReplies result transfer.written transfer.more }
+traffic_of transfer result = record {
+  consumed = Consumes transfer.unread transfer.rest;
+  told = transfer.told;
+  written = WritesReplies result transfer.written transfer.more;
+}
 
 -- From this point, with these changes expected first, a session was run over the bytes that were read, at the times that were told: those
 -- of its exchanges, and then those of what was whole behind them and not handled, at most as many as the gate takes at once. What was

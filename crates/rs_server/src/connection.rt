@@ -84,7 +84,8 @@ pub fn serve<H: Wait, R: Read, W: Write, G: Gate, C: Clock>(
 
     // What was written are the replies of a session to the packets that the bytes read encode.
     ensures conversation { (seen : List Entry) → G.stands gate seen
-        → IsConnection (start (assigned_of id.place id.number) seen (G.mark gate)) (G.pending gate) G.most (gate_view G.stands G.mark G.pending result.1)
+        → IsConnection (start (assigned_of id.place id.number) seen (G.mark gate)) (G.pending gate) G.most
+        (gate_view G.stands G.mark G.pending result.1)
         (record {
           unread = R.remaining (inner_of reader.old);
           rest = R.remaining (inner_of reader.new);
@@ -253,7 +254,8 @@ fn make_exchange<G: Gate, W: Write>(
     requires goes_on { closing_of (state_of session.old).phase ≡ None }
     requires change { IfSome change (λ operation. IsChange (given_at input now) operation) }
     ensures exchange { (seen : List Entry) → G.stands (gate_of session.old) seen
-        → MakesExchange (session_at G.mark session.old seen) (given_at input now) (gate_view G.stands G.mark G.pending (gate_of session.new)) (state_of session.new)
+        → MakesExchange (session_at G.mark session.old seen) (given_at input now)
+        (gate_view G.stands G.mark G.pending (gate_of session.new)) (state_of session.new)
         (Writes result (W.contents (inner_of writer.old)) (W.contents (inner_of writer.new))) }
     ensures pending { LeavesPending (given_at input now) (G.pending (gate_of session.old)) (G.pending (gate_of session.new))
         ((G.mark (gate_of session.new) ≡ G.mark (gate_of session.old)) × (step_of (state_of session.new).phase ≡ Step.End)) }

@@ -127,10 +127,13 @@ impl<G: Gate> Gate for CountedGate<G> {
     /// Counts the answer, if it is a fault.
     fn submit(&mut self, operation: Operation) -> Result<(), SubmitFault>
         requires { is_sweep operation ≡ false }
-        ensures list { Grows (G.stands (gate_of self.old)) (G.stands (gate_of self.new)) (Submits operation (G.mark (gate_of self.old)) (G.mark (gate_of self.new)) result) }
+        ensures list { Grows (G.stands (gate_of self.old)) (G.stands (gate_of self.new))
+            (Submits operation (G.mark (gate_of self.old)) (G.mark (gate_of self.new)) result) }
         ensures mark { Uses (G.mark (gate_of self.old)) (G.mark (gate_of self.new)) }
-        ensures sent { SendsAtMost (G.mark (gate_of self.old)).sent (entry_by operation (G.mark (gate_of self.new))) (G.mark (gate_of self.new)).sent }
-        ensures pending { TakesPending operation (G.mark (gate_of self.old)) (G.mark (gate_of self.new)) result (G.pending (gate_of self.old)) (G.pending (gate_of self.new)) }
+        ensures sent { SendsAtMost (G.mark (gate_of self.old)).sent (entry_by operation (G.mark (gate_of self.new)))
+            (G.mark (gate_of self.new)).sent }
+        ensures pending { TakesPending operation (G.mark (gate_of self.old)) (G.mark (gate_of self.new)) result
+            (G.pending (gate_of self.old)) (G.pending (gate_of self.new)) }
         ensures counts { refusals_of self.new ≡ with_change result (refusals_of self.old) }
     {
         let answer = self.inner.submit(operation);
@@ -197,7 +200,8 @@ pub fn serve_counted<H: Wait, R: Read, W: Write, G: Gate, C: Clock>(
     requires reader_can_rise { failures_of reader.old < 2 ^ 64 - 1 }
     requires writer_can_rise { failures_of writer.old < 2 ^ 64 - 1 }
     ensures conversation { (seen : List Entry) → G.stands gate seen
-        → IsConnection (start (assigned_of id.place id.number) seen (G.mark gate)) (G.pending gate) G.most (gate_view G.stands G.mark G.pending result.1)
+        → IsConnection (start (assigned_of id.place id.number) seen (G.mark gate)) (G.pending gate) G.most
+        (gate_view G.stands G.mark G.pending result.1)
         (record {
           unread = R.remaining (inner_of reader.old);
           rest = R.remaining (inner_of reader.new);

@@ -70,7 +70,8 @@ pub(crate) fn plan<G: Gate, C: Clock>(
     planned: &mut VecDeque<Planned>,
     clock: &mut C,
 ) -> Result<(), ServeFault>
-    ensures plans { Plans planned.old.items planned.new.items buffered.old.items buffered.new.items (C.moments clock.old) (C.moments clock.new) }
+    ensures plans { Plans planned.old.items planned.new.items buffered.old.items buffered.new.items (C.moments clock.old)
+        (C.moments clock.new) }
     ensures more { OnOk result (planned.new.items ≡ [] → IsMore buffered.new.items) }
     ensures few { length planned.old.items ≤ G.most → length planned.new.items ≤ G.most + 1 }
     ensures only_last { AllButLastHaveChanges planned.old.items → AllButLastHaveChanges planned.new.items }
@@ -80,7 +81,8 @@ pub(crate) fn plan<G: Gate, C: Clock>(
     ensures due { due_of session.new ≡ due_of session.old }
     ensures list { (seen : List Entry) → G.stands (gate_of session.old) seen → G.stands (gate_of session.new) seen }
     ensures mark { G.mark (gate_of session.new) ≡ G.mark (gate_of session.old) }
-    ensures pending { AreChanges planned.old.items (G.pending (gate_of session.old)) → AreChanges planned.new.items (G.pending (gate_of session.new)) }
+    ensures pending { AreChanges planned.old.items (G.pending (gate_of session.old))
+        → AreChanges planned.new.items (G.pending (gate_of session.new)) }
 {
     if !planned.is_empty() && session.has_pending() {
         return Ok(());
@@ -109,7 +111,8 @@ fn plan_first<C: Clock>(
     clock: &mut C,
     announces: bool,
 ) -> Result<(), ServeFault>
-    ensures plans { Plans planned.old.items planned.new.items buffered.old.items buffered.new.items (C.moments clock.old) (C.moments clock.new) }
+    ensures plans { Plans planned.old.items planned.new.items buffered.old.items buffered.new.items (C.moments clock.old)
+        (C.moments clock.new) }
     ensures more { OnOk result (planned.new.items ≡ [] → IsMore buffered.new.items) }
     ensures few { length planned.new.items ≤ max (length planned.old.items) 1 }
     ensures only_last { AllButLastHaveChanges planned.old.items → AllButLastHaveChanges planned.new.items }
@@ -133,7 +136,8 @@ fn plan_next<C: Clock>(
     clock: &mut C,
     announces: bool,
 ) -> Result<bool, ServeFault>
-    ensures plans { PlansNext planned.old.items planned.new.items buffered.old.items buffered.new.items (C.moments clock.old) (C.moments clock.new) }
+    ensures plans { PlansNext planned.old.items planned.new.items buffered.old.items buffered.new.items (C.moments clock.old)
+        (C.moments clock.new) }
     ensures more { OnOk result (planned.new.items ≡ [] → IsMore buffered.new.items) }
     ensures change { result ≡ Ok true → (given : Given) × (planned.new.items ≡ planned.old.items ++ given ∷ []) × HasChange given }
     ensures none { OnErr result (planned.new.items ≡ planned.old.items) }
@@ -171,7 +175,8 @@ fn look_ahead<C: Clock>(
     clock: &mut C,
     most: usize,
 )
-    ensures plans { Plans planned.old.items planned.new.items buffered.old.items buffered.new.items (C.moments clock.old) (C.moments clock.new) }
+    ensures plans { Plans planned.old.items planned.new.items buffered.old.items buffered.new.items (C.moments clock.old)
+        (C.moments clock.new) }
     ensures few { length planned.new.items ≤ max (length planned.old.items) most }
     ensures only_last { AllButLastHaveChanges planned.old.items → AllButLastHaveChanges planned.new.items }
 {
@@ -202,7 +207,8 @@ fn announce<G: Gate>(alloc: Global, session: &mut Session<G>, planned: &VecDeque
     ensures due { due_of session.new ≡ due_of session.old }
     ensures list { Grows (G.stands (gate_of session.old)) (G.stands (gate_of session.new)) (λ seen list. list ≡ seen) }
     ensures mark { G.mark (gate_of session.new) ≡ G.mark (gate_of session.old) }
-    ensures pending { AreChanges planned.now.items (G.pending (gate_of session.new)) ⊎ (G.pending (gate_of session.new) ≡ G.pending (gate_of session.old)) }
+    ensures pending { AreChanges planned.now.items (G.pending (gate_of session.new))
+        ⊎ (G.pending (gate_of session.new) ≡ G.pending (gate_of session.old)) }
 {
     if planned.len() < 2 {
         return;

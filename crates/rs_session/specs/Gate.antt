@@ -62,7 +62,8 @@ pub record IsSubmitted (operation : Operation) (old new : Mark) (list : List Ent
 -- What is handed over is this operation: of the entries that came after the list before, each of the gate's place with
 -- the serial of its new mark has it.
 abbrev pub IsHandedOver : Operation → Mark → List Entry → List Entry → Type 0
-IsHandedOver operation new seen list = (more : List Entry) → list ≡ seen ++ more → All (λ e. e.origin ≡ last_origin new → e.operation ≡ operation) more
+IsHandedOver operation new seen list = (more : List Entry) → list ≡ seen ++ more
+    → All (λ e. e.origin ≡ last_origin new → e.operation ≡ operation) more
 
 -- if it is open what became of the change, a serial was used
 abbrev pub UsesIfOpen : Mark → Mark → Result (Unit {0}) SubmitFault → Type 0
@@ -88,6 +89,8 @@ StandsAt {G} stands mark_of mark list = (gate : G) × stands gate list × (mark_
 
 -- Grows from the old gate to the new one, and P holds also of the lists by which filters were answered between.
 -- For each of these a gate stood while it had the mark of the new one.
-abbrev pub GrowsAnswering : {G : Type 0} → (G → List Entry → Type 0) → (G → Mark) → G → G → (List Entry → List (List Entry) → List Entry → Type 0) → Type 0
+abbrev pub GrowsAnswering : {G : Type 0} → (G → List Entry → Type 0) → (G → Mark) → G → G
+    → (List Entry → List (List Entry) → List Entry → Type 0) → Type 0
 GrowsAnswering stands mark_of old new P =
-    Grows (stands old) (stands new) (λ seen list. (answered : List (List Entry)) × All (StandsAt stands mark_of (mark_of new)) answered × P seen answered list)
+    Grows (stands old) (stands new) (λ seen list. (answered : List (List Entry)) × All (StandsAt stands mark_of (mark_of new)) answered
+    × P seen answered list)

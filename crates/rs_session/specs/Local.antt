@@ -22,7 +22,8 @@ next_entry c operation = record { origin = record { place = 1; serial = slice_in
 
 -- no serial is left, or the store has no space for the entry, nor would a Sweep make any
 abbrev pub IsFull : Content → Operation → Type 0
-IsFull c operation = (slice_index c.serials 1 ≡ 2 ^ 64 - 1) ⊎ ((HasSpace c (next_entry c operation) → ⊥) × (NeedsSweep c (next_entry c operation) → ⊥))
+IsFull c operation = (slice_index c.serials 1 ≡ 2 ^ 64 - 1)
+    ⊎ ((HasSpace c (next_entry c operation) → ⊥) × (NeedsSweep c (next_entry c operation) → ⊥))
 
 -- what a refused submit leaves: what was there, or the Sweep that was to make space if memory was refused after it
 abbrev pub IsLeft : Content → Operation → SubmitFault → Content → Type 0

@@ -27,7 +27,8 @@ may_be_announced p = p.retain && (is_low p.qos && (not (is_some p.alias) && is_t
 -- such a publication, with its change at its time
 abbrev pub IsChange : Given → Operation → Type 0
 IsChange given operation =
-    (p : Publish) × (topic : List ℕ) × (given.input ≡ Whole (packet.Publish p)) × (may_be_announced p ≡ true) × (p.topic ≡ Ok topic) × (change p topic given.now ≡ Some operation)
+    (p : Publish) × (topic : List ℕ) × (given.input ≡ Whole (packet.Publish p)) × (may_be_announced p ≡ true) × (p.topic ≡ Ok topic)
+    × (change p topic given.now ≡ Some operation)
 
 -- the changes are those of the first of these, one for each
 abbrev pub AreChanges : List Given → List Operation → Type 0

@@ -48,19 +48,22 @@ subscribed_by (Ok filter) subscription code there = if is_granted code then fini
 -- all that the list answers is queued, at the granted QoS and with the Subscription Identifier
 abbrev pub IsQueuedAt : List ℕ → Subscription → ℕ → List Entry → ℕ → List Call → Type 0
 IsQueuedAt filter subscription now list code own =
-    (found : List Found) × IsAnswer list filter now found × (code ≡ level subscription.options.qos) × (own ≡ Queue found subscription.options.qos subscription.identifier (Ok tt) ∷ [])
+    (found : List Found) × IsAnswer list filter now found × (code ≡ level subscription.options.qos)
+    × (own ≡ Queue found subscription.options.qos subscription.identifier (Ok tt) ∷ [])
 
 -- a filter that is granted and that its Retain Handling lets replay; another queues nothing
 abbrev pub IsQueuedFor : Filter → Subscription → ℕ → List Entry → ℕ → Subscriptions → List Call → Type 0
 IsQueuedFor (Err fault) subscription now list code there own = own ≡ []
 IsQueuedFor (Ok filter) subscription now list code there own =
-    MatchBool (is_granted code && replays subscription.options.retain_handling (is_subscribed filter there)) (IsQueuedAt filter subscription now list code own) (own ≡ [])
+    MatchBool (is_granted code && replays subscription.options.retain_handling (is_subscribed filter there))
+    (IsQueuedAt filter subscription now list code own) (own ≡ [])
 
 -- one filter after the other, each with the next code, by the next list
 abbrev pub AreQueued : ℕ → List Asked → Option ℕ → List ℕ → List (List Entry) → Subscriptions → List Call → Type 0
 AreQueued now [] identifier codes answered there made = (codes ≡ []) × (answered ≡ []) × (made ≡ [])
 AreQueued now (asked ∷ more) identifier codes answered there made =
-    (code : ℕ) × (rest : List ℕ) × (list : List Entry) × (later : List (List Entry)) × (own : List Call) × (others : List Call) × (codes ≡ code ∷ rest) × (answered ≡ list ∷ later)
+    (code : ℕ) × (rest : List ℕ) × (list : List Entry) × (later : List (List Entry)) × (own : List Call) × (others : List Call)
+    × (codes ≡ code ∷ rest) × (answered ≡ list ∷ later)
     × (made ≡ own ++ others) × IsQueuedFor asked.0 (subscription_for asked identifier) now list code there own
     × AreQueued now more identifier rest later (subscribed_by asked.0 (subscription_for asked identifier) code there) others
 
@@ -74,7 +77,8 @@ IsAcknowledged (Some (ack, id)) own = (answer : Ack) × (own ≡ Acknowledge ack
 -- codes of its SUBACK, an acknowledgement is one call, and no other input calls anything.
 abbrev pub AreCalledBy : Input → ℕ → List (List Entry) → Subscriptions → Option Reply → List Call → Type 0
 AreCalledBy (Whole (packet.Subscribe s)) now answered there answer own =
-    (codes : List ℕ) × (answer ≡ Some (reply.Suback (record { id = s.id; codes = codes }))) × AreQueued now s.filters s.subscription codes answered there own
+    (codes : List ℕ) × (answer ≡ Some (reply.Suback (record { id = s.id; codes = codes })))
+    × AreQueued now s.filters s.subscription codes answered there own
 AreCalledBy (Whole p) now answered there answer own = IsAcknowledged (acknowledgement_of p) own
 AreCalledBy (Broken fault) now answered there answer own = own ≡ []
 
@@ -137,7 +141,8 @@ subscriptions_of (phase.Ended closing) = none
 abbrev pub AreCalls : Phase → List Exchange → List Call → Type 0
 AreCalls from [] made = made ≡ []
 AreCalls from (exchange ∷ exchanges) made =
-    (own : List Call) × (rest : List Call) × (made ≡ own ++ rest) × AreMade (subscriptions_of from) exchange exchange.to.state.phase own × AreCalls exchange.to.state.phase exchanges rest
+    (own : List Call) × (rest : List Call) × (made ≡ own ++ rest) × AreMade (subscriptions_of from) exchange exchange.to.state.phase own
+    × AreCalls exchange.to.state.phase exchanges rest
 
 abbrev pub window_of : window_state.State → Phase → window_state.State
 window_of old phase.Before = old
@@ -177,13 +182,15 @@ abbrev pub AreSentOrDropped : ℕ → ℕ → List Waiting → List PublishReply
 AreSentOrDropped packet_maximum now [] sent = sent ≡ []
 AreSentOrDropped packet_maximum now (w ∷ ws) sent =
     (IsDropped packet_maximum now w × AreSentOrDropped packet_maximum now ws sent)
-    ⊎ ((p : OutgoingValue) × (more : List PublishReply) × (sent ≡ publish_reply_of p ∷ more) × Carries packet_maximum now w p × AreSentOrDropped packet_maximum now ws more)
+    ⊎ ((p : OutgoingValue) × (more : List PublishReply) × (sent ≡ publish_reply_of p ∷ more) × Carries packet_maximum now w p
+    × AreSentOrDropped packet_maximum now ws more)
 
 -- exchange by exchange, these leave the queue, and the PUBLISH packets among the replies are what is sent of them
 abbrev pub AreSent : ℕ → List Exchange → List Waiting → Type 0
 AreSent packet_maximum [] front = front ≡ []
 AreSent packet_maximum (exchange ∷ exchanges) front =
-    (gone : List Waiting) × (rest : List Waiting) × (front ≡ gone ++ rest) × AreSentOrDropped packet_maximum exchange.given.now gone (publish_replies exchange.replies) × AreSent packet_maximum exchanges rest
+    (gone : List Waiting) × (rest : List Waiting) × (front ≡ gone ++ rest)
+    × AreSentOrDropped packet_maximum exchange.given.now gone (publish_replies exchange.replies) × AreSent packet_maximum exchanges rest
 
 -- these identifiers wait for an acknowledgement after the calls, and they are not more than the client takes
 pub record IsWithinQuota (c : Connect) (before : List Call) : Type 0 where

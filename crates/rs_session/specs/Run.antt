@@ -26,7 +26,8 @@ pub record Exchange : Type 0 where
 -- these replies are given one after the other
 abbrev pub Gives : ℕ → Option Reply → State → List Reply → Option Reply → State → Type 0
 Gives now due old [] left new = (left ≡ due) × (new ≡ old)
-Gives now due old (reply ∷ replies) left new = (later : Option Reply) × (mid : State) × IsGiven now due old (Some reply) later mid × Gives now later mid replies left new
+Gives now due old (reply ∷ replies) left new = (later : Option Reply) × (mid : State) × IsGiven now due old (Some reply) later mid
+    × Gives now later mid replies left new
 
 -- these, and then none
 pub record GivesAll (now : ℕ) (due : Option Reply) (old : State) (replies : List Reply) (new : State) : Type 0 where

@@ -29,7 +29,8 @@ pub record IsPublication (before : Point State) (exchange : Exchange) (e : Entry
 
 -- what an exchange sends: its publication, once, or nothing, if the client was not told that its publication is stored
 abbrev pub IsSentBy : Point State → Exchange → List Entry → Type 0
-IsSentBy before exchange [] = (o : Open) (p : Publish) (answer : Reply) → before.state.phase ≡ phase.Open o → IsToldStored o exchange p answer → ⊥
+IsSentBy before exchange [] = (o : Open) (p : Publish) (answer : Reply) → before.state.phase ≡ phase.Open o
+    → IsToldStored o exchange p answer → ⊥
 IsSentBy before exchange (e ∷ []) = IsPublication before exchange e
 IsSentBy before exchange (e ∷ d ∷ more) = ⊥
 
@@ -37,7 +38,8 @@ IsSentBy before exchange (e ∷ d ∷ more) = ⊥
 abbrev pub AreSentBy : Point State → List Exchange → List Entry → Type 0
 AreSentBy from [] entries = entries ≡ []
 AreSentBy from (exchange ∷ exchanges) entries =
-    (first : List Entry) × (rest : List Entry) × (entries ≡ first ++ rest) × IsSentBy from exchange first × AreSentBy exchange.to exchanges rest
+    (first : List Entry) × (rest : List Entry) × (entries ≡ first ++ rest) × IsSentBy from exchange first
+    × AreSentBy exchange.to exchanges rest
 
 -- From this point to that one the gate sent what the exchanges send, and nothing else.
 pub record SendsPublications (from : Point State) (exchanges : List Exchange) (to : Point State) : Type 0 where

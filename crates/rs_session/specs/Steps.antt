@@ -65,7 +65,8 @@ outcome_of_alias None rest = rest
 abbrev pub outcome_before : Publish → Open → Option Outcome
 outcome_before p o =
     outcome_of_alias p.alias (outcome_of_topic (topic_refusal p.topic)
-    (outcome_of_id (is_unreleased (unreleased_id p.qos p.id) o.inbound) (is_one_too_many (unreleased_id p.qos p.id) o.inbound) (acknowledged_by p.qos p.id Success)))
+    (outcome_of_id (is_unreleased (unreleased_id p.qos p.id) o.inbound) (is_one_too_many (unreleased_id p.qos p.id) o.inbound)
+    (acknowledged_by p.qos p.id Success)))
 
 -- what a submit leads to, by what became of the change
 abbrev pub outcome_of_submit : Result (Unit {0}) SubmitFault → Qos → Option ℕ → Outcome
@@ -79,7 +80,8 @@ outcome_of_submit (Err Closed) qos id = Closes ImplementationSpecificError
 -- what a submit leads to, with what stands then
 abbrev pub IsConcluded : Operation → Qos → Option ℕ → Point Open → Outcome → Point Open → Type 0
 IsConcluded operation qos id from outcome to =
-    (IsSubmitted operation from.mark to.mark to.seen × (outcome ≡ Replies (acknowledged_by qos id Success)) × (to.state ≡ record from.state { inbound = unreleased_with (unreleased_id qos id) from.state.inbound }))
+    (IsSubmitted operation from.mark to.mark to.seen × (outcome ≡ Replies (acknowledged_by qos id Success))
+    × (to.state ≡ record from.state { inbound = unreleased_with (unreleased_id qos id) from.state.inbound }))
     ⊎ (((outcome ≡ Replies (acknowledged_by qos id QuotaExceeded)) × (to.state ≡ from.state))
     ⊎ (((outcome ≡ Closes QuotaExceeded) × (to.state ≡ from.state))
     ⊎ ((outcome ≡ Closes ImplementationSpecificError) × (to.state ≡ from.state))))
@@ -106,4 +108,5 @@ IsUnsent old new outcome = (new ≡ old) × IsLast outcome
 
 -- of the changes that were expected, none is left; or this was the first, and the rest is left; or all are
 abbrev pub TakesPendingBy : Operation → Mark → Mark → Outcome → List Operation → List Operation → Type 0
-TakesPendingBy operation old_mark new_mark outcome old new = (new ≡ []) ⊎ ((old ≡ operation ∷ new) ⊎ ((new ≡ old) × IsUnsent old_mark new_mark outcome))
+TakesPendingBy operation old_mark new_mark outcome old new = (new ≡ [])
+    ⊎ ((old ≡ operation ∷ new) ⊎ ((new ≡ old) × IsUnsent old_mark new_mark outcome))

@@ -69,4 +69,5 @@ pub record IsStoredIn (before : Mark) (exchange : Exchange) (p : Publish) (lists
   pub is_topic : p.topic ≡ Ok topic
   pub changes : change p topic exchange.given.now ≡ Some operation
   pub used : before.serial < exchange.to.mark.serial
-  pub stored : AllByRecursion (StandsOnce (record { origin = record { place = exchange.to.mark.place; serial = exchange.to.mark.serial }; operation = operation })) lists
+  pub stored : AllByRecursion (StandsOnce
+      (record { origin = record { place = exchange.to.mark.place; serial = exchange.to.mark.serial }; operation = operation })) lists

@@ -71,17 +71,23 @@ assigned_for None assigned = None
 assigned_for (Some client) assigned = if length client == 0 then Some assigned else None
 
 abbrev pub connack : Connect → State → Reply
-connack c old = reply.ConnackAccepted (record { session_expiry_zero = is_longer c.session_expiry; assigned_client = assigned_for c.client old.assigned })
+connack c old = reply.ConnackAccepted
+    (record { session_expiry_zero = is_longer c.session_expiry; assigned_client = assigned_for c.client old.assigned })
 
 -- a session that was just opened
 abbrev pub open_for : Connect → Open
-open_for c = record { subscriptions = finite.empty; inbound = set.empty; window = window.fresh (receive_maximum c.receive_maximum) (packet_maximum c.packet_maximum) }
+open_for c = record {
+  subscriptions = finite.empty;
+  inbound = set.empty;
+  window = window.fresh (receive_maximum c.receive_maximum) (packet_maximum c.packet_maximum);
+}
 
 -- ---- 3.3 to 3.7: PUBLISH and its acknowledgements
 
 -- what a PUBLISH would do to the topic's retained message
 abbrev pub change : Publish → List ℕ → ℕ → Option Operation
-change p topic now = operation_of p.retain topic (record { payload = p.payload; qos = p.qos; received = now; expiry = p.expiry; properties = p.properties })
+change p topic now = operation_of p.retain topic
+    (record { payload = p.payload; qos = p.qos; received = now; expiry = p.expiry; properties = p.properties })
 
 -- the code for a topic that is not a topic name
 abbrev pub topic_reason : TopicFault → ReasonCode
@@ -141,7 +147,8 @@ released_by window.Puback id ack = None
 released_by window.Pubcomp id ack = None
 released_by (window.Pubrec code) id Ack.Released = Some (reply.Pubrel id (reason_value Success))
 released_by (window.Pubrec code) id Ack.Freed = None
-released_by (window.Pubrec code) id Ack.Unknown = if nat_lt code 0x80 then Some (reply.Pubrel id (reason_value PacketIdentifierNotFound)) else None
+released_by (window.Pubrec code) id Ack.Unknown = if nat_lt code 0x80 then Some (reply.Pubrel id (reason_value PacketIdentifierNotFound))
+    else None
 
 -- 3.7.2.1: a PUBREL for an identifier that awaits it, or does not
 abbrev pub released_reason : ℕ → set.FinSet nat_cmp → ReasonCode
@@ -167,21 +174,24 @@ filter_reason _ = TopicFilterInvalid
 -- what waits after a replay: after the rest, all that the list answers
 abbrev pub IsQueued : ℕ → List ℕ → Subscription → List Entry → Open → Open → Type 0
 IsQueued now filter subscription list old new =
-    (found : List Found) × IsAnswer list filter now found × window.IsQueued found subscription.options.qos subscription.identifier old.window (Ok tt) new.window
+    (found : List Found) × IsAnswer list filter now found
+    × window.IsQueued found subscription.options.qos subscription.identifier old.window (Ok tt) new.window
 
 -- The session can subscribe to the filter, and its subscription is new or replaces the one before. If Retain Handling says so,
 -- the retained messages wait after the rest.
 pub record IsSubscribed (now : ℕ) (filter : List ℕ) (subscription : Subscription) (list : List Entry) (old new : Open) : Type 0 where
   pub fits : can_subscribe filter old.subscriptions ≡ true
   pub kept : new.subscriptions ≡ finite.insert old.subscriptions filter subscription
-  pub replay : MatchBool (replays subscription.options.retain_handling (is_subscribed filter old.subscriptions)) (IsQueued now filter subscription list old new) (new.window ≡ old.window)
+  pub replay : MatchBool (replays subscription.options.retain_handling (is_subscribed filter old.subscriptions))
+      (IsQueued now filter subscription list old new) (new.window ≡ old.window)
   pub inbound : new.inbound ≡ old.inbound
 
 -- One filter: its fault, its subscription, or a refusal, after which all is as before. A refusal comes if
 -- the session has too many, if too many would wait, or if memory is refused, which may be at any time.
 abbrev pub IsGrantedTo : Filter → Subscription → ℕ → List Entry → Open → ℕ → Open → Type 0
 IsGrantedTo (Err fault) subscription now list old code new = (code ≡ reason_value (filter_reason fault)) × (new ≡ old)
-IsGrantedTo (Ok filter) subscription now list old code new = ((code ≡ level subscription.options.qos) × IsSubscribed now filter subscription list old new) ⊎ ((code ≡ reason_value QuotaExceeded) × (new ≡ old))
+IsGrantedTo (Ok filter) subscription now list old code new = ((code ≡ level subscription.options.qos)
+    × IsSubscribed now filter subscription list old new) ⊎ ((code ≡ reason_value QuotaExceeded) × (new ≡ old))
 
 -- what is kept of a filter that is granted
 abbrev pub subscription_for : Asked → Option ℕ → Subscription
@@ -196,8 +206,10 @@ IsGranted now asked identifier list old code new = IsGrantedTo asked.0 (subscrip
 abbrev pub Grants : ℕ → List Asked → Option ℕ → Point Open → List ℕ → List (List Entry) → Point Open → Type 0
 Grants now [] identifier from codes answered to = (codes ≡ []) × (answered ≡ []) × (to.seen ≡ from.seen) × (to.state ≡ from.state)
 Grants now (asked ∷ more) identifier from codes answered to =
-    (code : ℕ) × (rest : List ℕ) × (later : List (List Entry)) × (between : Point Open) × (codes ≡ code ∷ rest) × (answered ≡ between.seen ∷ later)
-    × Extends between.seen from.seen × IsGranted now asked identifier between.seen from.state code between.state × Grants now more identifier between rest later to
+    (code : ℕ) × (rest : List ℕ) × (later : List (List Entry)) × (between : Point Open) × (codes ≡ code ∷ rest)
+    × (answered ≡ between.seen ∷ later)
+    × Extends between.seen from.seen × IsGranted now asked identifier between.seen from.state code between.state
+    × Grants now more identifier between rest later to
 
 -- ---- 3.10, 3.11: UNSUBSCRIBE and UNSUBACK
 
@@ -214,7 +226,8 @@ without (Ok filter) subscriptions = finite.remove subscriptions filter
 -- one filter after the other
 abbrev pub removal_codes : List Filter → Subscriptions → List ℕ
 removal_codes [] subscriptions = []
-removal_codes (filter ∷ more) subscriptions = reason_value (removal_reason filter subscriptions) ∷ removal_codes more (without filter subscriptions)
+removal_codes (filter ∷ more) subscriptions = reason_value (removal_reason filter subscriptions) ∷ removal_codes more
+    (without filter subscriptions)
 
 abbrev pub without_all : List Filter → Subscriptions → Subscriptions
 without_all [] subscriptions = subscriptions
@@ -281,25 +294,31 @@ OpenRow Faulty given from answered outcome to =
     (fault : PacketFault) × (given.input ≡ Broken fault) × (outcome ≡ Closes (fault_reason fault)) × IsUnchanged from to
 -- 3.3.2.3.4: CONNACK allowed none
 OpenRow With_alias given from answered outcome to =
-    (p : Publish) × (given.input ≡ Whole (packet.Publish p)) × (is_some p.alias ≡ true) × (outcome ≡ Closes TopicAliasInvalid) × IsUnchanged from to
+    (p : Publish) × (given.input ≡ Whole (packet.Publish p)) × (is_some p.alias ≡ true) × (outcome ≡ Closes TopicAliasInvalid)
+    × IsUnchanged from to
 -- 3.3.2.1
 OpenRow Bad_topic given from answered outcome to =
-    (p : Publish) × (fault : TopicFault) × (given.input ≡ Whole (packet.Publish p)) × (is_some p.alias ≡ false) × (p.topic ≡ Err fault) × (fault ≢ topic_fault.NoMemory)
+    (p : Publish) × (fault : TopicFault) × (given.input ≡ Whole (packet.Publish p)) × (is_some p.alias ≡ false) × (p.topic ≡ Err fault)
+    × (fault ≢ topic_fault.NoMemory)
     × (outcome ≡ Closes (topic_reason fault)) × IsUnchanged from to
 -- 4.3.3: it is the same publication
 OpenRow Sent_again given from answered outcome to =
-    (p : Publish) × (given.input ≡ Whole (packet.Publish p)) × (is_some p.alias ≡ false) × IsTopicOrUnread p.topic × (is_unreleased (unreleased_id p.qos p.id) from.state.inbound ≡ true)
+    (p : Publish) × (given.input ≡ Whole (packet.Publish p)) × (is_some p.alias ≡ false) × IsTopicOrUnread p.topic
+    × (is_unreleased (unreleased_id p.qos p.id) from.state.inbound ≡ true)
     × (outcome ≡ Replies (acknowledged_by p.qos p.id Success)) × IsUnchanged from to
 -- 3.3.4
 OpenRow Too_many_unreleased given from answered outcome to =
-    (p : Publish) × (given.input ≡ Whole (packet.Publish p)) × (is_some p.alias ≡ false) × IsTopicOrUnread p.topic × (is_one_too_many (unreleased_id p.qos p.id) from.state.inbound ≡ true)
+    (p : Publish) × (given.input ≡ Whole (packet.Publish p)) × (is_some p.alias ≡ false) × IsTopicOrUnread p.topic
+    × (is_one_too_many (unreleased_id p.qos p.id) from.state.inbound ≡ true)
     × (outcome ≡ Closes ReceiveMaximumExceeded) × IsUnchanged from to
 -- 3.3.1.3: RETAIN 0 changes nothing
 OpenRow Not_retained given from answered outcome to =
-    (p : Publish) × (topic : List ℕ) × (given.input ≡ Whole (packet.Publish p)) × IsTaken p from.state × (p.topic ≡ Ok topic) × (p.retain ≡ false)
+    (p : Publish) × (topic : List ℕ) × (given.input ≡ Whole (packet.Publish p)) × IsTaken p from.state × (p.topic ≡ Ok topic)
+    × (p.retain ≡ false)
     × (outcome ≡ Replies (acknowledged_by p.qos p.id Success)) × (to.mark ≡ from.mark) × (to.state ≡ awaiting_release p from.state)
 OpenRow Stored given from answered outcome to =
-    (p : Publish) × (topic : List ℕ) × (operation : Operation) × (given.input ≡ Whole (packet.Publish p)) × IsHanded p topic operation given.now from to × IsSubmitted operation from.mark to.mark to.seen
+    (p : Publish) × (topic : List ℕ) × (operation : Operation) × (given.input ≡ Whole (packet.Publish p))
+    × IsHanded p topic operation given.now from to × IsSubmitted operation from.mark to.mark to.seen
     × (outcome ≡ Replies (acknowledged_by p.qos p.id Success)) × (to.state ≡ awaiting_release p from.state)
 -- no memory for the topic, which may be at any time
 OpenRow Topic_unread given from answered outcome to =
@@ -307,44 +326,54 @@ OpenRow Topic_unread given from answered outcome to =
     × (outcome ≡ Replies (acknowledged_by p.qos p.id QuotaExceeded)) × IsUnchanged from to
 -- the store is full, or memory was refused
 OpenRow Not_stored given from answered outcome to =
-    (p : Publish) × (topic : List ℕ) × (operation : Operation) × (given.input ≡ Whole (packet.Publish p)) × IsHanded p topic operation given.now from to
+    (p : Publish) × (topic : List ℕ) × (operation : Operation) × (given.input ≡ Whole (packet.Publish p))
+    × IsHanded p topic operation given.now from to
     × (outcome ≡ Replies (acknowledged_by p.qos p.id QuotaExceeded)) × (to.state ≡ from.state)
 -- the store gave no receipt
 OpenRow Uncertain given from answered outcome to =
-    (p : Publish) × (topic : List ℕ) × (operation : Operation) × (given.input ≡ Whole (packet.Publish p)) × IsHanded p topic operation given.now from to
+    (p : Publish) × (topic : List ℕ) × (operation : Operation) × (given.input ≡ Whole (packet.Publish p))
+    × IsHanded p topic operation given.now from to
     × (outcome ≡ Closes QuotaExceeded) × (to.state ≡ from.state)
 -- the store takes no more, or answered for another change
 OpenRow Gate_closed given from answered outcome to =
-    (p : Publish) × (topic : List ℕ) × (operation : Operation) × (given.input ≡ Whole (packet.Publish p)) × IsHanded p topic operation given.now from to
+    (p : Publish) × (topic : List ℕ) × (operation : Operation) × (given.input ≡ Whole (packet.Publish p))
+    × IsHanded p topic operation given.now from to
     × (outcome ≡ Closes ImplementationSpecificError) × (to.state ≡ from.state)
 -- 3.6, 4.3.3
 OpenRow Released given from answered outcome to =
-    (a : Acknowledgement) × (given.input ≡ Whole (packet.Pubrel a)) × (outcome ≡ Replies (Some (reply.Pubcomp a.id (reason_value (released_reason a.id from.state.inbound)))))
+    (a : Acknowledgement) × (given.input ≡ Whole (packet.Pubrel a))
+    × (outcome ≡ Replies (Some (reply.Pubcomp a.id (reason_value (released_reason a.id from.state.inbound)))))
     × (to.mark ≡ from.mark) × (to.state ≡ record from.state { inbound = set.remove from.state.inbound a.id })
 -- 4.3: an acknowledgement that the PUBLISH with this identifier does not await
 OpenRow Wrong_acknowledgement given from answered outcome to =
-    (p : Packet) × (ack : window.Acknowledgement) × (id : ℕ) × (given.input ≡ Whole p) × (acknowledgement_of p ≡ Some (ack, id)) × (window.answer_to ack (finite.get from.state.window.kinds id) ≡ Err WrongKind)
+    (p : Packet) × (ack : window.Acknowledgement) × (id : ℕ) × (given.input ≡ Whole p) × (acknowledgement_of p ≡ Some (ack, id))
+    × (window.answer_to ack (finite.get from.state.window.kinds id) ≡ Err WrongKind)
     × (outcome ≡ Closes ProtocolError) × IsUnchanged from to
 OpenRow Acknowledged given from answered outcome to =
-    (p : Packet) × (ack : window.Acknowledgement) × (id : ℕ) × (answer : Ack) × (given.input ≡ Whole p) × (acknowledgement_of p ≡ Some (ack, id))
+    (p : Packet) × (ack : window.Acknowledgement) × (id : ℕ) × (answer : Ack) × (given.input ≡ Whole p)
+    × (acknowledgement_of p ≡ Some (ack, id))
     × window.IsAcknowledged ack id from.state.window (Ok answer) to.state.window
     × (outcome ≡ Replies (released_by ack id answer)) × (to.mark ≡ from.mark) × (to.state ≡ record from.state { window = to.state.window })
 -- 3.8.3.1
 OpenRow Shared_no_local given from answered outcome to =
-    (s : Subscribe) × (given.input ≡ Whole (packet.Subscribe s)) × (list_any is_shared_local s.filters ≡ true) × (outcome ≡ Closes ProtocolError) × IsUnchanged from to
+    (s : Subscribe) × (given.input ≡ Whole (packet.Subscribe s)) × (list_any is_shared_local s.filters ≡ true)
+    × (outcome ≡ Closes ProtocolError) × IsUnchanged from to
 -- no memory for the codes, which may be at any time
 OpenRow Not_subscribed given from answered outcome to =
-    (s : Subscribe) × (given.input ≡ Whole (packet.Subscribe s)) × (list_any is_shared_local s.filters ≡ false) × (outcome ≡ Closes QuotaExceeded) × IsUnchanged from to
+    (s : Subscribe) × (given.input ≡ Whole (packet.Subscribe s)) × (list_any is_shared_local s.filters ≡ false)
+    × (outcome ≡ Closes QuotaExceeded) × IsUnchanged from to
 -- 3.8.4
 OpenRow Subscribed given from answered outcome to =
-    (s : Subscribe) × (codes : List ℕ) × (given.input ≡ Whole (packet.Subscribe s)) × (list_any is_shared_local s.filters ≡ false) × Grants given.now s.filters s.subscription from codes answered to
+    (s : Subscribe) × (codes : List ℕ) × (given.input ≡ Whole (packet.Subscribe s)) × (list_any is_shared_local s.filters ≡ false)
+    × Grants given.now s.filters s.subscription from codes answered to
     × (outcome ≡ Replies (Some (reply.Suback (record { id = s.id; codes = codes })))) × (to.mark ≡ from.mark)
 -- no memory for the codes, which may be at any time
 OpenRow Not_unsubscribed given from answered outcome to =
     (u : Unsubscribe) × (given.input ≡ Whole (packet.Unsubscribe u)) × (outcome ≡ Closes QuotaExceeded) × IsUnchanged from to
 -- 3.10.4
 OpenRow Unsubscribed given from answered outcome to =
-    (u : Unsubscribe) × (given.input ≡ Whole (packet.Unsubscribe u)) × (outcome ≡ Replies (Some (reply.Unsuback (record { id = u.id; codes = removal_codes u.filters from.state.subscriptions }))))
+    (u : Unsubscribe) × (given.input ≡ Whole (packet.Unsubscribe u))
+    × (outcome ≡ Replies (Some (reply.Unsuback (record { id = u.id; codes = removal_codes u.filters from.state.subscriptions }))))
     × (to.mark ≡ from.mark) × (to.state ≡ record from.state { subscriptions = without_all u.filters from.state.subscriptions })
 -- 3.12
 OpenRow Pinged given from answered outcome to =
@@ -364,7 +393,8 @@ LeadsTo given from answered outcome to = (case : OpenCase) × AnsweredInOpen cas
 
 -- without a call of the gate: at any moment, list and mark, and the last two stay
 abbrev pub LeadsWithoutGate : Input → Open → Outcome → Open → Type 0
-LeadsWithoutGate input old outcome new = (now : ℕ) (mark : Mark) (list : List Entry) → LeadsTo (given_at input now) (point_at old list mark) [] outcome (point_at new list mark)
+LeadsWithoutGate input old outcome new = (now : ℕ) (mark : Mark) (list : List Entry)
+    → LeadsTo (given_at input now) (point_at old list mark) [] outcome (point_at new list mark)
 
 -- ---- any session
 
@@ -411,28 +441,38 @@ pub record IsRefused (code : ReasonCode) (c : Connect) (from : Point State) (due
 abbrev pub SessionRow : Case → Given → Point State → List (List Entry) → Option Reply → Point State → Type 0
 -- 4.12: enhanced authentication is not served
 SessionRow With_method given from answered due to =
-    (c : Connect) × (given.input ≡ Whole (packet.Connect c)) × (from.state.phase ≡ phase.Before) × (is_some c.method ≡ true) × IsRefused BadAuthenticationMethod c from due to
+    (c : Connect) × (given.input ≡ Whole (packet.Connect c)) × (from.state.phase ≡ phase.Before) × (is_some c.method ≡ true)
+    × IsRefused BadAuthenticationMethod c from due to
 -- 3.1.2.5: a will is not served
 SessionRow With_will given from answered due to =
-    (c : Connect) × (given.input ≡ Whole (packet.Connect c)) × (from.state.phase ≡ phase.Before) × (is_some c.method ≡ false) × (c.will ≡ true) × IsRefused ImplementationSpecificError c from due to
+    (c : Connect) × (given.input ≡ Whole (packet.Connect c)) × (from.state.phase ≡ phase.Before) × (is_some c.method ≡ false)
+    × (c.will ≡ true) × IsRefused ImplementationSpecificError c from due to
 -- no memory, which may be at any time
 SessionRow Connect_refused given from answered due to =
-    (c : Connect) × (given.input ≡ Whole (packet.Connect c)) × (from.state.phase ≡ phase.Before) × (is_some c.method ≡ false) × (c.will ≡ false) × IsRefused QuotaExceeded c from due to
+    (c : Connect) × (given.input ≡ Whole (packet.Connect c)) × (from.state.phase ≡ phase.Before) × (is_some c.method ≡ false)
+    × (c.will ≡ false) × IsRefused QuotaExceeded c from due to
 SessionRow Accepted given from answered due to =
-    (c : Connect) × (given.input ≡ Whole (packet.Connect c)) × (from.state.phase ≡ phase.Before) × (is_some c.method ≡ false) × (c.will ≡ false)
-    × (length (reply_bytes (connack c from.state)) ≤ packet_maximum c.packet_maximum) × (to.mark ≡ from.mark) × (due ≡ Some (connack c from.state)) × (to.state ≡ opened from.state (open_for c))
+    (c : Connect) × (given.input ≡ Whole (packet.Connect c)) × (from.state.phase ≡ phase.Before) × (is_some c.method ≡ false)
+    × (c.will ≡ false)
+    × (length (reply_bytes (connack c from.state)) ≤ packet_maximum c.packet_maximum) × (to.mark ≡ from.mark)
+    × (due ≡ Some (connack c from.state)) × (to.state ≡ opened from.state (open_for c))
 SessionRow Connack_too_long given from answered due to =
-    (c : Connect) × (given.input ≡ Whole (packet.Connect c)) × (from.state.phase ≡ phase.Before) × (is_some c.method ≡ false) × (c.will ≡ false)
-    × (packet_maximum c.packet_maximum < length (reply_bytes (connack c from.state))) × (to.mark ≡ from.mark) × (due ≡ None) × (to.state ≡ ended from.state (ByServer (reason_value Success)))
+    (c : Connect) × (given.input ≡ Whole (packet.Connect c)) × (from.state.phase ≡ phase.Before) × (is_some c.method ≡ false)
+    × (c.will ≡ false)
+    × (packet_maximum c.packet_maximum < length (reply_bytes (connack c from.state))) × (to.mark ≡ from.mark) × (due ≡ None)
+    × (to.state ≡ ended from.state (ByServer (reason_value Success)))
 -- 3.1.2.2
 SessionRow Other_version given from answered due to =
-    (given.input ≡ Broken Version) × (from.state.phase ≡ phase.Before) × (to.mark ≡ from.mark) × (due ≡ Some (reply.ConnackRefused (reason_value UnsupportedProtocolVersion)))
+    (given.input ≡ Broken Version) × (from.state.phase ≡ phase.Before) × (to.mark ≡ from.mark)
+    × (due ≡ Some (reply.ConnackRefused (reason_value UnsupportedProtocolVersion)))
     × (to.state ≡ ended from.state (ByServer (reason_value UnsupportedProtocolVersion)))
 -- 3.1: the first packet is a CONNECT
 SessionRow Unexpected given from answered due to =
-    IsNeitherConnectNorVersion given.input × (from.state.phase ≡ phase.Before) × (to.mark ≡ from.mark) × (due ≡ None) × (to.state ≡ ended from.state Dropped)
+    IsNeitherConnectNorVersion given.input × (from.state.phase ≡ phase.Before) × (to.mark ≡ from.mark) × (due ≡ None)
+    × (to.state ≡ ended from.state Dropped)
 SessionRow In_session given from answered due to =
-    (o : Open) × (left : Open) × (outcome : Outcome) × (from.state.phase ≡ phase.Open o) × LeadsTo given (with_state from o) answered outcome (with_state to left)
+    (o : Open) × (left : Open) × (outcome : Outcome) × (from.state.phase ≡ phase.Open o)
+    × LeadsTo given (with_state from o) answered outcome (with_state to left)
     × (due ≡ due_for o.window.packet_maximum outcome) × (to.state ≡ state_after outcome from.state left)
 SessionRow Over given from answered due to =
     (closing : Closing) × (from.state.phase ≡ phase.Ended closing) × (to.mark ≡ from.mark) × (due ≡ None) × (to.state ≡ from.state)
@@ -452,4 +492,5 @@ Answers given from answered due to = (case : Case) × Row case given from answer
 
 -- without a call of the gate: at any moment, list and mark, and the last two stay
 abbrev pub AnswersWithoutGate : Input → State → Option Reply → State → Type 0
-AnswersWithoutGate input old due new = (now : ℕ) (mark : Mark) (list : List Entry) → Answers (given_at input now) (point_at old list mark) [] due (point_at new list mark)
+AnswersWithoutGate input old due new = (now : ℕ) (mark : Mark) (list : List Entry)
+    → Answers (given_at input now) (point_at old list mark) [] due (point_at new list mark)

@@ -25,7 +25,8 @@ pub fn lists_grow()
 /// `MAX_SUBSCRIPTIONS` subscriptions, `RECEIVE_MAXIMUM` identifiers of QoS 2 and `MAX_WAITING` messages that wait, and no
 /// more messages are unacknowledged than the quota, which is at most `MAX_QUOTA`.
 pub fn limits_kept()
-    ensures { (assigned : List ℕ) (from to : Point State) (exchanges : List Exchange) (o : Open) → from.state ≡ fresh assigned → Run from exchanges to
+    ensures { (assigned : List ℕ) (from to : Point State) (exchanges : List Exchange) (o : Open) → from.state ≡ fresh assigned
+        → Run from exchanges to
         → to.state.phase ≡ phase.Open o → IsWithinLimits o }
 {}
 
@@ -33,10 +34,12 @@ pub fn limits_kept()
 /// replies are those that its window gave, in a run of window calls that the inputs and the lists make, exchange by exchange.
 pub fn replay_of_run()
     // A session that is open after some exchange was opened by the first one.
-    ensures opened { (assigned : List ℕ) (from to : Point State) (before : List Exchange) (exchange : Exchange) (after : List Exchange) → from.state ≡ fresh assigned → Run from (before ++ exchange ∷ after) to
+    ensures opened { (assigned : List ℕ) (from to : Point State) (before : List Exchange) (exchange : Exchange) (after : List Exchange)
+        → from.state ≡ fresh assigned → Run from (before ++ exchange ∷ after) to
         → IsOpen exchange.to.state.phase → (c : Connect) × Opens c (before ++ exchange ∷ after) }
     // The calls that the exchanges make are a run of the window, so `replay_law` holds of them.
-    ensures calls { (assigned : List ℕ) (from to : Point State) (exchanges : List Exchange) (c : Connect) → from.state ≡ fresh assigned → Run from exchanges to
+    ensures calls { (assigned : List ℕ) (from to : Point State) (exchanges : List Exchange) (c : Connect) → from.state ≡ fresh assigned
+        → Run from exchanges to
         → Opens c exchanges → IsReplaying c exchanges }
     // A prefix of what they queued left the queue, and the rest waits. The PUBLISH replies are this prefix, in order, each
     // message once, less what was dropped. Never more is unacknowledged than the quota, the lesser of the client's Receive
@@ -48,11 +51,14 @@ pub fn replay_of_run()
 /// them.
 pub fn stored_of_run()
     // Every list from which a filter was answered or that an exchange leaves is a prefix of all such lists after it.
-    ensures lists { (from to : Point State) (exchanges : List Exchange) → Run from exchanges to → AreGrowing (from.seen ∷ (lists_of exchanges ++ to.seen ∷ [])) }
+    ensures lists { (from to : Point State) (exchanges : List Exchange) → Run from exchanges to
+        → AreGrowing (from.seen ∷ (lists_of exchanges ++ to.seen ∷ [])) }
     // If the serials of each place rise in the lists, a retained publication that the client was told is stored stands
     // once in the list that its exchange leaves, and in every later one.
-    ensures publications { (from to : Point State) (before : List Exchange) (exchange : Exchange) (after : List Exchange) (o : Open) (p : Publish) (answer : Reply) → Run from (before ++ exchange ∷ after) to
-        → SerialsRiseIn (before ++ exchange ∷ after) → (point_after from before).state.phase ≡ phase.Open o → IsToldStored o exchange p answer
+    ensures publications { (from to : Point State) (before : List Exchange) (exchange : Exchange) (after : List Exchange) (o : Open)
+        (p : Publish) (answer : Reply) → Run from (before ++ exchange ∷ after) to
+        → SerialsRiseIn (before ++ exchange ∷ after) → (point_after from before).state.phase ≡ phase.Open o
+        → IsToldStored o exchange p answer
         → IsStoredIn (point_after from before).mark exchange p (exchange.to.seen ∷ (lists_of after ++ to.seen ∷ [])) }
     // Along a run the mark's serial never falls. So two publications that were told stored are two entries.
     ensures marks { (from to : Point State) (exchanges : List Exchange) → Run from exchanges to → MarkGrows from.mark to.mark }

@@ -63,10 +63,13 @@ impl<C: Catalogue> Gate for LocalGate<C> {
         ensures list { Grows (Stands (C.content (catalogue_of self.old))) (Stands (C.content (catalogue_of self.new)))
             (Submits operation (local_mark (C.content (catalogue_of self.old))) (local_mark (C.content (catalogue_of self.new))) result) }
         ensures mark { Uses (local_mark (C.content (catalogue_of self.old))) (local_mark (C.content (catalogue_of self.new))) }
-        ensures sent { SendsAtMost (local_mark (C.content (catalogue_of self.old))).sent (entry_by operation (local_mark (C.content (catalogue_of self.new)))) (local_mark (C.content (catalogue_of self.new))).sent }
+        ensures sent { SendsAtMost (local_mark (C.content (catalogue_of self.old))).sent
+            (entry_by operation (local_mark (C.content (catalogue_of self.new)))) (local_mark (C.content (catalogue_of self.new))).sent }
         ensures full { (result ≡ Err SubmitFault.Full) ↔ IsFull (C.content (catalogue_of self.old)) operation }
-        ensures done { OnOk result (IsAdded (C.content (catalogue_of self.old)) (next_entry (C.content (catalogue_of self.old)) operation) (C.content (catalogue_of self.new))) }
-        ensures refused { IfErr result (λ fault. IsLeft (C.content (catalogue_of self.old)) operation fault (C.content (catalogue_of self.new))) }
+        ensures done { OnOk result (IsAdded (C.content (catalogue_of self.old)) (next_entry (C.content (catalogue_of self.old)) operation)
+            (C.content (catalogue_of self.new))) }
+        ensures refused { IfErr result (λ fault.
+            IsLeft (C.content (catalogue_of self.old)) operation fault (C.content (catalogue_of self.new))) }
     {
         let last = self.catalogue.catalogue().last_serial(PLACE);
         if last == u64::MAX {

@@ -57,9 +57,13 @@ impl Open {
     ) -> Outcome
         requires { IfSome change (λ operation. IsChange (given_at (Input.Whole packet) now) operation) }
         ensures row { GrowsAnswering G.stands G.mark gate.old gate.new (λ seen answered list.
-            LeadsTo (given_at (Input.Whole packet) now) (point_at self.old seen (G.mark gate.old)) answered result (point_at self.new list (G.mark gate.new))) }
-        ensures pending { LeavesPending (given_at (Input.Whole packet) now) (G.pending gate.old) (G.pending gate.new) (IsUnsent (G.mark gate.old) (G.mark gate.new) result) }
-        ensures certain { (p : Publish) → packet ≡ Packet.Publish p → NoSerialUsed (G.stands gate.old) (G.pending gate.old) (G.mark gate.old) (G.mark gate.new) → result ≢ Outcome.Closes ReasonCode.QuotaExceeded }
+            LeadsTo (given_at (Input.Whole packet) now) (point_at self.old seen (G.mark gate.old)) answered result
+            (point_at self.new list (G.mark gate.new))) }
+        ensures pending { LeavesPending (given_at (Input.Whole packet) now) (G.pending gate.old) (G.pending gate.new)
+            (IsUnsent (G.mark gate.old) (G.mark gate.new) result) }
+        ensures certain { (p : Publish) → packet ≡ Packet.Publish p
+            → NoSerialUsed (G.stands gate.old) (G.pending gate.old) (G.mark gate.old) (G.mark gate.new)
+            → result ≢ Outcome.Closes ReasonCode.QuotaExceeded }
     {
         match packet {
             Packet::Connect(_c) => Outcome::Closes(ReasonCode::ProtocolError),

@@ -60,13 +60,15 @@ impl<G: Gate> Session<G> {
     pub fn on_packet(&mut self, packet: Packet, now: u64) -> Step
         requires { due_of self.old ≡ None }
         ensures row { GrowsAnswering G.stands G.mark (gate_of self.old) (gate_of self.new) (λ seen answered list.
-            Answers (given_at (Input.Whole packet) now) (session_at G.mark self.old seen) answered (due_of self.new) (session_at G.mark self.new list)) }
+            Answers (given_at (Input.Whole packet) now) (session_at G.mark self.old seen) answered (due_of self.new)
+            (session_at G.mark self.new list)) }
         ensures step { result ≡ step_of (state_of self.new).phase }
         ensures over { (closing : Closing) → (state_of self.old).phase ≡ Phase.Ended closing → self.new ≡ self.old }
         ensures pending { LeavesPending (given_at (Input.Whole packet) now) (G.pending (gate_of self.old)) (G.pending (gate_of self.new))
             ((G.mark (gate_of self.new) ≡ G.mark (gate_of self.old)) × (step_of (state_of self.new).phase ≡ Step.End)) }
         ensures certain { (p : Publish) (o : Open) → packet ≡ Packet.Publish p → (state_of self.old).phase ≡ Phase.Open o
-            → NoSerialUsed (G.stands (gate_of self.old)) (G.pending (gate_of self.old)) (G.mark (gate_of self.old)) (G.mark (gate_of self.new))
+            → NoSerialUsed (G.stands (gate_of self.old)) (G.pending (gate_of self.old)) (G.mark (gate_of self.old))
+            (G.mark (gate_of self.new))
             → (state_of self.new).phase ≢ Phase.Ended (Closing.ByServer (reason_value ReasonCode.QuotaExceeded)) }
     {
         self.on_packet_with(packet, None, now)
@@ -77,13 +79,15 @@ impl<G: Gate> Session<G> {
         requires due { due_of self.old ≡ None }
         requires change { IfSome change (λ operation. IsChange (given_at (Input.Whole packet) now) operation) }
         ensures row { GrowsAnswering G.stands G.mark (gate_of self.old) (gate_of self.new) (λ seen answered list.
-            Answers (given_at (Input.Whole packet) now) (session_at G.mark self.old seen) answered (due_of self.new) (session_at G.mark self.new list)) }
+            Answers (given_at (Input.Whole packet) now) (session_at G.mark self.old seen) answered (due_of self.new)
+            (session_at G.mark self.new list)) }
         ensures step { result ≡ step_of (state_of self.new).phase }
         ensures over { (closing : Closing) → (state_of self.old).phase ≡ Phase.Ended closing → self.new ≡ self.old }
         ensures pending { LeavesPending (given_at (Input.Whole packet) now) (G.pending (gate_of self.old)) (G.pending (gate_of self.new))
             ((G.mark (gate_of self.new) ≡ G.mark (gate_of self.old)) × (step_of (state_of self.new).phase ≡ Step.End)) }
         ensures certain { (p : Publish) (o : Open) → packet ≡ Packet.Publish p → (state_of self.old).phase ≡ Phase.Open o
-            → NoSerialUsed (G.stands (gate_of self.old)) (G.pending (gate_of self.old)) (G.mark (gate_of self.old)) (G.mark (gate_of self.new))
+            → NoSerialUsed (G.stands (gate_of self.old)) (G.pending (gate_of self.old)) (G.mark (gate_of self.old))
+            (G.mark (gate_of self.new))
             → (state_of self.new).phase ≢ Phase.Ended (Closing.ByServer (reason_value ReasonCode.QuotaExceeded)) }
     {
         match &mut self.phase {
@@ -104,7 +108,8 @@ impl<G: Gate> Session<G> {
     pub fn on_fault(&mut self, fault: PacketFault) -> Step
         requires { due_of self.old ≡ None }
         ensures row { (now : ℕ) → GrowsAnswering G.stands G.mark (gate_of self.old) (gate_of self.new) (λ seen answered list.
-            Answers (given_at (Input.Broken fault) now) (session_at G.mark self.old seen) answered (due_of self.new) (session_at G.mark self.new list)) }
+            Answers (given_at (Input.Broken fault) now) (session_at G.mark self.old seen) answered (due_of self.new)
+            (session_at G.mark self.new list)) }
         ensures step { result ≡ step_of (state_of self.new).phase }
         ensures over { (closing : Closing) → (state_of self.old).phase ≡ Phase.Ended closing → self.new ≡ self.old }
         ensures pending { G.pending (gate_of self.new) ≡ G.pending (gate_of self.old) }
@@ -133,7 +138,8 @@ impl<G: Gate> Session<G> {
         ensures pending { LeavesPending (given_at input now) (G.pending (gate_of self.old)) (G.pending (gate_of self.new))
             ((G.mark (gate_of self.new) ≡ G.mark (gate_of self.old)) × (step_of (state_of self.new).phase ≡ Step.End)) }
         ensures certain { (p : Publish) (o : Open) → input ≡ Input.Whole (Packet.Publish p) → (state_of self.old).phase ≡ Phase.Open o
-            → NoSerialUsed (G.stands (gate_of self.old)) (G.pending (gate_of self.old)) (G.mark (gate_of self.old)) (G.mark (gate_of self.new))
+            → NoSerialUsed (G.stands (gate_of self.old)) (G.pending (gate_of self.old)) (G.mark (gate_of self.old))
+            (G.mark (gate_of self.new))
             → (state_of self.new).phase ≢ Phase.Ended (Closing.ByServer (reason_value ReasonCode.QuotaExceeded)) }
     {
         match input {
@@ -148,7 +154,8 @@ impl<G: Gate> Session<G> {
         ensures given { IsGiven now (due_of self.old) (state_of self.old) result
             (due_of self.new) (state_of self.new) }
         ensures gate { gate_of self.new ≡ gate_of self.old }
-        ensures fewer { IfSome result (λ _. replies_left (due_of self.new) (state_of self.new) < replies_left (due_of self.old) (state_of self.old)) }
+        ensures fewer { IfSome result (λ _.
+            replies_left (due_of self.new) (state_of self.new) < replies_left (due_of self.old) (state_of self.old)) }
     {
         match self.due.take() {
             Some(reply) => Some(reply),

@@ -48,7 +48,8 @@ impl<W: Write + Drop> Outcome<Gathered<W>, HalfView> for Take {
     ghost use Rattle.rs_sockets.specs.Gathered.{contents_of};
     ghost use Rattle.rs_sockets.specs.Sharing.{view_of};
 
-    ghost then = { λ v x w. (w ≡ view_of v.writes true false (contents_of W.contents x)) × (v.writes ≡ true → Keeps v.known (contents_of W.contents x)) };
+    ghost then = { λ v x w. (w ≡ view_of v.writes true false (contents_of W.contents x))
+        × (v.writes ≡ true → Keeps v.known (contents_of W.contents x)) };
 }
 
 /// A half gives the writer back.

@@ -7,10 +7,12 @@ use Rattle.rs_store.specs.declared.fault.Refusal.TheVariants.{Full, Stale, NoMem
 
 -- the entry follows, after a Sweep if that makes space for it; P holds of the list then
 abbrev pub Adds : ℕ → List Entry → Entry → (List Entry → Type 0) → Type 0
-Adds limit history e P = (IsLegal limit (extended history e) × P (extended history e)) ⊎ ((s : NeedsSweepAfter limit history e) × P (extended (cleaned s.message.received history) e))
+Adds limit history e P = (IsLegal limit (extended history e) × P (extended history e))
+    ⊎ ((s : NeedsSweepAfter limit history e) × P (extended (cleaned s.message.received history) e))
 
 -- why it does not; P holds of what is left
 abbrev pub NotAdds : ℕ → List Entry → Entry → Refusal → (List Entry → Type 0) → Type 0
 NotAdds limit history e Stale P = MayNotCome limit history e Stale × P history
 NotAdds limit history e Full P = MayNotCome limit history e Full × P history
-NotAdds limit history e NoMemory P = (IsLegal limit (extended history e) × P history) ⊎ ((s : NeedsSweepAfter limit history e) × (P history ⊎ P (cleaned s.message.received history)))
+NotAdds limit history e NoMemory P = (IsLegal limit (extended history e) × P history)
+    ⊎ ((s : NeedsSweepAfter limit history e) × (P history ⊎ P (cleaned s.message.received history)))

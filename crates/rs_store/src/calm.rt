@@ -31,7 +31,8 @@ impl Model for Calm {
 
 /// A moment, or the end of the operation's message if that is earlier.
 fn lowered_by(until: u64, operation: &Operation) -> u64
-    ensures { (c : Content) (e : Entry) → e.operation ≡ operation.now → NoneExpiredBefore until c → NoneExpiredBefore result (followed c e) }
+    ensures { (c : Content) (e : Entry) → e.operation ≡ operation.now → NoneExpiredBefore until c
+        → NoneExpiredBefore result (followed c e) }
 {
     match operation {
         Operation::Set(found) => lowered(until, found.message()),

@@ -86,7 +86,8 @@ pub trait Catalogue {
 fn sweep_for<C: Catalogue>(catalogue: &C, calm: &mut Calm, entry: &Entry) -> Option<Entry>
     requires full { RefusedBy (C.content catalogue.now) entry.now Full }
     requires calm { NoneExpiredBefore calm.old (C.content catalogue.now) }
-    ensures some { IfSome result (λ sweep. (s : NeedsSweep (C.content catalogue.now) entry.now) × (sweep ≡ next_sweep s.message.received (C.content catalogue.now))) }
+    ensures some { IfSome result (λ sweep. (s : NeedsSweep (C.content catalogue.now) entry.now)
+        × (sweep ≡ next_sweep s.message.received (C.content catalogue.now))) }
     ensures none { IfNone result (¬ NeedsSweep (C.content catalogue.now) entry.now) }
     ensures calm { NoneExpiredBefore calm.new (C.content catalogue.now) }
 {
@@ -129,11 +130,13 @@ pub fn judge<C: Catalogue>(
 ) -> Result<Option<Entry>, Refusal>
     requires calm { NoneExpiredBefore calm.old (C.content catalogue.now) }
     ensures next { IfOk result (λ before. MatchOption before (Accepts (C.content catalogue.now) entry.now)
-        (λ sweep. (s : NeedsSweep (C.content catalogue.now) entry.now) × (sweep ≡ next_sweep s.message.received (C.content catalogue.now)))) }
+        (λ sweep. (s : NeedsSweep (C.content catalogue.now) entry.now)
+        × (sweep ≡ next_sweep s.message.received (C.content catalogue.now)))) }
     ensures refused { IfErr result (λ r. IsNotNext (C.content catalogue.now) entry.now r) }
     ensures stands { (history : List Entry) → Stands (C.content catalogue.now) history → MatchResult result
         (λ before. MatchOption before (IsLegal (C.content catalogue.now).limit (extended history entry.now))
-        (λ sweep. (s : NeedsSweepAfter (C.content catalogue.now).limit history entry.now) × (sweep ≡ sweep_after s.message.received history)))
+        (λ sweep. (s : NeedsSweepAfter (C.content catalogue.now).limit history entry.now)
+        × (sweep ≡ sweep_after s.message.received history)))
         (λ r. MayNotCome (C.content catalogue.now).limit history entry.now r) }
     ensures calm { NoneExpiredBefore calm.new (C.content catalogue.now) }
 {
@@ -172,7 +175,8 @@ fn make_space<C: Catalogue>(
 ) -> Result<(), Refusal>
     requires { NoneExpiredBefore calm.old (C.content catalogue.old) }
     ensures done { OnOk result ((Accepts (C.content catalogue.old) entry.now × (C.content catalogue.new ≡ C.content catalogue.old))
-        ⊎ ((s : NeedsSweep (C.content catalogue.old) entry.now) × (C.content catalogue.new ≡ swept s.message.received (C.content catalogue.old)))) }
+        ⊎ ((s : NeedsSweep (C.content catalogue.old) entry.now)
+        × (C.content catalogue.new ≡ swept s.message.received (C.content catalogue.old)))) }
     ensures refused { IfErr result (λ r. NotAddedBy (C.content catalogue.old) entry.now r (C.content catalogue.new)) }
     ensures calm { NoneExpiredBefore calm.new (C.content catalogue.new) }
 {

@@ -136,8 +136,11 @@ fn answer_all(
     now: u64,
     answer: &mut Answer,
 ) -> Result<(), Stop>
-    ensures done { OnOk result (answer.new.found.items ≡ answer.old.found.items ++ map found_of (filter_list (is_answered filter.now now) retained.now.entries)) }
-    ensures stop { IfErr result (λ stop. IsStop stop answer.old.room (answer.old.found.items ++ map found_of (filter_list (is_answered filter.now now) retained.now.entries))) }
+    ensures done { OnOk result (answer.new.found.items
+        ≡ answer.old.found.items ++ map found_of (filter_list (is_answered filter.now now) retained.now.entries)) }
+    ensures stop { IfErr result (λ stop.
+        IsStop stop answer.old.room (answer.old.found.items ++ map found_of
+        (filter_list (is_answered filter.now now) retained.now.entries))) }
     ensures room { answer.new.room ≡ answer.old.room }
 {
     for (topic, message) in retained {
@@ -157,7 +160,9 @@ fn answers(
     now: u64,
     room: usize,
 ) -> Result<Option<Vec<Found>>, AllocError>
-    ensures { IfOk result (λ answer. option_map (λ found. found.items) answer ≡ if_fits room (map found_of (filter_list (is_answered filter.now now) retained.now.entries))) }
+    ensures { IfOk result (λ answer.
+        option_map (λ found. found.items) answer
+        ≡ if_fits room (map found_of (filter_list (is_answered filter.now now) retained.now.entries))) }
 {
     let mut answer = Answer::new(alloc, room);
     match answer_all(alloc, retained, filter, now, &mut answer) {

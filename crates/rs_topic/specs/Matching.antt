@@ -28,7 +28,8 @@ Matches filter name = Fits (levels filter) (levels name) × ¬ (BeginsWild (leve
 abbrev pub fits : List (List ℕ) → List (List ℕ) → Bool
 fits [] names = is_end names
 fits (level ∷ more) [] = bytes_eq level (hash ∷ []) && is_end more
-fits (level ∷ more) (name ∷ names) = (bytes_eq level (hash ∷ []) && is_end more) || ((bytes_eq level (plus ∷ []) || bytes_eq level name) && fits more names)
+fits (level ∷ more) (name ∷ names) = (bytes_eq level (hash ∷ []) && is_end more) ||
+    ((bytes_eq level (plus ∷ []) || bytes_eq level name) && fits more names)
 
 abbrev pub is_wild : List (List ℕ) → Bool
 is_wild [] = false

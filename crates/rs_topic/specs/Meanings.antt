@@ -53,11 +53,13 @@ pub data IsFirst {X : Type 0} (P : X → Type 0) : List X → X → Type 0 where
 
 -- what a text is judged to be: Ok of itself for what is wanted, else its first fault of a list
 abbrev pub Judges : (List ℕ → Type 0) → List TopicFault → List ℕ → Result (List ℕ) TopicFault → Type 0
-Judges Is faults text result = MatchResult result (λ got. (got ≡ text) × Is text) (λ fault. (¬ Is text) × IsFirst (Faulty text) faults fault)
+Judges Is faults text result = MatchResult result (λ got. (got ≡ text) × Is text)
+    (λ fault. (¬ Is text) × IsFirst (Faulty text) faults fault)
 
 -- the same if a copy is made, for which memory may be refused
 abbrev pub Reads : (List ℕ → Type 0) → List TopicFault → List ℕ → Result (List ℕ) TopicFault → Type 0
-Reads Is faults bytes result = MatchResult result (λ got. (got ≡ bytes) × Is bytes) (λ fault. ((fault ≡ NoMemory) × Is bytes) ⊎ ((¬ Is bytes) × IsFirst (Faulty bytes) faults fault))
+Reads Is faults bytes result = MatchResult result (λ got. (got ≡ bytes) × Is bytes)
+    (λ fault. ((fault ≡ NoMemory) × Is bytes) ⊎ ((¬ Is bytes) × IsFirst (Faulty bytes) faults fault))
 
 -- the answer that is due, or NoMemory if that is Ok
 abbrev pub IsReadAs : Result (List ℕ) TopicFault → Result (List ℕ) TopicFault → Type 0

@@ -36,8 +36,12 @@ pub exact_paths : CmpEqualImpliesEq path_cmp
 exact_paths = exact_lists (slice_cmp nat_cmp) exact_bytes
 
 pub exact_topics : CmpEqualImpliesEq topic_cmp
-exact_topics a b h = sym (join_with_byte-slice_split slash a) ∙ (ap (λ (l : List (List ℕ)). join_with_byte slash l) (exact_paths (levels a) (levels b) h) ∙ join_with_byte-slice_split slash b)
+exact_topics a b h = sym (join_with_byte-slice_split slash a) ∙
+    (ap (λ (l : List (List ℕ)). join_with_byte slash l) (exact_paths (levels a) (levels b) h) ∙ join_with_byte-slice_split slash b)
 
 pub topic_matches_eq : (a b : List ℕ) → pointwise nat_eq a b ≡ eq_by_cmp topic_cmp a b
-topic_matches_eq a b = one_answer (pointwise nat_eq a b) (eq_by_cmp topic_cmp a b) (bytes_decides a b)
-    (λ h. exact_topics a b ((Equal-is (topic_cmp a b)).0 h), λ h. let P : List ℕ → Type 0 = λ w. eq_by_cmp topic_cmp a w ≡ true in subst P h ((Equal-is (topic_cmp a a)).1 (tied_itself topic_total a)))
+topic_matches_eq a b = one_answer (pointwise nat_eq a b) (eq_by_cmp topic_cmp a b) (bytes_decides a b) (
+  λ h. exact_topics a b ((Equal-is (topic_cmp a b)).0 h),
+  λ h. let P : List ℕ → Type 0 = λ w.
+      eq_by_cmp topic_cmp a w ≡ true in subst P h ((Equal-is (topic_cmp a a)).1 (tied_itself topic_total a)),
+)

@@ -40,7 +40,8 @@ is_end (level ∷ more) = false
 
 -- 4.7.1.2, 4.7.1.3: a level with a plus is a plus; a level with a hash is a hash, and the last
 abbrev pub level_fits : List ℕ → Bool → Bool
-level_fits level last = (not (has plus level) || bytes_eq level (plus ∷ [])) && (not (has hash level) || (bytes_eq level (hash ∷ []) && last))
+level_fits level last = (not (has plus level) || bytes_eq level (plus ∷ []))
+    && (not (has hash level) || (bytes_eq level (hash ∷ []) && last))
 
 abbrev pub wildcards_fit : List (List ℕ) → Bool
 wildcards_fit [] = true

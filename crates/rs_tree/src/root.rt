@@ -126,8 +126,10 @@ impl Root {
 
     /// Appends copies of the messages that a filter matches and that are not expired.
     pub fn answer(&self, filter: &[u8], now: u64, answer: &mut Answer) -> Result<(), Stop>
-        ensures done { OnOk result (answer.new.found.items ≡ answer.old.found.items ++ chosen_at_root (levels_from 0 filter.now) now self.now) }
-        ensures stop { IfErr result (λ stop. IsStop stop answer.old.room (answer.old.found.items ++ chosen_at_root (levels_from 0 filter.now) now self.now)) }
+        ensures done { OnOk result (answer.new.found.items
+            ≡ answer.old.found.items ++ chosen_at_root (levels_from 0 filter.now) now self.now) }
+        ensures stop { IfErr result (λ stop.
+            IsStop stop answer.old.room (answer.old.found.items ++ chosen_at_root (levels_from 0 filter.now) now self.now)) }
         ensures room { answer.new.room ≡ answer.old.room }
     {
         self.branch.answer_at_root(filter, now, answer)

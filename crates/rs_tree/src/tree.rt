@@ -178,7 +178,9 @@ fn answers(
     room: usize,
 ) -> Result<Option<Vec<Found>>, AllocError>
     requires { ArePlaced root.now }
-    ensures { IfOk result (λ answer. option_map (λ found. found.items) answer ≡ if_fits room (map found_of (filter_list (is_answered filter.now now) (pairs root.now)))) }
+    ensures { IfOk result (λ answer.
+        option_map (λ found. found.items) answer
+        ≡ if_fits room (map found_of (filter_list (is_answered filter.now now) (pairs root.now)))) }
 {
     let mut answer = Answer::new(alloc, room);
     match root.answer(filter.as_bytes(), now, &mut answer) {

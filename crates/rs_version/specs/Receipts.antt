@@ -18,4 +18,5 @@ pub record ReceiptValue : Type 0 where
 
 -- no two entries of a legal list have one origin
 abbrev pub OriginsDiffer : Type 0
-OriginsDiffer = (limit : ℕ) (list : List Entry) (d e : Entry) (m n : ℕ) → IsLegal limit list → StandsAt d m list → StandsAt e n list → d.origin ≡ e.origin → m ≡ n
+OriginsDiffer = (limit : ℕ) (list : List Entry) (d e : Entry) (m n : ℕ) → IsLegal limit list → StandsAt d m list → StandsAt e n list
+    → d.origin ≡ e.origin → m ≡ n

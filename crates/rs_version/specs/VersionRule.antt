@@ -42,7 +42,8 @@ SeesIt v x y w = (w ≡ Some (known y)) × IsSound y × ((u : KnownVersion) → 
 
 -- the step is the next one of the copy
 abbrev pub Follows : CatalogueCopy → CopyStep → Type 0
-Follows x s = (s.entry.origin.place ≤ MAX_PLACES) × Accepts (content_of x.catalogue) s.entry × (s.after.history ≡ x.prefix.history) × (s.after.log ≡ extended x.prefix.log s.entry)
+Follows x s = (s.entry.origin.place ≤ MAX_PLACES) × Accepts (content_of x.catalogue) s.entry × (s.after.history ≡ x.prefix.history)
+    × (s.after.log ≡ extended x.prefix.log s.entry)
 
 -- something of this history and this limit is known
 abbrev pub Names : Book → ℕ → Option KnownVersion → Type 0

@@ -62,7 +62,8 @@ Precedes limit history e sweep = (s : NeedsSweepAfter limit history e) × (sweep
 
 -- all that was kept is published, and behind it the Sweep that comes before the entry, if it does not come next without
 abbrev pub IsReady : ℕ → Written → Entry → Written → Type 0
-IsReady limit w e w' = (IsLegal limit (extended (kept_of w) e) × (w' ≡ released w)) ⊎ ((s : NeedsSweepAfter limit (kept_of w) e) × (w' ≡ shows (cleaned s.message.received (kept_of w))))
+IsReady limit w e w' = (IsLegal limit (extended (kept_of w) e) × (w' ≡ released w))
+    ⊎ ((s : NeedsSweepAfter limit (kept_of w) e) × (w' ≡ shows (cleaned s.message.received (kept_of w))))
 
 -- why the entry does not come next behind the published list, if nothing is held
 abbrev pub Declines : ℕ → List Entry → Entry → PutFault → Type 0
@@ -78,7 +79,8 @@ IsDeclined limit w e r w' = MayNotCome limit (kept_of w) e r × (w' ≡ released
 -- memory was refused for the Sweep of the moment or for the entry behind it: what was kept is published, and the Sweep is not kept,
 -- or it is held, or it is published too
 abbrev pub IsSweptInPart : ℕ → Written → Written → Type 0
-IsSweptInPart moment w w' = (w' ≡ released w) ⊎ (w' ≡ holds_back (kept_of w) (sweep_after moment (kept_of w))) ⊎ (w' ≡ shows (cleaned moment (kept_of w)))
+IsSweptInPart moment w w' = (w' ≡ released w) ⊎ (w' ≡ holds_back (kept_of w) (sweep_after moment (kept_of w)))
+    ⊎ (w' ≡ shows (cleaned moment (kept_of w)))
 
 -- What a refusal says, and what it leaves. 31, 30: the held entry, if any, is published. 32: the same, and the entry may come next;
 -- or it may come after a Sweep, which may be kept; or the held entry could not be published, and nothing changed. 33: the kept list
@@ -86,5 +88,7 @@ IsSweptInPart moment w w' = (w' ≡ released w) ⊎ (w' ≡ holds_back (kept_of 
 abbrev pub Refuses : ℕ → Written → Entry → PutFault → Written → Type 0
 Refuses limit w e fault.Stale w' = IsDeclined limit w e refusal.Stale w'
 Refuses limit w e fault.Full w' = IsDeclined limit w e refusal.Full w'
-Refuses limit w e fault.NoMemory w' = (IsLegal limit (extended (kept_of w) e) × (w' ≡ released w)) ⊎ ((s : NeedsSweepAfter limit (kept_of w) e) × IsSweptInPart s.message.received w w') ⊎ ((w.held ≢ None) × (w' ≡ w))
-Refuses limit w e fault.Held w' = (IsLegal limit (extended (kept_of w) e) × (w' ≡ holds_back (kept_of w) e)) ⊎ ((s : NeedsSweepAfter limit (kept_of w) e) × (w' ≡ holds_back (cleaned s.message.received (kept_of w)) e))
+Refuses limit w e fault.NoMemory w' = (IsLegal limit (extended (kept_of w) e) × (w' ≡ released w))
+    ⊎ ((s : NeedsSweepAfter limit (kept_of w) e) × IsSweptInPart s.message.received w w') ⊎ ((w.held ≢ None) × (w' ≡ w))
+Refuses limit w e fault.Held w' = (IsLegal limit (extended (kept_of w) e) × (w' ≡ holds_back (kept_of w) e))
+    ⊎ ((s : NeedsSweepAfter limit (kept_of w) e) × (w' ≡ holds_back (cleaned s.message.received (kept_of w)) e))

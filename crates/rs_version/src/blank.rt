@@ -63,7 +63,8 @@ fn copy_writer(
 /// The same, once it knows the published copy.
 fn informed<R: Wait>(rt: &R, writer: CopyWriter) -> Result<CopyWriter, AllocError>
     requires { drop writer.behind writer.log.items ≡ [] }
-    ensures { IfOk result (λ w. (state w.desk.shown.value ≡ state writer.desk.shown.value) × (view w.desk.place ≡ Some (known w.desk.shown.value)) × (drop w.behind w.log.items ≡ [])) }
+    ensures { IfOk result (λ w. (state w.desk.shown.value ≡ state writer.desk.shown.value)
+        × (view w.desk.place ≡ Some (known w.desk.shown.value)) × (drop w.behind w.log.items ≡ [])) }
 {
     match publish_once(rt, writer) {
         (writer, Ok(())) => Ok(writer),
@@ -78,7 +79,8 @@ fn informed<R: Wait>(rt: &R, writer: CopyWriter) -> Result<CopyWriter, AllocErro
 fn seat<N: StoreName>(writer: &mut CopyWriter, list: &NamedList<N>) -> Result<Seat<N>, AllocError>
     requires { Names N.history N.limit (view writer.old.desk.place) }
     ensures seat { IfOk result (λ s. s ≡ list.now) }
-    ensures kept { (view writer.new.desk.place ≡ view writer.old.desk.place) × (writer.new.desk.shown ≡ writer.old.desk.shown) × (writer.new.log ≡ writer.old.log) × (writer.new.behind ≡ writer.old.behind) }
+    ensures kept { (view writer.new.desk.place ≡ view writer.old.desk.place) × (writer.new.desk.shown ≡ writer.old.desk.shown)
+        × (writer.new.log ≡ writer.old.log) × (writer.new.behind ≡ writer.old.behind) }
 {
     let mut reader = writer.factory().reader()?;
     inform(writer, &mut reader);
@@ -94,7 +96,8 @@ fn seats<N: StoreName>(
 ) -> Result<Vec<Seat<N>>, AllocError>
     requires { Names N.history N.limit (view writer.old.desk.place) }
     ensures seats { IfOk result (λ v. (vec_len v ≡ places) × All (λ s. s ≡ list.now) v.items) }
-    ensures kept { (writer.new.desk.shown ≡ writer.old.desk.shown) × (writer.new.log ≡ writer.old.log) × (writer.new.behind ≡ writer.old.behind) }
+    ensures kept { (writer.new.desk.shown ≡ writer.old.desk.shown) × (writer.new.log ≡ writer.old.log)
+        × (writer.new.behind ≡ writer.old.behind) }
 {
     let mut all = Vec::new(alloc);
     for _place in 0..places {

@@ -33,8 +33,10 @@ pub fn publish_once<R: Wait>(rt: &R, writer: CopyWriter) -> (CopyWriter, Result<
     requires one { length (drop writer.behind writer.log.items) ≤ 1 }
     requires follows { (s : CopyStep) → drop writer.behind writer.log.items ≡ s ∷ [] → Follows writer.desk.shown.value s }
     ensures { MatchResult result.1
-        (λ _. (state result.0.desk.shown.value ≡ fold applied (state writer.desk.shown.value) (drop writer.behind writer.log.items)) × (drop result.0.behind result.0.log.items ≡ []) × (view result.0.desk.place ≡ Some (known result.0.desk.shown.value)))
-        (λ _. (result.0.desk.shown.value ≡ writer.desk.shown.value) × (drop result.0.behind result.0.log.items ≡ drop writer.behind writer.log.items)) }
+        (λ _. (state result.0.desk.shown.value ≡ fold applied (state writer.desk.shown.value) (drop writer.behind writer.log.items))
+        × (drop result.0.behind result.0.log.items ≡ []) × (view result.0.desk.place ≡ Some (known result.0.desk.shown.value)))
+        (λ _. (result.0.desk.shown.value ≡ writer.desk.shown.value)
+        × (drop result.0.behind result.0.log.items ≡ drop writer.behind writer.log.items)) }
 {
     writer.publish_as::<Sees, R>(rt)
 }
@@ -44,8 +46,11 @@ fn publish_in<R: Wait>(rt: &R, writer: &mut CopyWriter) -> Result<(), AllocError
     requires one { length (drop writer.old.behind writer.old.log.items) ≤ 1 }
     requires follows { (s : CopyStep) → drop writer.old.behind writer.old.log.items ≡ s ∷ [] → Follows writer.old.desk.shown.value s }
     ensures { MatchResult result
-        (λ _. (state writer.new.desk.shown.value ≡ fold applied (state writer.old.desk.shown.value) (drop writer.old.behind writer.old.log.items)) × (drop writer.new.behind writer.new.log.items ≡ []))
-        (λ _. (writer.new.desk.shown.value ≡ writer.old.desk.shown.value) × (drop writer.new.behind writer.new.log.items ≡ drop writer.old.behind writer.old.log.items)) }
+        (λ _. (state writer.new.desk.shown.value
+        ≡ fold applied (state writer.old.desk.shown.value) (drop writer.old.behind writer.old.log.items))
+        × (drop writer.new.behind writer.new.log.items ≡ []))
+        (λ _. (writer.new.desk.shown.value ≡ writer.old.desk.shown.value)
+        × (drop writer.new.behind writer.new.log.items ≡ drop writer.old.behind writer.old.log.items)) }
 {
     replace_with(
         writer,
@@ -54,8 +59,10 @@ fn publish_in<R: Wait>(rt: &R, writer: &mut CopyWriter) -> Result<(), AllocError
             requires one { length (drop writer.behind writer.log.items) ≤ 1 }
             requires follows { (s : CopyStep) → drop writer.behind writer.log.items ≡ s ∷ [] → Follows writer.desk.shown.value s }
             ensures { MatchResult result.1
-                (λ _. (state result.0.desk.shown.value ≡ fold applied (state writer.desk.shown.value) (drop writer.behind writer.log.items)) × (drop result.0.behind result.0.log.items ≡ []))
-                (λ _. (result.0.desk.shown.value ≡ writer.desk.shown.value) × (drop result.0.behind result.0.log.items ≡ drop writer.behind writer.log.items)) }
+                (λ _. (state result.0.desk.shown.value ≡ fold applied (state writer.desk.shown.value) (drop writer.behind writer.log.items))
+                × (drop result.0.behind result.0.log.items ≡ []))
+                (λ _. (result.0.desk.shown.value ≡ writer.desk.shown.value)
+                × (drop result.0.behind result.0.log.items ≡ drop writer.behind writer.log.items)) }
         { publish_once(rt, writer) },
     )
 }
@@ -64,7 +71,8 @@ fn publish_in<R: Wait>(rt: &R, writer: &mut CopyWriter) -> Result<(), AllocError
 pub fn inform(writer: &mut CopyWriter, reader: &mut CopyReader)
     requires { reader.old.place.table_id ≡ writer.old.desk.place.table_id }
     ensures told { view reader.new.place ≡ view writer.old.desk.place }
-    ensures kept { (view writer.new.desk.place ≡ view writer.old.desk.place) × (writer.new.desk.shown ≡ writer.old.desk.shown) × (writer.new.log ≡ writer.old.log) × (writer.new.behind ≡ writer.old.behind) }
+    ensures kept { (view writer.new.desk.place ≡ view writer.old.desk.place) × (writer.new.desk.shown ≡ writer.old.desk.shown)
+        × (writer.new.log ≡ writer.old.log) × (writer.new.behind ≡ writer.old.behind) }
 {
     reader.learn::<Notes>(writer.tell::<Notes>());
 }

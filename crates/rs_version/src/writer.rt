@@ -64,7 +64,8 @@ fn judge_on(
 ) -> Result<Option<Entry>, PutFault>
     requires { NoneExpiredBefore calm.old (content_of catalogue.now) }
     ensures stands { (history : List Entry) → Stands (content_of catalogue.now) history → MatchResult result
-        (λ before. MatchOption before (IsLegal (content_of catalogue.now).limit (extended history entry.now)) (λ sweep. Precedes (content_of catalogue.now).limit history entry.now sweep))
+        (λ before. MatchOption before (IsLegal (content_of catalogue.now).limit (extended history entry.now))
+        (λ sweep. Precedes (content_of catalogue.now).limit history entry.now sweep))
         (λ f. Declines (content_of catalogue.now).limit history entry.now f) }
     ensures calm { NoneExpiredBefore calm.new (content_of catalogue.now) }
 {
@@ -148,7 +149,8 @@ impl<N: StoreName, R: Wait + Drop> VersionWriter<N, R> {
         history: WholeHistory<N>,
     ) -> VersionWriter<N, R>
         requires steps { drop writer.behind writer.log.items ≡ [] }
-        requires history { (writer.desk.shown.value.prefix.history ≡ N.history) × (history ≡ []) × (writer.desk.shown.value.prefix.log ≡ []) }
+        requires history { (writer.desk.shown.value.prefix.history ≡ N.history) × (history ≡ [])
+            × (writer.desk.shown.value.prefix.log ≡ []) }
         requires content { content_of writer.desk.shown.value.catalogue ≡ empty N.limit }
         ensures { result ≡ record { published = []; held = None } }
     {
@@ -167,7 +169,8 @@ impl<N: StoreName, R: Wait + Drop> VersionWriter<N, R> {
 
     /// Publishes the held entry, if there is one, and gives it back. Refused, it is held as before.
     fn release(&mut self) -> Result<Option<Entry>, AllocError>
-        ensures { MatchResult result (λ o. (o ≡ self.old.held) × (self.new ≡ released self.old)) (λ _. (self.old.held ≢ None) × (self.new ≡ self.old)) }
+        ensures { MatchResult result (λ o. (o ≡ self.old.held) × (self.new ≡ released self.old))
+            (λ _. (self.old.held ≢ None) × (self.new ≡ self.old)) }
     {
         let Some(_held) = &self.held else {
             return Ok(None);
@@ -181,7 +184,8 @@ impl<N: StoreName, R: Wait + Drop> VersionWriter<N, R> {
         requires { self.old.held ≡ None }
         ensures same { self.new ≡ self.old }
         ensures judged { MatchResult result
-            (λ before. MatchOption before (IsLegal N.limit (extended self.old.published entry.now)) (λ sweep. Precedes N.limit self.old.published entry.now sweep))
+            (λ before. MatchOption before (IsLegal N.limit (extended self.old.published entry.now))
+            (λ sweep. Precedes N.limit self.old.published entry.now sweep))
             (λ f. Declines N.limit self.old.published entry.now f) }
     {
         judge_on(self.copies.catalogue(), &mut self.calm, entry)
@@ -191,7 +195,8 @@ impl<N: StoreName, R: Wait + Drop> VersionWriter<N, R> {
     fn append(&mut self, entry: Entry) -> Result<(), AllocError>
         requires none { self.old.held ≡ None }
         requires legal { IsLegal N.limit (extended self.old.published entry) }
-        ensures { MatchResult result (λ _. self.new ≡ record { published = self.old.published; held = Some entry }) (λ _. self.new ≡ self.old) }
+        ensures { MatchResult result (λ _. self.new ≡ record { published = self.old.published; held = Some entry })
+            (λ _. self.new ≡ self.old) }
     {
         // For the proof: these calls say which places and serials an origin may have.
         let (_place, _serial) = (entry.origin.place(), entry.origin.serial());
@@ -306,8 +311,8 @@ impl<N: StoreName, R: Wait + Drop> VersionWriter<N, R> {
         }
     }
 
-    /// Says that the token's list is a prefix of the kept list. It compares nothing: the writer alone has the right to add to the history, and
-    /// keeps all of it, and each token is of a prefix of it.
+    /// Says that the token's list is a prefix of the kept list. It compares nothing: the writer alone has the right to add to the history,
+    /// and keeps all of it, and each token is of a prefix of it.
     pub fn covers(&mut self, told: &Told<N>)
         ensures prefix { IsPrefix told.now (kept_of self.old) }
         ensures legal { IsLegal N.limit (kept_of self.old) }

@@ -20,7 +20,12 @@ use Rattle.rs_window.specs.Waiting.{lesser_qos, sendable, granted_at, Carries}
 
 -- 4.9: nothing is in use and nothing waits. The quota is the lesser of the client's Receive Maximum and the greatest quota (ours)
 abbrev pub fresh : ℕ → ℕ → State
-fresh receive_maximum packet_maximum = record { kinds = finite.empty; waiting = []; quota = min receive_maximum MAX_QUOTA; packet_maximum = packet_maximum }
+fresh receive_maximum packet_maximum = record {
+  kinds = finite.empty;
+  waiting = [];
+  quota = min receive_maximum MAX_QUOTA;
+  packet_maximum = packet_maximum;
+}
 
 -- the acknowledgements of a client, and the code of a PUBREC
 pub data Acknowledgement : Type 0 where
@@ -71,7 +76,8 @@ kinds_acknowledged ack id (Some kind) kinds = kinds_put kinds id (kind_acknowled
 -- all of them are appended in order, or none of them
 abbrev pub IsQueued : List Found → Qos → Option ℕ → State → Result (Unit {0}) WindowFault → State → Type 0
 IsQueued found granted subscription old (Ok done) new =
-    (length old.waiting + length found ≤ MAX_WAITING) × (new ≡ record old { waiting = old.waiting ++ map (granted_at granted subscription) found })
+    (length old.waiting + length found ≤ MAX_WAITING)
+    × (new ≡ record old { waiting = old.waiting ++ map (granted_at granted subscription) found })
 IsQueued found granted subscription old (Err TooManyWaiting) new = (MAX_WAITING < length old.waiting + length found) × (new ≡ old)
 IsQueued found granted subscription old (Err NoMemory) new = (length old.waiting + length found ≤ MAX_WAITING) × (new ≡ old)
 IsQueued found granted subscription old (Err WrongKind) new = ⊥
@@ -92,12 +98,14 @@ pub record IsGiven (now : ℕ) (old : State) (p : OutgoingValue) (new : State) :
 
 -- nothing is given only if nothing is left to be sent, or the quota is used up
 abbrev pub IsNext : ℕ → State → Option OutgoingValue → State → Type 0
-IsNext now old None new = (new ≡ record old { waiting = sendable old.packet_maximum now old.waiting }) × NeedsQuota old.kinds old.quota (sendable old.packet_maximum now old.waiting)
+IsNext now old None new = (new ≡ record old { waiting = sendable old.packet_maximum now old.waiting })
+    × NeedsQuota old.kinds old.quota (sendable old.packet_maximum now old.waiting)
 IsNext now old (Some p) new = IsGiven now old p new
 
 abbrev pub IsAcknowledged : Acknowledgement → ℕ → State → Result Ack WindowFault → State → Type 0
 IsAcknowledged ack id old answer new =
-    (answer ≡ answer_to ack (finite.get old.kinds id)) × (new ≡ record old { kinds = kinds_acknowledged ack id (finite.get old.kinds id) old.kinds })
+    (answer ≡ answer_to ack (finite.get old.kinds id))
+    × (new ≡ record old { kinds = kinds_acknowledged ack id (finite.get old.kinds id) old.kinds })
 
 -- one call
 abbrev pub Step : State → Call → State → Type 0

@@ -74,13 +74,15 @@ queued (call ∷ calls) = brought call ++ queued calls
 abbrev pub Leaves : ℕ → Call → List Waiting → Type 0
 Leaves packet_maximum (Queue found granted subscription answer) gone = gone ≡ []
 Leaves packet_maximum (Next now None) gone = AllDropped packet_maximum now gone
-Leaves packet_maximum (Next now (Some p)) gone = (dropped : List Waiting) × (w : Waiting) × (gone ≡ dropped ++ w ∷ []) × AllDropped packet_maximum now dropped × Carries packet_maximum now w p
+Leaves packet_maximum (Next now (Some p)) gone = (dropped : List Waiting) × (w : Waiting) × (gone ≡ dropped ++ w ∷ [])
+    × AllDropped packet_maximum now dropped × Carries packet_maximum now w p
 Leaves packet_maximum (Acknowledge ack id answer) gone = gone ≡ []
 
 -- all that waits no more after these calls, in order
 abbrev pub HasLeft : ℕ → List Call → List Waiting → Type 0
 HasLeft packet_maximum [] prefix = prefix ≡ []
-HasLeft packet_maximum (call ∷ calls) prefix = (gone : List Waiting) × (rest : List Waiting) × (prefix ≡ gone ++ rest) × Leaves packet_maximum call gone × HasLeft packet_maximum calls rest
+HasLeft packet_maximum (call ∷ calls) prefix = (gone : List Waiting) × (rest : List Waiting) × (prefix ≡ gone ++ rest)
+    × Leaves packet_maximum call gone × HasLeft packet_maximum calls rest
 
 -- 4.6: what was queued is a prefix, each of it given once or dropped, and then what waits
 pub record IsReplayed (packet_maximum : ℕ) (calls : List Call) (waiting : List Waiting) : Type 0 where
@@ -98,4 +100,5 @@ pub record IsFreeFor (before : List Call) (quality : Qos) (id : Option ℕ) : Ty
 -- 4.9: nothing waits, or the first message needs an identifier, is not to be dropped, and the quota is used up
 abbrev pub MayGiveNothing : ℕ → ℕ → Kinds → ℕ → List Waiting → Type 0
 MayGiveNothing packet_maximum now kinds quota [] = Unit {0}
-MayGiveNothing packet_maximum now kinds quota (w ∷ ws) = (lesser_qos w ≢ AtMostOnce) × ¬ (IsDropped packet_maximum now w) × (finite.len kinds ≡ quota)
+MayGiveNothing packet_maximum now kinds quota (w ∷ ws) = (lesser_qos w ≢ AtMostOnce) × ¬ (IsDropped packet_maximum now w)
+    × (finite.len kinds ≡ quota)

@@ -15,25 +15,34 @@ ghost use Rattle.rs_window.specs.Replay.{Run, NoneConcerns, kind_by, AreUnacknow
 /// the law.
 pub fn replay_law()
     // the last call that concerns an identifier decides what it waits for
-    ensures last { (id : ℕ) (before : List Call) (call : Call) (after : List Call) → NoneConcerns id after → kind_after id (before ++ call ∷ after) ≡ kind_by id call (kind_after id before) }
+    ensures last { (id : ℕ) (before : List Call) (call : Call) (after : List Call) → NoneConcerns id after
+        → kind_after id (before ++ call ∷ after) ≡ kind_by id call (kind_after id before) }
     // the kinds that the calls leave are those read from the list of calls
-    ensures kinds { (receive_maximum packet_maximum : ℕ) (calls : List Call) (end : State) → Run (fresh receive_maximum packet_maximum) calls end
+    ensures kinds { (receive_maximum packet_maximum : ℕ) (calls : List Call) (end : State)
+        → Run (fresh receive_maximum packet_maximum) calls end
         → AreUnacknowledged calls end.kinds }
     // no more are unacknowledged than the initial quota
-    ensures quota { (receive_maximum packet_maximum : ℕ) (calls : List Call) (end : State) → Run (fresh receive_maximum packet_maximum) calls end
+    ensures quota { (receive_maximum packet_maximum : ℕ) (calls : List Call) (end : State)
+        → Run (fresh receive_maximum packet_maximum) calls end
         → finite.len end.kinds ≤ min receive_maximum MAX_QUOTA }
     // each message that was queued was given once, in order, or dropped, or it waits
-    ensures replay { (receive_maximum packet_maximum : ℕ) (calls : List Call) (end : State) → Run (fresh receive_maximum packet_maximum) calls end
+    ensures replay { (receive_maximum packet_maximum : ℕ) (calls : List Call) (end : State)
+        → Run (fresh receive_maximum packet_maximum) calls end
         → IsReplayed packet_maximum calls end.waiting }
-    ensures few { (receive_maximum packet_maximum : ℕ) (calls : List Call) (end : State) → Run (fresh receive_maximum packet_maximum) calls end
+    ensures few { (receive_maximum packet_maximum : ℕ) (calls : List Call) (end : State)
+        → Run (fresh receive_maximum packet_maximum) calls end
         → length end.waiting ≤ MAX_WAITING }
     // an identifier is given only while it is not in use
-    ensures identifiers { (receive_maximum packet_maximum : ℕ) (before after : List Call) (now : ℕ) (p : OutgoingValue) (end : State) → Run (fresh receive_maximum packet_maximum) (before ++ Next now (Some p) ∷ after) end
+    ensures identifiers { (receive_maximum packet_maximum : ℕ) (before after : List Call) (now : ℕ) (p : OutgoingValue) (end : State)
+        → Run (fresh receive_maximum packet_maximum) (before ++ Next now (Some p) ∷ after) end
         → IsFreeFor before p.qos p.id }
     // nothing is given only if nothing waits or the quota is used up
-    ensures none { (receive_maximum packet_maximum : ℕ) (before : List Call) (now : ℕ) (end : State) → Run (fresh receive_maximum packet_maximum) (before ++ Next now None ∷ []) end
+    ensures none { (receive_maximum packet_maximum : ℕ) (before : List Call) (now : ℕ) (end : State)
+        → Run (fresh receive_maximum packet_maximum) (before ++ Next now None ∷ []) end
         → MayGiveNothing packet_maximum now end.kinds (min receive_maximum MAX_QUOTA) end.waiting }
     // each acknowledgement is answered by what its identifier waited for
-    ensures answers { (receive_maximum packet_maximum : ℕ) (before after : List Call) (ack : Acknowledgement) (id : ℕ) (answer : Result Ack WindowFault) (end : State) → Run (fresh receive_maximum packet_maximum) (before ++ Acknowledge ack id answer ∷ after) end
+    ensures answers { (receive_maximum packet_maximum : ℕ) (before after : List Call) (ack : Acknowledgement) (id : ℕ)
+        (answer : Result Ack WindowFault) (end : State)
+        → Run (fresh receive_maximum packet_maximum) (before ++ Acknowledge ack id answer ∷ after) end
         → answer ≡ answer_to ack (kind_after id before) }
 {}

@@ -13,7 +13,8 @@ use rs_store::is_expired;
 
 /// Counts the message of one spot, if it is expired.
 fn count_retained(retained: &Option<Found>, now: u64, count: &mut u32)
-    ensures { count.old + length (own retained.now) ≤ MAX_TOPICS → count.new ≡ count.old + length (filter (is_expired_spot now) (own retained.now)) }
+    ensures { count.old + length (own retained.now) ≤ MAX_TOPICS
+        → count.new ≡ count.old + length (filter (is_expired_spot now) (own retained.now)) }
 {
     if let Some(found) = retained {
         if is_expired(found.message(), now) {
@@ -25,7 +26,8 @@ fn count_retained(retained: &Option<Found>, now: u64, count: &mut u32)
 /// Adds how many messages of the children are expired.
 #[cycle(expired)]
 fn count_each(children: &[Child], now: u64, count: &mut u32)
-    ensures { count.old + length (parts children.now) ≤ MAX_TOPICS → count.new ≡ count.old + length (filter (is_expired_spot now) (parts children.now)) }
+    ensures { count.old + length (parts children.now) ≤ MAX_TOPICS
+        → count.new ≡ count.old + length (filter (is_expired_spot now) (parts children.now)) }
 {
     for child in children {
         child.expired(now, count);
@@ -36,7 +38,8 @@ impl Child {
     /// Adds how many of its messages are expired.
     #[cycle(expired)]
     fn expired(&self, now: u64, count: &mut u32)
-        ensures { count.old + length self.now.spots ≤ MAX_TOPICS → count.new ≡ count.old + length (filter (is_expired_spot now) self.now.spots) }
+        ensures { count.old + length self.now.spots ≤ MAX_TOPICS
+            → count.new ≡ count.old + length (filter (is_expired_spot now) self.now.spots) }
     {
         match &self.below {
             Below::Few(bucket) => bucket.expired(now, count),
@@ -50,7 +53,8 @@ impl Branch {
     /// Adds how many of its messages are expired.
     #[cycle(expired)]
     pub fn expired(&self, now: u64, count: &mut u32)
-        ensures { count.old + length self.now.spots ≤ MAX_TOPICS → count.new ≡ count.old + length (filter (is_expired_spot now) self.now.spots) }
+        ensures { count.old + length self.now.spots ≤ MAX_TOPICS
+            → count.new ≡ count.old + length (filter (is_expired_spot now) self.now.spots) }
     {
         count_retained(&self.retained, now, count);
         count_each(self.children.as_slice(), now, count);

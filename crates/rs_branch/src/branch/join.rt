@@ -25,7 +25,8 @@ fn lone(
     found: &Found,
 ) -> Result<Option<Child>, AllocError>
     ensures level { IfOk result (λ o. IfSome o (λ c. c.level ≡ level.now)) }
-    ensures spots { IfOk result (λ o. IfSome o (λ c. c.spots ≡ under level.now (under_all (levels_from 1 chain.now) (([], found.now) ∷ [])))) }
+    ensures spots { IfOk result (λ o.
+        IfSome o (λ c. c.spots ≡ under level.now (under_all (levels_from 1 chain.now) (([], found.now) ∷ [])))) }
 {
     let topic = found.topic().as_bytes();
     // A chain has a slash before each level.

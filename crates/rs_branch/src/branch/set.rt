@@ -202,7 +202,8 @@ impl Stem {
     #[cycle(set)]
     fn set(this: &mut Arc<Stem>, alloc: Global, found: Found, at: usize) -> Result<bool, AllocError>
         requires { IsFull (arc_value this.old).branch.spots }
-        ensures done { OnOk result (stem_spots (arc_value this.new) ≡ insert_entry path_cmp (stem_spots (arc_value this.old)) (levels_from at found.topic) found) }
+        ensures done { OnOk result (stem_spots (arc_value this.new)
+            ≡ insert_entry path_cmp (stem_spots (arc_value this.old)) (levels_from at found.topic) found) }
         ensures existed { IfOk result (λ was. was ≡ is_there (levels_from at found.topic) (stem_spots (arc_value this.old))) }
         ensures refused { OnErr result (stem_spots (arc_value this.new) ≡ stem_spots (arc_value this.old)) }
     {
@@ -275,7 +276,8 @@ impl Branch {
         found: Found,
         at: usize,
     ) -> Result<bool, AllocError>
-        ensures done { OnOk result ((arc_value this.new).spots ≡ insert_entry path_cmp (arc_value this.old).spots (levels_from at found.topic) found) }
+        ensures done { OnOk result ((arc_value this.new).spots
+            ≡ insert_entry path_cmp (arc_value this.old).spots (levels_from at found.topic) found) }
         ensures existed { IfOk result (λ was. was ≡ is_there (levels_from at found.topic) (arc_value this.old).spots) }
         ensures refused { OnErr result ((arc_value this.new).spots ≡ (arc_value this.old).spots) }
     {

@@ -59,7 +59,8 @@ fn put_id(out: &mut Vec<u8>, id: Option<PacketId>) -> Result<(), AllocError>
 
 /// Appends all of a PUBLISH but its payload.
 pub(crate) fn put_publish_head(out: &mut Vec<u8>, p: &PublishReply) -> Result<(), AllocError>
-    ensures { OnOk result (out.new.items ++ p.now.payload ≡ out.old.items ++ frame (0x31 + 2 * level p.now.qos) (publish_reply_body p.now)) }
+    ensures { OnOk result (out.new.items ++ p.now.payload
+        ≡ out.old.items ++ frame (0x31 + 2 * level p.now.qos) (publish_reply_body p.now)) }
 {
     let (len, section) = body_len(p);
     out.push(0x31 + 2 * p.qos.level())?;
@@ -97,7 +98,17 @@ pub fn publish_len(
     subscription: Option<SubscriptionId>,
 ) -> usize
     requires { publish_remaining topic.now qos expiry subscription properties.now payload < varint_end }
-    ensures value { (id : Option ℕ) (bytes : List ℕ) → IdFits qos id → length bytes ≡ payload → result ≡ length (reply_bytes (Reply.Publish (record { topic = topic.now; qos = qos; id = id; subscription = subscription; expiry = expiry; properties = properties.now; payload = bytes }))) }
+    ensures value { (id : Option ℕ) (bytes : List ℕ) → IdFits qos id → length bytes ≡ payload
+        → result ≡ length (reply_bytes
+        (Reply.Publish (record {
+          topic = topic.now;
+          qos = qos;
+          id = id;
+          subscription = subscription;
+          expiry = expiry;
+          properties = properties.now;
+          payload = bytes;
+        }))) }
     ensures small { result < 2 ^ 29 }
 {
     let section = properties_len(expiry, subscription, properties);

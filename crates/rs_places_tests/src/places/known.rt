@@ -53,8 +53,19 @@ impl Turn for Listed {
     type Time = Moments;
 
     ghost connections = { λ turn. record {
-      waiting = Some (map (λ c. record { unread = Some c.input.items; written = Some c.output.items; moments = Some (told_by c.clock) }) turn.waiting.items);
-      ended = option_map (λ all. map (λ o. record { streams = record { unread = Some o.connection.input.items; written = Some o.connection.output.items; moments = Some (told_by o.connection.clock) }; read_failures = o.read_failures; write_failures = o.write_failures; result = o.served }) all.items) turn.ended;
+      waiting = Some (map (λ c. record { unread = Some c.input.items; written = Some c.output.items; moments = Some (told_by c.clock) })
+          turn.waiting.items);
+      ended = option_map (λ all. map (λ o.
+          record {
+            streams = record {
+              unread = Some o.connection.input.items;
+              written = Some o.connection.output.items;
+              moments = Some (told_by o.connection.clock);
+            };
+            read_failures = o.read_failures;
+            write_failures = o.write_failures;
+            result = o.served;
+          }) all.items) turn.ended;
     } };
 
     fn next(&mut self) -> Option<Played> {
@@ -67,7 +78,18 @@ impl Turn for Listed {
         served: Result<Served, ServeFault>,
         refusals: Refusals,
     )
-        ensures { TakesBack (⟦<Listed as Turn>⟧.connections self.old) (record { streams = record { unread = ⟦<VecDeque<u8> as Read>⟧.remaining (inner_of connection.input); written = ⟦<Vec<u8> as Write>⟧.contents (inner_of connection.output); moments = ⟦<Moments as Clock>⟧.moments connection.clock }; read_failures = failures_of connection.input; write_failures = failures_of connection.output; result = served }) (⟦<Listed as Turn>⟧.connections self.new) }
+        ensures { TakesBack (⟦<Listed as Turn>⟧.connections self.old)
+            (record {
+              streams = record {
+                unread = ⟦<VecDeque<u8> as Read>⟧.remaining (inner_of connection.input);
+                written = ⟦<Vec<u8> as Write>⟧.contents (inner_of connection.output);
+                moments = ⟦<Moments as Clock>⟧.moments connection.clock;
+              };
+              read_failures = failures_of connection.input;
+              write_failures = failures_of connection.output;
+              result = served;
+            })
+            (⟦<Listed as Turn>⟧.connections self.new) }
     {
         let Connection {
             input,

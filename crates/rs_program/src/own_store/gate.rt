@@ -53,7 +53,8 @@ impl Gate for OwnGate {
         ensures list { Grows (IsOwn (content_of self.old)) (IsOwn (content_of self.new))
             (Submits operation (local_mark (content_of self.old)) (local_mark (content_of self.new)) result) }
         ensures mark { Uses (local_mark (content_of self.old)) (local_mark (content_of self.new)) }
-        ensures sent { SendsAtMost (local_mark (content_of self.old)).sent (entry_by operation (local_mark (content_of self.new))) (local_mark (content_of self.new)).sent }
+        ensures sent { SendsAtMost (local_mark (content_of self.old)).sent (entry_by operation (local_mark (content_of self.new)))
+            (local_mark (content_of self.new)).sent }
         ensures full { (result ≡ Err SubmitFault.Full) ↔ IsFull (content_of self.old) operation }
         ensures done { OnOk result (IsAdded (content_of self.old) (next_entry (content_of self.old) operation) (content_of self.new)) }
         ensures refused { IfErr result (λ fault. IsLeft (content_of self.old) operation fault (content_of self.new)) }

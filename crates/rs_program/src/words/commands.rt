@@ -84,7 +84,8 @@ const IDLE_HELP: &str = "After how many seconds an idle connection ends; never, 
 
 const LOG_HELP: &str = "Write a line to standard error when a connection begins and when it ends";
 
-// The value names `1-64`, `1-10000`, `1-65536`, `1-1000000` and `1-86400` below, and the default of `--topics`, which is the limit of `pipe`.
+// The value names `1-64`, `1-10000`, `1-65536`, `1-1000000` and `1-86400` below, and the default of `--topics`, which is the limit of
+// `pipe`.
 const _: () = prove!(MAX_PLACES == 64);
 
 const _: () = prove!(MAX_CLIENTS == 10_000);

@@ -61,8 +61,8 @@ const EXPIRING: &[u8] = b"\x10\x0E\x00\x04MQTT\x05\x02\x00\x3C\x00\x00\x01a\
 
 const EXPIRED: &[u8] = b"\x90\x04\x00\x01\x00\x00\x31\x05\x00\x01e\x00y\xD0\x00";
 
-/// What bursts are mixed of: PUBLISH with RETAIN 1 to `a`, to `b` with an empty payload, to `c` of QoS 1 and of QoS 2 with its PUBREL, to `d`
-/// with an interval of 9 seconds; one with RETAIN 0; PINGREQ; SUBSCRIBE to all at QoS 0, and UNSUBSCRIBE.
+/// What bursts are mixed of: PUBLISH with RETAIN 1 to `a`, to `b` with an empty payload, to `c` of QoS 1 and of QoS 2 with its PUBREL, to
+/// `d` with an interval of 9 seconds; one with RETAIN 0; PINGREQ; SUBSCRIBE to all at QoS 0, and UNSUBSCRIBE.
 const MIXED: [&[u8]; 16] = [
     b"\x31\x05\x00\x01a\x00x",
     b"\x31\x05\x00\x01a\x00y",

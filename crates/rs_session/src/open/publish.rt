@@ -29,9 +29,12 @@ impl Open {
     ) -> Outcome
         requires { IfSome change (λ operation. IsChange (given_at (Input.Whole (Packet.Publish p)) now) operation) }
         ensures row { GrowsAnswering G.stands G.mark gate.old gate.new (λ seen answered list.
-            LeadsTo (given_at (Input.Whole (Packet.Publish p)) now) (point_at self.old seen (G.mark gate.old)) answered result (point_at self.new list (G.mark gate.new))) }
-        ensures pending { LeavesPending (given_at (Input.Whole (Packet.Publish p)) now) (G.pending gate.old) (G.pending gate.new) (IsUnsent (G.mark gate.old) (G.mark gate.new) result) }
-        ensures certain { NoSerialUsed (G.stands gate.old) (G.pending gate.old) (G.mark gate.old) (G.mark gate.new) → result ≢ Outcome.Closes ReasonCode.QuotaExceeded }
+            LeadsTo (given_at (Input.Whole (Packet.Publish p)) now) (point_at self.old seen (G.mark gate.old)) answered result
+            (point_at self.new list (G.mark gate.new))) }
+        ensures pending { LeavesPending (given_at (Input.Whole (Packet.Publish p)) now) (G.pending gate.old) (G.pending gate.new)
+            (IsUnsent (G.mark gate.old) (G.mark gate.new) result) }
+        ensures certain { NoSerialUsed (G.stands gate.old) (G.pending gate.old) (G.mark gate.old) (G.mark gate.new)
+            → result ≢ Outcome.Closes ReasonCode.QuotaExceeded }
     {
         match self.outcome_before(&p) {
             Some(outcome) => outcome,
@@ -54,7 +57,8 @@ impl Open {
 
     /// What the identifier of a PUBLISH leads to, if it awaits its PUBREL or is one too many.
     fn outcome_of_id(&self, qos: Qos, id: Option<PacketId>) -> Option<Outcome>
-        ensures { result ≡ outcome_of_id (is_unreleased (unreleased_id qos id) self.now.inbound) (is_one_too_many (unreleased_id qos id) self.now.inbound) (acknowledged_by qos id ReasonCode.Success) }
+        ensures { result ≡ outcome_of_id (is_unreleased (unreleased_id qos id) self.now.inbound)
+            (is_one_too_many (unreleased_id qos id) self.now.inbound) (acknowledged_by qos id ReasonCode.Success) }
     {
         let own_id = id;
         let unreleased = unreleased_id(qos, id)?;
@@ -80,9 +84,12 @@ impl Open {
         requires before { outcome_before p self.old ≡ None }
         requires change { IfSome change (λ operation. IsChange (given_at (Input.Whole (Packet.Publish p)) now) operation) }
         ensures row { GrowsAnswering G.stands G.mark gate.old gate.new (λ seen answered list.
-            LeadsTo (given_at (Input.Whole (Packet.Publish p)) now) (point_at self.old seen (G.mark gate.old)) answered result (point_at self.new list (G.mark gate.new))) }
-        ensures pending { LeavesPending (given_at (Input.Whole (Packet.Publish p)) now) (G.pending gate.old) (G.pending gate.new) (IsUnsent (G.mark gate.old) (G.mark gate.new) result) }
-        ensures certain { NoSerialUsed (G.stands gate.old) (G.pending gate.old) (G.mark gate.old) (G.mark gate.new) → result ≢ Outcome.Closes ReasonCode.QuotaExceeded }
+            LeadsTo (given_at (Input.Whole (Packet.Publish p)) now) (point_at self.old seen (G.mark gate.old)) answered result
+            (point_at self.new list (G.mark gate.new))) }
+        ensures pending { LeavesPending (given_at (Input.Whole (Packet.Publish p)) now) (G.pending gate.old) (G.pending gate.new)
+            (IsUnsent (G.mark gate.old) (G.mark gate.new) result) }
+        ensures certain { NoSerialUsed (G.stands gate.old) (G.pending gate.old) (G.mark gate.old) (G.mark gate.new)
+            → result ≢ Outcome.Closes ReasonCode.QuotaExceeded }
     {
         let Publish {
             duplicate: _,
@@ -127,7 +134,8 @@ impl Open {
         ensures mark { Uses (G.mark gate.old) (G.mark gate.new) }
         ensures sent { SendsAtMost (G.mark gate.old).sent (entry_by operation (G.mark gate.new)) (G.mark gate.new).sent }
         ensures pending { TakesPendingBy operation (G.mark gate.old) (G.mark gate.new) result (G.pending gate.old) (G.pending gate.new) }
-        ensures certain { NoSerialUsed (G.stands gate.old) (G.pending gate.old) (G.mark gate.old) (G.mark gate.new) → result ≢ Outcome.Closes ReasonCode.QuotaExceeded }
+        ensures certain { NoSerialUsed (G.stands gate.old) (G.pending gate.old) (G.mark gate.old) (G.mark gate.new)
+            → result ≢ Outcome.Closes ReasonCode.QuotaExceeded }
     {
         let submitted = gate.submit(operation);
         if submitted.is_ok() {

@@ -25,7 +25,8 @@ impl Open {
         now: u64,
     ) -> Outcome
         ensures row { GrowsAnswering G.stands G.mark gate.old gate.new (λ seen answered list.
-            LeadsTo (given_at (Input.Whole (Packet.Subscribe s)) now) (point_at self.old seen (G.mark gate.old)) answered result (point_at self.new list (G.mark gate.new))) }
+            LeadsTo (given_at (Input.Whole (Packet.Subscribe s)) now) (point_at self.old seen (G.mark gate.old)) answered result
+            (point_at self.new list (G.mark gate.new))) }
         ensures pending { G.pending gate.new ≡ G.pending gate.old }
     {
         if any_shared_local(s.filters.as_slice()) {
@@ -148,7 +149,8 @@ impl Open {
     ) -> bool
         ensures list { Grows (G.stands gate.old) (G.stands gate.new) (λ seen list.
             MatchBool result
-            (MatchBool (replays subscription.options.retain_handling is_there) (IsQueued now filter.now subscription list self.old self.new) (self.new.window ≡ self.old.window))
+            (MatchBool (replays subscription.options.retain_handling is_there) (IsQueued now filter.now subscription list self.old self.new)
+            (self.new.window ≡ self.old.window))
             (self.new ≡ self.old)) }
         ensures mark { G.mark gate.new ≡ G.mark gate.old }
         ensures pending { G.pending gate.new ≡ G.pending gate.old }
