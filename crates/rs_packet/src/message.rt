@@ -7,7 +7,7 @@ ghost use Rattle.rs_packet.specs.Messages.{left_of, remaining_of, IsMessage};
 
 use crate::packet::Qos;
 use bytes::Bytes;
-use rs_field::{Properties, properties_len, varint_len};
+use rs_field::Properties;
 use std::alloc::AllocError;
 use std::marker::Model;
 
@@ -128,18 +128,6 @@ impl Message {
             Some(expiry) => left_of(expiry, now.saturating_sub(self.received)),
             None => Remaining::Forever,
         }
-    }
-
-    /// How many bytes its payload and its properties, with its interval, take in a packet: at most [`MAX_PACKET_SIZE`].
-    ///
-    /// [`MAX_PACKET_SIZE`]: crate::MAX_PACKET_SIZE
-    #[tactic(auto, using(crate::proofs::Lengths::message_section))]
-    pub fn size(&self) -> usize
-        ensures value { result ≡ message_size self.now.expiry self.now.properties self.now.payload }
-        ensures fits { result ≤ MAX_PACKET_SIZE }
-    {
-        let section = properties_len(self.expiry(), None, &self.properties);
-        varint_len(section) + section + self.payload.len()
     }
 
     /// An equal message, which shares the payload and the properties: none of their bytes is copied, and it takes no memory. The
