@@ -111,6 +111,7 @@ fn in_range(subscription: Option<SubscriptionId>) -> Option<SubscriptionId>
 {
     match subscription {
         Some(id) => {
+            // For the proof: this call says that the number is in its range.
             let _number = id.get();
             Some(id)
         }

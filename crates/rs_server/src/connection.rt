@@ -164,6 +164,7 @@ fn serve_once<R: Read, W: Write, G: Gate, C: Clock>(
     ensures cause { Causes result (failures_of reader.old) (failures_of reader.new)
         (failures_of writer.old) (failures_of writer.new) }
 {
+    // Not `?`, whose conversion of the fault would have to be proved, too.
     if let Err(fault) = plan(alloc, session, buffered, planned, clock) {
         return Err(fault);
     }

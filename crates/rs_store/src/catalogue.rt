@@ -205,6 +205,7 @@ pub fn add<C: Catalogue>(catalogue: &mut C, calm: &mut Calm, entry: Entry) -> Re
 {
     // For the proof: these calls say which places and serials an origin may have.
     let (_place, _serial) = (entry.origin.place(), entry.origin.serial());
+    // Not `?`, whose conversion of the fault would have to be proved, too.
     if let Err(refusal) = make_space(catalogue, calm, &entry) {
         return Err(refusal);
     }

@@ -245,11 +245,13 @@ impl Catalogue for MapCatalogue {
     }
 
     fn count(&self) -> u32 {
+        // For the proof: this call says that the limit is in its range.
         let _limit = self.ledger.limit().get();
         self.retained.len() as u32
     }
 
     fn expired(&self, now: u64) -> u32 {
+        // For the proof: this call says that the limit is in its range.
         let _limit = self.ledger.limit().get();
         count_expired(&self.retained, now)
     }

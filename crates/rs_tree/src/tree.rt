@@ -234,6 +234,7 @@ impl Catalogue for TreeCatalogue {
     }
 
     fn apply(&mut self, entry: Entry) -> Result<(), AllocError> {
+        // For the proof: this call says that the limit is in its range.
         let _limit = self.ledger.limit().get();
         let origin = entry.origin;
         self.remains.shrink(self.alloc);
@@ -279,6 +280,7 @@ impl Catalogue for TreeCatalogue {
     }
 
     fn expired(&self, now: u64) -> u32 {
+        // For the proof: this call says that the limit is in its range.
         let _limit = self.ledger.limit().get();
         count_expired(&self.root, now)
     }

@@ -41,6 +41,7 @@ impl<N: StoreName> Told<N> {
         ensures again { result ≡ self.now }
         ensures legal { IsLegal N.limit self.now }
     {
+        // For the proof: this call says that the list is legal.
         let _version = self.version();
         Told {
             list: self.list.again(),

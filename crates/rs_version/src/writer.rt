@@ -267,6 +267,7 @@ impl<N: StoreName, R: Wait + Drop> VersionWriter<N, R> {
         ensures legal { OnOk result (IsLegal N.limit self.new.published) }
         ensures refused { IfErr result (λ f. Refuses N.limit self.old entry f self.new) }
     {
+        // Not `?`, whose conversion of the fault would have to be proved, too.
         if let Err(fault) = self.make_space(&entry) {
             return Err(fault);
         }

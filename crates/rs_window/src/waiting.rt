@@ -69,6 +69,7 @@ fn is_too_long(waiting: &Waiting, expiry: Option<u32>, packet_maximum: u32) -> b
 {
     let message = waiting.found.message();
     let topic = waiting.found.topic();
+    // For the proof: this call says that the topic is short.
     let _topic = topic.as_bytes();
     let len = publish_len(
         topic,

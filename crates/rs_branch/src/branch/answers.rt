@@ -125,6 +125,7 @@ impl Branch {
             return answer_retained(&self.retained, now, answer);
         };
         if is_all_below(level, filter, next) {
+            // Not `?`, whose conversion of the fault would have to be proved, too.
             if let Err(stop) = answer_retained(&self.retained, now, answer) {
                 return Err(stop);
             }
@@ -164,6 +165,7 @@ impl Branch {
             return answer_retained(&self.retained, now, answer);
         };
         if is_all_below(level, filter, next) {
+            // Not `?`, whose conversion of the fault would have to be proved, too.
             if let Err(stop) = answer_retained(&self.retained, now, answer) {
                 return Err(stop);
             }

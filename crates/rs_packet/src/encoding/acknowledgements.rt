@@ -32,6 +32,7 @@ pub(crate) fn acknowledgement_len(id: PacketId, code: u8) -> usize
     ensures small { result ≤ 3 }
     ensures fits { id < 2 ^ 16 }
 {
+    // For the proof: this call says that the number is small.
     let _number = id.get();
     if code == 0 { 2 } else { 3 }
 }

@@ -27,6 +27,7 @@ pub(crate) fn codes_len(codes: &Codes) -> usize
     ensures small { result < varint_end }
     ensures fits { codes.now.id < 2 ^ 16 }
 {
+    // For the proof: this call says that the number is small.
     let _number = codes.id.get();
     3 + codes.codes.len()
 }
