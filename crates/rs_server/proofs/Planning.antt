@@ -3,7 +3,6 @@ use Rattle.std.proofs.Common.{◌≡◌, ◌<◌, ◌≤◌, ◌+◌, ◌-◌, �
 use Rattle.std.proofs.lemmas.List.{map-append, take_more}
 use Rattle.std.proofs.lemmas.List.Elements.{All-nil, All-cons, All-append, All-take}
 use Rattle.std.proofs.Math.Seq.{take-append_seam, take-length}
-use Rattle.std.specs.Prelude.{is_some, true, IfSome}
 use Rattle.std.specs.List.{All}
 use Rattle.rs_packet.specs.declared.reply.Reply.{Reply}
 use Rattle.rs_message.specs.declared.entry.Entry.{Entry}
@@ -12,14 +11,14 @@ use Rattle.rs_session.specs.declared.phase.Input.{Input}
 use Rattle.rs_session.specs.declared.phase.Phase.{Phase}
 use Rattle.rs_session.specs.declared.phase.Phase.TheVariants as phase
 use Rattle.rs_session.specs.declared.phase.Step.TheVariants.{End}
-use Rattle.rs_session.specs.Pending.{AreChanges, IsChange, LeavesPending}
+use Rattle.rs_session.specs.Pending.{AreChanges, HasChange, IsChange, LeavesPending}
 use Rattle.rs_session.specs.Gate.{Grows, Mark}
 use Rattle.rs_session.specs.Points.{Given}
 use Rattle.rs_session.specs.Run.{Gives, GivesAll}
 use Rattle.rs_session.specs.State.{State, IsGiven, IsReplayed, step_of}
 use Rattle.rs_session.proofs.Expecting.{leaves_weaker}
 use Rattle.rs_server.specs.Clock.{TellsInOrder}
-use Rattle.rs_server.specs.Conversation.{AllButLastHaveChanges, HasChange, InputsOf, Plans, PlansNext, planned_inputs}
+use Rattle.rs_server.specs.Conversation.{AllButLastHaveChanges, InputsOf, Plans, PlansNext, planned_inputs}
 use Rattle.rs_server.proofs.Conversations.{front_inputs, in_order_join, in_order_none, inputs_join}
 
 -- ---- what is planned grows
@@ -81,10 +80,6 @@ but_last_first p1 p2 h1 h2 c1 c2 p none = but_last_next p1 p2 h1 h2 c1 c2 p (sub
 
 pub all_more : (planned : List Given) (given : Given) → All HasChange planned → HasChange given → All HasChange (planned ++ given ∷ [])
 all_more planned given all last = All-append HasChange planned (given ∷ []) all (All-cons HasChange given [] last (All-nil HasChange))
-
-pub has_change : (given : Given) (change : Option Operation) → is_some change ≡ true → IfSome change (λ operation. IsChange given operation) → HasChange given
-has_change given None some is = absurd (cc)
-has_change given (Some operation) some is = (operation, is)
 
 -- if the last one has a change too, all have
 pub all_with_last : (planned : List Given) (last : Given) → 0 < length planned → last ≡ get_or planned (length planned - 1) last → HasChange last → AllButLastHaveChanges planned → All HasChange planned

@@ -12,7 +12,7 @@ use Rattle.rs_session.specs.declared.phase.Input.{Input}
 use Rattle.rs_session.specs.declared.phase.Input.TheVariants.{Whole, Broken}
 use Rattle.rs_session.specs.declared.phase.Closing.{Closing}
 use Rattle.rs_session.specs.declared.phase.Closing.TheVariants as closing
-use Rattle.rs_session.specs.Pending.{AreChanges, IsChange}
+use Rattle.rs_session.specs.Pending.{AreChanges, HasChange}
 use Rattle.rs_session.specs.Gate.{Mark, StandsAt}
 use Rattle.rs_session.specs.Stored.{point_after}
 use Rattle.rs_session.specs.State.{State, fresh, closing_of, step_of}
@@ -71,10 +71,6 @@ abbrev pub Plans : List Given → List Given → List ℕ → List ℕ → Optio
 Plans planned new_planned buffered new_buffered told new_told =
     (more : List Given) × (new_planned ≡ planned ++ more) × InputsOf (planned_inputs more) buffered new_buffered
     × TellsInOrder told new_told (planned_moments more)
-
--- its change may be announced
-abbrev pub HasChange : Given → Type 0
-HasChange given = (operation : Operation) × IsChange given operation
 
 -- of all of these but the last the changes may be announced
 abbrev pub AllButLastHaveChanges : List Given → Type 0

@@ -4,8 +4,8 @@ ghost use Rattle.std.specs.Prelude.{◌≡◌, ◌<◌, ◌-◌, ◌^◌, ◌≤
 ghost use Rattle.std.specs.Io.KnownBytes.{Consumes, IsAtEnd};
 ghost use Rattle.rs_message.specs.declared.entry.Entry.{Entry};
 ghost use Rattle.rs_message.specs.declared.entry.Operation.{Operation};
-ghost use Rattle.rs_session.specs.Pending.{AreChanges, IsChange, LeavesPending};
-ghost use Rattle.rs_session.specs.Points.{Point, given_at};
+ghost use Rattle.rs_session.specs.Pending.{AreChanges, LeavesPending};
+ghost use Rattle.rs_session.specs.Points.{Point};
 ghost use Rattle.rs_session.specs.State.{session_at, state_of, due_of, gate_of, closing_of, step_of, State};
 ghost use Rattle.rs_server.specs.Clock.{TellsInOrder};
 ghost use Rattle.rs_server.specs.Counts.{inner_of, failures_of};
@@ -15,13 +15,12 @@ ghost use Rattle.rs_server.specs.Conversation.{MakesExchange, Closes, Causes, Ta
 use crate::assigned::assigned_client;
 use crate::clock::Clock;
 use crate::counted::Counted;
-use crate::plan::{Planned, plan};
+use crate::plan::plan;
 use crate::read_size::{MIN_READ, ReadSize};
 use crate::writing::{ServeFault, write_replies};
 use bytes::BytesMut;
-use rs_message::Operation;
 use rs_packet::needed_len;
-use rs_session::{Closing, Gate, Input, Session, Step};
+use rs_session::{Closing, Gate, Incoming, Session, Step};
 use std::alloc::Global;
 use std::collections::VecDeque;
 use std::io::{Read, Write};
@@ -132,7 +131,7 @@ fn serve_once<R: Read, W: Write, G: Gate, C: Clock>(
     session: &mut Session<G>,
     buffered: &mut BytesMut,
     size: &mut ReadSize,
-    planned: &mut VecDeque<Planned>,
+    planned: &mut VecDeque<Incoming>,
     clock: &mut C,
 ) -> Result<Option<Served>, ServeFault>
     requires reader_can_rise { failures_of reader.old < 2 ^ 64 - 1 }
@@ -171,8 +170,7 @@ fn serve_once<R: Read, W: Write, G: Gate, C: Clock>(
     let Some(next) = planned.pop_front() else {
         return read_more(alloc, reader, buffered, size);
     };
-    let Planned { input, now, change } = next;
-    match make_exchange(alloc, session, writer, input, change, now) {
+    match make_exchange(alloc, session, writer, next) {
         Ok(()) => Ok(served_as(session.closing())),
         Err(fault) => Err(fault),
     }
@@ -241,30 +239,28 @@ fn read_more<R: Read>(
     Ok(Some(Served::CutInput))
 }
 
-/// One exchange of the session: hands over an input, with its change if that was made before, and writes all replies to it.
+/// One exchange of the session: hands over an input, and writes all replies to it.
 fn make_exchange<G: Gate, W: Write>(
     alloc: Global,
     session: &mut Session<G>,
     writer: &mut Counted<W>,
-    input: Input,
-    change: Option<Operation>,
-    now: u64,
+    incoming: Incoming,
 ) -> Result<(), ServeFault>
     requires writer_can_rise { failures_of writer.old < 2 ^ 64 - 1 }
     requires none_due { due_of session.old ≡ None }
     requires goes_on { closing_of (state_of session.old).phase ≡ None }
-    requires change { IfSome change (λ operation. IsChange (given_at input now) operation) }
     ensures exchange { (seen : List Entry) → G.stands (gate_of session.old) seen
-        → MakesExchange (session_at G.mark session.old seen) (given_at input now)
+        → MakesExchange (session_at G.mark session.old seen) incoming
         (gate_view G.stands G.mark G.pending (gate_of session.new)) (state_of session.new)
         (Writes result (W.contents (inner_of writer.old)) (W.contents (inner_of writer.new))) }
-    ensures pending { LeavesPending (given_at input now) (G.pending (gate_of session.old)) (G.pending (gate_of session.new))
+    ensures pending { LeavesPending incoming (G.pending (gate_of session.old)) (G.pending (gate_of session.new))
         ((G.mark (gate_of session.new) ≡ G.mark (gate_of session.old)) × (step_of (state_of session.new).phase ≡ Step.End)) }
     ensures due { due_of session.new ≡ None }
     ensures cause { IsWriteCause result (failures_of writer.old) (failures_of writer.new) }
 {
+    let now = incoming.now();
     // Whether the session goes on is asked after its last reply is written.
-    let _step = session.on_input(input, change, now);
+    let _step = session.on_input(incoming);
     write_replies(alloc, session, writer, now)
 }
 

@@ -1,6 +1,6 @@
 //! What is decoded before it is handled.
 
-ghost use Rattle.std.specs.Prelude.{◌≡◌, ◌≤◌, ◌+◌, ◌⊎◌, [], ◌∷◌, ◌++◌, true, false, List, Ok, Some, OnErr, OnOk, IfOk, IfErr, IfSome, length, max};
+ghost use Rattle.std.specs.Prelude.{◌≡◌, ◌≤◌, ◌+◌, ◌⊎◌, [], ◌∷◌, ◌++◌, true, false, List, Ok, Some, OnErr, OnOk, IfOk, IfErr, length, max};
 ghost use Rattle.std.specs.List.{All};
 ghost use Rattle.rs_message.specs.declared.entry.Entry.{Entry};
 ghost use Rattle.rs_message.specs.declared.entry.Operation.{Operation};
@@ -8,55 +8,21 @@ ghost use Rattle.rs_message.specs.Messages.{is_sweep};
 ghost use Rattle.rs_packet.specs.Grammar.{HasPrefix};
 ghost use Rattle.rs_packet.specs.PacketReading.{Gives, answer};
 ghost use Rattle.rs_packet.specs.Prefixes.{IsMore};
-ghost use Rattle.rs_session.specs.Pending.{AreChanges, IsChange};
+ghost use Rattle.rs_session.specs.Pending.{AreChanges, HasChange};
 ghost use Rattle.rs_session.specs.Gate.{Grows};
 ghost use Rattle.rs_session.specs.Points.{Given, given_at};
 ghost use Rattle.rs_session.specs.State.{state_of, due_of, gate_of};
 ghost use Rattle.rs_server.specs.Clock.{TellsInOrder};
-ghost use Rattle.rs_server.specs.Conversation.{AllButLastHaveChanges, HasChange, Plans, PlansNext, TakesInput};
+ghost use Rattle.rs_server.specs.Conversation.{AllButLastHaveChanges, Plans, PlansNext, TakesInput};
 
 use crate::clock::Clock;
 use crate::writing::ServeFault;
 use bytes::{Bytes, BytesMut};
 use rs_message::Operation;
 use rs_packet::{Decoded, PacketFault, decode, needed_len};
-use rs_session::{Gate, Input, Session};
-use std::alloc::{AllocError, Global};
+use rs_session::{Gate, Incoming, Input, Session};
+use std::alloc::Global;
 use std::collections::VecDeque;
-use std::marker::Model;
-
-/// An input that was decoded, its time in seconds, and its change, if that may be announced.
-#[derive(Drop)]
-pub(crate) struct Planned {
-    pub(crate) input: Input,
-    pub(crate) now: u64,
-    pub(crate) change: Option<Operation>,
-}
-
-impl Model for Planned {
-    ghost use Rattle.std.specs.Prelude.{IfSome};
-    ghost use Rattle.rs_session.specs.Pending.{IsChange};
-    ghost use Rattle.rs_session.specs.Points.{Given, given_at};
-
-    ghost Value = { Given };
-
-    ghost view = { λ planned. given_at planned.input planned.now };
-
-    ghost invariant = { λ planned. IfSome planned.change (λ operation. IsChange (given_at planned.input planned.now) operation) };
-}
-
-/// A copy of a change, which shares the bytes. None also if the count of their owners is full.
-fn copied(change: &Option<Operation>) -> Option<Operation>
-    ensures { IfSome result (λ operation. change.now ≡ Some operation) }
-{
-    match change {
-        Some(change) => match change.copy() {
-            Ok(copy) => Some(copy),
-            Err(AllocError) => None,
-        },
-        None => None,
-    }
-}
 
 /// Plans what comes next, unless the gate still waits for changes of what is planned. Nothing is read.
 ///
@@ -67,7 +33,7 @@ pub(crate) fn plan<G: Gate, C: Clock>(
     alloc: Global,
     session: &mut Session<G>,
     buffered: &mut BytesMut,
-    planned: &mut VecDeque<Planned>,
+    planned: &mut VecDeque<Incoming>,
     clock: &mut C,
 ) -> Result<(), ServeFault>
     ensures plans { Plans planned.old.items planned.new.items buffered.old.items buffered.new.items (C.moments clock.old)
@@ -107,7 +73,7 @@ fn batch(most: usize) -> usize
 fn plan_first<C: Clock>(
     alloc: Global,
     buffered: &mut BytesMut,
-    planned: &mut VecDeque<Planned>,
+    planned: &mut VecDeque<Incoming>,
     clock: &mut C,
     announces: bool,
 ) -> Result<(), ServeFault>
@@ -132,7 +98,7 @@ fn plan_first<C: Clock>(
 fn plan_next<C: Clock>(
     alloc: Global,
     buffered: &mut BytesMut,
-    planned: &mut VecDeque<Planned>,
+    planned: &mut VecDeque<Incoming>,
     clock: &mut C,
     announces: bool,
 ) -> Result<bool, ServeFault>
@@ -150,20 +116,20 @@ fn plan_next<C: Clock>(
         return Ok(false);
     };
     let now = clock.now();
-    let change = change_of(alloc, &input, now, announces);
-    let goes_on = change.is_some();
-    planned.push_back_reserved(Planned { input, now, change });
+    let incoming = incoming_of(alloc, input, now, announces);
+    let goes_on = incoming.has_change();
+    planned.push_back_reserved(incoming);
     Ok(goes_on)
 }
 
-/// The change of an input, if it is wanted. None also if it may not be announced, or if memory is refused.
-fn change_of(alloc: Global, input: &Input, now: u64, announces: bool) -> Option<Operation>
-    ensures { IfSome result (λ operation. IsChange (given_at input.now now) operation) }
+/// An input at its time, with its change, if that is wanted and may be announced.
+fn incoming_of(alloc: Global, input: Input, now: u64, announces: bool) -> Incoming
+    ensures { result ≡ given_at input now }
 {
     if announces {
-        return input.change(alloc, now);
+        return Incoming::with_change(alloc, input, now);
     }
-    None
+    Incoming::new(input, now)
 }
 
 /// Plans whole inputs behind what is planned, up to `most` in all, and to the first that may not be announced. If memory is refused it
@@ -171,7 +137,7 @@ fn change_of(alloc: Global, input: &Input, now: u64, announces: bool) -> Option<
 fn look_ahead<C: Clock>(
     alloc: Global,
     buffered: &mut BytesMut,
-    planned: &mut VecDeque<Planned>,
+    planned: &mut VecDeque<Incoming>,
     clock: &mut C,
     most: usize,
 )
@@ -191,18 +157,18 @@ fn look_ahead<C: Clock>(
 }
 
 /// Whether the last input that is planned may be announced.
-fn may_go_on(planned: &VecDeque<Planned>) -> bool
+fn may_go_on(planned: &VecDeque<Incoming>) -> bool
     ensures { result ≡ true → AllButLastHaveChanges planned.now.items → All HasChange planned.now.items }
 {
     if planned.is_empty() {
         return false;
     }
     let last = &planned[planned.len() - 1];
-    last.change.is_some()
+    last.has_change()
 }
 
 /// Announces the changes of what is planned, if there are two or more.
-fn announce<G: Gate>(alloc: Global, session: &mut Session<G>, planned: &VecDeque<Planned>)
+fn announce<G: Gate>(alloc: Global, session: &mut Session<G>, planned: &VecDeque<Incoming>)
     ensures state { state_of session.new ≡ state_of session.old }
     ensures due { due_of session.new ≡ due_of session.old }
     ensures list { Grows (G.stands (gate_of session.old)) (G.stands (gate_of session.new)) (λ seen list. list ≡ seen) }
@@ -221,7 +187,7 @@ fn announce<G: Gate>(alloc: Global, session: &mut Session<G>, planned: &VecDeque
 }
 
 /// Copies of the changes of the first of what is planned, up to one that has none. If memory is refused there are fewer.
-fn changes_of(alloc: Global, planned: &VecDeque<Planned>) -> Vec<Operation>
+fn changes_of(alloc: Global, planned: &VecDeque<Incoming>) -> Vec<Operation>
     ensures changes { AreChanges planned.now.items result.items }
     ensures none_sweeps { All (λ operation. is_sweep operation ≡ false) result.items }
 {
@@ -230,7 +196,7 @@ fn changes_of(alloc: Global, planned: &VecDeque<Planned>) -> Vec<Operation>
     };
     'made: for i in 0..planned.len() {
         let next = &planned[i];
-        let Some(change) = copied(&next.change) else {
+        let Some(change) = next.copy_change() else {
             return changes;
         };
         changes.push_reserved(change);

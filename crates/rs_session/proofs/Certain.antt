@@ -3,6 +3,7 @@ use Rattle.std.proofs.Common.{◌≡◌, ℕ, Bool, true, false, List, [], ◌�
 use Rattle.std.specs.Prelude.{◌≢◌}
 use Rattle.rs_topic.specs.declared.text.TopicFault.{TopicFault}
 use Rattle.rs_topic.specs.declared.text.TopicFault.TheVariants as topic_fault
+use Rattle.rs_packet.specs.Faults.{PacketFault}
 use Rattle.rs_packet.specs.declared.packet.Packet.{Packet}
 use Rattle.rs_packet.specs.declared.packet.Packet.TheVariants as packet
 use Rattle.rs_packet.specs.declared.packet.Publish.{Publish}
@@ -17,17 +18,18 @@ use Rattle.rs_session.specs.declared.open.Outcome.{Outcome}
 use Rattle.rs_session.specs.declared.open.Outcome.TheVariants.{Replies, Closes, Leaves}
 use Rattle.rs_session.specs.declared.phase.Closing.{Closing}
 use Rattle.rs_session.specs.declared.phase.Closing.TheVariants.{ByClient, ByServer}
-use Rattle.rs_session.specs.declared.phase.Phase.{Phase}
+use Rattle.rs_session.specs.declared.phase.Input.TheVariants.{Whole, Broken}
 use Rattle.rs_session.specs.declared.phase.Phase.TheVariants as phase
 use Rattle.rs_session.specs.declared.reason.ReasonCode.{ReasonCode}
 use Rattle.rs_session.specs.declared.reason.ReasonCode.TheVariants.{Success, NoSubscriptionExisted, MalformedPacket, ProtocolError, ImplementationSpecificError, UnsupportedProtocolVersion, BadAuthenticationMethod, TopicFilterInvalid, TopicNameInvalid, PacketIdentifierNotFound, ReceiveMaximumExceeded, TopicAliasInvalid, PacketTooLarge, QuotaExceeded, SharedSubscriptionsNotSupported}
 use Rattle.rs_session.specs.declared.session.Session.{Session}
 use Rattle.rs_session.specs.Gate.{Mark, UsesIfOpen}
+use Rattle.rs_session.specs.Points.{Given, given_at}
 use Rattle.rs_session.specs.Reasons.{reason_value}
 use Rattle.rs_session.specs.State.{State, gate_of, state_of}
 use Rattle.rs_session.specs.Steps.{NoSerialUsed, outcome_before, outcome_of_alias, outcome_of_id, outcome_of_submit, outcome_of_topic, outcome_unmade, topic_refusal}
 use Rattle.rs_session.specs.Table.{acknowledged_by, unreleased_id, is_unreleased, is_one_too_many, state_after}
-use Rattle.rs_session.proofs.Expecting.{IsNoPublish}
+use Rattle.rs_session.proofs.Expecting.{IsNoPublish, not_broken, whole_is}
 
 pub replies : (r : Option Reply) → Replies r ≢ Closes QuotaExceeded
 replies r e = absurd (cc (e))
@@ -90,8 +92,11 @@ by_refusal_certain stands pending old new qos id outcome is none e = unmade pend
 
 -- ---- a session
 
-pub no_publish : (p other : Packet) (x : Publish) → p ≡ other → IsNoPublish other → p ≢ packet.Publish x
-no_publish p other x is another e = subst IsNoPublish (sym is ∙ e) another
+pub no_publish : (given : Given) (other : Packet) (now : ℕ) (x : Publish) → given_at (Whole other) now ≡ given → IsNoPublish other → given.input ≢ Whole (packet.Publish x)
+no_publish given other now x is another e = subst IsNoPublish (whole_is _ _ (ap (λ (g : Given). g.input) is ∙ e)) another
+
+pub no_packet : (given : Given) (f : PacketFault) (now : ℕ) (p : Packet) → given_at (Broken f) now ≡ given → given.input ≢ Whole p
+no_packet given f now p is e = not_broken p f (ap (λ (g : Given). g.input) is ∙ e)
 
 code_is : (code : ReasonCode) → reason_value code ≡ reason_value QuotaExceeded → code ≡ QuotaExceeded
 code_is QuotaExceeded e = refl

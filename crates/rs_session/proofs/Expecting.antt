@@ -1,6 +1,6 @@
 -- Lemmas on changes that a gate was told to expect.
 use Rattle.std.proofs.Common.{◌≡◌, ℕ, Bool, true, false, ◌&&◌, List, [], ◌∷◌, refl, sym, subst, ap, ◌∙◌, inl, inr, ◌⊎◌, Option, Some, None, is_some, Result, Ok, Err}
-use Rattle.std.specs.Prelude.{not}
+use Rattle.std.specs.Prelude.{IfSome, not}
 use Rattle.rs_topic.specs.declared.text.TopicFault.{TopicFault}
 use Rattle.rs_packet.specs.Faults.{PacketFault}
 use Rattle.rs_packet.specs.declared.packet.Packet.{Packet}
@@ -25,15 +25,15 @@ use Rattle.rs_session.specs.State.{State, gate_of, state_of, step_of}
 use Rattle.rs_session.specs.Steps.{IsLast, IsUnsent, TakesPendingBy, outcome_before, outcome_of_alias, outcome_of_id, outcome_of_submit, outcome_of_topic, outcome_unmade, topic_refusal}
 use Rattle.rs_session.specs.Table.{acknowledged_by, change, unreleased_id, is_unreleased, is_one_too_many, state_after}
 use Rattle.rs_session.proofs.Submitting.{no_sweep}
-use Rattle.rs_session.specs.Pending.{IsChange, LeavesPending, is_low, is_topic, may_be_announced}
+use Rattle.rs_session.specs.Pending.{HasChange, IsChange, LeavesPending, is_low, is_topic, may_be_announced}
 
-whole_is : (p q : Packet) → Whole p ≡ Whole q → p ≡ q
+pub whole_is : (p q : Packet) → Whole p ≡ Whole q → p ≡ q
 whole_is p q e = cc
 
 publish_is : (p q : Publish) → packet.Publish p ≡ packet.Publish q → p ≡ q
 publish_is p q e = cc
 
-not_broken : (p : Packet) (f : PacketFault) → ◌≡◌ {A = Input} (Broken f) (Whole p) → ⊥
+pub not_broken : (p : Packet) (f : PacketFault) → ◌≡◌ {A = Input} (Broken f) (Whole p) → ⊥
 not_broken p f e = absurd (cc)
 
 -- its change, by the publication
@@ -46,6 +46,10 @@ its_change p now operation (q, topic, e, may, t, c) =
 -- none is a Sweep
 pub no_change_sweeps : (given : Given) (operation : Operation) → IsChange given operation → is_sweep operation ≡ false
 no_change_sweeps given operation (p, topic, i, may, t, made) = no_sweep _ _ _ _ (sym made)
+
+pub has_change : (given : Given) (change : Option Operation) → is_some change ≡ true → IfSome change (λ operation. IsChange given operation) → HasChange given
+has_change given None some is = absurd (cc)
+has_change given (Some operation) some is = (operation, is)
 
 -- ---- what may be announced leads to nothing before its topic is used
 
@@ -87,14 +91,15 @@ IsNoPublish (packet.Publish p) = ⊥
 IsNoPublish p = Unit {0}
 
 -- another packet changes nothing
-pub by_another : (p other : Packet) (now : ℕ) (old new : List Operation) (S : Type 0) → p ≡ other → IsNoPublish other → new ≡ old → LeavesPending (given_at (Whole p) now) old new S
-by_another p other now old new S is another e = all_left _ old new S e (λ operation (q, topic, i, may, t, made). absurd (subst IsNoPublish (sym is ∙ whole_is _ _ i) another))
+pub by_another : (given : Given) (other : Packet) (now : ℕ) (old new : List Operation) (S : Type 0) → given_at (Whole other) now ≡ given → IsNoPublish other → new ≡ old → LeavesPending given old new S
+by_another given other now old new S is another e =
+    all_left _ old new S e (λ operation (q, topic, i, may, t, made). absurd (subst IsNoPublish (whole_is _ _ (ap (λ (x : Given). x.input) is ∙ i)) another))
 
-pub by_fault : (f : PacketFault) (now : ℕ) (old new : List Operation) (S : Type 0) → new ≡ old → LeavesPending (given_at (Broken f) now) old new S
-by_fault f now old new S e = all_left _ old new S e (λ operation (q, topic, i, may, t, made). absurd (not_broken _ f i))
+pub by_fault : (given : Given) (f : PacketFault) (now : ℕ) (old new : List Operation) (S : Type 0) → given_at (Broken f) now ≡ given → new ≡ old → LeavesPending given old new S
+by_fault given f now old new S is e = all_left _ old new S e (λ operation (q, topic, i, may, t, made). absurd (not_broken _ f (ap (λ (x : Given). x.input) is ∙ i)))
 
-pub by_publish : (packet_ : Packet) (p : Publish) (now : ℕ) (old new : List Operation) (S : Type 0) → packet_ ≡ packet.Publish p → LeavesPending (given_at (Whole (packet.Publish p)) now) old new S → LeavesPending (given_at (Whole packet_) now) old new S
-by_publish packet_ p now old new S e h = subst (λ (x : Packet). LeavesPending (given_at (Whole x) now) old new S) (sym e) h
+pub by_given : (as_read given : Given) (old new : List Operation) (S : Type 0) → as_read ≡ given → LeavesPending as_read old new S → LeavesPending given old new S
+by_given as_read given old new S is h = subst (λ (x : Given). LeavesPending x old new S) is h
 
 some_none : (x : Outcome) → Some x ≡ None → ⊥
 some_none x e = absurd (cc)
@@ -165,11 +170,11 @@ by_refusal given qos id mark outcome (first ∷ rest) d = λ is. inr (inr (refl,
 
 -- ---- a session
 
-pub stays_pending : {G : Type 0} (pending : G → List Operation) (mark : G → Mark) (p : Packet) (now : ℕ) (old mid new : Session G) → new ≡ mid → gate_of mid ≡ gate_of old → ((x : Publish) → p ≡ packet.Publish x → step_of (state_of mid).phase ≡ End)
-    → LeavesPending (given_at (Whole p) now) (pending (gate_of old)) (pending (gate_of new)) ((mark (gate_of new) ≡ mark (gate_of old)) × (step_of (state_of new).phase ≡ End))
-stays_pending {G} pending mark p now old mid new e g f =
-    subst (λ (s : Session G). LeavesPending (given_at (Whole p) now) (pending (gate_of old)) (pending (gate_of s)) ((mark (gate_of s) ≡ mark (gate_of old)) × (step_of (state_of s).phase ≡ End))) (sym e)
-    (all_left _ _ _ _ (ap pending g) (λ operation (x, topic, i, may, t, made). (ap mark g, f x (whole_is _ _ i))))
+pub stays_pending : {G : Type 0} (pending : G → List Operation) (mark : G → Mark) (given : Given) (old mid new : Session G) → new ≡ mid → gate_of mid ≡ gate_of old → ((x : Publish) → given.input ≡ Whole (packet.Publish x) → step_of (state_of mid).phase ≡ End)
+    → LeavesPending given (pending (gate_of old)) (pending (gate_of new)) ((mark (gate_of new) ≡ mark (gate_of old)) × (step_of (state_of new).phase ≡ End))
+stays_pending {G} pending mark given old mid new e g f =
+    subst (λ (s : Session G). LeavesPending given (pending (gate_of old)) (pending (gate_of s)) ((mark (gate_of s) ≡ mark (gate_of old)) × (step_of (state_of s).phase ≡ End))) (sym e)
+    (all_left _ _ _ _ (ap pending g) (λ operation (x, topic, i, may, t, made). (ap mark g, f x i)))
 
 last_ends : (outcome : Outcome) (s : State) (o : Open) → IsLast outcome → step_of (state_after outcome s o).phase ≡ End
 last_ends (Replies r) s o h = absurd h

@@ -35,6 +35,7 @@ use Rattle.rs_session.specs.declared.open.Outcome.TheVariants.{Replies, Closes, 
 use Rattle.rs_session.specs.declared.phase.Closing.{Closing}
 use Rattle.rs_session.specs.declared.phase.Closing.TheVariants.{ByClient, ByServer, Dropped}
 use Rattle.rs_session.specs.declared.phase.Phase.TheVariants as phase
+use Rattle.rs_session.specs.declared.phase.Input.{Input}
 use Rattle.rs_session.specs.declared.phase.Input.TheVariants.{Whole, Broken}
 use Rattle.rs_session.specs.Gate.{Mark, Extends, Grows, GrowsAnswering, StandsAt, Uses, IsNextAtMost, IsHandedOver, SendsAtMost, entry_by}
 use Rattle.rs_session.specs.Points.{Given, Point, given_at, point_at, with_state}
@@ -64,6 +65,29 @@ pub unmoved : {G : Type 0} (stands : G → List Entry → Type 0) (mark : G → 
 unmoved {G} stands mark old new P e h =
     subst (λ (g : G). GrowsAnswering stands mark old g (λ seen answered list. P seen answered list (mark g))) (sym e)
     (none_answered stands mark old old (λ seen answered list. P seen answered list (mark old)) (λ seen s. (seen, s, ([], sym (append-nil seen)), h seen)))
+
+-- a packet that is given
+pub is_packet : (given : Given) (input : Input) (p is : Packet) (now : ℕ) → input ≡ Whole p → p ≡ is → given_at input now ≡ given → given_at (Whole is) now ≡ given
+is_packet given input p is now i e v = ap (λ (x : Input). given_at x now) (sym (i ∙ ap (λ (x : Packet). Whole x) e)) ∙ v
+
+-- a fault that is given
+pub is_fault : (given : Given) (input : Input) (f : PacketFault) (now : ℕ) → input ≡ Broken f → given_at input now ≡ given → given_at (Broken f) now ≡ given
+is_fault given input f now i v = ap (λ (x : Input). given_at x now) (sym i) ∙ v
+
+-- a row of what is given
+pub leads : {G : Type 0} (stands : G → List Entry → Type 0) (mark : G → Mark) (old new : G) (as_read given : Given) (o left : Open) (outcome : Outcome) → as_read ≡ given
+    → GrowsAnswering stands mark old new (λ seen answered list. LeadsTo as_read (point_at o seen (mark old)) answered outcome (point_at left list (mark new)))
+    → GrowsAnswering stands mark old new (λ seen answered list. LeadsTo given (point_at o seen (mark old)) answered outcome (point_at left list (mark new)))
+leads {G} stands mark old new as_read given o left outcome is h =
+    subst (λ (x : Given). GrowsAnswering stands mark old new (λ seen answered list. LeadsTo x (point_at o seen (mark old)) answered outcome (point_at left list (mark new)))) is h
+
+-- a row of what is given, without the gate
+pub leads_unmoved : {G : Type 0} (stands : G → List Entry → Type 0) (mark : G → Mark) (gate : G) (as_read given : Given) (o left : Open) (outcome : Outcome) → as_read ≡ given
+    → ((list : List Entry) → LeadsTo as_read (point_at o list (mark gate)) [] outcome (point_at left list (mark gate)))
+    → GrowsAnswering stands mark gate gate (λ seen answered list. LeadsTo given (point_at o seen (mark gate)) answered outcome (point_at left list (mark gate)))
+leads_unmoved {G} stands mark gate as_read given o left outcome is h =
+    leads stands mark gate gate as_read given o left outcome is
+    (unmoved stands mark gate gate (λ seen answered list used. LeadsTo as_read (point_at o seen (mark gate)) answered outcome (point_at left list used)) refl h)
 
 -- ---- before an accepted CONNECT
 

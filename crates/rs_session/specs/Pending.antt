@@ -30,6 +30,10 @@ IsChange given operation =
     (p : Publish) × (topic : List ℕ) × (given.input ≡ Whole (packet.Publish p)) × (may_be_announced p ≡ true) × (p.topic ≡ Ok topic)
     × (change p topic given.now ≡ Some operation)
 
+-- its change may be announced
+abbrev pub HasChange : Given → Type 0
+HasChange given = (operation : Operation) × IsChange given operation
+
 -- the changes are those of the first of these, one for each
 abbrev pub AreChanges : List Given → List Operation → Type 0
 AreChanges givens [] = Unit {0}

@@ -16,7 +16,7 @@ impl Input {
     /// The change of a publication that may be announced, of copies that share the bytes; `now` is its time, in seconds. Such a one is a
     /// PUBLISH with RETAIN 1, of QoS 0 or 1, with a topic and no alias. It needs nothing of the session but that it goes on. None also
     /// if memory is refused.
-    pub fn change(&self, alloc: Global, now: u64) -> Option<Operation>
+    pub(crate) fn change(&self, alloc: Global, now: u64) -> Option<Operation>
         ensures change { IfSome result (λ operation. IsChange (given_at self.now now) operation) }
         ensures none_sweeps { IfSome result (λ operation. is_sweep operation ≡ false) }
     {

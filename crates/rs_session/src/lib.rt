@@ -14,6 +14,7 @@
 
 mod ahead;
 mod gate;
+mod incoming;
 mod law;
 mod local;
 mod open;
@@ -23,6 +24,7 @@ mod session;
 mod subscriptions;
 
 pub use gate::Gate;
+pub use incoming::Incoming;
 pub use law::{limits_kept, lists_grow, replay_of_run, sent_of_run, stored_of_run};
 pub use local::LocalGate;
 pub use phase::{Closing, Input, Step};

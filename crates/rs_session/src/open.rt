@@ -5,21 +5,21 @@ mod publish;
 mod subscribe;
 mod unsubscribe;
 
-ghost use Rattle.std.specs.Prelude.{◌≡◌, ◌≢◌, ℕ, List, IfSome};
+ghost use Rattle.std.specs.Prelude.{◌≡◌, ◌≢◌, ℕ, List};
 ghost use Rattle.rs_message.specs.declared.entry.Entry.{Entry};
 ghost use Rattle.rs_packet.specs.declared.packet.Publish.{Publish};
 ghost use Rattle.rs_session.specs.Gate.{GrowsAnswering};
-ghost use Rattle.rs_session.specs.Points.{given_at, point_at};
-ghost use Rattle.rs_session.specs.Pending.{IsChange, LeavesPending};
+ghost use Rattle.rs_session.specs.Points.{point_at};
+ghost use Rattle.rs_session.specs.Pending.{LeavesPending};
 ghost use Rattle.rs_session.specs.Steps.{IsUnsent, NoSerialUsed};
-ghost use Rattle.rs_session.specs.Table.{LeadsTo, open_for};
+ghost use Rattle.rs_session.specs.Table.{LeadsTo, fault_reason, open_for};
 
 use crate::gate::Gate;
+use crate::incoming::Incoming;
 use crate::phase::Input;
 use crate::reason::ReasonCode;
 use crate::subscriptions::Subscriptions;
-use rs_message::Operation;
-use rs_packet::{Packet, Reply};
+use rs_packet::{Packet, PacketFault, Reply};
 use rs_window::{Inbound, Window};
 use std::alloc::Global;
 
@@ -46,28 +46,32 @@ pub enum Outcome {
 }
 
 impl Open {
-    /// Handles a packet, and says what it leads to. `change` is its change, if that was made before, and `now` is in seconds.
-    pub fn handle<G: Gate>(
-        &mut self,
-        alloc: Global,
-        gate: &mut G,
-        packet: Packet,
-        change: Option<Operation>,
-        now: u64,
-    ) -> Outcome
-        requires { IfSome change (λ operation. IsChange (given_at (Input.Whole packet) now) operation) }
+    /// Handles an input, and says what it leads to.
+    pub fn handle<G: Gate>(&mut self, alloc: Global, gate: &mut G, incoming: Incoming) -> Outcome
         ensures row { GrowsAnswering G.stands G.mark gate.old gate.new (λ seen answered list.
-            LeadsTo (given_at (Input.Whole packet) now) (point_at self.old seen (G.mark gate.old)) answered result
+            LeadsTo incoming (point_at self.old seen (G.mark gate.old)) answered result
             (point_at self.new list (G.mark gate.new))) }
-        ensures pending { LeavesPending (given_at (Input.Whole packet) now) (G.pending gate.old) (G.pending gate.new)
+        ensures pending { LeavesPending incoming (G.pending gate.old) (G.pending gate.new)
             (IsUnsent (G.mark gate.old) (G.mark gate.new) result) }
-        ensures certain { (p : Publish) → packet ≡ Packet.Publish p
+        ensures certain { (p : Publish) → incoming.input ≡ Input.Whole (Packet.Publish p)
             → NoSerialUsed (G.stands gate.old) (G.pending gate.old) (G.mark gate.old) (G.mark gate.new)
             → result ≢ Outcome.Closes ReasonCode.QuotaExceeded }
     {
+        let Incoming {
+            input,
+            time: now,
+            change,
+        } = incoming;
+        let packet = match input {
+            Input::Whole(packet) => packet,
+            Input::Broken(fault) => return Outcome::Closes(fault_reason(fault)),
+        };
         match packet {
             Packet::Connect(_c) => Outcome::Closes(ReasonCode::ProtocolError),
-            Packet::Publish(p) => self.publish(alloc, gate, p, change, now),
+            Packet::Publish(p) => match self.outcome_before(&p) {
+                Some(outcome) => outcome,
+                None => self.hand_over(alloc, gate, p, change, now),
+            },
             Packet::Puback(a) => self.puback(a),
             Packet::Pubrec(a) => self.pubrec(a),
             Packet::Pubrel(a) => self.pubrel(a),
@@ -77,5 +81,18 @@ impl Open {
             Packet::Pingreq => Outcome::Replies(Some(Reply::Pingresp)),
             Packet::Disconnect(_code) => Outcome::Leaves,
         }
+    }
+}
+
+/// The Reason Code of a DISCONNECT for a fault: section 4.13.
+pub fn fault_reason(fault: PacketFault) -> ReasonCode
+    ensures { result ≡ fault_reason fault }
+{
+    match fault {
+        PacketFault::Malformed => ReasonCode::MalformedPacket,
+        PacketFault::Protocol => ReasonCode::ProtocolError,
+        PacketFault::TooLarge => ReasonCode::PacketTooLarge,
+        PacketFault::Version => ReasonCode::ProtocolError,
+        PacketFault::NoMemory => ReasonCode::QuotaExceeded,
     }
 }

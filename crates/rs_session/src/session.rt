@@ -9,7 +9,7 @@ ghost use Rattle.rs_packet.specs.declared.packet.Packet.{Packet};
 ghost use Rattle.rs_packet.specs.declared.packet.Publish.{Publish};
 ghost use Rattle.rs_packet.specs.declared.reply.Reply.{Reply};
 ghost use Rattle.rs_message.specs.Messages.{is_sweep};
-ghost use Rattle.rs_session.specs.Pending.{IsChange, LeavesPending};
+ghost use Rattle.rs_session.specs.Pending.{LeavesPending};
 ghost use Rattle.rs_session.specs.Gate.{Grows, GrowsAnswering};
 ghost use Rattle.rs_session.specs.Points.{given_at};
 ghost use Rattle.rs_session.specs.Reasons.{reason_value};
@@ -17,10 +17,11 @@ ghost use Rattle.rs_session.specs.Run.{replies_left};
 ghost use Rattle.rs_session.specs.State.{session_at, state_of, due_of, gate_of, closing_of, is_open, step_of, fresh, ended, waiting_of, within, IsGiven, IsReplayed};
 ghost use Rattle.rs_session.specs.declared.open.Open.{Open};
 ghost use Rattle.rs_session.specs.Steps.{NoSerialUsed};
-ghost use Rattle.rs_session.specs.Table.{Answers, due_for, fault_reason, state_after};
+ghost use Rattle.rs_session.specs.Table.{Answers, due_for, state_after};
 
 use crate::gate::Gate;
-use crate::open::Outcome;
+use crate::incoming::Incoming;
+use crate::open::{Outcome, fault_reason};
 use crate::phase::{Closing, Input, Phase, Step};
 use crate::reason::ReasonCode;
 use rs_message::Operation;
@@ -71,35 +72,7 @@ impl<G: Gate> Session<G> {
             (G.mark (gate_of self.new))
             → (state_of self.new).phase ≢ Phase.Ended (Closing.ByServer (reason_value ReasonCode.QuotaExceeded)) }
     {
-        self.on_packet_with(packet, None, now)
-    }
-
-    /// Handles a packet as `on_packet` does, whose change may have been made before.
-    fn on_packet_with(&mut self, packet: Packet, change: Option<Operation>, now: u64) -> Step
-        requires due { due_of self.old ≡ None }
-        requires change { IfSome change (λ operation. IsChange (given_at (Input.Whole packet) now) operation) }
-        ensures row { GrowsAnswering G.stands G.mark (gate_of self.old) (gate_of self.new) (λ seen answered list.
-            Answers (given_at (Input.Whole packet) now) (session_at G.mark self.old seen) answered (due_of self.new)
-            (session_at G.mark self.new list)) }
-        ensures step { result ≡ step_of (state_of self.new).phase }
-        ensures over { (closing : Closing) → (state_of self.old).phase ≡ Phase.Ended closing → self.new ≡ self.old }
-        ensures pending { LeavesPending (given_at (Input.Whole packet) now) (G.pending (gate_of self.old)) (G.pending (gate_of self.new))
-            ((G.mark (gate_of self.new) ≡ G.mark (gate_of self.old)) × (step_of (state_of self.new).phase ≡ Step.End)) }
-        ensures certain { (p : Publish) (o : Open) → packet ≡ Packet.Publish p → (state_of self.old).phase ≡ Phase.Open o
-            → NoSerialUsed (G.stands (gate_of self.old)) (G.pending (gate_of self.old)) (G.mark (gate_of self.old))
-            (G.mark (gate_of self.new))
-            → (state_of self.new).phase ≢ Phase.Ended (Closing.ByServer (reason_value ReasonCode.QuotaExceeded)) }
-    {
-        match &mut self.phase {
-            Phase::Before => self.first_packet(packet),
-            Phase::Open(open) => {
-                let maximum = open.window.packet_maximum();
-                let outcome = open.handle(self.alloc, &mut self.gate, packet, change, now);
-                self.conclude(outcome, maximum);
-            }
-            Phase::Ended(_) => {}
-        }
-        self.step()
+        self.on_input(Incoming::new(Input::Whole(packet), now))
     }
 
     /// Handles a fault instead of a packet, once the reply that was due is taken. The session ends: with a DISCONNECT and its
@@ -125,27 +98,33 @@ impl<G: Gate> Session<G> {
         self.step()
     }
 
-    /// Handles a packet, or a fault in its place, as `on_packet` or `on_fault` does. `change` is the change of the packet, if it was made
-    /// before ([`Input::change`]). If changes were expected and this has the first of them, the rest is expected then, or nothing is, or
-    /// nothing was sent and the session has ended.
-    pub fn on_input(&mut self, input: Input, change: Option<Operation>, now: u64) -> Step
+    /// Handles a packet, or a fault in its place, as `on_packet` or `on_fault` does, with its change, if that was made before. If changes
+    /// were expected and this has the first of them, the rest is expected then, or nothing is, or nothing was sent and the session has
+    /// ended.
+    pub fn on_input(&mut self, incoming: Incoming) -> Step
         requires due { due_of self.old ≡ None }
-        requires change { IfSome change (λ operation. IsChange (given_at input now) operation) }
         ensures row { GrowsAnswering G.stands G.mark (gate_of self.old) (gate_of self.new) (λ seen answered list.
-            Answers (given_at input now) (session_at G.mark self.old seen) answered (due_of self.new) (session_at G.mark self.new list)) }
+            Answers incoming (session_at G.mark self.old seen) answered (due_of self.new) (session_at G.mark self.new list)) }
         ensures step { result ≡ step_of (state_of self.new).phase }
         ensures over { (closing : Closing) → (state_of self.old).phase ≡ Phase.Ended closing → self.new ≡ self.old }
-        ensures pending { LeavesPending (given_at input now) (G.pending (gate_of self.old)) (G.pending (gate_of self.new))
+        ensures pending { LeavesPending incoming (G.pending (gate_of self.old)) (G.pending (gate_of self.new))
             ((G.mark (gate_of self.new) ≡ G.mark (gate_of self.old)) × (step_of (state_of self.new).phase ≡ Step.End)) }
-        ensures certain { (p : Publish) (o : Open) → input ≡ Input.Whole (Packet.Publish p) → (state_of self.old).phase ≡ Phase.Open o
+        ensures certain { (p : Publish) (o : Open) → incoming.input ≡ Input.Whole (Packet.Publish p)
+            → (state_of self.old).phase ≡ Phase.Open o
             → NoSerialUsed (G.stands (gate_of self.old)) (G.pending (gate_of self.old)) (G.mark (gate_of self.old))
             (G.mark (gate_of self.new))
             → (state_of self.new).phase ≢ Phase.Ended (Closing.ByServer (reason_value ReasonCode.QuotaExceeded)) }
     {
-        match input {
-            Input::Whole(packet) => self.on_packet_with(packet, change, now),
-            Input::Broken(fault) => self.on_fault(fault),
+        match &mut self.phase {
+            Phase::Before => self.first_input(incoming),
+            Phase::Open(open) => {
+                let maximum = open.window.packet_maximum();
+                let outcome = open.handle(self.alloc, &mut self.gate, incoming);
+                self.conclude(outcome, maximum);
+            }
+            Phase::Ended(_) => {}
         }
+        self.step()
     }
 
     /// The next reply. `now` is the time of the input, in seconds. None if no reply is left. Each call that gives a reply
@@ -289,17 +268,4 @@ fn within(maximum: u32, reply: Reply) -> Option<Reply>
         return Some(reply);
     }
     None
-}
-
-/// The Reason Code of a DISCONNECT for a fault: section 4.13.
-fn fault_reason(fault: PacketFault) -> ReasonCode
-    ensures { result ≡ fault_reason fault }
-{
-    match fault {
-        PacketFault::Malformed => ReasonCode::MalformedPacket,
-        PacketFault::Protocol => ReasonCode::ProtocolError,
-        PacketFault::TooLarge => ReasonCode::PacketTooLarge,
-        PacketFault::Version => ReasonCode::ProtocolError,
-        PacketFault::NoMemory => ReasonCode::QuotaExceeded,
-    }
 }

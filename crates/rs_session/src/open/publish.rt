@@ -19,31 +19,8 @@ use rs_topic::{TopicFault, TopicName};
 use std::alloc::{AllocError, Global};
 
 impl Open {
-    pub(super) fn publish<G: Gate>(
-        &mut self,
-        alloc: Global,
-        gate: &mut G,
-        p: Publish,
-        change: Option<Operation>,
-        now: u64,
-    ) -> Outcome
-        requires { IfSome change (λ operation. IsChange (given_at (Input.Whole (Packet.Publish p)) now) operation) }
-        ensures row { GrowsAnswering G.stands G.mark gate.old gate.new (λ seen answered list.
-            LeadsTo (given_at (Input.Whole (Packet.Publish p)) now) (point_at self.old seen (G.mark gate.old)) answered result
-            (point_at self.new list (G.mark gate.new))) }
-        ensures pending { LeavesPending (given_at (Input.Whole (Packet.Publish p)) now) (G.pending gate.old) (G.pending gate.new)
-            (IsUnsent (G.mark gate.old) (G.mark gate.new) result) }
-        ensures certain { NoSerialUsed (G.stands gate.old) (G.pending gate.old) (G.mark gate.old) (G.mark gate.new)
-            → result ≢ Outcome.Closes ReasonCode.QuotaExceeded }
-    {
-        match self.outcome_before(&p) {
-            Some(outcome) => outcome,
-            None => self.hand_over(alloc, gate, p, change, now),
-        }
-    }
-
     /// What a PUBLISH leads to by its topic alias, a topic that is not a name, or its identifier.
-    fn outcome_before(&self, p: &Publish) -> Option<Outcome>
+    pub(super) fn outcome_before(&self, p: &Publish) -> Option<Outcome>
         ensures { result ≡ outcome_before p.now self.now }
     {
         if p.alias.is_some() {
@@ -73,7 +50,7 @@ impl Open {
 
     /// Hands the change that a PUBLISH asks for to the store. It is made here, unless it was made before.
     #[tactic(auto, using(crate::proofs::Submitting::no_sweep))]
-    fn hand_over<G: Gate>(
+    pub(super) fn hand_over<G: Gate>(
         &mut self,
         alloc: Global,
         gate: &mut G,

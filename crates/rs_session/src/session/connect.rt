@@ -11,6 +11,7 @@ ghost use Rattle.rs_session.specs.declared.open.Open.{Open};
 
 use super::Session;
 use crate::gate::Gate;
+use crate::incoming::Incoming;
 use crate::open::Open;
 use crate::phase::{Closing, Input, Phase};
 use crate::reason::ReasonCode;
@@ -22,8 +23,22 @@ use rs_window::{Inbound, Window};
 use std::alloc::AllocError;
 
 impl<G: Gate> Session<G> {
+    /// The first input.
+    pub(super) fn first_input(&mut self, incoming: Incoming)
+        requires due { self.old.due ≡ None }
+        requires before { self.old.phase ≡ Phase.Before }
+        ensures row { AnswersWithoutGate incoming.input (state_of self.old) self.new.due (state_of self.new) }
+        ensures gate { self.new.gate ≡ self.old.gate }
+        ensures early { (p : Publish) → incoming.input ≡ Input.Whole (Packet.Publish p) → self.new.phase ≡ Phase.Ended Closing.Dropped }
+    {
+        match incoming.into_input() {
+            Input::Whole(packet) => self.first_packet(packet),
+            Input::Broken(fault) => self.first_fault(fault),
+        }
+    }
+
     /// The first packet, which has to be a CONNECT.
-    pub(super) fn first_packet(&mut self, packet: Packet)
+    fn first_packet(&mut self, packet: Packet)
         requires due { self.old.due ≡ None }
         requires before { self.old.phase ≡ Phase.Before }
         ensures row { AnswersWithoutGate (Input.Whole packet) (state_of self.old) self.new.due (state_of self.new) }

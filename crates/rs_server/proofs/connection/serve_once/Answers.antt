@@ -1,7 +1,7 @@
 use Rattle.std.proofs.Common.{◌≡◌, ◌∙◌, ◌∷◌, [], List, Option, Ok, Err, ap, sym, subst, arith, length}
 use Rattle.std.proofs.lemmas.List.{nil_from_length}
 use Rattle.rs_session.specs.Pending.{AreChanges}
-use Rattle.rs_session.specs.Points.{Given, given_at}
+use Rattle.rs_session.specs.Points.{Given}
 use Rattle.rs_session.specs.State.{gate_of}
 use Rattle.rs_server.specs.Counts.{inner_of}
 use Rattle.rs_server.specs.declared.connection.Served.{Served}
@@ -27,8 +27,8 @@ pub returns-in-Ok-clause-conversation : goal.returns-in-Ok-clause-conversation
 returns-in-Ok-clause-conversation g c = λ from read wrote told first changes talk.
     let planned = talks_planned g.G.Gate.stands g.G.Gate.mark g.G.Gate.pending _ _ from first _ _ _ c.args.planned.now.items c.plan.new.planned.items _ _ told _ _ _ c.plan.ensures.list c.plan.ensures.mark c.plan.ensures.state c.plan.ensures.plans (λ e. c.plan.ensures.pending (changes e)) talk in
     let rest = c.pop_front.new.self.items in
-    let given : Given = given_at c.next.inside.input c.next.inside.now in
-    let is : c.plan.new.planned.items ≡ given ∷ rest = c.in-Some.ensures.items ∙ ap (λ (x : Given). x ∷ rest) (sym c.next.view_is) in
+    let given : Given = c.in-Some.next in
+    let is : c.plan.new.planned.items ≡ given ∷ rest = c.in-Some.ensures.items in
     talks_exchange g.G.Gate.stands g.G.Gate.mark g.G.Gate.pending _ _ from first _ _ _ _ rest _ (Ok c.in-Ok.field-0) wrote (g.W.Write.contents (inner_of c.args.writer.now)) (g.W.Write.contents (inner_of c.make_exchange.new.writer)) given c.in-Ok.ensures.exchange
     (λ e. subst (λ (l : List Given). AreChanges l (g.G.Gate.pending (gate_of c.plan.new.session))) is (c.plan.ensures.pending (changes e))) c.in-Ok.ensures.pending
     (talks_equal from first _ _ _ c.plan.new.planned.items (given ∷ rest) _ is planned)
@@ -38,8 +38,8 @@ pub returns-in-Err-make_exchange-clause-conversation :
 returns-in-Err-make_exchange-clause-conversation g c = λ from read wrote told first changes talk.
     let planned = talks_planned g.G.Gate.stands g.G.Gate.mark g.G.Gate.pending _ _ from first _ _ _ c.args.planned.now.items c.plan.new.planned.items _ _ told _ _ _ c.plan.ensures.list c.plan.ensures.mark c.plan.ensures.state c.plan.ensures.plans (λ e. c.plan.ensures.pending (changes e)) talk in
     let rest = c.pop_front.new.self.items in
-    let given : Given = given_at c.next.inside.input c.next.inside.now in
-    let is : c.plan.new.planned.items ≡ given ∷ rest = c.in-Some.ensures.items ∙ ap (λ (x : Given). x ∷ rest) (sym c.next.view_is) in
+    let given : Given = c.in-Some.next in
+    let is : c.plan.new.planned.items ≡ given ∷ rest = c.in-Some.ensures.items in
     let wrote_first = g.W.Write.contents (inner_of c.args.writer.now) in
     let wrote_last = g.W.Write.contents (inner_of c.make_exchange.new.writer) in
     talks_as (Unit {0}) (Option Served) c.in-Err-make_exchange.fault from first _ _ _ _ _ _ wrote wrote_last

@@ -1,6 +1,6 @@
 use Rattle.std.proofs.Common.{◌∙◌, ap, arith, Bool, Ok, subst, sym}
 use Rattle.std.specs.List.{All}
-use Rattle.rs_server.specs.Conversation.{HasChange}
+use Rattle.rs_session.specs.Pending.{HasChange}
 use Rattle.rs_server.proofs.Planning.{all_more, but_last_all, but_last_next, next_few, plans_more, plans_none}
 use Rattle.rs_server.proofs.plan.look_ahead.Goals as goal
 

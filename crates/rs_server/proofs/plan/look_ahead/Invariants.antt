@@ -1,7 +1,8 @@
 -- What is planned are the next inputs, at most one for each round, and all have changes if all but the last had.
 use Rattle.std.proofs.Common.{◌≤◌, max, length}
 use Rattle.std.specs.List.{All}
-use Rattle.rs_server.specs.Conversation.{AllButLastHaveChanges, HasChange, Plans}
+use Rattle.rs_session.specs.Pending.{HasChange}
+use Rattle.rs_server.specs.Conversation.{AllButLastHaveChanges, Plans}
 use Rattle.rs_server.proofs.plan.look_ahead.Given as goal
 
 abbrev pub invariant-next : goal.invariant-next

@@ -1,8 +1,7 @@
-use Rattle.std.proofs.Common.{◌≡◌, ◌<◌, ◌-◌, ◌∙◌, ℕ, ap, arith, length, get_or, subst, sym}
+use Rattle.std.proofs.Common.{◌≡◌, ◌<◌, ◌-◌, ◌∙◌, ℕ, ap, arith, length, get_or}
 use Rattle.std.proofs.lemmas.Bool.Decides.{nat_tests}
-use Rattle.rs_session.specs.Points.{Given, given_at}
-use Rattle.rs_server.specs.Conversation.{HasChange}
-use Rattle.rs_server.proofs.Planning.{all_with_last, has_change}
+use Rattle.rs_session.specs.Points.{Given}
+use Rattle.rs_server.proofs.Planning.{all_with_last}
 use Rattle.rs_server.proofs.plan.may_go_on.Goals as goal
 
 pub returns : goal.returns
@@ -12,5 +11,4 @@ returns c = λ some front.
     let there : 0 < length items = grind (arith, nat_tests, c.is_empty.ensures, c.if-is_empty.false, c.args.planned.now.ok.0) in
     let index : c.len.result - 1 ≡ length items - 1 = omega (arith, c.len.ensures, c.args.planned.now.ok.0) in
     let is : last ≡ get_or items (length items - 1) last = c.index-last.ensures ∙ ap (λ (n : ℕ). get_or items n last) index in
-    let change : HasChange last = subst HasChange c.last.view_is (has_change (given_at c.last.inside.input c.last.inside.now) c.last.inside.change (sym c.is_some.ensures ∙ some) c.last.invariant) in
-    all_with_last items last there is change front
+    all_with_last items last there is (c.has_change.ensures some) front

@@ -1,8 +1,7 @@
-use Rattle.std.proofs.Common.{◌≡◌, ◌∙◌, [], List, arith, length, subst, sym}
+use Rattle.std.proofs.Common.{◌∙◌, arith, subst, sym}
 use Rattle.rs_packet.specs.Prefixes.{IsMore}
 use Rattle.rs_session.specs.State.{gate_of}
-use Rattle.rs_server.specs.Conversation.{AllButLastHaveChanges}
-use Rattle.rs_server.proofs.Planning.{announced, expected_planned, none_planned, plans_join, plans_none}
+use Rattle.rs_server.proofs.Planning.{announced, expected_planned, none_planned, plans_join}
 use Rattle.rs_server.proofs.plan.plan.Goals as goal
 
 pub returns-clause-plans : goal.returns-clause-plans

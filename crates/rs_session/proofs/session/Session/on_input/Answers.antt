@@ -1,36 +1,45 @@
-use Rattle.std.proofs.Common.{◌≡◌, subst, sym}
-use Rattle.std.specs.Prelude.{IfSome}
-use Rattle.rs_session.specs.declared.phase.Input.{Input}
-use Rattle.rs_session.specs.State.{gate_of, state_of, step_of}
-use Rattle.rs_session.specs.declared.phase.Step.TheVariants.{End}
-use Rattle.rs_session.specs.Points.{given_at, point_at}
-use Rattle.rs_session.specs.Table.{Answers}
-use Rattle.rs_session.proofs.Rows.{Grows-weaker}
-use Rattle.rs_session.proofs.Expecting.{by_fault}
-use Rattle.rs_session.specs.Pending.{IsChange, LeavesPending}
+use Rattle.std.proofs.Common.{refl, sym, ap, ◌∙◌}
+use Rattle.rs_session.specs.State.{session_at, gate_of, state_of, step_of}
+use Rattle.rs_session.specs.declared.phase.Phase.{Phase}
+use Rattle.rs_session.proofs.Rows.{stays, took, over, after_same}
+use Rattle.rs_session.proofs.Expecting.{stays_pending, took_pending}
+use Rattle.rs_session.proofs.Certain.{open_before, open_ended, took_certain}
 use Rattle.rs_session.proofs.session.Session.on_input.Goals as goal
+use Rattle.rs_session.proofs.session.Session.on_input.Goals.{in-Before, in-Open, in-Ended}
 
-pub returns-in-Broken-clause-row : goal.returns-in-Broken-clause-row
-returns-in-Broken-clause-row g c =
+pub returns-clause-row : goal.returns-clause-row
+returns-clause-row g c =
     let old = c.args.self.now in
-    let new = c.on_fault.new.self in
-    Grows-weaker _ _ _ _
-    (λ seen list h. (h.0, h.1, subst (λ (i : Input). Answers (given_at i c.args.now) (point_at (state_of old) seen (g.G.Gate.mark old.gate)) h.0 new.due (point_at (state_of new) list (g.G.Gate.mark new.gate))) (sym c.in-Broken.is) h.2))
-    (c.on_fault.ensures.row c.args.now)
+    let mark = g.G.Gate.mark (gate_of old) in
+    elim c.match-self.branch [
+      | in-Before w ↦ stays g.G.Gate.stands g.G.Gate.mark c.args.incoming old w.first_input.new.self c.match-self.self w.self-is w.first_input.ensures.gate (λ list. w.first_input.ensures.row c.args.incoming.now mark list)
+      | in-Open w ↦
+          took g.G.Gate.stands g.G.Gate.mark c.args.incoming old w.conclude.new.self c.match-self.self w.in-Open.open w.handle-outcome.new.self w.handle-outcome.new.gate w.handle-outcome.result _ w.self-is w.conclude.ensures.gate w.in-Open.is w.packet_maximum-maximum.ensures w.conclude.ensures.due
+          (w.conclude.ensures.state w.handle-outcome.new.self refl ∙ after_same w.handle-outcome.result _ (state_of old) w.handle-outcome.new.self refl)
+          w.handle-outcome.ensures.row
+      | in-Ended w ↦ stays g.G.Gate.stands g.G.Gate.mark c.args.incoming old old c.match-self.self w.self-is refl (λ list. over _ (session_at g.G.Gate.mark old list) _ _ w.in-Ended.is c.requires.due)
+    ]
 
-pub returns-in-Whole-clause-pending : goal.returns-in-Whole-clause-pending
-returns-in-Whole-clause-pending g c =
+pub returns-clause-pending : goal.returns-clause-pending
+returns-clause-pending g c =
     let old = c.args.self.now in
-    let new = c.on_packet_with.new.self in
-    subst (λ (i : Input). LeavesPending (given_at i c.args.now) (g.G.Gate.pending (gate_of old)) (g.G.Gate.pending (gate_of new)) ((g.G.Gate.mark (gate_of new) ≡ g.G.Gate.mark (gate_of old)) × (step_of (state_of new).phase ≡ End))) (sym c.in-Whole.is) c.on_packet_with.ensures.pending
+    elim c.match-self.branch [
+      | in-Before w ↦ stays_pending g.G.Gate.pending g.G.Gate.mark c.args.incoming old w.first_input.new.self c.match-self.self w.self-is w.first_input.ensures.gate (λ p e. ap (λ (x : Phase). step_of x) (w.first_input.ensures.early p e))
+      | in-Open w ↦
+          took_pending g.G.Gate.pending g.G.Gate.mark c.args.incoming old w.conclude.new.self c.match-self.self w.handle-outcome.new.self (state_of old) w.handle-outcome.new.gate w.handle-outcome.result w.self-is w.conclude.ensures.gate
+          (w.conclude.ensures.state w.handle-outcome.new.self refl ∙ after_same w.handle-outcome.result _ (state_of old) w.handle-outcome.new.self refl)
+          w.handle-outcome.ensures.pending
+      | in-Ended w ↦ stays_pending g.G.Gate.pending g.G.Gate.mark c.args.incoming old old c.match-self.self w.self-is refl (λ p e. ap (λ (x : Phase). step_of x) w.in-Ended.is)
+    ]
 
-pub returns-in-Broken-clause-pending : goal.returns-in-Broken-clause-pending
-returns-in-Broken-clause-pending g c =
+pub returns-clause-certain : goal.returns-clause-certain
+returns-clause-certain g c = λ p o is was.
     let old = c.args.self.now in
-    let new = c.on_fault.new.self in
-    let Unused = (g.G.Gate.mark (gate_of new) ≡ g.G.Gate.mark (gate_of old)) × (step_of (state_of new).phase ≡ End) in
-    subst (λ (i : Input). LeavesPending (given_at i c.args.now) (g.G.Gate.pending (gate_of old)) (g.G.Gate.pending (gate_of new)) Unused) (sym c.in-Broken.is)
-    (by_fault c.in-Broken.fault c.args.now (g.G.Gate.pending (gate_of old)) (g.G.Gate.pending (gate_of new)) Unused c.on_fault.ensures.pending)
-
-pub on_packet_with-requires-clause-change : goal.on_packet_with-requires-clause-change
-on_packet_with-requires-clause-change g c = subst (λ (i : Input). IfSome c.args.change (λ operation. IsChange (given_at i c.args.now) operation)) c.in-Whole.is c.requires.change
+    elim c.match-self.branch [
+      | in-Before w ↦ absurd (open_before o (sym was ∙ w.in-Before.is))
+      | in-Open w ↦
+          took_certain g.G.Gate.stands g.G.Gate.pending g.G.Gate.mark old w.conclude.new.self c.match-self.self w.handle-outcome.new.self (state_of old) w.handle-outcome.new.gate w.handle-outcome.result w.self-is w.conclude.ensures.gate
+          (w.conclude.ensures.state w.handle-outcome.new.self refl ∙ after_same w.handle-outcome.result _ (state_of old) w.handle-outcome.new.self refl)
+          (w.handle-outcome.ensures.certain p is)
+      | in-Ended w ↦ absurd (open_ended o _ (sym was ∙ w.in-Ended.is))
+    ]
