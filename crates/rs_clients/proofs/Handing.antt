@@ -40,4 +40,4 @@ accepted limit outcome place serial seen list told legal there one prefix same a
 pub hands_nothing_on : (old new : Mark) → new ≡ old → HandsOn old [] new
 hands_nothing_on old new same =
     let P : Mark → Type 0 = λ m. HandsOn old [] m in
-    subst P (sym same) (record { place = refl; next = tt; serial = omega arith; sent = nothing_sent old.sent })
+    subst P (sym same) (record { place = refl; alone = refl; next = tt; serial = omega arith; sent = nothing_sent old.sent })

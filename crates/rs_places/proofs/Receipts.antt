@@ -177,7 +177,7 @@ same_mark old new place serial sent =
 -- one serial is used at most
 pub uses_one : (old new : Line) (operation : Operation) → new.place ≡ old.place → old.serial < 2 ^ 64 → (new.serial ≡ next_serial old.serial) ⊎ IsOther old.ahead operation → (IsOther old.ahead operation → new.serial ≡ old.serial) → Uses (mark_of old) (mark_of new)
 uses_one old new operation place small (inl next) same =
-    record { place = place; no_lower = omega (arith, next, small); no_higher = omega (arith, next) }
+    record { place = place; alone = refl; no_lower = omega (arith, next, small); no_higher = omega (arith, next) }
 uses_one old new operation place small (inr other) same =
     let is = same other in
-    record { place = place; no_lower = omega (arith, is); no_higher = omega (arith, is) }
+    record { place = place; alone = refl; no_lower = omega (arith, is); no_higher = omega (arith, is) }

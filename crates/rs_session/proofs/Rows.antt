@@ -290,7 +290,7 @@ not_handed p topic now at e t r =
       taken = (taken p at.state e).0;
       is_topic = t;
       changes = ap (λ (retain : Bool). operation_of retain topic (message_of p now)) r;
-      one_used = record { place = refl; no_lower = omega arith; no_higher = none_used at.mark.alone at.mark.serial };
+      one_used = record { place = refl; alone = refl; no_lower = omega arith; no_higher = none_used at.mark.alone at.mark.serial };
       no_other = nothing_new operation at.mark at.seen;
       sent = inl (nothing_sent at.mark.sent);
     }

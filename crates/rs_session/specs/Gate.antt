@@ -47,9 +47,11 @@ abbrev pub IsNextAtMost : Bool → ℕ → ℕ → Type 0
 IsNextAtMost true old new = new ≤ old + 1
 IsNextAtMost false old new = Unit {0}
 
--- the place stays, and at most one serial is used; if other gates use serials of the place, the new one may be behind theirs
+-- The place stays, and whether the gate is alone there, and at most one serial is used. If other gates use serials of the place, the new
+-- one may be behind theirs.
 pub record Uses (old new : Mark) : Type 0 where
   pub place : new.place ≡ old.place
+  pub alone : new.alone ≡ old.alone
   pub no_lower : old.serial ≤ new.serial
   pub no_higher : IsNextAtMost old.alone old.serial new.serial
 
