@@ -11,13 +11,13 @@ ghost use Rattle.rs_places.specs.Serving.{IsServedAt};
 use crate::client_gate::ClientGate;
 use rs_intake::LineName;
 use rs_places::{Connection, Turn, TurnEnd};
-use rs_server::{Clock, ConnectionId, Counted, Refusals, ServeFault, Served, serve_counted};
+use rs_server::{Clock, ConnectionId, Counted, ServeFault, Served, Tally, serve_counted};
 use std::alloc::Global;
 use std::io::{Read, Write};
 use std::sync::Wait;
 
 /// Serves one connection over a gate of one of several clients of a place, as the place's connection of this `number`: how it ends, the
-/// gate, of which nothing is pending, and what it refused. `connection` says what that of [`serve_place`](rs_places::serve_place) says,
+/// gate, of which nothing is pending, and what was counted. `connection` says what that of [`serve_place`](rs_places::serve_place) says,
 /// but for what was sent, which such a gate does not give: so nothing is said of `publications` and of a tail.
 ///
 /// # Errors
@@ -31,7 +31,7 @@ pub fn serve_client<T: Wait, N: LineName, H: Wait + Copy, R: Read, W: Write, C: 
     gate: ClientGate<N, H>,
     number: u64,
     clock: &mut C,
-) -> (Result<Served, ServeFault>, ClientGate<N, H>, Refusals)
+) -> (Result<Served, ServeFault>, ClientGate<N, H>, Tally)
     requires reader_can_rise { failures_of reader.old < 2 ^ 64 - 1 }
     requires writer_can_rise { failures_of writer.old < 2 ^ 64 - 1 }
     ensures connection { IsServedAt N.limit (start (assigned_of gate.mark.place number) gate.known gate.mark) gate.pending
@@ -50,10 +50,10 @@ pub fn serve_client<T: Wait, N: LineName, H: Wait + Copy, R: Read, W: Write, C: 
         place: gate.place(),
         number,
     };
-    let (served, gate, refusals) = serve_counted(rt, alloc, reader, writer, gate, id, clock);
+    let (served, gate, tally) = serve_counted(rt, alloc, reader, writer, gate, id, clock);
     let mut gate = gate;
     gate.hand_on();
-    (served, gate, refusals)
+    (served, gate, tally)
 }
 
 /// Serves one connection, and gives it back to the turn, with how it ended.
@@ -81,7 +81,7 @@ fn serve_one<T: Turn + Drop, N: LineName, H: Wait + Copy>(
     let mut reader = Counted::new(input);
     let mut writer = Counted::new(output);
     // However it ended, the client goes on.
-    let (served, gate, refusals) = serve_client(
+    let (served, gate, tally) = serve_client(
         rt,
         alloc,
         &mut reader,
@@ -95,7 +95,7 @@ fn serve_one<T: Turn + Drop, N: LineName, H: Wait + Copy>(
         output: writer,
         clock,
     };
-    turn.end(connection, served, refusals);
+    turn.end(connection, served, tally);
     gate
 }
 

@@ -53,7 +53,15 @@ fn serve_one<H: Wait>(
     let mut clock = clock(alloc, connection.moments.as_slice())?;
     let mut reader = Counted::new(Pieces::new(connection.sent.as_slice(), cut));
     let mut writer = Counted::new(Replies::new(alloc));
-    let (served, store) = serve(rt, alloc, &mut reader, &mut writer, store, id, &mut clock);
+    let (served, store, _handled) = serve(
+        rt,
+        alloc,
+        &mut reader,
+        &mut writer,
+        store,
+        id,
+        &mut clock,
+    );
     Ok((difference(connection, &writer.into_inner(), served), store))
 }
 

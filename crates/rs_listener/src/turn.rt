@@ -8,7 +8,7 @@ use crate::full_log::FullLog;
 use crate::refused::Refused;
 use log::{Log, info};
 use rs_places::{Connection, Turn};
-use rs_server::{Counted, Refusals, ServeFault, Served};
+use rs_server::{Counted, ServeFault, Served, Tally};
 use rs_sockets::{Accepted, FromClient, Listener, SystemClock, ToClient, abandon, close};
 use std::alloc::Global;
 use std::fmt;
@@ -19,14 +19,11 @@ use std::net::SocketAddr;
 use std::sync::Arc;
 use std::time::Clock;
 
-/// The system's time, and what the log needs of its connection. With each packet it looks whether the log has to tell of a full store.
+/// The system's time. With each packet it looks whether the log has to tell of a full store.
 #[derive(Drop)]
 pub(crate) struct ConnectionClock<H: Clock> {
     rt: H,
     clock: SystemClock,
-    // How often the time was asked for: once for each packet.
-    packets: u64,
-    id: LoggedConnection,
     // None if it has too many owners.
     full: Option<Arc<FullLog>>,
 }
@@ -53,7 +50,6 @@ impl Display for LoggedConnection {
 impl<H: Clock + Log> rs_server::Clock for ConnectionClock<H> {
     /// The time, in whole seconds since 1970.
     fn now(&mut self) -> u64 {
-        self.packets = self.packets.saturating_add(1);
         let time = self.clock.now(&self.rt);
         if let Some(full) = &self.full {
             full.look(&self.rt, time);
@@ -74,6 +70,8 @@ pub(crate) struct ListenTurn<H: Clock> {
     place: u8,
     // That of the last connection that it gave, as the place numbers them.
     number: u64,
+    // The connection that it gave and did not take back.
+    given: Option<LoggedConnection>,
 }
 
 impl<H: Clock> ListenTurn<H> {
@@ -94,6 +92,7 @@ impl<H: Clock> ListenTurn<H> {
             clock: SystemClock::new(),
             place,
             number: before,
+            given: None,
         }
     }
 }
@@ -122,6 +121,7 @@ impl<H: Clock + Log + Copy + Send> Turn for ListenTurn<H> {
             number: self.number,
             peer,
         };
+        self.given = Some(id);
         let mut clock = replace(&mut self.clock, SystemClock::new());
         let time = clock.now(&self.rt);
         info!(self.rt; target: "rstored", "{time} {id}: connected");
@@ -131,8 +131,6 @@ impl<H: Clock + Log + Copy + Send> Turn for ListenTurn<H> {
             clock: ConnectionClock {
                 rt: self.rt,
                 clock,
-                packets: 0,
-                id,
                 full: Arc::try_clone(&self.full).ok(),
             },
         })
@@ -143,7 +141,7 @@ impl<H: Clock + Log + Copy + Send> Turn for ListenTurn<H> {
         &mut self,
         connection: Connection<Counted<FromClient>, Counted<ToClient>, ConnectionClock<H>>,
         served: Result<Served, ServeFault>,
-        refusals: Refusals,
+        tally: Tally,
     )
         ensures { TakesBack none_given
             (record {
@@ -165,8 +163,6 @@ impl<H: Clock + Log + Copy + Send> Turn for ListenTurn<H> {
         let ConnectionClock {
             rt: _,
             clock,
-            packets,
-            id,
             full: _full,
         } = clock;
         self.clock = clock;
@@ -181,7 +177,10 @@ impl<H: Clock + Log + Copy + Send> Turn for ListenTurn<H> {
         }
         let time = self.clock.now(&self.rt);
         self.full.look(&self.rt, time);
+        let Tally { packets, refusals } = tally;
         let refused = Refused(refusals);
-        info!(self.rt; target: "rstored", "{time} {id}: {reason}, {packets} packets, {read} bytes in, {written} bytes out{refused}");
+        if let Some(id) = self.given.take() {
+            info!(self.rt; target: "rstored", "{time} {id}: {reason}, {packets} packets, {read} bytes in, {written} bytes out{refused}");
+        }
     }
 }

@@ -40,7 +40,7 @@ fn is_served<H: Wait, G: Gate>(
         },
     });
     let mut clock = Moments::new(0, Vec::new(alloc));
-    let (end, gate) = serve(rt, alloc, &mut reader, &mut writer, gate, ID, &mut clock);
+    let (end, gate, _handled) = serve(rt, alloc, &mut reader, &mut writer, gate, ID, &mut clock);
     let bytes = writer.into_inner().inner;
     (end == ends && is_joined(&bytes, &written), gate)
 }

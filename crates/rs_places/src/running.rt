@@ -70,7 +70,7 @@ fn serve_connection<T: Turn + Drop, N: LineName, H: Wait + Copy>(
     let mut reader = Counted::new(input);
     let mut writer = Counted::new(output);
     // However it ended, the place goes on.
-    let (served, gate, refusals) = serve_place(
+    let (served, gate, tally) = serve_place(
         rt,
         alloc,
         &mut reader,
@@ -84,7 +84,7 @@ fn serve_connection<T: Turn + Drop, N: LineName, H: Wait + Copy>(
         output: writer,
         clock,
     };
-    turn.end(connection, served, refusals);
+    turn.end(connection, served, tally);
     gate
 }
 

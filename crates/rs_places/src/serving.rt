@@ -8,13 +8,13 @@ ghost use Rattle.rs_places.specs.Serving.{IsServedAt};
 
 use crate::shared_gate::SharedGate;
 use rs_intake::LineName;
-use rs_server::{Clock, ConnectionId, Counted, Refusals, ServeFault, Served, serve_counted};
+use rs_server::{Clock, ConnectionId, Counted, ServeFault, Served, Tally, serve_counted};
 use std::alloc::Global;
 use std::io::{Read, Write};
 use std::sync::Wait;
 
 /// Serves one connection at the gate's place, as the place's connection of this `number`: how it ends, the gate, which is handed on
-/// ([`SharedGate::hand_on`]), and what it refused. Whatever other places do meanwhile, `connection` says:
+/// ([`SharedGate::hand_on`]), and what was counted. Whatever other places do meanwhile, `connection` says:
 ///
 /// - What was written are the replies of a session to the packets that the bytes read encode (`run`, `inputs`, `replies`).
 /// - Each filter was answered from a legal list (`legal`), of which every list before is a prefix, the one that the seat knew
@@ -36,7 +36,7 @@ pub fn serve_place<T: Wait, N: LineName, H: Wait + Copy, R: Read, W: Write, C: C
     gate: SharedGate<N, H>,
     number: u64,
     clock: &mut C,
-) -> (Result<Served, ServeFault>, SharedGate<N, H>, Refusals)
+) -> (Result<Served, ServeFault>, SharedGate<N, H>, Tally)
     requires reader_can_rise { failures_of reader.old < 2 ^ 64 - 1 }
     requires writer_can_rise { failures_of writer.old < 2 ^ 64 - 1 }
     ensures connection { IsServedAt N.limit (start (assigned_of gate.mark.place number) gate.known gate.mark) gate.pending
@@ -55,8 +55,8 @@ pub fn serve_place<T: Wait, N: LineName, H: Wait + Copy, R: Read, W: Write, C: C
         place: gate.place(),
         number,
     };
-    let (served, gate, refusals) = serve_counted(rt, alloc, reader, writer, gate, id, clock);
+    let (served, gate, tally) = serve_counted(rt, alloc, reader, writer, gate, id, clock);
     let mut gate = gate;
     gate.hand_on();
-    (served, gate, refusals)
+    (served, gate, tally)
 }

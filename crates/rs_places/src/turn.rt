@@ -4,7 +4,7 @@ ghost use Rattle.std.specs.Option.{option_map};
 ghost use Rattle.rs_server.specs.Counts.{failures_of, inner_of};
 ghost use Rattle.rs_places.specs.Turns.{GivesNext, TakesBack};
 
-use rs_server::{Clock, Counted, Refusals, ServeFault, Served};
+use rs_server::{Clock, Counted, ServeFault, Served, Tally};
 use std::io::{Read, Write};
 
 /// A connection: what its client sends, what it is sent, and its clock.
@@ -46,13 +46,13 @@ pub trait Turn {
               moments = Self.Time.moments c.clock;
             }) result) (connections self.new) };
 
-    /// Takes back a connection that was served, how it ended, and what it was refused. Its reader and its writer have counted how often
+    /// Takes back a connection that was served, how it ended, and what was counted of it. Its reader and its writer have counted how often
     /// they failed.
     fn end(
         &mut self,
         connection: Connection<Counted<Self::In>, Counted<Self::Out>, Self::Time>,
         served: Result<Served, ServeFault>,
-        refusals: Refusals,
+        tally: Tally,
     )
         ensures { TakesBack (connections self.old)
             (record {

@@ -4,7 +4,7 @@ ghost use Rattle.rs_server.specs.Counts.{failures_of, inner_of};
 ghost use Rattle.rs_places.specs.Turns.{TakesBack, none_given};
 
 use rs_places::{Connection, Turn};
-use rs_server::{Clock, Counted, Refusals, ServeFault, Served};
+use rs_server::{Clock, Counted, ServeFault, Served, Tally};
 use rs_server_kit::ServeResult;
 use rs_test_kit::{Behavior, CONNACK, FaultyStream, is_joined};
 use std::alloc::{AllocError, Global};
@@ -237,7 +237,7 @@ impl Turn for Script {
         &mut self,
         connection: Connection<Counted<Input>, Counted<Output>, ScriptClock>,
         served: Result<Served, ServeFault>,
-        _refusals: Refusals,
+        _tally: Tally,
     )
         ensures { TakesBack none_given
             (record {

@@ -116,7 +116,15 @@ fn pipe_bytes<H: Wait, R: Read + Drop, W: Write + Drop, G: Gate>(
     let mut reader = Counted::new(input);
     let mut writer = Counted::new(output);
     let mut clock = Moments::new(at, Vec::new(alloc));
-    let (served, gate) = serve(rt, alloc, &mut reader, &mut writer, gate, FIRST, &mut clock);
+    let (served, gate, _handled) = serve(
+        rt,
+        alloc,
+        &mut reader,
+        &mut writer,
+        gate,
+        FIRST,
+        &mut clock,
+    );
     Piped {
         served: result_of(served, None),
         input: reader.into_inner(),
@@ -147,7 +155,15 @@ fn pipe_lines<H: Wait, R: Read + Drop, W: Write + Drop, G: Gate>(
     let mut reader = Counted::new(HexReader::new(alloc, input));
     let mut writer = Counted::new(HexWriter::new(output));
     let mut clock = Moments::new(at, Vec::new(alloc));
-    let (served, gate) = serve(rt, alloc, &mut reader, &mut writer, gate, FIRST, &mut clock);
+    let (served, gate, _handled) = serve(
+        rt,
+        alloc,
+        &mut reader,
+        &mut writer,
+        gate,
+        FIRST,
+        &mut clock,
+    );
     let lines = reader.into_inner();
     Piped {
         served: result_of(served, lines.not_hex()),

@@ -56,7 +56,7 @@ pub enum Served {
 ///
 /// A client that gives no identifier is assigned one that names the place and the number of `id`
 /// (3.2.2.3.7). The clock is asked once for each packet, and once for a fault. The gate is returned in
-/// every case.
+/// every case, and how many inputs were handled: packets, and a fault in place of one.
 ///
 /// Packets that are whole in its buffer are decoded before they are handled, up to as many as the gate takes at once
 /// ([`Gate::most_expected`]), as long as they are publications whose changes may be announced. The gate is told to expect half of these
@@ -77,7 +77,7 @@ pub fn serve<H: Wait, R: Read, W: Write, G: Gate, C: Clock>(
     gate: G,
     id: ConnectionId,
     clock: &mut C,
-) -> (Result<Served, ServeFault>, G)
+) -> (Result<Served, ServeFault>, G, u64)
     requires reader_can_rise { failures_of reader.old < 2 ^ 64 - 1 }
     requires writer_can_rise { failures_of writer.old < 2 ^ 64 - 1 }
 
@@ -98,12 +98,13 @@ pub fn serve<H: Wait, R: Read, W: Write, G: Gate, C: Clock>(
         (failures_of writer.old) (failures_of writer.new) }
 {
     let Ok(assigned) = assigned_client(alloc, id) else {
-        return (Err(ServeFault::NoMemory), gate);
+        return (Err(ServeFault::NoMemory), gate, 0);
     };
     let mut session = Session::new(alloc, gate, assigned);
     let mut buffered = BytesMut::new(alloc);
     let mut size = ReadSize::new();
     let mut planned = VecDeque::new(alloc);
+    let mut handled = 0u64;
     'serving: for _ in rt.forever() {
         match serve_once(
             alloc,
@@ -113,17 +114,18 @@ pub fn serve<H: Wait, R: Read, W: Write, G: Gate, C: Clock>(
             &mut buffered,
             &mut size,
             &mut planned,
+            &mut handled,
             clock,
         ) {
             Ok(None) => {}
-            Ok(Some(served)) => return (Ok(served), session.into_gate()),
-            Err(fault) => return (Err(fault), session.into_gate()),
+            Ok(Some(served)) => return (Ok(served), session.into_gate(), handled),
+            Err(fault) => return (Err(fault), session.into_gate(), handled),
         }
     }
     unreachable!()
 }
 
-/// Handles one input and writes all replies to it, or reads once.
+/// Handles one input, counts it, and writes all replies to it, or reads once.
 fn serve_once<R: Read, W: Write, G: Gate, C: Clock>(
     alloc: Global,
     reader: &mut Counted<R>,
@@ -132,6 +134,7 @@ fn serve_once<R: Read, W: Write, G: Gate, C: Clock>(
     buffered: &mut BytesMut,
     size: &mut ReadSize,
     planned: &mut VecDeque<Incoming>,
+    handled: &mut u64,
     clock: &mut C,
 ) -> Result<Option<Served>, ServeFault>
     requires reader_can_rise { failures_of reader.old < 2 ^ 64 - 1 }
@@ -170,6 +173,7 @@ fn serve_once<R: Read, W: Write, G: Gate, C: Clock>(
     let Some(next) = planned.pop_front() else {
         return read_more(alloc, reader, buffered, size);
     };
+    *handled = handled.saturating_add(1);
     match make_exchange(alloc, session, writer, next) {
         Ok(()) => Ok(served_as(session.closing())),
         Err(fault) => Err(fault),

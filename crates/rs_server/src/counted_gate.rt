@@ -74,6 +74,15 @@ impl Refusals {
     }
 }
 
+/// What is counted of a connection.
+#[derive(Clone, Copy)]
+pub struct Tally {
+    /// The inputs that were handled: packets, and a fault in place of one. It stays at [`u64::MAX`].
+    pub packets: u64,
+    /// What the gate refused.
+    pub refusals: Refusals,
+}
+
 /// A gate, and what it refused. It passes each call on.
 #[derive(Drop)]
 pub struct CountedGate<G> {
@@ -181,7 +190,7 @@ impl<G: Gate> Gate for CountedGate<G> {
     }
 }
 
-/// Serves one connection as [`serve`] does, over a [`CountedGate`]: how it ends, the gate, and what it refused. No clause says how many
+/// Serves one connection as [`serve`] does, over a [`CountedGate`]: how it ends, the gate, and what was counted. No clause says how many
 /// calls of the gate there are: one for each publication that asks for a change, and one for each filter whose retained messages are to be
 /// sent, if the session has the memory and the space for it.
 ///
@@ -196,7 +205,7 @@ pub fn serve_counted<H: Wait, R: Read, W: Write, G: Gate, C: Clock>(
     gate: G,
     id: ConnectionId,
     clock: &mut C,
-) -> (Result<Served, ServeFault>, G, Refusals)
+) -> (Result<Served, ServeFault>, G, Tally)
     requires reader_can_rise { failures_of reader.old < 2 ^ 64 - 1 }
     requires writer_can_rise { failures_of writer.old < 2 ^ 64 - 1 }
     ensures conversation { (seen : List Entry) → G.stands gate seen
@@ -216,7 +225,7 @@ pub fn serve_counted<H: Wait, R: Read, W: Write, G: Gate, C: Clock>(
         inner: gate,
         refusals: Refusals::none(),
     };
-    let (served, counted) = serve(rt, alloc, reader, writer, counted, id, clock);
+    let (served, counted, packets) = serve(rt, alloc, reader, writer, counted, id, clock);
     let CountedGate { inner, refusals } = counted;
-    (served, inner, refusals)
+    (served, inner, Tally { packets, refusals })
 }

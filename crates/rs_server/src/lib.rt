@@ -2,7 +2,7 @@
 //!
 //! [`serve`] reads the packets of one client, runs its session over a gate to the store, and writes and
 //! flushes the replies. The reader and the writer are [`Counted`], and a [`Clock`] tells the times.
-//! [`serve_counted`] does so too, and counts what the gate refused.
+//! [`serve_counted`] does so too, and counts what the gate refused ([`Tally`]).
 //!
 //! However the input is split into reads, the bytes written are exactly the replies of the session to the
 //! packets decoded from it; if a write or an allocation fails, a prefix of them. [`Served`] says how the
@@ -25,6 +25,6 @@ mod writing;
 pub use clock::{Clock, Moments};
 pub use connection::{ConnectionId, Served, serve};
 pub use counted::Counted;
-pub use counted_gate::{CountedGate, Refusals, serve_counted};
+pub use counted_gate::{CountedGate, Refusals, Tally, serve_counted};
 pub use law::inputs_determined;
 pub use writing::ServeFault;

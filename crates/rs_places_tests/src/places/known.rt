@@ -9,7 +9,7 @@ use rs_intake::{BlankQueue, blank_queue};
 use rs_message::PlaceCount;
 use rs_places::{Connection, StoreEnd, StoreFault, Turn, run_store};
 use rs_places_kit::{NONE, PUBLISHES, SUBSCRIBES};
-use rs_server::{Clock, Counted, Moments, Refusals, ServeFault, Served};
+use rs_server::{Clock, Counted, Moments, Refusals, ServeFault, Served, Tally};
 use rs_test_kit::{CONNACK, CONNECT, REPLAYED, SUBSCRIBED, is_joined, joined};
 use rs_version::Blank;
 use rs_version_kit::blank_store;
@@ -76,7 +76,7 @@ impl Turn for Listed {
         &mut self,
         connection: Connection<Counted<VecDeque<u8>>, Counted<Vec<u8>>, Moments>,
         served: Result<Served, ServeFault>,
-        refusals: Refusals,
+        tally: Tally,
     )
         ensures { TakesBack (⟦<Listed as Turn>⟧.connections self.old)
             (record {
@@ -107,7 +107,7 @@ impl Turn for Listed {
             read_failures,
             write_failures,
             served,
-            refusals,
+            refusals: tally.refusals,
         };
         let Some(mut ended) = self.ended.take() else {
             return;

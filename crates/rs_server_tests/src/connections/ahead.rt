@@ -96,17 +96,19 @@ fn burst(alloc: Global, count: usize) -> Result<Vec<u8>, AllocError> {
 /// The time that the clock of these tests tells first. Each one later is one second later.
 const FIRST: u64 = 7;
 
-/// What a connection comes to: how it ended, what was written, and for how many inputs the clock was asked.
+/// What a connection comes to: how it ended, what was written, how many inputs were handled, and for how many the clock was asked.
 #[derive(Drop)]
 struct Outcome {
     served: Result<Served, ServeFault>,
     written: Vec<u8>,
+    handled: u64,
     told: u64,
 }
 
 fn is_same(one: &Outcome, other: &Outcome) -> bool {
     one.served == other.served
         && one.written.as_slice() == other.written.as_slice()
+        && one.handled == other.handled
         && one.told == other.told
 }
 
@@ -138,10 +140,11 @@ where
         place: 1,
         number: 1,
     };
-    let (served, gate) = serve(rt, alloc, &mut reader, &mut writer, gate, id, &mut clock);
+    let (served, gate, handled) = serve(rt, alloc, &mut reader, &mut writer, gate, id, &mut clock);
     let outcome = Outcome {
         served,
         written: writer.into_inner(),
+        handled,
         told: clock.now().saturating_sub(FIRST),
     };
     Ok((outcome, gate))
@@ -219,7 +222,7 @@ fn times_stay_in_order(rt: HostRuntime) -> Result<(), Fail> {
     for most in MOSTS {
         let (outcome, _gate) = told(&rt, rt.alloc(), cut_at(EXPIRING, 0), most)?;
         assert!(rt; is_joined(&outcome.written, &[CONNACK, EXPIRED]), "{most}");
-        assert!(rt; outcome.told == 7, "{most}");
+        assert!(rt; outcome.handled == 7 && outcome.told == 7, "{most}");
     }
     Ok(())
 }
@@ -310,6 +313,7 @@ fn no_more_is_decoded_than_a_gate_takes(rt: HostRuntime) -> Result<(), Fail> {
         let gate = Expecting::new(rt.alloc(), refusing, most);
         let (outcome, gate) = serve_over(&rt, rt.alloc(), cut_at(&bytes, 0), gate)?;
         assert!(rt; outcome.served == Ok(Served::ServerClosed(0x83)));
+        assert!(rt; outcome.handled == 2, "{most}");
         assert!(rt; outcome.told == decoded, "{most}");
         assert!(rt; gate.next.len() == left, "{most}");
     }

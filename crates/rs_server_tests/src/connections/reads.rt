@@ -122,7 +122,15 @@ fn served<H: Wait>(
         number: 1,
     };
     let gate = REFUSING_GATE;
-    let (served, _gate) = serve(rt, alloc, &mut reader, &mut writer, gate, id, &mut clock);
+    let (served, _gate, _handled) = serve(
+        rt,
+        alloc,
+        &mut reader,
+        &mut writer,
+        gate,
+        id,
+        &mut clock,
+    );
     Ok((served, reader.into_inner().asked))
 }
 

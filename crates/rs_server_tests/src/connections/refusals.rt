@@ -156,7 +156,7 @@ fn served_over<H: Wait, G: Gate>(
         place: 1,
         number: 1,
     };
-    let (served, gate) = serve(rt, alloc, &mut reader, &mut writer, gate, id, &mut clock);
+    let (served, gate, _handled) = serve(rt, alloc, &mut reader, &mut writer, gate, id, &mut clock);
     (served, writer.into_inner(), gate)
 }
 

@@ -104,7 +104,7 @@ fn is_served<H: Wait>(rt: &H, alloc: Global, script: &Script, wanted: &Outcome) 
     });
     let mut clock = Moments::new(0, Vec::new(alloc));
     let id = script.id;
-    let (served, _gate) = serve(
+    let (served, _gate, _handled) = serve(
         rt,
         alloc,
         &mut reader,
