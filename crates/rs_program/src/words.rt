@@ -35,7 +35,7 @@ pub enum Run {
         address: String,
         /// How many clients use the store at the same time.
         places: PlaceCount,
-        /// How many clients are served at the same time: as many as there are places, up to [`MAX_CLIENTS`].
+        /// How many clients are served at the same time: at least as many as there are places, at most [`MAX_CLIENTS`].
         clients: u16,
         /// How many topics may hold a message.
         topics: TopicLimit,

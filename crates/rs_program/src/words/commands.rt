@@ -57,8 +57,8 @@ keeps its Keep Alive is not cut off if --idle is at least one and a half times t
 
 With --log, it writes a line to standard error when a connection begins and when it ends, with its
 place, its number there, the client's address, how it ended and what it was refused; one when the
-store is full, and one when it may take new topics again; and one if it cannot listen, with the
-reason.
+store is full, and one when it may take new topics again; one if the process may have too few
+descriptors for its clients; and one if it cannot listen, with the reason.
 
 The store is in memory. It is empty at the start, and lost at the end.
 
@@ -82,7 +82,8 @@ const ENDLESS_HELP: &str = "Go on until a signal ends the program, instead of --
 
 const IDLE_HELP: &str = "After how many seconds an idle connection ends; never, if it is not given";
 
-const LOG_HELP: &str = "Write a line to standard error when a connection begins and when it ends";
+const LOG_HELP: &str =
+    "Write a line to standard error when a connection begins and when it ends, and when the store is full";
 
 // The value names `1-64`, `1-10000`, `1-65536`, `1-1000000` and `1-86400` below, and the default of `--topics`, which is the limit of
 // `pipe`.
