@@ -101,10 +101,11 @@ impl Server {
     ///
     /// Each client has a thread, which serves one connection after the other. If it cannot be started, and is not the first, the caller's
     /// thread serves this client and those behind it, one after the other. If the process may have fewer descriptors than its clients need,
-    /// fewer are served at the same time. A fault of a connection ends that connection alone. The log of
-    /// `rt` has a line when each begins, and one that says how it ended and what it was refused, one when the store is full, one when it
-    /// may take new topics again, and before them all a warning if there are too few descriptors. The number of changes is that of a run of the store, as [`run_store`] says it, or [`run_fleet`], if there are more clients than places. The
-    /// clause is weak: any number meets it, since it says nothing of the clients.
+    /// fewer are served at the same time. A fault of a connection ends that connection alone. The log of `rt` has a line when each begins,
+    /// and one that says how it ended and what it was refused, one when the store is full, one when it may take new topics again, and
+    /// before them all a warning if there are too few descriptors. The number of changes is that of a run of the store, as [`run_store`]
+    /// says it, or [`run_fleet`], if there are more clients than places. The clause is weak: any number meets it, since it says nothing of
+    /// the clients.
     ///
     /// # Errors
     ///
