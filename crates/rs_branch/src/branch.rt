@@ -23,7 +23,7 @@ mod set;
 mod sweep;
 
 pub use remains::Remains;
-use rs_bucket::{Bucket, Label, Sought, retained_copy};
+use rs_bucket::{Bucket, Label, Sought, copy_retained};
 use rs_message::Found;
 use std::alloc::{AllocError, Global};
 use std::marker::Model;
@@ -152,8 +152,8 @@ impl Child {
         ensures passed { result ≡ false → Passes level.now self.now }
     {
         match &self.below {
-            Below::Few(_) => level.is(&self.level),
-            Below::Inner(_) => level.is(&self.level),
+            Below::Few(_) => level.is_same(&self.level),
+            Below::Inner(_) => level.is_same(&self.level),
             Below::Chunk(_) => true,
         }
     }
@@ -186,7 +186,7 @@ impl Branch {
         ensures { IfOk result (λ b. b ≡ self.now) }
     {
         Ok(Branch {
-            retained: retained_copy(&self.retained)?,
+            retained: copy_retained(&self.retained)?,
             children: copies(alloc, self.children.as_slice())?,
         })
     }

@@ -21,7 +21,7 @@ use crate::cleared::Cleared;
 use crate::leaf::{Leaf, answer_one};
 use crate::leaves::Leaves;
 use rs_message::Found;
-use rs_store::{Answer, Stop, is_expired, lowered};
+use rs_store::{Answer, Stop, earliest_end, is_expired};
 use rs_topic::compare_rests;
 use std::alloc::{AllocError, Global};
 use std::cmp::Ordering;
@@ -91,12 +91,12 @@ impl Bucket {
                 messages: Messages::One(at, found),
             }),
             // Never: a topic has at most 65,535 bytes.
-            Err(_) => Bucket::more(alloc, Leaves::one(alloc, found, at)?),
+            Err(_) => Bucket::of_leaves(alloc, Leaves::of_one(alloc, found, at)?),
         }
     }
 
     /// The bucket of some messages.
-    fn more(alloc: Global, leaves: Leaves) -> Result<Bucket, AllocError>
+    fn of_leaves(alloc: Global, leaves: Leaves) -> Result<Bucket, AllocError>
         ensures { IfOk result (λ b. b ≡ leaves) }
     {
         Ok(Bucket {
@@ -111,7 +111,7 @@ impl Bucket {
         let Messages::More(leaves) = &self.messages else {
             return;
         };
-        let Some(leaf) = leaves.lone() else {
+        let Some(leaf) = leaves.only() else {
             return;
         };
         let Ok(found) = leaf.found.copy() else {
@@ -137,23 +137,23 @@ impl Bucket {
     }
 
     /// The messages, to be changed.
-    fn own_leaves(&self, alloc: Global) -> Result<Leaves, AllocError>
+    fn to_leaves(&self, alloc: Global) -> Result<Leaves, AllocError>
         ensures { IfOk result (λ leaves. leaves ≡ self.now) }
     {
         match &self.messages {
-            Messages::One(at, found) => Leaves::one(alloc, found.copy()?, *at as usize),
+            Messages::One(at, found) => Leaves::of_one(alloc, found.copy()?, *at as usize),
             Messages::More(leaves) => leaves.copy(alloc),
         }
     }
 
     /// Its messages, if it has more than it is to have.
-    pub fn over(&self) -> Option<&Leaves>
+    pub fn overflow(&self) -> Option<&Leaves>
         ensures { IfSome result (λ leaves. leaves.now ≡ self.now) }
     {
         match &self.messages {
             Messages::One(_, _) => None,
             Messages::More(leaves) => {
-                if leaves.is_over() {
+                if leaves.is_overfull() {
                     return Some(leaves);
                 }
                 None
@@ -188,9 +188,9 @@ impl Bucket {
                 return leaves.set(found, at);
             }
         }
-        let mut copy = self.own_leaves(alloc)?;
+        let mut copy = self.to_leaves(alloc)?;
         let was = copy.set(found, at)?;
-        *self = Bucket::more(alloc, copy)?;
+        *self = Bucket::of_leaves(alloc, copy)?;
         Ok(was)
     }
 
@@ -219,7 +219,7 @@ impl Bucket {
     }
 
     /// A bucket of the messages that are not expired, if there are any.
-    pub fn swept(&self, alloc: Global, moment: u64) -> Result<Option<Bucket>, AllocError>
+    pub fn without_expired(&self, alloc: Global, moment: u64) -> Result<Option<Bucket>, AllocError>
         ensures { IfOk result (λ rest. IsSomeRest moment self.now rest) }
     {
         match &self.messages {
@@ -236,7 +236,7 @@ impl Bucket {
                 if left.is_empty() {
                     return Ok(None);
                 }
-                let mut bucket = Bucket::more(alloc, left)?;
+                let mut bucket = Bucket::of_leaves(alloc, left)?;
                 bucket.unbox(alloc);
                 Ok(Some(bucket))
             }
@@ -244,7 +244,7 @@ impl Bucket {
     }
 
     /// A bucket of its messages below a chain and a level, if these stand before the rest of each topic.
-    pub fn risen(
+    pub fn copy_prefixed(
         &self,
         alloc: Global,
         chain: &[u8],
@@ -264,9 +264,9 @@ impl Bucket {
                 let higher = Bucket::new(alloc, leaf.found, leaf.at)?;
                 Ok(Some(higher))
             }
-            Messages::More(leaves) => match leaves.risen(alloc, chain, level)? {
+            Messages::More(leaves) => match leaves.copy_prefixed(alloc, chain, level)? {
                 Some(leaves) => {
-                    let higher = Bucket::more(alloc, leaves)?;
+                    let higher = Bucket::of_leaves(alloc, leaves)?;
                     Ok(Some(higher))
                 }
                 None => Ok(None),
@@ -285,7 +285,7 @@ impl Bucket {
     }
 
     /// Adds how many of its messages are expired.
-    pub fn expired(&self, now: u64, count: &mut u32)
+    pub fn count_expired(&self, now: u64, count: &mut u32)
         ensures { count.old + length self.now ≤ MAX_TOPICS → count.new ≡ count.old + length (filter (is_expired_spot now) self.now) }
     {
         match &self.messages {
@@ -294,7 +294,7 @@ impl Bucket {
                     *count = count.saturating_add(1);
                 }
             }
-            Messages::More(leaves) => leaves.expired(now, count),
+            Messages::More(leaves) => leaves.count_expired(now, count),
         }
     }
 
@@ -303,7 +303,7 @@ impl Bucket {
         ensures { result ≡ earliest bound self.now }
     {
         match &self.messages {
-            Messages::One(_, found) => lowered(bound, found.message()),
+            Messages::One(_, found) => earliest_end(bound, found.message()),
             Messages::More(leaves) => leaves.earliest(bound),
         }
     }

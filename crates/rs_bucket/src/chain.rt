@@ -10,7 +10,7 @@ use rs_topic::{is_all_below, is_plus, level_at};
 use std::alloc::{AllocError, Global};
 
 /// The byte behind the levels of a chain, if the rest of a topic begins with them.
-pub fn behind(chain: &[u8], topic: &[u8], mut at: usize) -> Option<usize>
+pub fn skip_chain(chain: &[u8], topic: &[u8], mut at: usize) -> Option<usize>
     ensures value { option_map (λ i. levels_from i topic.now) result ≡ behind (levels_from 1 chain.now) (levels_from at topic.now) }
     ensures further { IfSome result (λ i. at ≤ i) }
 {
@@ -29,7 +29,7 @@ pub fn behind(chain: &[u8], topic: &[u8], mut at: usize) -> Option<usize>
 }
 
 /// The byte at which the rest of a filter goes on below a chain, if it fits anything there. A last `#` goes on as it is.
-pub fn past(chain: &[u8], filter: &[u8], mut at: usize) -> Option<usize>
+pub fn match_chain(chain: &[u8], filter: &[u8], mut at: usize) -> Option<usize>
     ensures { option_map (λ i. levels_from i filter.now) result ≡ past (levels_from 1 chain.now) (levels_from at filter.now) }
 {
     let mut from = 1;
@@ -71,7 +71,7 @@ fn push_levels(chain: &mut Vec<u8>, text: &[u8], mut at: usize) -> Result<(), Al
 }
 
 /// A chain, a level and another chain as one chain.
-pub fn joined(
+pub fn join_chains(
     alloc: Global,
     upper: &[u8],
     level: &[u8],

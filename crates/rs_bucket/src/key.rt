@@ -8,7 +8,7 @@ ghost use Rattle.rs_bucket.specs.Keys.{IsKey, key_cmp, padded};
 pub(crate) const SHORT: usize = 14;
 
 /// The bytes of a short level, and zeros behind them.
-pub(crate) fn padded(level: &[u8]) -> [u8; SHORT]
+pub(crate) fn pad(level: &[u8]) -> [u8; SHORT]
     requires { length level.now ≤ 14 }
     ensures same { result ≡ padded 14 level.now }
     ensures start { take (length level.now) result ≡ level.now }
@@ -53,7 +53,7 @@ impl Key {
     }
 
     /// The level is that of the other key.
-    pub(crate) fn is(self, other: Key) -> bool
+    pub(crate) fn is_same(self, other: Key) -> bool
         ensures same { IsTrue result → key_cmp self other ≡ Equal }
         ensures other { result ≡ false → key_cmp self other ≢ Equal }
     {

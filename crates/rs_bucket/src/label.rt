@@ -3,7 +3,7 @@
 ghost use Rattle.std.specs.Prelude.{◌≡◌, [], IfOk, IfSome};
 ghost use Rattle.rs_bucket.specs.Labels.{IsKeyIfAny};
 
-use crate::key::{Key, SHORT, padded};
+use crate::key::{Key, SHORT, pad};
 use rs_message::Found;
 use std::alloc::{AllocError, Global};
 use std::marker::Model;
@@ -38,7 +38,7 @@ impl Model for Label {
 }
 
 /// A level of more bytes as a part of a topic, if it stands there at this byte.
-fn part(level: &[u8], found: &Found, at: usize) -> Result<Option<Label>, AllocError>
+fn part_of(level: &[u8], found: &Found, at: usize) -> Result<Option<Label>, AllocError>
     ensures { IfOk result (λ o. IfSome o (λ l. l ≡ level.now)) }
 {
     let topic = found.topic().as_bytes();
@@ -73,7 +73,7 @@ impl Label {
         ensures { IfOk result (λ l. l ≡ level.now) }
     {
         if level.len() > SHORT {
-            if let Some(label) = part(level, found, at)? {
+            if let Some(label) = part_of(level, found, at)? {
                 return Ok(label);
             }
         }
@@ -86,7 +86,7 @@ impl Label {
     {
         if level.len() <= SHORT {
             return Ok(Label {
-                text: LabelText::Short(padded(level), level.len() as u8),
+                text: LabelText::Short(pad(level), level.len() as u8),
             });
         }
         let bytes = Vec::from_slice(alloc, level)?;
@@ -158,7 +158,7 @@ impl Label {
     }
 
     /// The same level, which keeps no message in memory.
-    pub fn own(&self, alloc: Global) -> Result<Label, AllocError>
+    pub fn copy_detached(&self, alloc: Global) -> Result<Label, AllocError>
         ensures { IfOk result (λ l. l ≡ self.now) }
     {
         match &self.text {

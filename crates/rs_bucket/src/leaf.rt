@@ -7,7 +7,7 @@ ghost use Rattle.rs_store.specs.Room.{IsStop};
 ghost use Rattle.rs_topic.specs.Rests.{levels_from};
 ghost use Rattle.rs_bucket.specs.Spots.{spot_of};
 
-use crate::chain::behind;
+use crate::chain::skip_chain;
 use rs_message::Found;
 use rs_store::{Answer, Stop, is_expired};
 use rs_topic::{compare_rests, level_at, levels_fit};
@@ -55,7 +55,7 @@ impl Leaf {
         // A chain has a slash before each level, and a slash stands between the level and the rest.
         let above = self.at.saturating_sub(level.len()).saturating_sub(1);
         let at = above.saturating_sub(chain.len());
-        let Some(next) = behind(chain, topic, at) else {
+        let Some(next) = skip_chain(chain, topic, at) else {
             return false;
         };
         let Some((own, rest)) = level_at(topic, next) else {
@@ -69,7 +69,7 @@ impl Leaf {
     }
 
     /// How the rest of another topic compares to the rest of its own.
-    pub(crate) fn compared(&self, topic: &[u8], at: usize) -> Ordering
+    pub(crate) fn compare(&self, topic: &[u8], at: usize) -> Ordering
         ensures { result ≡ path_cmp (levels_from at topic.now) (levels_from self.now.at self.now.found.topic) }
     {
         compare_rests(topic, at, self.found.topic().as_bytes(), self.at)

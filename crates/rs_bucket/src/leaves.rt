@@ -21,7 +21,7 @@ use crate::chain::shared_levels;
 use crate::cleared::Cleared;
 use crate::leaf::Leaf;
 use rs_message::Found;
-use rs_store::{Answer, Stop, is_expired, lowered};
+use rs_store::{Answer, Stop, earliest_end, is_expired};
 use std::alloc::{AllocError, Global};
 use std::cmp::Ordering;
 use std::marker::Model;
@@ -60,7 +60,7 @@ fn index_of(leaves: &[Leaf], topic: &[u8], at: usize) -> Result<usize, usize>
     ensures up_to { IfErr result (λ i. i ≤ length leaves.now) }
 {
     for i in 0..leaves.len() {
-        match leaves[i].compared(topic, at) {
+        match leaves[i].compare(topic, at) {
             Ordering::Less => return Err(i),
             Ordering::Equal => return Ok(i),
             Ordering::Greater => {}
@@ -101,7 +101,7 @@ fn copies(alloc: Global, leaves: &[Leaf]) -> Result<Vec<Leaf>, AllocError>
 }
 
 /// Copies of the leaves whose rests begin before a chain and a level, if these stand there.
-fn risen(
+fn copy_prefixed(
     alloc: Global,
     leaves: &[Leaf],
     chain: &[u8],
@@ -134,12 +134,12 @@ fn count_each(leaves: &[Leaf], now: u64, count: &mut u32)
 }
 
 /// A bound, or the first moment at which one of the messages is expired if that is earlier.
-fn lowered_by_each(leaves: &[Leaf], bound: u64) -> u64
+fn earliest_of_each(leaves: &[Leaf], bound: u64) -> u64
     ensures { result ≡ earliest bound (spots_in leaves.now) }
 {
     let mut least = bound;
     for leaf in leaves {
-        least = lowered(least, leaf.found.message());
+        least = earliest_end(least, leaf.found.message());
     }
     least
 }
@@ -161,7 +161,7 @@ impl Leaves {
     }
 
     /// One message.
-    pub(crate) fn one(alloc: Global, found: Found, at: usize) -> Result<Leaves, AllocError>
+    pub(crate) fn of_one(alloc: Global, found: Found, at: usize) -> Result<Leaves, AllocError>
         ensures { IfOk result (λ b. b ≡ spot_of at found ∷ []) }
     {
         let mut leaves = Leaves::new(alloc);
@@ -178,7 +178,7 @@ impl Leaves {
     }
 
     /// The only message, if there is one alone.
-    pub(crate) fn lone(&self) -> Option<&Leaf>
+    pub(crate) fn only(&self) -> Option<&Leaf>
         ensures { IfSome result (λ leaf. self.now ≡ spot_of leaf.now.at leaf.now.found ∷ []) }
     {
         if self.leaves.len() == 1 {
@@ -194,7 +194,7 @@ impl Leaves {
     }
 
     /// It has more messages than it is to have.
-    pub(crate) fn is_over(&self) -> bool {
+    pub(crate) fn is_overfull(&self) -> bool {
         self.leaves.len() > MOST
     }
 
@@ -254,7 +254,7 @@ impl Leaves {
     }
 
     /// Adds how many of its messages are expired.
-    pub(crate) fn expired(&self, now: u64, count: &mut u32)
+    pub(crate) fn count_expired(&self, now: u64, count: &mut u32)
         ensures { count.old + length self.now ≤ MAX_TOPICS → count.new ≡ count.old + length (filter (is_expired_spot now) self.now) }
     {
         count_each(self.leaves.as_slice(), now, count);
@@ -264,7 +264,7 @@ impl Leaves {
     pub(crate) fn earliest(&self, bound: u64) -> u64
         ensures { result ≡ earliest bound self.now }
     {
-        lowered_by_each(self.leaves.as_slice(), bound)
+        earliest_of_each(self.leaves.as_slice(), bound)
     }
 
     /// Removes the messages that are expired.
@@ -311,7 +311,7 @@ impl Leaves {
     }
 
     /// A chain of the levels that the rests of all topics share: those that the first and the last share.
-    pub fn shared(&self, alloc: Global) -> Result<Vec<u8>, AllocError> {
+    pub fn shared_chain(&self, alloc: Global) -> Result<Vec<u8>, AllocError> {
         match (self.leaves.first(), self.leaves.last()) {
             (Some(first), Some(last)) => {
                 let shared = shared_levels(
@@ -328,7 +328,7 @@ impl Leaves {
     }
 
     /// Leaves whose rests begin before a chain and a level, if these stand there.
-    pub(crate) fn risen(
+    pub(crate) fn copy_prefixed(
         &self,
         alloc: Global,
         chain: &[u8],
@@ -336,7 +336,7 @@ impl Leaves {
     ) -> Result<Option<Leaves>, AllocError>
         ensures { IfOk result (λ r. IfSome r (λ higher. higher ≡ under_all (levels_from 1 chain.now) (under level.now self.now))) }
     {
-        match risen(alloc, self.leaves.as_slice(), chain, level)? {
+        match copy_prefixed(alloc, self.leaves.as_slice(), chain, level)? {
             Some(leaves) => Ok(Some(Leaves { leaves })),
             None => Ok(None),
         }

@@ -6,8 +6,8 @@
 //! has one owner, and is copied otherwise: so a copy never changes. If memory is refused, nothing changes.
 //!
 //! Here is also what a tree above buckets has of the same messages: the levels above them, as a [`Label`] of one level, which a
-//! [`Sought`] level is compared with, or as a chain of levels in one text ([`behind`], [`past`], [`joined`], [`shared_levels`]); the
-//! message of one spot alone ([`answer_retained`], [`retained_copy`]); the messages of a bucket that has too many
+//! [`Sought`] level is compared with, or as a chain of levels in one text ([`skip_chain`], [`match_chain`], [`join_chains`],
+//! [`shared_levels`]); the message of one spot alone ([`answer_retained`], [`copy_retained`]); the messages of a bucket that has too many
 //! ([`Leaves`], [`Leaf`]); and what a Clear found ([`Cleared`]).
 #![tactic(auto)]
 
@@ -22,10 +22,10 @@ mod retained;
 mod sought;
 
 pub use bucket::Bucket;
-pub use chain::{SharedLevels, behind, joined, past, shared_levels};
+pub use chain::{SharedLevels, join_chains, match_chain, shared_levels, skip_chain};
 pub use cleared::Cleared;
 pub use label::Label;
 pub use leaf::Leaf;
 pub use leaves::Leaves;
-pub use retained::{answer_retained, retained_copy};
+pub use retained::{answer_retained, copy_retained};
 pub use sought::Sought;

@@ -22,7 +22,7 @@ pub fn answer_retained(retained: &Option<Found>, now: u64, answer: &mut Answer) 
 }
 
 /// One more owner of the message of one spot, if there is one.
-pub fn retained_copy(retained: &Option<Found>) -> Result<Option<Found>, AllocError>
+pub fn copy_retained(retained: &Option<Found>) -> Result<Option<Found>, AllocError>
     ensures { IfOk result (λ h. h ≡ retained.now) }
 {
     match retained {

@@ -5,7 +5,7 @@ ghost use Rattle.std.specs.Cmp.Lexicographic.{slice_cmp};
 ghost use Rattle.std.specs.Ordering.{nat_cmp};
 ghost use Rattle.std.specs.declared.cmp.Ordering.TheVariants.{Less};
 
-use crate::key::{Key, SHORT, padded};
+use crate::key::{Key, SHORT, pad};
 use crate::label::Label;
 use std::cmp::Ordering;
 use std::marker::Model;
@@ -35,7 +35,7 @@ impl<'a> Sought<'a> {
         if level.len() > SHORT {
             return Sought { level, key: None };
         }
-        let key = Key::new(&padded(level), level.len() as u8);
+        let key = Key::new(&pad(level), level.len() as u8);
         Sought {
             level,
             key: Some(key),
@@ -57,12 +57,12 @@ impl<'a> Sought<'a> {
     }
 
     /// The level is that of a label.
-    pub fn is(&self, label: &Label) -> bool
+    pub fn is_same(&self, label: &Label) -> bool
         ensures same { IsTrue result → self.now ≡ label.now }
         ensures other { result ≡ false → self.now ≢ label.now }
     {
         if let (Some(own), Some(other)) = (self.key, label.key()) {
-            return own.is(other);
+            return own.is_same(other);
         }
         self.level == label.as_slice()
     }

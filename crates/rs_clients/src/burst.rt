@@ -6,7 +6,7 @@ ghost use Rattle.rs_message.specs.Messages.{is_sweep};
 ghost use Rattle.rs_message.specs.declared.fault.SubmitFault.TheVariants.{Open};
 ghost use Rattle.rs_clients.specs.Clients.{LeavesRest, changes_of};
 
-use crate::outcome::{Outcome, matched};
+use crate::outcome::{Outcome, outcome_for};
 use crate::shared_line::SharedLine;
 use rs_intake::LineName;
 use rs_message::{Operation, SubmitFault};
@@ -59,7 +59,7 @@ fn hand_one<N: LineName, R: Wait>(
 }
 
 /// Whether this is the first of the changes, and not the only one.
-fn leads(operations: &Vec<Operation>, operation: &Operation) -> bool {
+fn is_first_of_several(operations: &Vec<Operation>, operation: &Operation) -> bool {
     match operations.first() {
         Some(first) => *first == *operation && operations.len() > 1,
         None => false,
@@ -68,7 +68,7 @@ fn leads(operations: &Vec<Operation>, operation: &Operation) -> bool {
 
 /// What became of the changes that were expected: those that were handed over, or all if this is the first of them. None, if it is not,
 /// or if memory is refused.
-fn handed<N: LineName, R: Wait>(
+fn hand_expected<N: LineName, R: Wait>(
     rt: &R,
     alloc: Global,
     line: &Mutex<SharedLine<N>>,
@@ -83,7 +83,7 @@ fn handed<N: LineName, R: Wait>(
     if !outcomes.is_empty() {
         return outcomes;
     }
-    if !leads(&expected, operation) {
+    if !is_first_of_several(&expected, operation) {
         return VecDeque::new(alloc);
     }
     match hand_all(rt, alloc, line, expected) {
@@ -110,14 +110,14 @@ pub(crate) fn hand_over<N: LineName, R: Wait>(
     ensures fault { IfErr result.0 (λ f. f ≢ Open) }
     ensures left { LeavesRest operation (changes_of outcomes.items ++ expected.items) (changes_of result.1.items) }
 {
-    let mut all = handed(rt, alloc, line, expected, outcomes, &operation);
+    let mut all = hand_expected(rt, alloc, line, expected, outcomes, &operation);
     let Some(first) = all.pop_front() else {
         return match hand_one(rt, line, operation) {
             Ok(outcome) => (Ok(outcome), VecDeque::new(alloc)),
             Err(_) => (Err(SubmitFault::NoMemory), VecDeque::new(alloc)),
         };
     };
-    match matched(first, operation) {
+    match outcome_for(first, operation) {
         Some(outcome) => (Ok(outcome), all),
         None => (Err(SubmitFault::Strange), VecDeque::new(alloc)),
     }

@@ -30,7 +30,7 @@ pub struct FleetEnd<N: LineName, T> {
 
 /// A client before its first connection: its turn, its gate, and the number of that connection.
 #[derive(Drop)]
-struct Seated<T, N: LineName, H: Wait + Copy> {
+struct NewClient<T, N: LineName, H: Wait + Copy> {
     turn: T,
     gate: ClientGate<N, H>,
     first: u64,
@@ -53,40 +53,40 @@ pub fn first_number(client: usize) -> u64
 }
 
 /// The client of this number, with this turn. Each place has the next client in turn.
-fn seat<T: Turn + Drop, N: LineName, H: Wait + Copy>(
+fn make_client<T: Turn + Drop, N: LineName, H: Wait + Copy>(
     rt: H,
     alloc: Global,
     turn: T,
     places: &Arc<SharedPlaces<N>>,
     client: usize,
-) -> Option<Seated<T, N, H>>
+) -> Option<NewClient<T, N, H>>
     ensures { IfSome result (λ s. client_with (T.connections s.turn) s.gate s.first
         ≡ client_at (arc_value places.now) client (T.connections turn)) }
 {
     let index = client.checked_rem(places.len())?;
     let gate = ClientGate::new(rt, alloc, Arc::try_clone(places).ok()?, index)?;
     let first = first_number(client);
-    Some(Seated { turn, gate, first })
+    Some(NewClient { turn, gate, first })
 }
 
 /// A client for each turn.
-fn seat_each<T: Turn + Drop, N: LineName, H: Wait + Copy>(
+fn make_clients<T: Turn + Drop, N: LineName, H: Wait + Copy>(
     rt: H,
     alloc: Global,
     turns: Vec<T>,
     places: &Arc<SharedPlaces<N>>,
-) -> Result<Vec<Seated<T, N, H>>, AllocError>
+) -> Result<Vec<NewClient<T, N, H>>, AllocError>
     ensures { IfOk result (λ all. map (λ s. client_with (T.connections s.turn) s.gate s.first) all.items
         ≡ clients_of (arc_value places.now) 0 (map T.connections turns.items)) }
 {
     let mut all = Vec::with_capacity(alloc, turns.len())?;
     let mut client = 0usize;
     for turn in turns {
-        let Some(seated) = seat(rt, alloc, turn, places, client) else {
+        let Some(placed) = make_client(rt, alloc, turn, places, client) else {
             // Refused: one more owner of the places. Never: a gate of a place that is not there.
             return Err(AllocError);
         };
-        all.push_reserved(seated);
+        all.push_reserved(placed);
         client = client.saturating_add(1);
     }
     Ok(all)
@@ -120,7 +120,7 @@ fn start_client<
 >(
     rt: H,
     alloc: Global,
-    client: Seated<T, N, H>,
+    client: NewClient<T, N, H>,
     here: bool,
 ) -> Result<ClientThread<T, N, H>, Option<TurnEnd<N, T>>>
     ensures { MatchResult result (λ thread. (thread.promise.turn.value ≡ client.turn) × (thread.promise.gate.value ≡ client.gate)
@@ -128,7 +128,7 @@ fn start_client<
         (λ left. IfSome left (λ end. IsTurnServed N.limit (client_with (T.connections client.turn) client.gate client.first)
         (client_left (T.connections end.turn) end.told))) }
 {
-    let Seated { turn, gate, first } = client;
+    let NewClient { turn, gate, first } = client;
     let promise = ServesTurn {
         turn: Snapshot::of(&turn),
         gate: Snapshot::of(&gate),
@@ -157,7 +157,7 @@ fn start_clients<
     T: Turn + Send + Drop + 'static,
     N: LineName + Send + Sync + 'static,
     H: Threads + Wait + Copy + Send + Sync + 'static,
->(rt: H, alloc: Global, all: Vec<Seated<T, N, H>>) -> Result<StartedClients<T, N, H>, StoreFault>
+>(rt: H, alloc: Global, all: Vec<NewClient<T, N, H>>) -> Result<StartedClients<T, N, H>, StoreFault>
     ensures served { IfOk result (λ started. (here : List Client)
         × (map (λ thread. client_with (T.connections thread.promise.turn.value) thread.promise.gate.value thread.promise.first)
         started.0.items ++ here ≡ map (λ s. client_with (T.connections s.turn) s.gate s.first) all.items)
@@ -168,7 +168,7 @@ fn start_clients<
     let mut served = Vec::with_capacity(alloc, all.len())?;
     for client in all {
         if !served.is_empty() {
-            let Seated { turn, gate, first } = client;
+            let NewClient { turn, gate, first } = client;
             served.push_reserved(serve_client_turns(&rt, alloc, turn, gate, first));
         } else {
             match start_client(rt, alloc, client, !threads.is_empty()) {
@@ -258,7 +258,7 @@ pub fn run_clients<
     let Ok(places) = Arc::new(alloc, places) else {
         return Err(StoreFault::NoMemory);
     };
-    let all = seat_each(rt, alloc, turns, &places)?;
+    let all = make_clients(rt, alloc, turns, &places)?;
     let (threads, served) = start_clients(rt, alloc, all)?;
     let count = threads.len();
     let mut served = served;

@@ -48,7 +48,10 @@ impl<N: LineName> Outcome<N> {
 }
 
 /// What became of the change, if it is this one.
-pub(crate) fn matched<N: LineName>(outcome: Outcome<N>, operation: Operation) -> Option<Outcome<N>>
+pub(crate) fn outcome_for<N: LineName>(
+    outcome: Outcome<N>,
+    operation: Operation,
+) -> Option<Outcome<N>>
     ensures { IfSome result (λ a. (a.operation ≡ operation) × (outcome.operation ≡ operation)) }
 {
     let Outcome {

@@ -7,7 +7,7 @@ ghost use Rattle.rs_clients.specs.Fleet.{IsFleetRun};
 use crate::fleet::{FleetEnd, run_clients};
 use crate::shared_places::SharedPlaces;
 use rs_intake::{BlankQueue, LineName};
-use rs_places::{StoreEnd, StoreFault, Turn, settled, start_writer};
+use rs_places::{StoreEnd, StoreFault, Turn, settle_run, start_writer};
 use rs_version::Blank;
 use std::alloc::Global;
 use std::marker::Brand;
@@ -73,5 +73,5 @@ fn run_fleet_named<
         lines,
         threads,
     } = served;
-    Ok(settled(clients, lines, threads, ended, left))
+    Ok(settle_run(clients, lines, threads, ended, left))
 }

@@ -19,7 +19,7 @@ use crate::writer::Queue;
 use crossbeam_channel::{Pass, bounded_with};
 use rs_message::PlaceCount;
 use rs_queue::steps::cut;
-use rs_queue::{Job, JobReceiver, JobSender, Looks, PassView, QueueRule};
+use rs_queue::{Job, JobReceiver, JobSender, PassView, Polls, QueueRule};
 use std::alloc::{AllocError, Global};
 use std::marker::Model;
 use std::sync::Arc;
@@ -32,7 +32,7 @@ pub struct BlankQueue {
     pass: Pass<Job, PassView>,
     places: PlaceCount,
     fullness: Arc<Fullness>,
-    looks: Looks,
+    polls: Polls,
     alloc: Global,
 }
 
@@ -70,7 +70,7 @@ pub fn blank_queue(alloc: Global, places: PlaceCount) -> Result<BlankQueue, Allo
         pass,
         places,
         fullness,
-        looks: Looks::untimed(),
+        polls: Polls::untimed(),
         alloc,
     })
 }
@@ -81,7 +81,7 @@ fn line<N: LineName>(
     sender: &JobSender,
     pass: &mut Pass<Job, PassView>,
     place: u8,
-    looks: Looks,
+    polls: Polls,
 ) -> Result<(SeatLine<N>, ReplySender<N>), AllocError>
     requires queue { IsQueue N.queue (sends_on sender.now) × IsIn N.queue pass.old }
     requires pass { ((known_by pass.old).takes ≡ true) × ((known_by pass.old).sends ≡ false) × ((known_by pass.old).known ≡ [])
@@ -94,7 +94,7 @@ fn line<N: LineName>(
         × ((known_by pass.new).known ≡ []) × ((known_by pass.new).entries ≡ (known_by pass.old).entries)
         × ((known_by pass.new).ends ≡ (known_by pass.old).ends) × ((known_by pass.new).made ≡ place)) }
 {
-    let (to, from) = way_back(alloc, looks)?;
+    let (to, from) = way_back(alloc, polls)?;
     let own = sender.try_clone()?;
     let line = LineSender::new(place, own, cut(sender, pass));
     Ok((SeatLine::new(alloc, line, from), to))
@@ -110,8 +110,8 @@ impl BlankQueue {
         Arc::try_clone(&self.fullness)
     }
 
-    /// The same queue, whose ends look so often before they sleep.
-    pub fn with_looks(self, looks: Looks) -> BlankQueue
+    /// The same queue, whose ends poll so often before they sleep.
+    pub fn with_polls(self, polls: Polls) -> BlankQueue
         ensures { result ≡ self }
     {
         let BlankQueue {
@@ -120,7 +120,7 @@ impl BlankQueue {
             pass,
             places,
             fullness,
-            looks: _,
+            polls: _,
             alloc,
         } = self;
         BlankQueue {
@@ -129,7 +129,7 @@ impl BlankQueue {
             pass,
             places,
             fullness,
-            looks,
+            polls,
             alloc,
         }
     }
@@ -151,14 +151,14 @@ impl BlankQueue {
             mut pass,
             places,
             fullness,
-            looks,
+            polls,
             alloc,
         } = self;
         let places = places.get();
         let mut lines = Vec::new(alloc);
         let mut replies = Vec::new(alloc);
         for before in 0..places {
-            let (line, to) = line::<N>(alloc, &sender, &mut pass, before + 1, looks)?;
+            let (line, to) = line::<N>(alloc, &sender, &mut pass, before + 1, polls)?;
             lines.push(line).map_err(|_| AllocError)?;
             replies.push(to).map_err(|_| AllocError)?;
         }
@@ -167,7 +167,7 @@ impl BlankQueue {
             receiver,
             Taken::new(places, pass),
             WaysBack::new(alloc, replies, ends, FullnessWriter::new(fullness)),
-            looks,
+            polls,
         );
         Ok((Intake::new(), lines, queue))
     }

@@ -22,7 +22,7 @@ use crate::reply::{ReplyReceiver, WriterReply};
 use crossbeam_channel::Pass;
 use rs_message::{Entry, Operation, Origin, SubmitFault, is_same};
 use rs_queue::steps::send;
-use rs_queue::{Changes, Gone, Job, JobSender, MAX_CHANGES, PassView, alone, prepared};
+use rs_queue::{Changes, Gone, Job, JobSender, MAX_CHANGES, PassView, prepare, prepare_one};
 use std::alloc::Global;
 use std::collections::VecDeque;
 use std::marker::{Model, PhantomData};
@@ -271,7 +271,7 @@ impl<N: LineName> SeatLine<N> {
             return;
         }
         let place = self.line.place();
-        let Some((job, ahead)) = prepared(self.alloc, place, self.serial, changes) else {
+        let Some((job, ahead)) = prepare(self.alloc, place, self.serial, changes) else {
             return;
         };
         if self.line.send_changes(rt, job) {
@@ -358,7 +358,7 @@ impl<N: LineName> SeatLine<N> {
         let Ok(copy) = entry.copy() else {
             return Err(SubmitFault::NoMemory);
         };
-        let Some(changes) = alone(self.alloc, copy) else {
+        let Some(changes) = prepare_one(self.alloc, copy) else {
             // Refused: the memory for a list of one, or what has to be left.
             return Err(SubmitFault::NoMemory);
         };

@@ -8,7 +8,7 @@ use crate::fullness::FullnessWriter;
 use crossbeam_channel::protocol::{Lesson, Outcome, Protocol, Split};
 use crossbeam_channel::{Pass, RuledReceiver, RuledSender, bounded_with};
 use rs_message::{Entry, Origin};
-use rs_queue::{Gone, Looks, MAX_CHANGES, Patience, receive, send};
+use rs_queue::{Gone, MAX_CHANGES, Patience, Polls, receive, send};
 use rs_version::{PutFault, Receipt, StoreName};
 use std::alloc::{AllocError, Global};
 use std::collections::{LinkedList, VecDeque};
@@ -53,7 +53,7 @@ impl<N: StoreName> WriterReply<N> {
     }
 
     /// 1 if the change is not kept, else 0.
-    pub(crate) fn refused(&self) -> u64
+    pub(crate) fn refused_count(&self) -> u64
         ensures { result ≡ refused_in (self.now.outcome ∷ []) }
     {
         if self.is_refused() { 1 } else { 0 }
@@ -89,7 +89,7 @@ impl<N: StoreName> Model for WriterReplies<N> {
 
 impl<N: StoreName> WriterReplies<N> {
     /// No replies.
-    fn none(alloc: Global) -> WriterReplies<N>
+    fn empty(alloc: Global) -> WriterReplies<N>
         ensures { result ≡ [] }
     {
         WriterReplies {
@@ -116,7 +116,7 @@ impl<N: StoreName> WriterReplies<N> {
     }
 
     /// A reply to each of these changes, that memory was refused. Takes no memory.
-    pub(crate) fn refusing(alloc: Global, changes: VecDeque<Entry>) -> WriterReplies<N>
+    pub(crate) fn of_refused(alloc: Global, changes: VecDeque<Entry>) -> WriterReplies<N>
         ensures { result ≡ map refused_reply changes.items }
     {
         WriterReplies {
@@ -239,7 +239,7 @@ impl<N: StoreName> Model for WayEnd<N> {
 pub struct ReplyReceiver<N: StoreName> {
     from: RuledReceiver<WriterReplies<N>, WayPass<N>, ReplyRule>,
     pass: Pass<WriterReplies<N>, WayPass<N>>,
-    looks: Looks,
+    polls: Polls,
     patience: Patience,
     came: WriterReplies<N>,
     alloc: Global,
@@ -263,7 +263,7 @@ impl<N: StoreName> Model for ReplyReceiver<N> {
 /// The two ends of the way back to one line, by which nothing was sent. Its capacity is that of the replies to one job.
 pub fn way_back<N: StoreName>(
     alloc: Global,
-    looks: Looks,
+    polls: Polls,
 ) -> Result<(ReplySender<N>, ReplyReceiver<N>), AllocError>
     ensures { IfOk result (λ r. (r.0 ≡ untold) × (r.1.heard ≡ []) × (r.1.came ≡ [])) }
 {
@@ -281,9 +281,9 @@ pub fn way_back<N: StoreName>(
         ReplyReceiver {
             from,
             pass: other,
-            looks,
-            patience: Patience::new(looks.line),
-            came: WriterReplies::none(alloc),
+            polls,
+            patience: Patience::new(polls.line),
+            came: WriterReplies::empty(alloc),
             alloc,
         },
     ))
@@ -321,11 +321,11 @@ impl<N: StoreName> ReplySender<N> {
 }
 
 impl<N: StoreName> ReplyReceiver<N> {
-    /// It looks less from now on, as that of a line that clients share.
+    /// It polls less from now on, as that of a line that clients share.
     pub fn share(&mut self)
         ensures { self.new ≡ self.old }
     {
-        self.patience = Patience::new(self.looks.shared);
+        self.patience = Patience::new(self.polls.shared);
     }
 
     /// Takes the next reply that came.
@@ -384,7 +384,7 @@ impl<N: StoreName> ReplyReceiver<N> {
     fn skip(&mut self)
         ensures { (self.new.heard ≡ self.old.heard ++ self.old.came) × (self.new.came ≡ []) }
     {
-        self.came = WriterReplies::none(self.alloc);
+        self.came = WriterReplies::empty(self.alloc);
     }
 
     /// Waits for the next `count` replies, and drops them.

@@ -94,7 +94,7 @@ fn reply_to_first<N: LineName, R: Wait + Drop>(
         // For the proof: this call says that the serial is not 0.
         let _serial = entry.origin.serial();
         let reply = reply_to_next(writer, entry, has_held);
-        refused += reply.refused();
+        refused += reply.refused_count();
         let Ok(()) = replies.push(reply) else {
             unreachable!()
         };
@@ -123,7 +123,7 @@ fn next_replies<N: LineName, R: Wait + Drop>(
     let Ok(reserved) = Vec::with_capacity(alloc, count) else {
         let changes = mem::replace(rest, VecDeque::new(alloc));
         let refused = changes.len() as u64;
-        return (WriterReplies::refusing(alloc, changes), refused);
+        return (WriterReplies::of_refused(alloc, changes), refused);
     };
     let (replies, refused) = reply_to_first(writer, rest, has_held, reserved, count);
     (WriterReplies::new(alloc, replies), refused)

@@ -19,7 +19,7 @@ use crate::reply::{FEW_REPLIES, WayEnd};
 use crate::taken::Taken;
 use crate::ways_back::WaysBack;
 use rs_message::Origin;
-use rs_queue::{Job, JobReceiver, Looks, MAX_CHANGES, Patience};
+use rs_queue::{Job, JobReceiver, MAX_CHANGES, Patience, Polls};
 use rs_version::VersionWriter;
 use std::sync::Wait;
 
@@ -40,7 +40,7 @@ impl<N: LineName> Queue<N> {
         receiver: JobReceiver,
         received: Taken<N>,
         ways: WaysBack<N>,
-        looks: Looks,
+        polls: Polls,
     ) -> Queue<N>
         requires queue { IsQueue N.queue (receives_on receiver) }
         requires new { (received.entries ≡ []) × (received.ends ≡ []) }
@@ -50,7 +50,7 @@ impl<N: LineName> Queue<N> {
             receiver,
             received,
             ways,
-            patience: Patience::new(looks.writer),
+            patience: Patience::new(polls.writer),
         }
     }
 }

@@ -2,8 +2,8 @@
 
 mod fullness;
 mod log;
-mod looks;
 mod places;
+mod polls;
 mod replies;
 mod schedules;
 mod script;

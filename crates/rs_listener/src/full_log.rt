@@ -27,7 +27,7 @@ impl FullLog {
 
     /// Writes a line if the store has become full or takes new topics again, but at most one a second. What is not told then is told later,
     /// if it is still so.
-    pub(crate) fn look<H: Log>(&self, rt: &H, time: u64) {
+    pub(crate) fn update<H: Log>(&self, rt: &H, time: u64) {
         let is_full = self.fullness.is_full();
         if self.told.load(Ordering::SeqCst) == is_full {
             return;

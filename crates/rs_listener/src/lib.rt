@@ -12,8 +12,8 @@
 mod close_reason;
 mod fault;
 mod full_log;
-mod looking;
 mod opening;
+mod polling;
 mod refused;
 mod server;
 mod turn;

@@ -7,8 +7,8 @@ ghost use Rattle.rs_places.specs.Turns.{Connections};
 
 use crate::fault::ListenFault;
 use crate::full_log::FullLog;
-use crate::looking::time_looks;
 use crate::opening::turns;
+use crate::polling::time_polls;
 use log::{Log, warn};
 use rs_clients::run_fleet;
 use rs_intake::{BlankQueue, Fullness, blank_queue};
@@ -132,7 +132,7 @@ impl Server {
         let alone = u16::from(places.get());
         let served = affordable(&rt, clients, alone);
         let full = FullLog::new(fullness);
-        let queue = queue.with_looks(time_looks(&rt, alloc));
+        let queue = queue.with_polls(time_polls(&rt, alloc));
         let end = if clients > alone {
             run_fleet(
                 rt,

@@ -52,7 +52,7 @@ impl<H: Clock + Log> rs_server::Clock for ConnectionClock<H> {
     fn now(&mut self) -> u64 {
         let time = self.clock.now(&self.rt);
         if let Some(full) = &self.full {
-            full.look(&self.rt, time);
+            full.update(&self.rt, time);
         }
         time
     }
@@ -176,7 +176,7 @@ impl<H: Clock + Log + Copy + Send> Turn for ListenTurn<H> {
             let _ = close(&self.rt, input, output);
         }
         let time = self.clock.now(&self.rt);
-        self.full.look(&self.rt, time);
+        self.full.update(&self.rt, time);
         let Tally { packets, refusals } = tally;
         let refused = Refused(refusals);
         if let Some(id) = self.given.take() {

@@ -352,7 +352,7 @@ fn decode_body(alloc: Global, bytes: &Bytes, header: Header) -> Result<Decoded, 
     Ok(Decoded::Whole(packet, header.size))
 }
 
-fn decoded(alloc: Global, bytes: &Bytes) -> Result<Decoded, PacketFault>
+fn decode_first(alloc: Global, bytes: &Bytes) -> Result<Decoded, PacketFault>
     ensures { Gives (λ d. d) result (answer bytes.now) }
 {
     match parse_header(bytes.as_slice()) {
@@ -375,7 +375,7 @@ pub fn decode(alloc: Global, bytes: &Bytes) -> Result<Decoded, PacketFault>
     ensures exact { Gives (λ d. d) result (answer bytes.now) }
 {
     note_octets(bytes.as_slice());
-    decoded(alloc, bytes)
+    decode_first(alloc, bytes)
 }
 
 /// The encodings of packets are prefix-free, and so are those of replies (2.1); no two replies have the same.
@@ -387,7 +387,7 @@ pub fn wire_law()
 
 /// At most one prefix of some bytes encodes a packet, and it encodes one. If there is one, `decode` answers neither `More`
 /// nor a fault other than `NoMemory`.
-pub fn one_reading()
+pub fn one_packet_law()
     ensures one_packet { (a b x y : List ℕ) (p q : Packet) → Encodes a p → Encodes b q → a ++ x ≡ b ++ y → (a ≡ b) × (p ≡ q) }
     ensures no_fault { (a x : List ℕ) (p : Packet) (f : PacketFault) → Encodes a p → IsFaulty (a ++ x) f → f ≡ NoMemory }
     ensures not_more { (a x : List ℕ) (p : Packet) → Encodes a p → IsMore (a ++ x) → ⊥ }

@@ -7,7 +7,7 @@
 //!
 //! Promised by contracts: `decode` answers a packet exactly if a prefix of the bytes encodes one by the grammar of the standard, and
 //! the first fault from left to right if there is one; only out of memory may come instead of these answers. A fault stays, whatever
-//! bytes follow, and at most one prefix of some bytes encodes a packet (`one_reading`). `encode` gives the one encoding of a reply;
+//! bytes follow, and at most one prefix of some bytes encodes a packet (`one_packet_law`). `encode` gives the one encoding of a reply;
 //! the encodings are prefix-free, and none is of two replies (`wire_law`). `publish_len` says how long a PUBLISH is before it is
 //! made. docs/WIRE.md has the rules in words.
 //!
@@ -26,7 +26,7 @@ mod message;
 mod packet;
 mod reply;
 
-pub use decoding::{decode, one_reading, wire_law};
+pub use decoding::{decode, one_packet_law, wire_law};
 pub use encoding::{encode, encode_parts, encoded_len, publish_len};
 pub use found::Found;
 pub use header::needed_len;

@@ -9,7 +9,7 @@ use rs_server_kit::{
 };
 use rs_session::Gate;
 use rs_store::MapCatalogue;
-use rs_test_kit::{Behavior, CONNACK, Call, FaultyStream, cut_off, is_joined};
+use rs_test_kit::{Behavior, CONNACK, Call, FaultyStream, cut_off, is_concat};
 use std::alloc::Global;
 use std::process::Abort;
 use std::sync::Wait;
@@ -42,7 +42,7 @@ fn is_served<H: Wait, G: Gate>(
     let mut clock = Moments::new(0, Vec::new(alloc));
     let (end, gate, _handled) = serve(rt, alloc, &mut reader, &mut writer, gate, ID, &mut clock);
     let bytes = writer.into_inner().inner;
-    (end == ends && is_joined(&bytes, &written), gate)
+    (end == ends && is_concat(&bytes, &written), gate)
 }
 
 // Whether the two connections go so, if this call of the first one fails.

@@ -3,7 +3,7 @@
 use rs_program::{PipeFault, pipe, serve_bytes};
 use rs_server::Served;
 use rs_server_kit::REFUSING_GATE;
-use rs_test_kit::{CONNACK, REPLAYED, is_joined, joined, limits};
+use rs_test_kit::{CONNACK, REPLAYED, concat, is_concat, limits};
 use std::alloc::{AllocError, Global};
 use std::sync::Wait;
 use std::test::Fail;
@@ -24,7 +24,7 @@ fn is_piped<H: Wait>(
 // These parts as one line of hex digits.
 fn line(alloc: Global, parts: &[&[u8]]) -> Result<String, AllocError> {
     let mut line = String::new(alloc);
-    for byte in joined(alloc, parts)? {
+    for byte in concat(alloc, parts)? {
         let digits = format!(in alloc; "{byte:02x}")?;
         line.push_str(digits.as_str())?;
     }
@@ -106,6 +106,6 @@ fn a_message_is_replayed(rt: HostRuntime) -> Result<(), Fail> {
         b"\x10\x0E\x00\x04MQTT\x05\x02\x00\x3C\x00\x00\x01a1\x07\x00\x03a/b\x00x\x82\x09\x00\x01\x00\x00\x03a/#\x00\xE0\x00".as_slice();
     let (served, output) = serve_bytes(&rt, rt.alloc(), input, 0)?;
     assert!(rt; served == Served::ClientClosed);
-    assert!(rt; is_joined(&output, &[CONNACK, REPLAYED]));
+    assert!(rt; is_concat(&output, &[CONNACK, REPLAYED]));
     Ok(())
 }

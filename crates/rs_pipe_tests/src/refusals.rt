@@ -4,7 +4,7 @@ use rs_message::SubmitFault;
 use rs_program::pipe;
 use rs_server::Served;
 use rs_server_kit::Refusing;
-use rs_test_kit::{CONNACK, CONNECT, joined};
+use rs_test_kit::{CONNACK, CONNECT, concat};
 use std::alloc::Global;
 use std::process::Abort;
 use std::sync::Wait;
@@ -40,8 +40,8 @@ fn check_answered<H: Abort + Wait>(
     replies: &[u8],
     ends: Served,
 ) -> Result<(), Fail> {
-    let input = joined(alloc, &[CONNECT, publish, PINGREQ])?;
-    let wanted = joined(alloc, &[CONNACK, replies])?;
+    let input = concat(alloc, &[CONNECT, publish, PINGREQ])?;
+    let wanted = concat(alloc, &[CONNACK, replies])?;
     let gate = Refusing { fault, serial: 0 };
     let ended = pipe(rt, alloc, input.as_slice(), Vec::new(alloc), gate, false, 0);
     assert!(rt; ended.served == Ok(ends));

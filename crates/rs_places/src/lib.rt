@@ -15,7 +15,7 @@ mod turn;
 pub use fault::StoreFault;
 pub use running::{PlaceEnd, PlacesEnd, TurnEnd, run_places, serve_turns};
 pub use serving::serve_place;
-pub use settling::{all_covered, settled};
+pub use settling::{cover_all, settle_run};
 pub use shared_gate::SharedGate;
 pub use store::{PutsJobs, StoreEnd, WriterThread, open_gates, run_store, start_writer};
 pub use turn::{Connection, Turn};

@@ -15,7 +15,7 @@ use rs_version::VersionWriter;
 use std::sync::Wait;
 
 /// Says that what the gate of each turn knew last is a prefix of the list that the writer keeps.
-pub fn all_covered<N: LineName, T: Turn + Drop, R: Wait + Drop>(
+pub fn cover_all<N: LineName, T: Turn + Drop, R: Wait + Drop>(
     ends: &Vec<TurnEnd<N, T>>,
     writer: &mut VersionWriter<N, R>,
 )
@@ -25,15 +25,15 @@ pub fn all_covered<N: LineName, T: Turn + Drop, R: Wait + Drop>(
 {
     // For the proof: this call says that the kept list is legal, also if there are no ends.
     let told = writer.tell();
-    writer.covers(&told);
+    writer.note_covered(&told);
     for end in ends.iter() {
-        writer.covers(&end.told);
+        writer.note_covered(&end.told);
     }
 }
 
 /// The lines of the places, and what else is left of them, in their order. `lines` and `others` are empty and have the capacity for all,
 /// so this takes no memory.
-pub(crate) fn parted<N: LineName, T: Turn + Drop>(
+pub(crate) fn part_ends<N: LineName, T: Turn + Drop>(
     ends: Vec<PlaceEnd<N, T>>,
     lines: Vec<LineEnd<N>>,
     others: Vec<TurnEnd<N, T>>,
@@ -68,9 +68,9 @@ fn turns_of<N: LineName, T: Turn + Drop>(ends: Vec<TurnEnd<N, T>>, turns: Vec<T>
     turns
 }
 
-/// What a run leaves, once its writer has ended and all its turns, which had so many threads: it settles. `lines` are the ends of the lines
+/// Settles a run once its writer and all its turns have ended, which had so many threads, and gives what it leaves. `lines` are the ends of the lines
 /// of all places. `turns` is empty and has the capacity for all, so this takes no memory.
-pub fn settled<N: LineName, T: Turn + Drop, R: Wait + Drop>(
+pub fn settle_run<N: LineName, T: Turn + Drop, R: Wait + Drop>(
     ends: Vec<TurnEnd<N, T>>,
     lines: Vec<LineEnd<N>>,
     threads: usize,
@@ -89,7 +89,7 @@ pub fn settled<N: LineName, T: Turn + Drop, R: Wait + Drop>(
 {
     let version = ended.writer.tell().version();
     let mut ended = ended;
-    all_covered(&ends, &mut ended.writer);
+    cover_all(&ends, &mut ended.writer);
     let turns = turns_of(ends, turns);
     let changes = match settle(lines, &mut ended) {
         Ok(changes) => Some(changes),

@@ -6,7 +6,7 @@ ghost use Rattle.rs_version.specs.Writer.{kept_of};
 
 use crate::fault::StoreFault;
 use crate::running::{PlacesEnd, run_places};
-use crate::settling::{parted, settled};
+use crate::settling::{part_ends, settle_run};
 use crate::shared_gate::SharedGate;
 use crate::turn::Turn;
 use rs_intake::{BlankQueue, Ended, Intake, LineName, Queue, SeatLine, run_writer};
@@ -141,6 +141,6 @@ fn run_named<
     let ended = writing.join(&rt);
     let served = served?;
     let PlacesEnd { ends, threads } = served;
-    let (lines, others) = parted(ends, lines, others);
-    Ok(settled(others, lines, threads, ended, left))
+    let (lines, others) = part_ends(ends, lines, others);
+    Ok(settle_run(others, lines, threads, ended, left))
 }

@@ -3,7 +3,7 @@
 use crate::script::{Counts, Course, Script};
 use rs_server::Served;
 use rs_server_kit::ServeResult;
-use rs_test_kit::{Behavior, Call, cut_off, joined, limits};
+use rs_test_kit::{Behavior, Call, concat, cut_off, limits};
 use std::alloc::{AllocError, Global};
 use std::sync::Arc;
 use std::test::Fail;
@@ -77,8 +77,8 @@ pub fn ending(course: Course, ends: ServeResult) -> Course {
 
 /// Appends the connection to those that wait.
 fn put_row(alloc: Global, script: &mut Script, row: &Row<'_>) -> Result<(), AllocError> {
-    let output = joined(alloc, &row.replies)?;
-    let input = joined(alloc, &row.sent)?;
+    let output = concat(alloc, &row.replies)?;
+    let input = concat(alloc, &row.sent)?;
     script.put(row.course, input, output)
 }
 

@@ -6,7 +6,7 @@ ghost use Rattle.rs_places.specs.Turns.{TakesBack, none_given};
 use rs_places::{Connection, Turn};
 use rs_server::{Clock, Counted, ServeFault, Served, Tally};
 use rs_server_kit::ServeResult;
-use rs_test_kit::{Behavior, CONNACK, FaultyStream, is_joined};
+use rs_test_kit::{Behavior, CONNACK, FaultyStream, is_concat};
 use std::alloc::{AllocError, Global};
 use std::collections::VecDeque;
 use std::io;
@@ -120,7 +120,7 @@ impl Output {
     }
 
     fn is_closed(&self, end: ServeResult) -> bool {
-        end == Ok(Served::ServerClosed(0x83)) && is_joined(&self.stream.inner, &[CONNACK, CLOSED])
+        end == Ok(Served::ServerClosed(0x83)) && is_concat(&self.stream.inner, &[CONNACK, CLOSED])
     }
 }
 

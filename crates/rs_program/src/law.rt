@@ -7,7 +7,7 @@ ghost use Rattle.rs_program.specs.Memory.{IsServed};
 
 /// In every run that [`serve_bytes`](crate::serve_bytes) tells of, the serials of each place rise in the
 /// lists. So `stored_of_run` of `rs_session` applies: what was acknowledged stands once in every later list.
-pub fn served_rises()
+pub fn serials_law()
     ensures { (input : List ℕ) (now : ℕ) (served : Served) (output : List ℕ) (s : IsServed input now served output)
         → SerialsRiseIn s.exchanges }
 {}

@@ -20,7 +20,7 @@ mod piping;
 mod program;
 mod words;
 
-pub use law::served_rises;
+pub use law::serials_law;
 pub use memory::serve_bytes;
 pub use own_store::{MAX_OWN_TOPICS, OwnGate};
 pub use piping::{PipeFault, Piped, pipe};

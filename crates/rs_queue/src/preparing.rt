@@ -15,7 +15,12 @@ use std::collections::VecDeque;
 
 /// The entries of this place that do this one after the other, under the serials behind this one. `None` if there are no such serials,
 /// or memory is refused.
-fn numbered(alloc: Global, place: u8, serial: u64, operations: Vec<Operation>) -> Option<Vec<Entry>>
+fn number_entries(
+    alloc: Global,
+    place: u8,
+    serial: u64,
+    operations: Vec<Operation>,
+) -> Option<Vec<Entry>>
     requires { (0 < place) × (place ≤ MAX_PLACES) }
     ensures entries { IfSome result (λ es. es.items ≡ numbered place serial operations.items) }
     ensures small { IfSome result (λ es. serial + length es.items < 2 ^ 64) }
@@ -43,7 +48,7 @@ fn copies(alloc: Global, entries: &Vec<Entry>) -> Option<Vec<Entry>>
 
 /// The entries of this place that do this under the serials behind this one, as one job, and a copy of them. `None` if no serials are left
 /// for all, or memory is refused or short.
-pub fn prepared(
+pub fn prepare(
     alloc: Global,
     place: u8,
     serial: u64,
@@ -60,7 +65,7 @@ pub fn prepared(
     if !has_room(alloc) {
         return None;
     }
-    let entries = numbered(alloc, place, serial, operations)?;
+    let entries = number_entries(alloc, place, serial, operations)?;
     let job = copies(alloc, &entries)?;
     Some((Changes::new(job), VecDeque::from_vec(entries)))
 }
@@ -74,7 +79,7 @@ fn is_set(entry: &Entry) -> bool {
 }
 
 /// This entry alone, as a job. `None` if memory is refused, or is short and the entry takes more of it.
-pub fn alone(alloc: Global, entry: Entry) -> Option<Changes>
+pub fn prepare_one(alloc: Global, entry: Entry) -> Option<Changes>
     requires plain { is_sweep entry.operation ≡ false }
     requires place { 0 < entry.origin.place }
     ensures { IfSome result (λ changes. changes ≡ entry ∷ []) }

@@ -1,4 +1,4 @@
-//! A send, and a receive that looks for a while before it sleeps.
+//! A send, and a receive that polls for a while before it sleeps.
 
 ghost use Rattle.std.specs.Prelude.{◌≡◌, MatchOption, MatchResult};
 ghost use Rattle.crossbeam_channel.specs.Claims.{view, IsSeatAt};
@@ -33,8 +33,8 @@ impl Gone {
         Gone { seen: () }
     }
 
-    /// That of a look. `None` if it found no message, but the other ends are there.
-    fn of_look(failure: TryRecvError) -> Option<Gone>
+    /// That of a poll. `None` if it found no message, but the other ends are there.
+    fn of_poll(failure: TryRecvError) -> Option<Gone>
         ensures { MatchOption result (failure ≡ Empty) (λ _. failure ≡ Disconnected) }
     {
         match failure {
@@ -44,40 +44,40 @@ impl Gone {
     }
 }
 
-/// After so many receives that looked in vain, the next ones look once and then sleep, until one finds its message at a later look.
+/// After so many receives that polled in vain, the next ones poll once and then sleep, until one finds its message at a later poll.
 const MOST_IN_VAIN: u32 = 2;
 
-/// One of so many of these looks as often as the first ones, to see whether a processor is free again for the other thread. So looking
+/// Of so many of these, one polls as often as the first ones, to see whether a processor is free again for the other thread. So polling
 /// costs little where it is of no use, as on one processor.
-const RECEIVES_TO_LOOK: u32 = 128;
+const POLL_EVERY: u32 = 128;
 
-/// How the receives at one end of a channel wait: how often one looks at most, and whether those before found by looking what they waited
+/// How the receives at one end of a channel wait: how often one polls at most, and whether those before found by polling what they waited
 /// for.
 #[derive(Drop)]
 pub struct Patience {
-    most_looks: u32,
+    most_polls: u32,
     in_vain: u32,
     has_waited: bool,
 }
 
 impl Patience {
-    pub fn new(most_looks: u32) -> Patience {
+    pub fn new(most_polls: u32) -> Patience {
         Patience {
-            most_looks,
+            most_polls,
             in_vain: 0,
             has_waited: false,
         }
     }
 
-    /// Whether the last receive found nothing at its first look.
+    /// Whether the last receive found nothing at its first poll.
     pub fn has_waited(&self) -> bool {
         self.has_waited
     }
 
-    /// How often the next receive looks.
-    fn looks(&self) -> u32 {
-        if self.in_vain < MOST_IN_VAIN || self.in_vain % RECEIVES_TO_LOOK == 0 {
-            self.most_looks
+    /// How often the next receive polls.
+    fn polls_allowed(&self) -> u32 {
+        if self.in_vain < MOST_IN_VAIN || self.in_vain % POLL_EVERY == 0 {
+            self.most_polls
         } else {
             1
         }
@@ -103,7 +103,7 @@ pub fn send<T: Drop, V, P: Protocol<T, V>, M: Outcome<T, V> + Lesson<T, V>, R: W
     }
 }
 
-/// As `recv_as`, which sleeps if nothing comes while it looks. It never gives up the processor before that: beside threads of other
+/// As `recv_as`, which sleeps if nothing comes while it polls. It never gives up the processor before that: beside threads of other
 /// programs a yield lasts much longer than a sleep.
 pub fn receive<T: Drop, V, P: Protocol<T, V>, M: Outcome<T, V> + Lesson<T, V>, R: Wait>(
     rt: &R,
@@ -118,18 +118,18 @@ pub fn receive<T: Drop, V, P: Protocol<T, V>, M: Outcome<T, V> + Lesson<T, V>, R
     ensures rule { MatchResult result (λ x. M.then (view pass.old) x (view pass.new))
         (λ _. (view pass.new ≡ view pass.old) × Held 0 (M.fact (view pass.old))) }
 {
-    for look in 0..patience.looks() {
+    for poll in 0..patience.polls_allowed() {
         match from.try_recv_as::<M, R>(rt, pass) {
             Ok(message) => {
-                // What was there at once says nothing about looking.
-                patience.has_waited = look > 0;
+                // What was there at once says nothing about polling.
+                patience.has_waited = poll > 0;
                 if patience.has_waited {
                     patience.in_vain = 0;
                 }
                 return Ok(message);
             }
             Err(failure) => {
-                if let Some(gone) = Gone::of_look(failure) {
+                if let Some(gone) = Gone::of_poll(failure) {
                     return Err(gone);
                 }
                 spin_loop();

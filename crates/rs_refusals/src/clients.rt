@@ -44,7 +44,7 @@ impl<N: LineName, H: Wait + Copy + Drop> Place for Pair<N, H> {
         }
     }
 
-    fn look(&mut self) -> Option<View> {
+    fn view(&mut self) -> Option<View> {
         let found = self.own.answer(&self.all, 0).ok()?;
         Some(View {
             version: self.own.version(),

@@ -38,7 +38,7 @@ pub trait Place {
     fn submit(&mut self, change: Operation) -> Done
         requires { is_sweep change ≡ false };
 
-    fn look(&mut self) -> Option<View>;
+    fn view(&mut self) -> Option<View>;
 }
 
 /// What a place was told: the number of its last receipt, and whether an entry is held behind it; and how often memory was refused: to a
@@ -84,9 +84,9 @@ impl Book {
 /// The seat reads as many topics as the number of the last receipt says: none twice, and none of a submit that was refused. If
 /// memory is refused, it is asked again.
 fn read<P: Place>(place: &mut P, kept: u64) -> Result<(), Failure> {
-    let view = match place.look() {
+    let view = match place.view() {
         Some(view) => Some(view),
-        None => place.look(),
+        None => place.view(),
     };
     match view {
         Some(view) => check(view.version == kept && view.found == kept),

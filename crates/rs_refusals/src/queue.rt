@@ -5,7 +5,7 @@ ghost use Rattle.std.specs.Prelude.{◌≡◌};
 use crate::groups::{
     Book, Done, Grouping, Left, Place, ROUNDS, groups, leave, refused, submit_all, summed,
 };
-use crate::view::{View, look};
+use crate::view::{View, view_of};
 use rs_calls_kit::Failure;
 use rs_intake::{BlankQueue, Ended, Intake, LineName, SeatLine, blank_queue, run_writer};
 use rs_message::{Operation, PlaceCount, SubmitFault};
@@ -46,8 +46,8 @@ impl<N: LineName, H: Wait + Copy + Drop> Place for Open<N, H> {
         }
     }
 
-    fn look(&mut self) -> Option<View> {
-        look(&mut self.seat, &self.all)
+    fn view(&mut self) -> Option<View> {
+        view_of(&mut self.seat, &self.all)
     }
 }
 

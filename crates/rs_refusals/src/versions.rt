@@ -3,7 +3,7 @@
 ghost use Rattle.std.specs.Prelude.{◌≡◌, ◌<◌, ◌^◌, false, IfOk};
 ghost use Rattle.rs_message.specs.Messages.{is_sweep};
 
-use crate::view::{View, look};
+use crate::view::{View, view_of};
 use rs_calls_kit::{Change, Failure, Naming, check, entry};
 use rs_message::{Entry, Origin, PlaceCount};
 use rs_store::TopicLimit;
@@ -46,7 +46,7 @@ trait Store {
     fn retry(&mut self) -> Done;
 
     /// What a seat finds in it.
-    fn look(&mut self) -> Option<View>;
+    fn view(&mut self) -> Option<View>;
 
     /// The number of the published entries.
     fn version(&self) -> u64;
@@ -85,8 +85,8 @@ impl<N: StoreName, R: Wait + Drop> Store for Open<N, R> {
         }
     }
 
-    fn look(&mut self) -> Option<View> {
-        look(&mut self.seat, &self.all)
+    fn view(&mut self) -> Option<View> {
+        view_of(&mut self.seat, &self.all)
     }
 
     fn version(&self) -> u64 {
@@ -183,11 +183,11 @@ fn set(alloc: Global, serial: u64) -> Result<Entry, Failure>
 
 /// The seat reads all that is published. If memory is refused, it is asked again.
 fn read<S: Store>(store: &mut S, book: &mut Book) -> Result<(), Failure> {
-    let view = match store.look() {
+    let view = match store.view() {
         Some(view) => Some(view),
         None => {
             book.answer = more(book.answer);
-            store.look()
+            store.view()
         }
     };
     match view {

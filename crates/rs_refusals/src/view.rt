@@ -11,7 +11,7 @@ pub struct View {
 }
 
 /// What the seat finds, or none if memory is refused for it.
-pub fn look<N: StoreName>(seat: &mut Seat<N>, filter: &TopicFilter) -> Option<View> {
+pub fn view_of<N: StoreName>(seat: &mut Seat<N>, filter: &TopicFilter) -> Option<View> {
     match seat.answer(filter, 0) {
         Ok(snapshot) => Some(View {
             version: snapshot.version,

@@ -225,7 +225,7 @@ fn read_more<R: Read>(
 {
     give_back(alloc, buffered, size);
     let len = buffered.len();
-    let wanted = size.behind(len, needed_len(buffered.as_slice()));
+    let wanted = size.bytes_to_ask(len, needed_len(buffered.as_slice()));
     let Some(asked) = make_room(buffered, wanted) else {
         // Refused: both tries of `make_room` were.
         return Err(ServeFault::NoMemory);
@@ -262,7 +262,7 @@ fn make_exchange<G: Gate, W: Write>(
     ensures due { due_of session.new ≡ None }
     ensures cause { IsWriteCause result (failures_of writer.old) (failures_of writer.new) }
 {
-    let now = incoming.now();
+    let now = incoming.time();
     // Whether the session goes on is asked after its last reply is written.
     let _step = session.on_input(incoming);
     write_replies(alloc, session, writer, now)

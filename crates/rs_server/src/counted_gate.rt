@@ -40,7 +40,7 @@ pub struct Refusals {
 
 impl Refusals {
     /// Nothing was refused.
-    pub fn none() -> Refusals
+    pub fn new() -> Refusals
         ensures { result ≡ none_refused }
     {
         Refusals {
@@ -98,7 +98,7 @@ impl<G> CountedGate<G> {
     {
         CountedGate {
             inner,
-            refusals: Refusals::none(),
+            refusals: Refusals::new(),
         }
     }
 
@@ -223,7 +223,7 @@ pub fn serve_counted<H: Wait, R: Read, W: Write, G: Gate, C: Clock>(
 {
     let counted = CountedGate {
         inner: gate,
-        refusals: Refusals::none(),
+        refusals: Refusals::new(),
     };
     let (served, counted, packets) = serve(rt, alloc, reader, writer, counted, id, clock);
     let CountedGate { inner, refusals } = counted;

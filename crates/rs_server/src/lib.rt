@@ -7,7 +7,7 @@
 //! However the input is split into reads, the bytes written are exactly the replies of the session to the
 //! packets decoded from it; if a write or an allocation fails, a prefix of them. [`Served`] says how the
 //! connection ended, and [`ServeFault`] what failed. The bytes determine the packets
-//! ([`inputs_determined`]).
+//! ([`inputs_law`]).
 //!
 //! The contracts do not say that a call returns, or that memory is available. docs/SESSION.md has the rules in words.
 #![tactic(auto)]
@@ -26,5 +26,5 @@ pub use clock::{Clock, Moments};
 pub use connection::{ConnectionId, Served, serve};
 pub use counted::Counted;
 pub use counted_gate::{CountedGate, Refusals, Tally, serve_counted};
-pub use law::inputs_determined;
+pub use law::inputs_law;
 pub use writing::ServeFault;

@@ -29,7 +29,7 @@ impl ReadSize {
     }
 
     /// How many bytes to ask for, if `len` bytes are buffered of a packet that takes at least `needed`.
-    pub(crate) fn behind(&self, len: usize, needed: usize) -> usize
+    pub(crate) fn bytes_to_ask(&self, len: usize, needed: usize) -> usize
         ensures some { 0 < result }
         ensures few { result ≤ MAX_READ }
     {

@@ -14,8 +14,8 @@ use Rattle.rs_message.specs.declared.entry.Operation.{Operation}
 use Rattle.rs_message.specs.declared.fault.SubmitFault.{SubmitFault}
 use Rattle.rs_message.specs.declared.fault.SubmitFault.TheVariants as submit_fault
 use Rattle.rs_session.specs.declared.open.Open.{Open}
-use Rattle.rs_session.specs.declared.open.Outcome.{Outcome}
-use Rattle.rs_session.specs.declared.open.Outcome.TheVariants.{Replies, Closes, Leaves}
+use Rattle.rs_session.specs.declared.open.Effect.{Effect}
+use Rattle.rs_session.specs.declared.open.Effect.TheVariants.{Replies, Closes, Leaves}
 use Rattle.rs_session.specs.declared.phase.Closing.{Closing}
 use Rattle.rs_session.specs.declared.phase.Closing.TheVariants.{ByClient, ByServer}
 use Rattle.rs_session.specs.declared.phase.Input.TheVariants.{Whole, Broken}
@@ -27,7 +27,7 @@ use Rattle.rs_session.specs.Gate.{Mark, UsesIfOpen}
 use Rattle.rs_session.specs.Points.{Given, given_at}
 use Rattle.rs_session.specs.Reasons.{reason_value}
 use Rattle.rs_session.specs.State.{State, gate_of, state_of}
-use Rattle.rs_session.specs.Steps.{NoSerialUsed, outcome_before, outcome_of_alias, outcome_of_id, outcome_of_submit, outcome_of_topic, outcome_unmade, topic_refusal}
+use Rattle.rs_session.specs.Steps.{NoSerialUsed, effect_before, effect_of_alias, effect_of_id, effect_of_submit, effect_of_topic, effect_of_no_memory, topic_refusal}
 use Rattle.rs_session.specs.Table.{acknowledged_by, unreleased_id, is_unreleased, is_one_too_many, state_after}
 use Rattle.rs_session.proofs.Expecting.{IsNoPublish, not_broken, whole_is}
 
@@ -52,21 +52,21 @@ no_topic_exceeds (Err topic_fault.Shared) e = absurd (cc (e))
 no_topic_exceeds (Err topic_fault.NoMemory) e = absurd (cc (e))
 
 none_exceeds : (alias : Option ℕ) (refusal : Option ReasonCode) (unreleased many : Bool) (again : Option Reply) → refusal ≢ Some QuotaExceeded
-    → outcome_of_alias alias (outcome_of_topic refusal (outcome_of_id unreleased many again)) ≢ Some (Closes QuotaExceeded)
+    → effect_of_alias alias (effect_of_topic refusal (effect_of_id unreleased many again)) ≢ Some (Closes QuotaExceeded)
 none_exceeds (Some alias) refusal unreleased many again other e = absurd (cc (e))
 none_exceeds None (Some code) unreleased many again other e = other (ap (λ (x : ReasonCode). Some x) (let same : code ≡ QuotaExceeded = cc (e) in same))
 none_exceeds None None true many again other e = absurd (cc (e))
 none_exceeds None None false true again other e = absurd (cc (e))
 none_exceeds None None false false again other e = absurd (cc (e))
 
-pub before_use_certain : (p : Publish) (o : Open) (outcome : Outcome) → outcome_before p o ≡ Some outcome → outcome ≢ Closes QuotaExceeded
-before_use_certain p o outcome before e =
+pub before_use_certain : (p : Publish) (o : Open) (effect : Effect) → effect_before p o ≡ Some effect → effect ≢ Closes QuotaExceeded
+before_use_certain p o effect before e =
     none_exceeds p.alias (topic_refusal p.topic) (is_unreleased (unreleased_id p.qos p.id) o.inbound) (is_one_too_many (unreleased_id p.qos p.id) o.inbound) (acknowledged_by p.qos p.id Success) (no_topic_exceeds p.topic)
-    (before ∙ ap (λ (x : Outcome). Some x) e)
+    (before ∙ ap (λ (x : Effect). Some x) e)
 
 -- ---- a submit
 
-by_answer_certain : (answer : Result (Unit {0}) SubmitFault) (qos : Qos) (id : Option ℕ) (old new : Mark) → UsesIfOpen old new answer → new.serial ≡ old.serial → outcome_of_submit answer qos id ≢ Closes QuotaExceeded
+by_answer_certain : (answer : Result (Unit {0}) SubmitFault) (qos : Qos) (id : Option ℕ) (old new : Mark) → UsesIfOpen old new answer → new.serial ≡ old.serial → effect_of_submit answer qos id ≢ Closes QuotaExceeded
 by_answer_certain (Ok done) qos id old new used same e = replies _ e
 by_answer_certain (Err submit_fault.Full) qos id old new used same e = replies _ e
 by_answer_certain (Err submit_fault.NoMemory) qos id old new used same e = replies _ e
@@ -74,21 +74,21 @@ by_answer_certain (Err submit_fault.Open) qos id old new used same e = absurd (o
 by_answer_certain (Err submit_fault.Strange) qos id old new used same e = absurd (cc (e))
 by_answer_certain (Err submit_fault.Closed) qos id old new used same e = absurd (cc (e))
 
-pub by_submit_certain : (answer : Result (Unit {0}) SubmitFault) (qos : Qos) (id : Option ℕ) (old new : Mark) (outcome : Outcome) → outcome ≡ outcome_of_submit answer qos id → UsesIfOpen old new answer → new.serial ≡ old.serial
-    → outcome ≢ Closes QuotaExceeded
-by_submit_certain answer qos id old new outcome is used same e = by_answer_certain answer qos id old new used same (sym is ∙ e)
+pub by_submit_certain : (answer : Result (Unit {0}) SubmitFault) (qos : Qos) (id : Option ℕ) (old new : Mark) (effect : Effect) → effect ≡ effect_of_submit answer qos id → UsesIfOpen old new answer → new.serial ≡ old.serial
+    → effect ≢ Closes QuotaExceeded
+by_submit_certain answer qos id old new effect is used same e = by_answer_certain answer qos id old new used same (sym is ∙ e)
 
 -- ---- no memory for the change
 
 some_none : (operation : Operation) (operations : List Operation) → operation ∷ operations ≢ []
 some_none operation operations e = absurd (cc (e))
 
-unmade : (pending : List Operation) (qos : Qos) (id : Option ℕ) → pending ≡ [] → outcome_unmade pending qos id ≢ Closes QuotaExceeded
+unmade : (pending : List Operation) (qos : Qos) (id : Option ℕ) → pending ≡ [] → effect_of_no_memory pending qos id ≢ Closes QuotaExceeded
 unmade [] qos id none e = replies _ e
 unmade (operation ∷ operations) qos id none e = some_none operation operations none
 
-pub by_refusal_certain : (stands : List Entry → Type 0) (pending : List Operation) (old new : Mark) (qos : Qos) (id : Option ℕ) (outcome : Outcome) → outcome ≡ outcome_unmade pending qos id → NoSerialUsed stands pending old new → outcome ≢ Closes QuotaExceeded
-by_refusal_certain stands pending old new qos id outcome is none e = unmade pending qos id none.2 (sym is ∙ e)
+pub by_refusal_certain : (stands : List Entry → Type 0) (pending : List Operation) (old new : Mark) (qos : Qos) (id : Option ℕ) (effect : Effect) → effect ≡ effect_of_no_memory pending qos id → NoSerialUsed stands pending old new → effect ≢ Closes QuotaExceeded
+by_refusal_certain stands pending old new qos id effect is none e = unmade pending qos id none.2 (sym is ∙ e)
 
 -- ---- a session
 
@@ -127,15 +127,15 @@ open_ended o closing e = absurd (cc (e))
 pub open_before : (o : Open) → phase.Open o ≢ phase.Before
 open_before o e = absurd (cc (e))
 
-not_ended : (outcome : Outcome) (s : State) (o : Open) → outcome ≢ Closes QuotaExceeded → (state_after outcome s o).phase ≢ phase.Ended (ByServer (reason_value QuotaExceeded))
+not_ended : (effect : Effect) (s : State) (o : Open) → effect ≢ Closes QuotaExceeded → (state_after effect s o).phase ≢ phase.Ended (ByServer (reason_value QuotaExceeded))
 not_ended (Replies r) s o other e = open_ended o _ e
 not_ended (Closes code) s o other e = other (ap (λ (x : ReasonCode). Closes x) (code_is code (server_is _ _ e)))
 not_ended Leaves s o other e = by_client _ e
 
-pub took_certain : {G : Type 0} (stands : G → List Entry → Type 0) (pending : G → List Operation) (mark : G → Mark) (old mid new : Session G) (left : Open) (s : State) (gate : G) (outcome : Outcome)
-    → new ≡ mid → gate_of mid ≡ gate → state_of mid ≡ state_after outcome s left → (NoSerialUsed (stands (gate_of old)) (pending (gate_of old)) (mark (gate_of old)) (mark gate) → outcome ≢ Closes QuotaExceeded)
+pub took_certain : {G : Type 0} (stands : G → List Entry → Type 0) (pending : G → List Operation) (mark : G → Mark) (old mid new : Session G) (left : Open) (s : State) (gate : G) (effect : Effect)
+    → new ≡ mid → gate_of mid ≡ gate → state_of mid ≡ state_after effect s left → (NoSerialUsed (stands (gate_of old)) (pending (gate_of old)) (mark (gate_of old)) (mark gate) → effect ≢ Closes QuotaExceeded)
     → NoSerialUsed (stands (gate_of old)) (pending (gate_of old)) (mark (gate_of old)) (mark (gate_of new)) → (state_of new).phase ≢ phase.Ended (ByServer (reason_value QuotaExceeded))
-took_certain {G} stands pending mark old mid new left s gate outcome e g d certain none is =
+took_certain {G} stands pending mark old mid new left s gate effect e g d certain none is =
     let same : gate_of new ≡ gate = ap (λ (x : Session G). gate_of x) e ∙ g in
-    not_ended outcome s left (certain (subst (λ (x : G). NoSerialUsed (stands (gate_of old)) (pending (gate_of old)) (mark (gate_of old)) (mark x)) same none))
+    not_ended effect s left (certain (subst (λ (x : G). NoSerialUsed (stands (gate_of old)) (pending (gate_of old)) (mark (gate_of old)) (mark x)) same none))
     (sym (ap (λ (x : State). x.phase) d) ∙ (sym (ap (λ (x : Session G). (state_of x).phase) e) ∙ is))

@@ -12,8 +12,8 @@ use Rattle.rs_message.specs.declared.entry.Operation.{Operation}
 use Rattle.rs_message.specs.Messages.{is_sweep}
 use Rattle.rs_message.specs.declared.fault.SubmitFault.{SubmitFault}
 use Rattle.rs_session.specs.declared.open.Open.{Open}
-use Rattle.rs_session.specs.declared.open.Outcome.{Outcome}
-use Rattle.rs_session.specs.declared.open.Outcome.TheVariants.{Replies, Closes, Leaves}
+use Rattle.rs_session.specs.declared.open.Effect.{Effect}
+use Rattle.rs_session.specs.declared.open.Effect.TheVariants.{Replies, Closes, Leaves}
 use Rattle.rs_session.specs.declared.phase.Input.{Input}
 use Rattle.rs_session.specs.declared.phase.Input.TheVariants.{Whole, Broken}
 use Rattle.rs_session.specs.declared.phase.Step.TheVariants.{End}
@@ -22,7 +22,7 @@ use Rattle.rs_session.specs.declared.session.Session.{Session}
 use Rattle.rs_session.specs.Gate.{Mark, TakesPending}
 use Rattle.rs_session.specs.Points.{Given, given_at}
 use Rattle.rs_session.specs.State.{State, gate_of, state_of, step_of}
-use Rattle.rs_session.specs.Steps.{IsLast, IsUnsent, TakesPendingBy, outcome_before, outcome_of_alias, outcome_of_id, outcome_of_submit, outcome_of_topic, outcome_unmade, topic_refusal}
+use Rattle.rs_session.specs.Steps.{IsLast, IsUnsent, TakesPendingBy, effect_before, effect_of_alias, effect_of_id, effect_of_submit, effect_of_topic, effect_of_no_memory, topic_refusal}
 use Rattle.rs_session.specs.Table.{acknowledged_by, change, unreleased_id, is_unreleased, is_one_too_many, state_after}
 use Rattle.rs_session.proofs.Submitting.{no_sweep}
 use Rattle.rs_session.specs.Pending.{HasChange, IsChange, LeavesPending, is_low, is_topic, may_be_announced}
@@ -54,7 +54,7 @@ has_change given (Some operation) some is = (operation, is)
 -- ---- what may be announced leads to nothing before its topic is used
 
 passes : (retain : Bool) (qos : Qos) (alias : Option ℕ) (topic : Result (List ℕ) TopicFault) (id : Option ℕ) (o : Open) → (retain && (is_low qos && (not (is_some alias) && is_topic topic))) ≡ true
-    → outcome_of_alias alias (outcome_of_topic (topic_refusal topic) (outcome_of_id (is_unreleased (unreleased_id qos id) o.inbound) (is_one_too_many (unreleased_id qos id) o.inbound) (acknowledged_by qos id Success))) ≡ None
+    → effect_of_alias alias (effect_of_topic (topic_refusal topic) (effect_of_id (is_unreleased (unreleased_id qos id) o.inbound) (is_one_too_many (unreleased_id qos id) o.inbound) (acknowledged_by qos id Success))) ≡ None
 passes false qos alias topic id o h = absurd (cc)
 passes true ExactlyOnce alias topic id o h = absurd (cc)
 passes true AtMostOnce (Some a) topic id o h = absurd (cc)
@@ -64,7 +64,7 @@ passes true AtLeastOnce (Some a) topic id o h = absurd (cc)
 passes true AtLeastOnce None (Err f) id o h = absurd (cc)
 passes true AtLeastOnce None (Ok t) id o h = refl
 
-passes_before : (p : Publish) (o : Open) → may_be_announced p ≡ true → outcome_before p o ≡ None
+passes_before : (p : Publish) (o : Open) → may_be_announced p ≡ true → effect_before p o ≡ None
 passes_before p o h = passes p.retain p.qos p.alias p.topic p.id o h
 
 -- ---- what is left
@@ -101,11 +101,11 @@ by_fault given f now old new S is e = all_left _ old new S e (λ operation (q, t
 pub by_given : (as_read given : Given) (old new : List Operation) (S : Type 0) → as_read ≡ given → LeavesPending as_read old new S → LeavesPending given old new S
 by_given as_read given old new S is h = subst (λ (x : Given). LeavesPending x old new S) is h
 
-some_none : (x : Outcome) → Some x ≡ None → ⊥
+some_none : (x : Effect) → Some x ≡ None → ⊥
 some_none x e = absurd (cc)
 
-pub before_use_pending : (p : Publish) (o : Open) (outcome : Outcome) (now : ℕ) (old new : List Operation) (S : Type 0) → outcome_before p o ≡ Some outcome → new ≡ old → LeavesPending (given_at (Whole (packet.Publish p)) now) old new S
-before_use_pending p o outcome now old new S b e = all_left _ old new S e (λ operation is. absurd (some_none outcome (sym b ∙ passes_before p o (its_change p now operation is).0)))
+pub before_use_pending : (p : Publish) (o : Open) (effect : Effect) (now : ℕ) (old new : List Operation) (S : Type 0) → effect_before p o ≡ Some effect → new ≡ old → LeavesPending (given_at (Whole (packet.Publish p)) now) old new S
+before_use_pending p o effect now old new S b e = all_left _ old new S e (λ operation is. absurd (some_none effect (sym b ∙ passes_before p o (its_change p now operation is).0)))
 
 err_ok : (topic : List ℕ) (f : TopicFault) → ◌≡◌ {A = Result (List ℕ) TopicFault} (Err f) (Ok topic) → ⊥
 err_ok topic f e = absurd (cc)
@@ -128,14 +128,14 @@ not_retained_pending p topic now old new S t c e =
 
 -- ---- a submit
 
-pub by_answer : (operation : Operation) (old_mark new_mark : Mark) (answer : Result (Unit {0}) SubmitFault) (qos : Qos) (id : Option ℕ) (outcome : Outcome) (old new : List Operation)
-    → outcome ≡ outcome_of_submit answer qos id → TakesPending operation old_mark new_mark answer old new → TakesPendingBy operation old_mark new_mark outcome old new
-by_answer operation old_mark new_mark answer qos id outcome old new d h =
-    elim h as (λ h. TakesPendingBy operation old_mark new_mark outcome old new) [
+pub by_answer : (operation : Operation) (old_mark new_mark : Mark) (answer : Result (Unit {0}) SubmitFault) (qos : Qos) (id : Option ℕ) (effect : Effect) (old new : List Operation)
+    → effect ≡ effect_of_submit answer qos id → TakesPending operation old_mark new_mark answer old new → TakesPendingBy operation old_mark new_mark effect old new
+by_answer operation old_mark new_mark answer qos id effect old new d h =
+    elim h as (λ h. TakesPendingBy operation old_mark new_mark effect old new) [
       | inl e ↦ inl e
-      | inr h ↦ elim h as (λ h. TakesPendingBy operation old_mark new_mark outcome old new) [
+      | inr h ↦ elim h as (λ h. TakesPendingBy operation old_mark new_mark effect old new) [
         | inl e ↦ inr (inl e)
-        | inr k ↦ inr (inr (k.0, (k.2, subst IsLast (sym (d ∙ ap (λ (x : Result (Unit {0}) SubmitFault). outcome_of_submit x qos id) k.1)) tt)))
+        | inr k ↦ inr (inr (k.0, (k.2, subst IsLast (sym (d ∙ ap (λ (x : Result (Unit {0}) SubmitFault). effect_of_submit x qos id) k.1)) tt)))
       ]
     ]
 
@@ -145,8 +145,8 @@ none_is operation operations e = absurd (cc)
 rest_is : (a b : Operation) (rest more : List Operation) → a ∷ rest ≡ b ∷ more → more ≡ rest
 rest_is a b rest more e = cc
 
-pub by_submit : (given : Given) (operation : Operation) (old_mark new_mark : Mark) (outcome : Outcome) (old new : List Operation) → TakesPendingBy operation old_mark new_mark outcome old new → LeavesPending given old new (IsUnsent old_mark new_mark outcome)
-by_submit given operation old_mark new_mark outcome [] new h =
+pub by_submit : (given : Given) (operation : Operation) (old_mark new_mark : Mark) (effect : Effect) (old new : List Operation) → TakesPendingBy operation old_mark new_mark effect old new → LeavesPending given old new (IsUnsent old_mark new_mark effect)
+by_submit given operation old_mark new_mark effect [] new h =
     elim h as (λ h. new ≡ []) [
       | inl e ↦ e
       | inr h ↦ elim h as (λ h. new ≡ []) [
@@ -154,19 +154,19 @@ by_submit given operation old_mark new_mark outcome [] new h =
         | inr k ↦ k.0
       ]
     ]
-by_submit given operation old_mark new_mark outcome (first ∷ rest) new h = λ is.
-    elim h as (λ h. (new ≡ rest) ⊎ ((new ≡ []) ⊎ ((new ≡ first ∷ rest) × IsUnsent old_mark new_mark outcome))) [
+by_submit given operation old_mark new_mark effect (first ∷ rest) new h = λ is.
+    elim h as (λ h. (new ≡ rest) ⊎ ((new ≡ []) ⊎ ((new ≡ first ∷ rest) × IsUnsent old_mark new_mark effect))) [
       | inl e ↦ inr (inl e)
-      | inr h ↦ elim h as (λ h. (new ≡ rest) ⊎ ((new ≡ []) ⊎ ((new ≡ first ∷ rest) × IsUnsent old_mark new_mark outcome))) [
+      | inr h ↦ elim h as (λ h. (new ≡ rest) ⊎ ((new ≡ []) ⊎ ((new ≡ first ∷ rest) × IsUnsent old_mark new_mark effect))) [
         | inl e ↦ inl (rest_is _ _ _ _ e)
         | inr k ↦ inr (inr k)
       ]
     ]
 
 -- no memory for the change
-pub by_refusal : (given : Given) (qos : Qos) (id : Option ℕ) (mark : Mark) (outcome : Outcome) (old : List Operation) → outcome ≡ outcome_unmade old qos id → LeavesPending given old old (IsUnsent mark mark outcome)
-by_refusal given qos id mark outcome [] d = refl
-by_refusal given qos id mark outcome (first ∷ rest) d = λ is. inr (inr (refl, (refl, subst IsLast (sym d) tt)))
+pub by_refusal : (given : Given) (qos : Qos) (id : Option ℕ) (mark : Mark) (effect : Effect) (old : List Operation) → effect ≡ effect_of_no_memory old qos id → LeavesPending given old old (IsUnsent mark mark effect)
+by_refusal given qos id mark effect [] d = refl
+by_refusal given qos id mark effect (first ∷ rest) d = λ is. inr (inr (refl, (refl, subst IsLast (sym d) tt)))
 
 -- ---- a session
 
@@ -176,16 +176,16 @@ stays_pending {G} pending mark given old mid new e g f =
     subst (λ (s : Session G). LeavesPending given (pending (gate_of old)) (pending (gate_of s)) ((mark (gate_of s) ≡ mark (gate_of old)) × (step_of (state_of s).phase ≡ End))) (sym e)
     (all_left _ _ _ _ (ap pending g) (λ operation (x, topic, i, may, t, made). (ap mark g, f x i)))
 
-last_ends : (outcome : Outcome) (s : State) (o : Open) → IsLast outcome → step_of (state_after outcome s o).phase ≡ End
+last_ends : (effect : Effect) (s : State) (o : Open) → IsLast effect → step_of (state_after effect s o).phase ≡ End
 last_ends (Replies r) s o h = absurd h
 last_ends (Closes code) s o h = refl
 last_ends Leaves s o h = refl
 
-pub took_pending : {G : Type 0} (pending : G → List Operation) (mark : G → Mark) (given : Given) (old mid new : Session G) (left : Open) (s : State) (gate : G) (outcome : Outcome) → new ≡ mid → gate_of mid ≡ gate → state_of mid ≡ state_after outcome s left
-    → LeavesPending given (pending (gate_of old)) (pending gate) (IsUnsent (mark (gate_of old)) (mark gate) outcome)
+pub took_pending : {G : Type 0} (pending : G → List Operation) (mark : G → Mark) (given : Given) (old mid new : Session G) (left : Open) (s : State) (gate : G) (effect : Effect) → new ≡ mid → gate_of mid ≡ gate → state_of mid ≡ state_after effect s left
+    → LeavesPending given (pending (gate_of old)) (pending gate) (IsUnsent (mark (gate_of old)) (mark gate) effect)
     → LeavesPending given (pending (gate_of old)) (pending (gate_of new)) ((mark (gate_of new) ≡ mark (gate_of old)) × (step_of (state_of new).phase ≡ End))
-took_pending {G} pending mark given old mid new left s gate outcome e g d h =
+took_pending {G} pending mark given old mid new left s gate effect e g d h =
     subst (λ (x : Session G). LeavesPending given (pending (gate_of old)) (pending (gate_of x)) ((mark (gate_of x) ≡ mark (gate_of old)) × (step_of (state_of x).phase ≡ End))) (sym e)
-    (leaves_weaker given (pending (gate_of old)) (pending (gate_of mid)) (IsUnsent (mark (gate_of old)) (mark (gate_of mid)) outcome) _
-    (λ k. (k.0, ap (λ (x : State). step_of x.phase) d ∙ last_ends outcome s left k.1))
-    (subst (λ (x : G). LeavesPending given (pending (gate_of old)) (pending x) (IsUnsent (mark (gate_of old)) (mark x) outcome)) (sym g) h))
+    (leaves_weaker given (pending (gate_of old)) (pending (gate_of mid)) (IsUnsent (mark (gate_of old)) (mark (gate_of mid)) effect) _
+    (λ k. (k.0, ap (λ (x : State). step_of x.phase) d ∙ last_ends effect s left k.1))
+    (subst (λ (x : G). LeavesPending given (pending (gate_of old)) (pending x) (IsUnsent (mark (gate_of old)) (mark x) effect)) (sym g) h))

@@ -28,8 +28,8 @@ use Rattle.rs_window.specs.Calls as window
 use Rattle.rs_window.specs.Packets.{reply_of}
 use Rattle.rs_window.specs.Values.{OutgoingValue}
 use Rattle.rs_session.specs.declared.open.Open.{Open}
-use Rattle.rs_session.specs.declared.open.Outcome.{Outcome}
-use Rattle.rs_session.specs.declared.open.Outcome.TheVariants.{Replies, Closes, Leaves}
+use Rattle.rs_session.specs.declared.open.Effect.{Effect}
+use Rattle.rs_session.specs.declared.open.Effect.TheVariants.{Replies, Closes, Leaves}
 use Rattle.rs_session.specs.declared.phase.Closing.TheVariants.{ByClient, ByServer}
 use Rattle.rs_session.specs.declared.phase.Input.{Input}
 use Rattle.rs_session.specs.declared.phase.Input.TheVariants.{Whole}
@@ -82,15 +82,15 @@ grants_chain now (asked ∷ more) identifier from codes answered to (code, rest,
 unanswered : (seen : List Entry) (answered : List (List Entry)) (list : List Entry) → answered ≡ [] → Extends list seen → Chain seen answered list
 unanswered seen answered list none grows = subst (λ (ls : List (List Entry)). Chain seen ls list) (sym none) grows
 
-row_chain : (case : OpenCase) (given : Given) (from : Point Open) (answered : List (List Entry)) (outcome : Outcome) (to : Point Open)
-    → AnsweredInOpen case answered → OpenRow case given from answered outcome to → Extends to.seen from.seen → Chain from.seen answered to.seen
-row_chain Subscribed given from answered outcome to a (s, codes, i, n, grants, out, u) g = grants_chain given.now s.filters s.subscription from codes answered to grants
-row_chain case given from answered outcome to none row g = unanswered from.seen answered to.seen none g
+row_chain : (case : OpenCase) (given : Given) (from : Point Open) (answered : List (List Entry)) (effect : Effect) (to : Point Open)
+    → AnsweredInOpen case answered → OpenRow case given from answered effect to → Extends to.seen from.seen → Chain from.seen answered to.seen
+row_chain Subscribed given from answered effect to a (s, codes, i, n, grants, out, u) g = grants_chain given.now s.filters s.subscription from codes answered to grants
+row_chain case given from answered effect to none row g = unanswered from.seen answered to.seen none g
 
 exchange_chain : (case : Case) (given : Given) (from : Point State) (answered : List (List Entry)) (due : Option Reply) (to : Point State)
     → AnsweredIn case answered → SessionRow case given from answered due to → Extends to.seen from.seen → Chain from.seen answered to.seen
-exchange_chain In_session given from answered due to a (o, left, outcome, is, (case, by_case, row), d, same) g =
-    row_chain case given (with_state from o) answered outcome (with_state to left) by_case row g
+exchange_chain In_session given from answered due to a (o, left, effect, is, (case, by_case, row), d, same) g =
+    row_chain case given (with_state from o) answered effect (with_state to left) by_case row g
 exchange_chain case given from answered due to none row g = unanswered from.seen answered to.seen none g
 
 run_chain : (from to : Point State) (exchanges : List Exchange) → Run from exchanges to → Chain from.seen (lists_of exchanges) to.seen
@@ -208,13 +208,13 @@ no_ack_given r [] ack h = h
 no_ack_given r (p ∷ given) ack (inl e) = subst IsAck (sym e) ack
 no_ack_given r (p ∷ given) ack (inr h) = no_ack_given r given ack h
 
--- a reply that is due is that of the outcome
-due_is : (maximum : ℕ) (outcome : Outcome) (r : Reply) → IsAck r → Among r (listed (due_for maximum outcome)) → outcome ≡ Replies (Some r)
+-- a reply that is due is that of the effect
+due_is : (maximum : ℕ) (effect : Effect) (r : Reply) → IsAck r → Among r (listed (due_for maximum effect)) → effect ≡ Replies (Some r)
 due_is maximum (Replies None) r ack h = absurd h
 due_is maximum (Replies (Some first)) r ack h = by_case (leb (length (reply_bytes first)) maximum) h
   where
     by_case : (b : Bool) → Among r (listed (cond b (Some first) None)) → Replies (Some first) ≡ Replies (Some r)
-    by_case true (inl e) = ap (λ (x : Reply). let o : Outcome = Replies (Some x) in o) e
+    by_case true (inl e) = ap (λ (x : Reply). let o : Effect = Replies (Some x) in o) e
     by_case true (inr none) = absurd none
     by_case false none = absurd none
 due_is maximum (Closes code) r ack h = by_case (leb (length (reply_bytes (reply.Disconnect (reason_value code)))) maximum) h
@@ -225,8 +225,8 @@ due_is maximum (Closes code) r ack h = by_case (leb (length (reply_bytes (reply.
     by_case false none = absurd none
 due_is maximum Leaves r ack h = absurd h
 
-replied_by : (exchange : Exchange) (maximum : ℕ) (outcome : Outcome) (left : Open) (old mid : State) (due : Option Reply) (r : Reply) → due ≡ due_for maximum outcome → mid ≡ state_after outcome old left
-    → GivesAll exchange.given.now due mid exchange.replies exchange.to.state → IsAck r → Among r exchange.replies → outcome ≡ Replies (Some r)
+replied_by : (exchange : Exchange) (maximum : ℕ) (effect : Effect) (left : Open) (old mid : State) (due : Option Reply) (r : Reply) → due ≡ due_for maximum effect → mid ≡ state_after effect old left
+    → GivesAll exchange.given.now due mid exchange.replies exchange.to.state → IsAck r → Among r exchange.replies → effect ≡ Replies (Some r)
 replied_by exchange maximum (Replies answer) left old mid due r d same g ack h =
     let (given, n, is, run, whole) = given_calls exchange.given.now due mid left exchange.replies g.left g.last exchange.to.state (phase_of mid _ same) g.given g.none_left in
     by_case given (among_append r (listed due) (map reply_of given) (subst (λ (rs : List Reply). Among r rs) whole h))
@@ -253,16 +253,16 @@ no_publish input as_read p i none is = absurd (none-some p (sym none ∙ ap publ
 same_publish : (input : Input) (p q : Publish) → input ≡ Whole (packet.Publish q) → input ≡ Whole (packet.Publish p) → q ≡ p
 same_publish input p q i is = same_Some q p (ap publish_in (sym i ∙ is))
 
-abbrev answer_in : Outcome → Option (Option Reply)
+abbrev answer_in : Effect → Option (Option Reply)
 answer_in (Replies answer) = Some answer
 answer_in (Closes code) = None
 answer_in Leaves = None
 
-no_answer : {A : Type 0} (outcome as_led : Outcome) (answer : Reply) → outcome ≡ as_led → answer_in as_led ≡ None → outcome ≡ Replies (Some answer) → A
-no_answer outcome as_led answer out none is = absurd (none-some (Some answer) (sym none ∙ ap answer_in (sym out ∙ is)))
+no_answer : {A : Type 0} (effect as_led : Effect) (answer : Reply) → effect ≡ as_led → answer_in as_led ≡ None → effect ≡ Replies (Some answer) → A
+no_answer effect as_led answer out none is = absurd (none-some (Some answer) (sym none ∙ ap answer_in (sym out ∙ is)))
 
-same_answer : (outcome : Outcome) (a : Option Reply) (answer : Reply) → outcome ≡ Replies a → outcome ≡ Replies (Some answer) → a ≡ Some answer
-same_answer outcome a answer out is = same_Some a (Some answer) (ap answer_in (sym out ∙ is))
+same_answer : (effect : Effect) (a : Option Reply) (answer : Reply) → effect ≡ Replies a → effect ≡ Replies (Some answer) → a ≡ Some answer
+same_answer effect a answer out is = same_Some a (Some answer) (ap answer_in (sym out ∙ is))
 
 true_false : {A : Type 0} (b : Bool) → b ≡ true → b ≡ false → A
 true_false b t f = absurd (subst IsIt (sym t ∙ f) tt)
@@ -283,38 +283,38 @@ IsStored case = ⊥
 abbrev IsEntered : Publish → ℕ → Mark → Mark → List Entry → Type 0
 IsEntered p now mark used list = (topic : List ℕ) × (operation : Operation) × (p.topic ≡ Ok topic) × (change p topic now ≡ Some operation) × IsSubmitted operation mark used list
 
-row_stored : (case : OpenCase) (given : Given) (from : Point Open) (answered : List (List Entry)) (outcome : Outcome) (to : Point Open) (p : Publish) (answer : Reply)
-    → OpenRow case given from answered outcome to → given.input ≡ Whole (packet.Publish p) → p.retain ≡ true → is_unreleased (unreleased_id p.qos p.id) from.state.inbound ≡ false
-    → acknowledged_by p.qos p.id Success ≡ Some answer → outcome ≡ Replies (Some answer) → IsStored case × IsEntered p given.now from.mark to.mark to.seen
-row_stored Connected_twice given from answered outcome to p answer (c, i, out, unchanged) is r f a o = no_publish given.input _ p i refl is
-row_stored Faulty given from answered outcome to p answer (k, i, out, unchanged) is r f a o = no_publish given.input _ p i refl is
-row_stored With_alias given from answered outcome to p answer (q, i, al, out, unchanged) is r f a o = no_answer outcome _ answer out refl o
-row_stored Bad_topic given from answered outcome to p answer (q, k, i, al, t, other, out, unchanged) is r f a o = no_answer outcome _ answer out refl o
-row_stored Sent_again given from answered outcome to p answer (q, i, al, t, unreleased, out, unchanged) is r f a o =
+row_stored : (case : OpenCase) (given : Given) (from : Point Open) (answered : List (List Entry)) (effect : Effect) (to : Point Open) (p : Publish) (answer : Reply)
+    → OpenRow case given from answered effect to → given.input ≡ Whole (packet.Publish p) → p.retain ≡ true → is_unreleased (unreleased_id p.qos p.id) from.state.inbound ≡ false
+    → acknowledged_by p.qos p.id Success ≡ Some answer → effect ≡ Replies (Some answer) → IsStored case × IsEntered p given.now from.mark to.mark to.seen
+row_stored Connected_twice given from answered effect to p answer (c, i, out, unchanged) is r f a o = no_publish given.input _ p i refl is
+row_stored Faulty given from answered effect to p answer (k, i, out, unchanged) is r f a o = no_publish given.input _ p i refl is
+row_stored With_alias given from answered effect to p answer (q, i, al, out, unchanged) is r f a o = no_answer effect _ answer out refl o
+row_stored Bad_topic given from answered effect to p answer (q, k, i, al, t, other, out, unchanged) is r f a o = no_answer effect _ answer out refl o
+row_stored Sent_again given from answered effect to p answer (q, i, al, t, unreleased, out, unchanged) is r f a o =
     let same : q ≡ p = same_publish given.input p q i is in
     true_false (is_unreleased (unreleased_id q.qos q.id) from.state.inbound) unreleased (ap (λ (x : Publish). is_unreleased (unreleased_id x.qos x.id) from.state.inbound) same ∙ f)
-row_stored Too_many_unreleased given from answered outcome to p answer (q, i, al, t, many, out, unchanged) is r f a o = no_answer outcome _ answer out refl o
-row_stored Not_retained given from answered outcome to p answer (q, topic, i, taken, t, not_retained, out, u, same) is r f a o =
+row_stored Too_many_unreleased given from answered effect to p answer (q, i, al, t, many, out, unchanged) is r f a o = no_answer effect _ answer out refl o
+row_stored Not_retained given from answered effect to p answer (q, topic, i, taken, t, not_retained, out, u, same) is r f a o =
     true_false p.retain r (sym (ap (λ (x : Publish). x.retain) (same_publish given.input p q i is)) ∙ not_retained)
-row_stored Stored given from answered outcome to p answer (q, topic, operation, i, s, submitted, out, same) is r f a o =
+row_stored Stored given from answered effect to p answer (q, topic, operation, i, s, submitted, out, same) is r f a o =
     let same_p : q ≡ p = same_publish given.input p q i is in
     (tt, subst (λ (x : Publish). IsEntered x given.now from.mark to.mark to.seen) same_p (topic, operation, s.is_topic, s.changes, submitted))
-row_stored Topic_unread given from answered outcome to p answer (q, i, taken, t, out, unchanged) is r f a o =
-    one_code p answer a (sym (ap (λ (x : Publish). acknowledged_by x.qos x.id QuotaExceeded) (same_publish given.input p q i is)) ∙ same_answer outcome _ answer out o)
-row_stored Not_stored given from answered outcome to p answer (q, topic, operation, i, s, out, same) is r f a o =
-    one_code p answer a (sym (ap (λ (x : Publish). acknowledged_by x.qos x.id QuotaExceeded) (same_publish given.input p q i is)) ∙ same_answer outcome _ answer out o)
-row_stored Uncertain given from answered outcome to p answer (q, topic, operation, i, s, out, same) is r f a o = no_answer outcome _ answer out refl o
-row_stored Gate_closed given from answered outcome to p answer (q, topic, operation, i, s, out, same) is r f a o = no_answer outcome _ answer out refl o
-row_stored Released given from answered outcome to p answer (k, i, out, u, same) is r f a o = no_publish given.input _ p i refl is
-row_stored Wrong_acknowledgement given from answered outcome to p answer (q, ack, id, i, at, wrong, out, unchanged) is r f a o = no_answer outcome _ answer out refl o
-row_stored Acknowledged given from answered outcome to p answer (q, ack, id, k, i, at, step, out, u, same) is r f a o = no_publish given.input (Whole q) p i (acknowledges_no_publish q (ack, id) at) is
-row_stored Shared_no_local given from answered outcome to p answer (s, i, n, out, unchanged) is r f a o = no_publish given.input _ p i refl is
-row_stored Not_subscribed given from answered outcome to p answer (s, i, n, out, unchanged) is r f a o = no_publish given.input _ p i refl is
-row_stored Subscribed given from answered outcome to p answer (s, codes, i, n, grants, out, u) is r f a o = no_publish given.input _ p i refl is
-row_stored Not_unsubscribed given from answered outcome to p answer (u, i, out, unchanged) is r f a o = no_publish given.input _ p i refl is
-row_stored Unsubscribed given from answered outcome to p answer (u, i, out, m, same) is r f a o = no_publish given.input _ p i refl is
-row_stored Pinged given from answered outcome to p answer (i, out, unchanged) is r f a o = no_publish given.input _ p i refl is
-row_stored Disconnected given from answered outcome to p answer (code, i, out, unchanged) is r f a o = no_publish given.input _ p i refl is
+row_stored Topic_unread given from answered effect to p answer (q, i, taken, t, out, unchanged) is r f a o =
+    one_code p answer a (sym (ap (λ (x : Publish). acknowledged_by x.qos x.id QuotaExceeded) (same_publish given.input p q i is)) ∙ same_answer effect _ answer out o)
+row_stored Not_stored given from answered effect to p answer (q, topic, operation, i, s, out, same) is r f a o =
+    one_code p answer a (sym (ap (λ (x : Publish). acknowledged_by x.qos x.id QuotaExceeded) (same_publish given.input p q i is)) ∙ same_answer effect _ answer out o)
+row_stored Uncertain given from answered effect to p answer (q, topic, operation, i, s, out, same) is r f a o = no_answer effect _ answer out refl o
+row_stored Gate_closed given from answered effect to p answer (q, topic, operation, i, s, out, same) is r f a o = no_answer effect _ answer out refl o
+row_stored Released given from answered effect to p answer (k, i, out, u, same) is r f a o = no_publish given.input _ p i refl is
+row_stored Wrong_acknowledgement given from answered effect to p answer (q, ack, id, i, at, wrong, out, unchanged) is r f a o = no_answer effect _ answer out refl o
+row_stored Acknowledged given from answered effect to p answer (q, ack, id, k, i, at, step, out, u, same) is r f a o = no_publish given.input (Whole q) p i (acknowledges_no_publish q (ack, id) at) is
+row_stored Shared_no_local given from answered effect to p answer (s, i, n, out, unchanged) is r f a o = no_publish given.input _ p i refl is
+row_stored Not_subscribed given from answered effect to p answer (s, i, n, out, unchanged) is r f a o = no_publish given.input _ p i refl is
+row_stored Subscribed given from answered effect to p answer (s, codes, i, n, grants, out, u) is r f a o = no_publish given.input _ p i refl is
+row_stored Not_unsubscribed given from answered effect to p answer (u, i, out, unchanged) is r f a o = no_publish given.input _ p i refl is
+row_stored Unsubscribed given from answered effect to p answer (u, i, out, m, same) is r f a o = no_publish given.input _ p i refl is
+row_stored Pinged given from answered effect to p answer (i, out, unchanged) is r f a o = no_publish given.input _ p i refl is
+row_stored Disconnected given from answered effect to p answer (code, i, out, unchanged) is r f a o = no_publish given.input _ p i refl is
 
 abbrev open_or : Open → Phase → Open
 open_or other phase.Before = other
@@ -322,16 +322,16 @@ open_or other (phase.Open o) = o
 open_or other (phase.Ended closing) = other
 
 -- the row of a publication that the client was told is stored
-pub told_row : (from : Point State) (exchange : Exchange) (o : Open) (p : Publish) (answer : Reply) (at left : Open) (outcome : Outcome) (due : Option Reply) (mid : State) (case : OpenCase)
+pub told_row : (from : Point State) (exchange : Exchange) (o : Open) (p : Publish) (answer : Reply) (at left : Open) (effect : Effect) (due : Option Reply) (mid : State) (case : OpenCase)
     → from.state.phase ≡ phase.Open o → IsToldStored o exchange p answer → from.state.phase ≡ phase.Open at
-    → OpenRow case exchange.given (with_state from at) exchange.answered outcome (with_state exchange.to left) → due ≡ due_for at.window.packet_maximum outcome → mid ≡ state_after outcome from.state left
+    → OpenRow case exchange.given (with_state from at) exchange.answered effect (with_state exchange.to left) → due ≡ due_for at.window.packet_maximum effect → mid ≡ state_after effect from.state left
     → GivesAll exchange.given.now due mid exchange.replies exchange.to.state → IsStored case × IsEntered p exchange.given.now from.mark exchange.to.mark exchange.to.seen
-told_row from exchange o p answer at left outcome due mid case is told here row d same g =
+told_row from exchange o p answer at left effect due mid case is told here row d same g =
     let same_open : o ≡ at = ap (open_or o) (sym is ∙ here) in
     let new : is_unreleased (unreleased_id p.qos p.id) at.inbound ≡ false = subst (λ (x : Open). is_unreleased (unreleased_id p.qos p.id) x.inbound ≡ false) same_open told.new in
-    let out : outcome ≡ Replies (Some answer) =
-    replied_by exchange at.window.packet_maximum outcome left from.state mid due answer d same g (ack_by p.qos p.id Success answer told.code) (among answer exchange.replies told.replied) in
-    row_stored case exchange.given (with_state from at) exchange.answered outcome (with_state exchange.to left) p answer row told.input told.retained new told.code out
+    let out : effect ≡ Replies (Some answer) =
+    replied_by exchange at.window.packet_maximum effect left from.state mid due answer d same g (ack_by p.qos p.id Success answer told.code) (among answer exchange.replies told.replied) in
+    row_stored case exchange.given (with_state from at) exchange.answered effect (with_state exchange.to left) p answer row told.input told.retained new told.code out
 
 exchange_stored : (from : Point State) (exchange : Exchange) (o : Open) (p : Publish) (answer : Reply) (case : Case) (due : Option Reply) (mid : State) → from.state.phase ≡ phase.Open o → IsToldStored o exchange p answer
     → SessionRow case exchange.given from exchange.answered due (with_state exchange.to mid) → GivesAll exchange.given.now due mid exchange.replies exchange.to.state
@@ -343,8 +343,8 @@ exchange_stored from exchange o p answer Accepted due mid is told (c, i, before,
 exchange_stored from exchange o p answer Connack_too_long due mid is told (c, i, before, m, k, long, u, d, same) g = shut (phase.Open o) phase.Before (sym is ∙ before) tt (λ n. n)
 exchange_stored from exchange o p answer Other_version due mid is told (i, before, u, d, same) g = shut (phase.Open o) phase.Before (sym is ∙ before) tt (λ n. n)
 exchange_stored from exchange o p answer Unexpected due mid is told (i, before, u, d, same) g = shut (phase.Open o) phase.Before (sym is ∙ before) tt (λ n. n)
-exchange_stored from exchange o p answer In_session due mid is told (at, left, outcome, here, (case, none, row), d, same) g =
-    (told_row from exchange o p answer at left outcome due mid case is told here row d same g).1
+exchange_stored from exchange o p answer In_session due mid is told (at, left, effect, here, (case, none, row), d, same) g =
+    (told_row from exchange o p answer at left effect due mid case is told here row d same g).1
 exchange_stored from exchange o p answer Over due mid is told (closing, ended, u, d, same) g = shut (phase.Open o) (phase.Ended closing) (sym is ∙ ended) tt (λ n. n)
 
 -- ---- the lists of a gate
@@ -407,30 +407,30 @@ grows_itself mark used e = record { place = ap (λ (m : Mark). m.place) e; alone
 uses_grows : (mark used : Mark) → Uses mark used → MarkGrows mark used
 uses_grows mark used u = record { place = u.place; alone = u.alone; serial = u.no_lower }
 
-row_marks : (case : OpenCase) (given : Given) (from : Point Open) (answered : List (List Entry)) (outcome : Outcome) (to : Point Open)
-    → OpenRow case given from answered outcome to → MarkGrows from.mark to.mark
-row_marks Connected_twice given from answered outcome to (c, i, out, unchanged) = grows_itself from.mark to.mark unchanged.none_used
-row_marks Faulty given from answered outcome to (f, i, out, unchanged) = grows_itself from.mark to.mark unchanged.none_used
-row_marks With_alias given from answered outcome to (p, i, a, out, unchanged) = grows_itself from.mark to.mark unchanged.none_used
-row_marks Bad_topic given from answered outcome to (p, f, i, a, t, other, out, unchanged) = grows_itself from.mark to.mark unchanged.none_used
-row_marks Sent_again given from answered outcome to (p, i, a, t, unreleased, out, unchanged) = grows_itself from.mark to.mark unchanged.none_used
-row_marks Too_many_unreleased given from answered outcome to (p, i, a, t, many, out, unchanged) = grows_itself from.mark to.mark unchanged.none_used
-row_marks Not_retained given from answered outcome to (p, topic, i, taken, t, r, out, u, same) = grows_itself from.mark to.mark u
-row_marks Stored given from answered outcome to (p, topic, operation, i, s, submitted, out, same) = uses_grows from.mark to.mark s.one_used
-row_marks Topic_unread given from answered outcome to (p, i, taken, t, out, unchanged) = grows_itself from.mark to.mark unchanged.none_used
-row_marks Not_stored given from answered outcome to (p, topic, operation, i, s, out, same) = uses_grows from.mark to.mark s.one_used
-row_marks Uncertain given from answered outcome to (p, topic, operation, i, s, out, same) = uses_grows from.mark to.mark s.one_used
-row_marks Gate_closed given from answered outcome to (p, topic, operation, i, s, out, same) = uses_grows from.mark to.mark s.one_used
-row_marks Released given from answered outcome to (a, i, out, u, same) = grows_itself from.mark to.mark u
-row_marks Wrong_acknowledgement given from answered outcome to (p, ack, id, i, is, wrong, out, unchanged) = grows_itself from.mark to.mark unchanged.none_used
-row_marks Acknowledged given from answered outcome to (p, ack, id, answer, i, is, step, out, u, same) = grows_itself from.mark to.mark u
-row_marks Shared_no_local given from answered outcome to (s, i, n, out, unchanged) = grows_itself from.mark to.mark unchanged.none_used
-row_marks Not_subscribed given from answered outcome to (s, i, n, out, unchanged) = grows_itself from.mark to.mark unchanged.none_used
-row_marks Subscribed given from answered outcome to (s, codes, i, n, grants, out, u) = grows_itself from.mark to.mark u
-row_marks Not_unsubscribed given from answered outcome to (u, i, out, unchanged) = grows_itself from.mark to.mark unchanged.none_used
-row_marks Unsubscribed given from answered outcome to (u, i, out, m, same) = grows_itself from.mark to.mark m
-row_marks Pinged given from answered outcome to (i, out, unchanged) = grows_itself from.mark to.mark unchanged.none_used
-row_marks Disconnected given from answered outcome to (code, i, out, unchanged) = grows_itself from.mark to.mark unchanged.none_used
+row_marks : (case : OpenCase) (given : Given) (from : Point Open) (answered : List (List Entry)) (effect : Effect) (to : Point Open)
+    → OpenRow case given from answered effect to → MarkGrows from.mark to.mark
+row_marks Connected_twice given from answered effect to (c, i, out, unchanged) = grows_itself from.mark to.mark unchanged.none_used
+row_marks Faulty given from answered effect to (f, i, out, unchanged) = grows_itself from.mark to.mark unchanged.none_used
+row_marks With_alias given from answered effect to (p, i, a, out, unchanged) = grows_itself from.mark to.mark unchanged.none_used
+row_marks Bad_topic given from answered effect to (p, f, i, a, t, other, out, unchanged) = grows_itself from.mark to.mark unchanged.none_used
+row_marks Sent_again given from answered effect to (p, i, a, t, unreleased, out, unchanged) = grows_itself from.mark to.mark unchanged.none_used
+row_marks Too_many_unreleased given from answered effect to (p, i, a, t, many, out, unchanged) = grows_itself from.mark to.mark unchanged.none_used
+row_marks Not_retained given from answered effect to (p, topic, i, taken, t, r, out, u, same) = grows_itself from.mark to.mark u
+row_marks Stored given from answered effect to (p, topic, operation, i, s, submitted, out, same) = uses_grows from.mark to.mark s.one_used
+row_marks Topic_unread given from answered effect to (p, i, taken, t, out, unchanged) = grows_itself from.mark to.mark unchanged.none_used
+row_marks Not_stored given from answered effect to (p, topic, operation, i, s, out, same) = uses_grows from.mark to.mark s.one_used
+row_marks Uncertain given from answered effect to (p, topic, operation, i, s, out, same) = uses_grows from.mark to.mark s.one_used
+row_marks Gate_closed given from answered effect to (p, topic, operation, i, s, out, same) = uses_grows from.mark to.mark s.one_used
+row_marks Released given from answered effect to (a, i, out, u, same) = grows_itself from.mark to.mark u
+row_marks Wrong_acknowledgement given from answered effect to (p, ack, id, i, is, wrong, out, unchanged) = grows_itself from.mark to.mark unchanged.none_used
+row_marks Acknowledged given from answered effect to (p, ack, id, answer, i, is, step, out, u, same) = grows_itself from.mark to.mark u
+row_marks Shared_no_local given from answered effect to (s, i, n, out, unchanged) = grows_itself from.mark to.mark unchanged.none_used
+row_marks Not_subscribed given from answered effect to (s, i, n, out, unchanged) = grows_itself from.mark to.mark unchanged.none_used
+row_marks Subscribed given from answered effect to (s, codes, i, n, grants, out, u) = grows_itself from.mark to.mark u
+row_marks Not_unsubscribed given from answered effect to (u, i, out, unchanged) = grows_itself from.mark to.mark unchanged.none_used
+row_marks Unsubscribed given from answered effect to (u, i, out, m, same) = grows_itself from.mark to.mark m
+row_marks Pinged given from answered effect to (i, out, unchanged) = grows_itself from.mark to.mark unchanged.none_used
+row_marks Disconnected given from answered effect to (code, i, out, unchanged) = grows_itself from.mark to.mark unchanged.none_used
 
 exchange_marks : (case : Case) (given : Given) (from : Point State) (answered : List (List Entry)) (due : Option Reply) (to : Point State)
     → SessionRow case given from answered due to → MarkGrows from.mark to.mark
@@ -441,7 +441,7 @@ exchange_marks Accepted given from answered due to (c, i, before, m, w, short, u
 exchange_marks Connack_too_long given from answered due to (c, i, before, m, w, long, u, d, same) = grows_itself from.mark to.mark u
 exchange_marks Other_version given from answered due to (i, before, u, d, same) = grows_itself from.mark to.mark u
 exchange_marks Unexpected given from answered due to (i, before, u, d, same) = grows_itself from.mark to.mark u
-exchange_marks In_session given from answered due to (o, left, outcome, is, (case, none, row), d, same) = row_marks case given (with_state from o) answered outcome (with_state to left) row
+exchange_marks In_session given from answered due to (o, left, effect, is, (case, none, row), d, same) = row_marks case given (with_state from o) answered effect (with_state to left) row
 exchange_marks Over given from answered due to (closing, is, u, d, same) = grows_itself from.mark to.mark u
 
 pub run_marks : (from to : Point State) (exchanges : List Exchange) → Run from exchanges to → MarkGrows from.mark to.mark

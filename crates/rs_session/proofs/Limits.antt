@@ -18,8 +18,8 @@ use Rattle.rs_window.specs.State as window_state
 use Rattle.rs_window.specs.declared.identifiers.Kind.{Kind}
 use Rattle.rs_window.proofs.ReplayLemmas.{step_limits, step_quota, step_few}
 use Rattle.rs_session.specs.declared.open.Open.{Open}
-use Rattle.rs_session.specs.declared.open.Outcome.{Outcome}
-use Rattle.rs_session.specs.declared.open.Outcome.TheVariants.{Replies, Closes, Leaves}
+use Rattle.rs_session.specs.declared.open.Effect.{Effect}
+use Rattle.rs_session.specs.declared.open.Effect.TheVariants.{Replies, Closes, Leaves}
 use Rattle.rs_session.specs.declared.phase.Phase.{Phase}
 use Rattle.rs_session.specs.declared.phase.Phase.TheVariants as phase
 use Rattle.rs_session.specs.declared.subscriptions.Subscription.{Subscription}
@@ -110,35 +110,35 @@ all_fewer (filter ∷ more) m = omega (arith, without_fewer filter m, all_fewer 
 
 -- ---- the rows of an open session
 
-row_within : (case : OpenCase) (given : Given) (from : Point Open) (answered : List (List Entry)) (outcome : Outcome) (to : Point Open)
-    → OpenRow case given from answered outcome to → IsWithinLimits from.state → IsWithinLimits to.state
-row_within Connected_twice given from answered outcome to (c, i, out, unchanged) h = subst IsWithinLimits (sym unchanged.same) h
-row_within Faulty given from answered outcome to (f, i, out, unchanged) h = subst IsWithinLimits (sym unchanged.same) h
-row_within With_alias given from answered outcome to (p, i, a, out, unchanged) h = subst IsWithinLimits (sym unchanged.same) h
-row_within Bad_topic given from answered outcome to (p, f, i, a, t, other, out, unchanged) h = subst IsWithinLimits (sym unchanged.same) h
-row_within Sent_again given from answered outcome to (p, i, a, t, unreleased, out, unchanged) h = subst IsWithinLimits (sym unchanged.same) h
-row_within Too_many_unreleased given from answered outcome to (p, i, a, t, many, out, unchanged) h = subst IsWithinLimits (sym unchanged.same) h
-row_within Not_retained given from answered outcome to (p, topic, i, taken, t, r, out, u, same) h = subst IsWithinLimits (sym same) (awaiting_release_within p from.state taken h)
-row_within Stored given from answered outcome to (p, topic, operation, i, s, submitted, out, same) h = subst IsWithinLimits (sym same) (awaiting_release_within p from.state s.taken h)
-row_within Topic_unread given from answered outcome to (p, i, taken, t, out, unchanged) h = subst IsWithinLimits (sym unchanged.same) h
-row_within Not_stored given from answered outcome to (p, topic, operation, i, s, out, same) h = subst IsWithinLimits (sym same) h
-row_within Uncertain given from answered outcome to (p, topic, operation, i, s, out, same) h = subst IsWithinLimits (sym same) h
-row_within Gate_closed given from answered outcome to (p, topic, operation, i, s, out, same) h = subst IsWithinLimits (sym same) h
-row_within Released given from answered outcome to (a, i, out, u, same) h =
+row_within : (case : OpenCase) (given : Given) (from : Point Open) (answered : List (List Entry)) (effect : Effect) (to : Point Open)
+    → OpenRow case given from answered effect to → IsWithinLimits from.state → IsWithinLimits to.state
+row_within Connected_twice given from answered effect to (c, i, out, unchanged) h = subst IsWithinLimits (sym unchanged.same) h
+row_within Faulty given from answered effect to (f, i, out, unchanged) h = subst IsWithinLimits (sym unchanged.same) h
+row_within With_alias given from answered effect to (p, i, a, out, unchanged) h = subst IsWithinLimits (sym unchanged.same) h
+row_within Bad_topic given from answered effect to (p, f, i, a, t, other, out, unchanged) h = subst IsWithinLimits (sym unchanged.same) h
+row_within Sent_again given from answered effect to (p, i, a, t, unreleased, out, unchanged) h = subst IsWithinLimits (sym unchanged.same) h
+row_within Too_many_unreleased given from answered effect to (p, i, a, t, many, out, unchanged) h = subst IsWithinLimits (sym unchanged.same) h
+row_within Not_retained given from answered effect to (p, topic, i, taken, t, r, out, u, same) h = subst IsWithinLimits (sym same) (awaiting_release_within p from.state taken h)
+row_within Stored given from answered effect to (p, topic, operation, i, s, submitted, out, same) h = subst IsWithinLimits (sym same) (awaiting_release_within p from.state s.taken h)
+row_within Topic_unread given from answered effect to (p, i, taken, t, out, unchanged) h = subst IsWithinLimits (sym unchanged.same) h
+row_within Not_stored given from answered effect to (p, topic, operation, i, s, out, same) h = subst IsWithinLimits (sym same) h
+row_within Uncertain given from answered effect to (p, topic, operation, i, s, out, same) h = subst IsWithinLimits (sym same) h
+row_within Gate_closed given from answered effect to (p, topic, operation, i, s, out, same) h = subst IsWithinLimits (sym same) h
+row_within Released given from answered effect to (a, i, out, u, same) h =
     let left : IsWithinLimits (record from.state { inbound = set.remove from.state.inbound a.id }) =
     record { subscriptions = h.subscriptions; unreleased = released_within from.state.inbound a.id h.unreleased; waiting = h.waiting; unacknowledged = h.unacknowledged; quota = h.quota } in
     subst IsWithinLimits (sym same) left
-row_within Wrong_acknowledgement given from answered outcome to (p, ack, id, i, is, wrong, out, unchanged) h = subst IsWithinLimits (sym unchanged.same) h
-row_within Acknowledged given from answered outcome to (p, ack, id, answer, i, is, step, out, u, same) h =
+row_within Wrong_acknowledgement given from answered effect to (p, ack, id, i, is, wrong, out, unchanged) h = subst IsWithinLimits (sym unchanged.same) h
+row_within Acknowledged given from answered effect to (p, ack, id, answer, i, is, step, out, u, same) h =
     subst IsWithinLimits (sym same) (called_within from.state (window.Acknowledge ack id (Ok answer)) to.state.window step h)
-row_within Shared_no_local given from answered outcome to (s, i, n, out, unchanged) h = subst IsWithinLimits (sym unchanged.same) h
-row_within Not_subscribed given from answered outcome to (s, i, n, out, unchanged) h = subst IsWithinLimits (sym unchanged.same) h
-row_within Subscribed given from answered outcome to (s, codes, i, n, grants, out, u) h = grants_within given.now s.filters s.subscription from codes answered to grants h
-row_within Not_unsubscribed given from answered outcome to (u, i, out, unchanged) h = subst IsWithinLimits (sym unchanged.same) h
-row_within Unsubscribed given from answered outcome to (u, i, out, m, same) h =
+row_within Shared_no_local given from answered effect to (s, i, n, out, unchanged) h = subst IsWithinLimits (sym unchanged.same) h
+row_within Not_subscribed given from answered effect to (s, i, n, out, unchanged) h = subst IsWithinLimits (sym unchanged.same) h
+row_within Subscribed given from answered effect to (s, codes, i, n, grants, out, u) h = grants_within given.now s.filters s.subscription from codes answered to grants h
+row_within Not_unsubscribed given from answered effect to (u, i, out, unchanged) h = subst IsWithinLimits (sym unchanged.same) h
+row_within Unsubscribed given from answered effect to (u, i, out, m, same) h =
     subst IsWithinLimits (sym same) (subscriptions_within from.state (without_all u.filters from.state.subscriptions) (omega (arith, all_fewer u.filters from.state.subscriptions, h.subscriptions)) h)
-row_within Pinged given from answered outcome to (i, out, unchanged) h = subst IsWithinLimits (sym unchanged.same) h
-row_within Disconnected given from answered outcome to (code, i, out, unchanged) h = subst IsWithinLimits (sym unchanged.same) h
+row_within Pinged given from answered effect to (i, out, unchanged) h = subst IsWithinLimits (sym unchanged.same) h
+row_within Disconnected given from answered effect to (code, i, out, unchanged) h = subst IsWithinLimits (sym unchanged.same) h
 
 -- ---- a session
 
@@ -156,7 +156,7 @@ begun_within c = record {
   quota = omega arith;
 }
 
-after_within : (outcome : Outcome) (old : State) (left : Open) → IsWithinLimits left → PhaseWithin (state_after outcome old left).phase
+after_within : (effect : Effect) (old : State) (left : Open) → IsWithinLimits left → PhaseWithin (state_after effect old left).phase
 after_within (Replies r) old left h = h
 after_within (Closes code) old left h = tt
 after_within Leaves old left h = tt
@@ -173,8 +173,8 @@ answer_within Accepted given from answered due to (c, i, before, m, w, short, u,
 answer_within Connack_too_long given from answered due to (c, i, before, m, w, long, u, d, same) h = same_within _ to.state same tt
 answer_within Other_version given from answered due to (i, before, u, d, same) h = same_within _ to.state same tt
 answer_within Unexpected given from answered due to (i, before, u, d, same) h = same_within _ to.state same tt
-answer_within In_session given from answered due to (o, left, outcome, is, (case, a, row), d, same) h =
-    same_within _ to.state same (after_within outcome from.state left (row_within case given (with_state from o) answered outcome (with_state to left) row (subst PhaseWithin is h)))
+answer_within In_session given from answered due to (o, left, effect, is, (case, a, row), d, same) h =
+    same_within _ to.state same (after_within effect from.state left (row_within case given (with_state from o) answered effect (with_state to left) row (subst PhaseWithin is h)))
 answer_within Over given from answered due to (closing, is, u, d, same) h = same_within from.state to.state same h
 
 replayed_within : (now : ℕ) (old : Phase) (given : Option Reply) (new : Phase) → IsReplayed now old given new → PhaseWithin old → PhaseWithin new

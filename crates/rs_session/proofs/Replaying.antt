@@ -35,8 +35,8 @@ use Rattle.rs_window.specs.declared.identifiers.Kind.TheVariants.{AtLeastOnce, E
 use Rattle.rs_window.proofs.IdentifierLemmas.{put_same}
 use Rattle.rs_window.proofs.ReplayLemmas.{step_limits, replayed, kinds_read, quota_holds}
 use Rattle.rs_session.specs.declared.open.Open.{Open}
-use Rattle.rs_session.specs.declared.open.Outcome.{Outcome}
-use Rattle.rs_session.specs.declared.open.Outcome.TheVariants.{Replies, Closes, Leaves}
+use Rattle.rs_session.specs.declared.open.Effect.{Effect}
+use Rattle.rs_session.specs.declared.open.Effect.TheVariants.{Replies, Closes, Leaves}
 use Rattle.rs_session.specs.declared.phase.Closing.{Closing}
 use Rattle.rs_session.specs.declared.phase.Closing.TheVariants.{ByClient, ByServer, Dropped}
 use Rattle.rs_session.specs.declared.phase.Input.{Input}
@@ -112,23 +112,23 @@ grants_calls now (asked ∷ more) identifier from codes answered to (code, rest,
 -- ---- the rows of an open session
 
 -- the calls of an input, by what it leads to
-abbrev IsLed : Input → ℕ → List (List Entry) → Open → Outcome → Open → Type 0
+abbrev IsLed : Input → ℕ → List (List Entry) → Open → Effect → Open → Type 0
 IsLed input now answered old (Replies answer) new = (own : List Call) × calls.Run old.window own new.window × AreCalledBy input now answered old.subscriptions answer own × IsNoPublish answer
 IsLed input now answered old (Closes code) new = (own : List Call) × calls.Run old.window own old.window × IsRefused (acknowledgement_in input) own
 IsLed input now answered old Leaves new = (own : List Call) × calls.Run old.window own old.window × IsRefused (acknowledgement_in input) own
 
 -- it goes on with the same window
-answers : (input as_read : Input) (now : ℕ) (answered : List (List Entry)) (old : Open) (outcome : Outcome) (answer : Option Reply) (new : Open) → input ≡ as_read → outcome ≡ Replies answer → new.window ≡ old.window
-    → AreCalledBy as_read now answered old.subscriptions answer [] → IsNoPublish answer → IsLed input now answered old outcome new
-answers input as_read now answered old outcome answer new i out same called no_publish =
+answers : (input as_read : Input) (now : ℕ) (answered : List (List Entry)) (old : Open) (effect : Effect) (answer : Option Reply) (new : Open) → input ≡ as_read → effect ≡ Replies answer → new.window ≡ old.window
+    → AreCalledBy as_read now answered old.subscriptions answer [] → IsNoPublish answer → IsLed input now answered old effect new
+answers input as_read now answered old effect answer new i out same called no_publish =
     let led : IsLed as_read now answered old (Replies answer) new = ([], same, called, no_publish) in
-    subst (λ (read : Input). IsLed read now answered old outcome new) (sym i) (subst (λ (o : Outcome). IsLed as_read now answered old o new) (sym out) led)
+    subst (λ (read : Input). IsLed read now answered old effect new) (sym i) (subst (λ (o : Effect). IsLed as_read now answered old o new) (sym out) led)
 
-closes : (input as_read : Input) (now : ℕ) (answered : List (List Entry)) (old : Open) (outcome : Outcome) (code : ReasonCode) (new : Open) → input ≡ as_read → outcome ≡ Closes code
-    → IsRefused (acknowledgement_in as_read) [] → IsLed input now answered old outcome new
-closes input as_read now answered old outcome code new i out refused =
+closes : (input as_read : Input) (now : ℕ) (answered : List (List Entry)) (old : Open) (effect : Effect) (code : ReasonCode) (new : Open) → input ≡ as_read → effect ≡ Closes code
+    → IsRefused (acknowledgement_in as_read) [] → IsLed input now answered old effect new
+closes input as_read now answered old effect code new i out refused =
     let led : IsLed as_read now answered old (Closes code) new = ([], refl, refused) in
-    subst (λ (read : Input). IsLed read now answered old outcome new) (sym i) (subst (λ (o : Outcome). IsLed as_read now answered old o new) (sym out) led)
+    subst (λ (read : Input). IsLed read now answered old effect new) (sym i) (subst (λ (o : Effect). IsLed as_read now answered old o new) (sym out) led)
 
 no_publish_by : (quality : Qos) (id : Option ℕ) (code : ReasonCode) → IsNoPublish (acknowledged_by quality id code)
 no_publish_by qos.AtMostOnce id code = tt
@@ -192,56 +192,56 @@ wrong_step ack id old (Some kind) is e =
 same_window : (old new : Open) → new ≡ old → new.window ≡ old.window
 same_window old new e = ap (λ (o : Open). o.window) e
 
-row_calls : (case : OpenCase) (given : Given) (from : Point Open) (answered : List (List Entry)) (outcome : Outcome) (to : Point Open)
-    → OpenRow case given from answered outcome to → IsLed given.input given.now answered from.state outcome to.state
-row_calls Connected_twice given from answered outcome to (c, i, out, unchanged) = closes given.input _ given.now answered from.state outcome _ to.state i out refl
-row_calls Faulty given from answered outcome to (f, i, out, unchanged) = closes given.input _ given.now answered from.state outcome _ to.state i out refl
-row_calls With_alias given from answered outcome to (p, i, a, out, unchanged) = closes given.input _ given.now answered from.state outcome _ to.state i out refl
-row_calls Bad_topic given from answered outcome to (p, f, i, a, t, other, out, unchanged) = closes given.input _ given.now answered from.state outcome _ to.state i out refl
-row_calls Sent_again given from answered outcome to (p, i, a, t, unreleased, out, unchanged) =
-    answers given.input _ given.now answered from.state outcome _ to.state i out (same_window from.state to.state unchanged.same) refl (no_publish_by p.qos p.id Success)
-row_calls Too_many_unreleased given from answered outcome to (p, i, a, t, many, out, unchanged) = closes given.input _ given.now answered from.state outcome _ to.state i out refl
-row_calls Not_retained given from answered outcome to (p, topic, i, taken, t, r, out, u, same) =
-    answers given.input _ given.now answered from.state outcome _ to.state i out (ap (λ (o : Open). o.window) same) refl (no_publish_by p.qos p.id Success)
-row_calls Stored given from answered outcome to (p, topic, operation, i, s, submitted, out, same) =
-    answers given.input _ given.now answered from.state outcome _ to.state i out (ap (λ (o : Open). o.window) same) refl (no_publish_by p.qos p.id Success)
-row_calls Topic_unread given from answered outcome to (p, i, taken, t, out, unchanged) =
-    answers given.input _ given.now answered from.state outcome _ to.state i out (same_window from.state to.state unchanged.same) refl (no_publish_by p.qos p.id QuotaExceeded)
-row_calls Not_stored given from answered outcome to (p, topic, operation, i, s, out, same) =
-    answers given.input _ given.now answered from.state outcome _ to.state i out (same_window from.state to.state same) refl (no_publish_by p.qos p.id QuotaExceeded)
-row_calls Uncertain given from answered outcome to (p, topic, operation, i, s, out, same) = closes given.input _ given.now answered from.state outcome _ to.state i out refl
-row_calls Gate_closed given from answered outcome to (p, topic, operation, i, s, out, same) = closes given.input _ given.now answered from.state outcome _ to.state i out refl
-row_calls table.Released given from answered outcome to (a, i, out, u, same) =
-    answers given.input _ given.now answered from.state outcome _ to.state i out (ap (λ (o : Open). o.window) same) refl tt
-row_calls Wrong_acknowledgement given from answered outcome to (p, ack, id, i, is, wrong, out, unchanged) =
+row_calls : (case : OpenCase) (given : Given) (from : Point Open) (answered : List (List Entry)) (effect : Effect) (to : Point Open)
+    → OpenRow case given from answered effect to → IsLed given.input given.now answered from.state effect to.state
+row_calls Connected_twice given from answered effect to (c, i, out, unchanged) = closes given.input _ given.now answered from.state effect _ to.state i out refl
+row_calls Faulty given from answered effect to (f, i, out, unchanged) = closes given.input _ given.now answered from.state effect _ to.state i out refl
+row_calls With_alias given from answered effect to (p, i, a, out, unchanged) = closes given.input _ given.now answered from.state effect _ to.state i out refl
+row_calls Bad_topic given from answered effect to (p, f, i, a, t, other, out, unchanged) = closes given.input _ given.now answered from.state effect _ to.state i out refl
+row_calls Sent_again given from answered effect to (p, i, a, t, unreleased, out, unchanged) =
+    answers given.input _ given.now answered from.state effect _ to.state i out (same_window from.state to.state unchanged.same) refl (no_publish_by p.qos p.id Success)
+row_calls Too_many_unreleased given from answered effect to (p, i, a, t, many, out, unchanged) = closes given.input _ given.now answered from.state effect _ to.state i out refl
+row_calls Not_retained given from answered effect to (p, topic, i, taken, t, r, out, u, same) =
+    answers given.input _ given.now answered from.state effect _ to.state i out (ap (λ (o : Open). o.window) same) refl (no_publish_by p.qos p.id Success)
+row_calls Stored given from answered effect to (p, topic, operation, i, s, submitted, out, same) =
+    answers given.input _ given.now answered from.state effect _ to.state i out (ap (λ (o : Open). o.window) same) refl (no_publish_by p.qos p.id Success)
+row_calls Topic_unread given from answered effect to (p, i, taken, t, out, unchanged) =
+    answers given.input _ given.now answered from.state effect _ to.state i out (same_window from.state to.state unchanged.same) refl (no_publish_by p.qos p.id QuotaExceeded)
+row_calls Not_stored given from answered effect to (p, topic, operation, i, s, out, same) =
+    answers given.input _ given.now answered from.state effect _ to.state i out (same_window from.state to.state same) refl (no_publish_by p.qos p.id QuotaExceeded)
+row_calls Uncertain given from answered effect to (p, topic, operation, i, s, out, same) = closes given.input _ given.now answered from.state effect _ to.state i out refl
+row_calls Gate_closed given from answered effect to (p, topic, operation, i, s, out, same) = closes given.input _ given.now answered from.state effect _ to.state i out refl
+row_calls table.Released given from answered effect to (a, i, out, u, same) =
+    answers given.input _ given.now answered from.state effect _ to.state i out (ap (λ (o : Open). o.window) same) refl tt
+row_calls Wrong_acknowledgement given from answered effect to (p, ack, id, i, is, wrong, out, unchanged) =
     let led : IsLed (Whole p) given.now answered from.state (Closes ProtocolError) to.state = (
       Acknowledge ack id (Err WrongKind) ∷ [],
       (from.state.window, (sym wrong, wrong_step ack id from.state.window (finite.get from.state.window.kinds id) refl wrong), refl),
       subst (λ (a : Option (window.Acknowledgement × ℕ)). IsRefused a (Acknowledge ack id (Err WrongKind) ∷ [])) (sym is) refl,
     ) in
-    subst (λ (read : Input). IsLed read given.now answered from.state outcome to.state) (sym i) (subst (λ (o : Outcome). IsLed (Whole p) given.now answered from.state o to.state) (sym out) led)
-row_calls Acknowledged given from answered outcome to (p, ack, id, answer, i, is, step, out, u, same) =
+    subst (λ (read : Input). IsLed read given.now answered from.state effect to.state) (sym i) (subst (λ (o : Effect). IsLed (Whole p) given.now answered from.state o to.state) (sym out) led)
+row_calls Acknowledged given from answered effect to (p, ack, id, answer, i, is, step, out, u, same) =
     let led : IsLed (Whole p) given.now answered from.state (Replies (released_by ack id answer)) to.state = (
       Acknowledge ack id (Ok answer) ∷ [],
       (to.state.window, step, refl),
       acknowledging p given.now answered from.state.subscriptions (released_by ack id answer) ack id answer is,
       no_publish_released ack id answer,
     ) in
-    subst (λ (read : Input). IsLed read given.now answered from.state outcome to.state) (sym i) (subst (λ (o : Outcome). IsLed (Whole p) given.now answered from.state o to.state) (sym out) led)
-row_calls Shared_no_local given from answered outcome to (s, i, n, out, unchanged) = closes given.input _ given.now answered from.state outcome _ to.state i out refl
-row_calls Not_subscribed given from answered outcome to (s, i, n, out, unchanged) = closes given.input _ given.now answered from.state outcome _ to.state i out refl
-row_calls Subscribed given from answered outcome to (s, codes, i, n, grants, out, u) =
+    subst (λ (read : Input). IsLed read given.now answered from.state effect to.state) (sym i) (subst (λ (o : Effect). IsLed (Whole p) given.now answered from.state o to.state) (sym out) led)
+row_calls Shared_no_local given from answered effect to (s, i, n, out, unchanged) = closes given.input _ given.now answered from.state effect _ to.state i out refl
+row_calls Not_subscribed given from answered effect to (s, i, n, out, unchanged) = closes given.input _ given.now answered from.state effect _ to.state i out refl
+row_calls Subscribed given from answered effect to (s, codes, i, n, grants, out, u) =
     let (own, run, queued) = grants_calls given.now s.filters s.subscription from codes answered to grants in
     let led : IsLed (Whole (packet.Subscribe s)) given.now answered from.state (Replies (Some (reply.Suback (record { id = s.id; codes = codes })))) to.state = (own, run, (codes, refl, queued), tt) in
-    subst (λ (read : Input). IsLed read given.now answered from.state outcome to.state) (sym i) (subst (λ (o : Outcome). IsLed (Whole (packet.Subscribe s)) given.now answered from.state o to.state) (sym out) led)
-row_calls Not_unsubscribed given from answered outcome to (u, i, out, unchanged) = closes given.input _ given.now answered from.state outcome _ to.state i out refl
-row_calls Unsubscribed given from answered outcome to (u, i, out, m, same) =
-    answers given.input _ given.now answered from.state outcome _ to.state i out (ap (λ (o : Open). o.window) same) refl tt
-row_calls Pinged given from answered outcome to (i, out, unchanged) =
-    answers given.input _ given.now answered from.state outcome _ to.state i out (same_window from.state to.state unchanged.same) refl tt
-row_calls Disconnected given from answered outcome to (code, i, out, unchanged) =
+    subst (λ (read : Input). IsLed read given.now answered from.state effect to.state) (sym i) (subst (λ (o : Effect). IsLed (Whole (packet.Subscribe s)) given.now answered from.state o to.state) (sym out) led)
+row_calls Not_unsubscribed given from answered effect to (u, i, out, unchanged) = closes given.input _ given.now answered from.state effect _ to.state i out refl
+row_calls Unsubscribed given from answered effect to (u, i, out, m, same) =
+    answers given.input _ given.now answered from.state effect _ to.state i out (ap (λ (o : Open). o.window) same) refl tt
+row_calls Pinged given from answered effect to (i, out, unchanged) =
+    answers given.input _ given.now answered from.state effect _ to.state i out (same_window from.state to.state unchanged.same) refl tt
+row_calls Disconnected given from answered effect to (code, i, out, unchanged) =
     let led : IsLed (Whole (packet.Disconnect code)) given.now answered from.state Leaves to.state = ([], refl, refl) in
-    subst (λ (read : Input). IsLed read given.now answered from.state outcome to.state) (sym i) (subst (λ (o : Outcome). IsLed (Whole (packet.Disconnect code)) given.now answered from.state o to.state) (sym out) led)
+    subst (λ (read : Input). IsLed read given.now answered from.state effect to.state) (sym i) (subst (λ (o : Effect). IsLed (Whole (packet.Disconnect code)) given.now answered from.state o to.state) (sym out) led)
 
 -- ---- the replies
 
@@ -317,8 +317,8 @@ none_within : (b : Bool) (code : ℕ) → publish_replies (listed (cond b (Some 
 none_within true code = refl
 none_within false code = refl
 
-led_made : (exchange : Exchange) (o left : Open) (outcome : Outcome) (old mid : State) (due : Option Reply) → IsLed exchange.given.input exchange.given.now exchange.answered o outcome left → due ≡ due_for o.window.packet_maximum outcome
-    → mid ≡ state_after outcome old left → GivesAll exchange.given.now due mid exchange.replies exchange.to.state → IsMadeTo o exchange exchange.to.state.phase
+led_made : (exchange : Exchange) (o left : Open) (effect : Effect) (old mid : State) (due : Option Reply) → IsLed exchange.given.input exchange.given.now exchange.answered o effect left → due ≡ due_for o.window.packet_maximum effect
+    → mid ≡ state_after effect old left → GivesAll exchange.given.now due mid exchange.replies exchange.to.state → IsMadeTo o exchange exchange.to.state.phase
 led_made exchange o left (Replies answer) old mid due (own, run, called, no_publish) d same g =
     let (given, n, is, runs, whole) = given_calls exchange.given.now due mid left exchange.replies g.left g.last exchange.to.state (ap (λ (s : State). s.phase) same) g.given g.none_left in
     let all : calls.Run o.window (own ++ giving exchange.given.now given) n.window = run_append o.window left.window own (giving exchange.given.now given) n.window run runs in
@@ -362,9 +362,9 @@ open_made w from exchange Accepted due mid h (c, i, before, m, k, short, u, d, s
 open_made w from exchange Connack_too_long due mid h (c, i, before, m, k, long, u, d, same) g = shut from.state.phase phase.Before before h (λ n. n)
 open_made w from exchange Other_version due mid h (i, before, u, d, same) g = shut from.state.phase phase.Before before h (λ n. n)
 open_made w from exchange Unexpected due mid h (i, before, u, d, same) g = shut from.state.phase phase.Before before h (λ n. n)
-open_made w from exchange In_session due mid h (o, left, outcome, is, (case, a, row), d, same) g =
-    let led : IsLed exchange.given.input exchange.given.now exchange.answered o outcome left = row_calls case exchange.given (with_state from o) exchange.answered outcome (with_state exchange.to left) row in
-    subst (λ (p : Phase). IsMade w p exchange) (sym is) (led_made exchange o left outcome from.state mid due led d same g)
+open_made w from exchange In_session due mid h (o, left, effect, is, (case, a, row), d, same) g =
+    let led : IsLed exchange.given.input exchange.given.now exchange.answered o effect left = row_calls case exchange.given (with_state from o) exchange.answered effect (with_state exchange.to left) row in
+    subst (λ (p : Phase). IsMade w p exchange) (sym is) (led_made exchange o left effect from.state mid due led d same g)
 open_made w from exchange Over due mid h (closing, is, u, d, same) g = shut from.state.phase (phase.Ended closing) is h (λ n. n)
 
 -- the first exchange, if it opens the session
@@ -395,7 +395,7 @@ first_made from exchange c Accepted due mid begun is h (d, i, before, m, k, shor
 first_made from exchange c Connack_too_long due mid begun is h (d, i, before, m, k, long, u, e, same) g = ended_first exchange due mid (ByServer (reason_value Success)) (phase_of mid _ same) g h
 first_made from exchange c Other_version due mid begun is h (i, before, u, e, same) g = ended_first exchange due mid (ByServer (reason_value UnsupportedProtocolVersion)) (phase_of mid _ same) g h
 first_made from exchange c Unexpected due mid begun is h (i, before, u, e, same) g = ended_first exchange due mid Dropped (phase_of mid _ same) g h
-first_made from exchange c In_session due mid begun is h (o, left, outcome, at, row, e, same) g = shut (phase.Open o) phase.Before (sym at ∙ begun) tt (λ n. n)
+first_made from exchange c In_session due mid begun is h (o, left, effect, at, row, e, same) g = shut (phase.Open o) phase.Before (sym at ∙ begun) tt (λ n. n)
 first_made from exchange c Over due mid begun is h (closing, at, u, e, same) g = ended_first exchange due mid closing (phase_of mid from.state same ∙ at) g h
 
 -- ---- a run
@@ -598,7 +598,7 @@ first_to from exchange Accepted due mid begun (d, i, before, m, k, short, u, e, 
 first_to from exchange Connack_too_long due mid begun (d, i, before, m, k, long, u, e, same) g = ends_first exchange due mid (ByServer (reason_value Success)) (phase_of mid _ same) g
 first_to from exchange Other_version due mid begun (i, before, u, e, same) g = ends_first exchange due mid (ByServer (reason_value UnsupportedProtocolVersion)) (phase_of mid _ same) g
 first_to from exchange Unexpected due mid begun (i, before, u, e, same) g = ends_first exchange due mid Dropped (phase_of mid _ same) g
-first_to from exchange In_session due mid begun (o, left, outcome, at, row, e, same) g = shut (phase.Open o) phase.Before (sym at ∙ begun) tt (λ n. n)
+first_to from exchange In_session due mid begun (o, left, effect, at, row, e, same) g = shut (phase.Open o) phase.Before (sym at ∙ begun) tt (λ n. n)
 first_to from exchange Over due mid begun (closing, at, u, e, same) g = ends_first exchange due mid closing (phase_of mid from.state same ∙ at) g
 
 -- nothing follows the end

@@ -30,8 +30,8 @@ use Rattle.rs_window.specs.declared.fault.Ack.{Ack}
 use Rattle.rs_window.specs.declared.fault.WindowFault.{WindowFault}
 use Rattle.rs_window.specs.declared.fault.WindowFault.TheVariants as window_fault
 use Rattle.rs_session.specs.declared.open.Open.{Open}
-use Rattle.rs_session.specs.declared.open.Outcome.{Outcome}
-use Rattle.rs_session.specs.declared.open.Outcome.TheVariants.{Replies, Closes, Leaves}
+use Rattle.rs_session.specs.declared.open.Effect.{Effect}
+use Rattle.rs_session.specs.declared.open.Effect.TheVariants.{Replies, Closes, Leaves}
 use Rattle.rs_session.specs.declared.phase.Closing.{Closing}
 use Rattle.rs_session.specs.declared.phase.Closing.TheVariants.{ByClient, ByServer, Dropped}
 use Rattle.rs_session.specs.declared.phase.Phase.TheVariants as phase
@@ -48,7 +48,7 @@ use Rattle.rs_session.specs.Subscriptions.{Subscriptions, is_subscribed}
 use Rattle.rs_session.specs.declared.subscriptions.Subscription.{Subscription}
 use Rattle.rs_session.proofs.SubscriptionLemmas.{remove_inserted, get_absent}
 use Rattle.rs_session.proofs.Submitting.{nothing_new, nothing_sent}
-use Rattle.rs_session.specs.Steps.{IsAccepted, connect_refusal, outcome_before, outcome_of_alias, outcome_of_topic, outcome_of_id, outcome_unmade, topic_refusal, IsConcluded}
+use Rattle.rs_session.specs.Steps.{IsAccepted, connect_refusal, effect_before, effect_of_alias, effect_of_topic, effect_of_id, effect_of_no_memory, topic_refusal, IsConcluded}
 use Rattle.rs_session.specs.Table.{Answers, AnswersWithoutGate, LeadsTo, IsNeitherConnectNorVersion, fault_reason, packet_maximum, connack, open_for, change, topic_reason, acknowledged_by, unreleased_id, is_unreleased, is_one_too_many, awaiting_release, IsTaken, IsTopicOrUnread, IsHanded, acknowledgement_of, released_by, released_reason, is_shared_local, Grants, IsGranted, removal_reason, removal_codes, without, without_all, due_for, state_after, With_method, With_will, Connect_refused, Accepted, Connack_too_long, Other_version, Unexpected, In_session, Over, Faulty, With_alias, Bad_topic, Sent_again, Too_many_unreleased, Not_retained, Stored, Topic_unread, Not_stored, Uncertain, Gate_closed, Released, Wrong_acknowledgement, Acknowledged, Shared_no_local, Not_subscribed, Subscribed, Not_unsubscribed, Unsubscribed, Connected_twice, Pinged, Disconnected}
 
 pub Grows-weaker : (before after : List Entry → Type 0) (P Q : List Entry → List Entry → Type 0) → ((seen list : List Entry) → P seen list → Q seen list) → Grows before after P → Grows before after Q
@@ -75,19 +75,19 @@ pub is_fault : (given : Given) (input : Input) (f : PacketFault) (now : ℕ) →
 is_fault given input f now i v = ap (λ (x : Input). given_at x now) (sym i) ∙ v
 
 -- a row of what is given
-pub leads : {G : Type 0} (stands : G → List Entry → Type 0) (mark : G → Mark) (old new : G) (as_read given : Given) (o left : Open) (outcome : Outcome) → as_read ≡ given
-    → GrowsAnswering stands mark old new (λ seen answered list. LeadsTo as_read (point_at o seen (mark old)) answered outcome (point_at left list (mark new)))
-    → GrowsAnswering stands mark old new (λ seen answered list. LeadsTo given (point_at o seen (mark old)) answered outcome (point_at left list (mark new)))
-leads {G} stands mark old new as_read given o left outcome is h =
-    subst (λ (x : Given). GrowsAnswering stands mark old new (λ seen answered list. LeadsTo x (point_at o seen (mark old)) answered outcome (point_at left list (mark new)))) is h
+pub leads : {G : Type 0} (stands : G → List Entry → Type 0) (mark : G → Mark) (old new : G) (as_read given : Given) (o left : Open) (effect : Effect) → as_read ≡ given
+    → GrowsAnswering stands mark old new (λ seen answered list. LeadsTo as_read (point_at o seen (mark old)) answered effect (point_at left list (mark new)))
+    → GrowsAnswering stands mark old new (λ seen answered list. LeadsTo given (point_at o seen (mark old)) answered effect (point_at left list (mark new)))
+leads {G} stands mark old new as_read given o left effect is h =
+    subst (λ (x : Given). GrowsAnswering stands mark old new (λ seen answered list. LeadsTo x (point_at o seen (mark old)) answered effect (point_at left list (mark new)))) is h
 
 -- a row of what is given, without the gate
-pub leads_unmoved : {G : Type 0} (stands : G → List Entry → Type 0) (mark : G → Mark) (gate : G) (as_read given : Given) (o left : Open) (outcome : Outcome) → as_read ≡ given
-    → ((list : List Entry) → LeadsTo as_read (point_at o list (mark gate)) [] outcome (point_at left list (mark gate)))
-    → GrowsAnswering stands mark gate gate (λ seen answered list. LeadsTo given (point_at o seen (mark gate)) answered outcome (point_at left list (mark gate)))
-leads_unmoved {G} stands mark gate as_read given o left outcome is h =
-    leads stands mark gate gate as_read given o left outcome is
-    (unmoved stands mark gate gate (λ seen answered list used. LeadsTo as_read (point_at o seen (mark gate)) answered outcome (point_at left list used)) refl h)
+pub leads_unmoved : {G : Type 0} (stands : G → List Entry → Type 0) (mark : G → Mark) (gate : G) (as_read given : Given) (o left : Open) (effect : Effect) → as_read ≡ given
+    → ((list : List Entry) → LeadsTo as_read (point_at o list (mark gate)) [] effect (point_at left list (mark gate)))
+    → GrowsAnswering stands mark gate gate (λ seen answered list. LeadsTo given (point_at o seen (mark gate)) answered effect (point_at left list (mark gate)))
+leads_unmoved {G} stands mark gate as_read given o left effect is h =
+    leads stands mark gate gate as_read given o left effect is
+    (unmoved stands mark gate gate (λ seen answered list used. LeadsTo as_read (point_at o seen (mark gate)) answered effect (point_at left list used)) refl h)
 
 -- ---- before an accepted CONNECT
 
@@ -143,21 +143,21 @@ pub over : (given : Given) (at : Point State) (due : Option Reply) (closing : Cl
 over given at due closing e d = (Over, (refl, (closing, e, refl, d, refl)))
 
 -- what a row leads to is due, and the state after it
-pub concluded : (given : Given) (from : Point State) (o : Open) (answered : List (List Entry)) (outcome : Outcome) (maximum : ℕ) (left : Open) (due : Option Reply) (to : Point State)
-    → from.state.phase ≡ phase.Open o → maximum ≡ o.window.packet_maximum → LeadsTo given (with_state from o) answered outcome (with_state to left) → due ≡ due_for maximum outcome → to.state ≡ state_after outcome from.state left
+pub concluded : (given : Given) (from : Point State) (o : Open) (answered : List (List Entry)) (effect : Effect) (maximum : ℕ) (left : Open) (due : Option Reply) (to : Point State)
+    → from.state.phase ≡ phase.Open o → maximum ≡ o.window.packet_maximum → LeadsTo given (with_state from o) answered effect (with_state to left) → due ≡ due_for maximum effect → to.state ≡ state_after effect from.state left
     → Answers given from answered due to
-concluded given from o answered outcome maximum left due to p l h d s =
-    (In_session, (tt, (o, left, outcome, p, h, d ∙ ap (λ (n : ℕ). due_for n outcome) l, s)))
+concluded given from o answered effect maximum left due to p l h d s =
+    (In_session, (tt, (o, left, effect, p, h, d ∙ ap (λ (n : ℕ). due_for n effect) l, s)))
 
 pub faulty : (f : PacketFault) (now : ℕ) (code : ReasonCode) (at : Point Open) → code ≡ fault_reason f → LeadsTo (given_at (Broken f) now) at [] (Closes code) at
 faulty f now code at e = (Faulty, refl, (f, refl, ap Closes e, record { none_used = refl; same = refl }))
 
 -- ---- acknowledgements
 
-pub acknowledged : (p : Packet) (ack : window.Acknowledgement) (id : ℕ) (answer : Ack) (now : ℕ) (from : Point Open) (outcome : Outcome) (new : Open)
-    → acknowledgement_of p ≡ Some (ack, id) → window.IsAcknowledged ack id from.state.window (Ok answer) new.window → outcome ≡ Replies (released_by ack id answer) → new ≡ record from.state { window = new.window }
-    → LeadsTo (given_at (Whole p) now) from [] outcome (with_state from new)
-acknowledged p ack id answer now from outcome new is h e s = (Acknowledged, refl, (p, ack, id, answer, refl, is, h, e, refl, s))
+pub acknowledged : (p : Packet) (ack : window.Acknowledgement) (id : ℕ) (answer : Ack) (now : ℕ) (from : Point Open) (effect : Effect) (new : Open)
+    → acknowledgement_of p ≡ Some (ack, id) → window.IsAcknowledged ack id from.state.window (Ok answer) new.window → effect ≡ Replies (released_by ack id answer) → new ≡ record from.state { window = new.window }
+    → LeadsTo (given_at (Whole p) now) from [] effect (with_state from new)
+acknowledged p ack id answer now from effect new is h e s = (Acknowledged, refl, (p, ack, id, answer, refl, is, h, e, refl, s))
 
 -- an acknowledgement is refused only if it is of the wrong kind
 wrong : (ack : window.Acknowledgement) (before : Option Kind) (fault : WindowFault) → Err fault ≡ window.answer_to ack before → fault ≡ window_fault.WrongKind
@@ -191,57 +191,57 @@ released a byte code now from new b e s = (Released, refl, (a, refl, ap (λ (n :
 
 -- ---- PUBLISH
 
-some_outcome : (a b : Outcome) → Some a ≡ Some b → b ≡ a
-some_outcome a b e = cc
+some_effect : (a b : Effect) → Some a ≡ Some b → b ≡ a
+some_effect a b e = cc
 
-bad_topic : (p : Publish) (f : TopicFault) (outcome : Outcome) (now : ℕ) (at : Point Open) → is_some p.alias ≡ false → p.topic ≡ Err f → f ≢ topic_fault.NoMemory → Some (Closes (topic_reason f)) ≡ Some outcome
-    → LeadsTo (given_at (Whole (packet.Publish p)) now) at [] outcome at
-bad_topic p f outcome now at a t other e = (Bad_topic, refl, (p, f, refl, a, t, other, some_outcome _ _ e, record { none_used = refl; same = refl }))
+bad_topic : (p : Publish) (f : TopicFault) (effect : Effect) (now : ℕ) (at : Point Open) → is_some p.alias ≡ false → p.topic ≡ Err f → f ≢ topic_fault.NoMemory → Some (Closes (topic_reason f)) ≡ Some effect
+    → LeadsTo (given_at (Whole (packet.Publish p)) now) at [] effect at
+bad_topic p f effect now at a t other e = (Bad_topic, refl, (p, f, refl, a, t, other, some_effect _ _ e, record { none_used = refl; same = refl }))
 
-by_id : (p : Publish) (unreleased many : Bool) (outcome : Outcome) (now : ℕ) (at : Point Open) → is_some p.alias ≡ false → IsTopicOrUnread p.topic
-    → is_unreleased (unreleased_id p.qos p.id) at.state.inbound ≡ unreleased → is_one_too_many (unreleased_id p.qos p.id) at.state.inbound ≡ many → outcome_of_id unreleased many (acknowledged_by p.qos p.id Success) ≡ Some outcome
-    → LeadsTo (given_at (Whole (packet.Publish p)) now) at [] outcome at
-by_id p true many outcome now at a t h m e = (Sent_again, refl, (p, refl, a, t, h, some_outcome _ _ e, record { none_used = refl; same = refl }))
-by_id p false true outcome now at a t h m e = (Too_many_unreleased, refl, (p, refl, a, t, m, some_outcome _ _ e, record { none_used = refl; same = refl }))
-by_id p false false outcome now at a t h m e = absurd (cc)
+by_id : (p : Publish) (unreleased many : Bool) (effect : Effect) (now : ℕ) (at : Point Open) → is_some p.alias ≡ false → IsTopicOrUnread p.topic
+    → is_unreleased (unreleased_id p.qos p.id) at.state.inbound ≡ unreleased → is_one_too_many (unreleased_id p.qos p.id) at.state.inbound ≡ many → effect_of_id unreleased many (acknowledged_by p.qos p.id Success) ≡ Some effect
+    → LeadsTo (given_at (Whole (packet.Publish p)) now) at [] effect at
+by_id p true many effect now at a t h m e = (Sent_again, refl, (p, refl, a, t, h, some_effect _ _ e, record { none_used = refl; same = refl }))
+by_id p false true effect now at a t h m e = (Too_many_unreleased, refl, (p, refl, a, t, m, some_effect _ _ e, record { none_used = refl; same = refl }))
+by_id p false false effect now at a t h m e = absurd (cc)
 
-by_topic : (p : Publish) (topic : Result (List ℕ) TopicFault) (rest : Option Outcome) (outcome : Outcome) (now : ℕ) (at : Point Open) → is_some p.alias ≡ false → p.topic ≡ topic
-    → (IsTopicOrUnread topic → rest ≡ Some outcome → LeadsTo (given_at (Whole (packet.Publish p)) now) at [] outcome at)
-    → outcome_of_topic (topic_refusal topic) rest ≡ Some outcome → LeadsTo (given_at (Whole (packet.Publish p)) now) at [] outcome at
-by_topic p (Ok topic) rest outcome now at a t more e = more tt e
-by_topic p (Err topic_fault.NoMemory) rest outcome now at a t more e = more refl e
-by_topic p (Err topic_fault.Empty) rest outcome now at a t more e = bad_topic p _ outcome now at a t (λ h. cc) e
-by_topic p (Err topic_fault.TooLong) rest outcome now at a t more e = bad_topic p _ outcome now at a t (λ h. cc) e
-by_topic p (Err topic_fault.NotUtf8) rest outcome now at a t more e = bad_topic p _ outcome now at a t (λ h. cc) e
-by_topic p (Err topic_fault.HasNul) rest outcome now at a t more e = bad_topic p _ outcome now at a t (λ h. cc) e
-by_topic p (Err topic_fault.HasWildcard) rest outcome now at a t more e = bad_topic p _ outcome now at a t (λ h. cc) e
-by_topic p (Err topic_fault.BadWildcard) rest outcome now at a t more e = bad_topic p _ outcome now at a t (λ h. cc) e
-by_topic p (Err topic_fault.TooManyLevels) rest outcome now at a t more e = bad_topic p _ outcome now at a t (λ h. cc) e
-by_topic p (Err topic_fault.Shared) rest outcome now at a t more e = bad_topic p _ outcome now at a t (λ h. cc) e
+by_topic : (p : Publish) (topic : Result (List ℕ) TopicFault) (rest : Option Effect) (effect : Effect) (now : ℕ) (at : Point Open) → is_some p.alias ≡ false → p.topic ≡ topic
+    → (IsTopicOrUnread topic → rest ≡ Some effect → LeadsTo (given_at (Whole (packet.Publish p)) now) at [] effect at)
+    → effect_of_topic (topic_refusal topic) rest ≡ Some effect → LeadsTo (given_at (Whole (packet.Publish p)) now) at [] effect at
+by_topic p (Ok topic) rest effect now at a t more e = more tt e
+by_topic p (Err topic_fault.NoMemory) rest effect now at a t more e = more refl e
+by_topic p (Err topic_fault.Empty) rest effect now at a t more e = bad_topic p _ effect now at a t (λ h. cc) e
+by_topic p (Err topic_fault.TooLong) rest effect now at a t more e = bad_topic p _ effect now at a t (λ h. cc) e
+by_topic p (Err topic_fault.NotUtf8) rest effect now at a t more e = bad_topic p _ effect now at a t (λ h. cc) e
+by_topic p (Err topic_fault.HasNul) rest effect now at a t more e = bad_topic p _ effect now at a t (λ h. cc) e
+by_topic p (Err topic_fault.HasWildcard) rest effect now at a t more e = bad_topic p _ effect now at a t (λ h. cc) e
+by_topic p (Err topic_fault.BadWildcard) rest effect now at a t more e = bad_topic p _ effect now at a t (λ h. cc) e
+by_topic p (Err topic_fault.TooManyLevels) rest effect now at a t more e = bad_topic p _ effect now at a t (λ h. cc) e
+by_topic p (Err topic_fault.Shared) rest effect now at a t more e = bad_topic p _ effect now at a t (λ h. cc) e
 
-by_alias : (p : Publish) (alias : Option ℕ) (rest : Option Outcome) (outcome : Outcome) (now : ℕ) (at : Point Open) → p.alias ≡ alias
-    → (is_some p.alias ≡ false → rest ≡ Some outcome → LeadsTo (given_at (Whole (packet.Publish p)) now) at [] outcome at)
-    → outcome_of_alias alias rest ≡ Some outcome → LeadsTo (given_at (Whole (packet.Publish p)) now) at [] outcome at
-by_alias p (Some x) rest outcome now at a more e = (With_alias, refl, (p, refl, ap is_some a, some_outcome _ _ e, record { none_used = refl; same = refl }))
-by_alias p None rest outcome now at a more e = more (ap is_some a) e
+by_alias : (p : Publish) (alias : Option ℕ) (rest : Option Effect) (effect : Effect) (now : ℕ) (at : Point Open) → p.alias ≡ alias
+    → (is_some p.alias ≡ false → rest ≡ Some effect → LeadsTo (given_at (Whole (packet.Publish p)) now) at [] effect at)
+    → effect_of_alias alias rest ≡ Some effect → LeadsTo (given_at (Whole (packet.Publish p)) now) at [] effect at
+by_alias p (Some x) rest effect now at a more e = (With_alias, refl, (p, refl, ap is_some a, some_effect _ _ e, record { none_used = refl; same = refl }))
+by_alias p None rest effect now at a more e = more (ap is_some a) e
 
 -- what a PUBLISH leads to before its topic is used
-pub before_use : (p : Publish) (outcome : Outcome) (now : ℕ) (at : Point Open) → outcome_before p at.state ≡ Some outcome → LeadsTo (given_at (Whole (packet.Publish p)) now) at [] outcome at
-before_use p outcome now at e =
-    by_alias p p.alias _ outcome now at refl
-    (λ a e. by_topic p p.topic _ outcome now at a refl (λ t e. by_id p _ _ outcome now at a t refl refl e) e) e
+pub before_use : (p : Publish) (effect : Effect) (now : ℕ) (at : Point Open) → effect_before p at.state ≡ Some effect → LeadsTo (given_at (Whole (packet.Publish p)) now) at [] effect at
+before_use p effect now at e =
+    by_alias p p.alias _ effect now at refl
+    (λ a e. by_topic p p.topic _ effect now at a refl (λ t e. by_id p _ _ effect now at a t refl refl e) e) e
 
 -- if it leads to nothing, the PUBLISH is taken
-by_no_id : (unreleased many : Bool) (again : Option Reply) → outcome_of_id unreleased many again ≡ None → (unreleased ≡ false) × (many ≡ false)
+by_no_id : (unreleased many : Bool) (again : Option Reply) → effect_of_id unreleased many again ≡ None → (unreleased ≡ false) × (many ≡ false)
 by_no_id true many again e = absurd (cc)
 by_no_id false true again e = absurd (cc)
 by_no_id false false again e = (refl, refl)
 
-by_no_topic : (code : Option ReasonCode) (rest : Option Outcome) → outcome_of_topic code rest ≡ None → (code ≡ None) × (rest ≡ None)
+by_no_topic : (code : Option ReasonCode) (rest : Option Effect) → effect_of_topic code rest ≡ None → (code ≡ None) × (rest ≡ None)
 by_no_topic (Some x) rest e = absurd (cc)
 by_no_topic None rest e = (refl, e)
 
-by_no_alias : (alias : Option ℕ) (rest : Option Outcome) → outcome_of_alias alias rest ≡ None → (is_some alias ≡ false) × (rest ≡ None)
+by_no_alias : (alias : Option ℕ) (rest : Option Effect) → effect_of_alias alias rest ≡ None → (is_some alias ≡ false) × (rest ≡ None)
 by_no_alias (Some x) rest e = absurd (cc)
 by_no_alias None rest e = (refl, e)
 
@@ -257,19 +257,19 @@ unread (Err topic_fault.BadWildcard) e = absurd (cc)
 unread (Err topic_fault.TooManyLevels) e = absurd (cc)
 unread (Err topic_fault.Shared) e = absurd (cc)
 
-pub taken : (p : Publish) (o : Open) → outcome_before p o ≡ None → IsTaken p o × IsTopicOrUnread p.topic
+pub taken : (p : Publish) (o : Open) → effect_before p o ≡ None → IsTaken p o × IsTopicOrUnread p.topic
 taken p o e =
     let a = by_no_alias p.alias _ e in
     let t = by_no_topic (topic_refusal p.topic) _ a.1 in
     let i = by_no_id _ _ _ t.1 in
     (record { no_alias = a.0; new = i.0; fits = i.1 }, unread p.topic t.0)
 
-pub id_fits : (p : Publish) (o : Open) → outcome_before p o ≡ None → is_one_too_many (unreleased_id p.qos p.id) o.inbound ≡ false
+pub id_fits : (p : Publish) (o : Open) → effect_before p o ≡ None → is_one_too_many (unreleased_id p.qos p.id) o.inbound ≡ false
 id_fits p o e = (taken p o e).0.fits
 
-pub topic_unread : (p : Publish) (f : TopicFault) (outcome : Outcome) (now : ℕ) (at : Point Open) → outcome_before p at.state ≡ None → p.topic ≡ Err f → outcome ≡ Replies (acknowledged_by p.qos p.id QuotaExceeded)
-    → LeadsTo (given_at (Whole (packet.Publish p)) now) at [] outcome at
-topic_unread p f outcome now at e t d =
+pub topic_unread : (p : Publish) (f : TopicFault) (effect : Effect) (now : ℕ) (at : Point Open) → effect_before p at.state ≡ None → p.topic ≡ Err f → effect ≡ Replies (acknowledged_by p.qos p.id QuotaExceeded)
+    → LeadsTo (given_at (Whole (packet.Publish p)) now) at [] effect at
+topic_unread p f effect now at e t d =
     let h = taken p at.state e in
     let is : f ≡ topic_fault.NoMemory = subst IsTopicOrUnread t h.1 in
     (Topic_unread, refl, (p, refl, h.0, t ∙ ap (λ (x : TopicFault). Err x) is, d, record { none_used = refl; same = refl }))
@@ -283,7 +283,7 @@ none_used true serial = omega arith
 none_used false serial = tt
 
 -- a publication that the gate was not asked to keep
-not_handed : (p : Publish) (topic : List ℕ) (now : ℕ) (at : Point Open) → outcome_before p at.state ≡ None → p.topic ≡ Ok topic → p.retain ≡ true → IsHanded p topic (change_of topic (message_of p now) p.payload) now at at
+not_handed : (p : Publish) (topic : List ℕ) (now : ℕ) (at : Point Open) → effect_before p at.state ≡ None → p.topic ≡ Ok topic → p.retain ≡ true → IsHanded p topic (change_of topic (message_of p now) p.payload) now at at
 not_handed p topic now at e t r =
     let operation = change_of topic (message_of p now) p.payload in
     record {
@@ -296,43 +296,43 @@ not_handed p topic now at e t r =
     }
 
 -- no memory for the change; it may have been sent ahead
-pub not_made : (p : Publish) (topic : List ℕ) (pending : List Operation) (outcome : Outcome) (now : ℕ) (at : Point Open) → outcome_before p at.state ≡ None → p.topic ≡ Ok topic → p.retain ≡ true → outcome ≡ outcome_unmade pending p.qos p.id
-    → LeadsTo (given_at (Whole (packet.Publish p)) now) at [] outcome at
-not_made p topic [] outcome now at e t r d = (Not_stored, refl, (p, topic, change_of topic (message_of p now) p.payload, refl, not_handed p topic now at e t r, d, refl))
-not_made p topic (operation ∷ operations) outcome now at e t r d = (Uncertain, refl, (p, topic, change_of topic (message_of p now) p.payload, refl, not_handed p topic now at e t r, d, refl))
+pub not_made : (p : Publish) (topic : List ℕ) (pending : List Operation) (effect : Effect) (now : ℕ) (at : Point Open) → effect_before p at.state ≡ None → p.topic ≡ Ok topic → p.retain ≡ true → effect ≡ effect_of_no_memory pending p.qos p.id
+    → LeadsTo (given_at (Whole (packet.Publish p)) now) at [] effect at
+not_made p topic [] effect now at e t r d = (Not_stored, refl, (p, topic, change_of topic (message_of p now) p.payload, refl, not_handed p topic now at e t r, d, refl))
+not_made p topic (operation ∷ operations) effect now at e t r d = (Uncertain, refl, (p, topic, change_of topic (message_of p now) p.payload, refl, not_handed p topic now at e t r, d, refl))
 
 unretained : (retain : Bool) (topic : List ℕ) (m : MessageValue) → operation_of retain topic m ≡ None → retain ≡ false
 unretained true topic m c = absurd (cc)
 unretained false topic m c = refl
 
-pub not_retained : (p : Publish) (topic : List ℕ) (outcome : Outcome) (now : ℕ) (from : Point Open) (new : Open) → outcome_before p from.state ≡ None → p.topic ≡ Ok topic → change p topic now ≡ None
-    → outcome ≡ Replies (acknowledged_by p.qos p.id Success) → new ≡ awaiting_release p from.state → LeadsTo (given_at (Whole (packet.Publish p)) now) from [] outcome (with_state from new)
-not_retained p topic outcome now from new e t c d s =
+pub not_retained : (p : Publish) (topic : List ℕ) (effect : Effect) (now : ℕ) (from : Point Open) (new : Open) → effect_before p from.state ≡ None → p.topic ≡ Ok topic → change p topic now ≡ None
+    → effect ≡ Replies (acknowledged_by p.qos p.id Success) → new ≡ awaiting_release p from.state → LeadsTo (given_at (Whole (packet.Publish p)) now) from [] effect (with_state from new)
+not_retained p topic effect now from new e t c d s =
     (Not_retained, refl, (p, topic, refl, (taken p from.state e).0, t, unretained p.retain topic _ c, d, refl, s))
 
-settled : (p : Publish) (topic : List ℕ) (operation : Operation) (now : ℕ) (from : Point Open) (outcome : Outcome) (to : Point Open)
-    → IsHanded p topic operation now from to → IsConcluded operation p.qos p.id from outcome to → LeadsTo (given_at (Whole (packet.Publish p)) now) from [] outcome to
-settled p topic operation now from outcome to may h =
-    elim h as (λ h. LeadsTo (given_at (Whole (packet.Publish p)) now) from [] outcome to) [
+settled : (p : Publish) (topic : List ℕ) (operation : Operation) (now : ℕ) (from : Point Open) (effect : Effect) (to : Point Open)
+    → IsHanded p topic operation now from to → IsConcluded operation p.qos p.id from effect to → LeadsTo (given_at (Whole (packet.Publish p)) now) from [] effect to
+settled p topic operation now from effect to may h =
+    elim h as (λ h. LeadsTo (given_at (Whole (packet.Publish p)) now) from [] effect to) [
       | inl k ↦ (Stored, refl, (p, topic, operation, refl, may, k.0, k.1, k.2))
-      | inr h ↦ elim h as (λ h. LeadsTo (given_at (Whole (packet.Publish p)) now) from [] outcome to) [
+      | inr h ↦ elim h as (λ h. LeadsTo (given_at (Whole (packet.Publish p)) now) from [] effect to) [
         | inl k ↦ (Not_stored, refl, (p, topic, operation, refl, may, k.0, k.1))
-        | inr h ↦ elim h as (λ h. LeadsTo (given_at (Whole (packet.Publish p)) now) from [] outcome to) [
+        | inr h ↦ elim h as (λ h. LeadsTo (given_at (Whole (packet.Publish p)) now) from [] effect to) [
           | inl k ↦ (Uncertain, refl, (p, topic, operation, refl, may, k.0, k.1))
           | inr k ↦ (Gate_closed, refl, (p, topic, operation, refl, may, k.0, k.1))
         ]
       ]
     ]
 
-pub submitted : {G : Type 0} (stands : G → List Entry → Type 0) (mark : G → Mark) (before after : G) (p : Publish) (topic : List ℕ) (operation : Operation) (now : ℕ) (outcome : Outcome) (old new : Open)
-    → outcome_before p old ≡ None → p.topic ≡ Ok topic → change p topic now ≡ Some operation → Uses (mark before) (mark after)
+pub submitted : {G : Type 0} (stands : G → List Entry → Type 0) (mark : G → Mark) (before after : G) (p : Publish) (topic : List ℕ) (operation : Operation) (now : ℕ) (effect : Effect) (old new : Open)
+    → effect_before p old ≡ None → p.topic ≡ Ok topic → change p topic now ≡ Some operation → Uses (mark before) (mark after)
     → SendsAtMost (mark before).sent (entry_by operation (mark after)) (mark after).sent
-    → Grows (stands before) (stands after) (λ seen list. IsHandedOver operation (mark after) seen list × IsConcluded operation p.qos p.id (point_at old seen (mark before)) outcome (point_at new list (mark after)))
-    → GrowsAnswering stands mark before after (λ seen answered list. LeadsTo (given_at (Whole (packet.Publish p)) now) (point_at old seen (mark before)) answered outcome (point_at new list (mark after)))
-submitted stands mark before after p topic operation now outcome old new e t c u sent h =
-    none_answered stands mark before after (λ seen answered list. LeadsTo (given_at (Whole (packet.Publish p)) now) (point_at old seen (mark before)) answered outcome (point_at new list (mark after)))
-    (Grows-weaker (stands before) (stands after) (λ seen list. IsHandedOver operation (mark after) seen list × IsConcluded operation p.qos p.id (point_at old seen (mark before)) outcome (point_at new list (mark after))) _
-    (λ seen list k. settled p topic operation now (point_at old seen (mark before)) outcome (point_at new list (mark after)) (record { taken = (taken p old e).0; is_topic = t; changes = c; one_used = u; no_other = k.0; sent = sent }) k.1) h)
+    → Grows (stands before) (stands after) (λ seen list. IsHandedOver operation (mark after) seen list × IsConcluded operation p.qos p.id (point_at old seen (mark before)) effect (point_at new list (mark after)))
+    → GrowsAnswering stands mark before after (λ seen answered list. LeadsTo (given_at (Whole (packet.Publish p)) now) (point_at old seen (mark before)) answered effect (point_at new list (mark after)))
+submitted stands mark before after p topic operation now effect old new e t c u sent h =
+    none_answered stands mark before after (λ seen answered list. LeadsTo (given_at (Whole (packet.Publish p)) now) (point_at old seen (mark before)) answered effect (point_at new list (mark after)))
+    (Grows-weaker (stands before) (stands after) (λ seen list. IsHandedOver operation (mark after) seen list × IsConcluded operation p.qos p.id (point_at old seen (mark before)) effect (point_at new list (mark after))) _
+    (λ seen list k. settled p topic operation now (point_at old seen (mark before)) effect (point_at new list (mark after)) (record { taken = (taken p old e).0; is_topic = t; changes = c; one_used = u; no_other = k.0; sent = sent }) k.1) h)
 
 -- ---- the filters of a SUBSCRIBE and of an UNSUBSCRIBE
 
@@ -440,18 +440,18 @@ stays {G} stands mark given old mid new e g h =
     subst (λ (s : Session G). GrowsAnswering stands mark (gate_of old) (gate_of s) (λ seen answered list. Answers given (session_at mark old seen) answered (due_of s) (session_at mark s list))) (sym e)
     (unmoved stands mark (gate_of old) (gate_of mid) (λ seen answered list used. Answers given (session_at mark old seen) answered (due_of mid) (point_at (state_of mid) list used)) g h)
 
--- what an outcome leaves does not depend on the phase before
-pub after_same : (outcome : Outcome) (a b : State) (o : Open) → a.assigned ≡ b.assigned → state_after outcome a o ≡ state_after outcome b o
+-- what an effect leaves does not depend on the phase before
+pub after_same : (effect : Effect) (a b : State) (o : Open) → a.assigned ≡ b.assigned → state_after effect a o ≡ state_after effect b o
 after_same (Replies r) a b o e = ap (λ (l : List ℕ). let s : State = record { phase = phase.Open o; assigned = l } in s) e
 after_same (Closes code) a b o e = ap (λ (l : List ℕ). let s : State = record { phase = phase.Ended (ByServer (reason_value code)); assigned = l } in s) e
 after_same Leaves a b o e = ap (λ (l : List ℕ). let s : State = record { phase = phase.Ended ByClient; assigned = l } in s) e
 
 -- an open session took a packet
-pub took : {G : Type 0} (stands : G → List Entry → Type 0) (mark : G → Mark) (given : Given) (old mid new : Session G) (o left : Open) (gate : G) (outcome : Outcome) (maximum : ℕ)
-    → new ≡ mid → gate_of mid ≡ gate → (state_of old).phase ≡ phase.Open o → maximum ≡ o.window.packet_maximum → due_of mid ≡ due_for maximum outcome → state_of mid ≡ state_after outcome (state_of old) left
-    → GrowsAnswering stands mark (gate_of old) gate (λ seen answered list. LeadsTo given (point_at o seen (mark (gate_of old))) answered outcome (point_at left list (mark gate)))
+pub took : {G : Type 0} (stands : G → List Entry → Type 0) (mark : G → Mark) (given : Given) (old mid new : Session G) (o left : Open) (gate : G) (effect : Effect) (maximum : ℕ)
+    → new ≡ mid → gate_of mid ≡ gate → (state_of old).phase ≡ phase.Open o → maximum ≡ o.window.packet_maximum → due_of mid ≡ due_for maximum effect → state_of mid ≡ state_after effect (state_of old) left
+    → GrowsAnswering stands mark (gate_of old) gate (λ seen answered list. LeadsTo given (point_at o seen (mark (gate_of old))) answered effect (point_at left list (mark gate)))
     → GrowsAnswering stands mark (gate_of old) (gate_of new) (λ seen answered list. Answers given (session_at mark old seen) answered (due_of new) (session_at mark new list))
-took {G} stands mark given old mid new o left gate outcome maximum e g p l d s h =
+took {G} stands mark given old mid new o left gate effect maximum e g p l d s h =
     subst (λ (x : Session G). GrowsAnswering stands mark (gate_of old) (gate_of x) (λ seen answered list. Answers given (session_at mark old seen) answered (due_of x) (session_at mark x list))) (sym e)
     (subst (λ (x : G). GrowsAnswering stands mark (gate_of old) x (λ seen answered list. Answers given (session_at mark old seen) answered (due_of mid) (point_at (state_of mid) list (mark x)))) (sym g)
-    (Grows-weaker _ _ _ _ (λ seen list k. (k.0, k.1, concluded given (session_at mark old seen) o k.0 outcome maximum left (due_of mid) (point_at (state_of mid) list (mark gate)) p l k.2 d s)) h))
+    (Grows-weaker _ _ _ _ (λ seen list k. (k.0, k.1, concluded given (session_at mark old seen) o k.0 effect maximum left (due_of mid) (point_at (state_of mid) list (mark gate)) p l k.2 d s)) h))

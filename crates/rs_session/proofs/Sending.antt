@@ -6,7 +6,7 @@ use Rattle.rs_packet.specs.declared.reply.Reply.{Reply}
 use Rattle.rs_message.specs.declared.entry.Entry.{Entry}
 use Rattle.rs_message.specs.declared.entry.Operation.{Operation}
 use Rattle.rs_session.specs.declared.open.Open.{Open}
-use Rattle.rs_session.specs.declared.open.Outcome.{Outcome}
+use Rattle.rs_session.specs.declared.open.Effect.{Effect}
 use Rattle.rs_session.specs.declared.phase.Input.TheVariants.{Whole}
 use Rattle.rs_session.specs.declared.phase.Phase.{Phase}
 use Rattle.rs_session.specs.declared.phase.Phase.TheVariants as phase
@@ -54,32 +54,32 @@ handed : (from : Point State) (exchange : Exchange) (at left : Open) (p : Publis
     → IsHanded p topic operation exchange.given.now (with_state from at) (with_state exchange.to left) → NoneTold from exchange → Sent from exchange
 handed from exchange at left p topic operation here i s told = ⊎_elim (λ h. ([], h, told)) (λ h. (entry_by operation exchange.to.mark ∷ [], h, publication from exchange at left p topic operation here i s)) s.sent
 
-row_sends : (case : OpenCase) (from : Point State) (exchange : Exchange) (at left : Open) (outcome : Outcome) → from.state.phase ≡ phase.Open at
-    → OpenRow case exchange.given (with_state from at) exchange.answered outcome (with_state exchange.to left)
+row_sends : (case : OpenCase) (from : Point State) (exchange : Exchange) (at left : Open) (effect : Effect) → from.state.phase ≡ phase.Open at
+    → OpenRow case exchange.given (with_state from at) exchange.answered effect (with_state exchange.to left)
     → ((o : Open) (p : Publish) (answer : Reply) → from.state.phase ≡ phase.Open o → IsToldStored o exchange p answer → IsStored case) → Sent from exchange
-row_sends Connected_twice from exchange at left outcome here (c, i, out, unchanged) told = ([], none_sent from.mark exchange.to.mark unchanged.none_used, told)
-row_sends Faulty from exchange at left outcome here (f, i, out, unchanged) told = ([], none_sent from.mark exchange.to.mark unchanged.none_used, told)
-row_sends With_alias from exchange at left outcome here (p, i, a, out, unchanged) told = ([], none_sent from.mark exchange.to.mark unchanged.none_used, told)
-row_sends Bad_topic from exchange at left outcome here (p, f, i, a, t, other, out, unchanged) told = ([], none_sent from.mark exchange.to.mark unchanged.none_used, told)
-row_sends Sent_again from exchange at left outcome here (p, i, a, t, unreleased, out, unchanged) told = ([], none_sent from.mark exchange.to.mark unchanged.none_used, told)
-row_sends Too_many_unreleased from exchange at left outcome here (p, i, a, t, many, out, unchanged) told = ([], none_sent from.mark exchange.to.mark unchanged.none_used, told)
-row_sends Not_retained from exchange at left outcome here (p, topic, i, taken, t, r, out, u, same) told = ([], none_sent from.mark exchange.to.mark u, told)
-row_sends Stored from exchange at left outcome here (p, topic, operation, i, s, submitted, out, same) told =
+row_sends Connected_twice from exchange at left effect here (c, i, out, unchanged) told = ([], none_sent from.mark exchange.to.mark unchanged.none_used, told)
+row_sends Faulty from exchange at left effect here (f, i, out, unchanged) told = ([], none_sent from.mark exchange.to.mark unchanged.none_used, told)
+row_sends With_alias from exchange at left effect here (p, i, a, out, unchanged) told = ([], none_sent from.mark exchange.to.mark unchanged.none_used, told)
+row_sends Bad_topic from exchange at left effect here (p, f, i, a, t, other, out, unchanged) told = ([], none_sent from.mark exchange.to.mark unchanged.none_used, told)
+row_sends Sent_again from exchange at left effect here (p, i, a, t, unreleased, out, unchanged) told = ([], none_sent from.mark exchange.to.mark unchanged.none_used, told)
+row_sends Too_many_unreleased from exchange at left effect here (p, i, a, t, many, out, unchanged) told = ([], none_sent from.mark exchange.to.mark unchanged.none_used, told)
+row_sends Not_retained from exchange at left effect here (p, topic, i, taken, t, r, out, u, same) told = ([], none_sent from.mark exchange.to.mark u, told)
+row_sends Stored from exchange at left effect here (p, topic, operation, i, s, submitted, out, same) told =
     (entry_by operation exchange.to.mark ∷ [], submitted.sent, publication from exchange at left p topic operation here i s)
-row_sends Topic_unread from exchange at left outcome here (p, i, taken, t, out, unchanged) told = ([], none_sent from.mark exchange.to.mark unchanged.none_used, told)
-row_sends Not_stored from exchange at left outcome here (p, topic, operation, i, s, out, same) told = handed from exchange at left p topic operation here i s told
-row_sends Uncertain from exchange at left outcome here (p, topic, operation, i, s, out, same) told = handed from exchange at left p topic operation here i s told
-row_sends Gate_closed from exchange at left outcome here (p, topic, operation, i, s, out, same) told = handed from exchange at left p topic operation here i s told
-row_sends Released from exchange at left outcome here (a, i, out, u, same) told = ([], none_sent from.mark exchange.to.mark u, told)
-row_sends Wrong_acknowledgement from exchange at left outcome here (p, ack, id, i, is, wrong, out, unchanged) told = ([], none_sent from.mark exchange.to.mark unchanged.none_used, told)
-row_sends Acknowledged from exchange at left outcome here (p, ack, id, answer, i, is, step, out, u, same) told = ([], none_sent from.mark exchange.to.mark u, told)
-row_sends Shared_no_local from exchange at left outcome here (s, i, n, out, unchanged) told = ([], none_sent from.mark exchange.to.mark unchanged.none_used, told)
-row_sends Not_subscribed from exchange at left outcome here (s, i, n, out, unchanged) told = ([], none_sent from.mark exchange.to.mark unchanged.none_used, told)
-row_sends Subscribed from exchange at left outcome here (s, codes, i, n, grants, out, u) told = ([], none_sent from.mark exchange.to.mark u, told)
-row_sends Not_unsubscribed from exchange at left outcome here (u, i, out, unchanged) told = ([], none_sent from.mark exchange.to.mark unchanged.none_used, told)
-row_sends Unsubscribed from exchange at left outcome here (u, i, out, m, same) told = ([], none_sent from.mark exchange.to.mark m, told)
-row_sends Pinged from exchange at left outcome here (i, out, unchanged) told = ([], none_sent from.mark exchange.to.mark unchanged.none_used, told)
-row_sends Disconnected from exchange at left outcome here (code, i, out, unchanged) told = ([], none_sent from.mark exchange.to.mark unchanged.none_used, told)
+row_sends Topic_unread from exchange at left effect here (p, i, taken, t, out, unchanged) told = ([], none_sent from.mark exchange.to.mark unchanged.none_used, told)
+row_sends Not_stored from exchange at left effect here (p, topic, operation, i, s, out, same) told = handed from exchange at left p topic operation here i s told
+row_sends Uncertain from exchange at left effect here (p, topic, operation, i, s, out, same) told = handed from exchange at left p topic operation here i s told
+row_sends Gate_closed from exchange at left effect here (p, topic, operation, i, s, out, same) told = handed from exchange at left p topic operation here i s told
+row_sends Released from exchange at left effect here (a, i, out, u, same) told = ([], none_sent from.mark exchange.to.mark u, told)
+row_sends Wrong_acknowledgement from exchange at left effect here (p, ack, id, i, is, wrong, out, unchanged) told = ([], none_sent from.mark exchange.to.mark unchanged.none_used, told)
+row_sends Acknowledged from exchange at left effect here (p, ack, id, answer, i, is, step, out, u, same) told = ([], none_sent from.mark exchange.to.mark u, told)
+row_sends Shared_no_local from exchange at left effect here (s, i, n, out, unchanged) told = ([], none_sent from.mark exchange.to.mark unchanged.none_used, told)
+row_sends Not_subscribed from exchange at left effect here (s, i, n, out, unchanged) told = ([], none_sent from.mark exchange.to.mark unchanged.none_used, told)
+row_sends Subscribed from exchange at left effect here (s, codes, i, n, grants, out, u) told = ([], none_sent from.mark exchange.to.mark u, told)
+row_sends Not_unsubscribed from exchange at left effect here (u, i, out, unchanged) told = ([], none_sent from.mark exchange.to.mark unchanged.none_used, told)
+row_sends Unsubscribed from exchange at left effect here (u, i, out, m, same) told = ([], none_sent from.mark exchange.to.mark m, told)
+row_sends Pinged from exchange at left effect here (i, out, unchanged) told = ([], none_sent from.mark exchange.to.mark unchanged.none_used, told)
+row_sends Disconnected from exchange at left effect here (code, i, out, unchanged) told = ([], none_sent from.mark exchange.to.mark unchanged.none_used, told)
 
 exchange_sends : (case : Case) (from : Point State) (exchange : Exchange) (due : Option Reply) (mid : State) → SessionRow case exchange.given from exchange.answered due (with_state exchange.to mid)
     → GivesAll exchange.given.now due mid exchange.replies exchange.to.state → Sent from exchange
@@ -90,8 +90,8 @@ exchange_sends Accepted from exchange due mid (c, i, before, m, w, short, u, d, 
 exchange_sends Connack_too_long from exchange due mid (c, i, before, m, w, long, u, d, same) g = ([], none_sent from.mark exchange.to.mark u, none_told from exchange phase.Before before (λ n. n))
 exchange_sends Other_version from exchange due mid (i, before, u, d, same) g = ([], none_sent from.mark exchange.to.mark u, none_told from exchange phase.Before before (λ n. n))
 exchange_sends Unexpected from exchange due mid (i, before, u, d, same) g = ([], none_sent from.mark exchange.to.mark u, none_told from exchange phase.Before before (λ n. n))
-exchange_sends In_session from exchange due mid (at, left, outcome, here, (case, none, row), d, same) g =
-    row_sends case from exchange at left outcome here row (λ o p answer is told. (told_row from exchange o p answer at left outcome due mid case is told here row d same g).0)
+exchange_sends In_session from exchange due mid (at, left, effect, here, (case, none, row), d, same) g =
+    row_sends case from exchange at left effect here row (λ o p answer is told. (told_row from exchange o p answer at left effect due mid case is told here row d same g).0)
 exchange_sends Over from exchange due mid (closing, is, u, d, same) g = ([], none_sent from.mark exchange.to.mark u, none_told from exchange (phase.Ended closing) is (λ n. n))
 
 pub run_sends : (from to : Point State) (exchanges : List Exchange) → Run from exchanges to → SendsPublications from exchanges to

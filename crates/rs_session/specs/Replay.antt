@@ -28,7 +28,7 @@ use Rattle.rs_session.specs.Subscriptions.{Subscriptions, none, is_subscribed, r
 use Rattle.rs_session.specs.declared.subscriptions.Subscription.{Subscription}
 use Rattle.rs_session.specs.Table.{receive_maximum, packet_maximum, acknowledgement_of, due_for, subscription_for}
 use Rattle.rs_session.specs.Run.{Exchange}
-use Rattle.rs_session.specs.declared.open.Outcome.TheVariants.{Replies}
+use Rattle.rs_session.specs.declared.open.Effect.TheVariants.{Replies}
 use Rattle.rs_session.specs.declared.phase.Input.{Input}
 use Rattle.rs_session.specs.declared.phase.Input.TheVariants.{Whole, Broken}
 use Rattle.rs_session.specs.declared.phase.Phase.{Phase}

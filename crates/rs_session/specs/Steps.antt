@@ -19,8 +19,8 @@ use Rattle.rs_session.specs.declared.reason.ReasonCode.TheVariants.{Success, Bad
 use Rattle.rs_session.specs.State.{State, opened, ended}
 use Rattle.rs_session.specs.Table.{acknowledged_by, unreleased_id, unreleased_with, is_unreleased, is_one_too_many, topic_reason}
 use Rattle.rs_session.specs.declared.open.Open.{Open}
-use Rattle.rs_session.specs.declared.open.Outcome.{Outcome}
-use Rattle.rs_session.specs.declared.open.Outcome.TheVariants.{Replies, Closes, Leaves}
+use Rattle.rs_session.specs.declared.open.Effect.{Effect}
+use Rattle.rs_session.specs.declared.open.Effect.TheVariants.{Replies, Closes, Leaves}
 use Rattle.rs_session.specs.declared.phase.Closing.TheVariants.{ByServer}
 
 -- the code of a CONNECT with an Authentication Method, or else with a will
@@ -45,68 +45,68 @@ topic_refusal (Ok topic) = None
 topic_refusal (Err fault) = fault_refusal fault
 
 -- by its identifier: one that is not released yet, then one too many
-abbrev pub outcome_of_id : Bool → Bool → Option Reply → Option Outcome
-outcome_of_id true many again = Some (Replies again)
-outcome_of_id false true again = Some (Closes ReceiveMaximumExceeded)
-outcome_of_id false false again = None
+abbrev pub effect_of_id : Bool → Bool → Option Reply → Option Effect
+effect_of_id true many again = Some (Replies again)
+effect_of_id false true again = Some (Closes ReceiveMaximumExceeded)
+effect_of_id false false again = None
 
 -- by a topic that is no topic name
-abbrev pub outcome_of_topic : Option ReasonCode → Option Outcome → Option Outcome
-outcome_of_topic (Some code) rest = Some (Closes code)
-outcome_of_topic None rest = rest
+abbrev pub effect_of_topic : Option ReasonCode → Option Effect → Option Effect
+effect_of_topic (Some code) rest = Some (Closes code)
+effect_of_topic None rest = rest
 
 -- by a topic alias
-abbrev pub outcome_of_alias : Option ℕ → Option Outcome → Option Outcome
-outcome_of_alias (Some alias) rest = Some (Closes TopicAliasInvalid)
-outcome_of_alias None rest = rest
+abbrev pub effect_of_alias : Option ℕ → Option Effect → Option Effect
+effect_of_alias (Some alias) rest = Some (Closes TopicAliasInvalid)
+effect_of_alias None rest = rest
 
 -- what a PUBLISH leads to before its topic is used: a topic alias, then a topic that is not a topic name, then
 -- its identifier
-abbrev pub outcome_before : Publish → Open → Option Outcome
-outcome_before p o =
-    outcome_of_alias p.alias (outcome_of_topic (topic_refusal p.topic)
-    (outcome_of_id (is_unreleased (unreleased_id p.qos p.id) o.inbound) (is_one_too_many (unreleased_id p.qos p.id) o.inbound)
+abbrev pub effect_before : Publish → Open → Option Effect
+effect_before p o =
+    effect_of_alias p.alias (effect_of_topic (topic_refusal p.topic)
+    (effect_of_id (is_unreleased (unreleased_id p.qos p.id) o.inbound) (is_one_too_many (unreleased_id p.qos p.id) o.inbound)
     (acknowledged_by p.qos p.id Success)))
 
 -- what a submit leads to, by what became of the change
-abbrev pub outcome_of_submit : Result (Unit {0}) SubmitFault → Qos → Option ℕ → Outcome
-outcome_of_submit (Ok done) qos id = Replies (acknowledged_by qos id Success)
-outcome_of_submit (Err Full) qos id = Replies (acknowledged_by qos id QuotaExceeded)
-outcome_of_submit (Err NoMemory) qos id = Replies (acknowledged_by qos id QuotaExceeded)
-outcome_of_submit (Err submit_fault.Open) qos id = Closes QuotaExceeded
-outcome_of_submit (Err Strange) qos id = Closes ImplementationSpecificError
-outcome_of_submit (Err Closed) qos id = Closes ImplementationSpecificError
+abbrev pub effect_of_submit : Result (Unit {0}) SubmitFault → Qos → Option ℕ → Effect
+effect_of_submit (Ok done) qos id = Replies (acknowledged_by qos id Success)
+effect_of_submit (Err Full) qos id = Replies (acknowledged_by qos id QuotaExceeded)
+effect_of_submit (Err NoMemory) qos id = Replies (acknowledged_by qos id QuotaExceeded)
+effect_of_submit (Err submit_fault.Open) qos id = Closes QuotaExceeded
+effect_of_submit (Err Strange) qos id = Closes ImplementationSpecificError
+effect_of_submit (Err Closed) qos id = Closes ImplementationSpecificError
 
 -- what a submit leads to, with what stands then
-abbrev pub IsConcluded : Operation → Qos → Option ℕ → Point Open → Outcome → Point Open → Type 0
-IsConcluded operation qos id from outcome to =
-    (IsSubmitted operation from.mark to.mark to.seen × (outcome ≡ Replies (acknowledged_by qos id Success))
+abbrev pub IsConcluded : Operation → Qos → Option ℕ → Point Open → Effect → Point Open → Type 0
+IsConcluded operation qos id from effect to =
+    (IsSubmitted operation from.mark to.mark to.seen × (effect ≡ Replies (acknowledged_by qos id Success))
     × (to.state ≡ record from.state { inbound = unreleased_with (unreleased_id qos id) from.state.inbound }))
-    ⊎ (((outcome ≡ Replies (acknowledged_by qos id QuotaExceeded)) × (to.state ≡ from.state))
-    ⊎ (((outcome ≡ Closes QuotaExceeded) × (to.state ≡ from.state))
-    ⊎ ((outcome ≡ Closes ImplementationSpecificError) × (to.state ≡ from.state))))
+    ⊎ (((effect ≡ Replies (acknowledged_by qos id QuotaExceeded)) × (to.state ≡ from.state))
+    ⊎ (((effect ≡ Closes QuotaExceeded) × (to.state ≡ from.state))
+    ⊎ ((effect ≡ Closes ImplementationSpecificError) × (to.state ≡ from.state))))
 
 -- what no memory for the change of a PUBLISH leads to, by the changes that are expected; it may be one that was sent ahead, and may
 -- become an entry
-abbrev pub outcome_unmade : List Operation → Qos → Option ℕ → Outcome
-outcome_unmade [] qos id = Replies (acknowledged_by qos id QuotaExceeded)
-outcome_unmade (operation ∷ operations) qos id = Closes QuotaExceeded
+abbrev pub effect_of_no_memory : List Operation → Qos → Option ℕ → Effect
+effect_of_no_memory [] qos id = Replies (acknowledged_by qos id QuotaExceeded)
+effect_of_no_memory (operation ∷ operations) qos id = Closes QuotaExceeded
 
 -- A gate that stands for some list used no serial, and expected no change before.
 abbrev pub NoSerialUsed : (List Entry → Type 0) → List Operation → Mark → Mark → Type 0
 NoSerialUsed stands pending old new = (seen : List Entry) × stands seen × (pending ≡ []) × (new.serial ≡ old.serial)
 
--- an outcome that ends the session
-abbrev pub IsLast : Outcome → Type 0
+-- an effect that ends the session
+abbrev pub IsLast : Effect → Type 0
 IsLast (Replies r) = ⊥
 IsLast (Closes code) = Unit {0}
 IsLast Leaves = Unit {0}
 
 -- nothing was sent, and the session ends
-abbrev pub IsUnsent : Mark → Mark → Outcome → Type 0
-IsUnsent old new outcome = (new ≡ old) × IsLast outcome
+abbrev pub IsUnsent : Mark → Mark → Effect → Type 0
+IsUnsent old new effect = (new ≡ old) × IsLast effect
 
 -- of the changes that were expected, none is left; or this was the first, and the rest is left; or all are
-abbrev pub TakesPendingBy : Operation → Mark → Mark → Outcome → List Operation → List Operation → Type 0
-TakesPendingBy operation old_mark new_mark outcome old new = (new ≡ [])
-    ⊎ ((old ≡ operation ∷ new) ⊎ ((new ≡ old) × IsUnsent old_mark new_mark outcome))
+abbrev pub TakesPendingBy : Operation → Mark → Mark → Effect → List Operation → List Operation → Type 0
+TakesPendingBy operation old_mark new_mark effect old new = (new ≡ [])
+    ⊎ ((old ≡ operation ∷ new) ⊎ ((new ≡ old) × IsUnsent old_mark new_mark effect))

@@ -40,8 +40,8 @@ use Rattle.rs_session.specs.Subscriptions.{Subscriptions, is_subscribed, can_sub
 use Rattle.rs_session.specs.declared.subscriptions.Subscription.{Subscription}
 use Rattle.rs_session.specs.State.{State, opened, ended, within}
 use Rattle.rs_session.specs.declared.open.Open.{Open}
-use Rattle.rs_session.specs.declared.open.Outcome.{Outcome}
-use Rattle.rs_session.specs.declared.open.Outcome.TheVariants.{Replies, Closes, Leaves}
+use Rattle.rs_session.specs.declared.open.Effect.{Effect}
+use Rattle.rs_session.specs.declared.open.Effect.TheVariants.{Replies, Closes, Leaves}
 use Rattle.rs_session.specs.declared.phase.Closing.{Closing}
 use Rattle.rs_session.specs.declared.phase.Closing.TheVariants.{ByClient, ByServer, Dropped}
 use Rattle.rs_session.specs.declared.phase.Phase.TheVariants as phase
@@ -286,101 +286,101 @@ pub record IsUnchanged (from to : Point Open) : Type 0 where
 -- What a row does in an open session with what it is given, from the point before to the point after, and what it leads
 -- to: a reply or none, a DISCONNECT with this code, or the end by the client. `answered` are the lists by which the
 -- filters of a SUBSCRIBE are answered, one for each.
-abbrev pub OpenRow : OpenCase → Given → Point Open → List (List Entry) → Outcome → Point Open → Type 0
+abbrev pub OpenRow : OpenCase → Given → Point Open → List (List Entry) → Effect → Point Open → Type 0
 -- 3.1: a second CONNECT
-OpenRow Connected_twice given from answered outcome to =
-    (c : Connect) × (given.input ≡ Whole (packet.Connect c)) × (outcome ≡ Closes ProtocolError) × IsUnchanged from to
-OpenRow Faulty given from answered outcome to =
-    (fault : PacketFault) × (given.input ≡ Broken fault) × (outcome ≡ Closes (fault_reason fault)) × IsUnchanged from to
+OpenRow Connected_twice given from answered effect to =
+    (c : Connect) × (given.input ≡ Whole (packet.Connect c)) × (effect ≡ Closes ProtocolError) × IsUnchanged from to
+OpenRow Faulty given from answered effect to =
+    (fault : PacketFault) × (given.input ≡ Broken fault) × (effect ≡ Closes (fault_reason fault)) × IsUnchanged from to
 -- 3.3.2.3.4: CONNACK allowed none
-OpenRow With_alias given from answered outcome to =
-    (p : Publish) × (given.input ≡ Whole (packet.Publish p)) × (is_some p.alias ≡ true) × (outcome ≡ Closes TopicAliasInvalid)
+OpenRow With_alias given from answered effect to =
+    (p : Publish) × (given.input ≡ Whole (packet.Publish p)) × (is_some p.alias ≡ true) × (effect ≡ Closes TopicAliasInvalid)
     × IsUnchanged from to
 -- 3.3.2.1
-OpenRow Bad_topic given from answered outcome to =
+OpenRow Bad_topic given from answered effect to =
     (p : Publish) × (fault : TopicFault) × (given.input ≡ Whole (packet.Publish p)) × (is_some p.alias ≡ false) × (p.topic ≡ Err fault)
     × (fault ≢ topic_fault.NoMemory)
-    × (outcome ≡ Closes (topic_reason fault)) × IsUnchanged from to
+    × (effect ≡ Closes (topic_reason fault)) × IsUnchanged from to
 -- 4.3.3: it is the same publication
-OpenRow Sent_again given from answered outcome to =
+OpenRow Sent_again given from answered effect to =
     (p : Publish) × (given.input ≡ Whole (packet.Publish p)) × (is_some p.alias ≡ false) × IsTopicOrUnread p.topic
     × (is_unreleased (unreleased_id p.qos p.id) from.state.inbound ≡ true)
-    × (outcome ≡ Replies (acknowledged_by p.qos p.id Success)) × IsUnchanged from to
+    × (effect ≡ Replies (acknowledged_by p.qos p.id Success)) × IsUnchanged from to
 -- 3.3.4
-OpenRow Too_many_unreleased given from answered outcome to =
+OpenRow Too_many_unreleased given from answered effect to =
     (p : Publish) × (given.input ≡ Whole (packet.Publish p)) × (is_some p.alias ≡ false) × IsTopicOrUnread p.topic
     × (is_one_too_many (unreleased_id p.qos p.id) from.state.inbound ≡ true)
-    × (outcome ≡ Closes ReceiveMaximumExceeded) × IsUnchanged from to
+    × (effect ≡ Closes ReceiveMaximumExceeded) × IsUnchanged from to
 -- 3.3.1.3: RETAIN 0 changes nothing
-OpenRow Not_retained given from answered outcome to =
+OpenRow Not_retained given from answered effect to =
     (p : Publish) × (topic : List ℕ) × (given.input ≡ Whole (packet.Publish p)) × IsTaken p from.state × (p.topic ≡ Ok topic)
     × (p.retain ≡ false)
-    × (outcome ≡ Replies (acknowledged_by p.qos p.id Success)) × (to.mark ≡ from.mark) × (to.state ≡ awaiting_release p from.state)
-OpenRow Stored given from answered outcome to =
+    × (effect ≡ Replies (acknowledged_by p.qos p.id Success)) × (to.mark ≡ from.mark) × (to.state ≡ awaiting_release p from.state)
+OpenRow Stored given from answered effect to =
     (p : Publish) × (topic : List ℕ) × (operation : Operation) × (given.input ≡ Whole (packet.Publish p))
     × IsHanded p topic operation given.now from to × IsSubmitted operation from.mark to.mark to.seen
-    × (outcome ≡ Replies (acknowledged_by p.qos p.id Success)) × (to.state ≡ awaiting_release p from.state)
+    × (effect ≡ Replies (acknowledged_by p.qos p.id Success)) × (to.state ≡ awaiting_release p from.state)
 -- no memory for the topic, which may be at any time
-OpenRow Topic_unread given from answered outcome to =
+OpenRow Topic_unread given from answered effect to =
     (p : Publish) × (given.input ≡ Whole (packet.Publish p)) × IsTaken p from.state × (p.topic ≡ Err topic_fault.NoMemory)
-    × (outcome ≡ Replies (acknowledged_by p.qos p.id QuotaExceeded)) × IsUnchanged from to
+    × (effect ≡ Replies (acknowledged_by p.qos p.id QuotaExceeded)) × IsUnchanged from to
 -- the store is full, or memory was refused
-OpenRow Not_stored given from answered outcome to =
+OpenRow Not_stored given from answered effect to =
     (p : Publish) × (topic : List ℕ) × (operation : Operation) × (given.input ≡ Whole (packet.Publish p))
     × IsHanded p topic operation given.now from to
-    × (outcome ≡ Replies (acknowledged_by p.qos p.id QuotaExceeded)) × (to.state ≡ from.state)
+    × (effect ≡ Replies (acknowledged_by p.qos p.id QuotaExceeded)) × (to.state ≡ from.state)
 -- the store gave no receipt
-OpenRow Uncertain given from answered outcome to =
+OpenRow Uncertain given from answered effect to =
     (p : Publish) × (topic : List ℕ) × (operation : Operation) × (given.input ≡ Whole (packet.Publish p))
     × IsHanded p topic operation given.now from to
-    × (outcome ≡ Closes QuotaExceeded) × (to.state ≡ from.state)
+    × (effect ≡ Closes QuotaExceeded) × (to.state ≡ from.state)
 -- the store takes no more, or answered for another change
-OpenRow Gate_closed given from answered outcome to =
+OpenRow Gate_closed given from answered effect to =
     (p : Publish) × (topic : List ℕ) × (operation : Operation) × (given.input ≡ Whole (packet.Publish p))
     × IsHanded p topic operation given.now from to
-    × (outcome ≡ Closes ImplementationSpecificError) × (to.state ≡ from.state)
+    × (effect ≡ Closes ImplementationSpecificError) × (to.state ≡ from.state)
 -- 3.6, 4.3.3
-OpenRow Released given from answered outcome to =
+OpenRow Released given from answered effect to =
     (a : Acknowledgement) × (given.input ≡ Whole (packet.Pubrel a))
-    × (outcome ≡ Replies (Some (reply.Pubcomp a.id (reason_value (released_reason a.id from.state.inbound)))))
+    × (effect ≡ Replies (Some (reply.Pubcomp a.id (reason_value (released_reason a.id from.state.inbound)))))
     × (to.mark ≡ from.mark) × (to.state ≡ record from.state { inbound = set.remove from.state.inbound a.id })
 -- 4.3: an acknowledgement that the PUBLISH with this identifier does not await
-OpenRow Wrong_acknowledgement given from answered outcome to =
+OpenRow Wrong_acknowledgement given from answered effect to =
     (p : Packet) × (ack : window.Acknowledgement) × (id : ℕ) × (given.input ≡ Whole p) × (acknowledgement_of p ≡ Some (ack, id))
     × (window.answer_to ack (finite.get from.state.window.kinds id) ≡ Err WrongKind)
-    × (outcome ≡ Closes ProtocolError) × IsUnchanged from to
-OpenRow Acknowledged given from answered outcome to =
+    × (effect ≡ Closes ProtocolError) × IsUnchanged from to
+OpenRow Acknowledged given from answered effect to =
     (p : Packet) × (ack : window.Acknowledgement) × (id : ℕ) × (answer : Ack) × (given.input ≡ Whole p)
     × (acknowledgement_of p ≡ Some (ack, id))
     × window.IsAcknowledged ack id from.state.window (Ok answer) to.state.window
-    × (outcome ≡ Replies (released_by ack id answer)) × (to.mark ≡ from.mark) × (to.state ≡ record from.state { window = to.state.window })
+    × (effect ≡ Replies (released_by ack id answer)) × (to.mark ≡ from.mark) × (to.state ≡ record from.state { window = to.state.window })
 -- 3.8.3.1
-OpenRow Shared_no_local given from answered outcome to =
+OpenRow Shared_no_local given from answered effect to =
     (s : Subscribe) × (given.input ≡ Whole (packet.Subscribe s)) × (list_any is_shared_local s.filters ≡ true)
-    × (outcome ≡ Closes ProtocolError) × IsUnchanged from to
+    × (effect ≡ Closes ProtocolError) × IsUnchanged from to
 -- no memory for the codes, which may be at any time
-OpenRow Not_subscribed given from answered outcome to =
+OpenRow Not_subscribed given from answered effect to =
     (s : Subscribe) × (given.input ≡ Whole (packet.Subscribe s)) × (list_any is_shared_local s.filters ≡ false)
-    × (outcome ≡ Closes QuotaExceeded) × IsUnchanged from to
+    × (effect ≡ Closes QuotaExceeded) × IsUnchanged from to
 -- 3.8.4
-OpenRow Subscribed given from answered outcome to =
+OpenRow Subscribed given from answered effect to =
     (s : Subscribe) × (codes : List ℕ) × (given.input ≡ Whole (packet.Subscribe s)) × (list_any is_shared_local s.filters ≡ false)
     × Grants given.now s.filters s.subscription from codes answered to
-    × (outcome ≡ Replies (Some (reply.Suback (record { id = s.id; codes = codes })))) × (to.mark ≡ from.mark)
+    × (effect ≡ Replies (Some (reply.Suback (record { id = s.id; codes = codes })))) × (to.mark ≡ from.mark)
 -- no memory for the codes, which may be at any time
-OpenRow Not_unsubscribed given from answered outcome to =
-    (u : Unsubscribe) × (given.input ≡ Whole (packet.Unsubscribe u)) × (outcome ≡ Closes QuotaExceeded) × IsUnchanged from to
+OpenRow Not_unsubscribed given from answered effect to =
+    (u : Unsubscribe) × (given.input ≡ Whole (packet.Unsubscribe u)) × (effect ≡ Closes QuotaExceeded) × IsUnchanged from to
 -- 3.10.4
-OpenRow Unsubscribed given from answered outcome to =
+OpenRow Unsubscribed given from answered effect to =
     (u : Unsubscribe) × (given.input ≡ Whole (packet.Unsubscribe u))
-    × (outcome ≡ Replies (Some (reply.Unsuback (record { id = u.id; codes = removal_codes u.filters from.state.subscriptions }))))
+    × (effect ≡ Replies (Some (reply.Unsuback (record { id = u.id; codes = removal_codes u.filters from.state.subscriptions }))))
     × (to.mark ≡ from.mark) × (to.state ≡ record from.state { subscriptions = without_all u.filters from.state.subscriptions })
 -- 3.12
-OpenRow Pinged given from answered outcome to =
-    (given.input ≡ Whole packet.Pingreq) × (outcome ≡ Replies (Some reply.Pingresp)) × IsUnchanged from to
+OpenRow Pinged given from answered effect to =
+    (given.input ≡ Whole packet.Pingreq) × (effect ≡ Replies (Some reply.Pingresp)) × IsUnchanged from to
 -- 3.14
-OpenRow Disconnected given from answered outcome to =
-    (code : ℕ) × (given.input ≡ Whole (packet.Disconnect code)) × (outcome ≡ Leaves) × IsUnchanged from to
+OpenRow Disconnected given from answered effect to =
+    (code : ℕ) × (given.input ≡ Whole (packet.Disconnect code)) × (effect ≡ Leaves) × IsUnchanged from to
 
 -- no filter is answered in a row but that of an accepted SUBSCRIBE
 abbrev pub AnsweredInOpen : OpenCase → List (List Entry) → Type 0
@@ -388,24 +388,24 @@ AnsweredInOpen Subscribed answered = Unit {0}
 AnsweredInOpen case answered = answered ≡ []
 
 -- one of the rows
-abbrev pub LeadsTo : Given → Point Open → List (List Entry) → Outcome → Point Open → Type 0
-LeadsTo given from answered outcome to = (case : OpenCase) × AnsweredInOpen case answered × OpenRow case given from answered outcome to
+abbrev pub LeadsTo : Given → Point Open → List (List Entry) → Effect → Point Open → Type 0
+LeadsTo given from answered effect to = (case : OpenCase) × AnsweredInOpen case answered × OpenRow case given from answered effect to
 
 -- without a call of the gate: at any moment, list and mark, and the last two stay
-abbrev pub LeadsWithoutGate : Input → Open → Outcome → Open → Type 0
-LeadsWithoutGate input old outcome new = (now : ℕ) (mark : Mark) (list : List Entry)
-    → LeadsTo (given_at input now) (point_at old list mark) [] outcome (point_at new list mark)
+abbrev pub LeadsWithoutGate : Input → Open → Effect → Open → Type 0
+LeadsWithoutGate input old effect new = (now : ℕ) (mark : Mark) (list : List Entry)
+    → LeadsTo (given_at input now) (point_at old list mark) [] effect (point_at new list mark)
 
 -- ---- any session
 
 -- 3.1.2.11.4: what is sent of it to a client that takes packets of at most this length
-abbrev pub due_for : ℕ → Outcome → Option Reply
+abbrev pub due_for : ℕ → Effect → Option Reply
 due_for maximum (Replies None) = None
 due_for maximum (Replies (Some r)) = within maximum r
 due_for maximum (Closes code) = within maximum (reply.Disconnect (reason_value code))
 due_for maximum Leaves = None
 
-abbrev pub state_after : Outcome → State → Open → State
+abbrev pub state_after : Effect → State → Open → State
 state_after (Replies r) old o = opened old o
 state_after (Closes code) old o = ended old (ByServer (reason_value code))
 state_after Leaves old o = ended old ByClient
@@ -471,9 +471,9 @@ SessionRow Unexpected given from answered due to =
     IsNeitherConnectNorVersion given.input × (from.state.phase ≡ phase.Before) × (to.mark ≡ from.mark) × (due ≡ None)
     × (to.state ≡ ended from.state Dropped)
 SessionRow In_session given from answered due to =
-    (o : Open) × (left : Open) × (outcome : Outcome) × (from.state.phase ≡ phase.Open o)
-    × LeadsTo given (with_state from o) answered outcome (with_state to left)
-    × (due ≡ due_for o.window.packet_maximum outcome) × (to.state ≡ state_after outcome from.state left)
+    (o : Open) × (left : Open) × (effect : Effect) × (from.state.phase ≡ phase.Open o)
+    × LeadsTo given (with_state from o) answered effect (with_state to left)
+    × (due ≡ due_for o.window.packet_maximum effect) × (to.state ≡ state_after effect from.state left)
 SessionRow Over given from answered due to =
     (closing : Closing) × (from.state.phase ≡ phase.Ended closing) × (to.mark ≡ from.mark) × (due ≡ None) × (to.state ≡ from.state)
 

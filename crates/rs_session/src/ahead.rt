@@ -56,14 +56,14 @@ fn change(alloc: Global, p: &Publish, now: u64) -> Option<Operation>
         return None;
     }
     match &p.topic {
-        Ok(topic) => made(alloc, p, topic, now),
+        Ok(topic) => change_of(alloc, p, topic, now),
         Err(_fault) => None,
     }
 }
 
 /// Its change, with this topic. None also if memory is refused.
 #[tactic(auto, using(crate::proofs::Submitting::no_sweep))]
-fn made(alloc: Global, p: &Publish, topic: &TopicName, now: u64) -> Option<Operation>
+fn change_of(alloc: Global, p: &Publish, topic: &TopicName, now: u64) -> Option<Operation>
     requires { p.now.topic ≡ Ok topic.now }
     ensures change { IfSome result (λ operation. change p.now topic.now now ≡ Some operation) }
     ensures none_sweeps { IfSome result (λ operation. is_sweep operation ≡ false) }

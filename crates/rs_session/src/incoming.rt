@@ -56,7 +56,7 @@ impl Incoming {
     }
 
     /// Its time, in seconds.
-    pub fn now(&self) -> u64
+    pub fn time(&self) -> u64
         ensures { result ≡ self.now.now }
     {
         self.time

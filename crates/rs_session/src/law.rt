@@ -17,14 +17,14 @@ ghost use Rattle.rs_session.specs.declared.phase.Phase.TheVariants as phase;
 /// Does nothing. Its contract says that along a run the gate's list only grows at its end, so what was acknowledged stays
 /// in it.
 #[tactic(auto, using(crate::proofs::Runs::run_grows))]
-pub fn lists_grow()
+pub fn growth_law()
     ensures { (from to : Point State) (exchanges : List Exchange) → Run from exchanges to → Extends to.seen from.seen }
 {}
 
 /// Does nothing. Its contract says of every run of a new session that is open after its last exchange: it keeps at most
 /// `MAX_SUBSCRIPTIONS` subscriptions, `RECEIVE_MAXIMUM` identifiers of QoS 2 and `MAX_WAITING` messages that wait, and no
 /// more messages are unacknowledged than the quota, which is at most `MAX_QUOTA`.
-pub fn limits_kept()
+pub fn limits_law()
     ensures { (assigned : List ℕ) (from to : Point State) (exchanges : List Exchange) (o : Open) → from.state ≡ fresh assigned
         → Run from exchanges to
         → to.state.phase ≡ phase.Open o → IsWithinLimits o }

@@ -6,9 +6,9 @@
 //!
 //! The contracts promise: each input takes one row of the table of the session (`on_input`), over every gate; no other
 //! change than that of its PUBLISH is handed to the gate; what waits is sent as the window gives it (`next_reply`). Along a
-//! run of inputs the list of the gate only grows, so what was acknowledged stays (`lists_grow`, `stored_of_run`), the gate
+//! run of inputs the list of the gate only grows, so what was acknowledged stays (`growth_law`, `stored_of_run`), the gate
 //! sends to the store just the session's retained publications, in order (`sent_of_run`), what the session keeps is within
-//! its limits (`limits_kept`), and its PUBLISH replies are the messages that its SUBSCRIBEs queued, in order, each once or
+//! its limits (`limits_law`), and its PUBLISH replies are the messages that its SUBSCRIBEs queued, in order, each once or
 //! dropped (`replay_of_run`).
 #![tactic(auto)]
 
@@ -25,7 +25,7 @@ mod subscriptions;
 
 pub use gate::Gate;
 pub use incoming::Incoming;
-pub use law::{limits_kept, lists_grow, replay_of_run, sent_of_run, stored_of_run};
+pub use law::{growth_law, limits_law, replay_of_run, sent_of_run, stored_of_run};
 pub use local::LocalGate;
 pub use phase::{Closing, Input, Step};
 pub use session::Session;

@@ -36,7 +36,7 @@ pub struct Open {
 
 /// What an input leads to in an open session.
 #[derive(Drop)]
-pub enum Outcome {
+pub enum Effect {
     /// It goes on, with this reply or none.
     Replies(Option<Reply>),
     /// A DISCONNECT with this Reason Code, and the end.
@@ -47,7 +47,7 @@ pub enum Outcome {
 
 impl Open {
     /// Handles an input, and says what it leads to.
-    pub fn handle<G: Gate>(&mut self, alloc: Global, gate: &mut G, incoming: Incoming) -> Outcome
+    pub fn handle<G: Gate>(&mut self, alloc: Global, gate: &mut G, incoming: Incoming) -> Effect
         ensures row { GrowsAnswering G.stands G.mark gate.old gate.new (λ seen answered list.
             LeadsTo incoming (point_at self.old seen (G.mark gate.old)) answered result
             (point_at self.new list (G.mark gate.new))) }
@@ -55,7 +55,7 @@ impl Open {
             (IsUnsent (G.mark gate.old) (G.mark gate.new) result) }
         ensures certain { (p : Publish) → incoming.input ≡ Input.Whole (Packet.Publish p)
             → NoSerialUsed (G.stands gate.old) (G.pending gate.old) (G.mark gate.old) (G.mark gate.new)
-            → result ≢ Outcome.Closes ReasonCode.QuotaExceeded }
+            → result ≢ Effect.Closes ReasonCode.QuotaExceeded }
     {
         let Incoming {
             input,
@@ -64,12 +64,12 @@ impl Open {
         } = incoming;
         let packet = match input {
             Input::Whole(packet) => packet,
-            Input::Broken(fault) => return Outcome::Closes(fault_reason(fault)),
+            Input::Broken(fault) => return Effect::Closes(fault_reason(fault)),
         };
         match packet {
-            Packet::Connect(_c) => Outcome::Closes(ReasonCode::ProtocolError),
-            Packet::Publish(p) => match self.outcome_before(&p) {
-                Some(outcome) => outcome,
+            Packet::Connect(_c) => Effect::Closes(ReasonCode::ProtocolError),
+            Packet::Publish(p) => match self.effect_before(&p) {
+                Some(effect) => effect,
                 None => self.hand_over(alloc, gate, p, change, now),
             },
             Packet::Puback(a) => self.puback(a),
@@ -78,8 +78,8 @@ impl Open {
             Packet::Pubcomp(a) => self.pubcomp(a),
             Packet::Subscribe(s) => self.subscribe(alloc, gate, s, now),
             Packet::Unsubscribe(u) => self.unsubscribe(alloc, u),
-            Packet::Pingreq => Outcome::Replies(Some(Reply::Pingresp)),
-            Packet::Disconnect(_code) => Outcome::Leaves,
+            Packet::Pingreq => Effect::Replies(Some(Reply::Pingresp)),
+            Packet::Disconnect(_code) => Effect::Leaves,
         }
     }
 }

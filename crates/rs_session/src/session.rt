@@ -21,7 +21,7 @@ ghost use Rattle.rs_session.specs.Table.{Answers, due_for, state_after};
 
 use crate::gate::Gate;
 use crate::incoming::Incoming;
-use crate::open::{Outcome, fault_reason};
+use crate::open::{Effect, fault_reason};
 use crate::phase::{Closing, Input, Phase, Step};
 use crate::reason::ReasonCode;
 use rs_message::Operation;
@@ -91,7 +91,7 @@ impl<G: Gate> Session<G> {
             Phase::Before => self.first_fault(fault),
             Phase::Open(open) => {
                 let maximum = open.window.packet_maximum();
-                self.conclude(Outcome::Closes(fault_reason(fault)), maximum);
+                self.conclude(Effect::Closes(fault_reason(fault)), maximum);
             }
             Phase::Ended(_) => {}
         }
@@ -119,8 +119,8 @@ impl<G: Gate> Session<G> {
             Phase::Before => self.first_input(incoming),
             Phase::Open(open) => {
                 let maximum = open.window.packet_maximum();
-                let outcome = open.handle(self.alloc, &mut self.gate, incoming);
-                self.conclude(outcome, maximum);
+                let effect = open.handle(self.alloc, &mut self.gate, incoming);
+                self.conclude(effect, maximum);
             }
             Phase::Ended(_) => {}
         }
@@ -218,22 +218,22 @@ impl<G: Gate> Session<G> {
         }
     }
 
-    /// What an outcome leaves due and open, for a client that takes packets of at most `maximum` bytes.
-    fn conclude(&mut self, outcome: Outcome, maximum: u32)
+    /// What an effect leaves due and open, for a client that takes packets of at most `maximum` bytes.
+    fn conclude(&mut self, effect: Effect, maximum: u32)
         requires { self.old.due ≡ None }
-        ensures due { self.new.due ≡ due_for maximum outcome }
-        ensures state { (o : Open) → self.old.phase ≡ Phase.Open o → state_of self.new ≡ state_after outcome (state_of self.old) o }
+        ensures due { self.new.due ≡ due_for maximum effect }
+        ensures state { (o : Open) → self.old.phase ≡ Phase.Open o → state_of self.new ≡ state_after effect (state_of self.old) o }
         ensures gate { self.new.gate ≡ self.old.gate }
     {
-        match outcome {
-            Outcome::Replies(None) => {}
-            Outcome::Replies(Some(reply)) => self.due = within(maximum, reply),
-            Outcome::Closes(code) => {
+        match effect {
+            Effect::Replies(None) => {}
+            Effect::Replies(Some(reply)) => self.due = within(maximum, reply),
+            Effect::Closes(code) => {
                 let code = code.code();
                 self.due = within(maximum, Reply::Disconnect(code));
                 self.end(Closing::ByServer(code));
             }
-            Outcome::Leaves => self.end(Closing::ByClient),
+            Effect::Leaves => self.end(Closing::ByClient),
         }
     }
 

@@ -3,4 +3,4 @@ pub mod Gathered
 pub mod Sharing
 pub mod Halves
 pub mod Patience
-pub mod Looking
+pub mod Polling

@@ -2,7 +2,7 @@
 
 use crate::closing::end;
 use crate::halves::{ReadHalf, WriteHalf};
-use crate::looking::{Lookers, Looking};
+use crate::polling::{Pollers, Polling};
 use crate::splitting::{finish, give_up, split};
 use crate::stream::SharedStream;
 use std::alloc::Global;
@@ -13,15 +13,15 @@ use std::sync::Arc;
 use std::time::{Clock, Duration};
 
 /// What a client sends. Before each read, what was gathered for the client is written out. If the client may answer that soon, the read
-/// looks for a while before it blocks.
-pub type FromClient = ReadHalf<Looking<SharedStream>, SharedStream>;
+/// polls for a while before it blocks.
+pub type FromClient = ReadHalf<Polling<SharedStream>, SharedStream>;
 
 /// What is sent to a client, gathered.
 pub type ToClient = WriteHalf<SharedStream>;
 
 /// The two halves of a connection. What is written out is sent at once (TCP_NODELAY). If `idle` is given, a read fails for which no
-/// byte comes for so long, and so does a write of which no byte is taken for so long. Of all connections with these `lookers`, only so many
-/// look at the same time.
+/// byte comes for so long, and so does a write of which no byte is taken for so long. Of all connections with these `pollers`, only so many
+/// poll at the same time.
 ///
 /// # Errors
 ///
@@ -30,7 +30,7 @@ pub fn open(
     alloc: Global,
     stream: TcpStream,
     idle: Option<Duration>,
-    lookers: Arc<Lookers>,
+    pollers: Arc<Pollers>,
 ) -> io::Result<(FromClient, ToClient)> {
     // Of a client that has gone already this may fail. The next read tells.
     let _ = stream.set_nodelay(true);
@@ -39,7 +39,7 @@ pub fn open(
         stream.set_write_timeout(idle)?;
     }
     let (reader, writer) = SharedStream::pair(alloc, stream)?;
-    split(alloc, Looking::new(reader, lookers), writer)
+    split(alloc, Polling::new(reader, pollers), writer)
 }
 
 /// Ends a connection: writes out what was gathered, tells the client that no more comes, reads and discards

@@ -6,7 +6,7 @@
 //!
 //! Replies are gathered: what is written and flushed waits, up to [`MAX_GATHERED`] bytes, and goes out in
 //! one write if more would not fit, before the next read of the same connection, and at its end.
-//! If the client may soon answer that, the read polls the socket for some microseconds before it blocks ([`Looking`], [`Patience`]).
+//! If the client may soon answer that, the read polls the socket for some microseconds before it blocks ([`Polling`], [`ReadPatience`]).
 //! A connection may have a limit for how long it is idle; at one that failed, [`abandon`] waits for nothing.
 //!
 //! The two halves are [`ReadHalf`] and [`WriteHalf`], over any reader and any writer, whose contracts say which bytes
@@ -25,8 +25,8 @@ mod gathered;
 mod halves;
 mod limits;
 mod listener;
-mod looking;
 mod patience;
+mod polling;
 mod sharing;
 mod splitting;
 mod stream;
@@ -40,7 +40,7 @@ pub use limits::{
     BACKLOG, DISCARD_SECONDS, FIRST_PAUSE, LONGEST_PAUSE, MAX_DISCARDED, MAX_GATHERED,
 };
 pub use listener::{Accepted, Listener};
-pub use looking::{Look, Lookers, Looking};
-pub use patience::{MOST_IN_VAIN, Patience, READ_LOOKS, READS_TO_LOOK, SHORT_READ};
+pub use patience::{MOST_IN_VAIN, POLL_EVERY, READ_POLLS, ReadPatience, SHORT_READ};
+pub use polling::{Pollable, Pollers, Polling};
 pub use splitting::{finish, split};
 pub use stream::SharedStream;

@@ -5,7 +5,7 @@ ghost use Rattle.rs_sockets.specs.declared.limits.TheConstants.{LONGEST_PAUSE};
 
 use crate::connection::{FromClient, ToClient, open};
 use crate::limits::{BACKLOG, FIRST_PAUSE, LONGEST_PAUSE};
-use crate::looking::Lookers;
+use crate::polling::Pollers;
 use libc::net::listen;
 use std::alloc::{AllocError, Global};
 use std::net::{Net, SocketAddr, TcpListener, TcpStream};
@@ -22,7 +22,7 @@ pub struct Listener {
     socket: TcpListener,
     left: AtomicU64,
     idle: Option<Duration>,
-    lookers: Arc<Lookers>,
+    pollers: Arc<Pollers>,
 }
 
 /// A connection that was accepted.
@@ -52,7 +52,7 @@ impl Listener {
         connections: u64,
         idle: Option<Duration>,
     ) -> io::Result<Listener> {
-        let lookers = Arc::new(alloc, Lookers::of_processors(rt)).map_err(|_| AllocError)?;
+        let pollers = Arc::new(alloc, Pollers::of_processors(rt)).map_err(|_| AllocError)?;
         let socket = TcpListener::bind(rt, address)?;
         // std asks for 128. If the system refuses more, those stand.
         let _ = listen(socket.as_raw_fd(), BACKLOG);
@@ -60,7 +60,7 @@ impl Listener {
             socket,
             left: AtomicU64::new(connections),
             idle,
-            lookers,
+            pollers,
         })
     }
 
@@ -101,8 +101,8 @@ impl Listener {
 
     fn accept_once(&self, alloc: Global) -> io::Result<Accepted> {
         let (stream, peer) = self.socket.accept()?;
-        let lookers = Arc::try_clone(&self.lookers)?;
-        let (input, output) = open(alloc, stream, self.idle, lookers)?;
+        let pollers = Arc::try_clone(&self.pollers)?;
+        let (input, output) = open(alloc, stream, self.idle, pollers)?;
         Ok(Accepted {
             input,
             output,

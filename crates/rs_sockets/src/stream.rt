@@ -1,6 +1,6 @@
 //! A TCP stream that both halves of a connection have.
 
-use crate::looking::Look;
+use crate::polling::Pollable;
 use libc::net::{POLLIN, poll};
 use libc::types::pollfd;
 use std::alloc::{AllocError, Global};
@@ -48,7 +48,7 @@ impl Read for SharedStream {
     }
 }
 
-impl Look for SharedStream {
+impl Pollable for SharedStream {
     /// A poll, and not a read that does not block: that would need `unsafe`, and take an error away from the read that follows.
     fn is_ready(&self) -> bool {
         let mut asked = [pollfd {

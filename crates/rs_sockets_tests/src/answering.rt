@@ -10,7 +10,7 @@ use std::test::Fail;
 use std::thread::{Threads, sleep, spawn};
 use std::time::{Clock, Duration};
 
-/// How many replies there are. The read behind the last one is the first that looks.
+/// How many replies there are. The read behind the last one is the first that polls.
 const REPLIES: usize = 126;
 
 /// What a client does once the last reply has come.
@@ -116,7 +116,7 @@ fn a_reply_is_answered_soon_or_late(rt: HostRuntime) -> Result<(), Fail> {
 
 /// The client asks for all replies at once. Then it is silent, and still there.
 #[test]
-fn an_idle_connection_ends_after_it_looked(rt: HostRuntime) -> Result<(), Fail> {
+fn an_idle_connection_ends_after_it_polled(rt: HostRuntime) -> Result<(), Fail> {
     let alloc = rt.alloc();
     let limit = Duration::from_millis(30);
     let listener = Listener::bind(&rt, alloc, "127.0.0.1:0", 1, Some(limit))?;

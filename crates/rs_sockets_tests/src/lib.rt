@@ -13,8 +13,8 @@ mod echo;
 #[cfg(test)]
 mod listening;
 #[cfg(test)]
-mod looking;
-#[cfg(test)]
 mod peer;
+#[cfg(test)]
+mod polling;
 #[cfg(test)]
 mod watched;

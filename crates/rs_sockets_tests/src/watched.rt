@@ -1,6 +1,6 @@
-//! A stream in memory that notes how often a reader looks at it.
+//! A stream in memory that notes how often a reader polls it.
 
-use rs_sockets::Look;
+use rs_sockets::Pollable;
 use std::io;
 use std::io::{ErrorKind, Read};
 use std::sync::Arc;
@@ -23,11 +23,11 @@ pub struct Reads {
     pub count: u32,
     /// Whether something was sent to the peer before each.
     pub answered: bool,
-    /// The look that finds the stream ready, from 0 on. If there is none, the read waits.
+    /// The poll that finds the stream ready, from 0 on. If there is none, the read waits.
     pub ready_at: u32,
     pub gives: Gives,
-    /// How often the stream has to be looked at before each.
-    pub looks: u32,
+    /// How often the stream has to be polled before each.
+    pub polls: u32,
 }
 
 /// The stream.
@@ -37,8 +37,8 @@ pub struct Watched {
     pub reads: &'static [Reads],
     /// How many of the first ones are over.
     pub over: u32,
-    /// How often it was looked at.
-    pub looks: Arc<AtomicU32>,
+    /// How often it was polled.
+    pub polls: Arc<AtomicU32>,
 }
 
 impl Watched {
@@ -57,9 +57,9 @@ impl Watched {
     }
 }
 
-impl Look for Watched {
+impl Pollable for Watched {
     fn is_ready(&self) -> bool {
-        let before = self.looks.fetch_add(1, Ordering::SeqCst);
+        let before = self.polls.fetch_add(1, Ordering::SeqCst);
         self.next_read().is_some_and(|next| before >= next.ready_at)
     }
 

@@ -6,7 +6,7 @@ ghost use Rattle.rs_store.specs.Contents.{empty, expired_in, followed};
 ghost use Rattle.rs_store.specs.Expiring.{NoneExpiredBefore};
 
 use crate::catalogue::Catalogue;
-use crate::expiry::lowered;
+use crate::expiry::earliest_end;
 use rs_message::{Entry, Operation};
 use std::marker::Model;
 
@@ -30,12 +30,12 @@ impl Model for Calm {
 }
 
 /// A moment, or the end of the operation's message if that is earlier.
-fn lowered_by(until: u64, operation: &Operation) -> u64
+fn earliest_with(until: u64, operation: &Operation) -> u64
     ensures { (c : Content) (e : Entry) → e.operation ≡ operation.now → NoneExpiredBefore until c
         → NoneExpiredBefore result (followed c e) }
 {
     match operation {
-        Operation::Set(found) => lowered(until, found.message()),
+        Operation::Set(found) => earliest_end(until, found.message()),
         Operation::Clear(_) => until,
         Operation::Sweep(_) => until,
     }
@@ -50,11 +50,11 @@ impl Calm {
     }
 
     /// Of the catalogue with one entry more. A Set may lower the moment to the one at which its message expires.
-    pub fn after(&self, entry: &Entry) -> Calm
+    pub fn with_entry(&self, entry: &Entry) -> Calm
         ensures { (c : Content) → NoneExpiredBefore self.now c → NoneExpiredBefore result (followed c entry.now) }
     {
         Calm {
-            until: lowered_by(self.until, &entry.operation),
+            until: earliest_with(self.until, &entry.operation),
         }
     }
 
@@ -68,7 +68,7 @@ impl Calm {
         if now < self.until {
             return false;
         }
-        if catalogue.expired(now) > 0 {
+        if catalogue.expired_count(now) > 0 {
             return true;
         }
         self.until = catalogue.earliest();

@@ -68,7 +68,7 @@ pub trait Catalogue {
         ensures few { result ≤ (content self.now).limit };
 
     /// The number of topics whose message is expired at a moment, in seconds.
-    fn expired(&self, now: u64) -> u32
+    fn expired_count(&self, now: u64) -> u32
         ensures { result ≡ expired_in now (content self.now) };
 
     /// The first moment at which a message is expired, in seconds, or the greatest number if there is none.
@@ -161,7 +161,7 @@ fn append<C: Catalogue>(catalogue: &mut C, calm: &mut Calm, entry: Entry) -> Res
     ensures refused { OnErr result (C.content catalogue.new ≡ C.content catalogue.old) }
     ensures calm { NoneExpiredBefore calm.new (C.content catalogue.new) }
 {
-    let after = calm.after(&entry);
+    let after = calm.with_entry(&entry);
     catalogue.apply(entry)?;
     *calm = after;
     Ok(())

@@ -25,7 +25,7 @@ pub use calm::Calm;
 pub use calm_catalogue::CalmCatalogue;
 pub use catalogue::{Catalogue, add, judge};
 pub use content::Content;
-pub use expiry::{is_expired, lowered};
+pub use expiry::{earliest_end, is_expired};
 pub use fault::Refusal;
 pub use law::{content_law, sweep_law};
 pub use ledger::Ledger;

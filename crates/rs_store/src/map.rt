@@ -13,7 +13,7 @@ ghost use Rattle.rs_store.specs.declared.limit.TheConstants.{MAX_TOPICS};
 
 use crate::answer::{Answer, Stop};
 use crate::catalogue::Catalogue;
-use crate::expiry::{is_expired, lowered};
+use crate::expiry::{earliest_end, is_expired};
 use crate::fault::Refusal;
 use crate::ledger::Ledger;
 use crate::limit::TopicLimit;
@@ -117,7 +117,7 @@ fn earliest_of(retained: &BTreeMap<TopicName, Message>) -> u64
 {
     let mut least = u64::MAX;
     for (_, message) in retained {
-        least = lowered(least, message);
+        least = earliest_end(least, message);
     }
     least
 }
@@ -250,7 +250,7 @@ impl Catalogue for MapCatalogue {
         self.retained.len() as u32
     }
 
-    fn expired(&self, now: u64) -> u32 {
+    fn expired_count(&self, now: u64) -> u32 {
         // For the proof: this call says that the limit is in its range.
         let _limit = self.ledger.limit().get();
         count_expired(&self.retained, now)

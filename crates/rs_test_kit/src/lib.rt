@@ -6,6 +6,6 @@ mod packets;
 mod shown;
 mod streams;
 
-pub use packets::{CONNACK, CONNECT, REPLAYED, SUBSCRIBED, cut_off, is_joined, joined, limits};
+pub use packets::{CONNACK, CONNECT, REPLAYED, SUBSCRIBED, concat, cut_off, is_concat, limits};
 pub use shown::is_shown;
 pub use streams::{Behavior, Call, FaultyStream};

@@ -27,7 +27,7 @@ pub fn cut_off(behind: &[u8], len: usize) -> [&[u8]; 2] {
 }
 
 /// These parts, one after the other.
-pub fn joined(alloc: Global, parts: &[&[u8]]) -> Result<Vec<u8>, AllocError> {
+pub fn concat(alloc: Global, parts: &[&[u8]]) -> Result<Vec<u8>, AllocError> {
     let mut bytes = Vec::new(alloc);
     for part in parts {
         bytes.extend_from_slice(part)?;
@@ -36,7 +36,7 @@ pub fn joined(alloc: Global, parts: &[&[u8]]) -> Result<Vec<u8>, AllocError> {
 }
 
 /// Whether these are the parts, one after the other.
-pub fn is_joined(bytes: &[u8], parts: &[&[u8]]) -> bool {
+pub fn is_concat(bytes: &[u8], parts: &[&[u8]]) -> bool {
     let mut rest = bytes;
     for part in parts {
         match rest.get(part.len()..) {

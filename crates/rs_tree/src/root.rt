@@ -110,7 +110,7 @@ impl Root {
         ensures done { OnOk result (self.new ≡ filter (spot_stays moment) self.old) }
         ensures refused { OnErr result (self.new ≡ self.old) }
     {
-        if let Some(left) = self.branch.swept(alloc, moment)? {
+        if let Some(left) = self.branch.without_expired(alloc, moment)? {
             let left = Arc::new(alloc, left)?;
             remains.replace(alloc, mem::replace(&mut self.branch, left));
         }
@@ -143,10 +143,10 @@ impl Root {
     }
 
     /// Adds how many of the messages are expired.
-    pub fn expired(&self, now: u64, count: &mut u32)
+    pub fn count_expired(&self, now: u64, count: &mut u32)
         ensures { count.old + length self.now ≤ MAX_TOPICS → count.new ≡ count.old + length (filter (is_expired_spot now) self.now) }
     {
-        self.branch.expired(now, count);
+        self.branch.count_expired(now, count);
     }
 
     /// A bound, or the first moment at which one of the messages is expired if that is earlier.

@@ -97,7 +97,7 @@ fn count_expired(root: &Root, now: u64) -> u32
     ensures { result ≡ length (filter_list (is_gone now) (pairs root.now)) }
 {
     let mut count = 0;
-    root.expired(now, &mut count);
+    root.count_expired(now, &mut count);
     count
 }
 
@@ -209,7 +209,7 @@ impl Catalogue for TreeCatalogue {
         Ok(TreeCatalogue {
             alloc,
             root: Root::new(alloc)?,
-            remains: Remains::none(alloc),
+            remains: Remains::new(alloc),
             count: 0,
             ledger: Ledger::new(limit),
         })
@@ -279,7 +279,7 @@ impl Catalogue for TreeCatalogue {
         self.count
     }
 
-    fn expired(&self, now: u64) -> u32 {
+    fn expired_count(&self, now: u64) -> u32 {
         // For the proof: this call says that the limit is in its range.
         let _limit = self.ledger.limit().get();
         count_expired(&self.root, now)
@@ -293,7 +293,7 @@ impl Catalogue for TreeCatalogue {
         Ok(TreeCatalogue {
             alloc: self.alloc,
             root: self.root.copy()?,
-            remains: Remains::none(self.alloc),
+            remains: Remains::new(self.alloc),
             count: self.count,
             ledger: self.ledger.copy(),
         })

@@ -61,7 +61,7 @@ fn copy_writer(
 }
 
 /// The same, once it knows the published copy.
-fn informed<R: Wait>(rt: &R, writer: CopyWriter) -> Result<CopyWriter, AllocError>
+fn learn_published<R: Wait>(rt: &R, writer: CopyWriter) -> Result<CopyWriter, AllocError>
     requires { drop writer.behind writer.log.items ≡ [] }
     ensures { IfOk result (λ w. (state w.desk.shown.value ≡ state writer.desk.shown.value)
         × (view w.desk.place ≡ Some (known w.desk.shown.value)) × (drop w.behind w.log.items ≡ [])) }
@@ -168,11 +168,11 @@ impl Blank {
             prefix: prefix.again(),
         };
         let writer = copy_writer(alloc, first, second, places)?;
-        let mut writer = informed(&rt, writer)?;
+        let mut writer = learn_published(&rt, writer)?;
         let list: NamedList<N> = NamedList::new(prefix);
         match seats(alloc, &mut writer, &list, places) {
             Ok(seats) => Ok((
-                VersionWriter::over(rt, alloc, writer, WholeHistory::new(list, word, right)),
+                VersionWriter::new(rt, alloc, writer, WholeHistory::new(list, word, right)),
                 seats,
             )),
             Err(_) => {

@@ -155,7 +155,7 @@ impl<N: StoreName> WholeHistory<N> {
         ensures { MatchResult result (λ _. self.new ≡ extended self.old entry.now) (λ _. self.new ≡ self.old) }
     {
         let prefix = self.list.prefix();
-        let Some(longer) = prefix.followed(&self.word, &mut self.right, entry) else {
+        let Some(longer) = prefix.with_entry(&self.word, &mut self.right, entry) else {
             // Never: the one word that counts the rights is here. Its rule cannot express that.
             return Err(AllocError);
         };
@@ -164,7 +164,7 @@ impl<N: StoreName> WholeHistory<N> {
     }
 
     /// Says that another list of the store is a prefix of the history. It compares nothing.
-    pub fn covers(&mut self, other: &NamedList<N>)
+    pub fn note_covered(&mut self, other: &NamedList<N>)
         ensures prefix { IsPrefix other.now self.old }
         ensures legal { IsLegal N.limit self.old }
         ensures same { self.new ≡ self.old }
@@ -172,6 +172,6 @@ impl<N: StoreName> WholeHistory<N> {
         // For the proof: this call says that the list is legal.
         let _version = self.list.version();
         let prefix = self.list.prefix();
-        prefix.covers(&self.word, &mut self.right, &other.prefix);
+        prefix.note_covered(&self.word, &mut self.right, &other.prefix);
     }
 }

@@ -99,7 +99,7 @@ impl Prefix {
 
     /// The prefix with one more entry, which it adds to the history. It takes the right to do so, and leaves the right to add the entry
     /// behind it. `None` if the next right is for another entry; nothing is added then.
-    pub fn followed(
+    pub fn with_entry(
         &self,
         word: &Word<Entry, u64, RightsRule>,
         right: &mut Pen,
@@ -129,7 +129,7 @@ impl Prefix {
     }
 
     /// Says that the other prefix is a prefix of this one, which is the whole history: the right to add the entry behind it shows that.
-    pub fn covers(&self, word: &Word<Entry, u64, RightsRule>, right: &mut Pen, other: &Prefix)
+    pub fn note_covered(&self, word: &Word<Entry, u64, RightsRule>, right: &mut Pen, other: &Prefix)
         requires word { word.now ≡ word_of self.now.history }
         requires right { (right.old.book ≡ self.now.history) × (right.old.nib ≡ right_of (length self.now.log)) }
         requires other { other.now.history ≡ self.now.history }

@@ -74,7 +74,7 @@ fn take_from<N: StoreName>(
 }
 
 /// What the version answers, with its number of entries.
-fn look<N: StoreName>(
+fn take_snapshot<N: StoreName>(
     version: &Version<N>,
     filter: &TopicFilter,
     now: u64,
@@ -90,7 +90,7 @@ fn look<N: StoreName>(
 }
 
 /// The same if there are at most `room` messages, else no snapshot.
-fn look_within<N: StoreName>(
+fn take_snapshot_within<N: StoreName>(
     version: &Version<N>,
     filter: &TopicFilter,
     now: u64,
@@ -161,7 +161,7 @@ impl<N: StoreName> Seat<N> {
         ensures legal { IfOk result (λ v. IsLegal N.limit v) }
     {
         let Some(reader) = self.reader.take() else {
-            // Never: the reader is put back after each look.
+            // Never: the reader is put back after each read.
             return Err(AllocError);
         };
         match reader.enter_as::<Sees>() {
@@ -215,7 +215,7 @@ impl<N: StoreName> Seat<N> {
         ensures found { IfOk result (λ s. IsAnswer self.new filter.now now s.found.items) }
     {
         let version = self.take()?;
-        let snapshot = look(&version, filter, now)?;
+        let snapshot = take_snapshot(&version, filter, now)?;
         self.know(&version);
         Ok(snapshot)
     }
@@ -238,7 +238,7 @@ impl<N: StoreName> Seat<N> {
         ensures found { IfOk result (λ answer. IsAnswerWithin room self.new filter.now now (option_map (λ s. s.found.items) answer)) }
     {
         let version = self.take()?;
-        let answer = look_within(&version, filter, now, room)?;
+        let answer = take_snapshot_within(&version, filter, now, room)?;
         self.know(&version);
         Ok(answer)
     }

@@ -142,7 +142,7 @@ impl<N: StoreName, R: Wait + Drop> Drop for VersionWriter<N, R> {
 
 impl<N: StoreName, R: Wait + Drop> VersionWriter<N, R> {
     /// Over copies without entries.
-    pub(crate) fn over(
+    pub(crate) fn new(
         rt: R,
         alloc: Global,
         writer: CopyWriter,
@@ -200,7 +200,7 @@ impl<N: StoreName, R: Wait + Drop> VersionWriter<N, R> {
     {
         // For the proof: these calls say which places and serials an origin may have.
         let (_place, _serial) = (entry.origin.place(), entry.origin.serial());
-        let calm = self.calm.after(&entry);
+        let calm = self.calm.with_entry(&entry);
         let step = next_step(&mut self.history, &mut self.reserve, &entry)?;
         self.copies.push(step);
         self.calm = calm;
@@ -314,12 +314,12 @@ impl<N: StoreName, R: Wait + Drop> VersionWriter<N, R> {
 
     /// Says that the token's list is a prefix of the kept list. It compares nothing: the writer alone has the right to add to the history,
     /// and keeps all of it, and each token is of a prefix of it.
-    pub fn covers(&mut self, told: &Told<N>)
+    pub fn note_covered(&mut self, told: &Told<N>)
         ensures prefix { IsPrefix told.now (kept_of self.old) }
         ensures legal { IsLegal N.limit (kept_of self.old) }
         ensures same { self.new ≡ self.old }
     {
-        self.history.covers(&told.list);
+        self.history.note_covered(&told.list);
     }
 
     /// The origin of the held entry.

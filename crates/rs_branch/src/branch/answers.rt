@@ -10,7 +10,7 @@ ghost use Rattle.rs_branch.specs.Nodes.{stem_spots};
 ghost use Rattle.rs_branch.specs.Chunks.{parts};
 
 use super::{Below, Branch, Child, Stem, index_of};
-use rs_bucket::{answer_retained, past};
+use rs_bucket::{answer_retained, match_chain};
 use rs_store::{Answer, Stop};
 use rs_topic::{begins_with_dollar, is_all_below, is_plus, level_at};
 
@@ -108,7 +108,7 @@ impl Stem {
     fn answer(&self, filter: &[u8], at: usize, now: u64, answer: &mut Answer) -> Result<(), Stop>
         ensures { Gives result answer.old answer.new (chosen (levels_from at filter.now) now (stem_spots self.now)) }
     {
-        match past(self.chain.as_slice(), filter, at) {
+        match match_chain(self.chain.as_slice(), filter, at) {
             Some(next) => self.branch.answer(filter, next, now, answer),
             None => Ok(()),
         }

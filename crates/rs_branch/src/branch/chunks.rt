@@ -16,7 +16,7 @@ use std::sync::Arc;
 const MOST: usize = 32;
 
 /// A branch of one child, which is a stem.
-pub fn single(alloc: Global, level: Label, stem: Stem) -> Result<Branch, AllocError>
+pub fn branch_of_stem(alloc: Global, level: Label, stem: Stem) -> Result<Branch, AllocError>
     requires { IsFull (stem_spots stem) }
     ensures { IfOk result (λ b. b.spots ≡ under level (stem_spots stem)) }
 {
@@ -32,7 +32,7 @@ pub fn single(alloc: Global, level: Label, stem: Stem) -> Result<Branch, AllocEr
 }
 
 /// Two chunks of some children: a half in each. The first one begins at a level.
-fn halves(alloc: Global, level: Label, children: &[Child]) -> Result<(Child, Child), AllocError>
+fn halve(alloc: Global, level: Label, children: &[Child]) -> Result<(Child, Child), AllocError>
     requires chunk { IsChunk children.now }
     requires start { IsFrom level (parts children.now) }
     requires many { 16 < length children.now }
@@ -41,7 +41,7 @@ fn halves(alloc: Global, level: Label, children: &[Child]) -> Result<(Child, Chi
     let half = children.len() / 2;
     let (low, high) = children.split_at(half);
     let first = &high[0];
-    let middle = first.level.own(alloc)?;
+    let middle = first.level.copy_detached(alloc)?;
     Ok((
         Child::chunk(alloc, level, low)?,
         Child::chunk(alloc, middle, high)?,
@@ -77,7 +77,7 @@ impl Child {
     }
 
     /// It is a chunk that has too many children.
-    fn is_over(&self) -> bool {
+    fn is_overfull(&self) -> bool {
         match &self.below {
             Below::Few(_) => false,
             Below::Inner(_) => false,
@@ -86,14 +86,14 @@ impl Child {
     }
 
     /// The halves of a chunk, if it has too many children.
-    fn halved(&self, alloc: Global) -> Result<Option<(Child, Child)>, AllocError>
+    fn halves_if_overfull(&self, alloc: Global) -> Result<Option<(Child, Child)>, AllocError>
         requires { IsFrom self.now.level self.now.spots }
         ensures { IfOk result (λ o. IfSome o (λ r. AreHalves self.now.level self.now.spots r.0 r.1)) }
     {
         match &self.below {
             Below::Few(_) => Ok(None),
             Below::Inner(_) => Ok(None),
-            Below::Chunk(chunk) => chunk.halved(alloc, &self.level),
+            Below::Chunk(chunk) => chunk.halves_if_overfull(alloc, &self.level),
         }
     }
 }
@@ -113,14 +113,18 @@ fn put_two(children: &mut Vec<Child>, i: usize, low: Child, high: Child) -> bool
 
 impl Branch {
     /// Two chunks of its children, if these are too many. The first one begins at a level.
-    fn halved(&self, alloc: Global, level: &Label) -> Result<Option<(Child, Child)>, AllocError>
+    fn halves_if_overfull(
+        &self,
+        alloc: Global,
+        level: &Label,
+    ) -> Result<Option<(Child, Child)>, AllocError>
         requires { IsFrom level.now self.now.spots }
         ensures { IfOk result (λ o. IfSome o (λ r. AreHalves level.now self.now.spots r.0 r.1)) }
     {
         if self.retained.is_some() || self.children.len() <= MOST {
             return Ok(None);
         }
-        let pair = halves(alloc, level.copy()?, self.children.as_slice())?;
+        let pair = halve(alloc, level.copy()?, self.children.as_slice())?;
         Ok(Some(pair))
     }
 
@@ -129,10 +133,10 @@ impl Branch {
     pub(crate) fn divide(&mut self, alloc: Global, i: usize)
         ensures { self.new.spots ≡ self.old.spots }
     {
-        if i >= self.children.len() || !self.children[i].is_over() {
+        if i >= self.children.len() || !self.children[i].is_overfull() {
             return;
         }
-        let Ok(Some((low, high))) = self.children[i].halved(alloc) else {
+        let Ok(Some((low, high))) = self.children[i].halves_if_overfull(alloc) else {
             return;
         };
         put_two(&mut self.children, i, low, high);
@@ -164,7 +168,7 @@ fn two_chunks(alloc: Global, children: &[Child]) -> Result<Vec<Child>, AllocErro
     ensures same { IfOk result (λ chunks. parts chunks.items ≡ parts children.now) }
 {
     let mut chunks = Vec::with_capacity(alloc, 2)?;
-    let (low, high) = halves(alloc, Label::empty(), children)?;
+    let (low, high) = halve(alloc, Label::empty(), children)?;
     chunks.push(low)?;
     chunks.push(high)?;
     Ok(chunks)

@@ -9,7 +9,7 @@ ghost use Rattle.rs_branch.specs.Nodes.{stem_spots};
 ghost use Rattle.rs_branch.specs.Chunks.{Leads};
 
 use super::{Below, Branch, Child, Stem, index_of};
-use rs_bucket::{Cleared, behind};
+use rs_bucket::{Cleared, skip_chain};
 use rs_message::Found;
 use rs_topic::level_at;
 use std::alloc::{AllocError, Global};
@@ -48,7 +48,7 @@ impl Stem {
     fn clear_here(&mut self, alloc: Global, topic: &[u8], at: usize) -> Result<Cleared, AllocError>
         ensures { Clears result (stem_spots self.old) (stem_spots self.new) (levels_from at topic.now) }
     {
-        let Some(next) = behind(self.chain.as_slice(), topic, at) else {
+        let Some(next) = skip_chain(self.chain.as_slice(), topic, at) else {
             return Ok(Cleared::Missing);
         };
         let cleared = self.branch.clear(alloc, topic, next);

@@ -7,21 +7,21 @@ ghost use Rattle.rs_branch.specs.Chunks.{parts};
 
 use super::{Below, Branch, Child};
 use rs_message::Found;
-use rs_store::lowered;
+use rs_store::earliest_end;
 
 /// A bound, or the first moment at which the message of one spot is expired if that is earlier.
-fn lowered_by_retained(retained: &Option<Found>, bound: u64) -> u64
+fn earliest_of_retained(retained: &Option<Found>, bound: u64) -> u64
     ensures { result ≡ earliest bound (own retained.now) }
 {
     match retained {
-        Some(found) => lowered(bound, found.message()),
+        Some(found) => earliest_end(bound, found.message()),
         None => bound,
     }
 }
 
 /// A bound, or the first moment at which a message of one of the children is expired if that is earlier.
 #[cycle(earliest)]
-fn lowered_by_each(children: &[Child], bound: u64) -> u64
+fn earliest_of_each(children: &[Child], bound: u64) -> u64
     ensures { result ≡ earliest bound (parts children.now) }
 {
     let mut least = bound;
@@ -51,7 +51,7 @@ impl Branch {
     pub fn earliest(&self, bound: u64) -> u64
         ensures { result ≡ earliest bound self.now.spots }
     {
-        let least = lowered_by_retained(&self.retained, bound);
-        lowered_by_each(self.children.as_slice(), least)
+        let least = earliest_of_retained(&self.retained, bound);
+        earliest_of_each(self.children.as_slice(), least)
     }
 }

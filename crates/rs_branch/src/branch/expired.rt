@@ -30,21 +30,21 @@ fn count_each(children: &[Child], now: u64, count: &mut u32)
         → count.new ≡ count.old + length (filter (is_expired_spot now) (parts children.now)) }
 {
     for child in children {
-        child.expired(now, count);
+        child.count_expired(now, count);
     }
 }
 
 impl Child {
     /// Adds how many of its messages are expired.
     #[cycle(expired)]
-    fn expired(&self, now: u64, count: &mut u32)
+    fn count_expired(&self, now: u64, count: &mut u32)
         ensures { count.old + length self.now.spots ≤ MAX_TOPICS
             → count.new ≡ count.old + length (filter (is_expired_spot now) self.now.spots) }
     {
         match &self.below {
-            Below::Few(bucket) => bucket.expired(now, count),
-            Below::Inner(stem) => stem.branch.expired(now, count),
-            Below::Chunk(chunk) => chunk.expired(now, count),
+            Below::Few(bucket) => bucket.count_expired(now, count),
+            Below::Inner(stem) => stem.branch.count_expired(now, count),
+            Below::Chunk(chunk) => chunk.count_expired(now, count),
         }
     }
 }
@@ -52,7 +52,7 @@ impl Child {
 impl Branch {
     /// Adds how many of its messages are expired.
     #[cycle(expired)]
-    pub fn expired(&self, now: u64, count: &mut u32)
+    pub fn count_expired(&self, now: u64, count: &mut u32)
         ensures { count.old + length self.now.spots ≤ MAX_TOPICS
             → count.new ≡ count.old + length (filter (is_expired_spot now) self.now.spots) }
     {

@@ -28,7 +28,7 @@ fn tallest(children: &[Child]) -> u32 {
 /// Appends some children of a chunk that begins at a level, without their chunks. An error if one of them is before that level, which
 /// never is.
 #[cycle(flat)]
-fn flat_each(children: &[Child], level: &[u8], flat: &mut Vec<Child>) -> Result<(), AllocError>
+fn flatten_each(children: &[Child], level: &[u8], flat: &mut Vec<Child>) -> Result<(), AllocError>
     requires children { IsChunk children.now }
     requires chunk { IsChunk flat.old.items }
     requires before { IsUpTo level.now (parts flat.old.items) }
@@ -40,7 +40,7 @@ fn flat_each(children: &[Child], level: &[u8], flat: &mut Vec<Child>) -> Result<
         match child.level().cmp(level) {
             // Never: a chunk is in order.
             Ordering::Less => return Err(AllocError),
-            _ => child.flat(flat)?,
+            _ => child.flatten_into(flat)?,
         }
     }
     Ok(())
@@ -59,7 +59,7 @@ impl Child {
 
     /// Appends it, or its children if it is a chunk.
     #[cycle(flat)]
-    fn flat(&self, flat: &mut Vec<Child>) -> Result<(), AllocError>
+    fn flatten_into(&self, flat: &mut Vec<Child>) -> Result<(), AllocError>
         requires full { IsFull self.now.spots }
         requires from { IsFrom self.now.level self.now.spots }
         requires chunk { IsChunk flat.old.items }
@@ -68,7 +68,7 @@ impl Child {
         ensures same { OnOk result (parts flat.new.items ≡ parts flat.old.items ++ self.now.spots) }
     {
         if let Below::Chunk(chunk) = &self.below {
-            return chunk.flat(self.level(), flat);
+            return chunk.flatten_into(self.level(), flat);
         }
         flat.push(self.copy()?)?;
         Ok(())
@@ -89,7 +89,7 @@ impl Branch {
 
     /// Appends the children of a chunk, without their chunks. An error if it has a message of its own, which no chunk has.
     #[cycle(flat)]
-    fn flat(&self, level: &[u8], flat: &mut Vec<Child>) -> Result<(), AllocError>
+    fn flatten_into(&self, level: &[u8], flat: &mut Vec<Child>) -> Result<(), AllocError>
         requires chunk { IsChunk flat.old.items }
         requires before { IsUpTo level.now (parts flat.old.items) }
         ensures chunk { OnOk result (IsChunk flat.new.items) }
@@ -99,7 +99,7 @@ impl Branch {
             // Never: a chunk has no message of its own.
             return Err(AllocError);
         }
-        flat_each(self.children.as_slice(), level, flat)
+        flatten_each(self.children.as_slice(), level, flat)
     }
 
     /// Does without chunks. If memory is refused, they stay.
@@ -107,7 +107,7 @@ impl Branch {
         ensures { self.new.spots ≡ self.old.spots }
     {
         let mut flat = Vec::new(alloc);
-        if let Ok(()) = flat_each(self.children.as_slice(), &[], &mut flat) {
+        if let Ok(()) = flatten_each(self.children.as_slice(), &[], &mut flat) {
             self.children = flat;
         }
     }

@@ -7,7 +7,7 @@ ghost use Rattle.rs_branch.specs.Nodes.{stem_spots};
 ghost use Rattle.rs_branch.specs.Chunks.{Leads};
 
 use super::{Below, Branch, Child, Stem, index_of};
-use rs_bucket::behind;
+use rs_bucket::skip_chain;
 use rs_topic::level_at;
 
 impl Stem {
@@ -16,7 +16,7 @@ impl Stem {
     fn holds(&self, topic: &[u8], at: usize) -> bool
         ensures { result ≡ is_there (levels_from at topic.now) (stem_spots self.now) }
     {
-        match behind(self.chain.as_slice(), topic, at) {
+        match skip_chain(self.chain.as_slice(), topic, at) {
             Some(next) => self.branch.holds(topic, next),
             None => false,
         }

@@ -11,14 +11,14 @@ ghost use Rattle.rs_branch.specs.Nodes.{stem_spots};
 ghost use Rattle.rs_branch.specs.Chunks.{IsChunk, parts};
 
 use super::{Below, Branch, Child, Stem, copies};
-use rs_bucket::{Label, behind, joined};
+use rs_bucket::{Label, join_chains, skip_chain};
 use rs_message::Found;
 use rs_topic::{is_level, level_at};
 use std::alloc::{AllocError, Global};
 use std::sync::Arc;
 
 /// A message below a level, if the chain is the rest of its topic.
-fn lone(
+fn child_of_message(
     alloc: Global,
     level: &Label,
     chain: &[u8],
@@ -31,7 +31,7 @@ fn lone(
     let topic = found.topic().as_bytes();
     // A chain has a slash before each level.
     let at = topic.len().saturating_add(1).saturating_sub(chain.len());
-    let Some(next) = behind(chain, topic, at) else {
+    let Some(next) = skip_chain(chain, topic, at) else {
         return Ok(None);
     };
     let None = level_at(topic, next) else {
@@ -43,18 +43,18 @@ fn lone(
 
 impl Stem {
     /// The same below a chain and a level.
-    fn risen(&self, alloc: Global, chain: &[u8], level: &[u8]) -> Result<Stem, AllocError>
+    fn copy_prefixed(&self, alloc: Global, chain: &[u8], level: &[u8]) -> Result<Stem, AllocError>
         requires { levels level.now ≡ level.now ∷ [] }
         ensures { IfOk result (λ s. stem_spots s ≡ under_all (levels_from 1 chain.now) (under level.now (stem_spots self.now))) }
     {
         Ok(Stem {
-            chain: joined(alloc, chain, level, self.chain.as_slice())?,
+            chain: join_chains(alloc, chain, level, self.chain.as_slice())?,
             branch: self.branch.copy(alloc)?,
         })
     }
 
     /// What takes the place of a stem below a level, if it has one child and no message, or one message and no child.
-    fn in_place(&self, alloc: Global, level: &Label) -> Result<Option<Child>, AllocError>
+    fn replacement(&self, alloc: Global, level: &Label) -> Result<Option<Child>, AllocError>
         ensures level { IfOk result (λ o. IfSome o (λ c. c.level ≡ level.now)) }
         ensures spots { IfOk result (λ o. IfSome o (λ c. c.spots ≡ under level.now (stem_spots self.now))) }
     {
@@ -65,13 +65,13 @@ impl Stem {
                 if !children.is_empty() {
                     return Ok(None);
                 }
-                lone(alloc, level, chain, found)
+                child_of_message(alloc, level, chain, found)
             }
             None => {
                 if children.len() != 1 {
                     return Ok(None);
                 }
-                children[0].risen(alloc, level, chain)
+                children[0].copy_prefixed(alloc, level, chain)
             }
         }
     }
@@ -79,13 +79,18 @@ impl Stem {
 
 impl Child {
     /// The same below a level and a chain, unless it is a chunk.
-    fn risen(&self, alloc: Global, level: &Label, chain: &[u8]) -> Result<Option<Child>, AllocError>
+    fn copy_prefixed(
+        &self,
+        alloc: Global,
+        level: &Label,
+        chain: &[u8],
+    ) -> Result<Option<Child>, AllocError>
         ensures level { IfOk result (λ o. IfSome o (λ c. c.level ≡ level.now)) }
         ensures spots { IfOk result (λ o. IfSome o (λ c. c.spots ≡ under level.now (under_all (levels_from 1 chain.now) self.now.spots))) }
     {
         let own = self.level.as_slice();
         let below = match &self.below {
-            Below::Few(bucket) => match bucket.risen(alloc, chain, own)? {
+            Below::Few(bucket) => match bucket.copy_prefixed(alloc, chain, own)? {
                 Some(higher) => Below::Few(higher),
                 None => return Ok(None),
             },
@@ -93,7 +98,7 @@ impl Child {
                 if !is_level(own) {
                     return Ok(None);
                 }
-                let higher = stem.risen(alloc, chain, own)?;
+                let higher = stem.copy_prefixed(alloc, chain, own)?;
                 Below::Inner(Arc::new(alloc, higher)?)
             }
             Below::Chunk(_) => return Ok(None),
@@ -110,13 +115,13 @@ impl Child {
         let Below::Inner(stem) = &self.below else {
             return;
         };
-        if let Ok(Some(child)) = stem.in_place(alloc, &self.level) {
+        if let Ok(Some(child)) = stem.replacement(alloc, &self.level) {
             *self = child;
         }
     }
 
     /// The children of a chunk.
-    fn unfolded(&self, alloc: Global) -> Result<Option<Vec<Child>>, AllocError>
+    fn chunk_children(&self, alloc: Global) -> Result<Option<Vec<Child>>, AllocError>
         ensures chunk { IfOk result (λ o. IfSome o (λ cs. IsChunk cs.items)) }
         ensures same { IfOk result (λ o. IfSome o (λ cs. parts cs.items ≡ self.now.spots)) }
     {
@@ -147,7 +152,7 @@ impl Branch {
         if self.children.len() != 1 {
             return;
         }
-        if let Ok(Some(children)) = self.children[0].unfolded(alloc) {
+        if let Ok(Some(children)) = self.children[0].chunk_children(alloc) {
             self.children = children;
         }
     }

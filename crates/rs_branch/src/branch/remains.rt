@@ -16,8 +16,8 @@ pub struct Remains {
 }
 
 impl Remains {
-    /// Nothing.
-    pub fn none(alloc: Global) -> Remains {
+    /// Without nodes.
+    pub fn new(alloc: Global) -> Remains {
         Remains {
             nodes: Vec::new(alloc),
         }

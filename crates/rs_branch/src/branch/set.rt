@@ -9,9 +9,9 @@ ghost use Rattle.rs_bucket.specs.Spots.{IsFull, is_there};
 ghost use Rattle.rs_branch.specs.Nodes.{stem_spots};
 ghost use Rattle.rs_branch.specs.Chunks.{Leads};
 
-use super::chunks::single;
+use super::chunks::branch_of_stem;
 use super::{Below, Branch, Child, Stem, index_of, insert_at};
-use rs_bucket::{Bucket, Label, Leaves, behind, shared_levels};
+use rs_bucket::{Bucket, Label, Leaves, shared_levels, skip_chain};
 use rs_message::Found;
 use rs_topic::level_at;
 use std::alloc::{AllocError, Global};
@@ -21,12 +21,12 @@ use std::sync::Arc;
 fn stem_of(alloc: Global, bucket: &Leaves) -> Result<Stem, AllocError>
     ensures { IfOk result (λ s. stem_spots s ≡ bucket.now) }
 {
-    let chain = bucket.shared(alloc)?;
+    let chain = bucket.shared_chain(alloc)?;
     let mut branch = Branch::new(alloc);
     let leaves = bucket.as_slice();
     for leaf in leaves {
         // Never: the messages are in order, so all share what the first and the last share.
-        let Some(next) = behind(chain.as_slice(), leaf.found.topic().as_bytes(), leaf.at) else {
+        let Some(next) = skip_chain(chain.as_slice(), leaf.found.topic().as_bytes(), leaf.at) else {
             return Err(AllocError);
         };
         branch.hold(alloc, leaf.found.copy()?, next)?;
@@ -36,7 +36,7 @@ fn stem_of(alloc: Global, bucket: &Leaves) -> Result<Stem, AllocError>
 
 /// The level of a bucket to which a message comes. A long one is a part of its topic if no other is there then, or else has bytes of
 /// its own.
-fn renewed(
+fn renew_label(
     alloc: Global,
     level: &Label,
     bucket: &Bucket,
@@ -52,7 +52,7 @@ fn renewed(
     if bucket.is_one_at(found.topic().as_bytes(), next) {
         return Label::from_topic(alloc, level.as_slice(), found, at);
     }
-    level.own(alloc)
+    level.copy_detached(alloc)
 }
 
 impl Child {
@@ -74,7 +74,7 @@ impl Child {
             // Never: the children of a branch that is made of a bucket are buckets.
             return Err(AllocError);
         };
-        let level = renewed(alloc, &self.level, bucket, &found, at, next)?;
+        let level = renew_label(alloc, &self.level, bucket, &found, at, next)?;
         let was = bucket.set(alloc, found, next)?;
         self.level = level;
         Ok(was)
@@ -82,14 +82,14 @@ impl Child {
 
     /// Puts a branch in the place of a bucket that has too many messages. If memory is refused, the bucket stays, and the next entry
     /// that goes there tries again.
-    fn part(&mut self, alloc: Global)
+    fn split(&mut self, alloc: Global)
         ensures level { self.new.level ≡ self.old.level }
         ensures same { self.new.spots ≡ self.old.spots }
     {
         let Below::Few(bucket) = &self.below else {
             return;
         };
-        let Some(messages) = bucket.over() else {
+        let Some(messages) = bucket.overflow() else {
             return;
         };
         let Ok(stem) = stem_of(alloc, messages) else {
@@ -120,7 +120,7 @@ impl Child {
         match &mut self.below {
             Below::Few(_) => {
                 let done = self.hold(alloc, found, at, next);
-                self.part(alloc);
+                self.split(alloc);
                 return done;
             }
             Below::Inner(stem) => return Stem::set(stem, alloc, found, next),
@@ -159,7 +159,7 @@ impl Stem {
             chain: Vec::from_slice(alloc, rest)?,
             branch: self.branch.copy(alloc)?,
         };
-        self.branch = single(alloc, label, lower)?;
+        self.branch = branch_of_stem(alloc, label, lower)?;
         self.chain = upper;
         Ok(())
     }
@@ -190,7 +190,7 @@ impl Stem {
         ensures existed { IfOk result (λ was. was ≡ is_there (levels_from at found.topic) (stem_spots self.old)) }
         ensures refused { OnErr result (stem_spots self.new ≡ stem_spots self.old) }
     {
-        let Some(next) = behind(self.chain.as_slice(), found.topic().as_bytes(), at) else {
+        let Some(next) = skip_chain(self.chain.as_slice(), found.topic().as_bytes(), at) else {
             return self.set_beside(alloc, found, at);
         };
         let done = self.branch.set(alloc, found, next);

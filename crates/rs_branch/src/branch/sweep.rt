@@ -25,7 +25,7 @@ enum Rest {
 }
 
 /// The message of one spot, unless it is expired, and notes if it goes.
-fn retained_swept(
+fn sweep_retained(
     retained: &Option<Found>,
     moment: u64,
     goes: &mut bool,
@@ -66,7 +66,7 @@ fn begin(
 
 /// Appends what is left of one of the children to what is left of those before it, which is begun once a message goes.
 #[cycle(swept)]
-fn one_swept(
+fn sweep_one(
     alloc: Global,
     children: &[Child],
     i: usize,
@@ -81,7 +81,7 @@ fn one_swept(
     ensures noted { goes.old ≡ true → goes.new ≡ true }
 {
     let child = &children[i];
-    match child.swept(alloc, moment)? {
+    match child.without_expired(alloc, moment)? {
         Rest::All => {
             if !*goes {
                 return Ok(());
@@ -100,7 +100,7 @@ fn one_swept(
 
 /// What is left of the children. It notes if a message goes, and is empty if it has noted none.
 #[cycle(swept)]
-fn each_swept(
+fn sweep_each(
     alloc: Global,
     children: &[Child],
     moment: u64,
@@ -112,7 +112,7 @@ fn each_swept(
 {
     let mut left = Vec::new(alloc);
     for i in 0..children.len() {
-        one_swept(alloc, children, i, moment, &mut left, goes)?;
+        sweep_one(alloc, children, i, moment, &mut left, goes)?;
     }
     left.shrink_to_fit();
     Ok(left)
@@ -121,7 +121,7 @@ fn each_swept(
 impl Child {
     /// What is left of it.
     #[cycle(swept)]
-    fn swept(&self, alloc: Global, moment: u64) -> Result<Rest, AllocError>
+    fn without_expired(&self, alloc: Global, moment: u64) -> Result<Rest, AllocError>
         requires { IsFull self.now.spots }
         ensures { IfOk result (λ rest. IsRest moment self.now rest) }
     {
@@ -130,7 +130,7 @@ impl Child {
                 if moment < bucket.earliest(u64::MAX) {
                     return Ok(Rest::All);
                 }
-                let Some(left) = bucket.swept(alloc, moment)? else {
+                let Some(left) = bucket.without_expired(alloc, moment)? else {
                     return Ok(Rest::Nothing);
                 };
                 let level = self.level.copy()?;
@@ -140,7 +140,7 @@ impl Child {
                 }))
             }
             Below::Inner(stem) => {
-                let Some(branch) = stem.branch.swept(alloc, moment)? else {
+                let Some(branch) = stem.branch.without_expired(alloc, moment)? else {
                     return Ok(Rest::All);
                 };
                 if branch.is_empty() {
@@ -157,7 +157,7 @@ impl Child {
                 Ok(Rest::Less(child))
             }
             Below::Chunk(chunk) => {
-                let Some(branch) = chunk.swept(alloc, moment)? else {
+                let Some(branch) = chunk.without_expired(alloc, moment)? else {
                     return Ok(Rest::All);
                 };
                 if branch.is_empty() {
@@ -183,12 +183,12 @@ impl Branch {
 
     /// A branch of the messages that are not expired, or none if no message goes.
     #[cycle(swept)]
-    pub fn swept(&self, alloc: Global, moment: u64) -> Result<Option<Branch>, AllocError>
+    pub fn without_expired(&self, alloc: Global, moment: u64) -> Result<Option<Branch>, AllocError>
         ensures { IfOk result (λ rest. IsBranchRest moment self.now.spots rest) }
     {
         let mut goes = false;
-        let retained = retained_swept(&self.retained, moment, &mut goes)?;
-        let children = each_swept(alloc, self.children.as_slice(), moment, &mut goes)?;
+        let retained = sweep_retained(&self.retained, moment, &mut goes)?;
+        let children = sweep_each(alloc, self.children.as_slice(), moment, &mut goes)?;
         if !goes {
             return Ok(None);
         }

@@ -2,7 +2,7 @@
 
 use super::share;
 use rs_places_kit::{Counts, PLAIN, Played, Script, as_wanted};
-use rs_test_kit::{CONNACK, CONNECT, joined};
+use rs_test_kit::{CONNACK, CONNECT, concat};
 use rs_topic::MAX_LEVELS;
 use std::alloc::{AllocError, Global};
 use std::sync::{Arc, Wait};
@@ -90,8 +90,8 @@ fn client(
     levels: usize,
 ) -> Result<Script, AllocError> {
     let mut script = Script::new(alloc, Arc::try_clone(counts)?);
-    let mut sent = joined(alloc, &[CONNECT])?;
-    let mut replies = joined(alloc, &[CONNACK])?;
+    let mut sent = concat(alloc, &[CONNECT])?;
+    let mut replies = concat(alloc, &[CONNACK])?;
     for id in 1..=count {
         let topic = text(alloc, number, id, levels, b"x")?;
         put_publish(alloc, &mut sent, &mut replies, topic.as_slice(), id)?;

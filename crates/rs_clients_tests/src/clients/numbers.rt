@@ -8,7 +8,7 @@ use rs_intake::{BlankQueue, LineName, blank_queue};
 use rs_message::PlaceCount;
 use rs_places::Turn;
 use rs_places_kit::{Counts, PLAIN, Script, as_wanted, assigned};
-use rs_test_kit::joined;
+use rs_test_kit::concat;
 use rs_version::Blank;
 use rs_version_kit::blank_store;
 use std::alloc::Global;
@@ -31,7 +31,7 @@ fn clients_of_a_place_are_assigned_identifiers_of_their_own(rt: HostRuntime) -> 
         let first = u64::from(client) * (1 << 40) + 1;
         let mut script = Script::new(alloc, Arc::try_clone(&counts)?);
         for number in first..first + 3 {
-            let sent = joined(alloc, &[NAMELESS])?;
+            let sent = concat(alloc, &[NAMELESS])?;
             script.put(PLAIN, sent, assigned(alloc, place, number)?)?;
         }
         turns.push(script)?;
@@ -67,7 +67,7 @@ fn a_client_is_served_beyond_the_greatest_number(rt: HostRuntime) -> Result<(), 
     let counts = Arc::new(alloc, Counts::new())?;
     let mut script = Script::new(alloc, Arc::try_clone(&counts)?);
     for number in [u64::MAX - 1, u64::MAX, u64::MAX, u64::MAX] {
-        let sent = joined(alloc, &[NAMELESS])?;
+        let sent = concat(alloc, &[NAMELESS])?;
         script.put(PLAIN, sent, assigned(alloc, 1, number)?)?;
     }
     let one = PlaceCount::new(1).ok_or("a place")?;

@@ -1,7 +1,7 @@
 //! Replies that are written, other than a PUBLISH.
 
 use rs_packet::*;
-use rs_test_kit::{joined, limits};
+use rs_test_kit::{concat, limits};
 use rs_topic::Text;
 use std::alloc::{AllocError, Global};
 use std::test::Fail;
@@ -125,7 +125,7 @@ const WRITTEN: &[(Plain<'static>, &[u8])] = &[
 #[test]
 fn replies_are_encoded(rt: HostRuntime) -> Result<(), Fail> {
     for (plain, head) in ACCEPTED {
-        let bytes = joined(rt.alloc(), &[*head, limits()])?;
+        let bytes = concat(rt.alloc(), &[*head, limits()])?;
         assert!(rt; is_written(&rt, *plain, &bytes, bytes.len()));
     }
     for (plain, bytes) in WRITTEN {

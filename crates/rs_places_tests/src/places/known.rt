@@ -10,7 +10,7 @@ use rs_message::PlaceCount;
 use rs_places::{Connection, StoreEnd, StoreFault, Turn, run_store};
 use rs_places_kit::{NONE, PUBLISHES, SUBSCRIBES};
 use rs_server::{Clock, Counted, Moments, Refusals, ServeFault, Served, Tally};
-use rs_test_kit::{CONNACK, CONNECT, REPLAYED, SUBSCRIBED, is_joined, joined};
+use rs_test_kit::{CONNACK, CONNECT, REPLAYED, SUBSCRIBED, concat, is_concat};
 use rs_version::Blank;
 use rs_version_kit::blank_store;
 use std::alloc::{AllocError, Global};
@@ -165,7 +165,7 @@ fn is_written(turn: &Listed, wanted: &[&[u8]]) -> bool {
         let Some(behind) = wanted.get(at) else {
             return false;
         };
-        if !is_joined(&outcome.connection.output, &[CONNACK, *behind]) || !is_closed(outcome) {
+        if !is_concat(&outcome.connection.output, &[CONNACK, *behind]) || !is_closed(outcome) {
             return false;
         }
         at = at.saturating_add(1);
@@ -228,7 +228,7 @@ const FILLS: &[u8] = b"\x31\x07\x00\x03a/b\x00x\x31\x07\x00\x03a/c\x00x\x31\x07\
 fn filling_turn(alloc: Global) -> Result<Vec<Listed>, AllocError>
     ensures { IfOk result (λ turns. length turns.items ≡ 1) }
 {
-    let sent = joined(alloc, &[CONNECT, FILLS])?;
+    let sent = concat(alloc, &[CONNECT, FILLS])?;
     let fills = played(alloc, sent.as_slice())?;
     let reads = played(alloc, SUBSCRIBES)?;
     let place = place_of(alloc, vec![in alloc; fills, reads]?);
@@ -249,7 +249,7 @@ fn is_refused(turn: &Listed, wanted: &[u64]) -> bool {
         };
         let refusals = Refusals {
             full: *full,
-            ..Refusals::none()
+            ..Refusals::new()
         };
         if outcome.refusals != refusals {
             return false;

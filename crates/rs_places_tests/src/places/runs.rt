@@ -5,7 +5,7 @@ use rs_places_kit::{
     plain_row, play, run, scripts,
 };
 use rs_server::Served;
-use rs_test_kit::{CONNACK, CONNECT, REPLAYED, SUBSCRIBED, joined};
+use rs_test_kit::{CONNACK, CONNECT, REPLAYED, SUBSCRIBED, concat};
 use std::alloc::{AllocError, Global};
 use std::sync::Arc;
 use std::test::Fail;
@@ -61,7 +61,7 @@ fn put_own(alloc: Global, place: u8, number: u8, script: &mut Script) -> Result<
     let topic = place.saturating_add(b'/');
     let last = number.saturating_mul(50);
     let mut output = assigned(alloc, place, u64::from(number))?;
-    let mut input = joined(
+    let mut input = concat(
         alloc,
         &[b"\x10\x0D\x00\x04MQTT\x05\x02\x00\x3C\x00\x00\x00".as_slice()],
     )?;
@@ -101,7 +101,7 @@ const HEAD: &[u8] = b"\x31\xFC\xFF\x0F\x00\x01a\x00";
 fn the_largest_packet_goes_from_place_to_place(rt: HostRuntime) -> Result<(), Fail> {
     let alloc = rt.alloc();
     let payload = vec![in alloc; b'x'; 262_136]?;
-    let replies = joined(alloc, &[SUBSCRIBED, HEAD])?;
+    let replies = concat(alloc, &[SUBSCRIBED, HEAD])?;
     let rows = [
         Row {
             course: ending(PLAIN, Ok(Served::EndOfInput)),

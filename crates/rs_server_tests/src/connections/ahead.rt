@@ -6,7 +6,7 @@ use rs_server::{Clock, ConnectionId, Counted, Moments, ServeFault, Served, serve
 use rs_server_kit::{REFUSING_GATE, Refusing};
 use rs_session::{Gate, LocalGate};
 use rs_store::{MapCatalogue, TopicLimit};
-use rs_test_kit::{CONNACK, CONNECT, is_joined};
+use rs_test_kit::{CONNACK, CONNECT, is_concat};
 use std::alloc::{AllocError, Global};
 use std::io;
 use std::io::Read;
@@ -189,7 +189,7 @@ fn is_met<H: Wait>(
 fn look_ahead_changes_no_reply(rt: HostRuntime) -> Result<(), Fail> {
     let wanted = plain(&rt, rt.alloc(), cut_at(SENT, 0))?;
     assert!(rt; wanted.served == Ok(Served::ServerClosed(0x90)));
-    assert!(rt; is_joined(&wanted.written, &[CONNACK, REPLIED]));
+    assert!(rt; is_concat(&wanted.written, &[CONNACK, REPLIED]));
     for at in 0..=SENT.len() {
         for most in MOSTS {
             assert!(rt;
@@ -221,7 +221,7 @@ fn look_ahead_changes_no_end(rt: HostRuntime) -> Result<(), Fail> {
 fn times_stay_in_order(rt: HostRuntime) -> Result<(), Fail> {
     for most in MOSTS {
         let (outcome, _gate) = told(&rt, rt.alloc(), cut_at(EXPIRING, 0), most)?;
-        assert!(rt; is_joined(&outcome.written, &[CONNACK, EXPIRED]), "{most}");
+        assert!(rt; is_concat(&outcome.written, &[CONNACK, EXPIRED]), "{most}");
         assert!(rt; outcome.handled == 7 && outcome.told == 7, "{most}");
     }
     Ok(())

@@ -5,7 +5,7 @@ ghost use Rattle.std.specs.Prelude.{true, None};
 use rs_message::{Found, Operation, SubmitFault};
 use rs_server::{ConnectionId, Counted, CountedGate, Moments, Refusals, ServeFault, Served, serve};
 use rs_session::Gate;
-use rs_test_kit::{CONNECT, joined};
+use rs_test_kit::{CONNECT, concat};
 use rs_topic::TopicFilter;
 use std::alloc::{AllocError, Global};
 use std::process::Abort;
@@ -177,7 +177,7 @@ fn check_counted<H: Wait + Abort>(
         changes,
         filters,
     });
-    let sent = joined(alloc, &[CONNECT, SENT])?;
+    let sent = concat(alloc, &[CONNECT, SENT])?;
     let (served, written, _gate) = served_over(rt, alloc, sent.as_slice(), plain);
     let (also_served, also_written, gate) = served_over(rt, alloc, sent.as_slice(), counted);
     assert!(rt; also_served == served);

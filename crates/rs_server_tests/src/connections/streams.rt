@@ -2,7 +2,7 @@
 
 use rs_server::{ConnectionId, Counted, Moments, ServeFault, Served, serve};
 use rs_server_kit::REFUSING_GATE;
-use rs_test_kit::{Behavior, CONNACK, Call, FaultyStream, cut_off, is_joined, limits};
+use rs_test_kit::{Behavior, CONNACK, Call, FaultyStream, cut_off, is_concat, limits};
 use std::alloc::{AllocError, Global};
 use std::io;
 use std::io::Write;
@@ -84,7 +84,7 @@ fn is_written(narrow: &Narrow, wanted: &Outcome) -> bool {
         Some(wanted) => narrow.flushed_at.as_slice() == wanted,
         None => true,
     };
-    is_flushed && is_joined(&narrow.bytes, &wanted.output)
+    is_flushed && is_concat(&narrow.bytes, &wanted.output)
 }
 
 fn is_served<H: Wait>(rt: &H, alloc: Global, script: &Script, wanted: &Outcome) -> bool {

@@ -3,54 +3,54 @@
 ghost use Rattle.std.specs.Prelude.{◌≡◌};
 ghost use Rattle.rs_session.specs.Table.{LeadsWithoutGate, released_reason};
 
-use super::{Open, Outcome};
+use super::{Effect, Open};
 use crate::phase::Input;
 use crate::reason::ReasonCode;
 use rs_packet::{Acknowledgement, Packet, Reply};
 use rs_window::Ack;
 
 impl Open {
-    pub(super) fn puback(&mut self, a: Acknowledgement) -> Outcome
+    pub(super) fn puback(&mut self, a: Acknowledgement) -> Effect
         ensures { LeadsWithoutGate (Input.Whole (Packet.Puback a)) self.old result self.new }
     {
         match self.window.on_puback(a.id, a.code) {
-            Ok(_ack) => Outcome::Replies(None),
-            Err(_) => Outcome::Closes(ReasonCode::ProtocolError),
+            Ok(_ack) => Effect::Replies(None),
+            Err(_) => Effect::Closes(ReasonCode::ProtocolError),
         }
     }
 
     /// A PUBREC below 0x80 is answered by a PUBREL.
-    pub(super) fn pubrec(&mut self, a: Acknowledgement) -> Outcome
+    pub(super) fn pubrec(&mut self, a: Acknowledgement) -> Effect
         ensures { LeadsWithoutGate (Input.Whole (Packet.Pubrec a)) self.old result self.new }
     {
         match self.window.on_pubrec(a.id, a.code) {
-            Ok(Ack::Released) => Outcome::Replies(Some(Reply::Pubrel(
+            Ok(Ack::Released) => Effect::Replies(Some(Reply::Pubrel(
                 a.id,
                 ReasonCode::Success.code(),
             ))),
-            Ok(Ack::Freed) => Outcome::Replies(None),
+            Ok(Ack::Freed) => Effect::Replies(None),
             Ok(Ack::Unknown) => {
                 if a.code < 0x80 {
                     let code = ReasonCode::PacketIdentifierNotFound.code();
-                    return Outcome::Replies(Some(Reply::Pubrel(a.id, code)));
+                    return Effect::Replies(Some(Reply::Pubrel(a.id, code)));
                 }
-                Outcome::Replies(None)
+                Effect::Replies(None)
             }
-            Err(_) => Outcome::Closes(ReasonCode::ProtocolError),
+            Err(_) => Effect::Closes(ReasonCode::ProtocolError),
         }
     }
 
-    pub(super) fn pubcomp(&mut self, a: Acknowledgement) -> Outcome
+    pub(super) fn pubcomp(&mut self, a: Acknowledgement) -> Effect
         ensures { LeadsWithoutGate (Input.Whole (Packet.Pubcomp a)) self.old result self.new }
     {
         match self.window.on_pubcomp(a.id, a.code) {
-            Ok(_ack) => Outcome::Replies(None),
-            Err(_) => Outcome::Closes(ReasonCode::ProtocolError),
+            Ok(_ack) => Effect::Replies(None),
+            Err(_) => Effect::Closes(ReasonCode::ProtocolError),
         }
     }
 
     /// Its identifier is released.
-    pub(super) fn pubrel(&mut self, a: Acknowledgement) -> Outcome
+    pub(super) fn pubrel(&mut self, a: Acknowledgement) -> Effect
         ensures { LeadsWithoutGate (Input.Whole (Packet.Pubrel a)) self.old result self.new }
     {
         let reason = if self.inbound.release(a.id) {
@@ -58,6 +58,6 @@ impl Open {
         } else {
             ReasonCode::PacketIdentifierNotFound
         };
-        Outcome::Replies(Some(Reply::Pubcomp(a.id, reason.code())))
+        Effect::Replies(Some(Reply::Pubcomp(a.id, reason.code())))
     }
 }

@@ -6,10 +6,10 @@ ghost use Rattle.rs_message.specs.declared.entry.Operation.{Operation};
 ghost use Rattle.rs_session.specs.Gate.{Grows, GrowsAnswering, IsHandedOver, SendsAtMost, Uses, entry_by};
 ghost use Rattle.rs_session.specs.Points.{given_at, point_at};
 ghost use Rattle.rs_session.specs.Pending.{IsChange, LeavesPending};
-ghost use Rattle.rs_session.specs.Steps.{IsConcluded, IsUnsent, NoSerialUsed, TakesPendingBy, outcome_before, outcome_of_submit, outcome_of_id, outcome_unmade, topic_refusal};
+ghost use Rattle.rs_session.specs.Steps.{IsConcluded, IsUnsent, NoSerialUsed, TakesPendingBy, effect_before, effect_of_submit, effect_of_id, effect_of_no_memory, topic_refusal};
 ghost use Rattle.rs_session.specs.Table.{LeadsTo, acknowledged_by, unreleased_id, unreleased_with, is_unreleased, is_one_too_many};
 
-use super::{Open, Outcome};
+use super::{Effect, Open};
 use crate::gate::Gate;
 use crate::phase::Input;
 use crate::reason::ReasonCode;
@@ -20,30 +20,30 @@ use std::alloc::{AllocError, Global};
 
 impl Open {
     /// What a PUBLISH leads to by its topic alias, a topic that is not a name, or its identifier.
-    pub(super) fn outcome_before(&self, p: &Publish) -> Option<Outcome>
-        ensures { result ≡ outcome_before p.now self.now }
+    pub(super) fn effect_before(&self, p: &Publish) -> Option<Effect>
+        ensures { result ≡ effect_before p.now self.now }
     {
         if p.alias.is_some() {
-            return Some(Outcome::Closes(ReasonCode::TopicAliasInvalid));
+            return Some(Effect::Closes(ReasonCode::TopicAliasInvalid));
         }
         if let Some(code) = topic_reason(&p.topic) {
-            return Some(Outcome::Closes(code));
+            return Some(Effect::Closes(code));
         }
-        self.outcome_of_id(p.qos, p.id)
+        self.effect_of_id(p.qos, p.id)
     }
 
     /// What the identifier of a PUBLISH leads to, if it awaits its PUBREL or is one too many.
-    fn outcome_of_id(&self, qos: Qos, id: Option<PacketId>) -> Option<Outcome>
-        ensures { result ≡ outcome_of_id (is_unreleased (unreleased_id qos id) self.now.inbound)
+    fn effect_of_id(&self, qos: Qos, id: Option<PacketId>) -> Option<Effect>
+        ensures { result ≡ effect_of_id (is_unreleased (unreleased_id qos id) self.now.inbound)
             (is_one_too_many (unreleased_id qos id) self.now.inbound) (acknowledged_by qos id ReasonCode.Success) }
     {
         let own_id = id;
         let unreleased = unreleased_id(qos, id)?;
         if self.inbound.holds(unreleased) {
-            return Some(Outcome::Replies(acknowledged_by(qos, own_id, ReasonCode::Success)));
+            return Some(Effect::Replies(acknowledged_by(qos, own_id, ReasonCode::Success)));
         }
         if self.inbound.is_full() {
-            return Some(Outcome::Closes(ReasonCode::ReceiveMaximumExceeded));
+            return Some(Effect::Closes(ReasonCode::ReceiveMaximumExceeded));
         }
         None
     }
@@ -57,8 +57,8 @@ impl Open {
         p: Publish,
         change: Option<Operation>,
         now: u64,
-    ) -> Outcome
-        requires before { outcome_before p self.old ≡ None }
+    ) -> Effect
+        requires before { effect_before p self.old ≡ None }
         requires change { IfSome change (λ operation. IsChange (given_at (Input.Whole (Packet.Publish p)) now) operation) }
         ensures row { GrowsAnswering G.stands G.mark gate.old gate.new (λ seen answered list.
             LeadsTo (given_at (Input.Whole (Packet.Publish p)) now) (point_at self.old seen (G.mark gate.old)) answered result
@@ -66,7 +66,7 @@ impl Open {
         ensures pending { LeavesPending (given_at (Input.Whole (Packet.Publish p)) now) (G.pending gate.old) (G.pending gate.new)
             (IsUnsent (G.mark gate.old) (G.mark gate.new) result) }
         ensures certain { NoSerialUsed (G.stands gate.old) (G.pending gate.old) (G.mark gate.old) (G.mark gate.new)
-            → result ≢ Outcome.Closes ReasonCode.QuotaExceeded }
+            → result ≢ Effect.Closes ReasonCode.QuotaExceeded }
     {
         let Publish {
             duplicate: _,
@@ -83,16 +83,16 @@ impl Open {
             return self.submit(gate, made, qos, id);
         }
         let Ok(topic) = topic else {
-            return Outcome::Replies(acknowledged_by(qos, id, ReasonCode::QuotaExceeded));
+            return Effect::Replies(acknowledged_by(qos, id, ReasonCode::QuotaExceeded));
         };
         match Operation::of(alloc, retain, topic, payload, qos, now, expiry, properties) {
             Ok(Some(operation)) => self.submit(gate, operation, qos, id),
             Ok(None) => {
                 let unreleased = id;
                 self.await_release(qos, unreleased);
-                Outcome::Replies(acknowledged_by(qos, id, ReasonCode::Success))
+                Effect::Replies(acknowledged_by(qos, id, ReasonCode::Success))
             }
-            Err(AllocError) => outcome_unmade(gate, qos, id),
+            Err(AllocError) => effect_of_no_memory(gate, qos, id),
         }
     }
 
@@ -102,7 +102,7 @@ impl Open {
         operation: Operation,
         qos: Qos,
         id: Option<PacketId>,
-    ) -> Outcome
+    ) -> Effect
         requires fits { is_one_too_many (unreleased_id qos id) self.old.inbound ≡ false }
         requires change { is_sweep operation ≡ false }
         ensures list { Grows (G.stands gate.old) (G.stands gate.new) (λ seen list.
@@ -112,14 +112,14 @@ impl Open {
         ensures sent { SendsAtMost (G.mark gate.old).sent (entry_by operation (G.mark gate.new)) (G.mark gate.new).sent }
         ensures pending { TakesPendingBy operation (G.mark gate.old) (G.mark gate.new) result (G.pending gate.old) (G.pending gate.new) }
         ensures certain { NoSerialUsed (G.stands gate.old) (G.pending gate.old) (G.mark gate.old) (G.mark gate.new)
-            → result ≢ Outcome.Closes ReasonCode.QuotaExceeded }
+            → result ≢ Effect.Closes ReasonCode.QuotaExceeded }
     {
         let submitted = gate.submit(operation);
         if submitted.is_ok() {
             let unreleased = id;
             self.await_release(qos, unreleased);
         }
-        outcome_of_submit(submitted, qos, id)
+        effect_of_submit(submitted, qos, id)
     }
 
     /// At QoS 2 the identifier awaits its PUBREL from now on.
@@ -138,27 +138,27 @@ impl Open {
 
 /// What no memory for the change of a PUBLISH leads to. If the gate expects changes, it may be one that was sent ahead, and become an
 /// entry.
-fn outcome_unmade<G: Gate>(gate: &G, qos: Qos, id: Option<PacketId>) -> Outcome
-    ensures { result ≡ outcome_unmade (G.pending gate.now) qos id }
+fn effect_of_no_memory<G: Gate>(gate: &G, qos: Qos, id: Option<PacketId>) -> Effect
+    ensures { result ≡ effect_of_no_memory (G.pending gate.now) qos id }
 {
     if gate.has_pending() {
-        return Outcome::Closes(ReasonCode::QuotaExceeded);
+        return Effect::Closes(ReasonCode::QuotaExceeded);
     }
-    Outcome::Replies(acknowledged_by(qos, id, ReasonCode::QuotaExceeded))
+    Effect::Replies(acknowledged_by(qos, id, ReasonCode::QuotaExceeded))
 }
 
 /// What a submit leads to, by what became of the change.
-fn outcome_of_submit(submitted: Result<(), SubmitFault>, qos: Qos, id: Option<PacketId>) -> Outcome
-    ensures { result ≡ outcome_of_submit submitted qos id }
+fn effect_of_submit(submitted: Result<(), SubmitFault>, qos: Qos, id: Option<PacketId>) -> Effect
+    ensures { result ≡ effect_of_submit submitted qos id }
 {
     match submitted {
-        Ok(()) => Outcome::Replies(acknowledged_by(qos, id, ReasonCode::Success)),
+        Ok(()) => Effect::Replies(acknowledged_by(qos, id, ReasonCode::Success)),
         Err(SubmitFault::Full | SubmitFault::NoMemory) => {
-            Outcome::Replies(acknowledged_by(qos, id, ReasonCode::QuotaExceeded))
+            Effect::Replies(acknowledged_by(qos, id, ReasonCode::QuotaExceeded))
         }
-        Err(SubmitFault::Open) => Outcome::Closes(ReasonCode::QuotaExceeded),
+        Err(SubmitFault::Open) => Effect::Closes(ReasonCode::QuotaExceeded),
         Err(SubmitFault::Strange | SubmitFault::Closed) => {
-            Outcome::Closes(ReasonCode::ImplementationSpecificError)
+            Effect::Closes(ReasonCode::ImplementationSpecificError)
         }
     }
 }

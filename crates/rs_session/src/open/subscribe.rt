@@ -7,7 +7,7 @@ ghost use Rattle.rs_session.specs.Points.{given_at, point_at};
 ghost use Rattle.rs_session.specs.Subscriptions.{is_subscribed, replays};
 ghost use Rattle.rs_session.specs.Table.{LeadsTo, IsGranted, IsQueued, IsSubscribed, filter_reason, is_shared, is_shared_local};
 
-use super::{Open, Outcome};
+use super::{Effect, Open};
 use crate::gate::Gate;
 use crate::phase::Input;
 use crate::reason::ReasonCode;
@@ -23,17 +23,17 @@ impl Open {
         gate: &mut G,
         s: Subscribe,
         now: u64,
-    ) -> Outcome
+    ) -> Effect
         ensures row { GrowsAnswering G.stands G.mark gate.old gate.new (λ seen answered list.
             LeadsTo (given_at (Input.Whole (Packet.Subscribe s)) now) (point_at self.old seen (G.mark gate.old)) answered result
             (point_at self.new list (G.mark gate.new))) }
         ensures pending { G.pending gate.new ≡ G.pending gate.old }
     {
         if any_shared_local(s.filters.as_slice()) {
-            return Outcome::Closes(ReasonCode::ProtocolError);
+            return Effect::Closes(ReasonCode::ProtocolError);
         }
         let Ok(mut codes) = Vec::with_capacity(alloc, s.filters.len()) else {
-            return Outcome::Closes(ReasonCode::QuotaExceeded);
+            return Effect::Closes(ReasonCode::QuotaExceeded);
         };
         let Subscribe {
             id,
@@ -45,7 +45,7 @@ impl Open {
             let code = self.grant(alloc, gate, asked, identifier, now);
             codes.push_reserved(code);
         }
-        Outcome::Replies(Some(Reply::Suback(Codes::new(id, codes))))
+        Effect::Replies(Some(Reply::Suback(Codes::new(id, codes))))
     }
 
     /// One filter, and the code that answers it.
@@ -156,7 +156,7 @@ impl Open {
         ensures pending { G.pending gate.new ≡ G.pending gate.old }
         ensures rest { self.new ≡ record self.old { window = self.new.window } }
     {
-        if !replays(subscription.options.retain_handling, is_there) {
+        if !wants_replay(subscription.options.retain_handling, is_there) {
             return true;
         }
         let Ok(Some(found)) = gate.answer_within(filter, now, self.window.room()) else {
@@ -176,7 +176,7 @@ fn own_copy(alloc: Global, filter: &TopicFilter) -> Result<TopicFilter, TopicFau
 }
 
 /// Whether the retained messages are sent, by Retain Handling (3.8.3.1).
-fn replays(handling: RetainHandling, is_there: bool) -> bool
+fn wants_replay(handling: RetainHandling, is_there: bool) -> bool
     ensures { result ≡ replays handling is_there }
 {
     match handling {

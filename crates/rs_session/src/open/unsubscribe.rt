@@ -3,7 +3,7 @@
 ghost use Rattle.std.specs.Prelude.{◌≡◌, ◌≤◌, length};
 ghost use Rattle.rs_session.specs.Table.{LeadsWithoutGate, removal_reason, without};
 
-use super::{Open, Outcome};
+use super::{Effect, Open};
 use crate::phase::Input;
 use crate::reason::ReasonCode;
 use rs_packet::{Codes, Packet, Reply, Unsubscribe};
@@ -11,17 +11,17 @@ use rs_topic::{TopicFault, TopicFilter};
 use std::alloc::Global;
 
 impl Open {
-    pub(super) fn unsubscribe(&mut self, alloc: Global, u: Unsubscribe) -> Outcome
+    pub(super) fn unsubscribe(&mut self, alloc: Global, u: Unsubscribe) -> Effect
         ensures { LeadsWithoutGate (Input.Whole (Packet.Unsubscribe u)) self.old result self.new }
     {
         let Ok(mut codes) = Vec::with_capacity(alloc, u.filters.len()) else {
-            return Outcome::Closes(ReasonCode::QuotaExceeded);
+            return Effect::Closes(ReasonCode::QuotaExceeded);
         };
         for filter in &u.filters {
             let reason = self.remove(filter);
             codes.push_reserved(reason.code());
         }
-        Outcome::Replies(Some(Reply::Unsuback(Codes::new(u.id, codes))))
+        Effect::Replies(Some(Reply::Unsuback(Codes::new(u.id, codes))))
     }
 
     /// One filter. Messages that wait stay.

@@ -102,12 +102,12 @@ impl<G: Gate> Session<G> {
         ensures keeps { IfOk result (λ r. r.1 ≡ open_for c.now) }
     {
         let connack = self.connack(c)?;
-        let begun = self.opening(c)?;
+        let begun = self.open_for(c)?;
         Ok((connack, begun))
     }
 
     /// What the session keeps once it is open.
-    fn opening(&self, c: &Connect) -> Result<Open, AllocError>
+    fn open_for(&self, c: &Connect) -> Result<Open, AllocError>
         ensures { IfOk result (λ begun. begun ≡ open_for c.now) }
     {
         Ok(Open {

@@ -270,7 +270,7 @@ pub fn check_all_alike<C: Catalogue, D: Catalogue>(
         check_filter_alike(rt, alloc, first, second, filter)?;
     }
     assert!(rt; first.count() == second.count());
-    assert!(rt; first.expired(115) == second.expired(115));
+    assert!(rt; first.expired_count(115) == second.expired_count(115));
     assert!(rt; first.earliest() == second.earliest());
     Ok(())
 }

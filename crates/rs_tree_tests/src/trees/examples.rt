@@ -125,7 +125,7 @@ fn says<C: Catalogue>(alloc: Global, catalogue: &C, fact: Fact) -> Result<bool, 
         }
         Fact::Serial(place, serial) => Ok(catalogue.last_serial(place) == serial),
         Fact::Topics(filter, now, topics) => answers(alloc, catalogue, filter, now, topics),
-        Fact::Expired(now, count) => Ok(catalogue.expired(now) == count),
+        Fact::Expired(now, count) => Ok(catalogue.expired_count(now) == count),
         Fact::Earliest(moment) => Ok(catalogue.earliest() == moment),
     }
 }

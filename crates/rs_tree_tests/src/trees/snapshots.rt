@@ -35,7 +35,7 @@ fn shown_by(
     for now in [90, 115, 140, 165] {
         let answer = answer_of(alloc, tree, filter, now)?;
         all.extend_from_slice(answer.as_slice())?;
-        let expired = format!(in alloc; "{} ", tree.expired(now))?;
+        let expired = format!(in alloc; "{} ", tree.expired_count(now))?;
         all.extend_from_slice(expired.as_bytes())?;
     }
     let (count, earliest) = (tree.count(), tree.earliest());

@@ -19,7 +19,7 @@ pub fn sweep_of(serial: u64, moment: u64) -> Result<Entry, Fail> {
 
 /// The version, the writer's last serial, and how many messages are expired at a moment and how many are not.
 fn numbers<C: Catalogue>(catalogue: &C, moment: u64) -> (u64, u64, u32, u32) {
-    let expired = catalogue.expired(moment);
+    let expired = catalogue.expired_count(moment);
     let others = catalogue.count().saturating_sub(expired);
     (
         catalogue.version(),
@@ -47,7 +47,7 @@ fn check_same<C: Catalogue, D: Catalogue>(rt: &impl Abort, first: &C, second: &D
             == (first.last_serial(0), first.last_serial(1))
     );
     for now in [0, 99, 110, 111, 125, 139, 164, u64::MAX] {
-        assert!(rt; second.expired(now) == first.expired(now));
+        assert!(rt; second.expired_count(now) == first.expired_count(now));
     }
 }
 
@@ -55,7 +55,7 @@ fn check_same<C: Catalogue, D: Catalogue>(rt: &impl Abort, first: &C, second: &D
 fn check_earliest<C: Catalogue, D: Catalogue>(rt: &impl Abort, first: &C, second: &D, now: u64) {
     let earliest = first.earliest();
     assert!(rt; second.earliest() == earliest);
-    assert!(rt; (first.expired(now) > 0) == (earliest <= now));
+    assert!(rt; (first.expired_count(now) > 0) == (earliest <= now));
 }
 
 /// A Set of a message that came at a moment, for six kinds of eight, else a Clear.
@@ -137,7 +137,7 @@ fn check_changes<C: Catalogue + Drop, D: Catalogue + Drop>(
         let now = draw.below(90).saturating_add(90);
         check_earliest(rt, first, second, now);
         if draw.below(10) == 0 {
-            swept = swept.saturating_add(first.expired(now));
+            swept = swept.saturating_add(first.expired_count(now));
             check_sweeps(rt, alloc, first, second, now)?;
             check_copies_same(rt, alloc, first, second, now.saturating_add(10))?;
         }

@@ -3,8 +3,8 @@ use Rattle.rs_bucket.specs.Expiring.{earliest}
 use Rattle.rs_branch.specs.Chunks.{depth, parts}
 use Rattle.rs_branch.proofs.branch.+earliest.Given as goal
 
-abbrev pub invariant-earliest::lowered_by_each-loop-child : goal.invariant-earliest::lowered_by_each-loop-child
-invariant-earliest::lowered_by_each-loop-child l = earliest l.least (parts (drop l.child-index l.children)) ≡ earliest l.bound (parts l.children)
+abbrev pub invariant-earliest::earliest_of_each-loop-child : goal.invariant-earliest::earliest_of_each-loop-child
+invariant-earliest::earliest_of_each-loop-child l = earliest l.least (parts (drop l.child-index l.children)) ≡ earliest l.bound (parts l.children)
 
 -- thrice the depth, and more for the calls that leave the branch as it is
 abbrev pub decreases-Branch::earliest : goal.decreases-Branch::earliest
@@ -13,5 +13,5 @@ decreases-Branch::earliest l = l.self.now.depth * 3 + 2
 abbrev pub decreases-Child::earliest : goal.decreases-Child::earliest
 decreases-Child::earliest l = l.self.now.depth * 3 + 3
 
-abbrev pub decreases-earliest::lowered_by_each : goal.decreases-earliest::lowered_by_each
-decreases-earliest::lowered_by_each l = depth l.children.now * 3 + 1
+abbrev pub decreases-earliest::earliest_of_each : goal.decreases-earliest::earliest_of_each
+decreases-earliest::earliest_of_each l = depth l.children.now * 3 + 1

@@ -12,11 +12,11 @@ invariant-expired::count_each-loop-child l =
     × (l.count + length (parts (drop l.child-index l.children)) ≤ MAX_TOPICS)
 
 -- thrice the depth, and more for the calls that leave the branch as it is
-abbrev pub decreases-Branch::expired : goal.decreases-Branch::expired
-decreases-Branch::expired l = l.self.now.depth * 3 + 2
+abbrev pub decreases-Branch::count_expired : goal.decreases-Branch::count_expired
+decreases-Branch::count_expired l = l.self.now.depth * 3 + 2
 
-abbrev pub decreases-Child::expired : goal.decreases-Child::expired
-decreases-Child::expired l = l.self.now.depth * 3 + 3
+abbrev pub decreases-Child::count_expired : goal.decreases-Child::count_expired
+decreases-Child::count_expired l = l.self.now.depth * 3 + 3
 
 abbrev pub decreases-expired::count_each : goal.decreases-expired::count_each
 decreases-expired::count_each l = depth l.children.now * 3 + 1

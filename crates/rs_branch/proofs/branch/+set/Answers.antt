@@ -95,13 +95,13 @@ Branch::set-returns-in_ok-insert_at-in-Err-clause-existed t c =
     rw (e, ← c.self.view_is) (sym (there_gap c.self.inside.retained es c.self.invariant c.in-Some.level.now (levels_from c.in-Some.next c.args.found.topic) c.in-Err.i here))
 
 pub Child::set-returns-in-Few-clause-done : goal.Child::set-returns-in-Few-clause-done
-Child::set-returns-in-Few-clause-done t c = rw (← c.self.view_is) (on_ok_weaker c.hold-done.result (λ h. c.part.ensures.same ∙ h) c.hold-done.ensures.done)
+Child::set-returns-in-Few-clause-done t c = rw (← c.self.view_is) (on_ok_weaker c.hold-done.result (λ h. c.split.ensures.same ∙ h) c.hold-done.ensures.done)
 
 pub Child::set-returns-in-Few-clause-existed : goal.Child::set-returns-in-Few-clause-existed
 Child::set-returns-in-Few-clause-existed t c = rw (← c.self.view_is) c.hold-done.ensures.existed
 
 pub Child::set-returns-in-Few-clause-refused : goal.Child::set-returns-in-Few-clause-refused
-Child::set-returns-in-Few-clause-refused t c = rw (← c.self.view_is) (on_err_weaker c.hold-done.result (λ h. c.part.ensures.same ∙ h) c.hold-done.ensures.refused)
+Child::set-returns-in-Few-clause-refused t c = rw (← c.self.view_is) (on_err_weaker c.hold-done.result (λ h. c.split.ensures.same ∙ h) c.hold-done.ensures.refused)
 
 pub Child::set-returns-in-Inner-clause-done : goal.Child::set-returns-in-Inner-clause-done
 Child::set-returns-in-Inner-clause-done t c =

@@ -9,8 +9,8 @@ use Rattle.rs_clients.proofs.Served.{as_many_clients}
 use Rattle.rs_clients.proofs.Whole.{fleet_run}
 use Rattle.rs_clients.proofs.store.run_fleet_named.Goals as goal
 
-pub settled-requires-clause-capacity : goal.settled-requires-clause-capacity
-settled-requires-clause-capacity g c κs within =
+pub settle_run-requires-clause-capacity : goal.settle_run-requires-clause-capacity
+settle_run-requires-clause-capacity g c κs within =
     let all : length c.args.turns.items ≡ length c.in_ok-served.served.clients.items = as_many_clients _ _ g.T.Turn.connections c.args.turns.items _ c.in_ok-served.served.clients.items c.in_ok-served.ensures.clients in
     omega (arith, all, c.len.ensures, c.in_ok-left.ensures.capacity)
 
@@ -21,8 +21,8 @@ returns g c =
     let ended = c.join-ended.result in
     let written = subst (λ (n : ℕ). IsWritten g.N.StoreName.limit n entries (kept_of ended.writer) ended.ways.items) same c.join-ended.ensures.0 in
     let placed = subst (λ (n : ℕ). AreOfPlaces n entries) same c.join-ended.ensures.1 in
-    let so = subst (λ (n : ℕ). MatchOption c.settled.result.changes (EachOnce n c.in_ok-served.served.lines.items → IsUnsettled entries c.in_ok-served.served.lines.items) (IsSettled n entries c.in_ok-served.served.lines.items)) same c.settled.ensures.settled in
+    let so = subst (λ (n : ℕ). MatchOption c.settle_run.result.changes (EachOnce n c.in_ok-served.served.lines.items → IsUnsettled entries c.in_ok-served.served.lines.items) (IsSettled n entries c.in_ok-served.served.lines.items)) same c.settle_run.ensures.settled in
     fleet_run c.args.turns.items c.in_ok-served.served.clients.items g.T.Turn.connections (λ end. end.turn) (λ end. end.told) c.args.blank.limit g.N.StoreName.limit c.args.blank.places
-    c.settled.result.turns.items c.in_ok-writer.seats.items c.in_ok-intake.lines.items c.in_ok-shared.shared c.in_ok-served.served.lines.items ended.writer entries ended.ways.items c.settled.result.version c.settled.result.changes
+    c.settle_run.result.turns.items c.in_ok-writer.seats.items c.in_ok-intake.lines.items c.in_ok-shared.shared c.in_ok-served.served.lines.items ended.writer entries ended.ways.items c.settle_run.result.version c.settle_run.result.changes
     c.requires.store.1 (sym c.in_ok-writer.seats.ok.0 ∙ c.in_ok-writer.ensures.seats.0) c.in_ok-writer.ensures.seats.1 (c.in_ok-intake.ensures ∙ ap new_lines c.requires.places) c.in_ok-shared.ensures
-    c.in_ok-served.ensures.clients c.in_ok-served.ensures.lines c.in_ok-served.ensures.closed written c.settled.ensures.legal c.settled.ensures.known c.settled.ensures.order so placed c.settled.ensures.version c.settled.ensures.turns
+    c.in_ok-served.ensures.clients c.in_ok-served.ensures.lines c.in_ok-served.ensures.closed written c.settle_run.ensures.legal c.settle_run.ensures.known c.settle_run.ensures.order so placed c.settle_run.ensures.version c.settle_run.ensures.turns

@@ -5,7 +5,7 @@ use Rattle.rs_intake.proofs.ways_back.next_replies.Goals as goal
 
 pub returns-in_default-clause-put : goal.returns-in_default-clause-put
 returns-in_default-clause-put g c =
-    let are : c.refusing.result ≡ map refused_reply c.args.rest.now.items = cc (c.refusing.ensures, c.replace-changes.ensures.value) in
+    let are : c.of_refused.result ≡ map refused_reply c.args.rest.now.items = cc (c.of_refused.ensures, c.replace-changes.ensures.value) in
     let number : c.len-refused.result ≡ length c.args.rest.now.items = search rules in
     let none : c.replace-changes.new.dest.items ≡ [] = search rules in
     put_refusing _ _ _ _ _ _ _ are number none

@@ -28,7 +28,7 @@ loop-rest-preserved g c =
     let reserved = i.4 in
     let test = c.loop-rest-test.true in
     let capacity = c.in-Ok.ensures.capacity in
-    let count = c.refused-refused.ensures in
+    let count = c.refused_count-refused.ensures in
     let one = refused_one reply.outcome in (
       left_less _ _ _ _ _ _ _ first e.done i.0,
       put_more _ _ _ _ _ _ _ _ _ _ _ _ _ _ _ i.1 (put_one _ _ _ _ _ _ reply _ _ _ first e.done e.origin e.outcome e.behind e.held count) items,

@@ -4,7 +4,7 @@ use Rattle.rs_packet.proofs.AnswerLaws.{found, only}
 use Rattle.rs_packet.proofs.decoding.decode.Goals as goal
 
 pub returns-clause-found : goal.returns-clause-found
-returns-clause-found c = found c.args.bytes.now c.decoded.result (subst (λ (xs : List ℕ). IsBytes xs) c.as_slice.ensures c.note_octets.ensures) c.decoded.ensures
+returns-clause-found c = found c.args.bytes.now c.decode_first.result (subst (λ (xs : List ℕ). IsBytes xs) c.as_slice.ensures c.note_octets.ensures) c.decode_first.ensures
 
 pub returns-clause-only : goal.returns-clause-only
-returns-clause-only c p n le h = only c.args.bytes.now c.decoded.result p n c.decoded.ensures le h
+returns-clause-only c p n le h = only c.args.bytes.now c.decode_first.result p n c.decode_first.ensures le h

@@ -11,33 +11,33 @@ use Rattle.rs_places.proofs.Starting.{few_ends}
 use Rattle.rs_places.proofs.Whole.{all_as_seen, store_run}
 use Rattle.rs_places.proofs.store.run_named.Goals as goal
 
-pub parted-lines-requires-clause-capacity : goal.parted-lines-requires-clause-capacity
-parted-lines-requires-clause-capacity g c κs within =
+pub part_ends-lines-requires-clause-capacity : goal.part_ends-lines-requires-clause-capacity
+part_ends-lines-requires-clause-capacity g c κs within =
     let ends = c.in_ok-served.served.ends.items in
     let all : length ends ≤ length c.in_ok-gates.gates.items = few_ends _ _ _ _ ends c.in_ok-served.ensures in
     (omega (arith, all, c.len.ensures, c.in_ok-lines.ensures.capacity), omega (arith, all, c.len-2.ensures, c.in_ok-others.ensures.capacity))
 
-pub settled-requires-clause-capacity : goal.settled-requires-clause-capacity
-settled-requires-clause-capacity g c κs within =
+pub settle_run-requires-clause-capacity : goal.settle_run-requires-clause-capacity
+settle_run-requires-clause-capacity g c κs within =
     let ends = c.in_ok-served.served.ends.items in
     let all : length ends ≤ length c.in_ok-gates.gates.items = few_ends _ _ _ _ ends c.in_ok-served.ensures in
-    let others = c.parted-lines.result.1.items in
-    omega (arith, all, c.len-3.ensures, c.in_ok-left.ensures.capacity, ap length c.parted-lines.ensures.told, length-map others (λ other. other.told), length-map ends (λ end. end.told))
+    let others = c.part_ends-lines.result.1.items in
+    omega (arith, all, c.len-3.ensures, c.in_ok-left.ensures.capacity, ap length c.part_ends-lines.ensures.told, length-map others (λ other. other.told), length-map ends (λ end. end.told))
 
 pub returns : goal.returns
 returns g c =
     let same = sym c.requires.queue.1 ∙ c.requires.places in
     let ends = c.in_ok-served.served.ends.items in
-    let (lines, others) = c.parted-lines.result in
+    let (lines, others) = c.part_ends-lines.result in
     let entries = c.join-ended.result.received.entries in
     let writer = c.join-ended.result.writer in
     let ended = c.join-ended.result in
     let written = subst (λ (n : ℕ). IsWritten g.N.StoreName.limit n entries (kept_of ended.writer) ended.ways.items) same c.join-ended.ensures.0 in
     let placed = subst (λ (n : ℕ). AreOfPlaces n entries) same c.join-ended.ensures.1 in
-    let so = subst (λ (n : ℕ). MatchOption c.settled.result.changes (EachOnce n lines.items → IsUnsettled entries lines.items) (IsSettled n entries lines.items)) same c.settled.ensures.settled in
-    let known = all_as_seen (λ other. other.told) (λ end. end.told) (λ told. IsPrefix told (kept_of writer)) others.items ends c.parted-lines.ensures.told c.settled.ensures.known in
+    let so = subst (λ (n : ℕ). MatchOption c.settle_run.result.changes (EachOnce n lines.items → IsUnsettled entries lines.items) (IsSettled n entries lines.items)) same c.settle_run.ensures.settled in
+    let known = all_as_seen (λ other. other.told) (λ end. end.told) (λ told. IsPrefix told (kept_of writer)) others.items ends c.part_ends-lines.ensures.told c.settle_run.ensures.known in
     store_run c.args.turns.items ends g.T.Turn.connections (λ end. end.turn) (λ end. end.told) (λ end. end.line) c.args.blank.limit g.N.StoreName.limit c.args.blank.places
-    c.settled.result.turns.items c.in_ok-writer.seats.items c.in_ok-intake.lines.items c.in_ok-gates.gates.items lines.items writer entries ended.ways.items
-    c.settled.result.version c.settled.result.changes c.requires.store.1 (sym c.in_ok-writer.seats.ok.0 ∙ c.in_ok-writer.ensures.seats.0) c.in_ok-writer.ensures.seats.1
+    c.settle_run.result.turns.items c.in_ok-writer.seats.items c.in_ok-intake.lines.items c.in_ok-gates.gates.items lines.items writer entries ended.ways.items
+    c.settle_run.result.version c.settle_run.result.changes c.requires.store.1 (sym c.in_ok-writer.seats.ok.0 ∙ c.in_ok-writer.ensures.seats.0) c.in_ok-writer.ensures.seats.1
     (c.in_ok-intake.ensures ∙ ap new_lines c.requires.places) c.in_ok-gates.ensures c.requires.turns c.in_ok-served.ensures written
-    c.settled.ensures.legal known c.parted-lines.ensures.lines c.settled.ensures.order so placed c.settled.ensures.version (c.settled.ensures.turns ∙ c.parted-lines.ensures.turns)
+    c.settle_run.ensures.legal known c.part_ends-lines.ensures.lines c.settle_run.ensures.order so placed c.settle_run.ensures.version (c.settle_run.ensures.turns ∙ c.part_ends-lines.ensures.turns)

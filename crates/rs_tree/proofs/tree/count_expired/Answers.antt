@@ -5,4 +5,4 @@ use Rattle.rs_tree.proofs.Trees.{pairs_gone}
 use Rattle.rs_tree.proofs.tree.count_expired.Goals as goal
 
 pub returns : goal.returns
-returns c = omega (arith, pairs_gone c.args.now c.args.root.now, c.expired.ensures (omega (arith, c.requires, length-map c.args.root.now pair_of)))
+returns c = omega (arith, pairs_gone c.args.now c.args.root.now, c.count_expired.ensures (omega (arith, c.requires, length-map c.args.root.now pair_of)))

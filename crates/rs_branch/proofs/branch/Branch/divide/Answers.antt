@@ -6,8 +6,8 @@ use Rattle.rs_branch.proofs.Growing.{from_at}
 use Rattle.rs_bucket.proofs.Spots.{Spots}
 use Rattle.rs_branch.proofs.branch.Branch.divide.Goals as goal
 
-pub halved-requires : goal.halved-requires
-halved-requires c = from_at c.self.inside.children.items c.args.i c.index-2.result.now (omega arith) c.index-2.ensures c.self.invariant
+pub halves_if_overfull-requires : goal.halves_if_overfull-requires
+halves_if_overfull-requires c = from_at c.self.inside.children.items c.args.i c.index-2.result.now (omega arith) c.index-2.ensures c.self.invariant
 
 pub invariant_of-self : goal.invariant_of-self
 invariant_of-self c =

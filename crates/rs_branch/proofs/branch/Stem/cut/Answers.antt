@@ -6,8 +6,8 @@ use Rattle.rs_branch.proofs.Cutting.{cut_levels}
 use Rattle.rs_branch.proofs.Stems.{full_below, joined}
 use Rattle.rs_branch.proofs.branch.Stem.cut.Goals as goal
 
-pub single-requires : goal.single-requires
-single-requires c = rw c.in_ok-copy.ensures (full_below (levels_from 1 c.in_ok-from_slice.field-0.items) c.args.self.now.branch.spots c.requires.full)
+pub branch_of_stem-requires : goal.branch_of_stem-requires
+branch_of_stem-requires c = rw c.in_ok-copy.ensures (full_below (levels_from 1 c.in_ok-from_slice.field-0.items) c.args.self.now.branch.spots c.requires.full)
 
 pub returns-clause-same : goal.returns-clause-same
 returns-clause-same c =

@@ -42,5 +42,5 @@ invariant_of-self g c =
     let P : ℕ → Type 0 = λ p. IsSeatLine p serial c.send_changes.new.self.sent c.in-Some.ahead.items in
     subst P (sym c.if-send_changes.ensures.place) (seat_sends place serial taken _ _ _ os (no_more c.self.inside.ahead.items zero) sent ahead c.in-Some.ensures.small c.self.invariant)
 
-pub prepared-requires-clause-plain : goal.prepared-requires-clause-plain
-prepared-requires-clause-plain g c = each_plain c.args.changes.items c.requires
+pub prepare-requires-clause-plain : goal.prepare-requires-clause-plain
+prepare-requires-clause-plain g c = each_plain c.args.changes.items c.requires

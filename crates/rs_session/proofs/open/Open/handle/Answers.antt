@@ -23,7 +23,7 @@ returns-in-Connect-clause-row g c =
 pub returns-in-Some-clause-row : goal.returns-in-Some-clause-row
 returns-in-Some-clause-row g c =
     leads_unmoved g.G.Gate.stands g.G.Gate.mark c.args.gate.now _ _ c.args.self.now c.args.self.now _ (is_packet _ _ c.in-Whole.packet _ c.incoming.inside.time c.in-Whole.is c.in-Publish.is c.incoming.view_is)
-    (λ list. before_use c.in-Publish.p c.in-Some.outcome c.incoming.inside.time (point_at c.args.self.now list _) (sym c.in-Some.ensures))
+    (λ list. before_use c.in-Publish.p c.in-Some.effect c.incoming.inside.time (point_at c.args.self.now list _) (sym c.in-Some.ensures))
 
 pub returns-in-None-clause-row : goal.returns-in-None-clause-row
 returns-in-None-clause-row g c =
@@ -101,7 +101,7 @@ returns-in-Subscribe-clause-pending g c = by_another _ _ c.incoming.inside.time 
 pub returns-in-Some-clause-pending : goal.returns-in-Some-clause-pending
 returns-in-Some-clause-pending g c =
     by_given _ _ (g.G.Gate.pending c.args.gate.now) (g.G.Gate.pending c.args.gate.now) _ (is_packet _ _ c.in-Whole.packet _ c.incoming.inside.time c.in-Whole.is c.in-Publish.is c.incoming.view_is)
-    (before_use_pending c.in-Publish.p c.args.self.now c.in-Some.outcome c.incoming.inside.time (g.G.Gate.pending c.args.gate.now) (g.G.Gate.pending c.args.gate.now) _ (sym c.in-Some.ensures) refl)
+    (before_use_pending c.in-Publish.p c.args.self.now c.in-Some.effect c.incoming.inside.time (g.G.Gate.pending c.args.gate.now) (g.G.Gate.pending c.args.gate.now) _ (sym c.in-Some.ensures) refl)
 
 pub returns-in-None-clause-pending : goal.returns-in-None-clause-pending
 returns-in-None-clause-pending g c = by_given _ _ (g.G.Gate.pending c.args.gate.now) (g.G.Gate.pending c.hand_over.new.gate) _ (is_packet _ _ c.in-Whole.packet _ c.incoming.inside.time c.in-Whole.is c.in-Publish.is c.incoming.view_is) c.hand_over.ensures.pending
@@ -141,7 +141,7 @@ pub returns-in-Subscribe-clause-certain : goal.returns-in-Subscribe-clause-certa
 returns-in-Subscribe-clause-certain g c = λ p is. absurd (no_publish _ _ c.incoming.inside.time p (is_packet _ _ c.in-Whole.packet _ c.incoming.inside.time c.in-Whole.is c.in-Subscribe.is c.incoming.view_is) tt is)
 
 pub returns-in-Some-clause-certain : goal.returns-in-Some-clause-certain
-returns-in-Some-clause-certain g c = λ p is none. before_use_certain c.in-Publish.p c.args.self.now c.in-Some.outcome (sym c.in-Some.ensures)
+returns-in-Some-clause-certain g c = λ p is none. before_use_certain c.in-Publish.p c.args.self.now c.in-Some.effect (sym c.in-Some.ensures)
 
 pub returns-in-None-clause-certain : goal.returns-in-None-clause-certain
 returns-in-None-clause-certain g c = λ p is. c.hand_over.ensures.certain

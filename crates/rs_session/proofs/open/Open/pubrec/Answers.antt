@@ -5,7 +5,7 @@ use Rattle.rs_window.specs.Calls as window
 use Rattle.rs_window.specs.State.{State}
 use Rattle.rs_window.specs.declared.fault.Ack.{Ack}
 use Rattle.rs_session.specs.declared.open.Open.{Open}
-use Rattle.rs_session.specs.declared.open.Outcome.TheVariants.{Replies}
+use Rattle.rs_session.specs.declared.open.Effect.TheVariants.{Replies}
 use Rattle.rs_session.specs.Table.{released_by}
 use Rattle.rs_session.specs.Points.{point_at}
 use Rattle.rs_session.proofs.Rows.{acknowledged, not_acknowledged, unknown_low, unknown_high}

@@ -5,7 +5,7 @@ use Rattle.std.specs.Vec.Iter.{into_iter_items}
 use Rattle.rs_packet.specs.Values.{Asked, SubscribeValue}
 use Rattle.rs_packet.specs.declared.packet.Packet.TheVariants as packet
 use Rattle.rs_session.specs.declared.open.Open.{Open}
-use Rattle.rs_session.specs.declared.open.Outcome.TheVariants.{Closes}
+use Rattle.rs_session.specs.declared.open.Effect.TheVariants.{Closes}
 use Rattle.rs_session.specs.declared.phase.Input.TheVariants.{Whole}
 use Rattle.rs_session.specs.Gate.{Mark, StandsAt}
 use Rattle.rs_session.specs.declared.reason.ReasonCode.TheVariants.{ProtocolError, QuotaExceeded}

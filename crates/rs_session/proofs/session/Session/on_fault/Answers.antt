@@ -1,5 +1,5 @@
 use Rattle.std.proofs.Common.{refl, ap, ◌∙◌}
-use Rattle.rs_session.specs.declared.open.Outcome.TheVariants.{Closes}
+use Rattle.rs_session.specs.declared.open.Effect.TheVariants.{Closes}
 use Rattle.rs_session.specs.declared.phase.Input.TheVariants.{Broken}
 use Rattle.rs_session.specs.State.{session_at, gate_of}
 use Rattle.rs_session.specs.Points.{given_at, point_at}

@@ -2,4 +2,4 @@ use Rattle.rs_tree.proofs.Trees.{empty_tree}
 use Rattle.rs_tree.proofs.tree.TreeCatalogueCatalogue.new.Goals as goal
 
 pub invariant_of-result : goal.invariant_of-result
-invariant_of-result c = empty_tree c.in_ok-new.field-0 c.new-2.result.limit c.in_ok-new.ensures
+invariant_of-result c = empty_tree c.in_ok-new.field-0 c.new-3.result.limit c.in_ok-new.ensures

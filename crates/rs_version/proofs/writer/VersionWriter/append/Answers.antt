@@ -11,6 +11,6 @@ pub invariant_of-self-2 : goal.invariant_of-self-2
 invariant_of-self-2 g c =
     let log = (shown c.self.inside.copies).prefix.log in
     let legal : IsLegal g.N.StoreName.limit (extended log c.args.entry) = rw (ap (λ w. w.published) c.self.view_is) c.requires.legal in
-    appended _ _ _ c.push.new.self _ c.next_step.new.history _ c.after-calm.result _ c.args.entry c.in_ok-step.step c.self.invariant (ap (λ w. w.held) c.self.view_is ∙ c.requires.none)
+    appended _ _ _ c.push.new.self _ c.next_step.new.history _ c.with_entry-calm.result _ c.args.entry c.in_ok-step.step c.self.invariant (ap (λ w. w.held) c.self.view_is ∙ c.requires.none)
     legal (omega (arith, c.place-place.ensures.value, c.place-place.ensures.small)) (omega (arith, c.serial-serial.ensures.value, c.serial-serial.ensures.some))
-    c.push.ensures.shown c.push.ensures.steps c.in_ok-step.ensures.step.0 c.in_ok-step.ensures.step.1 c.in_ok-step.ensures.step.2 c.in_ok-step.ensures.history c.after-calm.ensures
+    c.push.ensures.shown c.push.ensures.steps c.in_ok-step.ensures.step.0 c.in_ok-step.ensures.step.1 c.in_ok-step.ensures.step.2 c.in_ok-step.ensures.history c.with_entry-calm.ensures

@@ -1,0 +1,21 @@
+use Rattle.std.proofs.Common.{◌≡◌, ◌+◌, [], sym, ◌∙◌, ap, length, arith}
+use Rattle.rs_intake.proofs.Sums.{no_more}
+use Rattle.rs_places.proofs.Starting.{length_more}
+use Rattle.rs_clients.proofs.Served.{next_client, no_client}
+use Rattle.rs_clients.proofs.fleet.make_clients.Goals as goal
+
+pub loop-turn-preserved : goal.loop-turn-preserved
+loop-turn-preserved g c =
+    let i = c.loop-turn.invariant in
+    let first = c.in-Some.ensures.steps.0 in
+    let next : c.saturating_add-client.result ≡ c.loop-turn.client + 1 = omega (arith, i.count, c.saturating_add-client.ensures, ap length first, c.len.ensures, c.len.type_inv) in
+    record {
+      placed = next_client _ g.T.Turn.connections _ _ _ _ _ _ _ _ _ _ c.push_reserved.ensures.items c.in-Some-make_client.ensures first next i.placed;
+      count = omega (arith, i.count, next, ap length first);
+      fits = omega (arith, i.fits, length_more _ _ _ c.push_reserved.ensures.items, c.push_reserved.ensures.capacity, ap length first);
+    }
+
+pub returns : goal.returns
+returns g c =
+    let none : c.loop-turn.turn-iterator.rest.items ≡ [] = no_more _ (sym c.loop-turn.turn-iterator.rest.ok.0 ∙ c.in-None.ensures.steps.0) in
+    no_client _ g.T.Turn.connections _ _ _ _ _ c.loop-turn.invariant.placed none

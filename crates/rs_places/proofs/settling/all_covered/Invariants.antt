@@ -1,7 +1,0 @@
-use Rattle.std.specs.Prelude.{◌≡◌, All, take}
-use mathlib.Core.List.{IsPrefix}
-use Rattle.rs_version.specs.Writer.{kept_of}
-use Rattle.rs_places.proofs.settling.all_covered.Given as goal
-
-abbrev pub invariant-loop-end : goal.invariant-loop-end
-invariant-loop-end g l = (l.writer ≡ l.fn.writer) × All (λ end. IsPrefix end.told (kept_of l.fn.writer)) (take l.end-index l.ends.items)
