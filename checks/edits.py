@@ -1,5 +1,5 @@
-"""Tries the edits that the full check leaves out, those of crates/*/must-fail-outside: the prover has
-to refuse each. Words name the crates whose edits are tried.
+"""Tries the edits that the full check leaves out, those of crates/*/must-fail-outside: the prover
+has to refuse each. Words name the crates whose edits are tried.
 
 It works on a copy of the sources, in which these edits stand in place of the others.
 """

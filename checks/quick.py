@@ -21,11 +21,17 @@ from harness.words import NAME, given_words
 
 # How much memory is left for each that runs, in kilobytes.
 MEMORY = 2_000_000
-# These take longest, so they begin first.
+# These run longest, so they begin first.
 LONGEST = ("rs_examples", "rs_tree_tests")
 # How many seconds one may run once it is compiled. `rt try` looks at each access of memory, which
 # makes all slower.
 LIMIT = 3 * PATIENCE
+# Each crate's name, with those of the crates that it names.
+NAMES = {
+    line.split(":")[0].split()[0]: line.split(":")[1].split()
+    for line in (ROOT / "crates.txt").read_text().splitlines()
+    if ":" in line and not line.startswith("#")
+}
 PASSED = re.compile(r"^test result: ok\. (\d+) passed; 0 failed; 0 ignored", re.MULTILINE)
 
 
@@ -50,16 +56,31 @@ class Crate:
     def has_tests(self):
         return any("#[test]" in path.read_text() for path in self.folder.glob("src/**/*.rt"))
 
+    def lines(self):
+        """How many lines of sources are compiled: its own, and those of all crates below."""
+        folders, found = [self.name], {self.name}
+        for name in folders:
+            more = [each for each in NAMES.get(name, ()) if each in NAMES and each not in found]
+            folders += more
+            found |= set(more)
+        return sum(
+            path.read_text().count("\n")
+            for name in folders
+            for path in (ROOT / "crates" / name).glob("src/**/*.rt")
+        )
+
     def try_out(self):
         """What is shown if all is right, or else all that was printed; and how many tests there
         were."""
+        began = monotonic()
         run = self.run()
         passed = PASSED.search(run.stdout)
         is_right = run.stdout == self.text("stdout") if self.is_program() else passed
         if run.returncode != 0 or not is_right:
             return None, f"{run.stdout}{run.stderr}status {run.returncode}"
         tests = 0 if self.is_program() else int(passed[1])
-        return tests, f"{tests} tests" if tests else "prints what it should"
+        shown = f"{tests} tests" if tests else "prints what it should"
+        return tests, f"{shown}, {monotonic() - began:.0f} s"
 
     def run(self):
         words = ["rt", "try", "--seconds", str(LIMIT)]
@@ -74,10 +95,10 @@ class Crate:
 
 
 def crates():
-    """Those that can be run, the longest first."""
+    """Those that can be run, the longest first: most of the time is for compiling."""
     every = [Crate(path) for path in sorted(ROOT.glob("crates/*")) if (path / "src").exists()]
     chosen = [each for each in every if each.is_program() or each.has_tests()]
-    return sorted(chosen, key=lambda each: each.name not in LONGEST)
+    return sorted(chosen, key=lambda each: (each.name not in LONGEST, -each.lines()))
 
 
 def together():

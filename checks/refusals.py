@@ -1,5 +1,5 @@
-"""Looks where the sources make an *out of memory*, or a `Gone`: in the branch of a call that failed,
-or below a comment that says why.
+"""Looks where the sources make an *out of memory*, or a `Gone`: in the branch of a call that
+failed, or below a comment that says why.
 
 Contracts cannot see the allocator or the other end of a channel, so they allow a function to answer
 so at any time.
