@@ -548,33 +548,70 @@ static void publish_next(Client *client, int number) {
     send_all(client, packet, size);
 }
 
-static void crowd(int count, double micros) {
-    Crew own = crew(count);
-    for (int i = 0; i < count; i++) {
-        open_named(&own.clients[i], 'm', i);
+// How many threads the clients of a crowd share. One alone is busier than a server that only sends
+// each PUBACK back.
+enum { CREWS = 2 };
+
+// Some clients of a crowd, from this number on, and what they have published.
+typedef struct {
+    int first, count;
+    double micros;
+    long published;
+    pthread_barrier_t *barrier;
+} Part;
+
+static void *publish_part(void *given) {
+    Part *part = given;
+    Crew own = crew(part->count);
+    for (int i = 0; i < own.count; i++) {
+        open_named(&own.clients[i], 'm', part->first + i);
         await(&own, i, EPOLLIN, EPOLL_CTL_ADD);
     }
+    pthread_barrier_wait(part->barrier);
+    // All are connected.
+    pthread_barrier_wait(part->barrier);
+    double start = now();
+    int open = own.count;
+    for (int i = 0; i < own.count; i++) publish_next(&own.clients[i], part->first + i);
+    while (open > 0) {
+        struct epoll_event events[EVENTS];
+        int found = ready(&own, events, -1);
+        int is_over = part->micros > 0 && now() - start > part->micros;
+        for (int i = 0; i < found; i++) {
+            int number = (int)events[i].data.u32;
+            Packet answer = take(&own.clients[number]);
+            check_stored(&answer);
+            part->published++;
+            if (is_over)
+                open--;
+            else
+                publish_next(&own.clients[number], part->first + number);
+        }
+    }
+    return NULL;
+}
+
+static void crowd(int count, double micros) {
+    pthread_barrier_t barrier;
+    pthread_t threads[CREWS];
+    Part parts[CREWS];
+    pthread_barrier_init(&barrier, NULL, CREWS + 1);
+    for (int i = 0; i < CREWS; i++) {
+        int first = count * i / CREWS, next = count * (i + 1) / CREWS;
+        parts[i] = (Part){first, next - first, micros, 0, &barrier};
+        if (pthread_create(&threads[i], NULL, publish_part, &parts[i]) != 0) fail("pthread_create");
+    }
+    pthread_barrier_wait(&barrier);
     if (micros == 0) {
         puts("ready");
         fflush(stdout);
     }
     double start = now();
+    pthread_barrier_wait(&barrier);
     long published = 0;
-    int open = count;
-    for (int i = 0; i < count; i++) publish_next(&own.clients[i], i);
-    while (open > 0) {
-        struct epoll_event events[EVENTS];
-        int found = ready(&own, events, -1), is_over = micros > 0 && now() - start > micros;
-        for (int i = 0; i < found; i++) {
-            int number = (int)events[i].data.u32;
-            Packet answer = take(&own.clients[number]);
-            check_stored(&answer);
-            published++;
-            if (is_over)
-                open--;
-            else
-                publish_next(&own.clients[number], number);
-        }
+    for (int i = 0; i < CREWS; i++) {
+        pthread_join(threads[i], NULL);
+        published += parts[i].published;
     }
     printf("%ld %.0f\n", published, now() - start);
 }

@@ -4,6 +4,7 @@ use Rattle.std.proofs.lemmas.List.{map-append, flat_map_more}
 use Rattle.std.proofs.KnownBytes.{Consumes-trans, Appends-trans, Appends-nil, Consumes-nil}
 use Rattle.std.specs.Io.KnownBytes.{Appends, Consumes, IsAtEnd}
 use Rattle.rs_packet.proofs.Prefixes.{fault_stays}
+use Rattle.rs_packet.specs.Prefixes.{IsMore}
 use Rattle.rs_packet.specs.declared.reply.Reply.{Reply}
 use Rattle.rs_message.specs.declared.entry.Entry.{Entry}
 use Rattle.rs_message.specs.declared.entry.Operation.{Operation}
@@ -28,7 +29,7 @@ use Rattle.rs_server.specs.declared.writing.ServeFault.{ServeFault}
 use Rattle.rs_server.specs.declared.writing.ServeFault.TheVariants.{Read, Write, NoMemory}
 use Rattle.rs_server.specs.Clock.{TellsAll, TellsInOrder}
 use Rattle.rs_server.specs.Writing.{Writes, AppendsFront, IsWriteCause, all_reply_bytes}
-use Rattle.rs_server.specs.Conversation.{InputsOf, AreLeft, IsHandled, Plans, inputs_of, moments_of, replies_of, planned_inputs, planned_moments, start, served_as, AppendsReplies, AppendsIntoLast, WritesReplies, GateView, Traffic, Transfer, Talks, MakesExchange, TakesInput, IsReadCause, IsConnection, Ends, gate_view}
+use Rattle.rs_server.specs.Conversation.{InputsOf, AreLeft, Plans, inputs_of, moments_of, replies_of, planned_inputs, planned_moments, start, served_as, AppendsReplies, AppendsIntoLast, WritesReplies, GateView, Traffic, Transfer, Talks, MakesExchange, TakesInput, IsReadCause, IsConnection, IsEnd, Ends, BreaksAt, ClosesAs, gate_view}
 
 -- ---- the clock
 
@@ -136,11 +137,6 @@ expected_on given planned old new same p on h l =
     has_ended phase.Before on end = absurd (cc)
     has_ended (phase.Open o) on end = absurd (cc)
     has_ended (phase.Ended closing) on end = absurd (cc)
-
--- nothing is expected of nothing that is planned
-pub none_expected : (planned : List Given) (changes : List Operation) → AreChanges [] changes → AreChanges planned changes
-none_expected planned [] h = tt
-none_expected planned (operation ∷ operations) h = absurd h
 
 run_point : (from to : Point State) (exchanges : List Exchange) → Run from exchanges to → point_after from exchanges ≡ to
 run_point from to [] e = sym e
@@ -314,13 +310,6 @@ pub talks_equal : (from : Point State) (first : List Operation) (gate : GateView
     → p ≡ q → Talks from first gate state t p left → Talks from first gate state t q left
 talks_equal from first gate state t p q left e talk = subst (λ (l : List Given). Talks from first gate state t l left) e talk
 
--- the gate comes back as it is
-pub talks_kept : {G : Type 0} (stands : G → List Entry → Type 0) (mark : G → Mark) (pending : G → List Operation) (gate kept : G) (from : Point State) (first : List Operation) (state : State) (t : Traffic) (planned : List Given) (left : List ℕ) (at_end : List ℕ → Type 0)
-    → kept ≡ gate → (talk : Talks from first (gate_view stands mark pending gate) state t planned left) × at_end talk.buffered
-    → (talk : Talks from first (gate_view stands mark pending kept) state t planned left) × at_end talk.buffered
-talks_kept {G} stands mark pending gate kept from first state t planned left at_end e talk =
-    subst (λ (g : G). (talk : Talks from first (gate_view stands mark pending g) state t planned left) × at_end talk.buffered) (sym e) talk
-
 -- if there is no memory for the identifier, nothing is read
 pub talks_none : (T : Type 0) (gate : GateView) (assigned : List ℕ) (read : Option (List ℕ)) (told : Option (ℕ → ℕ)) (wrote : Option (List ℕ)) (seen : List Entry)
     → gate.stands seen → Talks (start assigned seen gate.mark) gate.pending gate (fresh assigned) (traffic (Consumes read read) (TellsInOrder told told) (WritesReplies {T = T} (Err NoMemory) wrote wrote)) [] []
@@ -345,6 +334,23 @@ talks_none T gate assigned read told wrote seen s =
 
 -- ---- how it ends
 
+-- not an end of the input, nor a failure of the reader
+abbrev pub IsHandled : Result (Option Served) ServeFault → Type 0
+IsHandled (Ok None) = Unit {0}
+IsHandled (Ok (Some ClientClosed)) = Unit {0}
+IsHandled (Ok (Some EndOfInput)) = ⊥
+IsHandled (Ok (Some CutInput)) = ⊥
+IsHandled (Ok (Some (ServerClosed code))) = Unit {0}
+IsHandled (Ok (Some Dropped)) = Unit {0}
+IsHandled (Err Read) = ⊥
+IsHandled (Err Write) = Unit {0}
+IsHandled (Err NoMemory) = Unit {0}
+
+abbrev pub Closes : Result (Option Served) ServeFault → State → List ℕ → Type 0 → Type 0
+Closes (Ok None) state buffered at_end = closing_of state.phase ≡ None
+Closes (Ok (Some served)) state buffered at_end = ClosesAs served state buffered at_end
+Closes (Err fault) state buffered at_end = BreaksAt fault state buffered
+
 abbrev pub handled : Result Served ServeFault → Result (Option Served) ServeFault
 handled (Ok served) = Ok (Some served)
 handled (Err fault) = Err fault
@@ -361,17 +367,6 @@ ends_buffered (Ok Dropped) state planned buffered left at_end ends (inr h) whole
 ends_buffered (Err Read) state planned buffered left at_end ends (inr h) whole = absurd h
 ends_buffered (Err Write) state planned buffered left at_end ends (inr h) whole = tt
 ends_buffered (Err NoMemory) state planned buffered left at_end ends (inr h) whole = tt
-
-pub handled_as : (closing : Option Closing) → IsHandled (Ok (served_as closing))
-handled_as None = tt
-handled_as (Some closing.ByClient) = tt
-handled_as (Some (closing.ByServer code)) = tt
-handled_as (Some closing.Dropped) = tt
-
-pub handled_fault : (T : Type 0) (f : ServeFault) (before after : ℕ) → IsWriteCause {T = T} (Err f) before after → IsHandled (Err f)
-handled_fault T Read before after h = absurd h
-handled_fault T Write before after h = tt
-handled_fault T NoMemory before after h = tt
 
 -- ---- a connection
 
@@ -404,3 +399,35 @@ connection_as from first most gate old new result e f g h t (state, planned, lef
       },
       subst (λ (o : Option (List ℕ)). Ends result state talk.buffered (IsAtEnd o)) f ends,
     )
+
+-- ---- the end of an exchange
+
+pub closes_ok : (state : State) (buffered : List ℕ) (at_end : Type 0) (closing : Option Closing) → closing_of state.phase ≡ closing → Closes (Ok (served_as closing)) state buffered at_end
+closes_ok state buffered at_end None is = is
+closes_ok state buffered at_end (Some closing.ByClient) is = is
+closes_ok state buffered at_end (Some (closing.ByServer code)) is = is
+closes_ok state buffered at_end (Some closing.Dropped) is = is
+
+pub breaks_as : (T : Type 0) (f : ServeFault) (state : State) (buffered : List ℕ) (before after : ℕ) → IsWriteCause {T = T} (Err f) before after → BreaksAt f state buffered
+breaks_as T Read state buffered before after h = absurd h
+breaks_as T Write state buffered before after h = tt
+breaks_as T NoMemory state buffered before after h = tt
+
+pub write_cause_as : (T U : Type 0) (f : ServeFault) (before after : ℕ) → IsWriteCause {T = T} (Err f) before after → IsWriteCause {T = U} (Err f) before after
+write_cause_as T U Read before after h = absurd h
+write_cause_as T U Write before after h = h
+write_cause_as T U NoMemory before after h = h
+
+-- ---- the end of a read
+
+pub read_closes : (served : Served) (state : State) (old new : List ℕ) (at_end : Type 0) → IsEnd (Ok (Some served)) old new at_end → closing_of state.phase ≡ None → IsMore old → ClosesAs served state new at_end
+read_closes ClientClosed state old new at_end h goes_on more = absurd h
+read_closes EndOfInput state old new at_end (same, none, is_end) goes_on more = (goes_on, none, is_end)
+read_closes CutInput state old new at_end (same, some, is_end) goes_on more = (goes_on, some, subst IsMore (sym same) more, is_end)
+read_closes (ServerClosed code) state old new at_end h goes_on more = absurd h
+read_closes Dropped state old new at_end h goes_on more = absurd h
+
+pub read_breaks : (f : ServeFault) (state : State) (old new : List ℕ) → new ≡ old → closing_of state.phase ≡ None → IsMore old → BreaksAt f state new
+read_breaks Read state old new same goes_on more = (goes_on, subst IsMore (sym same) more)
+read_breaks Write state old new same goes_on more = tt
+read_breaks NoMemory state old new same goes_on more = tt

@@ -5,3 +5,4 @@ pub mod Conversations
 pub mod Inputs
 pub mod Planning
 pub mod CountedGates
+pub mod Goings

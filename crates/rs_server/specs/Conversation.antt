@@ -236,23 +236,6 @@ IsConnection from first most gate transfer result = (state : State) × (planned 
     × (talk : Talks from first gate state (traffic_of transfer result) planned left)
     × Ends result state talk.buffered (IsAtEnd transfer.rest)
 
-abbrev pub Closes : Result (Option Served) ServeFault → State → List ℕ → Type 0 → Type 0
-Closes (Ok None) state buffered at_end = closing_of state.phase ≡ None
-Closes (Ok (Some served)) state buffered at_end = ClosesAs served state buffered at_end
-Closes (Err fault) state buffered at_end = BreaksAt fault state buffered
-
--- not an end of the input, nor a failure of the reader
-abbrev pub IsHandled : Result (Option Served) ServeFault → Type 0
-IsHandled (Ok None) = Unit {0}
-IsHandled (Ok (Some ClientClosed)) = Unit {0}
-IsHandled (Ok (Some EndOfInput)) = ⊥
-IsHandled (Ok (Some CutInput)) = ⊥
-IsHandled (Ok (Some (ServerClosed code))) = Unit {0}
-IsHandled (Ok (Some Dropped)) = Unit {0}
-IsHandled (Err Read) = ⊥
-IsHandled (Err Write) = Unit {0}
-IsHandled (Err NoMemory) = Unit {0}
-
 -- The failures of the reader and of the writer rise only at the fault that says so.
 abbrev pub Causes : {T : Type 0} → Result T ServeFault → ℕ → ℕ → ℕ → ℕ → Type 0
 Causes (Ok x) read_before read_after write_before write_after = (read_after ≡ read_before) × (write_after ≡ write_before)

@@ -4,3 +4,4 @@ pub mod Counts
 pub mod Writing
 pub mod Conversation
 pub mod Refusals
+pub mod Serving

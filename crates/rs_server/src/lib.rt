@@ -20,6 +20,7 @@ mod counted_gate;
 mod law;
 mod plan;
 mod read_size;
+mod serving;
 mod writing;
 
 pub use clock::{Clock, Moments};
@@ -27,4 +28,5 @@ pub use connection::{ConnectionId, Served, serve};
 pub use counted::Counted;
 pub use counted_gate::{CountedGate, Refusals, Tally, serve_counted};
 pub use law::inputs_law;
+pub use serving::Serving;
 pub use writing::ServeFault;

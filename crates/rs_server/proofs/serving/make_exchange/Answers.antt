@@ -6,7 +6,7 @@ use Rattle.rs_server.specs.Counts.{inner_of}
 use Rattle.rs_server.specs.Writing.{Writes, all_reply_bytes}
 use Rattle.rs_server.proofs.Conversations.{makes_exchange}
 use Rattle.rs_server.proofs.Planning.{exchange_pending}
-use Rattle.rs_server.proofs.connection.make_exchange.Goals as goal
+use Rattle.rs_server.proofs.serving.make_exchange.Goals as goal
 
 pub returns-clause-exchange : goal.returns-clause-exchange
 returns-clause-exchange g c =
