@@ -251,7 +251,7 @@ IsReadCause (Err NoMemory) before after = after ≡ before
 
 -- what one read found
 abbrev pub IsEnd : Result (Option Served) ServeFault → List ℕ → List ℕ → Type 0 → Type 0
-IsEnd (Ok None) old new at_end = Unit {0}
+IsEnd (Ok None) old new at_end = new ≢ old
 IsEnd (Ok (Some ClientClosed)) old new at_end = ⊥
 IsEnd (Ok (Some EndOfInput)) old new at_end = (new ≡ old) × (new ≡ []) × at_end
 IsEnd (Ok (Some CutInput)) old new at_end = (new ≡ old) × (new ≢ []) × at_end

@@ -1,5 +1,5 @@
 -- A connection while it is served.
-use Rattle.std.specs.Prelude.{◌≡◌, ◌≤◌, ℕ, Option, Some, None, List, [], length, Result}
+use Rattle.std.specs.Prelude.{◌≡◌, ◌≢◌, ◌≤◌, ℕ, Option, Some, None, List, [], length, Result}
 use Rattle.std.specs.Io.KnownBytes.{Consumes}
 use Rattle.rs_packet.specs.Prefixes.{IsMore}
 use Rattle.rs_message.specs.declared.entry.Operation.{Operation}
@@ -59,6 +59,11 @@ abbrev pub IsUnderway : {G : Type 0} → Point State → List Operation → ℕ 
 IsUnderway from first most view transfer serving =
     IsHandledAll from first most (view (gate_of serving.session)) (state_of serving.session) transfer serving.planned.items serving.buffered.items
 
+-- The same, but what was read last is not handled yet. Some of it may be decoded.
+abbrev pub IsRead : {G : Type 0} → Point State → List Operation → ℕ → (G → GateView) → Transfer → Serving G → Type 0
+IsRead from first most view transfer serving =
+    IsBeingHandled from first most (view (gate_of serving.session)) (state_of serving.session) transfer serving.planned.items serving.buffered.items
+
 -- all that was whole is handled, or the connection ended so
 abbrev pub HandlesAll : Option (Result Served ServeFault) → Point State → List Operation → ℕ → GateView → State → Transfer → List Given → List ℕ → Type 0
 HandlesAll None from first most gate state transfer planned buffered = IsHandledAll from first most gate state transfer planned buffered
@@ -68,6 +73,15 @@ HandlesAll (Some end) from first most gate state transfer planned buffered = IsC
 abbrev pub GoesOn : {G : Type 0} → Option (Result Served ServeFault) → Point State → List Operation → ℕ → (G → GateView) → Transfer → Serving G → Type 0
 GoesOn None from first most view transfer serving = IsUnderway from first most view transfer serving
 GoesOn (Some end) from first most view transfer serving = IsConnection from first most (view (gate_of serving.session)) transfer end
+
+-- it was read from and goes on, or it ended so
+abbrev pub Reads : {G : Type 0} → Option (Result Served ServeFault) → Point State → List Operation → ℕ → (G → GateView) → Transfer → Serving G → Type 0
+Reads None from first most view transfer serving = IsRead from first most view transfer serving
+Reads (Some end) from first most view transfer serving = IsConnection from first most (view (gate_of serving.session)) transfer end
+
+-- of the bytes, if they are given, some were read
+abbrev pub ReadsSome : Option (List ℕ) → Option (List ℕ) → Type 0
+ReadsSome unread rest = (more : List ℕ) × (more ≢ []) × Consumes unread rest more
 
 -- the failures of the reader and of the writer rise only at the fault that says so
 abbrev pub CausesEnd : Option (Result Served ServeFault) → ℕ → ℕ → ℕ → ℕ → Type 0

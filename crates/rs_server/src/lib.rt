@@ -2,7 +2,8 @@
 //!
 //! [`serve`] reads the packets of one client, runs its session over a gate to the store, and writes and
 //! flushes the replies. The reader and the writer are [`Counted`], and a [`Clock`] tells the times.
-//! [`serve_counted`] does so too, and also counts what the gate refused ([`Tally`]).
+//! [`serve_counted`] does so too, and also counts what the gate refused ([`Tally`]). A [`Serving`] is such a connection
+//! for a thread that serves several.
 //!
 //! However the input is split into reads, the bytes written are exactly the replies of the session to the
 //! packets decoded from it; if a write or an allocation fails, a prefix of them. [`Served`] says how the

@@ -1,6 +1,6 @@
 //! What is decoded before it is handled.
 
-ghost use Rattle.std.specs.Prelude.{◌≡◌, ◌≤◌, ◌+◌, ◌⊎◌, [], ◌∷◌, ◌++◌, true, false, List, Ok, Some, OnErr, OnOk, IfOk, IfErr, length, max};
+ghost use Rattle.std.specs.Prelude.{◌≡◌, ◌≤◌, ◌⊎◌, [], ◌∷◌, ◌++◌, true, false, List, Ok, Some, OnErr, OnOk, IfOk, IfErr, length, max};
 ghost use Rattle.std.specs.List.{All};
 ghost use Rattle.rs_message.specs.declared.entry.Entry.{Entry};
 ghost use Rattle.rs_message.specs.declared.entry.Operation.{Operation};
@@ -27,19 +27,21 @@ use std::collections::VecDeque;
 /// Plans what comes next, unless the gate still waits for changes of what is planned. Nothing is read.
 ///
 /// The first is the first whole input of what is buffered. While the last one is a publication that may be announced, in an open session,
-/// the next one follows: first up to half of what its gate takes at once, whose changes are announced, and then up to as many as it takes,
-/// which are decoded while the writer works on the others. These are announced once all before them are handled.
+/// the next one follows: first up to half of what its gate takes at once, whose changes are announced if there are `least` of them, and
+/// then up to as many as it takes, which are decoded while the writer works on the others. These are announced once all before them are
+/// handled.
 pub(crate) fn plan<G: Gate, C: Clock>(
     alloc: Global,
     session: &mut Session<G>,
     buffered: &mut BytesMut,
     planned: &mut VecDeque<Incoming>,
     clock: &mut C,
+    least: usize,
 ) -> Result<(), ServeFault>
     ensures plans { Plans planned.old.items planned.new.items buffered.old.items buffered.new.items (C.moments clock.old)
         (C.moments clock.new) }
     ensures more { OnOk result (planned.new.items ≡ [] → IsMore buffered.new.items) }
-    ensures few { length planned.old.items ≤ G.most → length planned.new.items ≤ G.most + 1 }
+    ensures few { length planned.old.items ≤ G.most → length planned.new.items ≤ max G.most 1 }
     ensures only_last { AllButLastHaveChanges planned.old.items → AllButLastHaveChanges planned.new.items }
     ensures none { OnErr result (planned.new.items ≡ planned.old.items) }
     ensures fault { IfErr result (λ fault. fault ≡ ServeFault.NoMemory) }
@@ -54,9 +56,9 @@ pub(crate) fn plan<G: Gate, C: Clock>(
         return Ok(());
     }
     let most = session.most_expected();
-    plan_first(alloc, buffered, planned, clock, most > 1)?;
+    plan_first(alloc, buffered, planned, clock, most >= least)?;
     look_ahead(alloc, buffered, planned, clock, batch(most));
-    announce(alloc, session, planned);
+    announce(alloc, session, planned, least);
     look_ahead(alloc, buffered, planned, clock, most);
     Ok(())
 }
@@ -167,8 +169,13 @@ fn may_go_on(planned: &VecDeque<Incoming>) -> bool
     last.has_change()
 }
 
-/// Announces the changes of what is planned, if there are two or more.
-fn announce<G: Gate>(alloc: Global, session: &mut Session<G>, planned: &VecDeque<Incoming>)
+/// Announces the changes of what is planned, if there are `least` or more.
+fn announce<G: Gate>(
+    alloc: Global,
+    session: &mut Session<G>,
+    planned: &VecDeque<Incoming>,
+    least: usize,
+)
     ensures state { state_of session.new ≡ state_of session.old }
     ensures due { due_of session.new ≡ due_of session.old }
     ensures list { Grows (G.stands (gate_of session.old)) (G.stands (gate_of session.new)) (λ seen list. list ≡ seen) }
@@ -176,11 +183,11 @@ fn announce<G: Gate>(alloc: Global, session: &mut Session<G>, planned: &VecDeque
     ensures pending { AreChanges planned.now.items (G.pending (gate_of session.new))
         ⊎ (G.pending (gate_of session.new) ≡ G.pending (gate_of session.old)) }
 {
-    if planned.len() < 2 {
+    if planned.len() < least {
         return;
     }
     let changes = changes_of(alloc, planned);
-    if changes.len() < 2 {
+    if changes.len() < least {
         return;
     }
     session.expect(changes);

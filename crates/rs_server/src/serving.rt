@@ -11,7 +11,7 @@ ghost use Rattle.rs_server.specs.Clock.{TellsInOrder};
 ghost use Rattle.rs_server.specs.Counts.{inner_of, failures_of};
 ghost use Rattle.rs_server.specs.Writing.{IsWriteCause, Writes};
 ghost use Rattle.rs_server.specs.Conversation.{AppendsReplies, IsEnd, IsReadCause, MakesExchange, assigned_of, gate_view, start, served_as};
-ghost use Rattle.rs_server.specs.Serving.{CausesEnd, GoesOn, HandlesAll, IsBeingHandled, IsUnderway, IsWriteEnd, Waits, session_of, transfer_from};
+ghost use Rattle.rs_server.specs.Serving.{CausesEnd, GoesOn, HandlesAll, IsBeingHandled, IsRead, IsUnderway, IsWriteEnd, Reads, ReadsSome, Waits, session_of, transfer_from};
 
 use crate::assigned::assigned_client;
 use crate::clock::Clock;
@@ -28,10 +28,14 @@ use std::collections::VecDeque;
 use std::io::{Read, Write};
 use std::sync::Wait;
 
+/// How many changes are announced at least, if what was read is handled at once: one alone goes as fast by its `submit`.
+const LEAST_TOGETHER: usize = 2;
+
 /// A connection while it is served: its session, and what was read of a packet that is not whole yet.
 ///
 /// [`serve`](crate::serve) has a thread that waits for each read. Whoever serves several connections on one thread keeps such a value for
-/// each, and lets it [`go_on`](Serving::go_on) if there is something to read.
+/// each, and lets it [`go_on`](Serving::go_on) if there is something to read. If there is for many, all are [`read`](Serving::read) first,
+/// so that their changes go to the store together, and then [`handle`](Serving::handle)d.
 #[derive(Drop)]
 pub struct Serving<G> {
     session: Session<G>,
@@ -106,21 +110,114 @@ impl<G: Gate> Serving<G> {
             → GoesOn result from first G.most (gate_view G.stands G.mark G.pending)
             (transfer_from unread (R.remaining (inner_of reader.new)) written (W.contents (inner_of writer.new)) told (C.moments clock.new))
             self.new }
+        ensures some { result ≡ None → ReadsSome (R.remaining (inner_of reader.old)) (R.remaining (inner_of reader.new)) }
         ensures waits { result ≡ None → Waits self.new }
         ensures cause { CausesEnd result (failures_of reader.old) (failures_of reader.new) (failures_of writer.old) (failures_of writer.new) }
     {
+        match self.read_with(alloc, reader, clock, LEAST_TOGETHER) {
+            None => self.handle(rt, alloc, writer, clock),
+            Some(end) => Some(end),
+        }
+    }
+
+    /// Reads once, and plans what is whole then: its changes are announced to the gate, also if there is only one. How the connection
+    /// ended; `None` if it goes on: then some bytes were read, [`handle`](Serving::handle) follows, and nothing is read before.
+    ///
+    /// # Errors
+    ///
+    /// As [`serve`](crate::serve), but for those of the writer.
+    pub fn read<R: Read, C: Clock>(
+        &mut self,
+        alloc: Global,
+        reader: &mut Counted<R>,
+        clock: &mut C,
+    ) -> Option<Result<Served, ServeFault>>
+        requires reader_can_rise { failures_of reader.old < 2 ^ 64 - 1 }
+        requires waits { Waits self.old }
+        ensures read { (from : Point State) (first : List Operation) (unread written more : Option (List ℕ)) (told : Option (ℕ → ℕ))
+            → IsUnderway from first G.most (gate_view G.stands G.mark G.pending)
+            (transfer_from unread (R.remaining (inner_of reader.old)) written more told (C.moments clock.old)) self.old
+            → Reads result from first G.most (gate_view G.stands G.mark G.pending)
+            (transfer_from unread (R.remaining (inner_of reader.new)) written more told (C.moments clock.new)) self.new }
+        ensures some { result ≡ None → ReadsSome (R.remaining (inner_of reader.old)) (R.remaining (inner_of reader.new)) }
+        ensures waits { Waits self.new }
+        ensures cause { (failures : ℕ) → CausesEnd result (failures_of reader.old) (failures_of reader.new) failures failures }
+    {
+        self.read_with(alloc, reader, clock, 1)
+    }
+
+    /// Handles all packets that are whole, and writes and flushes all replies. How the connection ended; `None` if it goes on, and then the
+    /// next packet is not whole yet.
+    ///
+    /// # Errors
+    ///
+    /// As [`serve`](crate::serve), but for those of the reader.
+    pub fn handle<H: Wait, W: Write, C: Clock>(
+        &mut self,
+        rt: &H,
+        alloc: Global,
+        writer: &mut Counted<W>,
+        clock: &mut C,
+    ) -> Option<Result<Served, ServeFault>>
+        requires writer_can_rise { failures_of writer.old < 2 ^ 64 - 1 }
+        requires waits { Waits self.old }
+        ensures handled { (from : Point State) (first : List Operation) (unread rest written : Option (List ℕ)) (told : Option (ℕ → ℕ))
+            → IsRead from first G.most (gate_view G.stands G.mark G.pending)
+            (transfer_from unread rest written (W.contents (inner_of writer.old)) told (C.moments clock.old)) self.old
+            → GoesOn result from first G.most (gate_view G.stands G.mark G.pending)
+            (transfer_from unread rest written (W.contents (inner_of writer.new)) told (C.moments clock.new)) self.new }
+        ensures waits { result ≡ None → Waits self.new }
+        ensures cause { (failures : ℕ) → CausesEnd result failures failures (failures_of writer.old) (failures_of writer.new) }
+    {
+        handle_all(
+            rt,
+            alloc,
+            writer,
+            &mut self.session,
+            &mut self.buffered,
+            &mut self.planned,
+            &mut self.handled,
+            clock,
+        )
+    }
+
+    /// Reads once, and plans what is whole then. Changes are announced if there are `least` of them.
+    fn read_with<R: Read, C: Clock>(
+        &mut self,
+        alloc: Global,
+        reader: &mut Counted<R>,
+        clock: &mut C,
+        least: usize,
+    ) -> Option<Result<Served, ServeFault>>
+        requires reader_can_rise { failures_of reader.old < 2 ^ 64 - 1 }
+        requires waits { Waits self.old }
+        ensures read { (from : Point State) (first : List Operation) (unread written more : Option (List ℕ)) (told : Option (ℕ → ℕ))
+            → IsUnderway from first G.most (gate_view G.stands G.mark G.pending)
+            (transfer_from unread (R.remaining (inner_of reader.old)) written more told (C.moments clock.old)) self.old
+            → Reads result from first G.most (gate_view G.stands G.mark G.pending)
+            (transfer_from unread (R.remaining (inner_of reader.new)) written more told (C.moments clock.new)) self.new }
+        ensures some { result ≡ None → ReadsSome (R.remaining (inner_of reader.old)) (R.remaining (inner_of reader.new)) }
+        ensures waits { Waits self.new }
+        ensures cause { (failures : ℕ) → CausesEnd result (failures_of reader.old) (failures_of reader.new) failures failures }
+    {
         match read_more(alloc, reader, &mut self.buffered, &mut self.size) {
-            Ok(None) => handle_all(
-                rt,
-                alloc,
-                writer,
-                &mut self.session,
-                &mut self.buffered,
-                &mut self.planned,
-                &mut self.handled,
-                clock,
-            ),
-            Ok(Some(served)) => Some(Ok(served)),
+            Ok(None) => {}
+            Ok(Some(served)) => return Some(Ok(served)),
+            Err(fault) => return Some(Err(fault)),
+        }
+        // A gate that takes no changes is told none, and then nothing is decoded before it is handled.
+        if self.session.most_expected() == 0 {
+            return None;
+        }
+        match plan(
+            alloc,
+            &mut self.session,
+            &mut self.buffered,
+            &mut self.planned,
+            clock,
+            least,
+        ) {
+            Ok(()) => None,
             Err(fault) => Some(Err(fault)),
         }
     }
@@ -155,7 +252,7 @@ fn handle_all<H: Wait, W: Write, G: Gate, C: Clock>(
     ensures cause { IsWriteEnd result (failures_of writer.old) (failures_of writer.new) }
 {
     for _ in rt.forever() {
-        if let Err(fault) = plan(alloc, session, buffered, planned, clock) {
+        if let Err(fault) = plan(alloc, session, buffered, planned, clock, LEAST_TOGETHER) {
             return Some(Err(fault));
         }
         let Some(next) = planned.pop_front() else {

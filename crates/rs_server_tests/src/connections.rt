@@ -5,6 +5,7 @@ mod counted;
 mod expecting;
 mod reads;
 mod refusals;
+mod steps;
 mod streams;
 
 use rs_server::ServeFault;

@@ -1,8 +1,9 @@
 //! Changes are announced before they are handled. What a connection replies does not change by it, whatever its gate takes at once.
 
 use super::expecting::{Announced, Expecting};
+use super::steps::{WAYS, Way, serve_by};
 use rs_message::SubmitFault;
-use rs_server::{Clock, ConnectionId, Counted, Moments, ServeFault, Served, serve};
+use rs_server::{Clock, ConnectionId, Counted, Moments, ServeFault, Served};
 use rs_server_kit::{REFUSING_GATE, Refusing};
 use rs_session::{Gate, LocalGate};
 use rs_store::{MapCatalogue, TopicLimit};
@@ -123,12 +124,13 @@ fn moments(alloc: Global, sent: &Cut) -> Result<Vec<u64>, AllocError> {
     Ok(moments)
 }
 
-/// What a connection over the gate comes to, and the gate.
+/// What a connection over the gate comes to if it is served this way, and the gate.
 fn serve_over<H: Wait, G: Gate>(
     rt: &H,
     alloc: Global,
     sent: Cut,
     gate: G,
+    way: Way,
 ) -> Result<(Outcome, G), Fail>
 where
     G: Drop,
@@ -140,7 +142,16 @@ where
         place: 1,
         number: 1,
     };
-    let (served, gate, handled) = serve(rt, alloc, &mut reader, &mut writer, gate, id, &mut clock);
+    let (served, gate, handled) = serve_by(
+        rt,
+        alloc,
+        &mut reader,
+        &mut writer,
+        gate,
+        id,
+        &mut clock,
+        way,
+    );
     let outcome = Outcome {
         served,
         written: writer.into_inner(),
@@ -159,7 +170,7 @@ fn local(alloc: Global) -> Result<LocalGate<MapCatalogue>, Fail> {
 
 /// What a connection comes to over a gate that is told nothing.
 fn plain<H: Wait>(rt: &H, alloc: Global, sent: Cut) -> Result<Outcome, Fail> {
-    let (outcome, _gate) = serve_over(rt, alloc, sent, local(alloc)?)?;
+    let (outcome, _gate) = serve_over(rt, alloc, sent, local(alloc)?, Way::AtOnce)?;
     Ok(outcome)
 }
 
@@ -169,11 +180,13 @@ fn told<H: Wait>(
     alloc: Global,
     sent: Cut,
     most: usize,
+    way: Way,
 ) -> Result<(Outcome, Expecting<LocalGate<MapCatalogue>>), Fail> {
-    serve_over(rt, alloc, sent, Expecting::new(alloc, local(alloc)?, most))
+    let gate = Expecting::new(alloc, local(alloc)?, most);
+    serve_over(rt, alloc, sent, gate, way)
 }
 
-/// Whether it comes to this over such a gate, to which all that was announced came in order.
+/// Whether it comes to this over such a gate, to which all that was announced came in order, in whatever way it is served.
 fn is_met<H: Wait>(
     rt: &H,
     alloc: Global,
@@ -181,8 +194,13 @@ fn is_met<H: Wait>(
     most: usize,
     wanted: &Outcome,
 ) -> Result<bool, Fail> {
-    let (outcome, gate) = told(rt, alloc, sent, most)?;
-    Ok(is_same(&outcome, wanted) && gate.is_met && gate.next.is_empty())
+    for way in WAYS {
+        let (outcome, gate) = told(rt, alloc, sent, most, way)?;
+        if !is_same(&outcome, wanted) || !gate.is_met || !gate.next.is_empty() {
+            return Ok(false);
+        }
+    }
+    Ok(true)
 }
 
 #[test]
@@ -220,9 +238,14 @@ fn look_ahead_changes_no_end(rt: HostRuntime) -> Result<(), Fail> {
 #[test]
 fn times_stay_in_order(rt: HostRuntime) -> Result<(), Fail> {
     for most in MOSTS {
-        let (outcome, _gate) = told(&rt, rt.alloc(), cut_at(EXPIRING, 0), most)?;
-        assert!(rt; is_concat(&outcome.written, &[CONNACK, EXPIRED]), "{most}");
-        assert!(rt; outcome.handled == 7 && outcome.told == 7, "{most}");
+        for way in WAYS {
+            let (outcome, _gate) = told(&rt, rt.alloc(), cut_at(EXPIRING, 0), most, way)?;
+            assert!(rt;
+                is_concat(&outcome.written, &[CONNACK, EXPIRED]),
+                "{most} {way:?}"
+            );
+            assert!(rt; outcome.handled == 7 && outcome.told == 7, "{most} {way:?}");
+        }
     }
     Ok(())
 }
@@ -263,8 +286,11 @@ fn two_runs(alloc: Global, first: usize, second: usize) -> Result<Vec<u8>, Alloc
 }
 
 /// How many changes a gate takes at once; how many publications come before a PINGREQ and behind it; how many bytes the first read gives,
-/// where 0 stands for all; and what is announced. One change alone is not.
-const ANNOUNCED: &[(usize, usize, usize, usize, &[Announced])] = &[
+/// where 0 stands for all; and what is announced.
+type Announcing = (usize, usize, usize, usize, &'static [Announced]);
+
+/// One change alone is not announced.
+const ANNOUNCED: &[Announcing] = &[
     (0, 9, 9, 0, &[]),
     (1, 9, 9, 0, &[]),
     (2, 4, 3, 0, &[(0, 2), (2, 2), (4, 2)]),
@@ -284,15 +310,51 @@ const ANNOUNCED: &[(usize, usize, usize, usize, &[Announced])] = &[
     ),
 ];
 
+/// In steps one alone is, if it is the first that was read. CONNECT has 16 bytes, and each publication 7.
+const ANNOUNCED_IN_STEPS: &[Announcing] = &[
+    (0, 9, 9, 16, &[]),
+    (1, 2, 1, 16, &[(0, 1)]),
+    (2, 1, 1, 16, &[(0, 1)]),
+    (64, 1, 0, 16, &[(0, 1)]),
+    (64, 1, 1, 0, &[]),
+    (64, 1, 1, 16, &[(0, 1)]),
+    (64, 0, 1, 16 + 2, &[(0, 1)]),
+    (64, 2, 0, 16 + 7, &[(1, 1)]),
+    (64, 3, 2, 16, &[(0, 3), (3, 2)]),
+    (64, 40, 0, 16, &[(0, 32), (32, 8)]),
+];
+
+fn announces<H: Wait>(
+    rt: &H,
+    alloc: Global,
+    announcing: &Announcing,
+    way: Way,
+) -> Result<bool, Fail> {
+    let (most, first, second, at, wanted) = announcing;
+    let bytes = two_runs(alloc, *first, *second)?;
+    let (_, gate) = told(rt, alloc, cut_at(&bytes, *at), *most, way)?;
+    Ok(gate.is_met && gate.announced.as_slice() == *wanted)
+}
+
 #[test]
 fn half_is_announced_and_then_the_next_half(rt: HostRuntime) -> Result<(), Fail> {
-    for (most, first, second, at, wanted) in ANNOUNCED {
-        let bytes = two_runs(rt.alloc(), *first, *second)?;
-        let (_, gate) = told(&rt, rt.alloc(), cut_at(&bytes, *at), *most)?;
-        assert!(rt; gate.is_met);
+    for announcing in ANNOUNCED {
+        let (most, first, second, at, _) = announcing;
         assert!(rt;
-            gate.announced.as_slice() == *wanted,
-            "{most} {first} {second}"
+            announces(&rt, rt.alloc(), announcing, Way::AtOnce)?,
+            "{most} {first} {second} {at}"
+        );
+    }
+    Ok(())
+}
+
+#[test]
+fn one_change_is_announced_when_it_is_read(rt: HostRuntime) -> Result<(), Fail> {
+    for announcing in ANNOUNCED_IN_STEPS {
+        let (most, first, second, at, _) = announcing;
+        assert!(rt;
+            announces(&rt, rt.alloc(), announcing, Way::InSteps)?,
+            "{most} {first} {second} {at}"
         );
     }
     Ok(())
@@ -306,16 +368,19 @@ const LEFT: [(usize, u64, usize); 5] = [(0, 2, 0), (1, 2, 0), (2, 3, 1), (5, 6, 
 fn no_more_is_decoded_than_a_gate_takes(rt: HostRuntime) -> Result<(), Fail> {
     let bytes = two_runs(rt.alloc(), 100, 0)?;
     for (most, decoded, left) in LEFT {
-        let refusing = Refusing {
-            fault: SubmitFault::Closed,
-            ..REFUSING_GATE
-        };
-        let gate = Expecting::new(rt.alloc(), refusing, most);
-        let (outcome, gate) = serve_over(&rt, rt.alloc(), cut_at(&bytes, 0), gate)?;
-        assert!(rt; outcome.served == Ok(Served::ServerClosed(0x83)));
-        assert!(rt; outcome.handled == 2, "{most}");
-        assert!(rt; outcome.told == decoded, "{most}");
-        assert!(rt; gate.next.len() == left, "{most}");
+        for way in WAYS {
+            let refusing = Refusing {
+                fault: SubmitFault::Closed,
+                ..REFUSING_GATE
+            };
+            let gate = Expecting::new(rt.alloc(), refusing, most);
+            let sent = cut_at(&bytes, CONNECT.len());
+            let (outcome, gate) = serve_over(&rt, rt.alloc(), sent, gate, way)?;
+            assert!(rt; outcome.served == Ok(Served::ServerClosed(0x83)));
+            assert!(rt; outcome.handled == 2, "{most} {way:?}");
+            assert!(rt; outcome.told == decoded, "{most} {way:?}");
+            assert!(rt; gate.next.len() == left, "{most} {way:?}");
+        }
     }
     Ok(())
 }

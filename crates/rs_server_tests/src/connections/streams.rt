@@ -1,6 +1,7 @@
 //! Clients that send and take bytes slowly, or fail.
 
-use rs_server::{ConnectionId, Counted, Moments, ServeFault, Served, serve};
+use super::steps::{WAYS, Way, serve_by};
+use rs_server::{ConnectionId, Counted, Moments, ServeFault, Served};
 use rs_server_kit::REFUSING_GATE;
 use rs_test_kit::{Behavior, CONNACK, Call, FaultyStream, cut_off, is_concat, limits};
 use std::alloc::{AllocError, Global};
@@ -87,7 +88,23 @@ fn is_written(narrow: &Narrow, wanted: &Outcome) -> bool {
     is_flushed && is_concat(&narrow.bytes, &wanted.output)
 }
 
+/// Whether this is answered, in whatever way the connection is served.
 fn is_served<H: Wait>(rt: &H, alloc: Global, script: &Script, wanted: &Outcome) -> bool {
+    for way in WAYS {
+        if !is_served_by(rt, alloc, script, wanted, way) {
+            return false;
+        }
+    }
+    true
+}
+
+fn is_served_by<H: Wait>(
+    rt: &H,
+    alloc: Global,
+    script: &Script,
+    wanted: &Outcome,
+    way: Way,
+) -> bool {
     let mut reader = Counted::new(FaultyStream {
         inner: script.input,
         behavior: Behavior {
@@ -104,7 +121,7 @@ fn is_served<H: Wait>(rt: &H, alloc: Global, script: &Script, wanted: &Outcome) 
     });
     let mut clock = Moments::new(0, Vec::new(alloc));
     let id = script.id;
-    let (served, _gate, _handled) = serve(
+    let (served, _gate, _handled) = serve_by(
         rt,
         alloc,
         &mut reader,
@@ -112,6 +129,7 @@ fn is_served<H: Wait>(rt: &H, alloc: Global, script: &Script, wanted: &Outcome) 
         REFUSING_GATE,
         id,
         &mut clock,
+        way,
     );
     let failures = (reader.failures(), writer.failures());
     let is_ended = served == wanted.served && failures == wanted.failures;
