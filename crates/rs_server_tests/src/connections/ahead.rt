@@ -186,7 +186,20 @@ fn told<H: Wait>(
     serve_over(rt, alloc, sent, gate, way)
 }
 
-/// Whether it comes to this over such a gate, to which all that was announced came in order, in whatever way it is served.
+/// Whether it comes to this over such a gate, to which all that was announced came in order.
+fn is_met_by<H: Wait>(
+    rt: &H,
+    alloc: Global,
+    sent: Cut,
+    most: usize,
+    wanted: &Outcome,
+    way: Way,
+) -> Result<bool, Fail> {
+    let (outcome, gate) = told(rt, alloc, sent, most, way)?;
+    Ok(is_same(&outcome, wanted) && gate.is_met && gate.next.is_empty())
+}
+
+/// The same in whatever way it is served.
 fn is_met<H: Wait>(
     rt: &H,
     alloc: Global,
@@ -195,8 +208,7 @@ fn is_met<H: Wait>(
     wanted: &Outcome,
 ) -> Result<bool, Fail> {
     for way in WAYS {
-        let (outcome, gate) = told(rt, alloc, sent, most, way)?;
-        if !is_same(&outcome, wanted) || !gate.is_met || !gate.next.is_empty() {
+        if !is_met_by(rt, alloc, sent, most, wanted, way)? {
             return Ok(false);
         }
     }
@@ -259,10 +271,14 @@ fn bursts_are_answered_alike(rt: HostRuntime) -> Result<(), Fail> {
         assert!(rt; wanted.served == Ok(Served::EndOfInput));
         for most in MOSTS {
             assert!(rt;
-                is_met(&rt, rt.alloc(), sent, most, &wanted)?,
+                is_met_by(&rt, rt.alloc(), sent, most, &wanted, Way::AtOnce)?,
                 "{most} at {at}"
             );
         }
+        assert!(rt;
+            is_met_by(&rt, rt.alloc(), sent, 64, &wanted, Way::InSteps)?,
+            "{at}"
+        );
     }
     Ok(())
 }
