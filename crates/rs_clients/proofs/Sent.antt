@@ -4,6 +4,7 @@ use denote.Builtin.{u8, u64}
 use denote.RattleType.{RattleType}
 use denote.Param.Send.{IsSend, IsSync, recorded_send, recorded_sync, sendable, struct_send, struct_sync, view_send, view_sync}
 use denote.Struct.Declared.{shape}
+use Rattle.core.proofs.option.Option.TheSendSync as option
 use Rattle.core.proofs.sync.Sent.{Mutex-send, Mutex-sync}
 use Rattle.rs_intake.specs.declared.name.LineName as LineName
 use Rattle.rs_message.proofs.entry.Operation.TheSendSync as operation
@@ -14,9 +15,11 @@ use Rattle.rs_version.specs.contracts.seat.Seat as Seat
 use Rattle.rs_version.specs.declared.history.StoreName as StoreName
 use Rattle.std.proofs.Crossing.{Arc-send, Deque-send, Vec-send, Vec-sync}
 use Rattle.std.proofs.alloc.Global.TheSendSync as heap
+use Rattle.rs_clients.proofs.announced.Announced.TheSendSync as announced
 use Rattle.rs_clients.proofs.outcome.Outcome.TheSendSync as outcome
 use Rattle.rs_clients.proofs.client_gate.Reached.TheSendSync as reached
 use Rattle.rs_clients.proofs.shared_line.SharedLine.TheSendSync as shared_line
+use Rattle.rs_clients.specs.contracts.announced.Announced as Announced
 use Rattle.rs_clients.specs.contracts.outcome.Outcome as Outcome
 use Rattle.rs_clients.specs.contracts.client_gate.ClientGate as ClientGate
 use Rattle.rs_clients.specs.contracts.client_gate.ClientGate.TheInside as InClientGate
@@ -40,14 +43,26 @@ module _ (N : RattleType) (g : LineName.Ghosts N.Denot) (h : StoreName.Ghosts N.
   place_send = view_send (InPlace.the_row N g h) _ _ _ _
       (recorded_send (InPlace.the_field N g h).row _ _ (InPlace.the_type N g h).to_one (struct_send (shape (InPlace.the_type N g h)) (
         u8_send,
-        (told.the_send N h, (Mutex-send (SharedLine.the_row N g h) (shared_line.the_send N g h), (Mutex-send (Seat.the_row N h) (seat_send N h), tt))),
+        (
+          told.the_send N h,
+          (
+            Mutex-send (SharedLine.the_row N g h) (shared_line.the_send N g h),
+            (Mutex-send (Announced.the_row N g h) (announced.the_send N g h), (Mutex-send (Seat.the_row N h) (seat_send N h), tt)),
+          ),
+        ),
       )))
 
   place_sync : IsSync (SharedPlace.the_row N g h)
   place_sync = view_sync (InPlace.the_row N g h) _ _ _ _
       (recorded_sync (InPlace.the_field N g h).row _ _ (InPlace.the_type N g h).to_one (struct_sync (shape (InPlace.the_type N g h)) (
         u8_sync,
-        (told.the_sync N h, (Mutex-sync (SharedLine.the_row N g h) (shared_line.the_send N g h), (Mutex-sync (Seat.the_row N h) (seat_send N h), tt))),
+        (
+          told.the_sync N h,
+          (
+            Mutex-sync (SharedLine.the_row N g h) (shared_line.the_send N g h),
+            (Mutex-sync (Announced.the_row N g h) (announced.the_send N g h), (Mutex-sync (Seat.the_row N h) (seat_send N h), tt)),
+          ),
+        ),
       )))
 
   pub places_send : IsSend (SharedPlaces.the_row N g h)
@@ -71,7 +86,10 @@ module _ (N : RattleType) (g : LineName.Ghosts N.Denot) (h : StoreName.Ghosts N.
                 u64_send,
                 (
                   reached.the_send N g h,
-                  (Vec-send Operation.the_row operation.the_send, (Deque-send (Outcome.the_row N g h) (outcome.the_send N g h), tt)),
+                  (
+                    Vec-send Operation.the_row operation.the_send,
+                    (option.the_field_send u64 u64_send, (Deque-send (Outcome.the_row N g h) (outcome.the_send N g h), tt)),
+                  ),
                 ),
               ),
             ),

@@ -1,2 +1,3 @@
+pub mod Batches
 pub mod Clients
 pub mod Fleet

@@ -8,7 +8,7 @@ ghost use Rattle.rs_clients.specs.Clients.{client_mark};
 ghost use Rattle.rs_session.specs.Gate.{Extends, Submits, Uses};
 ghost use Rattle.rs_store.specs.History.{IsLegal};
 
-use crate::burst::hand_over;
+use crate::announced::{announce, forget, hand_next};
 use crate::outcome::Outcome;
 use crate::shared_places::SharedPlaces;
 use rs_intake::LineName;
@@ -155,6 +155,8 @@ pub struct ClientGate<N: LineName, R: Wait + Copy> {
     index: usize,
     reached: Reached<N>,
     expected: Vec<Operation>,
+    // That of the only change that is expected, if other clients of the place may hand it over with theirs.
+    ticket: Option<u64>,
     // What became of changes that were handed over and are not submitted yet.
     outcomes: VecDeque<Outcome<N>>,
 }
@@ -194,6 +196,7 @@ impl<N: LineName, R: Wait + Copy> ClientGate<N, R> {
             index,
             reached: Reached::new(place, told),
             expected: Vec::new(alloc),
+            ticket: None,
             outcomes: VecDeque::new(alloc),
         })
     }
@@ -234,12 +237,22 @@ impl<N: LineName, R: Wait + Copy> ClientGate<N, R> {
         Ok(version)
     }
 
-    /// Nothing is expected any more. The outcomes of what was handed over and not submitted are dropped. It waits for nobody.
+    /// Gives the ticket back, if it has one. So no other client hands over what was expected.
+    fn forget(&mut self)
+        ensures { self.new ≡ self.old }
+    {
+        let ticket = self.ticket.take();
+        forget(&self.rt, self.places.place(self.index).announced(), ticket);
+    }
+
+    /// Nothing is expected any more, and what was is not handed over later. The outcomes of what was handed over and not submitted are
+    /// dropped. It does not wait for the writer.
     pub fn hand_on(&mut self)
         ensures known { self.new.known ≡ self.old.known }
         ensures mark { self.new.mark ≡ self.old.mark }
         ensures pending { self.new.pending ≡ [] }
     {
+        self.forget();
         self.expected = Vec::new(self.alloc);
         self.outcomes = VecDeque::new(self.alloc);
     }
@@ -262,9 +275,16 @@ impl<N: LineName, R: Wait + Copy> Gate for ClientGate<N, R> {
         MAX_CHANGES
     }
 
-    /// Nothing is handed over before the first of the changes is submitted. Then all are.
+    /// Nothing is handed over before the first of the changes is submitted. Then all are. A single change may be handed over before, by
+    /// another client of the place, with one of its own.
     fn expect(&mut self, changes: Vec<Operation>) {
+        self.forget();
         if self.outcomes.is_empty() {
+            self.ticket = announce(
+                &self.rt,
+                self.places.place(self.index).announced(),
+                &changes,
+            );
             self.expected = changes;
         }
     }
@@ -276,11 +296,15 @@ impl<N: LineName, R: Wait + Copy> Gate for ClientGate<N, R> {
 
     /// Hands the change over at the place, with all that is expected if it is the first of that, and waits for the replies to all; or
     /// takes the outcome, if it was handed over before. Of another change than the next one nothing is done, and the fault is `Strange`.
+    /// If it is the only one that is expected, it goes together with such changes of other clients of the place.
     fn submit(&mut self, operation: Operation) -> Result<(), SubmitFault> {
         let expected = mem::replace(&mut self.expected, Vec::new(self.alloc));
         let outcomes = mem::replace(&mut self.outcomes, VecDeque::new(self.alloc));
-        let line = self.places.line(self.index);
-        let (outcome, left) = hand_over(&self.rt, self.alloc, line, expected, outcomes, operation);
+        let ticket = self.ticket.take();
+        let place = self.places.place(self.index);
+        let (outcome, left) = hand_next(
+            &self.rt, self.alloc, place, ticket, expected, outcomes, operation,
+        );
         self.outcomes = left;
         match outcome {
             Ok(outcome) => self.reached.accept(outcome),

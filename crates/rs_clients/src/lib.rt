@@ -5,6 +5,7 @@
 //! those of `rs_places` say, but for which client of a place sent what.
 #![tactic(auto)]
 
+mod announced;
 mod burst;
 mod client_gate;
 mod clients;

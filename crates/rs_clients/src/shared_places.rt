@@ -8,6 +8,7 @@ ghost use Rattle.rs_intake.specs.Lines.{IsClosed};
 ghost use Rattle.rs_clients.specs.Clients.{new_client, new_clients};
 ghost use Rattle.rs_store.specs.History.{IsLegal};
 
+use crate::announced::Announced;
 use crate::shared_line::SharedLine;
 use rs_intake::{Intake, LineEnd, LineName, SeatLine};
 use rs_version::{Seat, Told, Version};
@@ -16,13 +17,15 @@ use std::marker::Model;
 use std::sync::{Arc, Mutex, Wait};
 
 /// A place that several clients share. Its line lies behind one lock and its seat behind another, so a client that waits for the writer
-/// holds up no answer. Contracts see it as the gate of a new client.
+/// holds up no answer. What its clients have announced lies behind a third, which nobody has while it waits: who has it and the line took
+/// the line first. Contracts see the place as the gate of a new client.
 #[derive(Drop)]
 pub struct SharedPlace<N: LineName> {
     place: u8,
     // What a new client knows.
     told: Told<N>,
     line: Mutex<SharedLine<N>>,
+    announced: Mutex<Announced<N>>,
     seat: Mutex<Seat<N>>,
 }
 
@@ -83,6 +86,7 @@ fn read_by_any<N: LineName>(
 impl<N: LineName> SharedPlace<N> {
     fn new<R: Wait>(
         rt: &R,
+        alloc: Global,
         intake: Arc<Intake<N>>,
         seat: Seat<N>,
         line: SeatLine<N>,
@@ -93,8 +97,19 @@ impl<N: LineName> SharedPlace<N> {
             place: line.place(),
             told: seat.told(),
             line: Mutex::new(SharedLine::new(rt, intake, line)),
+            announced: Mutex::new(Announced::new(alloc)),
             seat: Mutex::new(seat),
         }
+    }
+
+    /// Its line.
+    pub(crate) fn line(&self) -> &Mutex<SharedLine<N>> {
+        &self.line
+    }
+
+    /// What its clients have announced.
+    pub(crate) fn announced(&self) -> &Mutex<Announced<N>> {
+        &self.announced
     }
 }
 
@@ -118,7 +133,7 @@ impl<N: LineName> SharedPlaces<N> {
         let mut places = Vec::new(alloc);
         for (seat, line) in seats.into_iter().zip(lines) {
             let intake = Arc::try_clone(&intake)?;
-            let Ok(()) = places.push(SharedPlace::new(rt, intake, seat, line)) else {
+            let Ok(()) = places.push(SharedPlace::new(rt, alloc, intake, seat, line)) else {
                 return Err(AllocError);
             };
         }
@@ -140,11 +155,11 @@ impl<N: LineName> SharedPlaces<N> {
         Some((place.place, place.told.again()))
     }
 
-    /// The line of this place.
-    pub(crate) fn line(&self, index: usize) -> &Mutex<SharedLine<N>>
+    /// This place.
+    pub(crate) fn place(&self, index: usize) -> &SharedPlace<N>
         requires { index < length self.now }
     {
-        &self.places[index].line
+        &self.places[index]
     }
 
     /// The version that is published, which has all entries of the token's list: by the seat of this place, or by the first of the others
@@ -183,6 +198,7 @@ impl<N: LineName> SharedPlaces<N> {
                 place: _,
                 told: _told,
                 line,
+                announced: _announced,
                 seat: _seat,
             } = place;
             ends.push_reserved(line.into_inner().close(rt));
