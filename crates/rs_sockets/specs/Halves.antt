@@ -1,5 +1,6 @@
 -- What the halves of a connection show.
 use Rattle.std.specs.Prelude.{◌≡◌, ◌+◌, ◌-◌, ◌^◌, min, ℕ, true, List, Option, Result, MatchResult}
+use Rattle.std.specs.declared.io.Error.{Error}
 use Rattle.crossbeam_queue.specs.Passes.{view}
 use Rattle.rs_sockets.specs.declared.halves.ReadHalf.{ReadHalf}
 use Rattle.rs_sockets.specs.declared.halves.WriteHalf.{WriteHalf}
@@ -15,6 +16,10 @@ written_of half = (view half.pass).known
 -- When the half last gave the shared writer back, nothing waited there.
 abbrev pub LeftNoneWaiting : {R W : Type 0} → ReadHalf R W → Type 0
 LeftNoneWaiting half = (view half.pass).written_out ≡ true
+
+-- why the half failed to write out, if no read has told it yet
+abbrev pub fault_of : {R W : Type 0} → ReadHalf R W → Option Error
+fault_of half = half.fault
 
 -- what was read or written is counted, up to the greatest number
 abbrev pub Counts : {E : Type 0} → ℕ → Result ℕ E → ℕ → Type 0

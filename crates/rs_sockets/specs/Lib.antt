@@ -4,3 +4,5 @@ pub mod Sharing
 pub mod Halves
 pub mod Patience
 pub mod Polling
+pub mod Descriptors
+pub mod Epoll

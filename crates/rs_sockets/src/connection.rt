@@ -9,6 +9,7 @@ use std::alloc::Global;
 use std::io;
 use std::io::{Read, Write};
 use std::net::{OpenStream, TcpStream};
+use std::os::fd::{AsRawFd, RawFd};
 use std::sync::Arc;
 use std::time::{Clock, Duration};
 
@@ -40,6 +41,20 @@ pub fn open(
     }
     let (reader, writer) = SharedStream::pair(alloc, stream)?;
     split(alloc, Polling::new(reader, pollers), writer)
+}
+
+/// The descriptor of a connection. There is something to read if its client has sent bytes or their end, or if a read fails.
+pub fn descriptor(input: &FromClient) -> RawFd {
+    input.inner.inner().as_raw_fd()
+}
+
+/// From now on a read of this connection fails for which no byte comes for so long, whatever [`open`] was told.
+///
+/// # Errors
+///
+/// If `time` is zero.
+pub fn limit_reads(input: &FromClient, time: Duration) -> io::Result<()> {
+    input.inner.inner().set_read_timeout(Some(time))
 }
 
 /// Ends a connection: writes out what was gathered, tells the client that no more comes, reads and discards

@@ -22,7 +22,8 @@ pub struct WriteHalf<W: Write + Drop> {
     ghost writes: { (view pass).writes ≡ true },
 }
 
-/// Reads, and before each read writes out what waits in the shared writer.
+/// Reads, and before each read writes out what waits in the shared writer. It also does so when it is asked to
+/// ([`write_out`](ReadHalf::write_out)).
 ///
 /// What remains are the bytes of the inner reader.
 #[derive(Drop)]
@@ -32,6 +33,8 @@ pub struct ReadHalf<R, W: Write + Drop> {
     pub(crate) pass: HalfPass<W>,
     pub(crate) count: u64,
     pub(crate) unwritten: bool,
+    // Why the writer failed, until a read tells it.
+    pub(crate) fault: Option<io::Error>,
     ghost of_cell: { IsPassOf (arc_value shared) pass },
     ghost reads: { (view pass).writes ≡ false },
 }
@@ -84,8 +87,8 @@ impl<W: Write + Drop> WriteHalf<W> {
 }
 
 impl<R, W: Write + Drop> ReadHalf<R, W> {
-    ghost use Rattle.std.specs.Prelude.{OnOk};
-    ghost use Rattle.rs_sockets.specs.Halves.{LeftNoneWaiting};
+    ghost use Rattle.std.specs.Prelude.{Some, IfErr, OnOk};
+    ghost use Rattle.rs_sockets.specs.Halves.{LeftNoneWaiting, fault_of};
 
     /// How many bytes were read.
     pub fn count(&self) -> u64
@@ -101,8 +104,22 @@ impl<R, W: Write + Drop> ReadHalf<R, W> {
         self.unwritten
     }
 
-    /// Writes out what waits.
-    fn write_out(&mut self) -> io::Result<()>
+    /// Writes out what waits. After an error, what was not written still waits, and the next read fails with the same error, at once.
+    pub fn write_out(&mut self) -> io::Result<()>
+        ensures inner { self.new.inner ≡ self.old.inner }
+        ensures count { self.new.count ≡ self.old.count }
+        ensures none_waits { OnOk result (LeftNoneWaiting self.new) }
+        ensures fault { IfErr result (λ error. fault_of self.new ≡ Some error) }
+    {
+        let written = self.send();
+        if let Err(error) = written {
+            self.fault = Some(error);
+        }
+        written
+    }
+
+    /// Writes out what waits. After an error, what was not written still waits.
+    fn send(&mut self) -> io::Result<()>
         ensures inner { self.new.inner ≡ self.old.inner }
         ensures count { self.new.count ≡ self.old.count }
         ensures none_waits { OnOk result (LeftNoneWaiting self.new) }
@@ -131,8 +148,8 @@ impl<R, W: Write + Drop> ReadHalf<R, W> {
 impl<R: Read, W: Write + Drop> Read for ReadHalf<R, W> {
     ghost use Rattle.std.specs.Io.{ReadsAtMost};
     ghost use Rattle.std.specs.Io.KnownBytes.{ReadConsumes};
-    ghost use Rattle.std.specs.Prelude.{IsErr, MatchBool, OnOk};
-    ghost use Rattle.rs_sockets.specs.Halves.{Counts, unread_of, LeftNoneWaiting};
+    ghost use Rattle.std.specs.Prelude.{true, Err, IfSome, IsErr, MatchBool, OnOk};
+    ghost use Rattle.rs_sockets.specs.Halves.{Counts, unread_of, LeftNoneWaiting, fault_of};
 
     ghost remaining = { unread_of R.remaining };
 
@@ -142,8 +159,13 @@ impl<R: Read, W: Write + Drop> Read for ReadHalf<R, W> {
         ensures none_waits { OnOk result (LeftNoneWaiting self.new) }
         ensures counted { Counts self.old.count result self.new.count }
         ensures unwritten { MatchBool self.new.unwritten (IsErr result × (self.new.inner ≡ self.old.inner)) (LeftNoneWaiting self.new) }
+        ensures fault { IfSome (fault_of self.old) (λ error. (result ≡ Err error) × (self.new.unwritten ≡ true)) }
     {
-        let written = self.write_out();
+        if let Some(error) = self.fault.take() {
+            self.unwritten = true;
+            return Err(error);
+        }
+        let written = self.send();
         self.unwritten = written.is_err();
         written?;
         let size = self.inner.read(buf)?;

@@ -9,6 +9,8 @@
 //! If the client may soon answer that, the read polls the socket for some microseconds before it blocks ([`Polling`], [`ReadPatience`]).
 //! A connection may have a limit for how long it is idle; at one that failed, [`abandon`] waits for nothing.
 //!
+//! A few threads can watch many connections by an [`Epoll`], which tells them which have something to read. A [`StopSignal`] ends that.
+//!
 //! The two halves are [`ReadHalf`] and [`WriteHalf`], over any reader and any writer, whose contracts say which bytes
 //! they give and take: [`split`] begins with those of the reader and of the writer, and a writer that
 //! [`finish`] gives back holds all that was written, in order. So a server whose contract is over any reader
@@ -21,6 +23,7 @@ mod clock;
 mod closing;
 mod connection;
 mod descriptors;
+mod epoll;
 mod gathered;
 mod halves;
 mod limits;
@@ -32,8 +35,9 @@ mod splitting;
 mod stream;
 
 pub use clock::SystemClock;
-pub use connection::{FromClient, ToClient, abandon, close, open};
+pub use connection::{FromClient, ToClient, abandon, close, descriptor, limit_reads, open};
 pub use descriptors::descriptor_limit;
+pub use epoll::{Epoll, MAX_TOLD, StopSignal};
 pub use gathered::Gathered;
 pub use halves::{ReadHalf, WriteHalf};
 pub use limits::{

@@ -9,7 +9,7 @@ use crate::polling::Pollers;
 use libc::net::listen;
 use std::alloc::{AllocError, Global};
 use std::net::{Net, SocketAddr, TcpListener, TcpStream};
-use std::os::fd::AsRawFd;
+use std::os::fd::{AsRawFd, RawFd};
 use std::sync::Arc;
 use std::sync::atomic::{AtomicU64, Ordering};
 use std::thread::Threads;
@@ -70,6 +70,11 @@ impl Listener {
         Ok(format!(in alloc; "{address}")?)
     }
 
+    /// Whether all connections were accepted, or the last one is being accepted: no further [`accept`](Listener::accept) gives one.
+    pub fn is_finished(&self) -> bool {
+        self.left.load(Ordering::SeqCst) == 0
+    }
+
     /// Waits for the next client. None if all connections were accepted.
     ///
     /// An accept that fails, or for which memory or a descriptor is refused, counts as one of the connections. If it was not the
@@ -108,6 +113,13 @@ impl Listener {
             output,
             peer,
         })
+    }
+}
+
+/// The descriptor of the socket that listens. There is something to read if a client waits to be accepted.
+impl AsRawFd for Listener {
+    fn as_raw_fd(&self) -> RawFd {
+        self.socket.as_raw_fd()
     }
 }
 

@@ -76,6 +76,13 @@ impl<R> Polling<R> {
             patience: ReadPatience::new(),
         }
     }
+
+    /// The reader behind.
+    pub fn inner(&self) -> &R
+        ensures { result.now ≡ inner_of self.now }
+    {
+        &self.inner
+    }
 }
 
 impl<R: Pollable> Polling<R> {

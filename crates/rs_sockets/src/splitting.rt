@@ -37,6 +37,7 @@ pub fn split<R: Read + Drop, W: Write + Drop>(
                 pass: reading,
                 count: 0,
                 unwritten: false,
+                fault: None,
             },
             WriteHalf {
                 shared,
@@ -66,6 +67,7 @@ pub fn finish<R: Read + Drop, W: Write + Drop>(
         pass: _,
         count: _,
         unwritten: _,
+        fault: _,
     } = read;
     let WriteHalf {
         shared,
@@ -91,6 +93,7 @@ pub(crate) fn give_up<R: Read + Drop, W: Write + Drop>(
         pass: _,
         count: _,
         unwritten: _,
+        fault: _,
     } = read;
     let WriteHalf {
         shared,

@@ -7,7 +7,7 @@ use std::alloc::{AllocError, Global};
 use std::io;
 use std::io::{Read, Write};
 use std::net::{OpenStream, Shutdown, TcpStream};
-use std::os::fd::AsRawFd;
+use std::os::fd::{AsRawFd, RawFd};
 use std::sync::Arc;
 use std::sync::atomic::{AtomicBool, Ordering};
 use std::time::Duration;
@@ -41,6 +41,12 @@ impl SharedStream {
     }
 }
 
+impl AsRawFd for SharedStream {
+    fn as_raw_fd(&self) -> RawFd {
+        self.shared.stream.as_raw_fd()
+    }
+}
+
 impl Read for SharedStream {
     fn read(&mut self, buf: &mut [u8]) -> io::Result<usize> {
         let mut stream: &TcpStream = &self.shared.stream;
@@ -52,7 +58,7 @@ impl Pollable for SharedStream {
     /// A poll, and not a read that does not block: that would need `unsafe`, and take an error away from the read that follows.
     fn is_ready(&self) -> bool {
         let mut asked = [pollfd {
-            fd: self.shared.stream.as_raw_fd(),
+            fd: self.as_raw_fd(),
             events: POLLIN,
             revents: 0,
         }];

@@ -1,7 +1,7 @@
 use Rattle.std.proofs.Common.{ap, inr}
 use Rattle.rs_sockets.specs.Gathered.{waiting_of}
 use Rattle.rs_sockets.proofs.Sharings.{takes, gives_back, gives_back_written_out}
-use Rattle.rs_sockets.proofs.halves.ReadHalf.write_out.Goals as goal
+use Rattle.rs_sockets.proofs.halves.ReadHalf.send.Goals as goal
 
 pub try_pop_as-requires-clause-rule : goal.try_pop_as-requires-clause-rule
 try_pop_as-requires-clause-rule g c = takes _ _ _
