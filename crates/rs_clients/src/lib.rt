@@ -14,9 +14,11 @@ mod outcome;
 mod shared_line;
 mod shared_places;
 mod store;
+mod watch;
 
 pub use client_gate::ClientGate;
 pub use clients::{serve_client, serve_client_turns};
 pub use fleet::{FleetEnd, first_number, run_clients};
 pub use shared_places::SharedPlaces;
 pub use store::run_fleet;
+pub use watch::Watch;
