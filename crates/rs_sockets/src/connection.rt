@@ -48,15 +48,6 @@ pub fn descriptor(input: &FromClient) -> RawFd {
     input.inner.inner().as_raw_fd()
 }
 
-/// From now on a read of this connection fails for which no byte comes for so long, whatever [`open`] was told.
-///
-/// # Errors
-///
-/// If `time` is zero.
-pub fn limit_reads(input: &FromClient, time: Duration) -> io::Result<()> {
-    input.inner.inner().set_read_timeout(Some(time))
-}
-
 /// Ends a connection: writes out what was gathered, tells the client that no more comes, reads and discards
 /// what it still sends, at most [`MAX_DISCARDED`](crate::MAX_DISCARDED) bytes and for about a second, and
 /// closes.

@@ -27,9 +27,13 @@ enum Step {
     Fails,
     /// A read fails by itself.
     Breaks,
+    /// What waits is written out.
+    Out,
+    /// That fails.
+    OutFails,
 }
 
-use Step::{Breaks, Fails, Reads, Replies, Writes};
+use Step::{Breaks, Fails, Out, OutFails, Reads, Replies, Writes};
 
 #[derive(Clone, Copy)]
 struct Script {
@@ -96,6 +100,11 @@ fn goes(input: &mut Input, output: &mut Output, notes: &Notes, step: Step) -> bo
         Reads(writes) => read(input) == (Ok([writes, writes, writes, 3]), 3, false),
         Fails => read(input) == (Err(ErrorKind::BrokenPipe), 0, true),
         Breaks => read(input) == (Err(ErrorKind::WouldBlock), 0, false),
+        Out => input.write_out().is_ok(),
+        OutFails => match input.write_out() {
+            Ok(()) => false,
+            Err(error) => error.kind() == ErrorKind::BrokenPipe,
+        },
     }
 }
 
@@ -201,7 +210,7 @@ const FAILED: Outcome = Outcome {
 /// and how many replies.
 type Row = (&'static [Step], u64, usize, u64, u64, u64);
 
-const ROWS: [Row; 4] = [
+const ROWS: [Row; 8] = [
     // What there is room for is kept, and the next reply finds none.
     (
         &[
@@ -248,6 +257,51 @@ const ROWS: [Row; 4] = [
         4,
     ),
     (&[Replies(12), Fails, Writes(5), Reads(9)], 1, 3, 5, 9, 12),
+    // What is written out when it is asked to be is not written again.
+    (
+        &[
+            Replies(3),
+            Out,
+            Writes(1),
+            Reads(1),
+            Out,
+            Replies(2),
+            Out,
+            Out,
+        ],
+        1,
+        usize::MAX,
+        0,
+        2,
+        5,
+    ),
+    (&[Replies(12), Out, Writes(8), Reads(8)], 1, 3, 0, 8, 12),
+    // If that fails, the next read fails and does not write.
+    (
+        &[Replies(12), OutFails, Writes(5), Fails, Writes(5), Reads(9)],
+        1,
+        3,
+        5,
+        9,
+        12,
+    ),
+    (
+        &[
+            Replies(3),
+            OutFails,
+            Replies(1),
+            Out,
+            Writes(2),
+            Fails,
+            Writes(2),
+            Reads(2),
+        ],
+        1,
+        usize::MAX,
+        1,
+        2,
+        4,
+    ),
 ];
 
 #[test]

@@ -1,5 +1,6 @@
-//! Tests of the halves of a connection, of the listener and of the clock by their public calls. They stand in a crate of their own, so
-//! that `rs_sockets` is not proved a second time with them. What clients see over TCP, `checks/listening` and `checks/operating` show.
+//! Tests of the halves of a connection, of the listener, of what tells of them and of the clock by their public calls. They stand in a crate of
+//! their own, so that `rs_sockets` is not proved a second time with them. What clients see over TCP, `checks/listening` and `checks/operating`
+//! show.
 #![tactic(auto)]
 
 #[cfg(test)]
@@ -16,5 +17,7 @@ mod listening;
 mod peer;
 #[cfg(test)]
 mod polling;
+#[cfg(test)]
+mod telling;
 #[cfg(test)]
 mod watched;
