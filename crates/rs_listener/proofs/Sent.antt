@@ -7,6 +7,7 @@ use Rattle.rs_intake.proofs.fullness.Fullness.TheSendSync as fullness
 use Rattle.rs_intake.specs.contracts.fullness.Fullness as Fullness
 use Rattle.rs_message.proofs.places.PlaceCount.TheSendSync as count
 use Rattle.rs_sockets.proofs.listener.Listener.TheSendSync as listener
+use Rattle.rs_sockets.specs.contracts.listener.Listener as Listener
 use Rattle.rs_version.proofs.Sent.{blank_send}
 use Rattle.std.proofs.Crossing.{Arc-send}
 use Rattle.std.proofs.alloc.Global.TheSendSync as heap
@@ -16,4 +17,4 @@ clients_send : IsSend u16
 clients_send = search sendable
 
 pub server_send : IsSend Server.the_row
-server_send = recorded_send Server.the_field.row _ _ Server.the_type.to_one (struct_send (shape Server.the_type) (heap.the_field_send, (listener.the_field_send, (blank_send, (queue.the_send, (Arc-send Fullness.the_row fullness.the_send fullness.the_sync, (count.the_send, (clients_send, tt))))))))
+server_send = recorded_send Server.the_field.row _ _ Server.the_type.to_one (struct_send (shape Server.the_type) (heap.the_field_send, (Arc-send Listener.the_row listener.the_send listener.the_sync, (blank_send, (queue.the_send, (Arc-send Fullness.the_row fullness.the_send fullness.the_sync, (count.the_send, (clients_send, tt))))))))

@@ -1,0 +1,2 @@
+pub mod FreeClients
+pub mod Watched

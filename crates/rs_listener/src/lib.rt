@@ -11,12 +11,16 @@
 
 mod close_reason;
 mod fault;
+mod free_clients;
 mod full_log;
+mod lane;
 mod opening;
 mod polling;
 mod refused;
 mod server;
 mod turn;
+mod watched;
+mod watching;
 
 pub use fault::ListenFault;
 pub use server::{Server, Summary};

@@ -26,14 +26,13 @@ fn number_before(client: u16, is_shared: bool) -> u64 {
 pub(crate) fn turns<H: Clock + Log + Copy>(
     rt: H,
     alloc: Global,
-    listener: Listener,
+    listener: Arc<Listener>,
     full: FullLog,
     places: PlaceCount,
     clients: u16,
 ) -> Result<Vec<ListenTurn<H>>, AllocError>
     ensures { IfOk result (λ turns. length turns.items ≡ clients) }
 {
-    let listener = Arc::new(alloc, listener).map_err(|_| AllocError)?;
     let full = Arc::new(alloc, full).map_err(|_| AllocError)?;
     let mut turns = Vec::new(alloc);
     let is_shared = clients > u16::from(places.get());

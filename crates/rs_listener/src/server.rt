@@ -17,7 +17,7 @@ use rs_places::run_store;
 use rs_sockets::{Listener, descriptor_limit};
 use rs_store::TopicLimit;
 use rs_version::Blank;
-use std::alloc::Global;
+use std::alloc::{AllocError, Global};
 use std::io::ErrorKind;
 use std::net::{Net, TcpListener, TcpStream};
 use std::sync::{Arc, Wait};
@@ -28,7 +28,7 @@ use std::time::{Clock, Duration};
 #[derive(Drop)]
 pub struct Server {
     alloc: Global,
-    listener: Listener,
+    listener: Arc<Listener>,
     blank: Blank,
     queue: BlankQueue,
     fullness: Arc<Fullness>,
@@ -73,7 +73,7 @@ impl Server {
         match Listener::bind(rt, alloc, address, connections, idle) {
             Ok(listener) => Ok(Server {
                 alloc,
-                listener,
+                listener: Arc::new(alloc, listener).map_err(|_| AllocError)?,
                 blank,
                 queue,
                 fullness,

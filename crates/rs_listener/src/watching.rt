@@ -1,0 +1,271 @@
+//! Which clients of the server have something to do.
+
+ghost use Rattle.std.specs.Prelude.{◌≤◌, length, IfSome};
+
+use crate::free_clients::FreeClients;
+use crate::lane::{ARRIVAL, LOOK_EVERY, Lane, STOP};
+use rs_clients::Watch;
+use rs_message::PlaceCount;
+use rs_sockets::{FromClient, Listener, MAX_TOLD, StopSignal};
+use std::alloc::Global;
+use std::io;
+use std::os::fd::AsRawFd;
+use std::sync::atomic::{AtomicBool, Ordering};
+use std::sync::{Arc, Mutex, Wait};
+use std::time::{Clock, Duration};
+
+/// What a descriptor has told.
+#[derive(Clone, Copy)]
+enum Told {
+    /// All threads are to stop.
+    Stop,
+    /// This client has something to do.
+    Client(usize),
+    /// Nobody has.
+    Nothing,
+}
+
+/// Tells by epoll which clients have something to do. There are as many lanes as places, and a client is in the lane of its number modulo
+/// their number.
+///
+/// Whichever thread comes first to lane 0 is told that a connection can be accepted, and a free client of any lane accepts it. Only
+/// when that client is watched again is the listener asked for the next one. Once all connections were accepted, the thread that accepted the
+/// last one, and any other, finds the clients that are still free when it waits next, so that each is told that no more will come.
+///
+/// A connection of which no byte came for as long as `idle` says, if that is given, has something to do too: its next read fails at once.
+/// That is found out once a second.
+#[derive(Drop)]
+pub(crate) struct SocketWatch<H: Clock + Wait + Copy> {
+    rt: H,
+    listener: Arc<Listener>,
+    lanes: Vec<Lane>,
+    free: Mutex<FreeClients>,
+    // Whether all connections were accepted, and each client that was free then was told.
+    all_told: AtomicBool,
+    // In milliseconds.
+    idle: Option<u64>,
+    stop: StopSignal,
+}
+
+fn millis(time: Duration) -> u64 {
+    u64::try_from(time.as_millis()).unwrap_or(u64::MAX)
+}
+
+impl<H: Clock + Wait + Copy> SocketWatch<H> {
+    /// No client is watched yet. `clients` is how many there are.
+    ///
+    /// # Errors
+    ///
+    /// If memory is refused, or a descriptor, of which it takes one for each place and one more.
+    pub(crate) fn new(
+        rt: H,
+        alloc: Global,
+        listener: Arc<Listener>,
+        places: PlaceCount,
+        clients: u16,
+        idle: Option<Duration>,
+    ) -> io::Result<SocketWatch<H>> {
+        let stop = StopSignal::new()?;
+        let count = usize::from(places.get());
+        let clients = usize::from(clients);
+        let mut lanes = Vec::with_capacity(alloc, count)?;
+        for first in 0..count {
+            let of_lane = clients.div_ceil(count);
+            lanes.push(Lane::new(alloc, first, count, of_lane, &stop)?)?;
+        }
+        Ok(SocketWatch {
+            rt,
+            listener,
+            lanes,
+            free: Mutex::new(FreeClients::new(alloc, clients)?),
+            all_told: AtomicBool::new(false),
+            idle: idle.map(millis),
+            stop,
+        })
+    }
+
+    /// The lane of a client.
+    fn lane_of(&self, client: usize) -> Option<&Lane> {
+        self.lanes.get(client.checked_rem(self.lanes.len())?)
+    }
+
+    /// The moment in milliseconds, if idle connections end. `None` also if the clock cannot be read.
+    fn moment(&self) -> Option<u64> {
+        if self.idle.is_none() {
+            return None;
+        }
+        Some(millis(self.rt.monotonic().ok()?))
+    }
+
+    /// Asks the listener for the next connection, if it is time to.
+    fn ask_listener(&self, free: &mut FreeClients) {
+        if !free.should_ask() {
+            return;
+        }
+        if let Some(lane) = self.lanes.first() {
+            if lane.ask_listener(self.listener.as_raw_fd()) {
+                free.ask();
+            }
+        }
+    }
+
+    /// A client that accepted has its connection, and the next may accept.
+    fn end_accept(&self, client: usize) {
+        let mut guard = self.free.lock(&self.rt);
+        let free = &mut *guard;
+        free.end_accept(client);
+        self.ask_listener(free);
+    }
+
+    /// A connection can be accepted: the client that does so.
+    fn begin_accept(&self) -> Option<usize> {
+        let mut guard = self.free.lock(&self.rt);
+        guard.tell()
+    }
+
+    /// Once all connections were accepted: puts the numbers of free clients at the front of `ready`, as many as there is room for: how many.
+    ///
+    /// The last connection counts as accepted before that is done, so whoever does it comes here after. A client that
+    /// [`add_free`](SocketWatch::add_free) took before is there then, and it takes none later.
+    fn put_free(&self, ready: &mut [usize]) -> usize
+        ensures { result ≤ length ready.new }
+    {
+        if self.all_told.load(Ordering::SeqCst) || !self.listener.is_finished() {
+            return 0;
+        }
+        let mut guard = self.free.lock(&self.rt);
+        let free = &mut *guard;
+        for index in 0..ready.len() {
+            let Some(client) = free.take() else {
+                self.all_told.store(true, Ordering::SeqCst);
+                return index;
+            };
+            ready[index] = client;
+        }
+        ready.len()
+    }
+
+    /// A client waits for a connection from now on. False if no more will come.
+    fn add_free(&self, client: usize) -> bool {
+        let mut guard = self.free.lock(&self.rt);
+        let free = &mut *guard;
+        free.end_accept(client);
+        // Only under the lock is it certain that all free clients were not told yet.
+        let is_added = !self.listener.is_finished() && free.add(client);
+        self.ask_listener(free);
+        is_added
+    }
+
+    /// Puts the numbers of clients that were idle for too long at the front of `ready`: how many.
+    fn put_overdue(&self, lane: &Lane, ready: &mut [usize]) -> usize
+        ensures { result ≤ length ready.new }
+    {
+        let Some(idle) = self.idle else {
+            return 0;
+        };
+        let Some(now) = self.moment() else {
+            return 0;
+        };
+        lane.put_overdue(now, idle, ready)
+    }
+
+    /// What a number tells that was told in this lane.
+    fn told(&self, lane: &Lane, number: u64) -> Told {
+        if number == STOP {
+            return Told::Stop;
+        }
+        let client = if number == ARRIVAL {
+            self.begin_accept()
+        } else {
+            lane.end_turn(number)
+        };
+        match client {
+            Some(client) => Told::Client(client),
+            None => Told::Nothing,
+        }
+    }
+
+    /// Puts the clients that numbers tell of at the front of `ready`: how many. `None` if all threads are to stop.
+    fn put_told(&self, lane: &Lane, numbers: &[u64], ready: &mut [usize]) -> Option<usize>
+        requires room { length numbers.now ≤ length ready.old }
+        ensures count { IfSome result (λ count. count ≤ length ready.new) }
+    {
+        let mut count = 0;
+        for index in 0..numbers.len() {
+            match self.told(lane, numbers[index]) {
+                Told::Stop => return None,
+                Told::Client(client) => {
+                    ready[count] = client;
+                    count += 1;
+                }
+                Told::Nothing => {}
+            }
+        }
+        Some(count)
+    }
+
+    /// Waits once: how many clients have something to do, of which the numbers are at the front of `ready`. `None` if all threads are to
+    /// stop.
+    fn wait_once(&self, lane: &Lane, ready: &mut [usize]) -> Option<usize>
+        ensures { IfSome result (λ count. count ≤ length ready.new) }
+    {
+        let free = self.put_free(ready);
+        if free > 0 {
+            return Some(free);
+        }
+        let overdue = self.put_overdue(lane, ready);
+        if overdue > 0 {
+            return Some(overdue);
+        }
+        let mut numbers = [0u64; MAX_TOLD];
+        let room = ready.len().min(MAX_TOLD);
+        let limit = self.idle.map(|_| Duration::from_millis(LOOK_EVERY));
+        let count = lane.wait(&mut numbers[..room], limit).ok()?;
+        self.put_told(lane, &numbers[..count], ready)
+    }
+}
+
+impl<H: Clock + Wait + Copy> Watch<FromClient> for SocketWatch<H> {
+    fn wait<T: Wait>(&self, rt: &T, lane: usize, ready: &mut [usize]) -> Option<usize> {
+        let lane = self.lanes.get(lane)?;
+        for _ in rt.forever() {
+            let count = self.wait_once(lane, ready)?;
+            if count > 0 {
+                return Some(count);
+            }
+        }
+        unreachable!()
+    }
+
+    fn watch(&self, _lane: usize, client: usize, input: &FromClient) -> bool {
+        let Some(lane) = self.lane_of(client) else {
+            return false;
+        };
+        if lane
+            .client(client)
+            .is_some_and(|watched| watched.is_first())
+        {
+            self.end_accept(client);
+        }
+        lane.watch(client, input, self.moment())
+    }
+
+    fn watch_free(&self, client: usize) -> bool {
+        if let Some(lane) = self.lane_of(client) {
+            if let Some(watched) = lane.client(client) {
+                watched.forget();
+            }
+        }
+        self.add_free(client)
+    }
+
+    fn write_out(&self, input: FromClient) -> (FromClient, bool) {
+        let mut input = input;
+        let is_written = input.write_out().is_ok();
+        (input, is_written)
+    }
+
+    fn stop(&self) {
+        self.stop.send();
+    }
+}
