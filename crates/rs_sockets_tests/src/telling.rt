@@ -175,7 +175,7 @@ fn told_to_all<H: Threads + Wait + Copy + Send + Sync + 'static>(
     threads: usize,
     signal: &StopSignal,
 ) -> Result<usize, Fail> {
-    let started = Arc::new(alloc, Barrier::new(threads + 1))?;
+    let started = Arc::new(alloc, Barrier::new(threads.saturating_add(1)))?;
     let mut waiting = Vec::with_capacity(alloc, threads)?;
     for _ in 0..threads {
         let epoll = Arc::try_clone(epoll)?;
