@@ -1,6 +1,7 @@
 //! Descriptors that threads watch together.
 
-ghost use Rattle.std.specs.Prelude.{◌≡◌, ◌≤◌, ◌⊎◌, ◌↔◌, length, pos, IsOk, IfOk};
+ghost use Rattle.std.specs.Prelude.{◌≡◌, ◌≤◌, ◌⊎◌, ◌↔◌, length, pos, Some, IsOk, IfOk, IfErr};
+ghost use Rattle.std.specs.IoError.{raw_os_error};
 ghost use Rattle.rs_sockets.specs.Epoll.{millis_of};
 ghost use Rattle.rs_sockets.specs.declared.epoll.TheConstants.{MAX_TOLD};
 
@@ -92,7 +93,8 @@ impl Epoll {
 
 /// The error of a wait. A signal is none.
 fn check_wait(error: i32) -> io::Result<()>
-    ensures { IsOk result ↔ ((error ≡ pos 0) ⊎ (error ≡ EINTR)) }
+    ensures fails { IsOk result ↔ ((error ≡ pos 0) ⊎ (error ≡ EINTR)) }
+    ensures fault { IfErr result (λ fault. raw_os_error fault ≡ Some error) }
 {
     if error == 0 || error == EINTR {
         return Ok(());
@@ -136,6 +138,11 @@ impl StopSignal {
 }
 
 impl AsRawFd for StopSignal {
+    ghost use Rattle.std.specs.Prelude.{Some};
+    ghost use Rattle.rs_sockets.specs.Epoll.{signal_number_of};
+
+    ghost raw_fd = { λ signal. Some (signal_number_of signal) };
+
     fn as_raw_fd(&self) -> RawFd {
         self.counter.as_raw_fd()
     }
