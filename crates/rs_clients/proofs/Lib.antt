@@ -1,6 +1,9 @@
+mod Beginnings
 pub mod Dropped
+mod EndCells
 pub mod Handing
 pub mod NewClients
 pub mod Sent
 pub mod Served
+mod Stepping
 pub mod Whole

@@ -5,11 +5,11 @@ use Rattle.std.proofs.lemmas.List.{append-nil, length-map, map-append}
 use Rattle.std.specs.Prelude.{None}
 use Rattle.std.specs.List.{AllZip}
 use Rattle.rs_message.specs.declared.entry.Entry.{Entry}
-use Rattle.rs_places.specs.Places.{AreConnectionsServed, Place, Visit}
+use Rattle.rs_places.specs.Places.{AreConnectionsServed, Place, ServedSoFar, Visit}
 use Rattle.rs_places.specs.Shared.{SharedValue}
 use Rattle.rs_places.specs.Turns.{Connections, Ending, GivesNext, TookBack}
 use Rattle.rs_places.proofs.Starting.{each_length}
-use Rattle.rs_places.proofs.Visits.{ServedSoFar, all_given, took_more}
+use Rattle.rs_places.proofs.Visits.{all_given, took_more}
 use Rattle.rs_clients.specs.Fleet.{Client, IsClientServed, client_at, client_with, clients_of}
 
 -- the first turn that is left is that of the next client

@@ -13,13 +13,13 @@ mod close_reason;
 mod fault;
 mod free_clients;
 mod full_log;
-mod lane;
 mod opening;
 mod polling;
 mod refused;
 mod server;
 mod turn;
 mod watched;
+mod watched_clients;
 mod watching;
 
 pub use fault::ListenFault;

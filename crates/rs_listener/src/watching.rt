@@ -2,13 +2,16 @@
 
 ghost use Rattle.std.specs.Prelude.{◌≤◌, length, IfSome};
 
+use crate::fault::ListenFault;
 use crate::free_clients::FreeClients;
-use crate::lane::{ARRIVAL, LOOK_EVERY, Lane, STOP};
+use crate::watched::number_of;
+use crate::watched_clients::{LOOK_EVERY, WatchedClients};
 use rs_clients::Watch;
 use rs_message::PlaceCount;
-use rs_sockets::{FromClient, Listener, MAX_TOLD, StopSignal};
+use rs_sockets::{Epoll, FromClient, Listener, MAX_TOLD, StopSignal, descriptor};
 use std::alloc::Global;
 use std::io;
+use std::io::ErrorKind;
 use std::os::fd::AsRawFd;
 use std::sync::atomic::{AtomicBool, Ordering};
 use std::sync::{Arc, Mutex, Wait};
@@ -25,20 +28,20 @@ enum Told {
     Nothing,
 }
 
-/// Tells by epoll which clients have something to do. There are as many lanes as places, and a client is in the lane of its number modulo
-/// their number.
+/// Tells by epoll which clients have something to do. Each lane has a set of descriptors of its own.
 ///
 /// Whichever thread comes first to lane 0 is told that a connection can be accepted, and a free client of any lane accepts it. Only
 /// when that client is watched again is the listener asked for the next one. Once all connections were accepted, the thread that accepted the
 /// last one, and any other, finds the clients that are still free when it waits next, so that each is told that no more will come.
 ///
 /// A connection of which no byte came for as long as `idle` says, if that is given, has something to do too: its next read fails at once.
-/// That is found out once a second.
+/// That is found out once a second, by a thread of any lane.
 #[derive(Drop)]
 pub(crate) struct SocketWatch<H: Clock + Wait + Copy> {
     rt: H,
     listener: Arc<Listener>,
-    lanes: Vec<Lane>,
+    lanes: Vec<Epoll>,
+    clients: WatchedClients,
     free: Mutex<FreeClients>,
     // Whether all connections were accepted, and each client that was free then was told.
     all_told: AtomicBool,
@@ -46,6 +49,12 @@ pub(crate) struct SocketWatch<H: Clock + Wait + Copy> {
     idle: Option<u64>,
     stop: StopSignal,
 }
+
+/// The number under which the stop is watched. No client has it.
+const STOP: u64 = u64::MAX;
+
+/// The number under which the listener is watched. No client has it.
+const ARRIVAL: u64 = u64::MAX - 1;
 
 fn millis(time: Duration) -> u64 {
     u64::try_from(time.as_millis()).unwrap_or(u64::MAX)
@@ -69,24 +78,21 @@ impl<H: Clock + Wait + Copy> SocketWatch<H> {
         let count = usize::from(places.get());
         let clients = usize::from(clients);
         let mut lanes = Vec::with_capacity(alloc, count)?;
-        for first in 0..count {
-            let of_lane = clients.div_ceil(count);
-            lanes.push(Lane::new(alloc, first, count, of_lane, &stop)?)?;
+        for _ in 0..count {
+            let lane = Epoll::new()?;
+            lane.ask_always(stop.as_raw_fd(), STOP)?;
+            lanes.push(lane)?;
         }
         Ok(SocketWatch {
             rt,
             listener,
             lanes,
+            clients: WatchedClients::new(alloc, clients)?,
             free: Mutex::new(FreeClients::new(alloc, clients)?),
             all_told: AtomicBool::new(false),
             idle: idle.map(millis),
             stop,
         })
-    }
-
-    /// The lane of a client.
-    fn lane_of(&self, client: usize) -> Option<&Lane> {
-        self.lanes.get(client.checked_rem(self.lanes.len())?)
     }
 
     /// The moment in milliseconds, if idle connections end. `None` also if the clock cannot be read.
@@ -103,7 +109,7 @@ impl<H: Clock + Wait + Copy> SocketWatch<H> {
             return;
         }
         if let Some(lane) = self.lanes.first() {
-            if lane.ask_listener(self.listener.as_raw_fd()) {
+            if lane.ask_once(self.listener.as_raw_fd(), ARRIVAL).is_ok() {
                 free.ask();
             }
         }
@@ -157,7 +163,7 @@ impl<H: Clock + Wait + Copy> SocketWatch<H> {
     }
 
     /// Puts the numbers of clients that were idle for too long at the front of `ready`: how many.
-    fn put_overdue(&self, lane: &Lane, ready: &mut [usize]) -> usize
+    fn put_overdue(&self, ready: &mut [usize]) -> usize
         ensures { result ≤ length ready.new }
     {
         let Some(idle) = self.idle else {
@@ -166,18 +172,18 @@ impl<H: Clock + Wait + Copy> SocketWatch<H> {
         let Some(now) = self.moment() else {
             return 0;
         };
-        lane.put_overdue(now, idle, ready)
+        self.clients.put_overdue(now, idle, ready)
     }
 
-    /// What a number tells that was told in this lane.
-    fn told(&self, lane: &Lane, number: u64) -> Told {
+    /// What a number tells.
+    fn told(&self, number: u64) -> Told {
         if number == STOP {
             return Told::Stop;
         }
         let client = if number == ARRIVAL {
             self.begin_accept()
         } else {
-            lane.end_turn(number)
+            self.clients.end_turn(number)
         };
         match client {
             Some(client) => Told::Client(client),
@@ -186,13 +192,13 @@ impl<H: Clock + Wait + Copy> SocketWatch<H> {
     }
 
     /// Puts the clients that numbers tell of at the front of `ready`: how many. `None` if all threads are to stop.
-    fn put_told(&self, lane: &Lane, numbers: &[u64], ready: &mut [usize]) -> Option<usize>
+    fn put_told(&self, numbers: &[u64], ready: &mut [usize]) -> Option<usize>
         requires room { length numbers.now ≤ length ready.old }
         ensures count { IfSome result (λ count. count ≤ length ready.new) }
     {
         let mut count = 0;
         for index in 0..numbers.len() {
-            match self.told(lane, numbers[index]) {
+            match self.told(numbers[index]) {
                 Told::Stop => return None,
                 Told::Client(client) => {
                     ready[count] = client;
@@ -206,14 +212,14 @@ impl<H: Clock + Wait + Copy> SocketWatch<H> {
 
     /// Waits once: how many clients have something to do, of which the numbers are at the front of `ready`. `None` if all threads are to
     /// stop.
-    fn wait_once(&self, lane: &Lane, ready: &mut [usize]) -> Option<usize>
+    fn wait_once(&self, lane: &Epoll, ready: &mut [usize]) -> Option<usize>
         ensures { IfSome result (λ count. count ≤ length ready.new) }
     {
         let free = self.put_free(ready);
         if free > 0 {
             return Some(free);
         }
-        let overdue = self.put_overdue(lane, ready);
+        let overdue = self.put_overdue(ready);
         if overdue > 0 {
             return Some(overdue);
         }
@@ -221,7 +227,27 @@ impl<H: Clock + Wait + Copy> SocketWatch<H> {
         let room = ready.len().min(MAX_TOLD);
         let limit = self.idle.map(|_| Duration::from_millis(LOOK_EVERY));
         let count = lane.wait(&mut numbers[..room], limit).ok()?;
-        self.put_told(lane, &numbers[..count], ready)
+        self.put_told(&numbers[..count], ready)
+    }
+}
+
+/// What watches so many clients of the listener at these places.
+///
+/// # Errors
+///
+/// [`NoMemory`](ListenFault::NoMemory) if memory is refused, [`Address`](ListenFault::Address) if a descriptor is.
+pub(crate) fn watch<H: Clock + Wait + Copy>(
+    rt: H,
+    alloc: Global,
+    listener: Arc<Listener>,
+    places: PlaceCount,
+    clients: u16,
+    idle: Option<Duration>,
+) -> Result<SocketWatch<H>, ListenFault> {
+    match SocketWatch::new(rt, alloc, listener, places, clients, idle) {
+        Ok(watch) => Ok(watch),
+        Err(error) if error.kind() == ErrorKind::OutOfMemory => Err(ListenFault::NoMemory),
+        Err(error) => Err(ListenFault::Address(error)),
     }
 }
 
@@ -237,24 +263,28 @@ impl<H: Clock + Wait + Copy> Watch<FromClient> for SocketWatch<H> {
         unreachable!()
     }
 
-    fn watch(&self, _lane: usize, client: usize, input: &FromClient) -> bool {
-        let Some(lane) = self.lane_of(client) else {
+    fn watch(&self, lane: usize, client: usize, input: &FromClient) -> bool {
+        let (Some(lane), Some(watched)) = (self.lanes.get(lane), self.clients.get(client)) else {
             return false;
         };
-        if lane
-            .client(client)
-            .is_some_and(|watched| watched.is_first())
-        {
+        let Ok(number) = u16::try_from(client) else {
+            return false;
+        };
+        if watched.is_first() {
             self.end_accept(client);
         }
-        lane.watch(client, input, self.moment())
+        let fd = descriptor(input);
+        let turn = watched.begin(fd, self.moment());
+        if lane.ask_once(fd, number_of(number, turn)).is_ok() {
+            return true;
+        }
+        // If another thread has ended the turn, that one has the client now.
+        !watched.end(turn)
     }
 
     fn watch_free(&self, client: usize) -> bool {
-        if let Some(lane) = self.lane_of(client) {
-            if let Some(watched) = lane.client(client) {
-                watched.forget();
-            }
+        if let Some(watched) = self.clients.get(client) {
+            watched.forget();
         }
         self.add_free(client)
     }

@@ -12,7 +12,7 @@ use Rattle.rs_server.specs.Counts.{failures_of, inner_of}
 use Rattle.rs_server.specs.declared.counted.Counted.{Counted}
 use Rattle.rs_server.specs.declared.connection.Served.{Served}
 use Rattle.rs_server.specs.declared.writing.ServeFault.{ServeFault}
-use Rattle.rs_places.specs.Places.{AreConnectionsServed, IsPlaceServed, Place, ServesOne, Visit, next_number, place_at}
+use Rattle.rs_places.specs.Places.{AreConnectionsServed, IsPlaceServed, Place, ServedSoFar, ServesOne, Visit, next_number, place_at}
 use Rattle.rs_places.specs.Serving.{IsServedAt}
 use Rattle.rs_places.specs.Shared.{SharedValue, operations_of}
 use Rattle.rs_places.specs.Turns.{AreAll, Connections, Ending, Gave, GivesNext, Streams, TakesBack, TookBack}
@@ -43,15 +43,6 @@ took_more first then None xs ys p q = tt
 took_more first None (Some us) xs ys p q = absurd q
 took_more None (Some vs) (Some us) xs ys p q = absurd p
 took_more (Some ws) (Some vs) (Some us) xs ys p q = q ∙ (ap (λ l. l ++ ys) p ∙ append_assoc ws xs ys)
-
--- Whatever is served from here on was served after what was served so far. The place stays.
-pub record ServedSoFar (limit begin : ℕ) (first : Place) (number : ℕ) (now : Place) : Type 0 where
-  pub visits : List Visit
-  pub extends : (more : List Visit) (last : SharedValue) → AreConnectionsServed limit number now.gate more last → AreConnectionsServed limit begin first.gate (visits ++ more) last
-  pub given : Gave first.connections.waiting (map (λ visit. visit.given) visits) now.connections.waiting
-  pub ended : TookBack first.connections.ended (map (λ visit. visit.ending) visits) now.connections.ended
-  pub place : now.gate.mark.place ≡ first.gate.mark.place
-  pub pending : first.gate.pending ≡ [] → now.gate.pending ≡ []
 
 pub served_none : (limit begin : ℕ) (place : Place) → ServedSoFar limit begin place begin place
 served_none limit begin place = record {

@@ -1,5 +1,5 @@
 -- The connections of a place, one after the other, and the places of a store.
-use Rattle.std.specs.Prelude.{◌≡◌, ℕ, ◌+◌, ◌-◌, ◌^◌, min, List, [], ◌∷◌, map, Some}
+use Rattle.std.specs.Prelude.{◌≡◌, ℕ, ◌+◌, ◌-◌, ◌^◌, min, List, [], ◌∷◌, ◌++◌, map, Some}
 use Rattle.rs_queue.specs.Changes.{AreOfLine}
 use Rattle.rs_intake.specs.Lines.{Closed, IsClosed}
 use Rattle.rs_message.specs.declared.entry.Entry.{Entry}
@@ -9,7 +9,7 @@ use Rattle.rs_server.specs.Clock.{TellsInOrder}
 use Rattle.rs_server.specs.Conversation.{Causes, Transfer, assigned_of, start}
 use Rattle.rs_places.specs.Serving.{IsServedAt}
 use Rattle.rs_places.specs.Shared.{SharedValue}
-use Rattle.rs_places.specs.Turns.{AreAll, Connections, Ending, Streams, TakesBack, TookBack}
+use Rattle.rs_places.specs.Turns.{AreAll, Connections, Ending, Gave, Streams, TakesBack, TookBack}
 
 -- the number of the connection after the one of this number. The greatest u64 is repeated
 abbrev pub next_number : ℕ → ℕ
@@ -73,6 +73,15 @@ pub record ServesOne (limit number : ℕ) (before : Place) (given : Streams) (af
   pub over : visit.given ≡ given
   pub leaves : visit.gate ≡ after.gate
   pub taken_back : TakesBack before.connections visit.ending after.connections
+
+-- Whatever is served from here on was served after what was served so far. The place stays.
+pub record ServedSoFar (limit begin : ℕ) (first : Place) (number : ℕ) (now : Place) : Type 0 where
+  pub visits : List Visit
+  pub extends : (more : List Visit) (last : SharedValue) → AreConnectionsServed limit number now.gate more last → AreConnectionsServed limit begin first.gate (visits ++ more) last
+  pub given : Gave first.connections.waiting (map (λ visit. visit.given) visits) now.connections.waiting
+  pub ended : TookBack first.connections.ended (map (λ visit. visit.ending) visits) now.connections.ended
+  pub place : now.gate.mark.place ≡ first.gate.mark.place
+  pub pending : first.gate.pending ≡ [] → now.gate.pending ≡ []
 
 -- The connections of a place were served, from number 1 on. Then its line was closed.
 pub record IsPlaceServed (limit : ℕ) (place : Place) (left : Left) : Type 0 where

@@ -32,6 +32,13 @@ impl<T> Counted<T> {
         self.failures
     }
 
+    /// What it counts for.
+    pub fn inner(&self) -> &T
+        ensures { result.now ≡ inner_of self.now }
+    {
+        &self.inner
+    }
+
     /// The reader or writer.
     pub fn into_inner(self) -> T
     where

@@ -1,6 +1,6 @@
 use Rattle.std.proofs.Common.{ℕ, sym, subst}
-use Rattle.rs_places.specs.Places.{place_at}
-use Rattle.rs_places.proofs.Visits.{ServedSoFar, served_more, served_none}
+use Rattle.rs_places.specs.Places.{ServedSoFar, place_at}
+use Rattle.rs_places.proofs.Visits.{served_more, served_none}
 use Rattle.rs_clients.proofs.Served.{client_served}
 use Rattle.rs_clients.proofs.clients.serve_client_turns.Goals as goal
 

@@ -1,4 +1,4 @@
-use Rattle.rs_places.proofs.Visits.{ServedSoFar}
+use Rattle.rs_places.specs.Places.{ServedSoFar}
 use Rattle.rs_clients.proofs.clients.serve_client_turns.Given as goal
 
 abbrev pub invariant-loop : goal.invariant-loop

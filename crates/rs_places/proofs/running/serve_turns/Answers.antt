@@ -1,6 +1,7 @@
 use Rattle.std.proofs.Common.{ℕ, sym, subst}
 use Rattle.rs_places.specs.Places.{place_at}
-use Rattle.rs_places.proofs.Visits.{ServedSoFar, place_served, served_more, served_none}
+use Rattle.rs_places.specs.Places.{ServedSoFar}
+use Rattle.rs_places.proofs.Visits.{place_served, served_more, served_none}
 use Rattle.rs_places.proofs.running.serve_turns.Goals as goal
 
 pub loop-init : goal.loop-init
