@@ -32,7 +32,7 @@ pub record IsBeingServed (limit : ℕ) (begun : Client) (number : ℕ) (connecti
   pub underway : IsUnderway (start (assigned_of next.before.gate.mark.place number) next.before.gate.known next.before.gate.mark)
       next.before.gate.pending MAX_CHANGES (counted_view limit) (transfer_of next.given now) serving
 
--- It is served over these streams by now. Something was read, and is not handled yet.
+-- It is served over these streams by now. What was read last need not be handled yet.
 pub record WasRead (limit : ℕ) (begun : Client) (number : ℕ) (connections : Connections) (now : Streams)
     (serving : Serving (CountedGate SharedValue)) : Type 0 where
   pub next : HasNext limit begun number connections

@@ -38,7 +38,7 @@ struct Slot<N: LineName> {
 /// their clients take it. So whoever hands one over takes others along, and the writer is asked once.
 ///
 /// Each is under a ticket, which no other has. A client gives its ticket back before its connection ends, and what is under it then is
-/// dropped: what was announced and given up is not handed over later.
+/// dropped: what was announced and given up is not handed over later, unless another client has taken it along by then.
 #[derive(Drop)]
 pub struct Announced<N: LineName> {
     // The next ticket.

@@ -237,7 +237,7 @@ impl<N: LineName, R: Wait + Copy> ClientGate<N, R> {
         Ok(version)
     }
 
-    /// Gives the ticket back, if it has one. So no other client hands over what was expected.
+    /// Gives the ticket back, if it has one. So no other client hands over what was expected, unless it has taken it along by then.
     fn forget(&mut self)
         ensures { self.new ≡ self.old }
     {
@@ -245,8 +245,8 @@ impl<N: LineName, R: Wait + Copy> ClientGate<N, R> {
         forget(&self.rt, self.places.place(self.index).announced(), ticket);
     }
 
-    /// Nothing is expected any more, and what was is not handed over later. The outcomes of what was handed over and not submitted are
-    /// dropped. It does not wait for the writer.
+    /// Nothing is expected any more, and what no other client has taken along is not handed over later. The outcomes of what was handed
+    /// over and not submitted are dropped. It does not wait for the writer.
     pub fn hand_on(&mut self)
         ensures known { self.new.known ≡ self.old.known }
         ensures mark { self.new.mark ≡ self.old.mark }

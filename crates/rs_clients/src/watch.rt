@@ -10,8 +10,8 @@ use std::sync::Wait;
 ///
 /// Several threads may wait for one lane. A client is given to one of them, and to no other until it is watched again.
 pub trait Watch<I: Read> {
-    /// Waits until clients of this lane have something to do, and puts their numbers at the front of `ready`: how many. `None` once it was
-    /// stopped.
+    /// Waits until clients of this lane have something to do, and puts their numbers at the front of `ready`: how many. Some may be of
+    /// other lanes. `None` once it was stopped.
     fn wait<H: Wait>(&self, rt: &H, lane: usize, ready: &mut [usize]) -> Option<usize>
         ensures { IfSome result (λ count. count ≤ length ready.new) };
 

@@ -59,7 +59,7 @@ abbrev pub IsUnderway : {G : Type 0} → Point State → List Operation → ℕ 
 IsUnderway from first most view transfer serving =
     IsHandledAll from first most (view (gate_of serving.session)) (state_of serving.session) transfer serving.planned.items serving.buffered.items
 
--- The same, but what was read last is not handled yet. Some of it may be decoded.
+-- The same, but what was read last need not be handled yet. Some of it may be decoded.
 abbrev pub IsRead : {G : Type 0} → Point State → List Operation → ℕ → (G → GateView) → Transfer → Serving G → Type 0
 IsRead from first most view transfer serving =
     IsBeingHandled from first most (view (gate_of serving.session)) (state_of serving.session) transfer serving.planned.items serving.buffered.items
