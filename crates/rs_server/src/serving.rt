@@ -1,6 +1,6 @@
 //! A connection while it is served: packets are read, and the session's replies are written.
 
-ghost use Rattle.std.specs.Prelude.{◌≡◌, ◌<◌, ◌-◌, ◌^◌, ◌++◌, [], ℕ, Option, List, None, IfErr, IfOk, IfSome};
+ghost use Rattle.std.specs.Prelude.{◌≡◌, ◌≢◌, ◌<◌, ◌-◌, ◌^◌, ◌++◌, [], ℕ, Option, List, None, IfErr, IfOk, IfSome, MatchBool};
 ghost use Rattle.std.specs.Io.KnownBytes.{Consumes, IsAtEnd};
 ghost use Rattle.rs_message.specs.declared.entry.Entry.{Entry};
 ghost use Rattle.rs_message.specs.declared.entry.Operation.{Operation};
@@ -118,6 +118,13 @@ impl<G: Gate> Serving<G> {
             None => self.handle(rt, alloc, writer, clock),
             Some(end) => Some(end),
         }
+    }
+
+    /// Whether some change was announced and is not submitted yet.
+    pub fn has_pending(&self) -> bool
+        ensures { MatchBool result (G.pending (gate_of self.now.session) ≢ []) (G.pending (gate_of self.now.session) ≡ []) }
+    {
+        self.session.has_pending()
     }
 
     /// Reads once, and plans what is whole then: its changes are announced to the gate, also if there is only one. How the connection
