@@ -48,6 +48,16 @@ pub fn descriptor(input: &FromClient) -> RawFd {
     input.inner.inner().as_raw_fd()
 }
 
+/// From now on a read of this connection for which no byte comes for so long fails ([`WouldBlock`](io::ErrorKind::WouldBlock)). Without a
+/// limit it waits for as long as it takes. Writes keep their own limit. Less than a microsecond counts as one.
+///
+/// # Errors
+///
+/// If the limit is zero. What was set before still stands.
+pub fn set_read_limit(input: &FromClient, limit: Option<Duration>) -> io::Result<()> {
+    input.inner.inner().set_read_timeout(limit)
+}
+
 /// Ends a connection: writes out what was gathered, tells the client that no more comes, reads and discards
 /// what it still sends, at most [`MAX_DISCARDED`](crate::MAX_DISCARDED) bytes and for about a second, and
 /// closes.

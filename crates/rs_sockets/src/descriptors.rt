@@ -56,15 +56,6 @@ pub(crate) fn check(given: i32) -> io::Result<()>
     Ok(())
 }
 
-/// Whether a read or a write of this descriptor fails at once ([`WouldBlock`](io::ErrorKind::WouldBlock)) where it would wait.
-///
-/// # Errors
-///
-/// If it is not open.
-pub fn set_nonblocking(fd: RawFd, is_nonblocking: bool) -> io::Result<()> {
-    check(os::set_nonblocking(fd, is_nonblocking))
-}
-
 /// How many descriptors the process may have at the same time. None if the system does not tell.
 pub fn descriptor_limit() -> Option<u64> {
     let mut limit = rlimit {

@@ -35,8 +35,8 @@ mod splitting;
 mod stream;
 
 pub use clock::SystemClock;
-pub use connection::{FromClient, ToClient, abandon, close, descriptor, open};
-pub use descriptors::{descriptor_limit, set_nonblocking};
+pub use connection::{FromClient, ToClient, abandon, close, descriptor, open, set_read_limit};
+pub use descriptors::descriptor_limit;
 pub use epoll::{Epoll, MAX_TOLD, StopSignal};
 pub use gathered::Gathered;
 pub use halves::{ReadHalf, WriteHalf};

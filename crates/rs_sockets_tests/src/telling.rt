@@ -1,7 +1,7 @@
 //! What descriptors tell those that wait for them.
 
 use rs_sockets::{
-    Accepted, Epoll, Listener, MAX_TOLD, StopSignal, abandon, descriptor, set_nonblocking,
+    Accepted, Epoll, Listener, MAX_TOLD, StopSignal, abandon, descriptor, set_read_limit,
 };
 use std::alloc::Global;
 use std::io::{ErrorKind, Read, Write};
@@ -54,6 +54,19 @@ fn read_one(accepted: &mut Accepted) -> Option<u8> {
     }
 }
 
+/// Reads to the end, or to an error: how many bytes.
+fn take_all(client: &mut TcpStream) -> u64 {
+    let mut room = [0u8; 4_096];
+    let mut count = 0u64;
+    for _ in 0..u64::MAX {
+        match client.read(&mut room) {
+            Ok(size) if size > 0 => count = count.saturating_add(size as u64),
+            _ => break,
+        }
+    }
+    count
+}
+
 #[test]
 fn a_connection_tells_once(rt: HostRuntime) -> Result<(), Fail> {
     let alloc = rt.alloc();
@@ -98,20 +111,24 @@ fn a_closed_connection_tells_nothing(rt: HostRuntime) -> Result<(), Fail> {
 }
 
 #[test]
-fn a_read_that_would_wait_can_fail_at_once(rt: HostRuntime) -> Result<(), Fail> {
+fn a_read_can_have_another_limit(rt: HostRuntime) -> Result<(), Fail> {
     let Some((mut client, mut accepted)) = pair(&rt, rt.alloc())? else {
         return Err(Fail::from("no connection"));
     };
-    let fd = descriptor(&accepted.input);
-    set_nonblocking(fd, true)?;
+    set_read_limit(&accepted.input, Some(Duration::from_micros(1)))?;
     let mut room = [0u8; 1];
     let result = accepted.input.read(&mut room);
     assert!(rt; result.is_err_and(|error| error.kind() == ErrorKind::WouldBlock));
     assert!(rt; !accepted.input.is_unwritten());
-    set_nonblocking(fd, false)?;
-    client.write_all(b"a")?;
-    assert!(rt; read_one(&mut accepted) == Some(97));
-    assert!(rt; set_nonblocking(-1, true).is_err());
+    assert!(rt; set_read_limit(&accepted.input, AT_ONCE).is_err());
+    // A write waits still: it is more than the system keeps.
+    let reading = spawn(&rt, move || take_all(&mut client))?;
+    for _ in 0..1_024 {
+        accepted.output.write_all(&[0u8; 16_384])?;
+    }
+    accepted.input.write_out()?;
+    abandon(accepted.input, accepted.output);
+    assert!(rt; reading.join(&rt) == 16_777_216);
     Ok(())
 }
 
