@@ -74,7 +74,9 @@ pub record ServesOne (limit number : ℕ) (before : Place) (given : Streams) (af
   pub leaves : visit.gate ≡ after.gate
   pub taken_back : TakesBack before.connections visit.ending after.connections
 
--- Whatever is served from here on was served after what was served so far. The place stays.
+-- From the first place to the one now these connections were served, numbered from `begin` on. Whatever is served from now on, from this
+-- number on, was served after them. The turn gave them and took them back, the place stays, and if nothing was expected at first, nothing is
+-- now.
 pub record ServedSoFar (limit begin : ℕ) (first : Place) (number : ℕ) (now : Place) : Type 0 where
   pub visits : List Visit
   pub extends : (more : List Visit) (last : SharedValue) → AreConnectionsServed limit number now.gate more last → AreConnectionsServed limit begin first.gate (visits ++ more) last

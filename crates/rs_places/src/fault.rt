@@ -9,7 +9,7 @@ pub enum StoreFault {
     /// Memory was refused.
     #[error("out of memory")]
     NoMemory,
-    /// The writer's thread, or that of the first place or client, cannot be started.
+    /// The writer's thread, or that of the first place, cannot be started.
     #[error("no thread can be started")]
     NoThread,
 }

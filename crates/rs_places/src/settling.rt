@@ -68,8 +68,8 @@ fn turns_of<N: LineName, T: Turn + Drop>(ends: Vec<TurnEnd<N, T>>, turns: Vec<T>
     turns
 }
 
-/// Settles a run once its writer and all its turns have ended, which had so many threads, and gives what it leaves. `lines` are the ends of the lines
-/// of all places. `turns` is empty and has the capacity for all, so this takes no memory.
+/// Settles a run once its writer and all its turns have ended, in which so many places had threads, and gives what it leaves. `lines` are
+/// the ends of the lines of all places. `turns` is empty and has the capacity for all, so this takes no memory.
 pub fn settle_run<N: LineName, T: Turn + Drop, R: Wait + Drop>(
     ends: Vec<TurnEnd<N, T>>,
     lines: Vec<LineEnd<N>>,

@@ -21,7 +21,7 @@ use std::thread::{Promise, PromisedHandle, Threads, spawn_with};
 pub struct StoreEnd<T> {
     /// The turns, in their order.
     pub turns: Vec<T>,
-    /// How many of them had a thread of their own.
+    /// How many places had a thread of their own.
     pub threads: usize,
     /// How many entries were published.
     pub version: u64,

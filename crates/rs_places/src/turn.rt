@@ -18,7 +18,7 @@ pub struct Connection<R, W, C> {
     pub clock: C,
 }
 
-/// Gives a place its connections, one after the other, and takes them back once they have ended.
+/// Gives a place, or one of its clients, its connections, one after the other, and takes them back once they have ended.
 ///
 /// The parts of a connection own what they need, since the place's thread takes them. A turn over given connections, as those of a
 /// test are, says which by its `connections`; one over sockets says nothing, and promises nothing.
