@@ -1,6 +1,7 @@
 mod Beginnings
 pub mod Dropped
 mod EndCells
+pub mod Forever
 pub mod Handing
 pub mod NewClients
 pub mod Sent

@@ -18,12 +18,12 @@ pub record ReachedValue : Type 0 where
   pub mark : Mark
 
 -- the gate of a client that has come so far, with these changes pending
-abbrev pub client_of : ReachedValue → List Operation → SharedValue
-client_of reached pending = record { known = reached.known; mark = reached.mark; pending = pending }
+abbrev pub reached_client : ReachedValue → List Operation → SharedValue
+reached_client reached pending = record { known = reached.known; mark = reached.mark; pending = pending }
 
 -- the gate of a new client at this place, which knows this list and has used no serial
 abbrev pub new_client : List Entry → ℕ → SharedValue
-new_client known place = client_of (record { known = known; mark = client_mark place 0 }) []
+new_client known place = reached_client (record { known = known; mark = client_mark place 0 }) []
 
 -- the gates of new clients, one at the place of each of these lines, with what a seat knows. What is left of the longer list is left out
 abbrev pub new_clients : List (List Entry) → List Line → List SharedValue

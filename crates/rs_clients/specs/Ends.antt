@@ -7,12 +7,12 @@ use Rattle.rs_clients.specs.declared.begun.Begun.{Begun}
 use Rattle.rs_clients.specs.declared.end_cell.Coming.{Coming}
 use Rattle.rs_clients.specs.declared.end_cell.Coming.TheVariants as coming
 
--- what the client began with of which this came
+-- what the client began with, of which this is the end or the beginning
 abbrev pub begun_in : {T N H I O C : Type 0} → Coming T N H I O C → Begun T N H
 begun_in (coming.Begun begun) = begun
 begun_in (coming.Done begun) = begun
 
--- what one who uses the cell at this port knows: the client whose end comes, once that is said; before there is only the one at the port `owner`
+-- what one who uses the cell at this port knows: the client whose end comes, once that is said; before that there is only the one at the port `owner`
 pub record Knows {B : Type 0} (owner : ℕ) (client : Option B) (port : ℕ) (view : Option B) : Type 0 where
   pub same : view ≡ client
   pub alone : client ≡ None → port ≡ owner

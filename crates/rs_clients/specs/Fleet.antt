@@ -74,7 +74,8 @@ pub record IsClientOf (limit : ℕ) (history : List Entry) (client : Client) (le
   pub known : Extends history left.told
 
 -- A store of so many new places was run, which clients shared. Each client was served its turn, from that before to that after; the
--- writer published so many entries; and so many changes are settled, or it is known that not all were taken.
+-- writer published so many entries; and so many changes are settled, or, if each place has one of these lines, it is known that another
+-- number was taken than was sent.
 pub record IsFleetRun (limit places : ℕ) (before after : List Connections) (version : ℕ) (changes : Option ℕ) : Type 0 where
   -- the history, and what the writer took and published
   pub writer : IsWriterRun limit places version

@@ -18,7 +18,7 @@ use waiting::Waiting;
 
 /// How far the change of a ticket has come.
 #[derive(Drop)]
-enum Stage<N: LineName> {
+enum Handover<N: LineName> {
     /// It was not handed over.
     Waits(Waiting),
     /// A client that has the line hands it over.
@@ -31,7 +31,7 @@ enum Stage<N: LineName> {
 #[derive(Drop)]
 struct Slot<N: LineName> {
     ticket: u64,
-    stage: Stage<N>,
+    handover: Handover<N>,
 }
 
 /// The single changes that clients of a place have announced: those that wait to be handed over, and what became of those that were, until
@@ -51,18 +51,18 @@ impl<N: LineName> Slot<N> {
     /// If the change waits, the batch takes it, if it has room.
     fn give(&mut self, batch: &mut Batch<N>)
         ensures ticket { self.new.ticket ≡ self.old.ticket }
-        ensures given { ((self.new.stage ≡ self.old.stage) × (batch.new ≡ batch.old))
-            ⊎ ((change : Operation) × (self.old.stage ≡ Stage.Waits change) × (self.new.stage ≡ Stage.Taken)
+        ensures given { ((self.new.handover ≡ self.old.handover) × (batch.new ≡ batch.old))
+            ⊎ ((change : Operation) × (self.old.handover ≡ Handover.Waits change) × (self.new.handover ≡ Handover.Taken)
             × (batch.new ≡ record { tickets = batch.old.tickets ++ self.old.ticket ∷ []; changes = batch.old.changes ++ change ∷ [] })) }
     {
-        match mem::replace(&mut self.stage, Stage::Taken) {
-            Stage::Waits(waiting) => {
+        match mem::replace(&mut self.handover, Handover::Taken) {
+            Handover::Waits(waiting) => {
                 if let Some(waiting) = batch.push(self.ticket, waiting) {
-                    self.stage = Stage::Waits(waiting);
+                    self.handover = Handover::Waits(waiting);
                 }
             }
-            Stage::Taken => {}
-            Stage::Done(outcome) => self.stage = Stage::Done(outcome),
+            Handover::Taken => {}
+            Handover::Done(outcome) => self.handover = Handover::Done(outcome),
         }
     }
 }
@@ -82,14 +82,14 @@ impl<N: LineName> Announced<N> {
     fn put(&mut self, waiting: Waiting) -> Option<u64>
         ensures ticket { IfSome result (λ ticket. (ticket ≡ self.old.next) × (self.new.next ≡ ticket + 1)) }
         ensures waits { IfSome result (λ ticket.
-            self.new.slots.items ≡ self.old.slots.items ++ record { ticket = ticket; stage = Stage.Waits waiting } ∷ []) }
+            self.new.slots.items ≡ self.old.slots.items ++ record { ticket = ticket; handover = Handover.Waits waiting } ∷ []) }
         ensures none { IfNone result (self.new.slots.items ≡ self.old.slots.items) }
     {
         let ticket = self.next;
         let next = ticket.checked_add(1)?;
         let slot = Slot {
             ticket,
-            stage: Stage::Waits(waiting),
+            handover: Handover::Waits(waiting),
         };
         self.slots.push_back(slot).ok()?;
         self.next = next;
@@ -108,14 +108,17 @@ impl<N: LineName> Announced<N> {
     }
 
     /// What was under the ticket. Nothing is from now on.
-    fn remove(&mut self, ticket: u64) -> Option<Stage<N>>
-        ensures removed { IfSome result (λ stage. (index : ℕ) × (self.new.slots.items ≡ remove self.old.slots.items index)
-            × (slice_get self.old.slots.items index ≡ Some (record { ticket = ticket; stage = stage }))) }
+    fn remove(&mut self, ticket: u64) -> Option<Handover<N>>
+        ensures removed { IfSome result (λ handover. (index : ℕ) × (self.new.slots.items ≡ remove self.old.slots.items index)
+            × (slice_get self.old.slots.items index ≡ Some (record { ticket = ticket; handover = handover }))) }
         ensures none { IfNone result (self.new.slots.items ≡ self.old.slots.items) }
     {
         let index = self.find(ticket)?;
-        let Slot { ticket: _, stage } = self.slots.remove(index)?;
-        Some(stage)
+        let Slot {
+            ticket: _,
+            handover,
+        } = self.slots.remove(index)?;
+        Some(handover)
     }
 
     /// Whether the change of the ticket was handed over.
@@ -123,25 +126,25 @@ impl<N: LineName> Announced<N> {
         let Some(index) = self.find(ticket) else {
             return false;
         };
-        match self.slots[index].stage {
-            Stage::Done(_) => true,
-            Stage::Waits(_) => false,
-            Stage::Taken => false,
+        match self.slots[index].handover {
+            Handover::Done(_) => true,
+            Handover::Waits(_) => false,
+            Handover::Taken => false,
         }
     }
 
     /// What became of the change of the ticket, if it was handed over. It is under the ticket no more.
     fn outcome(&mut self, ticket: u64) -> Option<Outcome<N>>
         ensures { IfSome result (λ outcome. (index : ℕ) × (self.new.slots.items ≡ remove self.old.slots.items index)
-            × (slice_get self.old.slots.items index ≡ Some (record { ticket = ticket; stage = Stage.Done outcome }))) }
+            × (slice_get self.old.slots.items index ≡ Some (record { ticket = ticket; handover = Handover.Done outcome }))) }
     {
         if !self.is_done(ticket) {
             return None;
         }
         match self.remove(ticket)? {
-            Stage::Done(outcome) => Some(outcome),
-            Stage::Waits(_) => None,
-            Stage::Taken => None,
+            Handover::Done(outcome) => Some(outcome),
+            Handover::Waits(_) => None,
+            Handover::Taken => None,
         }
     }
 
@@ -167,6 +170,6 @@ impl<N: LineName> Announced<N> {
         let Some(index) = self.find(ticket) else {
             return;
         };
-        self.slots[index].stage = Stage::Done(outcome);
+        self.slots[index].handover = Handover::Done(outcome);
     }
 }

@@ -3,7 +3,7 @@
 ghost use Rattle.std.specs.Prelude.{◌≡◌};
 ghost use Rattle.rs_clients.specs.Begins.{client_of};
 ghost use Rattle.rs_clients.specs.Fleet.{IsTurnServed, client_left, client_with};
-ghost use Rattle.rs_clients.specs.Stages.{begun_of};
+ghost use Rattle.rs_clients.specs.Stages.{IsNext, IsReadOrEnded, IsServedOrEnded, begun_of};
 
 use crate::begun::Begun;
 use crate::client_gate::ClientGate;
@@ -31,9 +31,10 @@ impl<T: Turn + Drop, N: LineName, H: Wait + Copy> FreeClient<T, N, H> {
         }
     }
 
-    /// Takes the turn's next connection, and waits for it. If memory is refused, that ends at once.
+    /// Takes the turn's next connection, and waits for it. If memory is refused, the connection ends at once.
     pub fn next(self, alloc: Global) -> Stage<T, N, H>
-        ensures { begun_of result ≡ self }
+        ensures same { begun_of result ≡ self }
+        ensures follows { IsNext result }
     {
         let FreeClient {
             mut turn,
@@ -119,9 +120,10 @@ impl<T: Turn + Drop, N: LineName, H: Wait + Copy> ServedClient<T, N, H> {
         (client, is_written)
     }
 
-    /// Reads once, and announces the changes of what is whole then.
+    /// Reads once, and announces the changes of what is whole then that may be announced.
     pub fn read(self, alloc: Global) -> Stage<T, N, H>
-        ensures { begun_of result ≡ self }
+        ensures same { begun_of result ≡ self }
+        ensures follows { IsReadOrEnded result }
     {
         let ServedClient {
             turn,
@@ -161,9 +163,15 @@ impl<T: Turn + Drop, N: LineName, H: Wait + Copy> ServedClient<T, N, H> {
 }
 
 impl<T: Turn + Drop, N: LineName, H: Wait + Copy> ReadClient<T, N, H> {
+    /// Whether changes of what was read were announced, and are not submitted yet.
+    pub fn has_pending(&self) -> bool {
+        self.serving.has_pending()
+    }
+
     /// Handles what was read, and waits for the writer if that has changes.
     pub fn handle(self, rt: &H, alloc: Global) -> Stage<T, N, H>
-        ensures { begun_of result ≡ self }
+        ensures same { begun_of result ≡ self }
+        ensures follows { IsServedOrEnded result }
     {
         let ReadClient {
             turn,

@@ -166,12 +166,12 @@ impl<N: LineName, R: Wait + Copy> Model for ClientGate<N, R> {
     ghost use Rattle.std.specs.Prelude.{◌≡◌, ◌<◌, ◌⊎◌, ◌++◌, [], false, length};
     ghost use Rattle.std.specs.List.{AllByRecursion};
     ghost use Rattle.rs_message.specs.Messages.{is_sweep};
-    ghost use Rattle.rs_clients.specs.Clients.{changes_of, client_of};
+    ghost use Rattle.rs_clients.specs.Clients.{changes_of, reached_client};
     ghost use Rattle.rs_places.specs.Shared.{SharedValue};
 
     ghost Value = { SharedValue };
 
-    ghost view = { λ g. client_of g.reached (changes_of g.outcomes.items ++ g.expected.items) };
+    ghost view = { λ g. reached_client g.reached (changes_of g.outcomes.items ++ g.expected.items) };
 
     ghost invariant = { λ g. AllByRecursion (λ o. is_sweep o ≡ false) g.expected.items × ((g.expected.items ≡ []) ⊎ (g.outcomes.items ≡ []))
         × (g.index < length (arc_value g.places)) };

@@ -131,7 +131,6 @@ pub(crate) fn client_ends<T: Turn + Drop, N: LineName, H: Wait + Copy>(
     gate: &ClientGate<N, H>,
     first: u64,
 ) -> Result<(ClientEnd<T, N, H>, ClientEnd<T, N, H>), AllocError>
-    ensures puts { IfOk result (λ both. client_of T.connections both.0.begun ≡ client_with (T.connections turn.now) gate.now first) }
     ensures takes { IfOk result (λ both. client_of T.connections both.1.begun ≡ client_with (T.connections turn.now) gate.now first) }
     ensures same { IfOk result (λ both. (both.0.begun.turn.value ≡ turn.now) × (both.0.begun.gate.value ≡ gate.now)
         × (both.0.begun.first ≡ first)) }

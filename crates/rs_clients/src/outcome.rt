@@ -52,7 +52,7 @@ pub(crate) fn outcome_for<N: LineName>(
     outcome: Outcome<N>,
     operation: Operation,
 ) -> Option<Outcome<N>>
-    ensures { IfSome result (λ a. (a.operation ≡ operation) × (outcome.operation ≡ operation)) }
+    ensures { IfSome result (λ a. (a ≡ outcome) × (outcome.operation ≡ operation)) }
 {
     let Outcome {
         place,

@@ -31,6 +31,8 @@ fn submit_one<N: LineName, R: Wait>(
 ) -> Outcome<N>
     requires plain { is_sweep operation ≡ false }
     requires kept { kept ≡ operation }
+    ensures place { result.place ≡ line.new.place }
+    ensures serial { result.serial ≡ line.new.serial }
     ensures operation { result.operation ≡ operation }
     ensures ahead { IsAheadAfter line.old.ahead operation line.new.ahead }
 {

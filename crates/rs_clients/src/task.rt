@@ -1,4 +1,4 @@
-//! A client on its way, and where its end goes.
+//! A client, which a pool serves in steps.
 
 ghost use Rattle.std.specs.Prelude.{◌≡◌};
 ghost use Rattle.rs_clients.specs.Stages.{begun_of};
@@ -56,7 +56,7 @@ impl<T: Turn + Drop, N: LineName, H: Wait + Copy> Task<T, N, H> {
         }
     }
 
-    /// Whether it is done, or else itself. If it is, its end was put where that goes.
+    /// None if it is done: its end was put where that goes. Else itself.
     pub(crate) fn finish(self) -> Option<Task<T, N, H>> {
         let Task { stage, end } = self;
         match stage {

@@ -15,10 +15,15 @@ pub trait Watch<I: Read> {
     fn wait<H: Wait>(&self, rt: &H, lane: usize, ready: &mut [usize]) -> Option<usize>
         ensures { IfSome result (λ count. count ≤ length ready.new) };
 
+    /// The same, but it waits for nothing: how many have something to do by now.
+    fn look(&self, lane: usize, ready: &mut [usize]) -> usize
+        ensures { result ≤ length ready.new };
+
     /// Watches the connection of this client, in this lane. False if that fails: then it is to go on at once.
     fn watch(&self, lane: usize, client: usize, input: &I) -> bool;
 
-    /// Watches for a connection for this client. False if it is to ask for one at once, since no more will come.
+    /// Watches for a connection for this client. False if it is to ask for one at once, since no more
+    /// will come or that fails.
     fn watch_free(&self, client: usize) -> bool;
 
     /// Writes out what waits for the client. False if that fails: then it is to go on at once, and its read says so.

@@ -11,10 +11,15 @@ use Rattle.rs_sockets.specs.contracts.listener.Listener as Listener
 use Rattle.rs_version.proofs.Sent.{blank_send}
 use Rattle.std.proofs.Crossing.{Arc-send}
 use Rattle.std.proofs.alloc.Global.TheSendSync as heap
+use Rattle.std.specs.contracts.option.Option as Option
+use Rattle.std.specs.contracts.time.Duration as Duration
 use Rattle.rs_listener.specs.contracts.server.Server as Server
 
 clients_send : IsSend u16
 clients_send = search sendable
 
+idle_send : IsSend (Option.the_field Duration.the_row).row
+idle_send = search sendable depth 60 fits 20000
+
 pub server_send : IsSend Server.the_row
-server_send = recorded_send Server.the_field.row _ _ Server.the_type.to_one (struct_send (shape Server.the_type) (heap.the_field_send, (Arc-send Listener.the_row listener.the_send listener.the_sync, (blank_send, (queue.the_send, (Arc-send Fullness.the_row fullness.the_send fullness.the_sync, (count.the_send, (clients_send, tt))))))))
+server_send = recorded_send Server.the_field.row _ _ Server.the_type.to_one (struct_send (shape Server.the_type) (heap.the_field_send, (Arc-send Listener.the_row listener.the_send listener.the_sync, (blank_send, (queue.the_send, (Arc-send Fullness.the_row fullness.the_send fullness.the_sync, (count.the_send, (clients_send, (idle_send, tt)))))))))

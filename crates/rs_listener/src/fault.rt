@@ -8,13 +8,13 @@ use thiserror::Error;
 /// Why a [`Server`](crate::Server) serves no client.
 #[derive(Debug, Drop, Error)]
 pub enum ListenFault {
-    /// The address is not an address, is in use, or may not be bound.
+    /// The address is not an address, is in use, or may not be bound, or descriptors to watch clients were refused.
     #[error("the address cannot be listened on: {0}")]
     Address(io::Error),
     /// Memory was refused.
     #[error("out of memory")]
     NoMemory,
-    /// The thread of the store's writer, or that of the first client, cannot be started.
+    /// The thread of the store's writer, or that of the first place, cannot be started.
     #[error("no thread can be started")]
     NoThread,
 }

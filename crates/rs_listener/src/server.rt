@@ -1,6 +1,6 @@
 //! The server.
 
-ghost use Rattle.std.specs.Prelude.{◌≡◌, ◌<◌, ◌≤◌, ◌⊎◌, ℕ, List, IfOk};
+ghost use Rattle.std.specs.Prelude.{◌≡◌, ◌+◌, ◌<◌, ◌≤◌, ◌⊎◌, ℕ, List, IfOk};
 ghost use Rattle.rs_clients.specs.Fleet.{IsFleetRun};
 ghost use Rattle.rs_places.specs.Store.{IsStoreRun};
 ghost use Rattle.rs_places.specs.Turns.{Connections};
@@ -9,6 +9,7 @@ use crate::fault::ListenFault;
 use crate::full_log::FullLog;
 use crate::opening::turns;
 use crate::polling::time_polls;
+use crate::watching::watch;
 use log::{Log, warn};
 use rs_clients::run_fleet;
 use rs_intake::{BlankQueue, Fullness, blank_queue};
@@ -34,6 +35,7 @@ pub struct Server {
     fullness: Arc<Fullness>,
     places: PlaceCount,
     clients: u16,
+    idle: Option<Duration>,
     ghost both: { queue.places ≡ blank.places },
     ghost each: { places ≡ blank.places },
 }
@@ -41,8 +43,10 @@ pub struct Server {
 /// What a server did.
 #[derive(Clone, Copy, Debug, PartialEq, Eq)]
 pub struct Summary {
-    /// How many clients had a thread of their own, of those that were to be served at the same time.
+    /// How many places had a thread of their own.
     pub threads: usize,
+    /// How many clients could be served at the same time.
+    pub clients: u16,
     /// How many changes all places sent to the writer, refused ones too. None if not all are known to be taken.
     pub changes: Option<u64>,
 }
@@ -79,6 +83,7 @@ impl Server {
                 fullness,
                 places,
                 clients,
+                idle,
             }),
             Err(error) if error.kind() == ErrorKind::OutOfMemory => Err(ListenFault::NoMemory),
             Err(error) => Err(ListenFault::Address(error)),
@@ -99,19 +104,23 @@ impl Server {
 
     /// Serves clients, until all connections were accepted and have ended.
     ///
-    /// Each client has a thread, which serves one connection after the other. If it cannot be started, and is not the first, the caller's
-    /// thread serves this client and those behind it, one after the other. If the process may have fewer descriptors than its clients need,
-    /// fewer are served at the same time. A fault of a connection ends that connection alone. The log of `rt` has a line when each begins,
-    /// and one that says how it ended and what it was refused, one when the store is full, one when it may take new topics again, and
-    /// before them all a warning if there are too few descriptors. The number of changes is that of a run of the store, as [`run_store`]
-    /// says it, or [`run_fleet`], if there are more clients than places. The clause is weak: any number meets it, since it says nothing of
-    /// the clients.
+    /// Each place has a thread, or two if clients share it. If the first cannot be started, and is not that of the first place, its clients
+    /// are served all the same: by the threads of the other places, or, if there are no more clients than places, by the caller's thread,
+    /// one after the other. If there are more clients than places, and the process may have fewer descriptors than they need, fewer are served at the same
+    /// time, but more than there are places. A fault of a connection ends that connection alone. Once the last connection was accepted,
+    /// clients that have none may need up to a second to end.
+    ///
+    /// The log of `rt` has a line when each connection begins, and one that says how it ended and what it was refused, one when the store is
+    /// full, one when it may take new topics again, and before them all a warning if there are too few descriptors.
+    ///
+    /// The number of changes is that of a run of the store, as [`run_store`] says it, or [`run_fleet`], if there are more clients than
+    /// places. The clause is weak: any number meets it, since it says nothing of the clients.
     ///
     /// # Errors
     ///
-    /// [`NoMemory`](ListenFault::NoMemory) if memory is refused for the store, the queue, the gates or the threads of the clients,
-    /// [`NoThread`](ListenFault::NoThread) if the thread of the store's writer, or that of the first client, cannot be started. No
-    /// client was served.
+    /// [`NoMemory`](ListenFault::NoMemory) if memory is refused for the store, the queue, the gates or the threads,
+    /// [`NoThread`](ListenFault::NoThread) if the thread of the store's writer, or that of the first place, cannot be started,
+    /// [`Address`](ListenFault::Address) if the descriptors are refused by which clients are watched. No client was served.
     pub fn run<H: Clock + Log + Threads + Wait + Copy + Send + Sync + 'static>(
         self,
         rt: H,
@@ -128,9 +137,10 @@ impl Server {
             fullness,
             places,
             clients,
+            idle,
         } = self;
         let alone = u16::from(places.get());
-        let served = affordable(&rt, clients, alone);
+        let served = affordable(&rt, clients.max(alone), alone);
         let full = FullLog::new(fullness);
         let queue = queue.with_polls(time_polls(&rt, alloc));
         let end = if clients > alone {
@@ -139,7 +149,8 @@ impl Server {
                 alloc,
                 blank,
                 queue,
-                turns(rt, alloc, listener, full, places, served)?,
+                turns(rt, alloc, Arc::try_clone(&listener)?, full, places, served)?,
+                watch(rt, alloc, listener, places, served, idle)?,
             )?
         } else {
             run_store(
@@ -152,23 +163,44 @@ impl Server {
         };
         Ok(Summary {
             threads: end.threads,
+            clients: served,
             changes: end.changes,
         })
     }
 }
 
-/// How many of these clients the process has descriptors for: one each, and four for the listener and the standard streams. It is more than
-/// there are places in any case. If it is not all, the log has a warning. A thread that waits for a client has its descriptor already,
-/// so the accepts of more threads would fail all the time.
-fn affordable<H: Log>(rt: &H, clients: u16, places: u16) -> u16 {
-    let needed = u64::from(clients) + 4;
-    match descriptor_limit() {
-        Some(limit) if limit < needed => {
-            warn!(rt; target: "rstored", "{clients} clients need {needed} descriptors, and the process may have {limit}");
-            u16::try_from(limit.saturating_sub(4))
-                .unwrap_or(clients)
-                .max(places.saturating_add(1))
-        }
-        _ => clients,
+/// How many descriptors are needed beside those of the clients: four for the listener and the standard streams, and if there are more
+/// clients than places, one for each place and one more, by which clients are watched.
+fn other_descriptors(clients: u16, places: u16) -> u64
+    ensures more { places < clients → result ≡ places + 5 }
+    ensures no_more { clients ≤ places → result ≡ 4 }
+{
+    if clients > places {
+        u64::from(places) + 5
+    } else {
+        4
     }
+}
+
+/// How many of these clients are served: all, or if there are more than places, as many as the process has descriptors for, and still more
+/// than there are places. If it has too few, the log has a warning. Each client that waits is given a connection, so the accepts of more
+/// would fail all the time.
+fn affordable<H: Log>(rt: &H, clients: u16, places: u16) -> u16
+    ensures most { result ≤ clients }
+    ensures more { places < clients → places < result }
+    ensures no_more { clients ≤ places → result ≡ clients }
+{
+    let others = other_descriptors(clients, places);
+    let needed = u64::from(clients) + others;
+    let limit = descriptor_limit().unwrap_or(u64::MAX);
+    if limit >= needed {
+        return clients;
+    }
+    warn!(rt; target: "rstored", "{clients} clients need {needed} descriptors, and the process may have {limit}");
+    if clients <= places {
+        return clients;
+    }
+    u16::try_from(limit.saturating_sub(others))
+        .unwrap_or(clients)
+        .max(places.saturating_add(1))
 }

@@ -1,25 +1,19 @@
 //! A client that can be watched.
 
-ghost use Rattle.std.specs.Prelude.{◌≡◌, IfSome};
+ghost use Rattle.std.specs.Prelude.{◌≡◌, ◌↔◌, ◌<◌, ◌^◌, IsSome, IfSome};
 ghost use Rattle.rs_listener.specs.Watched.{number_of};
 
-use rs_sockets::set_nonblocking;
-use std::os::fd::RawFd;
-use std::sync::atomic::{AtomicBool, AtomicI32, AtomicU32, AtomicU64, Ordering};
+use std::sync::atomic::{AtomicBool, AtomicU32, AtomicU64, Ordering};
 
 /// What is known of a client that can be watched. Whoever has the client begins to watch it, and whoever ends that has it then.
 #[derive(Drop)]
 pub(crate) struct Watched {
     // Odd while it is watched. It rises whenever that begins or ends, so that what tells of an earlier turn is known.
     turn: AtomicU32,
-    // The moment when it was last watched, in milliseconds. It is never over if it is the greatest number.
+    // The moment when it was last watched, in milliseconds. If it is the greatest number, it never counts as idle.
     since: AtomicU64,
-    // The descriptor of its connection, as it was last watched.
-    fd: AtomicI32,
     // Whether its connection was watched before.
     is_known: AtomicBool,
-    // Whether its reads fail at once, since it was idle for too long.
-    is_overdue: AtomicBool,
 }
 
 impl Watched {
@@ -28,9 +22,7 @@ impl Watched {
         Watched {
             turn: AtomicU32::new(0),
             since: AtomicU64::new(0),
-            fd: AtomicI32::new(-1),
             is_known: AtomicBool::new(false),
-            is_overdue: AtomicBool::new(false),
         }
     }
 
@@ -43,20 +35,13 @@ impl Watched {
         true
     }
 
-    /// It has no connection any more.
+    /// When it is watched next, that counts as the first time.
     pub(crate) fn forget(&self) {
         self.is_known.store(false, Ordering::SeqCst);
-        self.is_overdue.store(false, Ordering::SeqCst);
     }
 
-    /// Begins to watch it, with the descriptor of its connection: its turn. `moment` is what the clock shows, in milliseconds, if it is known.
-    pub(crate) fn begin(&self, fd: RawFd, moment: Option<u64>) -> u32 {
-        if self.is_overdue.load(Ordering::SeqCst) {
-            // Bytes have come after all.
-            self.is_overdue.store(false, Ordering::SeqCst);
-            let _ = set_nonblocking(fd, false);
-        }
-        self.fd.store(fd, Ordering::SeqCst);
+    /// Begins to watch it: its turn. `moment` is what the clock shows, in milliseconds, if it is known.
+    pub(crate) fn begin(&self, moment: Option<u64>) -> u32 {
         self.since
             .store(moment.unwrap_or(u64::MAX), Ordering::SeqCst);
         // Last: from here on others may end this turn.
@@ -77,19 +62,12 @@ impl Watched {
             .is_ok()
     }
 
-    /// If it is watched, and has been for `idle` milliseconds at the moment `now`: ends its turn. Then its next read fails at once, if
-    /// nothing has come meanwhile. Whether that is so.
+    /// If it is watched, and has been for longer than `idle` milliseconds at the moment `now`: ends its turn. Whether that is so.
     pub(crate) fn end_overdue(&self, now: u64, idle: u64) -> bool {
         // First: if another turn begins after this, it is not ended.
         let turn = self.turn.load(Ordering::SeqCst);
         let since = self.since.load(Ordering::SeqCst);
-        if turn % 2 == 0 || now.saturating_sub(since) < idle || !self.end(turn) {
-            return false;
-        }
-        self.is_overdue.store(true, Ordering::SeqCst);
-        // If it is refused, the read blocks for as long again, and fails then.
-        let _ = set_nonblocking(self.fd.load(Ordering::SeqCst), true);
-        true
+        turn % 2 == 1 && now.saturating_sub(since) > idle && self.end(turn)
     }
 }
 
@@ -102,7 +80,8 @@ pub(crate) fn number_of(client: u16, turn: u32) -> u64
 
 /// The client and the turn of a number. `None` if it is the number of none.
 pub(crate) fn split_number(number: u64) -> Option<(u16, u32)>
-    ensures { IfSome result (λ of. number ≡ number_of of.0 of.1) }
+    ensures some { IsSome result ↔ (number < 2 ^ 48) }
+    ensures number { IfSome result (λ of. number ≡ number_of of.0 of.1) }
 {
     let turn = u32::try_from(number / 65_536).ok()?;
     Some(((number % 65_536) as u16, turn))

@@ -6,7 +6,7 @@ use crate::watched::{Watched, split_number};
 use std::alloc::{AllocError, Global};
 use std::sync::atomic::{AtomicU64, Ordering};
 
-/// How often the clients are looked through for those that were idle for too long, in milliseconds.
+/// How often a thread that waits looks for clients of which it is not told, in milliseconds.
 pub(crate) const LOOK_EVERY: u64 = 1_000;
 
 /// All clients that can be watched, by their numbers.
@@ -47,8 +47,8 @@ impl WatchedClients {
         Some(client)
     }
 
-    /// Once a second: puts the numbers of clients that are watched for `idle` milliseconds at the moment `now` at the front of `ready`, as many
-    /// as there is room for: how many. They are not watched any more.
+    /// Once a second: puts the numbers of clients that are watched for longer than `idle` milliseconds at the moment `now` at the front of
+    /// `ready`, as many as there is room for: how many. They are not watched any more.
     pub(crate) fn put_overdue(&self, now: u64, idle: u64, ready: &mut [usize]) -> usize
         ensures { result ≤ length ready.new }
     {

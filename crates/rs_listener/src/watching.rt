@@ -8,7 +8,7 @@ use crate::watched::number_of;
 use crate::watched_clients::{LOOK_EVERY, WatchedClients};
 use rs_clients::Watch;
 use rs_message::PlaceCount;
-use rs_sockets::{Epoll, FromClient, Listener, MAX_TOLD, StopSignal, descriptor};
+use rs_sockets::{Epoll, FromClient, Listener, MAX_TOLD, StopSignal, descriptor, set_read_limit};
 use std::alloc::Global;
 use std::io;
 use std::io::ErrorKind;
@@ -28,14 +28,15 @@ enum Told {
     Nothing,
 }
 
-/// Tells by epoll which clients have something to do. Each lane has a set of descriptors of its own.
+/// Tells by epoll which clients have something to do. Each lane has a set of descriptors of its own. Of some clients no descriptor tells: a
+/// thread that waits for any lane looks for those before it waits, and at least once a second.
 ///
-/// Whichever thread comes first to lane 0 is told that a connection can be accepted, and a free client of any lane accepts it. Only
-/// when that client is watched again is the listener asked for the next one. Once all connections were accepted, the thread that accepted the
-/// last one, and any other, finds the clients that are still free when it waits next, so that each is told that no more will come.
+/// Whichever thread comes first to lane 0 is told that a connection can be accepted, and a free client of any lane accepts it. Only when
+/// that client is watched, or is free again, is the listener asked for the next one. Once all connections were accepted, a thread that looks
+/// finds the clients that are still free, and each of them is told that no more will come.
 ///
-/// A connection of which no byte came for as long as `idle` says, if that is given, has something to do too: its next read fails at once.
-/// That is found out once a second, by a thread of any lane.
+/// A connection of which no byte came for as long as `idle` says, if that is given, has something to do too. That is found out once a second.
+/// Its read fails then: no read of a connection that is watched waits, since there is something to read or it was idle for too long.
 #[derive(Drop)]
 pub(crate) struct SocketWatch<H: Clock + Wait + Copy> {
     rt: H,
@@ -45,8 +46,7 @@ pub(crate) struct SocketWatch<H: Clock + Wait + Copy> {
     free: Mutex<FreeClients>,
     // Whether all connections were accepted, and each client that was free then was told.
     all_told: AtomicBool,
-    // In milliseconds.
-    idle: Option<u64>,
+    idle: Option<Duration>,
     stop: StopSignal,
 }
 
@@ -90,7 +90,7 @@ impl<H: Clock + Wait + Copy> SocketWatch<H> {
             clients: WatchedClients::new(alloc, clients)?,
             free: Mutex::new(FreeClients::new(alloc, clients)?),
             all_told: AtomicBool::new(false),
-            idle: idle.map(millis),
+            idle,
             stop,
         })
     }
@@ -103,7 +103,7 @@ impl<H: Clock + Wait + Copy> SocketWatch<H> {
         Some(millis(self.rt.monotonic().ok()?))
     }
 
-    /// Asks the listener for the next connection, if it is time to.
+    /// Asks the listener for the next connection, if it is time to. If that fails, it is time to still.
     fn ask_listener(&self, free: &mut FreeClients) {
         if !free.should_ask() {
             return;
@@ -123,6 +123,12 @@ impl<H: Clock + Wait + Copy> SocketWatch<H> {
         self.ask_listener(free);
     }
 
+    /// Asks the listener once more, if that failed before.
+    fn ask_again(&self) {
+        let mut guard = self.free.lock(&self.rt);
+        self.ask_listener(&mut guard);
+    }
+
     /// A connection can be accepted: the client that does so.
     fn begin_accept(&self) -> Option<usize> {
         let mut guard = self.free.lock(&self.rt);
@@ -131,8 +137,7 @@ impl<H: Clock + Wait + Copy> SocketWatch<H> {
 
     /// Once all connections were accepted: puts the numbers of free clients at the front of `ready`, as many as there is room for: how many.
     ///
-    /// The last connection counts as accepted before that is done, so whoever does it comes here after. A client that
-    /// [`add_free`](SocketWatch::add_free) took before is there then, and it takes none later.
+    /// A client that [`add_free`](SocketWatch::add_free) took before the last connection was counted is there then, and it takes none later.
     fn put_free(&self, ready: &mut [usize]) -> usize
         ensures { result ≤ length ready.new }
     {
@@ -172,7 +177,15 @@ impl<H: Clock + Wait + Copy> SocketWatch<H> {
         let Some(now) = self.moment() else {
             return 0;
         };
-        self.clients.put_overdue(now, idle, ready)
+        self.clients.put_overdue(now, millis(idle), ready)
+    }
+
+    /// From now on reads of this connection wait for so long at most, if there is a limit at all.
+    fn limit_reads(&self, input: &FromClient, limit: Duration) {
+        if self.idle.is_some() {
+            // If it is refused, an idle connection ends only after its read has waited for as long again.
+            let _ = set_read_limit(input, Some(limit));
+        }
     }
 
     /// What a number tells.
@@ -210,8 +223,8 @@ impl<H: Clock + Wait + Copy> SocketWatch<H> {
         Some(count)
     }
 
-    /// Waits once: how many clients have something to do, of which the numbers are at the front of `ready`. `None` if all threads are to
-    /// stop.
+    /// Looks, and if that finds none, waits once, for a second at most: how many clients have something to do, of which the numbers are at
+    /// the front of `ready`. `None` if all threads are to stop.
     fn wait_once(&self, lane: &Epoll, ready: &mut [usize]) -> Option<usize>
         ensures { IfSome result (λ count. count ≤ length ready.new) }
     {
@@ -223,10 +236,24 @@ impl<H: Clock + Wait + Copy> SocketWatch<H> {
         if overdue > 0 {
             return Some(overdue);
         }
+        let told = self.told_within(lane, ready, Duration::from_millis(LOOK_EVERY));
+        if told == Some(0) {
+            self.ask_again();
+        }
+        told
+    }
+
+    /// Waits for so long at most: how many clients have something to do, of which the numbers are at the front of `ready`. `None` if all
+    /// threads are to stop.
+    fn told_within(&self, lane: &Epoll, ready: &mut [usize], limit: Duration) -> Option<usize>
+        ensures { IfSome result (λ count. count ≤ length ready.new) }
+    {
         let mut numbers = [0u64; MAX_TOLD];
         let room = ready.len().min(MAX_TOLD);
-        let limit = self.idle.map(|_| Duration::from_millis(LOOK_EVERY));
-        let count = lane.wait(&mut numbers[..room], limit).ok()?;
+        let Ok(count) = lane.wait(&mut numbers[..room], Some(limit)) else {
+            // Never: there is room.
+            return Some(0);
+        };
         self.put_told(&numbers[..count], ready)
     }
 }
@@ -263,6 +290,13 @@ impl<H: Clock + Wait + Copy> Watch<FromClient> for SocketWatch<H> {
         unreachable!()
     }
 
+    fn look(&self, lane: usize, ready: &mut [usize]) -> usize {
+        let Some(lane) = self.lanes.get(lane) else {
+            return 0;
+        };
+        self.told_within(lane, ready, Duration::ZERO).unwrap_or(0)
+    }
+
     fn watch(&self, lane: usize, client: usize, input: &FromClient) -> bool {
         let (Some(lane), Some(watched)) = (self.lanes.get(lane), self.clients.get(client)) else {
             return false;
@@ -272,14 +306,25 @@ impl<H: Clock + Wait + Copy> Watch<FromClient> for SocketWatch<H> {
         };
         if watched.is_first() {
             self.end_accept(client);
+            self.limit_reads(input, Duration::from_micros(1));
         }
-        let fd = descriptor(input);
-        let turn = watched.begin(fd, self.moment());
-        if lane.ask_once(fd, number_of(number, turn)).is_ok() {
+        let turn = watched.begin(self.moment());
+        if lane
+            .ask_once(descriptor(input), number_of(number, turn))
+            .is_ok()
+        {
             return true;
         }
-        // If another thread has ended the turn, that one has the client now.
-        !watched.end(turn)
+        if !watched.end(turn) {
+            // Another thread has ended the turn, and has the client now.
+            return true;
+        }
+        // Its next read waits.
+        if let Some(idle) = self.idle {
+            self.limit_reads(input, idle);
+        }
+        watched.forget();
+        false
     }
 
     fn watch_free(&self, client: usize) -> bool {

@@ -32,16 +32,14 @@ fault_status (run.Words fault) = words_status fault
 fault_status (run.Pipe fault) = pipe_status fault
 fault_status (run.Listen reason) = 1
 fault_status (run.FewThreads threads places) = 1
-fault_status (run.FewClients threads clients) = 1
+fault_status (run.FewClients served clients) = 1
 fault_status run.Unsettled = 1
 
--- how a server ended: its changes are settled, and each place had a thread of its own, or not; the same of each client, if there are more
-abbrev pub server_outcome : ℕ → Option ℕ → ℕ → ℕ → Result (Unit {0}) RunFault
-server_outcome threads None places clients = Err run.Unsettled
-server_outcome threads (Some changes) places clients =
-    cond (ltb places clients)
-    (cond (ltb threads clients) (Err (run.FewClients threads clients)) (Ok tt))
-    (cond (ltb threads places) (Err (run.FewThreads threads places)) (Ok tt))
+-- how a server ended: its changes are settled, each place had a thread, and as many clients as were to be could be served at once, or not
+abbrev pub server_outcome : ℕ → ℕ → Option ℕ → ℕ → ℕ → Result (Unit {0}) RunFault
+server_outcome threads served None places clients = Err run.Unsettled
+server_outcome threads served (Some changes) places clients =
+    cond (ltb threads places) (Err (run.FewThreads threads places)) (cond (ltb served clients) (Err (run.FewClients served clients)) (Ok tt))
 
 -- 0 if the connection ended, however
 abbrev pub run_status : {T : Type 0} → Result T RunFault → ℕ

@@ -41,12 +41,12 @@ pub enum RunFault {
         /// How many were to.
         places: u8,
     },
-    /// The same, if there are more clients than places.
-    #[error("{threads} of {clients} clients had a thread")]
+    /// All connections were served, but fewer at the same time than were asked for.
+    #[error("{served} of {clients} clients could be served at the same time")]
     FewClients {
-        /// How many clients had a thread of their own.
-        threads: usize,
-        /// How many were to.
+        /// How many clients could be served at the same time.
+        served: u16,
+        /// How many were to be.
         clients: u16,
     },
     /// All connections were served, but it is not known that the store took all changes.
@@ -71,8 +71,8 @@ impl RunFault {
 }
 
 /// Runs the program by its command line, and gives its exit status: 0 if the connection or all connections ended, or help was asked
-/// for, 1 if no client can be served, a place had no thread, not all changes are known to be taken, or reading, writing or memory failed,
-/// 2 if the command line or a line of the input is refused.
+/// for, 1 if no client can be served, a place had no thread, fewer clients could be served at the same time than were asked for, not all
+/// changes are known to be taken, or reading, writing or memory failed, 2 if the command line or a line of the input is refused.
 ///
 /// `pipe` is over this input and output. All else that is printed, help, faults and the lines of `listen`, goes to the standard
 /// streams of `rt`.
@@ -152,21 +152,24 @@ where
     }
 }
 
-/// Whether a server ended as it should: each client that was to be served at the same time as others had a thread, and all changes are
-/// settled.
+/// Whether a server ended as it should: each place had a thread, as many clients as were to be could be served at the same time, and all
+/// changes are settled.
 fn server_outcome(summary: Summary, places: u8, clients: u16) -> Result<(), RunFault>
-    ensures { result ≡ server_outcome summary.threads summary.changes places clients }
+    ensures { result ≡ server_outcome summary.threads summary.clients summary.changes places clients }
 {
-    let Summary { threads, changes } = summary;
+    let Summary {
+        threads,
+        clients: served,
+        changes,
+    } = summary;
     if changes.is_none() {
         return Err(RunFault::Unsettled);
     }
-    if clients > u16::from(places) {
-        if threads < usize::from(clients) {
-            return Err(RunFault::FewClients { threads, clients });
-        }
-    } else if threads < usize::from(places) {
+    if threads < usize::from(places) {
         return Err(RunFault::FewThreads { threads, places });
+    }
+    if served < clients {
+        return Err(RunFault::FewClients { served, clients });
     }
     Ok(())
 }

@@ -37,10 +37,11 @@ fn a_server_ends_with_a_status_and_a_text(rt: HostRuntime) {
     };
     assert!(rt; ends_with(rt.alloc(), &few, 1, "3 of 4 places had a thread"));
     let few = RunFault::FewClients {
-        threads: 3,
+        served: 390,
         clients: 400,
     };
-    assert!(rt; ends_with(rt.alloc(), &few, 1, "3 of 400 clients had a thread"));
+    let text = "390 of 400 clients could be served at the same time";
+    assert!(rt; ends_with(rt.alloc(), &few, 1, text));
     let text = "not all changes are known to be taken";
     assert!(rt; ends_with(rt.alloc(), &RunFault::Unsettled, 1, text));
     assert!(rt; ends_with(rt.alloc(), &RunFault::Listen(None), 1, "cannot listen"));

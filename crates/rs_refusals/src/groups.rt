@@ -97,8 +97,8 @@ fn read<P: Place>(place: &mut P, kept: u64) -> Result<(), Failure> {
 /// Sets of new topics, which are announced and then submitted. If they are more than one, they are one job.
 #[derive(Drop)]
 pub struct Group {
-    announced: Vec<Operation>,
-    changes: Vec<Operation>,
+    pub announced: Vec<Operation>,
+    pub changes: Vec<Operation>,
     ghost plain: { All (λ o. is_sweep o ≡ false) announced.items },
 }
 
@@ -189,6 +189,21 @@ pub fn leave<N: LineName, R: Wait + Drop>(ends: Vec<LineEnd<N>>, ended: Ended<N,
         is_held: ended.held.is_some(),
         is_settled: settled == Some(ended.taken),
     }
+}
+
+/// The same of clients that announce one change each, of which any may hand over those of others: their receipts are in no order that they
+/// know. `made` had receipts, and memory was refused to `submit`, and to the writer for `held`.
+pub fn refused_to_crowd(
+    made: u64,
+    submit: u64,
+    held: u64,
+    left: Left,
+) -> Result<[u64; 3], Failure> {
+    // Each entry that was held is published later, but if the last one was refused memory again.
+    let most = made.saturating_add(held);
+    check(left.is_settled && made <= left.version && left.version <= most)?;
+    check(left.version == most || left.is_held)?;
+    Ok([submit, held, 0])
 }
 
 /// How often memory was refused in a run that was told and left this: to a submit that made no entry, to one whose entry was held, and to

@@ -8,7 +8,7 @@ ghost use Rattle.rs_clients.specs.Clients.{LeavesRest, changes_of};
 
 use super::batch::{Batch, Handed};
 use super::waiting::Waiting;
-use super::{Announced, Stage};
+use super::{Announced, Handover};
 use crate::burst::hand_over;
 use crate::outcome::{Outcome, outcome_for};
 use crate::shared_line::SharedLine;
@@ -60,10 +60,10 @@ fn claim<N: LineName, R: Wait>(
     rt: &R,
     announced: &Mutex<Announced<N>>,
     ticket: u64,
-) -> (Option<Stage<N>>, usize) {
+) -> (Option<Handover<N>>, usize) {
     let mut guard = announced.lock(rt);
-    let stage = guard.remove(ticket);
-    (stage, guard.len())
+    let handover = guard.remove(ticket);
+    (handover, guard.len())
 }
 
 /// The batch, and in it the changes that wait, for as many as it has room.
@@ -90,8 +90,8 @@ fn keep_all<N: LineName, R: Wait>(
     }
 }
 
-/// Hands the change over with others that wait, of at most so many, by the line, which is this client's. All memory is taken before
-/// anything is sent. If it is refused, the change goes by itself, and the others wait on.
+/// Hands the change over with at most so many others that wait, by the line, which is this client's. All memory is taken before anything
+/// is sent. If it is refused, the change goes by itself, and the others wait on.
 fn hand_together<N: LineName, R: Wait>(
     rt: &R,
     alloc: Global,
@@ -139,17 +139,17 @@ fn hand_announced<N: LineName, R: Wait>(
     let mut line = place.line().lock(rt);
     // Another client may have handed it over meanwhile.
     match claim(rt, announced, ticket) {
-        (Some(Stage::Done(outcome)), _) => {
+        (Some(Handover::Done(outcome)), _) => {
             outcome_for(outcome, operation).ok_or(SubmitFault::Strange)
         }
-        (Some(Stage::Waits(_)), others) => {
+        (Some(Handover::Waits(_)), others) => {
             match hand_together(rt, alloc, &mut *line, announced, others, operation) {
                 Ok(outcome) => Ok(outcome),
                 Err(_) => Err(SubmitFault::NoMemory),
             }
         }
         // Never: the ticket is this client's alone, and who takes changes keeps the line until they are done.
-        (Some(Stage::Taken), _) => Err(SubmitFault::Strange),
+        (Some(Handover::Taken), _) => Err(SubmitFault::Strange),
         (None, _) => Err(SubmitFault::Strange),
     }
 }

@@ -1,4 +1,4 @@
-//! Many clients at few places: each has a thread, and those of one place share its line.
+//! Clients at few places, as many as there are or more or fewer: those of one place share its line and its thread.
 
 use super::share;
 use rs_places_kit::{Counts, PLAIN, Played, Script, as_wanted};
@@ -80,15 +80,30 @@ fn put_subscribe(
     put_packet(replies, 0x31, message.as_slice())
 }
 
-/// A client that publishes so many messages to topics of its own, of so many levels, and reads the last one.
+/// So many clients at so many places. The second packet of each is handled once so many came to theirs. Each publishes so many messages,
+/// to topics of so many levels, and reads the last one.
+#[derive(Clone, Copy)]
+struct Crowd {
+    places: u8,
+    clients: u8,
+    together: u64,
+    count: u8,
+    levels: usize,
+}
+
+/// A client of this number, whose topics are its own.
 fn client(
     alloc: Global,
     counts: &Arc<Counts>,
     number: u8,
-    together: u8,
-    count: u8,
-    levels: usize,
+    crowd: Crowd,
 ) -> Result<Script, AllocError> {
+    let Crowd {
+        together,
+        count,
+        levels,
+        ..
+    } = crowd;
     let mut script = Script::new(alloc, Arc::try_clone(counts)?);
     let mut sent = concat(alloc, &[CONNECT])?;
     let mut replies = concat(alloc, &[CONNACK])?;
@@ -107,46 +122,96 @@ fn client(
     )?;
     sent.extend_from_slice(b"\xE0\x00")?;
     let mut course = PLAIN;
-    course.together = u64::from(together);
+    course.together = together;
     script.put(course, sent, replies)?;
     Ok(script)
 }
 
-/// So many clients at so many places, which come to their second packets together.
-fn many<R: Threads + Wait + Copy + Send + Sync + 'static>(
+/// Serves the crowd.
+fn serve<R: Threads + Wait + Copy + Send + Sync + 'static>(
     rt: R,
     alloc: Global,
-    places: u8,
-    clients: u8,
-    count: u8,
-    levels: usize,
+    crowd: Crowd,
 ) -> Result<Played, Fail> {
     let counts = Arc::new(alloc, Counts::new())?;
     let mut turns = Vec::new(alloc);
-    for number in 0..clients {
-        turns.push(client(alloc, &counts, number, clients, count, levels)?)?;
+    for number in 0..crowd.clients {
+        turns.push(client(alloc, &counts, number, crowd)?)?;
     }
-    share(rt, alloc, (10_000, places), turns, &counts)
+    share(rt, alloc, (10_000, crowd.places), turns, &counts)
 }
 
-/// Four places serve a hundred clients at the same time. Each publishes, and reads what it published last. All is settled.
-#[test]
-fn a_hundred_clients_share_four_places(rt: HostRuntime) -> Result<(), Fail> {
-    assert!(rt; many(rt, rt.alloc(), 4, 100, 16, 2)? == as_wanted(100, 100, 1_600, 1_600));
-    Ok(())
+/// What comes of it: each client is served, and each place that has one has a thread.
+fn wanted(crowd: Crowd) -> Played {
+    let clients = u64::from(crowd.clients);
+    let changes = clients.saturating_mul(u64::from(crowd.count));
+    let threads = usize::from(crowd.places.min(crowd.clients));
+    as_wanted(threads, clients, changes, changes)
 }
 
-/// A client's thread has stack enough for topics and filters of as many levels as there may be.
-#[test]
-fn clients_publish_and_read_the_deepest_topics(rt: HostRuntime) -> Result<(), Fail> {
-    assert!(rt; many(rt, rt.alloc(), 2, 20, 5, MAX_LEVELS)? == as_wanted(20, 20, 100, 100));
-    Ok(())
-}
+const CROWDS: [Crowd; 7] = [
+    Crowd {
+        places: 4,
+        clients: 100,
+        together: 0,
+        count: 16,
+        levels: 2,
+    },
+    // As many clients as places, and fewer. A place without a client sends nothing, and is settled too.
+    Crowd {
+        places: 4,
+        clients: 4,
+        together: 4,
+        count: 2,
+        levels: 1,
+    },
+    Crowd {
+        places: 4,
+        clients: 3,
+        together: 3,
+        count: 2,
+        levels: 1,
+    },
+    Crowd {
+        places: 2,
+        clients: 0,
+        together: 0,
+        count: 0,
+        levels: 1,
+    },
+    // Each client of a place is held up until all are, and a place has fewer than another.
+    Crowd {
+        places: 1,
+        clients: 6,
+        together: 6,
+        count: 2,
+        levels: 1,
+    },
+    Crowd {
+        places: 2,
+        clients: 5,
+        together: 5,
+        count: 2,
+        levels: 1,
+    },
+    // A place's thread has stack enough for topics and filters of as many levels as there may be.
+    Crowd {
+        places: 2,
+        clients: 20,
+        together: 0,
+        count: 5,
+        levels: MAX_LEVELS,
+    },
+];
 
-/// There may be fewer clients than places. A place without a client sends nothing, and is settled too.
+/// A few places serve all of their clients. Each publishes, and reads what it published last. All is settled.
 #[test]
-fn a_place_may_have_no_client(rt: HostRuntime) -> Result<(), Fail> {
-    assert!(rt; many(rt, rt.alloc(), 4, 3, 2, 1)? == as_wanted(3, 3, 6, 6));
-    assert!(rt; many(rt, rt.alloc(), 2, 0, 0, 1)? == as_wanted(0, 0, 0, 0));
+fn clients_share_places(rt: HostRuntime) -> Result<(), Fail> {
+    for (number, crowd) in CROWDS.iter().enumerate() {
+        assert!(rt;
+            serve(rt, rt.alloc(), *crowd)? == wanted(*crowd),
+            "{number}"
+        );
+    }
     Ok(())
 }

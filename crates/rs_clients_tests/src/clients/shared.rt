@@ -1,6 +1,7 @@
-//! Clients that share places: one that reads nothing holds up no other.
+//! Clients that share places: however they are told of, all are served, and one that waits holds up no other.
 
-use super::share;
+use super::memory::Manner;
+use super::{share, share_as};
 use rs_places_kit::{Counts, Course, PLAIN, Script, as_wanted};
 use rs_test_kit::{CONNACK, CONNECT};
 use std::alloc::{AllocError, Global};
@@ -66,34 +67,57 @@ fn clients(
     Ok(turns)
 }
 
-/// Four places serve 400 clients, which come to their second packets together.
+/// Four places serve 400 clients.
 #[test]
 fn four_hundred_clients_share_four_places(rt: HostRuntime) -> Result<(), Fail> {
     let alloc = rt.alloc();
     let counts = Arc::new(alloc, Counts::new())?;
-    let mut course = PLAIN;
-    course.together = 400;
-    let turns = clients(alloc, &counts, course, 400, (1, 16))?;
+    let turns = clients(alloc, &counts, PLAIN, 400, (1, 16))?;
     let ran = share(rt, alloc, (10_000, 4), turns, &counts)?;
-    assert!(rt; ran == as_wanted(400, 400, 6_400, 6_400));
+    assert!(rt; ran == as_wanted(4, 400, 6_400, 6_400));
     Ok(())
 }
 
-/// At one place, a client that never reads, and one that announces 64 changes and reads no acknowledgement of them. Until three others
-/// have had 20 connections each, with four publications and an answer.
+const MANNERS: [Manner; 7] = [
+    Manner::InOrder,
+    Manner::Late,
+    Manner::InOneLane,
+    Manner::InNextLane,
+    Manner::WithoutConnection,
+    Manner::Unwritten,
+    Manner::Never,
+];
+
+/// Eight clients of three places, each with three connections, are served whichever thread is told of them and when, and also if they cannot
+/// be watched.
 #[test]
-fn clients_that_read_nothing_hold_up_nobody(rt: HostRuntime) -> Result<(), Fail> {
+fn clients_are_served_however_they_are_told_of(rt: HostRuntime) -> Result<(), Fail> {
+    let alloc = rt.alloc();
+    for manner in MANNERS {
+        let counts = Arc::new(alloc, Counts::new())?;
+        let turns = clients(alloc, &counts, PLAIN, 8, (3, 4))?;
+        let ran = share_as(rt, alloc, (10_000, 3), turns, &counts, manner)?;
+        assert!(rt; ran == as_wanted(3, 24, 96, 96), "{manner:?}");
+    }
+    Ok(())
+}
+
+/// At one place, a client that never reads, one that announces 64 changes and reads no acknowledgement of them, and one whose connection does
+/// not come. Until three others have had 20 connections each, with four publications and an answer.
+#[test]
+fn clients_that_wait_hold_up_nobody(rt: HostRuntime) -> Result<(), Fail> {
     let alloc = rt.alloc();
     let counts = Arc::new(alloc, Counts::new())?;
     let mut turns = clients(alloc, &counts, PLAIN, 3, (20, 4))?;
-    for (client, first) in [(3u16, 1u64), (4, 2)] {
+    for (client, stalls, after) in [(3u16, (1, 60), 0u64), (4, (2, 60), 0), (5, (0, 0), 60)] {
         let mut script = Script::new(alloc, Arc::try_clone(&counts)?);
         let mut course = PLAIN;
-        course.stalls = (first, 60);
+        course.stalls = stalls;
+        course.after = after;
         put_client(alloc, &mut script, course, client, 64)?;
         turns.push(script)?;
     }
     let ran = share(rt, alloc, (10_000, 1), turns, &counts)?;
-    assert!(rt; ran == as_wanted(5, 62, 368, 368));
+    assert!(rt; ran == as_wanted(1, 63, 432, 432));
     Ok(())
 }

@@ -3,6 +3,7 @@
 ghost use Rattle.std.specs.Prelude.{◌≡◌, []};
 ghost use Rattle.rs_version.specs.Writer.{kept_of};
 
+use super::memory::{Manner, MemoryWatch};
 use rs_clients::{SharedPlaces, run_clients};
 use rs_intake::{BlankQueue, Ended, LineName, Queue, blank_queue, run_writer, settle};
 use rs_message::PlaceCount;
@@ -50,6 +51,10 @@ fn served_named<
     turns: Vec<T>,
     counts: &Arc<Counts>,
 ) -> Result<Played, Fail>
+where
+    T::In: 'static,
+    T::Out: 'static,
+    T::Time: 'static,
     requires store { (blank.history ≡ N.history) × (blank.limit ≡ N.limit) }
     requires queue { (queue.name ≡ N.queue) × (queue.places ≡ N.places) }
 {
@@ -58,7 +63,8 @@ fn served_named<
     let places = SharedPlaces::new(&rt, alloc, intake, seats, lines)?;
     let waiting = Arc::try_clone(counts)?;
     let writing = spawn(&rt, move || run_late(rt, waiting, queue, writer))?;
-    let end = run_clients(rt, alloc, turns, places)?;
+    let watch = MemoryWatch::new(rt, alloc, places.len(), Manner::InOrder)?;
+    let end = run_clients(rt, alloc, turns, places, watch)?;
     let mut ended = writing.join(&rt);
     let changes = settle(end.lines, &mut ended).ok();
     Ok(Played {
@@ -105,6 +111,6 @@ fn clients_are_answered_while_the_writer_stands_still(rt: HostRuntime) -> Result
     let blank = blank_store(alloc, 10, one)?;
     let queue = blank_queue(alloc, one)?;
     let served = served_named::<Brand, _, _>(rt, alloc, blank, queue, turns, &counts)?;
-    assert!(rt; served == as_wanted(4, 62, 1, 1));
+    assert!(rt; served == as_wanted(1, 62, 1, 1));
     Ok(())
 }

@@ -49,11 +49,11 @@ address that it listens on. After --connections connections it prints how many t
 however each of them ended. With --endless it goes on until a signal ends it. One of the two has to
 be given.
 
-Up to --clients clients are served at the same time, each by a thread of its own, and share the
-places of the store. The next one waits until one of them is gone. Keep Alive is not enforced:
-without --idle a client that is silent stays until it disconnects. With --idle its connection ends
-once it sent nothing, or took nothing of what waits for it, for so many seconds. A client that
-keeps its Keep Alive is not cut off if --idle is at least one and a half times that interval.
+Up to --clients clients are served at the same time, and share the places of the store. The next
+one waits until one of them is gone. Keep Alive is not enforced: without --idle a client that is
+silent stays until it disconnects. With --idle its connection ends once it sent nothing, or took
+nothing of what waits for it, for so many seconds. A client that keeps its Keep Alive is not cut
+off if --idle is at least one and a half times that interval.
 
 With --log, it writes a line to standard error when a connection begins and when it ends, with its
 place, its number there, the client's address, how it ended and what it was refused; one when the

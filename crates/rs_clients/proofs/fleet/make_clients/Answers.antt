@@ -10,9 +10,10 @@ loop-turn-preserved g c =
     let first = c.in-Some.ensures.steps.0 in
     let next : c.saturating_add-client.result ≡ c.loop-turn.client + 1 = omega (arith, i.count, c.saturating_add-client.ensures, ap length first, c.len.ensures, c.len.type_inv) in
     record {
-      placed = next_client _ g.T.Turn.connections _ _ _ _ _ _ _ _ _ _ c.push_reserved.ensures.items c.in-Some-make_client.ensures first next i.placed;
+      placed = next_client _ g.T.Turn.connections _ _ _ _ _ _ _ _ _ _ c.push_reserved-in-loop-turn.ensures.items c.in-Some-make_client.ensures first next i.placed;
       count = omega (arith, i.count, next, ap length first);
       fits = omega (arith, i.fits, length_more _ _ _ c.push_reserved.ensures.items, c.push_reserved.ensures.capacity, ap length first);
+      fits_too = omega (arith, i.fits_too, length_more _ _ _ c.push_reserved-in-loop-turn.ensures.items, c.push_reserved-in-loop-turn.ensures.capacity, ap length first);
     }
 
 pub returns : goal.returns

@@ -1,36 +1,29 @@
-use Rattle.std.proofs.Common.{◌≡◌, length, map, sym, ap, ◌∙◌, arith}
+use Rattle.std.proofs.Common.{◌≡◌, ◌≤◌, List, length, map, sym, ap, subst, ◌∙◌, arith}
 use Rattle.std.proofs.lemmas.List.{length-map}
-use Rattle.rs_clients.specs.Fleet.{clients_of}
-use Rattle.rs_places.proofs.Starting.{all_joined, as_many}
+use Rattle.std.specs.List.{AllZip}
+use Rattle.rs_clients.specs.Fleet.{Client, IsTurnServed, client_left, clients_of}
 use Rattle.rs_clients.proofs.Served.{clients_length}
 use Rattle.rs_clients.proofs.fleet.run_clients.Goals as goal
 
-pub join_clients-clients-requires-clause-capacity : goal.join_clients-clients-requires-clause-capacity
-join_clients-clients-requires-clause-capacity g c =
-    let all = c.in_ok-all.all.items in
-    let turns = map g.T.Turn.connections c.args.turns.items in
-    let count : length all ≡ length c.args.turns.items = sym (length-map all _) ∙ (ap length c.in_ok-all.ensures ∙ (clients_length _ 0 turns ∙ length-map c.args.turns.items g.T.Turn.connections)) in
-    omega (arith, c.in_ok-threads.ensures.few, count, c.in_ok-ends.ensures.capacity, c.len.ensures)
+pub take_ends-requires-clause-empty : goal.take_ends-requires-clause-empty
+take_ends-requires-clause-empty g c κs within = c.in_ok-ends.ensures.items
 
-pub unreachable-requires : goal.unreachable-requires
-unreachable-requires g c =
-    let all = c.in_ok-all.all.items in
+pub close-requires-clause-empty : goal.close-requires-clause-empty
+close-requires-clause-empty g c = c.in_ok-lines.ensures.items
+
+pub take_ends-requires-clause-capacity : goal.take_ends-requires-clause-capacity
+take_ends-requires-clause-capacity g c κs within =
+    let all = c.in_ok-tasks.comings.items in
     let turns = map g.T.Turn.connections c.args.turns.items in
-    let count : length all ≡ length c.args.turns.items = sym (length-map all _) ∙ (ap length c.in_ok-all.ensures ∙ (clients_length _ 0 turns ∙ length-map c.args.turns.items g.T.Turn.connections)) in
-    let threads = as_many _ _ _ _ _ c.join_clients-clients.ensures.served in
-    let few = c.in_ok-threads.ensures.few in
-    let capacity = c.in_ok-ends.ensures.capacity in
-    let more = c.join_clients-clients.ensures.capacity in
-    let full = c.in_default-append.ensures.full in
-    let len = c.len.ensures in
-    omega (arith, threads, few, count, capacity, more, full, len)
+    let count : length all ≡ length c.args.turns.items = sym (length-map all _) ∙ (ap length c.in_ok-tasks.ensures ∙ (clients_length _ 0 turns ∙ length-map c.args.turns.items g.T.Turn.connections)) in
+    omega (arith, count, c.in_ok-ends.ensures.capacity, c.len.ensures, c.args.turns.ok.0)
 
 pub close-requires-clause-capacity : goal.close-requires-clause-capacity
 close-requires-clause-capacity g c = omega (arith, ap length c.in-Ok.ensures.ok, c.in_ok-lines.ensures.capacity, c.len-2.ensures)
 
 pub returns-clause-clients : goal.returns-clause-clients
 returns-clause-clients g c =
-    let (here, all, each) = c.in_ok-threads.ensures.served in
     let turns = map g.T.Turn.connections c.args.turns.items in
-    let clients = c.in_ok-all.ensures ∙ ap (λ gates. clients_of gates 0 turns) c.in-Ok.ensures.ok in
-    all_joined _ _ here _ _ _ _ _ (all ∙ clients) c.in-Ok-append.ensures.items c.join_clients-clients.ensures.served each
+    let clients = c.in_ok-tasks.ensures ∙ ap (λ gates. clients_of gates 0 turns) c.in-Ok.ensures.ok in
+    let P : List Client → Type 0 = λ l. AllZip (IsTurnServed g.N.StoreName.limit) l (map (λ end. client_left (g.T.Turn.connections end.turn) end.told) c.take_ends.result.items) in
+    subst P clients c.take_ends.ensures

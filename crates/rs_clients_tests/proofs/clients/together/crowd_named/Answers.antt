@@ -1,0 +1,28 @@
+use denote.Builtin.{u8}
+use denote.Exit.{no}
+use denote.Param.{param, copied}
+use denote.Param.Send.{IsSend, arg_send, param_send, sendable}
+use Rattle.rs_clients.proofs.Sent.{client_gate_send}
+use Rattle.rs_clients.specs.contracts.client_gate.ClientGate as ClientGate
+use Rattle.rs_intake.proofs.Sent.{ended_send}
+use Rattle.rs_intake.proofs.writer.Queue.TheSendSync as queue
+use Rattle.rs_version.proofs.Sent.{parts_send-3, writer_send}
+use Rattle.std.proofs.Crossing.{Vec-send}
+use Rattle.std.proofs.alloc.Global.TheSendSync as heap
+use Rattle.rs_clients_tests.proofs.clients.together.crowd_named.Goals as goal
+
+u8_send : IsSend u8
+u8_send = search sendable
+
+pub spawn-requires-send-F : goal.spawn-requires-send-F
+spawn-requires-send-F g c κs within =
+    parts_send-3 _ c.type_bounds.send-R (queue.the_send (param 0 g.row.N) g.N.LineName g.N.StoreName) (writer_send (param 0 g.row.N) g.N.StoreName (copied 1 g.row.R) c.type_bounds.send-R)
+
+pub spawn-requires-send-T : goal.spawn-requires-send-T
+spawn-requires-send-T g c κs within =
+    param_send _ _ (arg_send _ no _ (ended_send (param 0 g.row.N) (copied 1 g.row.R) g.N.LineName g.N.StoreName c.type_bounds.send-R))
+
+pub spawn-requires-in-loop-thread-send-F : goal.spawn-requires-in-loop-thread-send-F
+spawn-requires-in-loop-thread-send-F g c κs within =
+    let gate = client_gate_send (param 0 g.row.N) g.N.LineName g.N.StoreName (copied 1 g.row.R) c.type_bounds.send-R in
+    parts_send-3 _ heap.the_send (Vec-send (ClientGate.the_row (param 0 g.row.N) (copied 1 g.row.R) g.N.LineName g.N.StoreName) gate) u8_send
