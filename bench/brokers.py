@@ -216,27 +216,28 @@ def shares(scale):
     return {usable[0]}, {usable[1]}, {usable[2]}, set(usable[3:])
 
 
-def longest_wait(messages):
+def longest_wait(messages, is_shared=False):
     """The longest that one of 20,000 publications, sent one at a time, waits for its PUBACK beside
     a client that replays so many messages all the time. Each thread on its way has a processor of
-    its own."""
+    its own. At a place that both clients share, any of its threads may serve either, so they have
+    two processors, of which the replaying client has one, too."""
 
     def prepare(load, scale):
         replays, pid = replaying(load, 1, scale, messages), load.broker.run.pid
         client, place, own, rest = shares(scale)
-        # Each connection is served by another thread, since idle threads accept in turns, and all
-        # changes go through the writer.
-        writer = busiest(pid, lambda: one_at_a_time(load, 5_000 // scale), times=3)
 
         def longest():
             with on(rest), replays():
                 replayed = busiest(pid, lambda: time.sleep(0.1))
-                # It is not known which thread will accept the publisher. The others are idle.
-                for thread in thread_times(pid):
-                    pin(thread, place)
-                # mosquitto has one thread, which is both.
-                pin(replayed, rest)
-                pin(writer, own)
+                threads = sorted(thread_times(pid))
+                # It is not known which thread will serve the publisher. The others are idle.
+                for thread in threads:
+                    pin(thread, place | rest if is_shared else place)
+                # mosquitto has one thread, which is both. Else the writer's is the first that the
+                # program starts, and all changes go through it.
+                if not is_shared:
+                    pin(replayed, rest)
+                pin(threads[:2][-1], own)
                 with on(client):
                     return one_at_a_time(load, 20_000 // scale)
 
@@ -439,7 +440,7 @@ MEASURES = (
     Measure(
         "longest wait for a PUBACK beside a client at the same place that replays 60,000 messages",
         TIME,
-        longest_wait(60_000),
+        longest_wait(60_000, is_shared=True),
         "less than 2,000 us",
         lambda own, other: own < 2_000,
         choose=min,

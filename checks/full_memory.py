@@ -1,10 +1,11 @@
 """Runs the program as a server under a limit of the system on its memory, and fills it until it
 refuses publications.
 
-The limit is that of `ulimit -d` and of `LimitDATA`. It is set once all clients have their threads,
+The limit is that of `ulimit -d` and of `LimitDATA`. It is set once all places have their threads,
 whose stacks count, too. Each check is made with short messages, with longer ones, and with some of
 which each takes more than the server keeps free; by the settings of the service in `contrib/`, and
-without them where they are not needed.
+without them where they are not needed; with a client for each place, and with more clients than
+places.
 """
 
 import itertools
@@ -14,9 +15,10 @@ import subprocess
 import time
 from contextlib import contextmanager
 
+from checks.listening_clients import send_until_stuck
 from checks.listening_messages import publish, replayed, subscribe, topic, wanted
 from harness.client import Client
-from harness.packets import NO_SPACE, PUBACK, SUBACK, packet, unsubscribe
+from harness.packets import NO_SPACE, PUBACK, SUBACK, packet, suback, unsubscribe
 from harness.patience import PATIENCE
 from harness.program import ROOT, program
 from harness.server import Server
@@ -25,7 +27,8 @@ from harness.words import run_named
 # The answer to an UNSUBSCRIBE.
 UNSUBACK = packet(0xB0, b"\x00\x01\x00\x00")
 
-PLACES = 4
+# So many places, for as many clients, and for more.
+PLACES, CLIENTS = 4, (4, 12)
 # How many bytes a message has, and how many the server has for all of them.
 SPACES = {100: 2_000_000, 20_000: 6_000_000, 200_000: 6_000_000}
 # So many publications have to be refused before the server counts as full.
@@ -36,7 +39,7 @@ WRITER_SPACE = 64_000_000
 NEW = 100
 # How many clients are connected and silent, and how many bytes each may take, a quarter more than
 # it takes.
-IDLE, MOST_IDLE = 200, 40_000
+IDLE, MOST_IDLE = 200, 12_000
 
 
 def settings():
@@ -63,11 +66,12 @@ def limit(server, size):
 
 
 @contextmanager
-def full_server(size, environment=None):
+def full_server(size, clients, environment=None):
     """A server that has refused publications for want of memory, a client that was there before,
     and the numbers of the topics that it acknowledged."""
-    with Server(places=PLACES, topics=65_536, environment=environment) as server:
-        clients = [Client(server).connect() for _ in range(PLACES)]
+    options = {"places": PLACES, "clients": clients, "environment": environment}
+    with Server(topics=65_536, **options) as server:
+        clients = [Client(server).connect() for _ in range(clients)]
         staying = clients.pop()
         for client in clients:
             client.disconnect()
@@ -120,9 +124,9 @@ def read_all(server, size, numbers, staying=None):
     return missed
 
 
-def is_lost(size, environment):
+def is_lost(size, clients, environment):
     """Looks, once there is memory again, for each message that was acknowledged."""
-    with full_server(size, environment) as (server, _, kept):
+    with full_server(size, clients, environment) as (server, _, kept):
         limit(server, resource.RLIM_INFINITY)
         missed = read_all(server, size, kept)
         wanted(missed == 0, f"{missed} of {len(kept)} messages of {size} bytes are lost")
@@ -131,13 +135,14 @@ def is_lost(size, environment):
 def nothing_is_lost():
     """The server lives, and each message that was acknowledged is there once there is memory
     again."""
-    for size in SPACES:
-        is_lost(size, None)
-    is_lost(max(SPACES), settings())
+    for clients in CLIENTS:
+        for size in SPACES:
+            is_lost(size, clients, None)
+        is_lost(max(SPACES), clients, settings())
 
 
-def can_be_read(size, environment):
-    with full_server(size, environment) as (server, staying, kept):
+def can_be_read(size, clients, environment):
+    with full_server(size, clients, environment) as (server, staying, kept):
         told = f"of {len(kept)} messages of {size} bytes"
         missed = read_all(server, size, kept)
         wanted(missed == 0, f"a new client could not read {missed} {told}")
@@ -147,10 +152,12 @@ def can_be_read(size, environment):
 
 def all_can_be_read():
     """At the limit, a client that comes and one that was there before read one topic after the
-    other."""
+    other. With more clients than places this needs the settings of the service: whichever thread
+    has time serves a client, and each would keep free memory of its own."""
     for size in SPACES:
-        can_be_read(size, None)
-        can_be_read(size, settings())
+        can_be_read(size, PLACES, None)
+        for clients in CLIENTS:
+            can_be_read(size, clients, settings())
 
 
 def comes(is_there):
@@ -198,12 +205,12 @@ def clears(server, numbers):
 
 
 def new_clients_read_and_clear():
-    """At the limit, clients whose threads have served nobody before read one topic each, and then
-    one clears all."""
+    """At the limit, clients that come when none was there before read one topic each, and then one
+    clears all."""
     for size in SPACES:
         with Server(places=PLACES, clients=NEW, topics=65_536, environment=settings()) as server:
-            # The first thread and the writer's are there, too.
-            wait_for_threads(server, NEW + 2)
+            # Two for each place. The first thread and the writer's are there, too.
+            wait_for_threads(server, 2 * PLACES + 2)
             limit(server, size_of(server, "VmData") + SPACES[size])
             kept = filled(server, size)
             for number in itertools.islice(itertools.cycle(kept), 3 * NEW):
@@ -215,14 +222,42 @@ def new_clients_read_and_clear():
 def new_ones_fit():
     """Once a client has cleared topics, new messages of others fit, if threads share their
     memory."""
-    for size in SPACES:
-        with full_server(size, settings()) as (server, _, kept):
+    for size, clients in itertools.product(SPACES, CLIENTS):
+        with full_server(size, clients, settings()) as (server, _, kept):
             with Client(server).connect() as client:
                 for number in kept[: len(kept) // 2]:
                     client.ask(publish(topic(number), b""), PUBACK)
                 for number in range(len(kept) // 4):
                     client.ask(publish(b"new/%d" % number, payload(number, size)), PUBACK)
                 client.disconnect()
+
+
+def a_silent_reader_holds_up_nobody():
+    """At the limit, a client that asks for a message again and again, and reads nothing, holds up
+    no other, though it shares its place with some of them."""
+    for size in sorted(SPACES)[1:]:
+        options = {"places": PLACES, "clients": max(CLIENTS) + 1, "environment": settings()}
+        with Server(topics=65_536, **options) as server:
+            silent = Client(server, room=4_096).connect()
+            clients = [Client(server).connect() for _ in range(max(CLIENTS) - 1)]
+            limit(server, size_of(server, "VmData") + SPACES[size])
+            number = filled(server, size)[0]
+            send_until_stuck(silent, 10 * subscribe(topic(number)))
+            for client in clients:
+                # What the silent one has not read takes memory, too.
+                is_there = comes(lambda: is_answered(client, size, number))
+                wanted(is_there, f"a message of {size} bytes could not be read")
+
+
+def is_answered(client, size, number):
+    """Whether a client gets a message, and is not refused."""
+    client.send(subscribe(topic(number)))
+    answer = client.take_packet()
+    if answer != SUBACK:
+        wanted(answer == suback(b"\x97"), f"{answer.hex()} came")
+        return False
+    client.take(replayed(topic(number), payload(number, size)))
+    return True
 
 
 def a_full_writer_clears():
@@ -248,7 +283,7 @@ def size_with_idle(count):
 
 
 def idle_clients_take_little():
-    """What one more client takes that is connected, subscribed and silent, with its thread."""
+    """What one more client takes that is connected, subscribed and silent."""
     each = (size_with_idle(2 * IDLE) - size_with_idle(IDLE)) // IDLE
     print(f"full_memory: {each} bytes for each of {IDLE} idle clients ({MOST_IDLE} at most)")
     wanted(each <= MOST_IDLE, f"an idle client takes {each} bytes")
@@ -259,6 +294,7 @@ CHECKS = (
     all_can_be_read,
     new_clients_read_and_clear,
     new_ones_fit,
+    a_silent_reader_holds_up_nobody,
     a_full_writer_clears,
     idle_clients_take_little,
 )

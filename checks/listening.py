@@ -5,7 +5,12 @@ time: a time only excuses a refused client that was held up.
 """
 
 from checks.listening_addresses import addresses, restart
-from checks.listening_clients import many_clients, one_place_for_all, silent_connections
+from checks.listening_clients import (
+    many_clients,
+    many_that_read_nothing,
+    one_place_for_all,
+    silent_connections,
+)
 from checks.listening_ends import (
     a_client_that_never_reads,
     abrupt_ends,
@@ -72,6 +77,7 @@ CHECKS = (
     few_threads,
     many_clients,
     one_place_for_all,
+    many_that_read_nothing,
     silent_connections,
     refused_accepts,
     abrupt_ends,

@@ -81,6 +81,30 @@ def one_place_for_all(topics=6_000, rounds=100):
             client.disconnect()
 
 
+def many_that_read_nothing(count=40, topics=1_000):
+    """One client after the other, of two places, reads nothing of 6 MB. Those that share the places
+    with them publish and read as ever. Half of the others read in the end, and all is there."""
+    payload = b"x" * 6_000
+    kept = [b"kept/%05d" % number for number in range(topics)]
+    with Server(places=2, clients=count + 6, topics=topics + 5) as server:
+        clients = [Client(server).connect() for _ in range(5)]
+        for name in kept:
+            clients[0].ask(publish(name, payload), PUBACK)
+        silent = []
+        for number in range(count):
+            silent.append(Client(server, room=1 << 12))
+            silent[-1].ask(CONNECT + subscribe(b"kept/#"), CONNACK + SUBACK)
+            publish_and_read(clients, b"%d" % number)
+        for client in silent[::2]:
+            client.reset()
+        for client in silent[1::2]:
+            client.take(b"".join(replayed(name, payload) for name in kept))
+            client.disconnect()
+        publish_and_read(clients, b"last")
+        for client in clients:
+            client.disconnect()
+
+
 def send_until_stuck(client, data, most=2_000):
     """Sends this again and again, until nothing more is taken for half a second, since the server
     waits for room for its acknowledgements. On a slow machine that may be earlier."""

@@ -1,6 +1,7 @@
 """Places of a server: how many clients are served at once, one after the other, and by which
 threads. Part of `checks/listening`."""
 
+import itertools
 import signal
 import tempfile
 import threading
@@ -39,19 +40,20 @@ def short_connections(count=1_000):
     """Many clients connect, publish and end, again and again. Nothing that was acknowledged is
     lost; after the last connection the program ends."""
 
-    def publish_once(number):
+    def publish_once(server, number):
         with Client(server).connect() as client:
             client.ask(publish(topic(number), b"%d" % number), PUBACK)
             client.disconnect()
 
-    with Server(places=MANY, connections=count + 1) as server:
-        with ThreadPoolExecutor(MANY) as threads:
-            list(threads.map(publish_once, range(count)))
-        with Client(server).connect() as reader:
-            kept = [replayed(topic(number), b"%d" % number) for number in range(count)]
-            reader.ask(subscribe(b"#"), SUBACK + b"".join(kept))
-            reader.disconnect()
-        wanted(server.ended() == (0, f"rstored: served {count + 1}\n", ""), "another end")
+    for places in (MANY, MANY // 16):
+        options = {"places": places, "clients": MANY, "connections": count + 1}
+        with Server(**options) as server, ThreadPoolExecutor(MANY) as threads:
+            list(threads.map(publish_once, count * [server], range(count)))
+            with Client(server).connect() as reader:
+                kept = [replayed(topic(number), b"%d" % number) for number in range(count)]
+                reader.ask(subscribe(b"#"), SUBACK + b"".join(kept))
+                reader.disconnect()
+            wanted(server.ended() == (0, f"rstored: served {count + 1}\n", ""), "another end")
 
 
 def endless(count=200):
@@ -106,59 +108,73 @@ def bursts(rounds=10, size=200, own=4):
 
 
 def few_threads():
-    """The places, or the clients that share them, that get a thread serve all connections, with one
-    more at the same time on the first thread, and at the end the program says how many they were.
-    If the writer or all of them get none, it cannot listen."""
+    """The places that get a thread serve all connections. With a client for each, they are served
+    at the same time, and one more by the first thread. With more clients than places, all are
+    served at the same time, however few the threads. At the end the program says how many places
+    had a thread. If the writer or all of them get none, it cannot listen."""
     with tempfile.TemporaryDirectory() as folder:
         library = preloaded("few_threads", folder)
         for given in (-1, 0, 1, 2, 40, MANY - 1, MANY):
-            with_threads(library, given, MANY, "places", places=MANY)
-        for given in (-1, 0, 1, 3, 7, 8):
-            with_threads(library, given, 8, "clients", places=2, clients=8)
+            with_threads(library, given, MANY, min(given + 1, MANY))
+        for given in (-1, 0, 1, 2, 3, 4, 5):
+            with_threads(library, given, 4, 40, clients=40)
 
 
-def with_threads(library, given, most, what, **options):
-    """Runs a server that serves so many at the same time, of which so many are given a thread."""
+def with_threads(library, given, places, together, **options):
+    """Runs a server that serves so many at the same time, of whose places so many are given a
+    thread."""
     # The writer takes the first thread.
-    threads, connections = given + 1, 2 * most
+    threads, connections = given + 1, together + places
     environment = {"LD_PRELOAD": library, "THREADS": str(threads)}
-    with Server(connections=connections, environment=environment, **options) as server:
+    options = {"places": places, "environment": environment, **options}
+    with Server(connections=connections, **options) as server:
         if given < 1:
             end = (1, "", "rstored: cannot listen\n")
             wanted(server.ended() == end, f"another end with {threads} threads")
             return
-        clients = [Client(server).connect() for _ in range(min(threads, most))]
+        clients = [Client(server).connect() for _ in range(together)]
+        for number, client in enumerate(clients):
+            client.ask(publish(topic(number), b"x"), PUBACK)
         for client in clients:
+            client.ask(subscribe(b"t/#"), SUBACK + all_replayed(together, b"x"))
             client.disconnect()
-        for _ in range(len(clients), connections):
+        for _ in range(places):
             Client(server).connect().disconnect()
-        few = f"rstored: {given} of {most} {what} had a thread\n"
-        status, errors = (0, "") if given == most else (1, few)
+        few = f"rstored: {given} of {places} places had a thread\n"
+        status, errors = (0, "") if given >= places else (1, few)
         end = (status, f"rstored: served {connections}\n", errors)
         wanted(server.ended() == end, f"another end with {threads} threads")
 
 
 def refused_accepts(refused=4, served=3):
     """An accept that fails, as if no descriptor was left, counts as a connection. Clients that come
-    later are served, and the program ends after as many as are left."""
+    later are served, and the program ends after as many as are left, also if none is. So it does
+    with more clients than places."""
     with tempfile.TemporaryDirectory() as folder:
         library = preloaded("failing_accepts", folder)
         environment = {"LD_PRELOAD": library, "FAILING": str(refused)}
-        with Server(places=2, connections=refused + served, environment=environment) as server:
-            for _ in range(served):
-                Client(server).connect().disconnect()
-            end = (0, f"rstored: served {refused + served}\n", "")
-            wanted(server.ended() == end, "another end")
+        for clients, left in itertools.product((2, 5), (served, 0)):
+            count = refused + left
+            options = {"places": 2, "clients": clients, "connections": count}
+            with Server(environment=environment, **options) as server, Client(server) as waiting:
+                # Each accept that fails leaves it waiting.
+                if left:
+                    waiting.connect().disconnect()
+                for _ in range(1, left):
+                    Client(server).connect().disconnect()
+                end = (0, f"rstored: served {count}\n", "")
+                wanted(server.ended() == end, f"another end with {clients} clients, {left} served")
 
 
 def all_connections_served():
     """Connections of all kinds count, and after the last one the program ends, whichever places
     served them."""
-    with Server(places=4, connections=6) as server:
-        clients = [Client(server).connect() for _ in range(4)]
-        clients.pop().reset()
-        clients.append(Client(server).connect())
-        for client in clients:
-            client.disconnect()
-        Client(server).close()
-        wanted(server.ended() == (0, "rstored: served 6\n", ""), "another end")
+    for clients in (4, 40):
+        with Server(places=4, clients=clients, connections=6) as server:
+            clients = [Client(server).connect() for _ in range(4)]
+            clients.pop().reset()
+            clients.append(Client(server).connect())
+            for client in clients:
+                client.disconnect()
+            Client(server).close()
+            wanted(server.ended() == (0, "rstored: served 6\n", ""), "another end")

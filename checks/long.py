@@ -44,18 +44,20 @@ def serves_one_more(server):
 
 
 def many_connections(count):
-    """So many clients come and go at two places, and one more is served."""
+    """So many clients come and go at two places, two or eight at a time, and one more is served."""
 
-    def visit(_):
+    def visit(server):
         with Client(server) as client:
             client.ask(CONNECT + DISCONNECT, CONNACK)
             client.take_end()
 
-    with Server(places=2, connections=count + 2) as server, ThreadPoolExecutor(4) as threads:
-        for _ in threads.map(visit, range(count)):
-            pass
-        serves_one_more(server)
-        ends(server, count + 2)
+    for clients in (2, 8):
+        options = {"places": 2, "clients": clients, "connections": count + 2}
+        with Server(**options) as server, ThreadPoolExecutor(2 * clients) as threads:
+            for _ in threads.map(visit, count * [server]):
+                pass
+            serves_one_more(server)
+            ends(server, count + 2)
 
 
 def a_long_replay(count):
@@ -113,14 +115,16 @@ def many_refusals(count):
 
 def refused_accepts(count, places=8):
     """So many accepts fail, as if no descriptor was left, and the next clients are served. After
-    some failures in a row a place waits for a second."""
+    some failures in a row a place waits for a second. With more clients than places, one client
+    accepts at a time, so that it takes as many seconds: there, fewer fail."""
     with tempfile.TemporaryDirectory() as folder:
         library = preloaded("failing_accepts", folder)
-        environment = {"LD_PRELOAD": library, "FAILING": str(count)}
-        options = {"places": places, "connections": count + 2, "environment": environment}
-        with Server(**options) as server:
-            serves_one_more(server)
-            ends(server, count + 2)
+        for clients, refused in ((places, count), (5 * places, count // 10)):
+            environment = {"LD_PRELOAD": library, "FAILING": str(refused)}
+            options = {"places": places, "clients": clients, "connections": refused + 2}
+            with Server(environment=environment, **options) as server:
+                serves_one_more(server)
+                ends(server, refused + 2)
 
 
 def replaced_levels(rounds, count=50):

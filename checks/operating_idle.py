@@ -6,7 +6,7 @@ import signal
 import subprocess
 import sys
 from concurrent.futures import ThreadPoolExecutor
-from contextlib import contextmanager
+from contextlib import ExitStack, contextmanager
 from time import monotonic, sleep
 
 from checks.listening_messages import publish, replayed, wanted
@@ -38,33 +38,41 @@ def is_cut_off(client):
 
 def silent_clients():
     """With one place and a second: clients that are silent in each phase are cut off, and the next
-    one is served."""
-    with Server(places=1, idle=1) as server:
-        for sent, answer in (
-            (b"", b""),
-            (CONNECT[:7], b""),
-            (CONNECT, CONNACK),
-            (CONNECT + PINGREQ[:1], CONNACK),
-            (CONNECT + publish(b"s", b"x"), CONNACK + PUBACK),
-        ):
-            with Client(server) as client:
-                client.ask(sent, answer)
-                client.take_end()
-                serves_the_next(server)
+    one is served. So it is if as many as may be share the place."""
+    for clients in (1, 3):
+        with Server(places=1, clients=clients, idle=1) as server:
+            for sent, answer in (
+                (b"", b""),
+                (CONNECT[:7], b""),
+                (CONNECT, CONNACK),
+                (CONNECT + PINGREQ[:1], CONNACK),
+                (CONNECT + publish(b"s", b"x"), CONNACK + PUBACK),
+            ):
+                with ExitStack() as closed:
+                    silent = [closed.enter_context(Client(server)) for _ in range(clients)]
+                    for client in silent:
+                        client.ask(sent, answer)
+                    for client in silent:
+                        client.take_end()
+                    serves_the_next(server)
 
 
 def not_too_early():
-    """A silent client holds its place for as many seconds as `--idle` says, and no less."""
-    with Server(places=1, idle=2) as server, Client(server).connect():
-        start = monotonic()
-        serves_the_next(server)
-        held = monotonic() - start
-        wanted(held > 1.9, f"a place was held for {held} seconds")
+    """A silent client is served for as many seconds as `--idle` says, and no less. So it is if as
+    many as may be share a place."""
+    for clients in (1, 3):
+        with Server(places=1, clients=clients, idle=2) as server, ExitStack() as closed:
+            start = monotonic()
+            for _ in range(clients):
+                closed.enter_context(Client(server)).connect()
+            serves_the_next(server)
+            held = monotonic() - start
+            wanted(held > 2, f"a client was served for {held} seconds")
 
 
 def silent_clients_that_stay():
     """Without `--idle`, and with a longer one, a silent client stays."""
-    for options in ({}, {"idle": 86_400}):
+    for options in ({}, {"idle": 86_400}, {"clients": 2}, {"clients": 2, "idle": 86_400}):
         with Server(places=1, **options) as server, Client(server).connect() as client:
             sleep(2.5)
             client.ask(PINGREQ, PINGRESP)
@@ -73,26 +81,28 @@ def silent_clients_that_stay():
 
 def a_client_that_never_reads():
     """A client for which more waits than the system keeps, and which reads nothing, is cut off.
-    What was published stays."""
-    with Server(places=1, idle=1) as server:
-        with Client(server).connect() as client:
-            for number in range(100):
-                client.ask(publish(b"n/%03d" % number, LARGE), PUBACK)
-            client.disconnect()
-        with Client(server, room=4096).connect() as client:
-            client.send(subscribe([b"#"]))
-            serves_the_next(server)
-            is_cut_off(client)
-        with Client(server).connect() as client:
-            client.ask(subscribe([b"n/007"]), SUBACK + replayed(b"n/007", LARGE))
-            client.disconnect()
+    What was published stays. Those that share its place are served meanwhile."""
+    for clients in (1, 2):
+        with Server(places=1, clients=clients, idle=1) as server:
+            with Client(server).connect() as client:
+                for number in range(100):
+                    client.ask(publish(b"n/%03d" % number, LARGE), PUBACK)
+                client.disconnect()
+            with Client(server, room=4096).connect() as client:
+                client.send(subscribe([b"#"]))
+                serves_the_next(server)
+                is_cut_off(client)
+            with Client(server).connect() as client:
+                client.ask(subscribe([b"n/007"]), SUBACK + replayed(b"n/007", LARGE))
+                client.disconnect()
 
 
 def a_client_that_pings():
     """A client that sends a packet twice a second stays, and is answered each time. A machine that
     is held up for a second may cut it off: of twenty tries one counts."""
-    with Server(places=1, idle=1) as server:
-        wanted(any(may_stay(server) for _ in range(20)), "a client that pings is cut off")
+    for clients in (1, 2):
+        with Server(places=1, clients=clients, idle=1) as server:
+            wanted(any(may_stay(server) for _ in range(20)), "a client that pings is cut off")
 
 
 def may_stay(server):
@@ -165,17 +175,19 @@ def is_made(namespace):
 
 
 def many_that_vanish(count=80, together=20):
-    """Of many clients none says that it goes. With four places the next one is served all the same,
-    though each of them got a place before."""
-    with Server(places=4, idle=1) as server, ThreadPoolExecutor(together) as threads:
-        lost = []
-        for _ in range(count // together):
-            some = list(threads.map(lambda _: Client(server), range(together)))
-            for client in some:
-                client.send(CONNECT)
-            lost += some
-        for client in lost:
-            client.take(CONNACK)
-        serves_the_next(server)
-        for client in lost:
-            client.close()
+    """Of many clients none says that it goes. With four places, of one client each or of three, the
+    next one is served all the same, though each of them got a place before."""
+    for clients in (4, 12):
+        options = {"places": 4, "clients": clients, "idle": 1}
+        with Server(**options) as server, ThreadPoolExecutor(together) as threads:
+            lost = []
+            for _ in range(count // together):
+                some = list(threads.map(lambda _: Client(server), range(together)))
+                for client in some:
+                    client.send(CONNECT)
+                lost += some
+            for client in lost:
+                client.take(CONNACK)
+            serves_the_next(server)
+            for client in lost:
+                client.close()

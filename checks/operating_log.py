@@ -44,13 +44,14 @@ OLD_CONNECT = bytes.fromhex("100D00044D5154540402003C000161")
 OLD_REFUSED = bytes.fromhex("2003008400")
 
 
-def visits(errors, places):
+def visits(errors, places, is_shared=False):
     """The connections that a log tells of: by peer, how each ended, its packets and bytes, and
     what it was refused, if anything.
 
-    Each begins once and ends once, in the order in which its place had them.
+    Each begins once and ends once, in the order in which its place had them. A place that clients
+    share has several at a time, and no two of the same number.
     """
-    current, numbers, told = {}, dict.fromkeys(range(1, places + 1), 0), {}
+    current, numbers, told = {}, {place: [0] for place in range(1, places + 1)}, {}
     for line in errors.splitlines():
         if STORE.fullmatch(line):
             continue
@@ -59,13 +60,17 @@ def visits(errors, places):
         moment, place, number = map(int, found.group(1, 2, 3))
         peer, what = found.group(4, 5)
         wanted(abs(moment - time()) < PATIENCE, f"{line!r} has another time")
+        visit = (place, number) if is_shared else place
         if what == "connected":
-            is_next = place not in current and number == numbers[place] + 1
-            wanted(is_next, f"{line!r} comes too early")
-            current[place], numbers[place] = peer, number
+            is_next = (
+                number not in numbers[place] if is_shared else number == numbers[place][-1] + 1
+            )
+            wanted(visit not in current and is_next, f"{line!r} comes too early")
+            current[visit] = peer
+            numbers[place].append(number)
             continue
         end = END.fullmatch(what)
-        is_current = end and current.pop(place, None) == peer and number == numbers[place]
+        is_current = end and current.pop(visit, None) == peer and number in numbers[place]
         wanted(is_current, f"{line!r} ends another connection")
         wanted(peer not in told, f"{line!r} ends a connection again")
         told[peer] = (end[1], *map(int, end.group(2, 3, 4)), *filter(None, [end[5]]))
@@ -110,9 +115,17 @@ ENDS = (
 
 
 def each_end():
-    """The log says of each connection how it ended, with its packets and bytes."""
+    """The log says of each connection how it ended, with its packets and bytes, also if clients
+    share the place."""
+    for clients in (1, 3):
+        ends_of(clients)
+
+
+def ends_of(clients):
+    """One place of so many clients has a connection of each end."""
     count, expected, filters = len(ENDS) + 1, {}, subscribe([b"l/#"])
-    with Server(places=1, connections=count, idle=1, log=True) as server:
+    options = {"places": 1, "clients": clients, "connections": count}
+    with Server(idle=1, log=True, **options) as server:
         for sent, answer, end, ending, packets in ENDS:
             with Client(server) as client:
                 client.ask(sent, answer)
@@ -124,7 +137,7 @@ def each_end():
             client.send(filters)
             status, printed, errors = server.ended()
     wanted((status, printed) == (0, f"rstored: served {count}\n"), "another end")
-    told = visits(errors, 1)
+    told = visits(errors, 1, clients > 1)
     for peer, end in expected.items():
         wanted(told.get(peer) == end, f"the log has {told.get(peer)} in the place of {end}")
     ending, packets, read, written = told[stuck]
@@ -233,11 +246,11 @@ def ends_out_of_memory(library, at):
         return False
 
 
-def sixty_four_at_once(rounds=5, places=64):
-    """Of 64 places that begin and end connections all the time, every line is whole, and each
-    connection is told."""
+def sixty_four_at_once(rounds=5, clients=64):
+    """Of 64 clients that connect and leave all the time, each at a place of its own or four at
+    each place, every line is whole, and each connection is told."""
 
-    def come_and_go(_):
+    def come_and_go(server):
         peers = []
         for _ in range(rounds):
             with Client(server).connect() as client:
@@ -245,29 +258,46 @@ def sixty_four_at_once(rounds=5, places=64):
                 client.disconnect()
         return peers
 
-    with Server(places=places, connections=places * rounds, log=True) as server:
-        with ThreadPoolExecutor(places + 1) as threads:
+    for places in (clients, clients // 4):
+        options = {"places": places, "clients": clients, "connections": clients * rounds}
+        with Server(log=True, **options) as server, ThreadPoolExecutor(clients + 1) as threads:
             # The log is read meanwhile: a full pipe would hold up the places.
             ended = threads.submit(server.ended)
-            peers = sum(threads.map(come_and_go, range(places)), [])
-        status, printed, errors = ended.result()
-    wanted((status, printed) == (0, f"rstored: served {places * rounds}\n"), "another end")
-    end = ("client disconnected", 2, len(CONNECT + DISCONNECT), len(CONNACK))
-    told = visits(errors, places)
-    wanted(told == dict.fromkeys(peers, end), "the log tells of other connections")
+            peers = sum(threads.map(come_and_go, clients * [server]), [])
+            status, printed, errors = ended.result()
+        wanted((status, printed) == (0, f"rstored: served {clients * rounds}\n"), "another end")
+        end = ("client disconnected", 2, len(CONNECT + DISCONNECT), len(CONNACK))
+        told = visits(errors, places, places < clients)
+        wanted(told == dict.fromkeys(peers, end), "the log tells of other connections")
 
 
 def few_descriptors(limit=20):
     """The log says at the start if the process may have fewer descriptors than its clients need:
-    one each, and four more."""
+    one each, and four more; and with more clients than places one for each place, and one more.
+    Then as many as there are descriptors for are served at the same time, and the end says how many
+    they were."""
     inside = ("sh", "-c", f'ulimit -n {limit}; exec "$@"', "sh")
-    for clients, is_told in ((limit - 4, False), (limit - 3, True)):
-        with Server(inside=inside, places=1, clients=clients, connections=1, log=True) as server:
-            Client(server).connect().disconnect()
-            _, _, errors = server.ended()
-        need = f"{clients} clients need {clients + 4} descriptors"
-        line = f"[WARN  rstored] {need}, and the process may have {limit}\n"
-        wanted(errors.startswith(line) == is_told, f"the log of {clients} clients is {errors!r}")
+    for places, clients, others in (
+        (limit - 4, limit - 4, 4),
+        (limit - 3, limit - 3, 4),
+        (1, limit - 6, 6),
+        (1, limit - 5, 6),
+        (3, limit - 8, 8),
+        (3, limit + 10, 8),
+    ):
+        together = min(clients, limit - others)
+        options = {"places": places, "clients": clients, "connections": together}
+        with Server(inside=inside, log=True, **options) as server:
+            for client in [Client(server).connect() for _ in range(together)]:
+                client.disconnect()
+            status, _, errors = server.ended()
+        need = f"{clients} clients need {clients + others} descriptors"
+        first = f"[WARN  rstored] {need}, and the process may have {limit}\n"
+        last = f"rstored: {together} of {clients} clients could be served at the same time\n"
+        is_told, is_fewer = together < clients, places < clients and together < clients
+        told = (errors.startswith(first), errors.endswith(last), status)
+        is_right = told == (is_told, is_fewer, int(is_fewer))
+        wanted(is_right, f"{clients} clients at {places} places end with {status}, {errors!r}")
 
 
 def no_log():
