@@ -8,9 +8,7 @@ use Rattle.rs_store.specs.History.{IsLegal}
 use Rattle.rs_store.proofs.Entries.{among}
 use Rattle.rs_version.specs.Receipts.{StandsAt}
 use Rattle.rs_queue.specs.Changes.{entry_at}
-use Rattle.rs_session.specs.Gate.{Mark, Submits}
-use Rattle.rs_session.proofs.Submitting.{nothing_sent}
-use Rattle.rs_places.specs.Shared.{HandsOn}
+use Rattle.rs_session.specs.Gate.{Submits}
 use Rattle.rs_places.proofs.Receipts.{stands_contained, stands_somewhere, submits_ok}
 use Rattle.rs_clients.specs.Clients.{IsTold, OutcomeValue, client_mark, entry_under}
 
@@ -35,9 +33,3 @@ accepted limit outcome place serial seen list told legal there one prefix same a
     let in_told : Contains told e = subst Q same there in
     let s = stands_somewhere e told (among e told in_told) in
     submits_ok limit outcome.operation (client_mark place serial) (client_mark place outcome.serial) seen list told e s.0 legal s.1 refl one prefix above tt
-
--- a gate that sent nothing ahead hands nothing on
-pub hands_nothing_on : (old new : Mark) → new ≡ old → HandsOn old [] new
-hands_nothing_on old new same =
-    let P : Mark → Type 0 = λ m. HandsOn old [] m in
-    subst P (sym same) (record { place = refl; alone = refl; next = tt; serial = omega arith; sent = nothing_sent old.sent })

@@ -19,7 +19,8 @@ use Rattle.rs_places.specs.Turns.{Connections}
 use Rattle.rs_places.proofs.Starting.{each_with}
 use Rattle.rs_places.proofs.Whole.{all_seen, line_of, map_map, new_lines_length, visits_within, writer_run, written_part}
 use Rattle.rs_clients.specs.Clients.{new_client, new_clients}
-use Rattle.rs_clients.specs.Fleet.{Client, ClientLeft, IsClientOf, IsFleetRun, IsTurnServed, client_left, clients_of, fleet_gates}
+use Rattle.rs_steps.specs.Served.{Client, ClientLeft, IsTurnServed, client_left}
+use Rattle.rs_clients.specs.Fleet.{IsClientOf, IsFleetRun, clients_of, fleet_gates}
 
 client_of : (limit : ℕ) (history : List Entry) (client : Client) (left : ClientLeft) → IsLegal limit history → IsTurnServed limit client left → Extends history left.told → IsClientOf limit history client left
 client_of limit history client left legal served known =

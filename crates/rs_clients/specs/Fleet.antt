@@ -6,43 +6,15 @@ use Rattle.rs_intake.specs.Lines.{Closed, IsClosed, new_lines}
 use Rattle.rs_intake.specs.Settling.{EachOnce}
 use Rattle.rs_message.specs.declared.entry.Entry.{Entry}
 use Rattle.rs_session.specs.Gate.{Extends}
-use Rattle.rs_places.specs.Places.{AreConnectionsServed, Place, Visit, place_at}
 use Rattle.rs_places.specs.Shared.{SharedValue}
 use Rattle.rs_places.specs.Store.{AreWithin, IsLineOf, IsSettled, IsUnsettled, IsWriterRun}
-use Rattle.rs_places.specs.Turns.{AreAll, Connections, TookBack}
+use Rattle.rs_places.specs.Turns.{Connections}
+use Rattle.rs_steps.specs.Served.{Client, ClientLeft, IsClientServed, client_with}
 use Rattle.rs_clients.specs.Clients.{new_client}
-
--- what is left of one of several clients of a place: what contracts see of its turn, and the list that its gate knew last
-pub record ClientLeft : Type 0 where
-  pub connections : Connections
-  pub told : List Entry
-
-abbrev pub client_left : Connections → List Entry → ClientLeft
-client_left connections told = record { connections = connections; told = told }
-
--- The connections of one of several clients of a place were served, from this number on.
-pub record IsClientServed (limit first : ℕ) (client : Place) (left : ClientLeft) : Type 0 where
-  pub visits : List Visit
-  pub last : SharedValue
-  pub connections : AreConnectionsServed limit first client.gate visits last
-  -- they are all that waited, in their order, and each was taken back as it ended
-  pub all : AreAll client.connections.waiting (map (λ visit. visit.given) visits)
-  pub ended : TookBack client.connections.ended (map (λ visit. visit.ending) visits) left.connections.ended
-  -- what is left is what the gate had then, at the place that it had first
-  pub told : left.told ≡ last.known
-  pub place : last.mark.place ≡ client.gate.mark.place
 
 -- the number of a client's first connection: those of two clients lie 2^40 apart. The greatest u64 is repeated
 abbrev pub first_number : ℕ → ℕ
 first_number client = min (client * 2 ^ 40 + 1) (2 ^ 64 - 1)
-
--- a client: what contracts see of its turn and of its gate, and the number of its first connection
-pub record Client : Type 0 where
-  pub place : Place
-  pub first : ℕ
-
-abbrev pub client_with : Connections → SharedValue → ℕ → Client
-client_with connections gate first = record { place = place_at connections gate; first = first }
 
 -- The client of this number, from 0 on, over one of these gates: the first goes with the first gate, and so on, and after the last gate
 -- comes the first again.
@@ -58,10 +30,6 @@ clients_of gates client (connections ∷ turns) = client_at gates client connect
 -- the gates of new clients at so many new places, one at each. They know nothing
 abbrev pub fleet_gates : ℕ → List SharedValue
 fleet_gates places = map (λ line. new_client [] line.place) (new_lines places)
-
--- the connections of the client's turn were served
-abbrev pub IsTurnServed : ℕ → Client → ClientLeft → Type 0
-IsTurnServed limit client left = IsClientServed limit client.first client.place left
 
 -- A client was served its turn, over a store with this history.
 pub record IsClientOf (limit : ℕ) (history : List Entry) (client : Client) (left : ClientLeft) : Type 0 where

@@ -1,7 +1,3 @@
 pub mod Batches
-pub mod Begins
 pub mod Clients
-pub mod Ends
 pub mod Fleet
-pub mod Stages
-pub mod Steps

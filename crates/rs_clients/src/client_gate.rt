@@ -1,7 +1,7 @@
 //! The gate of a client whose place other clients use too.
 
 ghost use Rattle.std.specs.Arc.{arc_value};
-ghost use Rattle.std.specs.Prelude.{◌≡◌, ◌≢◌, ◌<◌, ◌⊎◌, [], ⊤, length, slice_get, IfOk, MatchBool};
+ghost use Rattle.std.specs.Prelude.{◌≡◌, ◌≢◌, ◌<◌, ◌⊎◌, ⊤, length, refl, slice_get, IfOk, MatchBool};
 ghost use mathlib.Core.List.{IsPrefix};
 ghost use Rattle.rs_message.specs.declared.fault.SubmitFault.TheVariants.{Open};
 ghost use Rattle.rs_clients.specs.Clients.{client_mark};
@@ -15,6 +15,7 @@ use rs_intake::LineName;
 use rs_message::{Found, Operation, SubmitFault};
 use rs_queue::MAX_CHANGES;
 use rs_session::Gate;
+use rs_steps::PlaceGate;
 use rs_topic::TopicFilter;
 use rs_version::{Told, Version};
 use std::alloc::{AllocError, Global};
@@ -201,27 +202,12 @@ impl<N: LineName, R: Wait + Copy> ClientGate<N, R> {
         })
     }
 
-    /// The place.
-    pub fn place(&self) -> u8
-        ensures { result ≡ self.now.mark.place }
-    {
-        self.reached.place()
-    }
-
     /// The number of entries of the list that it knows.
     pub fn version(&self) -> u64
         ensures version { result ≡ length self.now.known }
         ensures legal { IsLegal N.limit self.now.known }
     {
         self.reached.version()
-    }
-
-    /// A token of the list that the gate knows.
-    pub fn told(&self) -> Told<N>
-        ensures told { result ≡ self.now.known }
-        ensures legal { IsLegal N.limit self.now.known }
-    {
-        self.reached.told()
     }
 
     /// The version that is published. It knows the list of this version from then on.
@@ -243,18 +229,6 @@ impl<N: LineName, R: Wait + Copy> ClientGate<N, R> {
     {
         let ticket = self.ticket.take();
         forget(&self.rt, self.places.place(self.index).announced(), ticket);
-    }
-
-    /// Nothing is expected any more, and what no other client has taken along is not handed over later. The outcomes of what was handed
-    /// over and not submitted are dropped. It does not wait for the writer.
-    pub fn hand_on(&mut self)
-        ensures known { self.new.known ≡ self.old.known }
-        ensures mark { self.new.mark ≡ self.old.mark }
-        ensures pending { self.new.pending ≡ [] }
-    {
-        self.forget();
-        self.expected = Vec::new(self.alloc);
-        self.outcomes = VecDeque::new(self.alloc);
     }
 }
 
@@ -328,4 +302,36 @@ impl<N: LineName, R: Wait + Copy> Gate for ClientGate<N, R> {
         let version = self.read()?;
         version.answer_within(filter, now, room)
     }
+}
+
+impl<N: LineName, R: Wait + Copy> PlaceGate for ClientGate<N, R> {
+    type Name = N;
+
+    ghost shared = { λ gate. gate };
+
+    fn place(&self) -> u8 {
+        self.reached.place()
+    }
+
+    fn told(&self) -> Told<N> {
+        self.reached.told()
+    }
+
+    /// What no other client has taken along is not handed over later. The outcomes of what was handed over and not submitted are dropped.
+    /// It does not wait for the writer.
+    fn hand_on(&mut self) {
+        self.forget();
+        self.expected = Vec::new(self.alloc);
+        self.outcomes = VecDeque::new(self.alloc);
+    }
+
+    ghost knows = { λ gate list known. known };
+
+    ghost known = { λ gate list known. known };
+
+    ghost same_mark = { λ gate. refl };
+
+    ghost same_pending = { λ gate. refl };
+
+    ghost same_most = { refl };
 }

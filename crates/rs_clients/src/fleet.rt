@@ -5,20 +5,16 @@ ghost use Rattle.std.specs.Prelude.{◌≡◌, ◌≤◌, [], length, map, vec_c
 ghost use Rattle.std.specs.List.{AllZip};
 ghost use Rattle.rs_queue.specs.Changes.{AreOfLine};
 ghost use Rattle.rs_intake.specs.Lines.{IsClosed};
-ghost use Rattle.rs_clients.specs.Begins.{client_of};
-ghost use Rattle.rs_clients.specs.Fleet.{IsTurnServed, client_at, client_left, client_with, clients_of, first_number};
+ghost use Rattle.rs_steps.specs.Served.{IsTurnServed, client_left, client_with};
+ghost use Rattle.rs_clients.specs.Fleet.{client_at, clients_of, first_number};
 ghost use Rattle.rs_places.specs.Turns.{Connections};
 
 use crate::client_gate::ClientGate;
-use crate::end_cell::{ClientEnd, client_ends};
-use crate::pool::Pool;
 use crate::shared_places::SharedPlaces;
-use crate::stages::FreeClient;
-use crate::task::Task;
-use crate::threads::run_pool;
-use crate::watch::Watch;
 use rs_intake::{LineEnd, LineName};
 use rs_places::{StoreFault, Turn, TurnEnd};
+use rs_pool::Watch;
+use rs_steps::{ClientsEnd, NewClient, serve_all};
 use std::alloc::{AllocError, Global};
 use std::sync::{Arc, Wait};
 use std::thread::{Threads, yield_now};
@@ -60,81 +56,43 @@ fn place_client<N: LineName, H: Wait + Copy>(
     Some((gate, first_number(client)))
 }
 
-/// The client of this number, with this turn, and what takes its end.
-fn make_client<T: Turn + Drop, N: LineName, H: Wait + Copy>(
+/// The client of this number, with this turn.
+fn make_client<T: Drop, N: LineName, H: Wait + Copy>(
     rt: H,
     alloc: Global,
     turn: T,
     places: &Arc<SharedPlaces<N>>,
     client: usize,
-) -> Option<(Task<T, N, H>, ClientEnd<T, N, H>)>
-    ensures { IfSome result (λ made. client_of T.connections made.1.begun ≡ client_at (arc_value places.now) client (T.connections turn)) }
+) -> Option<NewClient<T, ClientGate<N, H>>>
+    ensures { IfSome result (λ made. (connections : T → Connections)
+        → client_with (connections made.turn) made.gate made.first ≡ client_at (arc_value places.now) client (connections turn)) }
 {
     let (gate, first) = place_client(rt, alloc, places, client)?;
-    let Ok((end, taken)) = client_ends(alloc, &turn, &gate, first) else {
-        return None;
-    };
-    Some((Task::new(FreeClient::new(turn, gate, first), end), taken))
+    Some(NewClient { turn, gate, first })
 }
 
-/// A client for each turn, and what takes the end of each.
-fn make_clients<T: Turn + Drop, N: LineName, H: Wait + Copy>(
+/// A client for each turn.
+fn make_clients<T: Drop, N: LineName, H: Wait + Copy>(
     rt: H,
     alloc: Global,
     turns: Vec<T>,
     places: &Arc<SharedPlaces<N>>,
-) -> Result<(Vec<Task<T, N, H>>, Vec<ClientEnd<T, N, H>>), AllocError>
-    ensures { IfOk result (λ made. map (λ end. client_of T.connections end.begun) made.1.items
-        ≡ clients_of (arc_value places.now) 0 (map T.connections turns.items)) }
+) -> Result<Vec<NewClient<T, ClientGate<N, H>>>, AllocError>
+    ensures { IfOk result (λ made. (connections : T → Connections)
+        → map (λ client. client_with (connections client.turn) client.gate client.first) made.items
+        ≡ clients_of (arc_value places.now) 0 (map connections turns.items)) }
 {
-    let mut tasks = Vec::with_capacity(alloc, turns.len())?;
-    let mut ends = Vec::with_capacity(alloc, turns.len())?;
-    let mut client = 0usize;
+    let mut clients = Vec::with_capacity(alloc, turns.len())?;
+    let mut number = 0usize;
     for turn in turns {
-        let Some((task, end)) = make_client(rt, alloc, turn, places, client) else {
-            // Refused: memory, or one more owner of the places. Never: a gate of a place that is not there.
+        let Some(client) = make_client(rt, alloc, turn, places, number) else {
+            // Refused: one more owner of the places. Never: a gate of a place that is not there.
             return Err(AllocError);
         };
-        tasks.push_reserved(task);
-        ends.push_reserved(end);
-        client = client.saturating_add(1);
+        clients.push_reserved(client);
+        number = number.saturating_add(1);
     }
-    Ok((tasks, ends))
-}
-
-/// What is left of the client whose end is taken here, once it has come.
-fn wait_end<T: Turn + Drop, N: LineName, H: Wait + Copy>(
-    rt: &H,
-    end: ClientEnd<T, N, H>,
-) -> TurnEnd<N, T>
-    ensures { IsTurnServed N.limit (client_of T.connections end.begun) (client_left (T.connections result.turn) result.told) }
-{
-    let mut end = end;
-    for _ in rt.forever() {
-        if let Some(done) = end.take() {
-            return done.into_end();
-        }
-        yield_now();
-    }
-    unreachable!()
-}
-
-/// What is left of each client. The caller has reserved the capacity.
-fn take_ends<T: Turn + Drop, N: LineName, H: Wait + Copy>(
-    rt: &H,
-    comings: Vec<ClientEnd<T, N, H>>,
-    ends: Vec<TurnEnd<N, T>>,
-) -> Vec<TurnEnd<N, T>>
-    requires empty { ends.items ≡ [] }
-    requires capacity { length comings.items ≤ vec_capacity ends }
-    ensures { AllZip (IsTurnServed N.limit) (map (λ end. client_of T.connections end.begun) comings.items)
-        (map (λ end. client_left (T.connections end.turn) end.told) result.items) }
-{
-    let mut ends = ends;
-    for coming in comings {
-        ends.push_reserved(wait_end(rt, coming));
-    }
-    ends
+    Ok(clients)
 }
 
 /// Closes the line of each place, once no client has the places any more. None has once it was served. The caller has reserved the
@@ -164,10 +122,8 @@ fn close<N: LineName, H: Wait>(
 /// first place, and so on, and after the last place comes the first again. `watch` tells which of them have something to do; its lanes
 /// are the places. Then each place's line is closed.
 ///
-/// Each place has two threads, which serve the clients of the place one step after the other. If both are held up, by clients that do not
-/// read or do not close or by the writer, more are started: as many as it takes, but not more for a place than it has clients, and one. If
-/// none can be started for a place, it and the places behind it have none, and the threads of those before serve their clients too. The caller runs the writer meanwhile
-/// ([`run_writer`](rs_intake::run_writer)), and settles.
+/// The clients of a place are served by two threads, or by more while these are held up, as [`serve_all`] says. The caller runs the writer
+/// meanwhile ([`run_writer`](rs_intake::run_writer)), and settles.
 ///
 /// # Errors
 ///
@@ -185,9 +141,9 @@ pub fn run_clients<
     watch: W,
 ) -> Result<FleetEnd<N, T>, StoreFault>
 where
-    T::In: 'static,
-    T::Out: 'static,
-    T::Time: 'static,
+    T::In: Send + 'static,
+    T::Out: Send + 'static,
+    T::Time: Send + 'static,
     ensures clients { IfOk result (λ end.
         AllZip (IsTurnServed N.limit) (clients_of places 0 (map T.connections turns.items))
         (map (λ client. client_left (T.connections client.turn) client.told) end.clients.items)) }
@@ -195,20 +151,16 @@ where
     ensures closed { IfOk result (λ end.
         All (λ line. IsClosed line.place line.ends line.gone × AreOfLine line.place line.sent) end.lines.items) }
 {
-    // Before any thread starts, so that no end is lost.
-    let ends = Vec::with_capacity(alloc, turns.len())?;
+    // Before any thread starts, so that nothing is lost.
     let lines = Vec::with_capacity(alloc, places.len())?;
     let lanes = places.len().min(turns.len());
     let Ok(places) = Arc::new(alloc, places) else {
         return Err(StoreFault::NoMemory);
     };
-    let (tasks, comings) = make_clients(rt, alloc, turns, &places)?;
-    let Ok(pool) = Arc::new(alloc, Pool::new(rt, alloc, tasks, lanes, watch)?) else {
-        return Err(StoreFault::NoMemory);
-    };
-    let threads = run_pool(rt, alloc, pool, lanes)?;
+    let clients = make_clients(rt, alloc, turns, &places)?;
+    let ClientsEnd { clients, threads } = serve_all(rt, alloc, clients, lanes, watch)?;
     Ok(FleetEnd {
-        clients: take_ends(&rt, comings, ends),
+        clients,
         lines: close(&rt, places, lines),
         threads,
     })

@@ -5,9 +5,9 @@ ghost use Rattle.rs_clients.specs.Fleet.{IsFleetRun};
 
 use crate::fleet::{FleetEnd, run_clients};
 use crate::shared_places::SharedPlaces;
-use crate::watch::Watch;
 use rs_intake::{BlankQueue, LineName};
 use rs_places::{StoreEnd, StoreFault, Turn, settle_run, start_writer};
+use rs_pool::Watch;
 use rs_version::Blank;
 use std::alloc::Global;
 use std::marker::Brand;
@@ -37,9 +37,9 @@ pub fn run_fleet<
     watch: W,
 ) -> Result<StoreEnd<T>, StoreFault>
 where
-    T::In: 'static,
-    T::Out: 'static,
-    T::Time: 'static,
+    T::In: Send + 'static,
+    T::Out: Send + 'static,
+    T::Time: Send + 'static,
     requires { queue.places ≡ blank.places }
     ensures { IfOk result (λ end. IsFleetRun blank.limit blank.places (map T.connections turns.items)
         (map T.connections end.turns.items) end.version end.changes) }
@@ -61,9 +61,9 @@ fn run_fleet_named<
     watch: W,
 ) -> Result<StoreEnd<T>, StoreFault>
 where
-    T::In: 'static,
-    T::Out: 'static,
-    T::Time: 'static,
+    T::In: Send + 'static,
+    T::Out: Send + 'static,
+    T::Time: Send + 'static,
     requires store { (blank.history ≡ N.history) × (blank.limit ≡ N.limit) }
     requires queue { (queue.name ≡ N.queue) × (queue.places ≡ N.places) }
     requires places { queue.places ≡ blank.places }

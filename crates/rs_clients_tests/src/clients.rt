@@ -30,9 +30,9 @@ fn share_as<T: Turn + Send + Drop + 'static, R: Threads + Wait + Copy + Send + S
     manner: Manner,
 ) -> Result<Played, Fail>
 where
-    T::In: 'static,
-    T::Out: 'static,
-    T::Time: 'static,
+    T::In: Send + 'static,
+    T::Out: Send + 'static,
+    T::Time: Send + 'static,
 {
     let places = PlaceCount::new(places).ok_or("places")?;
     let blank = blank_store(alloc, topics, places)?;
@@ -50,9 +50,9 @@ fn share<T: Turn + Send + Drop + 'static, R: Threads + Wait + Copy + Send + Sync
     counts: &Counts,
 ) -> Result<Played, Fail>
 where
-    T::In: 'static,
-    T::Out: 'static,
-    T::Time: 'static,
+    T::In: Send + 'static,
+    T::Out: Send + 'static,
+    T::Time: Send + 'static,
 {
     share_as(rt, alloc, (topics, places), turns, counts, Manner::InOrder)
 }

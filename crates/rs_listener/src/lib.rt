@@ -2,7 +2,7 @@
 //!
 //! [`Server::bind`] binds an address and makes an empty store, [`Server::address`] tells the address, and [`Server::run`] serves
 //! clients until so many have connected. Each place has a thread, which serves the place's client, and the store's writer has one. With more
-//! clients than places each place has two, and epoll tells which clients have something to do. A connection may have a limit for how long it
+//! clients than places each place has two, and `rs_watch` tells which clients have something to do. A connection may have a limit for how long it
 //! is idle, and the log of the handle has a line when each begins and ends, and when the store is full.
 //!
 //! What a place does with a connection is `serve_place` of `rs_places`, and how several clients of a place are served is `run_clients` of
@@ -11,16 +11,12 @@
 
 mod close_reason;
 mod fault;
-mod free_clients;
 mod full_log;
 mod opening;
 mod polling;
 mod refused;
 mod server;
 mod turn;
-mod watched;
-mod watched_clients;
-mod watching;
 
 pub use fault::ListenFault;
 pub use server::{Server, Summary};

@@ -9,7 +9,6 @@ use crate::fault::ListenFault;
 use crate::full_log::FullLog;
 use crate::opening::turns;
 use crate::polling::time_polls;
-use crate::watching::watch;
 use log::{Log, warn};
 use rs_clients::run_fleet;
 use rs_intake::{BlankQueue, Fullness, blank_queue};
@@ -18,7 +17,9 @@ use rs_places::run_store;
 use rs_sockets::{Listener, descriptor_limit};
 use rs_store::TopicLimit;
 use rs_version::Blank;
+use rs_watch::SocketWatch;
 use std::alloc::{AllocError, Global};
+use std::io;
 use std::io::ErrorKind;
 use std::net::{Net, TcpListener, TcpStream};
 use std::sync::{Arc, Wait};
@@ -85,8 +86,7 @@ impl Server {
                 clients,
                 idle,
             }),
-            Err(error) if error.kind() == ErrorKind::OutOfMemory => Err(ListenFault::NoMemory),
-            Err(error) => Err(ListenFault::Address(error)),
+            Err(error) => Err(refused(error)),
         }
     }
 
@@ -150,7 +150,14 @@ impl Server {
                 blank,
                 queue,
                 turns(rt, alloc, Arc::try_clone(&listener)?, full, places, served)?,
-                watch(rt, alloc, listener, places, served, idle)?,
+                SocketWatch::new(
+                    rt,
+                    alloc,
+                    listener,
+                    usize::from(places.get()),
+                    served,
+                    idle,
+                ).map_err(refused)?,
             )?
         } else {
             run_store(
@@ -166,6 +173,15 @@ impl Server {
             clients: served,
             changes: end.changes,
         })
+    }
+}
+
+/// Why the system refused a descriptor, or the address.
+fn refused(error: io::Error) -> ListenFault {
+    if error.kind() == ErrorKind::OutOfMemory {
+        ListenFault::NoMemory
+    } else {
+        ListenFault::Address(error)
     }
 }
 

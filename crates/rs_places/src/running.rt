@@ -147,6 +147,10 @@ fn start_place<
     gate: SharedGate<N, H>,
     here: bool,
 ) -> Result<PlaceThread<T, N, H>, Option<PlaceEnd<N, T>>>
+where
+    T::In: Send,
+    T::Out: Send,
+    T::Time: Send,
     ensures { MatchResult result (λ thread. (thread.promise.turn.value ≡ turn) × (thread.promise.gate.value ≡ gate))
         (λ left. IfSome left (λ end. IsPlaceServed N.limit (place_at (T.connections turn) gate)
         (left_at (T.connections end.turn) end.told end.line))) }
@@ -181,6 +185,10 @@ fn start_places<
     turns: Vec<T>,
     gates: Vec<SharedGate<N, H>>,
 ) -> Result<StartedPlaces<T, N, H>, StoreFault>
+where
+    T::In: Send,
+    T::Out: Send,
+    T::Time: Send,
     ensures served { IfOk result (λ started. (places : List Place)
         × (map (λ thread. place_at (T.connections thread.promise.turn.value) thread.promise.gate.value) started.0.items ++ places
         ≡ places_of (map T.connections turns.items) gates.items)
@@ -242,6 +250,10 @@ pub fn run_places<
     turns: Vec<T>,
     gates: Vec<SharedGate<N, H>>,
 ) -> Result<PlacesEnd<N, T>, StoreFault>
+where
+    T::In: Send,
+    T::Out: Send,
+    T::Time: Send,
     ensures { IfOk result (λ end. AllZip (IsPlaceServed N.limit) (places_of (map T.connections turns.items) gates.items)
         (map (λ end. left_at (T.connections end.turn) end.told end.line) end.ends.items)) }
 {

@@ -100,6 +100,10 @@ pub fn run_store<T: Turn + Send + Drop + 'static, H: Threads + Wait + Copy + Sen
     queue: BlankQueue,
     turns: Vec<T>,
 ) -> Result<StoreEnd<T>, StoreFault>
+where
+    T::In: Send,
+    T::Out: Send,
+    T::Time: Send,
     requires places { queue.places ≡ blank.places }
     requires turns { length turns.items ≡ blank.places }
     ensures { IfOk result (λ end. IsStoreRun blank.limit blank.places (map T.connections turns.items)
@@ -119,6 +123,10 @@ fn run_named<
     queue: BlankQueue,
     turns: Vec<T>,
 ) -> Result<StoreEnd<T>, StoreFault>
+where
+    T::In: Send,
+    T::Out: Send,
+    T::Time: Send,
     requires store { (blank.history ≡ N.history) × (blank.limit ≡ N.limit) }
     requires queue { (queue.name ≡ N.queue) × (queue.places ≡ N.places) }
     requires places { queue.places ≡ blank.places }

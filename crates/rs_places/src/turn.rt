@@ -26,13 +26,13 @@ pub trait Turn {
     ghost use Rattle.rs_places.specs.Turns.{Connections, none_given};
 
     /// Reads what the client sends.
-    type In: Read + Drop + Send;
+    type In: Read + Drop;
 
     /// Writes what the client is sent.
-    type Out: Write + Drop + Send;
+    type Out: Write + Drop;
 
     /// Tells the time, in whole seconds.
-    type Time: Clock + Drop + Send;
+    type Time: Clock + Drop;
 
     /// What contracts see of its connections. Nothing, if the type does not say.
     ghost connections: { Self → Connections } = { λ _. none_given };

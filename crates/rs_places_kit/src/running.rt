@@ -51,7 +51,12 @@ pub fn run<T: Turn + Send + Drop + 'static, R: Threads + Wait + Copy + Send + Sy
     topics: u32,
     turns: Vec<T>,
     counts: &Counts,
-) -> Result<Played, Fail> {
+) -> Result<Played, Fail>
+where
+    T::In: Send,
+    T::Out: Send,
+    T::Time: Send,
+{
     let count = turns.len();
     if count > usize::from(MAX_PLACES) {
         return Err(Fail::from("at most 64 places"));

@@ -3,7 +3,7 @@
 
 ghost use Rattle.std.specs.Prelude.{◌≡◌, ◌≤◌, length, IfSome};
 
-use rs_clients::Watch;
+use rs_pool::Watch;
 use std::alloc::{AllocError, Global};
 use std::collections::VecDeque;
 use std::io::Read;

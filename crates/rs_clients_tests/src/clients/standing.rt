@@ -52,9 +52,9 @@ fn served_named<
     counts: &Arc<Counts>,
 ) -> Result<Played, Fail>
 where
-    T::In: 'static,
-    T::Out: 'static,
-    T::Time: 'static,
+    T::In: Send + 'static,
+    T::Out: Send + 'static,
+    T::Time: Send + 'static,
     requires store { (blank.history ≡ N.history) × (blank.limit ≡ N.limit) }
     requires queue { (queue.name ≡ N.queue) × (queue.places ≡ N.places) }
 {

@@ -8,6 +8,7 @@ use rs_intake::{BlankQueue, LineEnd, LineName, blank_queue, run_writer, run_writ
 use rs_message::{Operation, PlaceCount};
 use rs_message_kit::set;
 use rs_session::Gate;
+use rs_steps::PlaceGate;
 use rs_version::Blank;
 use rs_version_kit::blank_store;
 use std::alloc::Global;

@@ -68,6 +68,10 @@ fn cut_off_named<
     turns: Vec<T>,
     counts: Arc<Counts>,
 ) -> Result<Cut, Fail>
+where
+    T::In: Send,
+    T::Out: Send,
+    T::Time: Send,
     requires store { (blank.history ≡ N.history) × (blank.limit ≡ N.limit) }
     requires queue { (queue.name ≡ N.queue) × (queue.places ≡ N.places) }
 {
@@ -87,7 +91,12 @@ fn cut_off<R: Threads + Wait + Copy + Send + Sync + 'static, T: Turn + Send + Dr
     alloc: Global,
     turns: Vec<T>,
     counts: Arc<Counts>,
-) -> Result<Cut, Fail> {
+) -> Result<Cut, Fail>
+where
+    T::In: Send,
+    T::Out: Send,
+    T::Time: Send,
+{
     let places = PlaceCount::new(64).ok_or("64 places")?;
     let blank = blank_store(alloc, 10, places)?;
     let queue = blank_queue(alloc, places)?;

@@ -128,6 +128,10 @@ fn answered<T: Turn + Send + Drop + 'static, H: Threads + Wait + Copy + Send + S
     queue: BlankQueue,
     turns: Vec<T>,
 ) -> Result<StoreEnd<T>, StoreFault>
+where
+    T::In: Send,
+    T::Out: Send,
+    T::Time: Send,
     requires places { queue.places ≡ blank.places }
     requires turns { length turns.items ≡ blank.places }
     requires known { All (λ turn. is_some (T.connections turn).waiting ≡ true) turns.items }

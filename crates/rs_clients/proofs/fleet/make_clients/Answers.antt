@@ -8,15 +8,14 @@ pub loop-turn-preserved : goal.loop-turn-preserved
 loop-turn-preserved g c =
     let i = c.loop-turn.invariant in
     let first = c.in-Some.ensures.steps.0 in
-    let next : c.saturating_add-client.result ≡ c.loop-turn.client + 1 = omega (arith, i.count, c.saturating_add-client.ensures, ap length first, c.len.ensures, c.len.type_inv) in
+    let next : c.saturating_add-number.result ≡ c.loop-turn.number + 1 = omega (arith, i.count, c.saturating_add-number.ensures, ap length first, c.len.ensures, c.len.type_inv) in
     record {
-      placed = next_client _ g.T.Turn.connections _ _ _ _ _ _ _ _ _ _ c.push_reserved-in-loop-turn.ensures.items c.in-Some-make_client.ensures first next i.placed;
+      placed = λ connections. next_client _ connections _ _ _ _ _ _ _ _ _ _ c.push_reserved.ensures.items (c.in-Some-make_client.ensures connections) first next (i.placed connections);
       count = omega (arith, i.count, next, ap length first);
       fits = omega (arith, i.fits, length_more _ _ _ c.push_reserved.ensures.items, c.push_reserved.ensures.capacity, ap length first);
-      fits_too = omega (arith, i.fits_too, length_more _ _ _ c.push_reserved-in-loop-turn.ensures.items, c.push_reserved-in-loop-turn.ensures.capacity, ap length first);
     }
 
 pub returns : goal.returns
 returns g c =
     let none : c.loop-turn.turn-iterator.rest.items ≡ [] = no_more _ (sym c.loop-turn.turn-iterator.rest.ok.0 ∙ c.in-None.ensures.steps.0) in
-    no_client _ g.T.Turn.connections _ _ _ _ _ c.loop-turn.invariant.placed none
+    λ connections. no_client _ connections _ _ _ _ _ (c.loop-turn.invariant.placed connections) none

@@ -10,7 +10,7 @@ use Rattle.rs_clients.proofs.Whole.{fleet_run}
 use Rattle.rs_clients.proofs.store.run_fleet_named.Goals as goal
 
 pub settle_run-requires-clause-capacity : goal.settle_run-requires-clause-capacity
-settle_run-requires-clause-capacity g c κs within =
+settle_run-requires-clause-capacity g c =
     let all : length c.args.turns.items ≡ length c.in_ok-served.served.clients.items = as_many_clients _ _ g.T.Turn.connections c.args.turns.items _ c.in_ok-served.served.clients.items c.in_ok-served.ensures.clients in
     omega (arith, all, c.len.ensures, c.in_ok-left.ensures.capacity)
 

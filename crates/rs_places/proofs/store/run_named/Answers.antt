@@ -12,13 +12,13 @@ use Rattle.rs_places.proofs.Whole.{all_as_seen, store_run}
 use Rattle.rs_places.proofs.store.run_named.Goals as goal
 
 pub part_ends-lines-requires-clause-capacity : goal.part_ends-lines-requires-clause-capacity
-part_ends-lines-requires-clause-capacity g c κs within =
+part_ends-lines-requires-clause-capacity g c =
     let ends = c.in_ok-served.served.ends.items in
     let all : length ends ≤ length c.in_ok-gates.gates.items = few_ends _ _ _ _ ends c.in_ok-served.ensures in
     (omega (arith, all, c.len.ensures, c.in_ok-lines.ensures.capacity), omega (arith, all, c.len-2.ensures, c.in_ok-others.ensures.capacity))
 
 pub settle_run-requires-clause-capacity : goal.settle_run-requires-clause-capacity
-settle_run-requires-clause-capacity g c κs within =
+settle_run-requires-clause-capacity g c =
     let ends = c.in_ok-served.served.ends.items in
     let all : length ends ≤ length c.in_ok-gates.gates.items = few_ends _ _ _ _ ends c.in_ok-served.ensures in
     let others = c.part_ends-lines.result.1.items in

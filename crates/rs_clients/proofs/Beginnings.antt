@@ -1,6 +1,0 @@
--- What a client began with is known by its parts.
-use Rattle.std.proofs.Common.{◌≡◌}
-use Rattle.rs_clients.specs.declared.begun.Begun.{Begun}
-
-pub same_begun : {T N H : Type 0} (a b : Begun T N H) → a.turn.value ≡ b.turn.value → a.gate.value ≡ b.gate.value → a.first ≡ b.first → a ≡ b
-same_begun a b turn gate first = λ i. record { turn = record { marker = a.turn.marker; value = turn i }; gate = record { marker = a.gate.marker; value = gate i }; first = first i }

@@ -1,0 +1,27 @@
+//! What a pool serves.
+
+use crate::watch::Watch;
+use std::alloc::Global;
+use std::io::Read;
+use std::sync::Wait;
+
+/// A client that is served in steps, each by whichever thread has time.
+pub trait Client<H: Wait>: Sized {
+    /// What its connection is read from.
+    type In: Read + Send;
+
+    /// Reads, if it has a connection and waits for what comes by that. Else it is left as it is.
+    fn read(self, alloc: Global) -> Self;
+
+    /// Whether something was read that has changes, which go to the writer together with those of other clients.
+    fn has_changes(&self) -> bool;
+
+    /// Makes its next step, which may wait: for its next connection, for its client, or for the writer. `None` if it is done.
+    fn step(self, rt: &H, alloc: Global) -> Option<Self>;
+
+    /// Writes out what waits for it, if it is to be watched next. False if that failed: then it is to go on at once.
+    fn write_out<W: Watch<Self::In>>(self, watch: &W) -> (Self, bool);
+
+    /// Has it watched, as the client of this number, in this lane. False if it is to go on at once.
+    fn is_watched<W: Watch<Self::In>>(&self, watch: &W, lane: usize, number: usize) -> bool;
+}

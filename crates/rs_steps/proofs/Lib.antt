@@ -1,0 +1,6 @@
+mod Beginnings
+mod Dropped
+mod EndCells
+mod Making
+pub mod Sent
+mod Stepping

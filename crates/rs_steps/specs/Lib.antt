@@ -1,0 +1,5 @@
+pub mod Begins
+pub mod Ends
+pub mod Served
+pub mod Stages
+pub mod Steps

@@ -1,0 +1,163 @@
+//! Where one of several clients of a place is between two of the steps by which it is served. Contracts see of each what the client began
+//! with.
+
+use crate::begun::Begun;
+use crate::place_gate::PlaceGate;
+use rs_places::{Connection, Turn};
+use rs_server::{Counted, CountedGate, ServeFault, Served, Serving};
+use rs_version::Told;
+use std::marker::Model;
+
+/// It has no connection. Its next one has this number.
+#[derive(Drop)]
+pub(crate) struct FreeClient<T: Turn, G: PlaceGate> {
+    pub(crate) turn: T,
+    pub(crate) gate: G,
+    pub(crate) number: u64,
+    pub(crate) begun: Begun<T, G>,
+}
+
+impl<T: Turn, G: PlaceGate> Model for FreeClient<T, G> {
+    ghost use Rattle.rs_steps.specs.declared.begun.Begun.{Begun};
+
+    ghost Value = { Begun T G };
+
+    ghost view = { λ c. c.begun };
+
+    ghost use Rattle.rs_places.specs.Places.{ServedSoFar, place_at};
+    ghost use Rattle.rs_steps.specs.Begins.{client_of};
+
+    ghost invariant = { λ c. ServedSoFar G.Name.limit c.begun.first (client_of T.connections G.shared c.begun).place c.number (place_at (T.connections c.turn) (G.shared c.gate)) };
+}
+
+/// A client with its connection of this number.
+#[derive(Drop)]
+pub(crate) struct Connected<T: Turn, G> {
+    pub(crate) turn: T,
+    pub(crate) serving: Serving<CountedGate<G>>,
+    pub(crate) input: Counted<T::In>,
+    pub(crate) output: Counted<T::Out>,
+    pub(crate) clock: T::Time,
+    pub(crate) number: u64,
+    pub(crate) begun: Begun<T, G>,
+}
+
+/// It is served a connection. All that was whole is handled, so there is something to do once there is something to read.
+#[derive(Drop)]
+pub(crate) struct ServedClient<T: Turn, G: PlaceGate> {
+    pub(crate) on: Connected<T, G>,
+}
+
+impl<T: Turn, G: PlaceGate> Model for ServedClient<T, G> {
+    ghost use Rattle.rs_steps.specs.declared.begun.Begun.{Begun};
+
+    ghost Value = { Begun T G };
+
+    ghost view = { λ c. c.on.begun };
+
+    ghost use Rattle.std.specs.Prelude.{◌≡◌};
+    ghost use Rattle.rs_server.specs.Counts.{failures_of, inner_of};
+    ghost use Rattle.rs_server.specs.Serving.{Waits};
+    ghost use Rattle.rs_steps.specs.Begins.{client_of};
+    ghost use Rattle.rs_steps.specs.Steps.{IsBeingServed, counted_view};
+
+    ghost invariant = { λ c. Waits c.on.serving × (failures_of c.on.input ≡ 0) × (failures_of c.on.output ≡ 0)
+        × IsBeingServed G.Name.limit G.most (counted_view G.stands G.mark G.pending) (client_of T.connections G.shared c.on.begun) c.on.number
+        (T.connections c.on.turn)
+        (record {
+          unread = T.In.remaining (inner_of c.on.input);
+          written = T.Out.contents (inner_of c.on.output);
+          moments = T.Time.moments c.on.clock;
+        }) c.on.serving };
+}
+
+/// It is served a connection. Something was read, and is not handled yet.
+#[derive(Drop)]
+pub(crate) struct ReadClient<T: Turn, G: PlaceGate> {
+    pub(crate) on: Connected<T, G>,
+}
+
+impl<T: Turn, G: PlaceGate> Model for ReadClient<T, G> {
+    ghost use Rattle.rs_steps.specs.declared.begun.Begun.{Begun};
+
+    ghost Value = { Begun T G };
+
+    ghost view = { λ c. c.on.begun };
+
+    ghost use Rattle.std.specs.Prelude.{◌≡◌};
+    ghost use Rattle.rs_server.specs.Counts.{failures_of, inner_of};
+    ghost use Rattle.rs_server.specs.Serving.{Waits};
+    ghost use Rattle.rs_steps.specs.Begins.{client_of};
+    ghost use Rattle.rs_steps.specs.Steps.{WasRead, counted_view};
+
+    ghost invariant = { λ c. Waits c.on.serving × (failures_of c.on.input ≡ 0) × (failures_of c.on.output ≡ 0)
+        × WasRead G.Name.limit G.most (counted_view G.stands G.mark G.pending) (client_of T.connections G.shared c.on.begun) c.on.number
+        (T.connections c.on.turn)
+        (record {
+          unread = T.In.remaining (inner_of c.on.input);
+          written = T.Out.contents (inner_of c.on.output);
+          moments = T.Time.moments c.on.clock;
+        }) c.on.serving };
+}
+
+/// Its connection of this number was served, and ended so. It is not given back to the turn yet.
+#[derive(Drop)]
+pub(crate) struct EndedClient<T: Turn, G: PlaceGate> {
+    pub(crate) turn: T,
+    pub(crate) gate: CountedGate<G>,
+    pub(crate) connection: Connection<Counted<T::In>, Counted<T::Out>, T::Time>,
+    pub(crate) number: u64,
+    pub(crate) begun: Begun<T, G>,
+    pub(crate) result: Result<Served, ServeFault>,
+    pub(crate) packets: u64,
+}
+
+impl<T: Turn, G: PlaceGate> Model for EndedClient<T, G> {
+    ghost use Rattle.rs_steps.specs.declared.begun.Begun.{Begun};
+
+    ghost Value = { Begun T G };
+
+    ghost view = { λ c. c.begun };
+
+    ghost use Rattle.rs_server.specs.Counts.{failures_of, inner_of};
+    ghost use Rattle.rs_steps.specs.Begins.{client_of};
+    ghost use Rattle.rs_steps.specs.Steps.{WasServed, counted_view};
+
+    ghost invariant = { λ c. WasServed G.Name.limit G.most (client_of T.connections G.shared c.begun) c.number (T.connections c.turn)
+        (record {
+          unread = T.In.remaining (inner_of c.connection.input);
+          written = T.Out.contents (inner_of c.connection.output);
+          moments = T.Time.moments c.connection.clock;
+        }) (counted_view G.stands G.mark G.pending c.gate) c.result (failures_of c.connection.input) (failures_of c.connection.output) };
+}
+
+/// Its turn has no more connections.
+#[derive(Drop)]
+pub(crate) struct DoneClient<T: Turn, G: PlaceGate> {
+    pub(crate) turn: T,
+    pub(crate) told: Told<G::Name>,
+    pub(crate) begun: Begun<T, G>,
+}
+
+impl<T: Turn, G: PlaceGate> Model for DoneClient<T, G> {
+    ghost use Rattle.rs_steps.specs.declared.begun.Begun.{Begun};
+
+    ghost Value = { Begun T G };
+
+    ghost view = { λ c. c.begun };
+
+    ghost use Rattle.rs_steps.specs.Begins.{client_of};
+    ghost use Rattle.rs_steps.specs.Served.{IsTurnServed, client_left};
+
+    ghost invariant = { λ c. IsTurnServed G.Name.limit (client_of T.connections G.shared c.begun) (client_left (T.connections c.turn) c.told) };
+}
+
+/// A client, wherever it is.
+#[derive(Drop)]
+pub(crate) enum Stage<T: Turn, G: PlaceGate> {
+    Free(FreeClient<T, G>),
+    Served(ServedClient<T, G>),
+    Read(ReadClient<T, G>),
+    Ended(EndedClient<T, G>),
+    Done(DoneClient<T, G>),
+}
