@@ -14,7 +14,7 @@ use crate::shared_places::SharedPlaces;
 use rs_intake::{LineEnd, LineName};
 use rs_places::{StoreFault, Turn, TurnEnd};
 use rs_pool::Watch;
-use rs_steps::{ClientsEnd, NewClient, serve_all};
+use rs_steps::{NewClient, serve_all};
 use std::alloc::{AllocError, Global};
 use std::sync::{Arc, Wait};
 use std::thread::{Threads, yield_now};
@@ -158,10 +158,10 @@ where
         return Err(StoreFault::NoMemory);
     };
     let clients = make_clients(rt, alloc, turns, &places)?;
-    let ClientsEnd { clients, threads } = serve_all(rt, alloc, clients, lanes, watch)?;
+    let served = serve_all(rt, alloc, clients, lanes, watch)?;
     Ok(FleetEnd {
-        clients,
+        clients: served.clients,
         lines: close(&rt, places, lines),
-        threads,
+        threads: served.threads,
     })
 }
