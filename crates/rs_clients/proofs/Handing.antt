@@ -1,5 +1,5 @@
 -- What a client is told of changes that were handed over for it at a place that other clients use too.
-use Rattle.std.proofs.Common.{◌≡◌, ◌⊎◌, ℕ, ◌<◌, List, [], refl, sym, ap, subst, ◌∙◌, arith}
+use Rattle.std.proofs.Common.{◌≡◌, ◌⊎◌, ℕ, ◌<◌, List, refl, sym, ap, subst, ◌∙◌}
 use Rattle.std.specs.Prelude.{Contains, Ok}
 use mathlib.Core.List.{IsPrefix}
 use Rattle.rs_message.specs.declared.entry.Entry.{Entry}

@@ -1,4 +1,3 @@
-pub mod Forever
 pub mod Handing
 pub mod NewClients
 pub mod Sent

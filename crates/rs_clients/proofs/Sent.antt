@@ -28,7 +28,6 @@ use Rattle.rs_clients.specs.contracts.shared_places.SharedPlace as SharedPlace
 use Rattle.rs_clients.specs.contracts.shared_places.SharedPlace.TheInside as InPlace
 use Rattle.rs_clients.specs.contracts.shared_places.SharedPlaces as SharedPlaces
 use Rattle.rs_clients.specs.contracts.shared_places.SharedPlaces.TheInside as InPlaces
-use Rattle.core.specs.contracts.sync.Mutex as Mutex
 
 u8_send : IsSend u8
 u8_send = search sendable

@@ -1,4 +1,4 @@
-//! The clients of a store, several at each place, and the threads that serve them.
+//! The clients of a store, several at each place, and what is left of their places.
 
 ghost use Rattle.std.specs.Arc.{arc_value};
 ghost use Rattle.std.specs.Prelude.{◌≡◌, ◌≤◌, [], length, map, vec_capacity, All, IfOk, IfSome};
@@ -153,7 +153,7 @@ where
 {
     // Before any thread starts, so that nothing is lost.
     let lines = Vec::with_capacity(alloc, places.len())?;
-    let lanes = places.len().min(turns.len());
+    let lanes = places.len();
     let Ok(places) = Arc::new(alloc, places) else {
         return Err(StoreFault::NoMemory);
     };

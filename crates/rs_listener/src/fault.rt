@@ -3,6 +3,7 @@
 use rs_places::StoreFault;
 use std::alloc::AllocError;
 use std::io;
+use std::io::ErrorKind;
 use thiserror::Error;
 
 /// Why a [`Server`](crate::Server) serves no client.
@@ -22,6 +23,17 @@ pub enum ListenFault {
 impl From<AllocError> for ListenFault {
     fn from(_: AllocError) -> ListenFault {
         ListenFault::NoMemory
+    }
+}
+
+/// Why the system refused the address, or descriptors.
+impl From<io::Error> for ListenFault {
+    fn from(error: io::Error) -> ListenFault {
+        if error.kind() == ErrorKind::OutOfMemory {
+            ListenFault::NoMemory
+        } else {
+            ListenFault::Address(error)
+        }
     }
 }
 

@@ -19,8 +19,6 @@ use rs_store::TopicLimit;
 use rs_version::Blank;
 use rs_watch::SocketWatch;
 use std::alloc::{AllocError, Global};
-use std::io;
-use std::io::ErrorKind;
 use std::net::{Net, TcpListener, TcpStream};
 use std::sync::{Arc, Wait};
 use std::thread::Threads;
@@ -86,7 +84,7 @@ impl Server {
                 clients,
                 idle,
             }),
-            Err(error) => Err(refused(error)),
+            Err(error) => Err(ListenFault::from(error)),
         }
     }
 
@@ -144,21 +142,10 @@ impl Server {
         let full = FullLog::new(fullness);
         let queue = queue.with_polls(time_polls(&rt, alloc));
         let end = if clients > alone {
-            run_fleet(
-                rt,
-                alloc,
-                blank,
-                queue,
-                turns(rt, alloc, Arc::try_clone(&listener)?, full, places, served)?,
-                SocketWatch::new(
-                    rt,
-                    alloc,
-                    listener,
-                    usize::from(places.get()),
-                    served,
-                    idle,
-                ).map_err(refused)?,
-            )?
+            let turns = turns(rt, alloc, Arc::try_clone(&listener)?, full, places, served)?;
+            let lanes = usize::from(places.get());
+            let watch = SocketWatch::new(rt, alloc, listener, lanes, served, idle)?;
+            run_fleet(rt, alloc, blank, queue, turns, watch)?
         } else {
             run_store(
                 rt,
@@ -173,15 +160,6 @@ impl Server {
             clients: served,
             changes: end.changes,
         })
-    }
-}
-
-/// Why the system refused a descriptor, or the address.
-fn refused(error: io::Error) -> ListenFault {
-    if error.kind() == ErrorKind::OutOfMemory {
-        ListenFault::NoMemory
-    } else {
-        ListenFault::Address(error)
     }
 }
 

@@ -13,15 +13,15 @@ pub trait Client<H: Wait>: Sized {
     /// Reads, if it has a connection and waits for what comes by that. Else it is left as it is.
     fn read(self, alloc: Global) -> Self;
 
-    /// Whether something was read that has changes, which go to the writer together with those of other clients.
+    /// Whether something was read that is to be handled together with what other clients sent, one after the other.
     fn has_changes(&self) -> bool;
 
-    /// Makes its next step, which may wait: for its next connection, for its client, or for the writer. `None` if it is done.
+    /// Makes its next step, which may wait. `None` if it is done.
     fn step(self, rt: &H, alloc: Global) -> Option<Self>;
 
     /// Writes out what waits for it, if it is to be watched next. False if that failed: then it is to go on at once.
     fn write_out<W: Watch<Self::In>>(self, watch: &W) -> (Self, bool);
 
     /// Has it watched, as the client of this number, in this lane. False if it is to go on at once.
-    fn is_watched<W: Watch<Self::In>>(&self, watch: &W, lane: usize, number: usize) -> bool;
+    fn begin_watch<W: Watch<Self::In>>(&self, watch: &W, lane: usize, number: usize) -> bool;
 }

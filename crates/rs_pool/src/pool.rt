@@ -135,7 +135,7 @@ impl<C: Client<H> + Drop, H: Wait + Copy, W: Watch<C::In> + Drop> Pool<C, H, W> 
         }
         let mut guard = slot.lock(&self.rt);
         // Another thread may be told of it before it lies there: that one waits for the lock.
-        if !client.is_watched(&self.watch, self.lane_of(number), number) {
+        if !client.begin_watch(&self.watch, self.lane_of(number), number) {
             return Some(client);
         }
         *guard = Some(client);

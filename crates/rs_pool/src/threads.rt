@@ -168,8 +168,9 @@ impl<
     }
 }
 
-/// Serves these clients until all are done, by two threads for each of so many lanes, or more while these are held up. How many lanes had a
-/// thread: if 0, none could be started, and no client was served.
+/// Serves these clients until all are done, by two threads for each of so many lanes, or more while these are held up. There is one lane at
+/// least, and no more than clients. How many lanes had a thread: 0 if there are no clients, or if none could be started; then no client was
+/// served.
 ///
 /// # Errors
 ///
@@ -179,6 +180,7 @@ pub fn serve_clients<
     H: Threads + Wait + Copy + Send + Sync + 'static,
     W: Watch<C::In> + Send + Sync + Drop + 'static,
 >(rt: H, alloc: Global, clients: Vec<C>, lanes: usize, watch: W) -> Result<usize, AllocError> {
+    let lanes = lanes.max(1).min(clients.len());
     let Ok(pool) = Arc::new(alloc, Pool::new(rt, alloc, clients, lanes, watch)?) else {
         return Err(AllocError);
     };

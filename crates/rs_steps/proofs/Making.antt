@@ -3,7 +3,7 @@ use Rattle.std.proofs.Common.{◌≡◌, ℕ, List, [], ◌∷◌, ◌++◌, map
 use Rattle.std.proofs.lemmas.List.{append-nil, map-append}
 use Rattle.rs_places.specs.Shared.{SharedValue}
 use Rattle.rs_places.specs.Turns.{Connections}
-use Rattle.rs_steps.specs.Served.{Client, client_with}
+use Rattle.rs_steps.specs.Served.{client_with}
 
 pub same_client : {T G : Type 0} (connections : T → Connections) (shared : G → SharedValue) (t u : T) (g h : G) (m n : ℕ) → t ≡ u → g ≡ h → m ≡ n
     → client_with (connections t) (shared g) m ≡ client_with (connections u) (shared h) n

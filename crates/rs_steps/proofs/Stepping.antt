@@ -1,5 +1,5 @@
 -- Lemmas on the steps by which a client is served.
-use Rattle.std.proofs.Common.{◌≡◌, ℕ, ◌+◌, ◌-◌, ◌^◌, List, [], ◌∷◌, Option, Some, None, Err, map, refl, sym, ap, subst, ◌∙◌}
+use Rattle.std.proofs.Common.{◌≡◌, ℕ, ◌+◌, ◌-◌, ◌^◌, List, [], Option, Some, None, Err, map, refl, sym, ap, subst, ◌∙◌}
 use Rattle.std.specs.Prelude.{min, Result}
 use Rattle.std.proofs.lemmas.List.{append-nil}
 use Rattle.rs_queue.specs.declared.job.TheConstants.{MAX_CHANGES}

@@ -6,7 +6,7 @@ use std::snapshot::Snapshot;
 
 /// What a client began with, for proofs: its turn and its gate, and the number of its first connection.
 #[derive(Drop)]
-pub struct Begun<T, G> {
+pub(crate) struct Begun<T, G> {
     pub(crate) turn: Snapshot<T>,
     pub(crate) gate: Snapshot<G>,
     pub(crate) first: u64,

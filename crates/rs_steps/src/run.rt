@@ -1,6 +1,6 @@
 //! Many clients, served in steps by a few threads until all are done.
 
-ghost use Rattle.std.specs.Prelude.{◌≡◌, ◌≤◌, [], length, map, vec_capacity, IfOk, IfSome};
+ghost use Rattle.std.specs.Prelude.{◌≡◌, ◌≤◌, [], length, map, vec_capacity, IfOk};
 ghost use Rattle.std.specs.List.{AllZip};
 ghost use Rattle.rs_steps.specs.Begins.{client_of};
 ghost use Rattle.rs_steps.specs.Served.{IsTurnServed, client_left, client_with};
@@ -102,7 +102,7 @@ fn take_ends<T: Turn + Drop, G: PlaceGate + Drop, H: Wait>(
     ends
 }
 
-/// Serves these clients until all are done. How many lanes had threads.
+/// Serves these clients until all are done. How many lanes had threads: some, if there are clients.
 fn serve_tasks<
     T: Turn + Send + Drop + 'static,
     G: PlaceGate + Send + Drop + 'static,
@@ -115,15 +115,16 @@ where
     T::Time: Send + 'static,
     G::Name: Send + Sync + 'static,
 {
+    let has_clients = !tasks.is_empty();
     let threads = serve_clients(rt, alloc, tasks, lanes, watch)?;
-    if threads == 0 && lanes > 0 {
+    if threads == 0 && has_clients {
         return Err(StoreFault::NoThread);
     }
     Ok(threads)
 }
 
-/// Serves these clients until all are done, in so many lanes: the first is in the first lane, and so on, and after the last lane comes the
-/// first again. `watch` tells which of them have something to do.
+/// Serves these clients until all are done, in so many lanes, but one at least and no more than clients: the first is in the first lane, and
+/// so on, and after the last lane comes the first again. `watch`, which has these lanes, tells which of them have something to do.
 ///
 /// Each lane has two threads, which serve its clients one step after the other. If both are held up, by clients that do not read or do not
 /// close or by the writer, more are started: as many as it takes, but not more for a lane than it has clients, and one. If none can be

@@ -91,7 +91,7 @@ where
         }
     }
 
-    fn is_watched<W: Watch<T::In>>(&self, watch: &W, lane: usize, number: usize) -> bool {
+    fn begin_watch<W: Watch<T::In>>(&self, watch: &W, lane: usize, number: usize) -> bool {
         match &self.stage {
             Stage::Free(_) => watch.watch_free(number),
             Stage::Served(client) => watch.watch(lane, number, client.input()),

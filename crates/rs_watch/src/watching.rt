@@ -58,7 +58,7 @@ fn millis(time: Duration) -> u64 {
 }
 
 impl<H: Clock + Wait + Copy> SocketWatch<H> {
-    /// No client is watched yet. `clients` is how many there are, in so many lanes. A connection is idle for too long after `idle`.
+    /// No client is watched yet. `clients` is how many there are, in so many lanes, of which there has to be one. A connection is idle for too long after `idle`.
     ///
     /// # Errors
     ///

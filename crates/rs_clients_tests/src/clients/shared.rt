@@ -78,6 +78,22 @@ fn four_hundred_clients_share_four_places(rt: HostRuntime) -> Result<(), Fail> {
     Ok(())
 }
 
+/// Without clients there is nothing to wait for.
+#[test]
+fn places_without_clients_end(rt: HostRuntime) -> Result<(), Fail> {
+    let alloc = rt.alloc();
+    let counts = Arc::new(alloc, Counts::new())?;
+    let ran = share(
+        rt,
+        alloc,
+        (10_000, 2),
+        clients(alloc, &counts, PLAIN, 0, (1, 1))?,
+        &counts,
+    )?;
+    assert!(rt; ran == as_wanted(0, 0, 0, 0));
+    Ok(())
+}
+
 const MANNERS: [Manner; 7] = [
     Manner::InOrder,
     Manner::Late,

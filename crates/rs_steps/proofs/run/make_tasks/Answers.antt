@@ -1,4 +1,4 @@
-use Rattle.std.proofs.Common.{◌≡◌, ◌+◌, [], sym, ◌∙◌, ap, length, arith}
+use Rattle.std.proofs.Common.{◌≡◌, [], sym, ◌∙◌, ap, length, arith}
 use Rattle.rs_intake.proofs.Sums.{no_more}
 use Rattle.rs_places.proofs.Starting.{length_more}
 use Rattle.rs_steps.proofs.Making.{made_all, made_more}
