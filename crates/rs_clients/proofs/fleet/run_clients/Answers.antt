@@ -12,7 +12,7 @@ pub close-requires-clause-empty : goal.close-requires-clause-empty
 close-requires-clause-empty g c = c.in_ok-lines.ensures.items
 
 pub close-requires-clause-capacity : goal.close-requires-clause-capacity
-close-requires-clause-capacity g c = omega (arith, ap length c.in-Ok.ensures.ok, c.in_ok-lines.ensures.capacity, c.len-2.ensures)
+close-requires-clause-capacity g c = omega (arith, ap length c.in-Ok.ensures.ok, c.in_ok-lines.ensures.capacity, c.len.ensures)
 
 pub returns-clause-clients : goal.returns-clause-clients
 returns-clause-clients g c =
