@@ -141,26 +141,66 @@ impl Server {
         let served = affordable(&rt, clients.max(alone), alone);
         let full = FullLog::new(fullness);
         let queue = queue.with_polls(time_polls(&rt, alloc));
-        let end = if clients > alone {
-            let turns = turns(rt, alloc, Arc::try_clone(&listener)?, full, places, served)?;
-            let lanes = usize::from(places.get());
-            let watch = SocketWatch::new(rt, alloc, listener, lanes, served, idle)?;
-            run_fleet(rt, alloc, blank, queue, turns, watch)?
+        if clients > alone {
+            run_shared(
+                rt, alloc, blank, queue, listener, full, places, served, idle,
+            )
         } else {
-            run_store(
-                rt,
-                alloc,
-                blank,
-                queue,
-                turns(rt, alloc, listener, full, places, alone)?,
-            )?
-        };
-        Ok(Summary {
-            threads: end.threads,
-            clients: served,
-            changes: end.changes,
-        })
+            run_alone(rt, alloc, blank, queue, listener, full, places)
+        }
     }
+}
+
+/// Serves so many clients, which share the places.
+fn run_shared<H: Clock + Log + Threads + Wait + Copy + Send + Sync + 'static>(
+    rt: H,
+    alloc: Global,
+    blank: Blank,
+    queue: BlankQueue,
+    listener: Arc<Listener>,
+    full: FullLog,
+    places: PlaceCount,
+    clients: u16,
+    idle: Option<Duration>,
+) -> Result<Summary, ListenFault>
+    requires { queue.places ≡ blank.places }
+    ensures { IfOk result (λ summary. (before : List Connections) × (after : List Connections) × (version : ℕ)
+        × IsFleetRun blank.limit blank.places before after version summary.changes) }
+{
+    let turns = turns(rt, alloc, Arc::try_clone(&listener)?, full, places, clients)?;
+    let lanes = usize::from(places.get());
+    let watch = SocketWatch::new(rt, alloc, listener, lanes, clients, idle)?;
+    let end = run_fleet(rt, alloc, blank, queue, turns, watch)?;
+    Ok(Summary {
+        threads: end.threads,
+        clients,
+        changes: end.changes,
+    })
+}
+
+/// Serves a client at each place.
+fn run_alone<H: Clock + Log + Threads + Wait + Copy + Send + Sync + 'static>(
+    rt: H,
+    alloc: Global,
+    blank: Blank,
+    queue: BlankQueue,
+    listener: Arc<Listener>,
+    full: FullLog,
+    places: PlaceCount,
+) -> Result<Summary, ListenFault>
+    requires queue { queue.places ≡ blank.places }
+    requires places { places ≡ blank.places }
+    ensures { IfOk result (λ summary. (before : List Connections) × (after : List Connections) × (version : ℕ)
+        × IsStoreRun blank.limit blank.places before after version summary.changes) }
+{
+    let clients = u16::from(places.get());
+    let turns = turns(rt, alloc, listener, full, places, clients)?;
+    let end = run_store(rt, alloc, blank, queue, turns)?;
+    Ok(Summary {
+        threads: end.threads,
+        clients,
+        changes: end.changes,
+    })
 }
 
 /// How many descriptors are needed beside those of the clients: four for the listener and the standard streams, and if there are more

@@ -1,9 +1,9 @@
 use Rattle.std.proofs.Common.{rules, inl, inr}
+use Rattle.std.proofs.lemmas.Result.{IfOk-weaker}
 use Rattle.rs_listener.proofs.server.Server.run.Goals as goal
-use Rattle.rs_listener.proofs.server.Server.run.Goals.{then-clients-alone+in_ok-try_clone+in_ok-turns+in_ok-watch+in_ok-end, else-clients-alone+in_ok-turns-2+in_ok-end-2}
 
-pub returns : goal.returns
-returns g c = elim c.if-clients-alone.branch [
-  | then-clients-alone+in_ok-try_clone+in_ok-turns+in_ok-watch+in_ok-end w ↦ rw w.end-is (_, _, _, inr (search rules, w.in_ok-end.ensures))
-  | else-clients-alone+in_ok-turns-2+in_ok-end-2 w ↦ rw w.end-is (_, _, _, inl w.in_ok-end-2.ensures)
-]
+pub returns-then-clients-alone : goal.returns-then-clients-alone
+returns-then-clients-alone g c = IfOk-weaker c.run_shared.result _ _ (λ summary ran. (ran.0, ran.1, ran.2, inr (search rules, ran.3))) c.run_shared.ensures
+
+pub returns-else-clients-alone : goal.returns-else-clients-alone
+returns-else-clients-alone g c = IfOk-weaker c.run_alone.result _ _ (λ summary ran. (ran.0, ran.1, ran.2, inl ran.3)) c.run_alone.ensures
